@@ -1,0 +1,52 @@
+//! Whether a conditional instruction jumps.
+
+ghost use Rattle.std.specs.Prelude.{◌≡◌, ℕ, ◌^◌, ◌<◌};
+ghost use Rattle.rb_alu.specs.Numbers.{condition_holds};
+ghost use Rattle.rb_alu.specs.Meaning.{bits_of, IgnoresSource, IsConditional, jumps_of};
+
+use crate::operands::{low_bits, operand_value, signed};
+use rb_insn::{Condition, Insn, Width};
+
+#[tactic(auto, unfolding(crate::specs::Meaning::jumps_of))]
+/// Whether a conditional instruction jumps, where its destination register holds `dst` and its source register `src`
+/// (RFC 9669, section 4.3). An instruction with an immediate operand does not look at `src`. Takes constant time.
+pub fn jumps(insn: &Insn, dst: u64, src: u64) -> bool
+    requires { IsConditional insn.now }
+    ensures jumps { result ≡ jumps_of insn.now dst src }
+    ensures source_unread { IgnoresSource insn.now → (other : ℕ) → result ≡ jumps_of insn.now dst other }
+{
+    match *insn {
+        Insn::Branch {
+            width,
+            condition,
+            operand,
+            ..
+        } => {
+            let second = low_bits(width, operand_value(operand, src));
+            holds(width, condition, low_bits(width, dst), second)
+        }
+        _ => unreachable!(),
+    }
+}
+
+/// Whether the condition holds of two numbers of the width.
+#[tactic(auto, unfolding(crate::specs::Numbers::condition_holds))]
+fn holds(width: Width, condition: Condition, a: u64, b: u64) -> bool
+    requires first { a < 2 ^ bits_of width }
+    requires second { b < 2 ^ bits_of width }
+    ensures { result ≡ condition_holds (bits_of width) condition a b }
+{
+    match condition {
+        Condition::Equal => a == b,
+        Condition::NotEqual => a != b,
+        Condition::AnyBit => a & b != 0,
+        Condition::Above => a > b,
+        Condition::AtLeast => a >= b,
+        Condition::Below => a < b,
+        Condition::AtMost => a <= b,
+        Condition::SignedAbove => signed(width, a) > signed(width, b),
+        Condition::SignedAtLeast => signed(width, a) >= signed(width, b),
+        Condition::SignedBelow => signed(width, a) < signed(width, b),
+        Condition::SignedAtMost => signed(width, a) <= signed(width, b),
+    }
+}

@@ -1,0 +1,3 @@
+mod Faultless
+pub mod Laws
+mod Searching

@@ -1,0 +1,4 @@
+pub mod Edges
+pub mod Faults
+pub mod Reach
+pub mod Shape

@@ -1,0 +1,10 @@
+pub mod Laws
+pub mod Opcodes
+pub mod Named
+pub mod FirstKinds
+pub mod Building
+pub mod Bytes
+pub mod Spelled
+pub mod Front
+pub mod FirstFaults
+pub mod Texts

@@ -1,0 +1,37 @@
+use Rattle.std.proofs.Common.{◌≡◌, ◌≤◌, ◌<◌, ◌*◌, ◌%◌, ◌-◌, ℕ, List, ◌++◌, ◌∷◌, [], take, drop, length, inl, inr, sym, subst, ap, ◌∙◌, arith}
+use Rattle.rb_insn.specs.Units.{units_taken}
+use Rattle.rb_insn.specs.Spelling.{Spells}
+use Rattle.rb_decode.specs.Faults.{IsFirstKind}
+use Rattle.rb_decode.specs.FirstFault.{HasBadLength, IsTooLong, IsFirstFaultOf}
+use Rattle.rb_decode.specs.Decoded.{IsDecoded}
+use Rattle.rb_decode.proofs.FirstFaults.{decoded_more, fault_here, rest_of}
+use Rattle.rb_decode.proofs.decoding.decode_units.Goals as goal
+
+pub loop-units-preserved : goal.loop-units-preserved
+loop-units-preserved c =
+    let bytes = c.args.bytes.now in
+    let units = c.loop-units.units.items in
+    let insn = c.in-Ok.insn in
+    let at : c.len-unit.result ≡ length units = omega arith in
+    let rest = ap (λ n. take (length bytes - 8 * n) (drop (8 * n) bytes)) at ∙ rest_of (8 * length units) bytes in
+    let room = subst (λ (l : List ℕ). 8 * units_taken insn ≤ length l) rest c.in-Ok.ensures.within in
+    let spells = subst (λ (l : List ℕ). Spells insn (take (8 * units_taken insn) l)) rest c.in-Ok.ensures.ok in
+    subst (IsDecoded bytes) (sym c.in_ok-push_insn-in-Ok.ensures) (decoded_more bytes units insn c.loop-units.invariant room spells)
+
+pub returns-in-Err-clause-fault : goal.returns-in-Err-clause-fault
+returns-in-Err-clause-fault c =
+    let bytes = c.args.bytes.now in
+    let units = c.loop-units.units.items in
+    let kind = c.in-Err.kind in
+    let at : c.len-unit.result ≡ length units = omega arith in
+    let rest = ap (λ n. take (length bytes - 8 * n) (drop (8 * n) bytes)) at ∙ rest_of (8 * length units) bytes in
+    let first = subst (λ (l : List ℕ). IsFirstKind kind l) rest c.in-Err.ensures.err in
+    let more : 8 * length units < length bytes = omega arith in
+    let whole : length bytes % 8 ≡ 0 = omega arith in
+    let length_fits : HasBadLength bytes → ⊥ = λ bad. elim bad [
+      | inl empty ↦ let none : length bytes ≡ 0 = ap length empty in absurd (omega arith)
+      | inr uneven ↦ uneven whole
+    ] in
+    let not_long : IsTooLong bytes → ⊥ = λ long. absurd (omega arith) in
+    let fault = fault_here bytes units kind c.loop-units.invariant more length_fits not_long first in
+    inr (subst (λ (n : ℕ). IsFirstFaultOf bytes n kind) (sym at) fault)

@@ -1,0 +1,12 @@
+pub mod Fields
+pub mod Table
+pub mod Faults
+pub mod FirstFault
+pub mod Operations
+pub mod Checks
+pub mod SecondUnit
+pub mod Program
+pub mod Text
+pub mod TextFaults
+pub mod Units
+pub mod Decoded

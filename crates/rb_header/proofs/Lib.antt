@@ -1,0 +1,2 @@
+mod HeaderBytes
+pub mod Laws

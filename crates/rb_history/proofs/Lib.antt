@@ -1,0 +1,14 @@
+pub mod Lists
+pub mod Row
+pub mod Steps
+pub mod Kept
+pub mod Contents
+pub mod Taking
+pub mod Standing
+pub mod Settling
+pub mod Finding
+pub mod Laws
+pub mod Exact
+pub mod Counting
+pub mod Tallies
+pub mod OneCall

@@ -1,0 +1,47 @@
+-- The counts of a history: each the length of a filter.
+use Rattle.std.specs.Prelude.{ℕ, List, Bool, true, false}
+use Rattle.std.specs.List.{count_by}
+use Rattle.rb_history.specs.declared.entries.Entry.{Entry}
+use Rattle.rb_history.specs.declared.entries.Entry.TheVariants.{Res, Full, Dis}
+use Rattle.rb_history.specs.declared.answers.Counts.{Counts}
+use Rattle.rb_history.specs.History.{Status, status_of}
+use Rattle.rb_history.specs.History.Status.{Busy, Waiting, Consumed, Discarded}
+
+abbrev pub is_grant : Entry → Bool
+is_grant (Res w k n p) = true
+is_grant _ = false
+
+abbrev pub is_refusal : Entry → Bool
+is_refusal (Full w n) = true
+is_refusal _ = false
+
+abbrev pub is_discarding : Entry → Bool
+is_discarding (Dis p) = true
+is_discarding _ = false
+
+abbrev pub is_same : Status → Status → Bool
+is_same Busy Busy = true
+is_same Waiting Waiting = true
+is_same Consumed Consumed = true
+is_same Discarded Discarded = true
+is_same _ _ = false
+
+-- the entry grants a record that has this status now
+abbrev pub has_status : Status → List Entry → Entry → Bool
+has_status st h (Res w k n p) = is_same st (status_of h p)
+has_status st h _ = false
+
+-- how many records have this status
+abbrev pub number_of : Status → List Entry → ℕ
+number_of st h = count_by (has_status st h) h
+
+-- the six counts
+abbrev pub counts_of : List Entry → Counts
+counts_of h = record {
+  made = count_by is_grant h;
+  refused = count_by is_refusal h;
+  consumed = number_of Consumed h;
+  discarded = number_of Discarded h;
+  waiting = number_of Waiting h;
+  busy = number_of Busy h;
+}

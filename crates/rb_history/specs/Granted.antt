@@ -1,0 +1,8 @@
+-- What a worker holds of a record that it was granted: its three numbers, and its bytes, which are as many as its length.
+use Rattle.std.specs.Prelude.{ℕ, List}
+
+pub record Granted : Type 0 where
+  pub pos : ℕ
+  pub worker : ℕ
+  pub serial : ℕ
+  pub bytes : List ℕ

@@ -1,0 +1,11 @@
+pub mod History
+pub mod Counting
+pub mod Legal
+pub mod View
+pub mod Answers
+pub mod Granted
+pub mod Calls
+pub mod Stored
+pub mod Rows
+pub mod Tallies
+pub mod Steps

@@ -1,0 +1,86 @@
+//! What the calls of a ring answer.
+
+use crate::reservations::Reservation;
+use rb_lend::Sheet;
+use thiserror::Error;
+
+/// Why a ring can't be made. The first of these that stands is told, in this order.
+#[derive(Clone, Copy, Debug, Error, PartialEq, Eq)]
+pub enum OpenFault {
+    /// The size is no power of two from 4,096 to 67,108,864.
+    #[error("the size is no power of two from 4096 to 67108864")]
+    Size,
+    /// The start is no multiple of 8, or above 2^61.
+    #[error("the start is no multiple of 8 up to 2^61")]
+    Start,
+    /// The number of workers is not 1 to 256.
+    #[error("the number of workers is not 1 to 256")]
+    Workers,
+    /// There is no memory for the ring.
+    #[error("out of memory")]
+    Memory,
+}
+
+/// Whether the consumer is to be told of a record.
+#[derive(Clone, Copy, Debug, PartialEq, Eq)]
+pub enum Notice {
+    /// It is to be told.
+    Due,
+    /// It need not be told.
+    NotDue,
+}
+
+/// Why no record was granted.
+#[derive(Clone, Copy, Debug, Error, PartialEq, Eq)]
+pub enum ReserveFault {
+    /// The room rule fails. The refusal is logged.
+    #[error("the ring has no room")]
+    Full,
+    /// A growth was refused. Nothing changed.
+    #[error("out of memory")]
+    Memory,
+    /// The flags are above 3. Nothing changed.
+    #[error("unknown flags")]
+    Flags,
+    /// The seat is another ring's. Nothing changed. A ring of one thread never answers so.
+    #[error("the seat is another ring's")]
+    Foreign,
+}
+
+/// A reservation that no busy record of the ring has, handed back whole.
+#[derive(Drop)]
+pub struct Stray {
+    /// The reservation that was handed in.
+    pub reservation: Reservation,
+}
+
+/// What a take found at the consumer position.
+#[derive(Drop)]
+pub enum Taken {
+    /// A submitted record was taken: its position, worker and serial, and its bytes.
+    Event(u64, u32, u64, Sheet),
+    /// A discarded record was passed over: its position and length.
+    Skipped(u64, u32),
+    /// The record there is busy. Nothing changed.
+    BusyFront,
+    /// There is no record there. Nothing changed.
+    Empty,
+}
+
+/// How many reservations a ring's history has: granted, refused for room, and granted ones by status. `made` is the sum of
+/// the last four.
+#[derive(Clone, Copy, Debug, PartialEq, Eq)]
+pub struct Counts {
+    /// Records that were granted.
+    pub made: u64,
+    /// Reservations that found no room.
+    pub refused: u64,
+    /// Records that were submitted and taken.
+    pub consumed: u64,
+    /// Records that were discarded, passed over or not yet.
+    pub discarded: u64,
+    /// Records that were submitted and not taken.
+    pub waiting: u64,
+    /// Records that were neither submitted nor discarded.
+    pub busy: u64,
+}

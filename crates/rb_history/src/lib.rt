@@ -1,0 +1,15 @@
+//! What a ring's history says: its entries, the answers of a ring's calls, and the definitions and laws that every body of a
+//! ring and every caller shares. No body of a ring stands here.
+#![tactic(auto)]
+
+mod answers;
+mod entries;
+mod one_call;
+mod reservations;
+mod stored;
+
+pub use answers::{Counts, Notice, OpenFault, ReserveFault, Stray, Taken};
+pub use entries::Entry;
+pub use one_call::each_entry_is_one_call;
+pub use reservations::Reservation;
+pub use stored::{RecordState, StoredRecord};

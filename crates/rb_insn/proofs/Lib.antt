@@ -1,0 +1,5 @@
+pub mod Registers
+pub mod Units
+pub mod Reading
+pub mod Rows
+pub mod Laws

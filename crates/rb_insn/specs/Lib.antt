@@ -1,0 +1,4 @@
+pub mod Opcodes
+pub mod Operands
+pub mod Spelling
+pub mod Units

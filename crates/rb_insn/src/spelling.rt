@@ -1,0 +1,251 @@
+//! The bytes of an instruction (RFC 9669, section 3): the fields of its units, each a column of the tables, and how they
+//! are written.
+
+ghost use Rattle.std.specs.Prelude.{◌≡◌, ◌+◌, ◌*◌, ◌<◌, ◌≤◌, ◌%◌, ◌/◌, ◌^◌, ◌++◌, ◌∷◌, [], length, take, drop, slice_index, MatchOption};
+ghost use Rattle.byteorder.specs.Endian.{little_bytes};
+ghost use Rattle.rb_insn.specs.Operands.{source_of, src_of, imm_of};
+ghost use Rattle.rb_insn.specs.Spelling.{spelling, second_unit, Spells, OffsetFits, OperandFits, ImmFits, SpellingsFillUnits, NoSpellingBeginsAnother, OneListSpells};
+ghost use Rattle.rb_insn.specs.Units.{units_taken};
+
+use crate::insn::{Insn, Operand, Size};
+use crate::opcodes::{
+    ALU, ALU64, CALL, EXIT, IMM, JA, JMP, JMP32, K, LD, LDX, MAP_BY_INDEX, MEM, MEMSX, MOV, NEG,
+    ST, STX, X, access, operation,
+};
+use byteorder::{ByteOrder, LittleEndian};
+
+impl Operand {
+    /// Where the operand stands.
+    fn source(self) -> u8
+        ensures { result ≡ source_of self }
+    {
+        match self {
+            Operand::Immediate(_) => K,
+            Operand::Register(_) => X,
+        }
+    }
+
+    /// The source field.
+    fn src(self) -> u8
+        ensures { result ≡ src_of self }
+    {
+        match self {
+            Operand::Immediate(_) => 0,
+            Operand::Register(src) => src.number,
+        }
+    }
+
+    /// The immediate.
+    fn imm(self) -> u32
+        ensures value { result ≡ imm_of self }
+        ensures fits { OperandFits self }
+    {
+        match self {
+            Operand::Immediate(value) => value.cast_unsigned(),
+            Operand::Register(_) => 0,
+        }
+    }
+}
+
+impl Insn {
+    /// The opcode.
+    fn opcode(&self) -> u8
+        ensures { result ≡ slice_index (spelling self.now) 0 }
+    {
+        match *self {
+            Insn::Binary {
+                width,
+                op,
+                operand,
+                ..
+            } => operation(op.code(), operand.source(), width.alu_class()),
+            Insn::Division {
+                width,
+                op,
+                operand,
+                ..
+            } => operation(op.code(), operand.source(), width.alu_class()),
+            Insn::Negate { width, .. } => operation(NEG, K, width.alu_class()),
+            Insn::Move { width, operand, .. } => operation(
+                MOV,
+                operand.source(),
+                width.alu_class(),
+            ),
+            Insn::MoveExtended32 { .. } => operation(MOV, X, ALU),
+            Insn::MoveExtended64 { .. } => operation(MOV, X, ALU64),
+            Insn::Reorder { order, .. } => order.opcode(),
+            Insn::Jump { .. } => operation(JA, K, JMP),
+            Insn::JumpFar { .. } => operation(JA, K, JMP32),
+            Insn::Branch {
+                width,
+                condition,
+                operand,
+                ..
+            } => operation(condition.code(), operand.source(), width.jump_class()),
+            Insn::Call { .. } => operation(CALL, K, JMP),
+            Insn::Exit => operation(EXIT, K, JMP),
+            Insn::LoadNumber { .. } | Insn::LoadRing { .. } => access(IMM, Size::Double.code(), LD),
+            Insn::Load { size, .. } => access(MEM, size.code(), LDX),
+            Insn::LoadSigned { size, .. } => access(MEMSX, size.code(), LDX),
+            Insn::StoreImmediate { size, .. } => access(MEM, size.code(), ST),
+            Insn::StoreRegister { size, .. } => access(MEM, size.code(), STX),
+        }
+    }
+
+    /// The destination field.
+    fn dst(&self) -> u8
+        ensures value { result ≡ slice_index (spelling self.now) 1 % 16 }
+        ensures bound { result ≤ 10 }
+    {
+        match *self {
+            Insn::Binary { dst, .. }
+            | Insn::Division { dst, .. }
+            | Insn::Negate { dst, .. }
+            | Insn::Move { dst, .. }
+            | Insn::MoveExtended32 { dst, .. }
+            | Insn::MoveExtended64 { dst, .. }
+            | Insn::Reorder { dst, .. }
+            | Insn::Branch { dst, .. }
+            | Insn::LoadNumber { dst, .. }
+            | Insn::LoadRing { dst, .. }
+            | Insn::Load { dst, .. }
+            | Insn::LoadSigned { dst, .. } => dst.number,
+            Insn::StoreImmediate { base, .. } | Insn::StoreRegister { base, .. } => base.number,
+            Insn::Jump { .. } | Insn::JumpFar { .. } | Insn::Call { .. } | Insn::Exit => 0,
+        }
+    }
+
+    /// The source field.
+    fn src(&self) -> u8
+        ensures value { result ≡ slice_index (spelling self.now) 1 / 16 }
+        ensures bound { result ≤ 10 }
+    {
+        match *self {
+            Insn::Binary { operand, .. }
+            | Insn::Division { operand, .. }
+            | Insn::Move { operand, .. }
+            | Insn::Branch { operand, .. } => operand.src(),
+            Insn::MoveExtended32 { src, .. }
+            | Insn::MoveExtended64 { src, .. }
+            | Insn::StoreRegister { src, .. } => src.number,
+            Insn::Load { base, .. } | Insn::LoadSigned { base, .. } => base.number,
+            Insn::LoadRing { .. } => MAP_BY_INDEX,
+            Insn::Negate { .. }
+            | Insn::Reorder { .. }
+            | Insn::Jump { .. }
+            | Insn::JumpFar { .. }
+            | Insn::Call { .. }
+            | Insn::Exit
+            | Insn::LoadNumber { .. }
+            | Insn::StoreImmediate { .. } => 0,
+        }
+    }
+
+    /// The offset.
+    fn offset(&self) -> u16
+        ensures value { take 2 (drop 2 (spelling self.now)) ≡ little_bytes 2 result }
+        ensures fits { OffsetFits self.now }
+    {
+        match *self {
+            Insn::Division { sign, .. } => sign.offset(),
+            Insn::MoveExtended32 { from, .. } => from.bits(),
+            Insn::MoveExtended64 { from, .. } => from.bits(),
+            Insn::Jump { distance } => distance.cast_unsigned(),
+            Insn::Branch { distance, .. } => distance.cast_unsigned(),
+            Insn::Load { offset, .. } => offset.cast_unsigned(),
+            Insn::LoadSigned { offset, .. } => offset.cast_unsigned(),
+            Insn::StoreImmediate { offset, .. } => offset.cast_unsigned(),
+            Insn::StoreRegister { offset, .. } => offset.cast_unsigned(),
+            Insn::Binary { .. }
+            | Insn::Negate { .. }
+            | Insn::Move { .. }
+            | Insn::Reorder { .. }
+            | Insn::JumpFar { .. }
+            | Insn::Call { .. }
+            | Insn::Exit
+            | Insn::LoadNumber { .. }
+            | Insn::LoadRing { .. } => 0,
+        }
+    }
+
+    /// The immediate.
+    fn imm(&self) -> u32
+        ensures value { take 4 (drop 4 (spelling self.now)) ≡ little_bytes 4 result }
+        ensures fits { ImmFits self.now }
+    {
+        match *self {
+            Insn::Binary { operand, .. }
+            | Insn::Division { operand, .. }
+            | Insn::Move { operand, .. }
+            | Insn::Branch { operand, .. } => operand.imm(),
+            Insn::Reorder { width, .. } => width.bits(),
+            Insn::JumpFar { distance } => distance.cast_unsigned(),
+            Insn::Call { helper } => helper,
+            Insn::LoadNumber { value, .. } => (value % (1 << 32)) as u32,
+            Insn::LoadRing { ring, .. } => ring,
+            Insn::StoreImmediate { value, .. } => value.cast_unsigned(),
+            Insn::Negate { .. }
+            | Insn::MoveExtended32 { .. }
+            | Insn::MoveExtended64 { .. }
+            | Insn::Jump { .. }
+            | Insn::Exit
+            | Insn::Load { .. }
+            | Insn::LoadSigned { .. }
+            | Insn::StoreRegister { .. } => 0,
+        }
+    }
+
+    /// The immediate of the second unit, where there is one.
+    fn next_imm(&self) -> Option<u32>
+        ensures { MatchOption result (drop 8 (spelling self.now) ≡ []) (λ next. drop 8 (spelling self.now) ≡ second_unit next) }
+    {
+        match *self {
+            Insn::LoadNumber { value, .. } => Some((value >> 32) as u32),
+            Insn::LoadRing { .. } => Some(0),
+            _ => None,
+        }
+    }
+
+    /// Writes the bytes that spell the instruction to the front of `out`, and answers how many: 16 where it is wide, else
+    /// 8. The rest of `out` stays.
+    pub fn spell(&self, out: &mut [u8; 16]) -> usize
+        ensures spelled { Spells self.now (take result out.new) }
+        ensures rest { drop result out.new ≡ drop result out.old }
+        ensures count { result ≡ 8 * units_taken self.now }
+    {
+        let registers = self.dst() + 16 * self.src();
+        write_unit(
+            &mut out[..8],
+            self.opcode(),
+            registers,
+            self.offset(),
+            self.imm(),
+        );
+        match self.next_imm() {
+            Some(next) => {
+                write_unit(&mut out[8..], 0, 0, 0, next);
+                16
+            }
+            None => 8,
+        }
+    }
+}
+
+/// Writes a unit of eight bytes.
+fn write_unit(out: &mut [u8], opcode: u8, registers: u8, offset: u16, imm: u32)
+    requires { length out.old ≡ 8 }
+    ensures { out.new ≡ opcode ∷ registers ∷ (little_bytes 2 offset ++ little_bytes 4 imm) }
+{
+    out[0] = opcode;
+    out[1] = registers;
+    LittleEndian::write_u16(&mut out[2..4], offset);
+    LittleEndian::write_u32(&mut out[4..8], imm);
+}
+
+/// What the spelling of programs rests on: an instruction's spelling fills its units; no spelling begins another; bytes are
+/// spelled by at most one list of instructions. For the proofs of callers; it does nothing.
+pub fn spelling_laws()
+    ensures fills_units { SpellingsFillUnits }
+    ensures prefix_free { NoSpellingBeginsAnother }
+    ensures unique { OneListSpells }
+{}

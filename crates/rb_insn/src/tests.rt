@@ -1,0 +1,597 @@
+//! Bytes that were worked out by hand, from the tables of RFC 9669.
+
+use super::*;
+use std::test::Fail;
+
+/// A zero byte in front of what is written would show, and so would a byte too many.
+const FILL: u8 = 0xaa;
+
+fn spells(rt: &impl std::process::Abort, insn: Insn, bytes: &[u8]) {
+    let mut out = [FILL; 16];
+    let count = insn.spell(&mut out);
+    assert_eq!(rt; count, bytes.len(), "{insn:?}");
+    assert_eq!(rt; count, 8 * insn.units(), "{insn:?}");
+    assert_eq!(rt; &out[..count], bytes, "{insn:?}");
+    for byte in &out[count..] {
+        assert_eq!(rt; *byte, FILL, "{insn:?}");
+    }
+}
+
+const R3: Reg = Reg::R3;
+
+const R10: Reg = Reg::R10;
+
+fn imm(value: i32) -> Operand {
+    Operand::Immediate(value)
+}
+
+#[test]
+fn arithmetic(rt: HostRuntime) -> Result<(), Fail> {
+    let rows = [
+        (
+            BinaryOp::Add,
+            Width::W32,
+            imm(1),
+            [0x04, 0x03, 0, 0, 1, 0, 0, 0],
+        ),
+        (
+            BinaryOp::Add,
+            Width::W64,
+            imm(-1),
+            [0x07, 0x03, 0, 0, 0xff, 0xff, 0xff, 0xff],
+        ),
+        (
+            BinaryOp::Add,
+            Width::W64,
+            Operand::Register(R10),
+            [0x0f, 0xa3, 0, 0, 0, 0, 0, 0],
+        ),
+        (
+            BinaryOp::Sub,
+            Width::W32,
+            imm(2),
+            [0x14, 0x03, 0, 0, 2, 0, 0, 0],
+        ),
+        (
+            BinaryOp::Mul,
+            Width::W32,
+            Operand::Register(R10),
+            [0x2c, 0xa3, 0, 0, 0, 0, 0, 0],
+        ),
+        (
+            BinaryOp::Or,
+            Width::W64,
+            imm(0x1234_5678),
+            [0x47, 0x03, 0, 0, 0x78, 0x56, 0x34, 0x12],
+        ),
+        (
+            BinaryOp::And,
+            Width::W32,
+            imm(-0x8000_0000),
+            [0x54, 0x03, 0, 0, 0, 0, 0, 0x80],
+        ),
+        (
+            BinaryOp::Lsh,
+            Width::W64,
+            imm(63),
+            [0x67, 0x03, 0, 0, 63, 0, 0, 0],
+        ),
+        (
+            BinaryOp::Rsh,
+            Width::W64,
+            Operand::Register(Reg::R0),
+            [0x7f, 0x03, 0, 0, 0, 0, 0, 0],
+        ),
+        (
+            BinaryOp::Xor,
+            Width::W64,
+            imm(0x7fff_ffff),
+            [0xa7, 0x03, 0, 0, 0xff, 0xff, 0xff, 0x7f],
+        ),
+        (
+            BinaryOp::Arsh,
+            Width::W32,
+            Operand::Register(R10),
+            [0xcc, 0xa3, 0, 0, 0, 0, 0, 0],
+        ),
+    ];
+    for (op, width, operand, bytes) in rows {
+        spells(
+            &rt,
+            Insn::Binary {
+                width,
+                op,
+                dst: R3,
+                operand,
+            },
+            &bytes,
+        );
+    }
+    Ok(())
+}
+
+#[test]
+fn divisions(rt: HostRuntime) -> Result<(), Fail> {
+    let rows = [
+        (
+            DivisionOp::Div,
+            Width::W64,
+            Signedness::Signed,
+            imm(-1),
+            [0x37, 0x03, 1, 0, 0xff, 0xff, 0xff, 0xff],
+        ),
+        (
+            DivisionOp::Div,
+            Width::W32,
+            Signedness::Unsigned,
+            Operand::Register(R10),
+            [0x3c, 0xa3, 0, 0, 0, 0, 0, 0],
+        ),
+        (
+            DivisionOp::Mod,
+            Width::W32,
+            Signedness::Unsigned,
+            imm(0),
+            [0x94, 0x03, 0, 0, 0, 0, 0, 0],
+        ),
+        (
+            DivisionOp::Mod,
+            Width::W64,
+            Signedness::Signed,
+            imm(3),
+            [0x97, 0x03, 1, 0, 3, 0, 0, 0],
+        ),
+        (
+            DivisionOp::Mod,
+            Width::W64,
+            Signedness::Signed,
+            Operand::Register(R10),
+            [0x9f, 0xa3, 1, 0, 0, 0, 0, 0],
+        ),
+    ];
+    for (op, width, sign, operand, bytes) in rows {
+        spells(
+            &rt,
+            Insn::Division {
+                width,
+                op,
+                sign,
+                dst: R3,
+                operand,
+            },
+            &bytes,
+        );
+    }
+    Ok(())
+}
+
+#[test]
+fn moves(rt: HostRuntime) -> Result<(), Fail> {
+    let rows = [
+        (
+            Insn::Negate {
+                width: Width::W32,
+                dst: R3,
+            },
+            [0x84, 0x03, 0, 0, 0, 0, 0, 0],
+        ),
+        (
+            Insn::Negate {
+                width: Width::W64,
+                dst: R10,
+            },
+            [0x87, 0x0a, 0, 0, 0, 0, 0, 0],
+        ),
+        (
+            Insn::Move {
+                width: Width::W32,
+                dst: R3,
+                operand: imm(7),
+            },
+            [0xb4, 0x03, 0, 0, 7, 0, 0, 0],
+        ),
+        (
+            Insn::Move {
+                width: Width::W64,
+                dst: Reg::R2,
+                operand: imm(8),
+            },
+            [0xb7, 0x02, 0, 0, 8, 0, 0, 0],
+        ),
+        (
+            Insn::Move {
+                width: Width::W64,
+                dst: Reg::R1,
+                operand: Operand::Register(Reg::R0),
+            },
+            [0xbf, 0x01, 0, 0, 0, 0, 0, 0],
+        ),
+        (
+            Insn::MoveExtended32 {
+                from: Extend32::From8,
+                dst: R3,
+                src: R10,
+            },
+            [0xbc, 0xa3, 8, 0, 0, 0, 0, 0],
+        ),
+        (
+            Insn::MoveExtended32 {
+                from: Extend32::From16,
+                dst: R3,
+                src: R10,
+            },
+            [0xbc, 0xa3, 16, 0, 0, 0, 0, 0],
+        ),
+        (
+            Insn::MoveExtended64 {
+                from: Extend64::From8,
+                dst: Reg::R1,
+                src: Reg::R2,
+            },
+            [0xbf, 0x21, 8, 0, 0, 0, 0, 0],
+        ),
+        (
+            Insn::MoveExtended64 {
+                from: Extend64::From16,
+                dst: Reg::R1,
+                src: Reg::R2,
+            },
+            [0xbf, 0x21, 16, 0, 0, 0, 0, 0],
+        ),
+        (
+            Insn::MoveExtended64 {
+                from: Extend64::From32,
+                dst: Reg::R1,
+                src: Reg::R2,
+            },
+            [0xbf, 0x21, 32, 0, 0, 0, 0, 0],
+        ),
+        (
+            Insn::Reorder {
+                order: ByteOrder::Little,
+                width: SwapWidth::B16,
+                dst: R3,
+            },
+            [0xd4, 0x03, 0, 0, 16, 0, 0, 0],
+        ),
+        (
+            Insn::Reorder {
+                order: ByteOrder::Big,
+                width: SwapWidth::B32,
+                dst: R3,
+            },
+            [0xdc, 0x03, 0, 0, 32, 0, 0, 0],
+        ),
+        (
+            Insn::Reorder {
+                order: ByteOrder::Swap,
+                width: SwapWidth::B64,
+                dst: R3,
+            },
+            [0xd7, 0x03, 0, 0, 64, 0, 0, 0],
+        ),
+    ];
+    for (insn, bytes) in rows {
+        spells(&rt, insn, &bytes);
+    }
+    Ok(())
+}
+
+#[test]
+fn branches(rt: HostRuntime) -> Result<(), Fail> {
+    let rows = [
+        (
+            Condition::Equal,
+            Width::W64,
+            imm(0),
+            4,
+            [0x15, 0x03, 4, 0, 0, 0, 0, 0],
+        ),
+        (
+            Condition::Above,
+            Width::W64,
+            Operand::Register(R10),
+            -1,
+            [0x2d, 0xa3, 0xff, 0xff, 0, 0, 0, 0],
+        ),
+        (
+            Condition::AtLeast,
+            Width::W32,
+            imm(1),
+            0,
+            [0x36, 0x03, 0, 0, 1, 0, 0, 0],
+        ),
+        (
+            Condition::AnyBit,
+            Width::W32,
+            Operand::Register(R10),
+            0x1234,
+            [0x4e, 0xa3, 0x34, 0x12, 0, 0, 0, 0],
+        ),
+        (
+            Condition::NotEqual,
+            Width::W64,
+            imm(-2),
+            1,
+            [0x55, 0x03, 1, 0, 0xfe, 0xff, 0xff, 0xff],
+        ),
+        (
+            Condition::SignedAbove,
+            Width::W64,
+            imm(5),
+            1,
+            [0x65, 0x03, 1, 0, 5, 0, 0, 0],
+        ),
+        (
+            Condition::SignedAtLeast,
+            Width::W32,
+            imm(5),
+            1,
+            [0x76, 0x03, 1, 0, 5, 0, 0, 0],
+        ),
+        (
+            Condition::Below,
+            Width::W64,
+            imm(5),
+            -0x8000,
+            [0xa5, 0x03, 0, 0x80, 5, 0, 0, 0],
+        ),
+        (
+            Condition::AtMost,
+            Width::W64,
+            Operand::Register(R10),
+            1,
+            [0xbd, 0xa3, 1, 0, 0, 0, 0, 0],
+        ),
+        (
+            Condition::SignedBelow,
+            Width::W32,
+            imm(5),
+            1,
+            [0xc6, 0x03, 1, 0, 5, 0, 0, 0],
+        ),
+        (
+            Condition::SignedAtMost,
+            Width::W64,
+            imm(5),
+            1,
+            [0xd5, 0x03, 1, 0, 5, 0, 0, 0],
+        ),
+    ];
+    for (condition, width, operand, distance, bytes) in rows {
+        spells(
+            &rt,
+            Insn::Branch {
+                width,
+                condition,
+                dst: R3,
+                operand,
+                distance,
+            },
+            &bytes,
+        );
+    }
+    Ok(())
+}
+
+#[test]
+fn jumps(rt: HostRuntime) -> Result<(), Fail> {
+    let rows = [
+        (
+            Insn::Jump { distance: -2 },
+            [0x05, 0, 0xfe, 0xff, 0, 0, 0, 0],
+        ),
+        (
+            Insn::JumpFar { distance: 0x1_0000 },
+            [0x06, 0, 0, 0, 0, 0, 1, 0],
+        ),
+        (
+            Insn::JumpFar { distance: -2 },
+            [0x06, 0, 0, 0, 0xfe, 0xff, 0xff, 0xff],
+        ),
+        (Insn::Call { helper: 131 }, [0x85, 0, 0, 0, 0x83, 0, 0, 0]),
+        (
+            Insn::Call {
+                helper: 0xffff_ffff,
+            },
+            [0x85, 0, 0, 0, 0xff, 0xff, 0xff, 0xff],
+        ),
+        (Insn::Exit, [0x95, 0, 0, 0, 0, 0, 0, 0]),
+    ];
+    for (insn, bytes) in rows {
+        spells(&rt, insn, &bytes);
+    }
+    Ok(())
+}
+
+#[test]
+fn memory(rt: HostRuntime) -> Result<(), Fail> {
+    let rows = [
+        (
+            Insn::Load {
+                size: Size::Word,
+                dst: R3,
+                base: R10,
+                offset: -4,
+            },
+            [0x61, 0xa3, 0xfc, 0xff, 0, 0, 0, 0],
+        ),
+        (
+            Insn::Load {
+                size: Size::Half,
+                dst: R3,
+                base: R10,
+                offset: 2,
+            },
+            [0x69, 0xa3, 2, 0, 0, 0, 0, 0],
+        ),
+        (
+            Insn::Load {
+                size: Size::Byte,
+                dst: R3,
+                base: R10,
+                offset: 1,
+            },
+            [0x71, 0xa3, 1, 0, 0, 0, 0, 0],
+        ),
+        (
+            Insn::Load {
+                size: Size::Double,
+                dst: Reg::R2,
+                base: Reg::R1,
+                offset: 0,
+            },
+            [0x79, 0x12, 0, 0, 0, 0, 0, 0],
+        ),
+        (
+            Insn::LoadSigned {
+                size: SignedSize::Word,
+                dst: R3,
+                base: R10,
+                offset: 0,
+            },
+            [0x81, 0xa3, 0, 0, 0, 0, 0, 0],
+        ),
+        (
+            Insn::LoadSigned {
+                size: SignedSize::Half,
+                dst: R3,
+                base: R10,
+                offset: 0,
+            },
+            [0x89, 0xa3, 0, 0, 0, 0, 0, 0],
+        ),
+        (
+            Insn::LoadSigned {
+                size: SignedSize::Byte,
+                dst: R3,
+                base: R10,
+                offset: 0,
+            },
+            [0x91, 0xa3, 0, 0, 0, 0, 0, 0],
+        ),
+        (
+            Insn::StoreImmediate {
+                size: Size::Word,
+                base: R10,
+                offset: -8,
+                value: -1,
+            },
+            [0x62, 0x0a, 0xf8, 0xff, 0xff, 0xff, 0xff, 0xff],
+        ),
+        (
+            Insn::StoreImmediate {
+                size: Size::Half,
+                base: R3,
+                offset: 0,
+                value: 5,
+            },
+            [0x6a, 0x03, 0, 0, 5, 0, 0, 0],
+        ),
+        (
+            Insn::StoreImmediate {
+                size: Size::Byte,
+                base: R3,
+                offset: 0,
+                value: 5,
+            },
+            [0x72, 0x03, 0, 0, 5, 0, 0, 0],
+        ),
+        (
+            Insn::StoreImmediate {
+                size: Size::Double,
+                base: Reg::R0,
+                offset: 0,
+                value: 42,
+            },
+            [0x7a, 0, 0, 0, 42, 0, 0, 0],
+        ),
+        (
+            Insn::StoreRegister {
+                size: Size::Word,
+                base: R10,
+                offset: -8,
+                src: R3,
+            },
+            [0x63, 0x3a, 0xf8, 0xff, 0, 0, 0, 0],
+        ),
+        (
+            Insn::StoreRegister {
+                size: Size::Half,
+                base: R10,
+                offset: 0,
+                src: R3,
+            },
+            [0x6b, 0x3a, 0, 0, 0, 0, 0, 0],
+        ),
+        (
+            Insn::StoreRegister {
+                size: Size::Byte,
+                base: R10,
+                offset: 0,
+                src: R3,
+            },
+            [0x73, 0x3a, 0, 0, 0, 0, 0, 0],
+        ),
+        (
+            Insn::StoreRegister {
+                size: Size::Double,
+                base: R10,
+                offset: 0,
+                src: R3,
+            },
+            [0x7b, 0x3a, 0, 0, 0, 0, 0, 0],
+        ),
+    ];
+    for (insn, bytes) in rows {
+        spells(&rt, insn, &bytes);
+    }
+    Ok(())
+}
+
+#[test]
+fn wide(rt: HostRuntime) -> Result<(), Fail> {
+    spells(
+        &rt,
+        Insn::LoadNumber {
+            dst: R3,
+            value: 0x0123_4567_89ab_cdef,
+        },
+        &[
+            0x18, 0x03, 0, 0, 0xef, 0xcd, 0xab, 0x89, 0, 0, 0, 0, 0x67, 0x45, 0x23, 0x01,
+        ],
+    );
+    spells(
+        &rt,
+        Insn::LoadRing {
+            dst: Reg::R1,
+            ring: 0,
+        },
+        &[0x18, 0x51, 0, 0, 0, 0, 0, 0, 0, 0, 0, 0, 0, 0, 0, 0],
+    );
+    spells(
+        &rt,
+        Insn::LoadRing {
+            dst: R10,
+            ring: 0xffff_fffe,
+        },
+        &[
+            0x18, 0x5a, 0, 0, 0xfe, 0xff, 0xff, 0xff, 0, 0, 0, 0, 0, 0, 0, 0,
+        ],
+    );
+    Ok(())
+}
+
+#[test]
+fn registers(rt: HostRuntime) -> Result<(), Fail> {
+    for number in 0..=255u8 {
+        let found = Reg::new(number);
+        assert_eq!(rt; found.is_some(), number <= 10);
+        if let Some(reg) = found {
+            assert_eq!(rt; reg.index(), number as usize);
+        }
+    }
+    assert_eq!(rt; Reg::new(10), Some(Reg::R10));
+    spelling_laws();
+    Ok(())
+}

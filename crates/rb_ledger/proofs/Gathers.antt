@@ -1,0 +1,192 @@
+-- All seats and the consumer are gathered.
+use Rattle.std.proofs.Common.{◌≡◌, ℕ, suc, ◌+◌, ◌<◌, ◌≤◌, ◌==◌, ◌||◌, Bool, true, false, true≢false, List, [], ◌∷◌, ◌++◌, Some, None, inl, inr, sym, refl, ap, ◌∙◌, subst, append_assoc, eqb-true, arith}
+use Rattle.std.specs.List.{All, Any, count_by, sum_by}
+use Rattle.std.proofs.lemmas.List.Elements.{All-nil, All-cons, All-head, All-tail, All-push, All-pop}
+use Rattle.std.specs.FinMap.{get}
+use Rattle.std.proofs.lemmas.Bool.{and_parts, or_cases}
+use Rattle.atomic_table.specs.Seated.{TableId}
+use Rattle.rb_history.specs.declared.entries.Entry.{Entry}
+use Rattle.rb_history.specs.declared.entries.Entry.TheVariants.{Res, Full, Sub, Dis, Take}
+use Rattle.rb_history.specs.History.{grants, is_grant_of}
+use Rattle.rb_history.specs.Counting.{is_grant}
+use Rattle.rb_history.specs.Legal.{Setup, IsLegal, MayFollow}
+use Rattle.rb_history.specs.View.{Ring}
+use Rattle.rb_history.proofs.Counting.{made-split}
+use Rattle.rb_history.proofs.Laws.{legal-next}
+use Rattle.rb_history.proofs.Lists.{sum_by-cons, sum_by-add, sum_by-agree}
+use Rattle.rb_history.proofs.Standing.{grant-stands}
+use Rattle.rb_ledger.specs.declared.tally.Tally.{Tally}
+use Rattle.rb_ledger.specs.Own.{Role, is_record_of, Book, book_of}
+use Rattle.rb_ledger.specs.Own.Role.{Consumer, Worker}
+use Rattle.rb_ledger.specs.Bytes.{IsAllSentBy}
+use Rattle.rb_ledger.specs.Numbers.{numbers_below}
+use Rattle.rb_ledger.specs.Rule.{Known, View, known, view_of, Ledger, IsRing, Fits, AllFit, TakesState, times}
+use Rattle.rb_ledger.specs.Seats.{WorkerSeat, TakerSeat, TakerTies, are_tagged, has_seat, HasAll, seats_of, all_made}
+use Rattle.rb_ledger.specs.Headline.{roles_of, IsTied, Accounts, AreSent, IsClosed}
+use Rattle.rb_ledger.proofs.Records.{bit, record-from}
+use Rattle.rb_ledger.proofs.Tallies.{submitted-granted}
+use Rattle.rb_ledger.proofs.Seated.{ties-goes, taker-goes-on}
+use Rattle.rb_ledger.proofs.Serials.{serials-ordered, worker-in}
+
+-- ---- one seat after the other
+
+roles-snoc : (ss : List WorkerSeat) (s : WorkerSeat) → roles_of (ss ++ s ∷ []) ≡ roles_of ss ++ known (Worker s.worker) s.seen s.sent ∷ []
+roles-snoc [] s = refl
+roles-snoc (x ∷ ss) s = ap (λ ks. known (Worker x.worker) x.seen x.sent ∷ ks) (roles-snoc ss s)
+
+pub gather-step : (items rest : List WorkerSeat) (s : WorkerSeat) (v after own : View) → items ≡ rest ++ s ∷ [] → own ≡ view_of (known (Worker s.worker) s.seen s.sent ∷ []) None → after ≡ view_of (own.knows ++ v.knows) v.out
+    → view_of (roles_of rest ++ after.knows) after.out ≡ view_of (roles_of items ++ v.knows) v.out
+gather-step items rest s v after own cut is_own is_after =
+    let k = known (Worker s.worker) s.seen s.sent in
+    ap (λ (y : View). view_of (roles_of rest ++ y.knows) y.out) is_after
+    ∙ ap (λ (y : View). view_of (roles_of rest ++ (y.knows ++ v.knows)) v.out) is_own
+    ∙ ap (λ ks. view_of ks v.out) (sym (ap (λ l. l ++ v.knows) (roles-snoc rest s) ∙ append_assoc (roles_of rest) (k ∷ []) v.knows))
+    ∙ ap (λ l. view_of (roles_of l ++ v.knows) v.out) (sym cut)
+
+pub rest-rings : (at : TableId) (items rest : List WorkerSeat) (s : WorkerSeat) → items ≡ rest ++ s ∷ [] → All (λ x. x.ring ≡ at) items → All (λ x. x.ring ≡ at) rest
+rest-rings at items rest s cut all = (All-pop (λ (x : WorkerSeat). x.ring ≡ at) items rest (Some s) cut all).0
+
+pub all-each : (P : WorkerSeat → Type 0) (items rest : List WorkerSeat) (s : WorkerSeat) → items ≡ rest ++ s ∷ [] → P s → All P rest → All P items
+all-each P items rest s cut last all = subst (λ l. All P l) (sym cut) (All-push P rest s all last)
+
+pub tagged-rings : (tag : ℕ) (ring at : TableId) (ss : List WorkerSeat) → ring ≡ at → are_tagged tag ss ≡ true → All (λ s. s.tag ≡ tag → s.ring ≡ ring) ss → All (λ s. s.ring ≡ at) ss
+tagged-rings tag ring at [] same tagged given = All-nil _
+tagged-rings tag ring at (s ∷ ss) same tagged given =
+    let both = and_parts (s.tag == tag) (are_tagged tag ss) tagged in
+    let P : WorkerSeat → Type 0 = λ x. x.tag ≡ tag → x.ring ≡ ring in
+    All-cons (λ (x : WorkerSeat). x.ring ≡ at) s ss (All-head P s ss given (eqb-true s.tag tag both.0) ∙ same) (tagged-rings tag ring at ss same both.1 (All-tail P s ss given))
+
+-- ---- each worker has one seat
+
+eqb-sym : (a b : ℕ) → (a == b) ≡ (b == a)
+eqb-sym a b = grind arith
+
+seats-times : (w : ℕ) (ss : List WorkerSeat) (more : List Known) → seats_of w ss ≤ times (Worker w) (roles_of ss ++ more)
+seats-times w [] more = omega arith
+seats-times w (s ∷ ss) more =
+    let e = seats-times w ss more in
+    let f : bit (s.worker == w) ≡ bit (w == s.worker) = ap bit (eqb-sym s.worker w) in
+    omega (arith, f, sum_by-cons (λ (x : WorkerSeat). bit (x.worker == w)) s ss)
+
+has-first : (n : ℕ) (b c : Bool) → (c ≡ true → 1 ≤ n) → (b || c) ≡ true → 1 ≤ bit b + n
+has-first n true c more has = omega arith
+has-first n false c more has = let e = more has in omega arith
+
+has-one : (w : ℕ) (ss : List WorkerSeat) → has_seat w ss ≡ true → 1 ≤ seats_of w ss
+has-one w [] has = absurd (true≢false (sym has))
+has-one w (s ∷ ss) has =
+    let first = has-first (seats_of w ss) (s.worker == w) (has_seat w ss) (has-one w ss) has in
+    omega (arith, sum_by-cons (λ (x : WorkerSeat). bit (x.worker == w)) s ss)
+
+-- the seat of a worker that has one
+some-seat : (P Q : WorkerSeat → Type 0) (w : ℕ) (ss : List WorkerSeat) → All P ss → has_seat w ss ≡ true → ((s : WorkerSeat) → P s → s.worker ≡ w → Q s) → Any Q ss
+some-seat P Q w [] each has give = absurd (true≢false (sym has))
+some-seat P Q w (s ∷ ss) each has give = elim (or_cases (s.worker == w) (has_seat w ss) has) [
+  | inl here ↦ (0, s, omega arith, refl, give s (All-head P s ss each) (eqb-true s.worker w here))
+  | inr there ↦ let x = some-seat P Q w ss (All-tail P s ss each) there give in (suc x.0, x.1, omega (arith, x.2), x.3, x.4)
+]
+
+-- ---- a count over all seats
+
+sum-none : (ss : List WorkerSeat) → sum_by (λ s. 0) ss ≡ 0
+sum-none [] = refl
+sum-none (s ∷ ss) = omega (arith, sum_by-cons (λ (x : WorkerSeat). 0) s ss, sum-none ss)
+
+sum-of : (w : ℕ) (ss : List WorkerSeat) → sum_by (λ s. bit (w == s.worker)) ss ≡ seats_of w ss
+sum-of w ss = sum_by-agree (λ s. bit (s.worker == w)) (λ s. bit (w == s.worker)) (λ s. ap bit (eqb-sym w s.worker)) ss
+
+module _ (r : Setup) (ss : List WorkerSeat) (once : (w : ℕ) → w < r.workers → seats_of w ss ≡ 1) where
+  -- an entry that grants a record is one seat's
+  entry-once : (b : List Entry) (e : Entry) → MayFollow r b e → sum_by (λ s. bit (is_grant_of s.worker e)) ss ≡ bit (is_grant e)
+  entry-once b (Res w k n p) m = sum-of w ss ∙ once w m.0
+  entry-once b (Full w n) m = sum-none ss
+  entry-once b (Sub p) m = sum-none ss
+  entry-once b (Dis p) m = sum-none ss
+  entry-once b (Take p) m = sum-none ss
+
+  grants-once : (b es : List Entry) → IsLegal r (b ++ es) → sum_by (λ s. grants s.worker es) ss ≡ count_by is_grant es
+  grants-once b [] l = sum-none ss
+  grants-once b (e ∷ es) l =
+      let more = grants-once (b ++ e ∷ []) es (subst (IsLegal r) (sym (append_assoc b (e ∷ []) es)) l) in
+      let one = entry-once b e (legal-next r b e es l) in
+      let add = sum_by-add (λ s. bit (is_grant_of s.worker e)) (λ s. grants s.worker es) (λ s. grants s.worker (e ∷ es)) (λ s. sum_by-cons (λ y. bit (is_grant_of s.worker y)) e es) ss in
+      omega (arith, sum_by-cons (λ y. bit (is_grant y)) e es)
+
+made-sum : (b : Book) (ss : List WorkerSeat) → All (Accounts b) ss → all_made ss ≡ sum_by (λ s. grants s.worker b.history) ss
+made-sum b [] ties = refl
+made-sum b (s ∷ ss) ties =
+    let more = made-sum b ss (All-tail (Accounts b) s ss ties) in
+    let one : s.tally.made ≡ grants s.worker b.history = ap (λ (t : Tally). t.made) (All-head (Accounts b) s ss ties).ties.counted in
+    omega (arith, sum_by-cons (λ (x : WorkerSeat). x.tally.made) s ss, sum_by-cons (λ (x : WorkerSeat). grants x.worker b.history) s ss)
+
+-- ---- what fits all roles
+
+module _ (l : Ledger) where
+  abbrev FitAll : List Known → Type 0
+  FitAll = AllFit (λ (s : Ledger). s.ring) Fits l
+
+  behind : (ss : List WorkerSeat) (more : List Known) → FitAll (roles_of ss ++ more) → FitAll more
+  behind [] more fit = fit
+  behind (s ∷ ss) more fit = behind ss more fit.1
+
+  pub accounts : (ss : List WorkerSeat) (more : List Known) → IsRing l.ring → FitAll (roles_of ss ++ more) → All IsTied ss → All (Accounts (book_of l.ring)) ss
+  accounts [] more is_ring fit tied = All-nil _
+  accounts (s ∷ ss) more is_ring fit tied =
+      let ties = ties-goes s.worker s.tally s.seen (book_of l.ring) fit.0.goes_on is_ring.legal (All-head IsTied s ss tied) in
+      All-cons (Accounts (book_of l.ring)) s ss
+      (record {
+        goes_on = fit.0.goes_on;
+        ties = ties;
+        in_order = serials-ordered l.ring.setup s.worker l.ring.history is_ring.legal ∙ ap numbers_below (ap (λ (t : Tally). t.made) (sym ties.counted));
+      })
+      (accounts ss more is_ring fit.1 (All-tail IsTied s ss tied))
+
+  -- each seat has sent what was sent of its records
+  all-sent : (ss : List WorkerSeat) (more : List Known) → FitAll (roles_of ss ++ more) → All (λ s. IsAllSentBy s.worker l.ring.history l.sent s.sent) ss
+  all-sent [] more fit = All-nil _
+  all-sent (s ∷ ss) more fit = All-cons (λ (x : WorkerSeat). IsAllSentBy x.worker l.ring.history l.sent x.sent) s ss fit.0.bytes_fit (all-sent ss more fit.1)
+
+  -- what was sent was sent by the seat of the record's worker
+  sent-by : (ss : List WorkerSeat) (more : List Known) (k : Known) → Fits l k → FitAll (roles_of ss ++ more) → HasAll l.ring.setup.workers ss → AreSent ss (book_of l.ring) l.sent
+  sent-by ss more k sound fit has p bytes is =
+      let h = l.ring.history in
+      let legal = sound.sound.is_ring.legal in
+      let g = grant-stands h p (submitted-granted l.ring.setup h p legal (sound.sound.submitted p bytes is)) in
+      let w = g.0 in
+      let mine : is_record_of w h p ≡ true = record-from h w g.1.0 g.1.1.0 p g.1.1.1 in
+      some-seat (λ s. IsAllSentBy s.worker h l.sent s.sent) (λ s. (is_record_of s.worker h p ≡ true) × (get s.sent p ≡ Some bytes)) w ss (all-sent ss more fit) (has w (worker-in l.ring.setup w g.1.0 g.1.1.0 p h legal g.1.1.1))
+      (λ s all same. let his : is_record_of s.worker h p ≡ true = subst (λ v. is_record_of v h p ≡ true) (sym same) mine in (his, all p bytes is his))
+
+  pub closed : (ss : List WorkerSeat) (c : TakerSeat) → FitAll (roles_of ss ++ known Consumer c.seen c.got ∷ []) → ((role : Role) → times role (roles_of ss ++ known Consumer c.seen c.got ∷ []) ≤ 1)
+      → All IsTied ss → TakerTies c.consumed c.skipped c.position c.seen → HasAll c.seen.setup.workers ss → IsClosed l.ring ss c
+  closed ss c fit once tied taker has =
+      let more = known Consumer c.seen c.got ∷ [] in
+      let mine = (behind ss more fit).0 in
+      let is_ring = mine.sound.is_ring in
+      let has_all : HasAll l.ring.setup.workers ss = subst (λ (x : Setup). HasAll x.workers ss) (sym mine.goes_on.setup_same) has in
+      let each : (w : ℕ) → w < l.ring.setup.workers → seats_of w ss ≡ 1 = λ w low. let least = has-one w ss (has_all w low) in let most = once (Worker w) in omega (arith, seats-times w ss more) in
+      let tie = accounts ss more is_ring fit tied in
+      let sent = sent-by ss more (known Consumer c.seen c.got) mine fit has_all in
+      let all : all_made ss ≡ count_by is_grant l.ring.history = made-sum (book_of l.ring) ss tie ∙ grants-once l.ring.setup ss each [] l.ring.history is_ring.legal in
+      let parts = made-split l.ring.history in
+      record {
+        is_ring = is_ring;
+        each_once = each;
+        seats_tie = tie;
+        consumer_goes_on = mine.goes_on;
+        consumer_ties = taker-goes-on c.consumed c.skipped c.position c.seen (book_of l.ring) mine.goes_on is_ring.legal taker;
+        got_is_sent = λ p bytes is. sent p bytes (mine.bytes_fit p bytes is);
+        waiting_is_sent = λ p bytes is. sent p bytes (mine.sound.within p bytes is);
+        balanced = omega arith;
+      }
+
+-- what the state that the gathering pass took out tells
+pub collected : (ss : List WorkerSeat) (c : TakerSeat) (own gathered after : View) (r : Ring) → own ≡ view_of (known Consumer c.seen c.got ∷ []) None → gathered ≡ view_of (roles_of ss ++ own.knows) own.out → TakesState gathered r after
+    → All IsTied ss → TakerTies c.consumed c.skipped c.position c.seen → HasAll c.seen.setup.workers ss → IsClosed r ss c
+collected ss c own gathered after r is_own knows took tied taker has =
+    let more = known Consumer c.seen c.got ∷ [] in
+    let all : gathered.knows ≡ roles_of ss ++ more = ap (λ (y : View). y.knows) knows ∙ ap (λ (y : View). roles_of ss ++ y.knows) is_own in
+    let l = took.1.0 in
+    let fit = subst (λ ks. AllFit (λ (s : Ledger). s.ring) Fits l ks) all took.1.2 in
+    let once : (role : Role) → times role (roles_of ss ++ more) ≤ 1 = λ role. subst (λ ks. times role ks ≤ 1) all (took.2 role) in
+    subst (λ x. IsClosed x ss c) took.1.1 (closed l ss c fit once tied taker has)

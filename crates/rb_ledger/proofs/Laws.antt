@@ -1,0 +1,9 @@
+-- Laws that crates above may cite: of seats and books, of turns, and of histories.
+pub use Rattle.rb_ledger.proofs.Records.{record-unique, record-stays, record-granted, record-from}
+pub use Rattle.rb_ledger.proofs.Tallies.{tally-goes, taker-goes, events-next, skips-next}
+pub use Rattle.rb_ledger.proofs.Taking.{position-taken, never-both}
+pub use Rattle.rb_ledger.proofs.Histories.{all-seen, goes-further, seen-legal}
+pub use Rattle.rb_ledger.proofs.Seated.{ring-book, book-after, ties-goes, taker-goes-on}
+pub use Rattle.rb_ledger.proofs.Serials.{serials-ordered, worker-in}
+pub use Rattle.rb_ledger.proofs.Runs.{one-run, sequential}
+pub use Rattle.rb_ledger.proofs.Opens.{fresh-rings}

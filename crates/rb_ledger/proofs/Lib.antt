@@ -1,0 +1,16 @@
+pub mod Views
+pub mod General
+pub mod Records
+pub mod Tallies
+pub mod Histories
+pub mod Steps
+pub mod Calls
+pub mod Passing
+pub mod Opens
+pub mod Meets
+pub mod Taking
+pub mod Seated
+pub mod Serials
+pub mod Gathers
+pub mod Runs
+pub mod Laws

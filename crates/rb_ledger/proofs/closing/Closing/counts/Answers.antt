@@ -1,0 +1,7 @@
+use Rattle.std.proofs.Common.{◌∙◌, ap}
+use Rattle.rb_history.specs.Counting.{counts_of}
+use Rattle.rb_history.specs.View.{Ring}
+use Rattle.rb_ledger.proofs.closing.Closing.counts.Goals as goal
+
+pub returns : goal.returns
+returns c = record { counts = c.counts.ensures.counts ∙ ap (λ (r : Ring). counts_of r.history) c.self.view_is }

@@ -1,0 +1,129 @@
+-- What contracts see of a shared ring and of its seats (own).
+use Rattle.std.specs.Prelude.{◌≡◌, ℕ, zero, suc, ◌+◌, ◌<◌, ◌==◌, Bool, true, List, [], ◌∷◌, None}
+use Rattle.std.specs.List.{list_any, list_all, count_by, sum_by}
+use Rattle.std.specs.FinMap.{empty}
+use Rattle.atomic_table.specs.Seated.{TableId}
+use Rattle.rb_history.specs.History.{consumer_of}
+use Rattle.rb_history.specs.Legal.{IsLegal}
+use Rattle.rb_history.specs.View.{Contents, IsSize, IsStart, IsWorkerCount}
+use Rattle.rb_ledger.specs.declared.tally.Tally.{Tally}
+use Rattle.rb_ledger.specs.Own.{Role, Book}
+use Rattle.rb_ledger.specs.Numbers.{tally_of, events_of, skips_of}
+use Rattle.rb_ledger.specs.Rule.{Known, View, known, view_of}
+
+-- a shared ring: the caller's number for it, and which ring it is
+pub record Shared : Type 0 where
+  pub tag : ℕ
+  pub ring : TableId
+
+-- a worker's seat: the tag and the ring that it was opened with, its numbers, the book as it saw it last, and the bytes that it
+-- submitted or output, by position
+pub record WorkerSeat : Type 0 where
+  pub tag : ℕ
+  pub ring : TableId
+  pub worker : ℕ
+  pub tally : Tally
+  pub seen : Book
+  pub sent : Contents
+
+-- the consumer's seat, with the bytes that it took as events, by position
+pub record TakerSeat : Type 0 where
+  pub tag : ℕ
+  pub ring : TableId
+  pub consumed : ℕ
+  pub skipped : ℕ
+  pub position : ℕ
+  pub seen : Book
+  pub got : Contents
+
+-- ---- a seat and a history
+
+-- the book is one of a ring that was opened: its bounds, and a legal history
+pub record IsBook (b : Book) : Type 0 where
+  pub size : IsSize b.setup.size
+  pub start : IsStart b.setup.start
+  pub workers : IsWorkerCount b.setup.workers
+  pub legal : IsLegal b.setup b.history
+
+-- a worker's numbers tie to a book: they are those of the worker's entries there
+pub record Ties (w : ℕ) (t : Tally) (b : Book) : Type 0 where
+  pub in_ring : w < b.setup.workers
+  pub counted : t ≡ tally_of w b.history
+
+-- the consumer's numbers tie to a book: they are those of the takes there, and its position is the consumer position
+pub record TakerTies (consumed skipped position : ℕ) (b : Book) : Type 0 where
+  pub consumed_is : consumed ≡ events_of b.history
+  pub skipped_is : skipped ≡ skips_of b.history
+  pub position_is : position ≡ consumer_of b.setup.start b.history
+
+-- it is the same worker's seat at the same ring
+pub record IsSameSeat (old new : WorkerSeat) : Type 0 where
+  pub tag_same : new.tag ≡ old.tag
+  pub ring_same : new.ring ≡ old.ring
+  pub worker_same : new.worker ≡ old.worker
+
+pub record IsSameTaker (old new : TakerSeat) : Type 0 where
+  pub tag_same : new.tag ≡ old.tag
+  pub ring_same : new.ring ≡ old.ring
+
+-- ---- seats at a ring that was just opened
+
+abbrev pub fresh_book : ℕ → ℕ → ℕ → Book
+fresh_book size start workers = record { setup = record { size = size; start = start; workers = workers }; history = [] }
+
+abbrev pub fresh_seat : ℕ → TableId → ℕ → Book → WorkerSeat
+fresh_seat tag ring worker seen =
+    record { tag = tag; ring = ring; worker = worker; tally = record { made = 0; refused = 0; submitted = 0; discarded = 0 }; seen = seen; sent = empty }
+
+abbrev pub fresh_taker : ℕ → TableId → Book → TakerSeat
+fresh_taker tag ring seen = record { tag = tag; ring = ring; consumed = 0; skipped = 0; position = seen.setup.start; seen = seen; got = empty }
+
+-- seats of the workers from `first` on
+abbrev pub fresh_seats : ℕ → TableId → Book → ℕ → ℕ → List WorkerSeat
+fresh_seats tag ring seen first zero = []
+fresh_seats tag ring seen first (suc n) = fresh_seat tag ring first seen ∷ fresh_seats tag ring seen (first + 1) n
+
+-- ---- all seats of a ring
+
+abbrev pub are_tagged : ℕ → List WorkerSeat → Bool
+are_tagged tag seats = list_all (λ s. s.tag == tag) seats
+
+-- the worker has a seat among these
+abbrev pub has_seat : ℕ → List WorkerSeat → Bool
+has_seat worker seats = list_any (λ s. s.worker == worker) seats
+
+-- each worker of the ring has a seat among these
+abbrev pub HasAll : ℕ → List WorkerSeat → Type 0
+HasAll workers seats = (w : ℕ) → w < workers → has_seat w seats ≡ true
+
+-- how many of the seats are the worker's
+abbrev pub seats_of : ℕ → List WorkerSeat → ℕ
+seats_of worker seats = count_by (λ s. s.worker == worker) seats
+
+-- all reservations that the seats made
+abbrev pub all_made : List WorkerSeat → ℕ
+all_made seats = sum_by (λ s. s.tally.made) seats
+
+-- ---- a seat's pass between calls
+
+abbrev pub unseen : Book
+unseen = fresh_book 0 0 0
+
+-- what the first role of a pass has seen, and its bytes
+abbrev pub first_seen : List Known → Book
+first_seen [] = unseen
+first_seen (k ∷ ks) = k.seen
+
+abbrev pub first_bytes : List Known → Contents
+first_bytes [] = empty
+first_bytes (k ∷ ks) = k.bytes
+
+abbrev pub seen_in : View → Book
+seen_in v = first_seen v.knows
+
+abbrev pub bytes_in : View → Contents
+bytes_in v = first_bytes v.knows
+
+-- the pass has this one role, and the state is not out with it
+abbrev pub IsIdle : Role → View → Type 0
+IsIdle role v = v ≡ view_of (known role (seen_in v) (bytes_in v) ∷ []) None

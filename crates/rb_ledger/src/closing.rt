@@ -1,0 +1,180 @@
+//! A shared ring is closed, once all its seats are back.
+
+ghost use Rattle.std.specs.Prelude.{◌≡◌, ◌↔◌, ◌++◌, IfOk, IfErr, IsOk, IsTrue, All, true};
+ghost use Rattle.std.specs.FinMap.{get};
+ghost use Rattle.crossbeam_queue.specs.Passes.{view, IsPassOf, IsSamePass};
+ghost use Rattle.rb_history.specs.Counting.{counts_of};
+ghost use Rattle.rb_history.specs.Calls.{producer_now, consumer_now};
+ghost use Rattle.rb_ledger.specs.Own.Role.{Consumer, Worker};
+ghost use Rattle.rb_ledger.specs.Own.{GoesOn, book_of};
+ghost use Rattle.rb_ledger.specs.Rule.{IsRing, view_of};
+ghost use Rattle.rb_ledger.specs.Seats.{are_tagged, has_seat, HasAll};
+ghost use Rattle.rb_ledger.specs.Headline.{IsClosed, roles_of, IsTied};
+
+use crate::consumers::ConsumerSeat;
+use crate::lock::{Both, Lock, RingPass, take_out};
+use crate::seats::Seat;
+use crate::shared::SharedRing;
+use crate::turns::facts_of;
+use rb_history::{Counts, Entry};
+use rb_ring::RingState;
+use std::marker::Model;
+use std::sync::Wait;
+
+/// What a closed ring holds: the whole history, the counts and both positions. Contracts see the ring.
+#[derive(Drop)]
+pub struct Closing {
+    state: RingState,
+}
+
+impl Model for Closing {
+    ghost use Rattle.std.specs.Coded.{codes};
+    ghost use Rattle.rb_history.specs.View.{Ring, contents_code};
+    ghost use Rattle.rb_history.specs.contracts.entries.Entry as entry;
+
+    ghost Value = { Ring };
+
+    ghost coded = { Prim.hlevel (codes, contents_code, entry.the_row.coded) };
+
+    ghost view = { λ c. c.state };
+}
+
+impl Closing {
+    /// What holds of each closed ring: its history is legal, it is what its state stands for, and its numbers are within bounds.
+    pub fn facts(&self)
+        ensures ring { IsRing self.now }
+    {
+        facts_of(&self.state);
+    }
+
+    /// The whole history, oldest entry first.
+    pub fn history(&self) -> &[Entry]
+        ensures entries { result.now ≡ self.now.history }
+    {
+        self.state.history()
+    }
+
+    /// The counts of the whole history. Linear in the history.
+    pub fn counts(&self) -> Counts
+        ensures counts { result ≡ counts_of self.now.history }
+    {
+        self.state.counts()
+    }
+
+    /// The producer position.
+    pub fn producer(&self) -> u64
+        ensures position { result ≡ producer_now self.now }
+    {
+        self.state.query(3)
+    }
+
+    /// The consumer position.
+    pub fn consumer(&self) -> u64
+        ensures position { result ≡ consumer_now self.now }
+    {
+        self.state.query(2)
+    }
+}
+
+/// A seat is missing, or one is another ring's. All that was handed in is handed back, as it was.
+#[derive(Drop)]
+pub struct NotAll {
+    /// The ring, which goes on.
+    pub ring: SharedRing,
+    /// The seats that were handed in.
+    pub seats: Vec<Seat>,
+    /// The consumer's seat.
+    pub consumer: ConsumerSeat,
+}
+
+// Whether all seats have this tag.
+fn are_all_tagged(seats: &[Seat], tag: u64) -> bool
+    ensures { result ≡ are_tagged tag seats.now }
+{
+    for seat in seats {
+        if seat.tag() != tag {
+            return false;
+        }
+    }
+    true
+}
+
+// Whether the worker has a seat among these.
+fn has_seat_of(seats: &[Seat], worker: u32) -> bool
+    ensures { result ≡ has_seat worker seats.now }
+{
+    for seat in seats {
+        if seat.worker() == worker {
+            return true;
+        }
+    }
+    false
+}
+
+// Whether each worker has a seat among these.
+fn has_all(seats: &[Seat], workers: u32) -> bool
+    ensures { IsTrue result ↔ HasAll workers seats.now }
+{
+    for worker in 0..workers {
+        if !has_seat_of(seats, worker) {
+            return false;
+        }
+    }
+    true
+}
+
+// Takes the seats' roles into the pass.
+fn gather(lock: &Lock, pass: &mut RingPass, mut seats: Vec<Seat>)
+    requires pass { IsPassOf lock.now pass.old }
+    requires seats { All (λ s. s.ring ≡ pass.old.table_id) seats.items }
+    ensures same { IsSamePass pass.old pass.new }
+    ensures knows { view pass.new ≡ view_of (roles_of seats.items ++ (view pass.old).knows) (view pass.old).out }
+    ensures ties { All IsTied seats.items }
+{
+    while let Some(seat) = seats.pop() {
+        let own = seat.into_pass();
+        lock.absorb::<Both>(pass, own);
+    }
+}
+
+// Takes the state out by a pass that has taken in all roles.
+fn collect<R: Wait>(rt: &R, lock: &Lock, seats: Vec<Seat>, consumer: ConsumerSeat) -> RingState
+    requires consumer { consumer.ring ≡ lock.now.table.shared.table_id }
+    requires seats { All (λ s. s.ring ≡ consumer.ring) seats.items }
+    requires all { HasAll consumer.seen.setup.workers seats.items }
+    ensures closed { IsClosed result seats.items consumer }
+{
+    let mut pass = consumer.into_pass();
+    gather(lock, &mut pass, seats);
+    take_out(rt, lock, &mut pass)
+}
+
+impl SharedRing {
+    /// Ends the ring, once all its seats and its consumer are handed in, and tells its whole history. Where a seat is missing, or a
+    /// seat or the consumer is foreign, all of them are handed back.
+    pub fn close<R: Wait>(
+        self,
+        rt: &R,
+        seats: Vec<Seat>,
+        consumer: ConsumerSeat,
+    ) -> Result<Closing, NotAll>
+        requires seats { All (λ s. s.tag ≡ self.tag → s.ring ≡ self.ring) seats.items }
+        requires consumer { consumer.tag ≡ self.tag → consumer.ring ≡ self.ring }
+        ensures all { IsOk result ↔ ((consumer.tag ≡ self.tag) × (are_tagged self.tag seats.items ≡ true) × HasAll consumer.seen.setup.workers seats.items) }
+        ensures back { IfErr result (λ e. (e.ring ≡ self) × (e.seats.items ≡ seats.items) × (e.consumer ≡ consumer)) }
+        ensures closed { IfOk result (λ c. IsClosed c seats.items consumer) }
+    {
+        if consumer.tag() != self.tag
+            || !are_all_tagged(&seats, self.tag)
+            || !has_all(&seats, consumer.workers())
+        {
+            return Err(NotAll {
+                ring: self,
+                seats,
+                consumer,
+            });
+        }
+        let state = collect(rt, &self.lock, seats, consumer);
+        Ok(Closing { state })
+    }
+}

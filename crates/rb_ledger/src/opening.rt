@@ -1,0 +1,49 @@
+//! A shared ring is opened.
+
+ghost use Rattle.std.specs.Prelude.{◌≡◌, ◌↔◌, IfOk, IsErrOf};
+ghost use Rattle.rb_history.specs.View.{IsSize, IsStart, IsWorkerCount};
+ghost use Rattle.rb_ledger.specs.Seats.{fresh_book, fresh_seats, fresh_taker};
+
+use crate::consumers::{ConsumerSeat, new_consumer};
+use crate::lock::{new_lock, put_first};
+use crate::seats::{Seat, new_seat};
+use crate::shared::SharedRing;
+use crate::turns::facts_of;
+use rb_history::OpenFault;
+use rb_ring::RingState;
+use std::alloc::Global;
+use std::sync::Wait;
+
+/// A shared ring for 1 to 256 workers, with a seat for each, in the order of their numbers, and the consumer's. The tag is the caller's
+/// number for the ring; it stands in all seats. The first of `OpenFault`'s refusals that stands is told; `Memory` is the last.
+pub fn open<R: Wait>(
+    rt: &R,
+    alloc: Global,
+    tag: u64,
+    size: u64,
+    start: u64,
+    workers: u32,
+) -> Result<(SharedRing, Vec<Seat>, ConsumerSeat), OpenFault>
+    ensures tag { IfOk result (λ o. o.0.tag ≡ tag) }
+    ensures seats { IfOk result (λ o. o.1.items ≡ fresh_seats tag o.0.ring (fresh_book size start workers) 0 workers) }
+    ensures consumer { IfOk result (λ o. o.2 ≡ fresh_taker tag o.0.ring (fresh_book size start workers)) }
+    ensures size { IsErrOf result OpenFault.Size ↔ ¬ IsSize size }
+    ensures start { IsErrOf result OpenFault.Start ↔ (IsSize size × ¬ IsStart start) }
+    ensures workers { IsErrOf result OpenFault.Workers ↔ (IsSize size × IsStart start × ¬ IsWorkerCount workers) }
+{
+    let state = RingState::new(alloc, size, start, workers)?;
+    facts_of(&state);
+    let Ok((lock, mut pass)) = new_lock(alloc) else {
+        return Err(OpenFault::Memory);
+    };
+    put_first(rt, &lock, &mut pass, state);
+    let consumer = new_consumer(&lock, &mut pass, tag, workers, start);
+    let mut seats = Vec::new(alloc);
+    for worker in 0..workers {
+        let seat = new_seat(&lock, &mut pass, tag, worker);
+        let Ok(()) = seats.push(seat) else {
+            return Err(OpenFault::Memory);
+        };
+    }
+    Ok((SharedRing { tag, lock }, seats, consumer))
+}

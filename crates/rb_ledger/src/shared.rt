@@ -1,0 +1,266 @@
+//! A ring that threads share.
+
+ghost use Rattle.std.specs.Prelude.{◌≡◌, ◌≢◌, ◌+◌, ◌<◌, ◌^◌, ◌↔◌, ◌⊎◌, IfOk, IfErr, IsOk, IsErr, length};
+ghost use Rattle.rb_history.specs.declared.answers.ReserveFault.TheVariants.{Foreign as FaultForeign};
+ghost use Rattle.rb_history.specs.Calls.{producer_now};
+ghost use Rattle.rb_ledger.specs.Own.Role.{Consumer, Worker};
+ghost use Rattle.rb_ledger.specs.Seats.{IsSameSeat, IsSameTaker};
+ghost use Rattle.rb_ledger.specs.Turns.{Turn, Reserves, SubmitsAt, DiscardsAt, OutputsAt, TakesAt, Asks, Audits, IsRefusedAs, reserved_by, output_by, submitted_by, discarded_by, sent_by_submit, sent_by_output, got_by, events_in, skips_in, span_in, IsTakenAt};
+
+use crate::audit::Audit;
+use crate::consumers::ConsumerSeat;
+use crate::lock::Lock;
+use crate::seats::Seat;
+use crate::turns::{
+    audit_with, discard_with, output_with, query_with, reserve_with, submit_with, take_with,
+};
+use rb_header::span;
+use rb_history::{Notice, Reservation, ReserveFault, Stray, Taken};
+use rb_lend::Sheet;
+use std::marker::Model;
+use std::sync::Wait;
+use thiserror::Error;
+
+/// The seat's tag is not the ring's. Nothing changed.
+#[derive(Clone, Copy, Debug, Error, PartialEq, Eq)]
+#[error("the seat is another ring's")]
+pub struct Foreign;
+
+/// A ring that threads share by `&`. Its state lies in a lock, which each call holds for one call of the ring of one thread, and for
+/// nothing else.
+///
+/// Each call takes the caller's seat. Its contract says: there is a point of the ring's one history that begins with all that the seat
+/// had seen and has no entry of the seat's own behind that; the call of the ring of one thread answers so at that point, for the
+/// seat's worker; and the seat has then seen the history that this call left. A seat that was opened with another tag is `Foreign`.
+/// Rings that share a tag are not told apart: that a seat with the ring's tag was opened with it is each call's condition.
+///
+/// Each call may wait for other threads. No proof says that a call returns, that threads get their turns in any order, or how long
+/// one takes.
+#[derive(Drop)]
+pub struct SharedRing {
+    pub(crate) tag: u64,
+    pub(crate) lock: Lock,
+}
+
+impl Model for SharedRing {
+    ghost use Rattle.std.specs.Prelude.{◌≡◌};
+    ghost use Rattle.std.specs.Coded.{codes};
+    ghost use Rattle.atomic_table.specs.Seated.{table_id_coded};
+    ghost use Rattle.crossbeam_queue.specs.Passes.{ruled_capacity};
+    ghost use Rattle.rb_ledger.specs.Seats.{Shared};
+
+    ghost Value = { Shared };
+
+    ghost coded = { Prim.hlevel (codes, table_id_coded) };
+
+    ghost view = { λ s. record { tag = s.tag; ring = s.lock.table.shared.table_id } };
+
+    ghost invariant = { λ s. ruled_capacity s.lock ≡ 1 };
+}
+
+impl SharedRing {
+    /// The caller's number for the ring.
+    pub fn tag(&self) -> u64
+        ensures { result ≡ self.now.tag }
+    {
+        self.tag
+    }
+
+    /// Grants the seat's worker a record of `n` bytes, in a sheet of as many, which become zeros. `Foreign` is told first; `Full` is
+    /// logged, and raises the refused count; `Memory` changes nothing. A refusal hands the sheet back.
+    pub fn reserve<R: Wait>(
+        &self,
+        rt: &R,
+        me: &mut Seat,
+        n: u32,
+        sheet: Sheet,
+    ) -> Result<Reservation, (ReserveFault, Sheet)>
+        requires ring { me.old.tag ≡ self.now.tag → me.old.ring ≡ self.now.ring }
+        requires sized { length sheet ≡ n }
+        ensures foreign { IsRefusedAs FaultForeign result ↔ (me.old.tag ≢ self.now.tag) }
+        ensures unchanged { me.old.tag ≢ self.now.tag → me.new ≡ me.old }
+        ensures seat { IsSameSeat me.old me.new }
+        ensures call { me.old.tag ≡ self.now.tag → Turn (Worker me.old.worker) me.old.seen me.new.seen (Reserves me.old.worker n result) }
+        ensures tally { me.new.tally ≡ reserved_by me.old.tally result }
+        ensures serial { IfOk result (λ r. r.serial ≡ me.old.tally.made) }
+        ensures sent { me.new.sent ≡ me.old.sent }
+        ensures handed_back { IfErr result (λ e. e.1 ≡ sheet) }
+    {
+        if me.tag != self.tag {
+            return Err((ReserveFault::Foreign, sheet));
+        }
+        let worker = me.worker;
+        let answer = reserve_with(rt, &self.lock, &mut me.pass, worker, n, sheet);
+        me.tally = me.tally.after_reserve(&answer);
+        answer
+    }
+
+    /// Hands the reservation's bytes to the consumer. Where no busy record has its four numbers, and where it is another worker's or the
+    /// seat is foreign, it is stray and handed back. Of the flags only bits 0 and 1 are looked at.
+    pub fn submit<R: Wait>(
+        &self,
+        rt: &R,
+        me: &mut Seat,
+        reservation: Reservation,
+        flags: u64,
+    ) -> Result<Notice, Stray>
+        requires ring { me.old.tag ≡ self.now.tag → me.old.ring ≡ self.now.ring }
+        ensures foreign { (me.old.tag ≢ self.now.tag) ⊎ (reservation.worker ≢ me.old.worker) → IsErr result × (me.new ≡ me.old) }
+        ensures seat { IsSameSeat me.old me.new }
+        ensures call { me.old.tag ≡ self.now.tag → reservation.worker ≡ me.old.worker → Turn (Worker me.old.worker) me.old.seen me.new.seen (SubmitsAt reservation flags result) }
+        ensures tally { me.new.tally ≡ submitted_by me.old.tally result }
+        ensures sent { me.new.sent ≡ sent_by_submit me.old.sent reservation result }
+        ensures handed_back { IfErr result (λ s. s.reservation ≡ reservation) }
+    {
+        if me.tag != self.tag || reservation.worker() != me.worker {
+            return Err(Stray { reservation });
+        }
+        let worker = me.worker;
+        let answer = submit_with(rt, &self.lock, &mut me.pass, worker, reservation, flags);
+        me.tally = me.tally.after_submit(&answer);
+        answer
+    }
+
+    /// Gives the reservation's record up, so that the consumer passes over it. It is stray as in `submit`.
+    pub fn discard<R: Wait>(
+        &self,
+        rt: &R,
+        me: &mut Seat,
+        reservation: Reservation,
+        flags: u64,
+    ) -> Result<Notice, Stray>
+        requires ring { me.old.tag ≡ self.now.tag → me.old.ring ≡ self.now.ring }
+        ensures foreign { (me.old.tag ≢ self.now.tag) ⊎ (reservation.worker ≢ me.old.worker) → IsErr result × (me.new ≡ me.old) }
+        ensures seat { IsSameSeat me.old me.new }
+        ensures call { me.old.tag ≡ self.now.tag → reservation.worker ≡ me.old.worker → Turn (Worker me.old.worker) me.old.seen me.new.seen (DiscardsAt reservation flags result) }
+        ensures tally { me.new.tally ≡ discarded_by me.old.tally result }
+        ensures sent { me.new.sent ≡ me.old.sent }
+        ensures handed_back { IfErr result (λ s. s.reservation ≡ reservation) }
+    {
+        if me.tag != self.tag || reservation.worker() != me.worker {
+            return Err(Stray { reservation });
+        }
+        let worker = me.worker;
+        let answer = discard_with(rt, &self.lock, &mut me.pass, worker, reservation, flags);
+        me.tally = me.tally.after_discard(&answer);
+        answer
+    }
+
+    /// Grants the seat's worker a record and submits it at once, with the sheet's bytes. `Foreign` is told first, then `Flags` for flags
+    /// above 3, which logs nothing; else it refuses as `reserve` does. A refusal hands the sheet back.
+    pub fn output<R: Wait>(
+        &self,
+        rt: &R,
+        me: &mut Seat,
+        sheet: Sheet,
+        flags: u64,
+    ) -> Result<Notice, (ReserveFault, Sheet)>
+        requires ring { me.old.tag ≡ self.now.tag → me.old.ring ≡ self.now.ring }
+        ensures foreign { IsRefusedAs FaultForeign result ↔ (me.old.tag ≢ self.now.tag) }
+        ensures unchanged { me.old.tag ≢ self.now.tag → me.new ≡ me.old }
+        ensures seat { IsSameSeat me.old me.new }
+        ensures call { me.old.tag ≡ self.now.tag → Turn (Worker me.old.worker) me.old.seen me.new.seen (λ old new. OutputsAt me.old.worker sheet flags result old new × (me.new.sent ≡ sent_by_output me.old.sent (producer_now old) sheet result)) }
+        ensures tally { me.new.tally ≡ output_by me.old.tally result }
+        ensures handed_back { IfErr result (λ e. e.1 ≡ sheet) }
+    {
+        if me.tag != self.tag {
+            return Err((ReserveFault::Foreign, sheet));
+        }
+        let worker = me.worker;
+        let answer = output_with(rt, &self.lock, &mut me.pass, worker, sheet, flags);
+        me.tally = me.tally.after_output(&answer);
+        answer
+    }
+
+    /// The answers to a query (bpf-helpers(7), bpf_ringbuf_query): 0 asks for the bytes between the two positions, 1 for the size, 2 for
+    /// the consumer position and 3 for the producer position; any other number gives 0. They are those of one moment.
+    pub fn query<R: Wait>(&self, rt: &R, me: &mut Seat, what: u64) -> Result<u64, Foreign>
+        requires ring { me.old.tag ≡ self.now.tag → me.old.ring ≡ self.now.ring }
+        ensures foreign { IsErr result ↔ (me.old.tag ≢ self.now.tag) }
+        ensures unchanged { me.old.tag ≢ self.now.tag → me.new ≡ me.old }
+        ensures seat { IsSameSeat me.old me.new }
+        ensures call { IfOk result (λ n. Turn (Worker me.old.worker) me.old.seen me.new.seen (Asks what n)) }
+        ensures tally { me.new.tally ≡ me.old.tally }
+        ensures sent { me.new.sent ≡ me.old.sent }
+    {
+        if me.tag != self.tag {
+            return Err(Foreign);
+        }
+        let worker = me.worker;
+        Ok(query_with(rt, &self.lock, &mut me.pass, worker, what))
+    }
+
+    /// The ring's positions and counts at one moment, and the numbers of the entries of the seat's worker, counted over the history. The
+    /// lock is held meanwhile.
+    pub fn audit<R: Wait>(&self, rt: &R, me: &mut Seat) -> Result<Audit, Foreign>
+        requires ring { me.old.tag ≡ self.now.tag → me.old.ring ≡ self.now.ring }
+        ensures foreign { IsErr result ↔ (me.old.tag ≢ self.now.tag) }
+        ensures unchanged { me.old.tag ≢ self.now.tag → me.new ≡ me.old }
+        ensures seat { IsSameSeat me.old me.new }
+        ensures call { IfOk result (λ a. Turn (Worker me.old.worker) me.old.seen me.new.seen (Audits me.old.worker a)) }
+        ensures own { IfOk result (λ a. a.own ≡ me.old.tally) }
+        ensures tally { me.new.tally ≡ me.old.tally }
+        ensures sent { me.new.sent ≡ me.old.sent }
+    {
+        if me.tag != self.tag {
+            return Err(Foreign);
+        }
+        let worker = me.worker;
+        Ok(audit_with(rt, &self.lock, &mut me.pass, worker))
+    }
+
+    /// Takes the record at the consumer position: hands out a submitted one and passes over a discarded one, which raises the seat's
+    /// count and moves its position. A busy one stops it, whatever stands behind.
+    pub fn take<R: Wait>(&self, rt: &R, me: &mut ConsumerSeat) -> Result<Taken, Foreign>
+        requires ring { me.old.tag ≡ self.now.tag → me.old.ring ≡ self.now.ring }
+        ensures foreign { IsErr result ↔ (me.old.tag ≢ self.now.tag) }
+        ensures unchanged { me.old.tag ≢ self.now.tag → me.new ≡ me.old }
+        ensures seat { IsSameTaker me.old me.new }
+        ensures call { IfOk result (λ t. Turn Consumer me.old.seen me.new.seen (TakesAt t)) }
+        ensures place { IfOk result (λ t. IsTakenAt me.old.position t) }
+        ensures position { IfOk result (λ t. me.new.position ≡ me.old.position + span_in t) }
+        ensures consumed { IfOk result (λ t. me.new.consumed ≡ me.old.consumed + events_in t) }
+        ensures skipped { IfOk result (λ t. me.new.skipped ≡ me.old.skipped + skips_in t) }
+        ensures got { IfOk result (λ t. me.new.got ≡ got_by me.old.got t) }
+    {
+        if me.tag != self.tag {
+            return Err(Foreign);
+        }
+        let answer = take_with(rt, &self.lock, &mut me.pass);
+        me.consumed += events(&answer);
+        me.skipped += skips(&answer);
+        me.position += span_taken(&answer);
+        Ok(answer)
+    }
+}
+
+// How many events an answer of `take` is.
+fn events(answer: &Taken) -> u64
+    ensures { result ≡ events_in answer.now }
+{
+    match answer {
+        Taken::Event(_, _, _, _) => 1,
+        _ => 0,
+    }
+}
+
+// How many records an answer of `take` passed over.
+fn skips(answer: &Taken) -> u64
+    ensures { result ≡ skips_in answer.now }
+{
+    match answer {
+        Taken::Skipped(_, _) => 1,
+        _ => 0,
+    }
+}
+
+// How far an answer of `take` moves the consumer position.
+fn span_taken(answer: &Taken) -> u64
+    ensures { result ≡ span_in answer.now }
+{
+    match answer {
+        Taken::Event(_, _, _, sheet) => span(sheet.len()),
+        Taken::Skipped(_, n) => span(*n),
+        _ => 0,
+    }
+}

@@ -1,0 +1,9 @@
+mod Numbers
+mod Ascending
+pub mod Order
+mod Registers
+mod CheckOrder
+mod StateOrder
+pub mod StepOrder
+pub mod Forms
+pub mod Laws

@@ -1,0 +1,47 @@
+-- The numbers of the code and those of the definitions are the same.
+use Rattle.std.proofs.Common.{◌≡◌, ℕ, ◌+◌, ◌-◌, ◌%◌, ◌^◌, ◌<◌, ◌≤◌, Bool, true, false, refl, sym, ◌∙◌, ap, arith, rules}
+use Rattle.std.specs.Prelude.{Option, Some, None, Result, Ok, Err, MatchOption, if◌then◌else◌, ℤ, pos, negsuc, ◌-ℤ◌, ◌+ℤ◌, ◌≤ℤ◌, ◌<ℤ◌, ◌&&◌, int_le, nat_le, nat_abs, FitsSigned}
+use Rattle.std.specs.Option.{SomeIff}
+use Rattle.rb_refs.specs.Arithmetic.{is_near, near}
+use Rattle.rb_refs.specs.declared.rule.Rule.{Rule}
+use Rattle.rb_refs.specs.declared.rule.Rule.TheVariants as rule
+use Rattle.std.specs.Int.{cast_signed, cast_unsigned}
+use Rattle.std.proofs.lemmas.Int.{ints, to_z-of_z}
+use Rattle.std.proofs.lemmas.Bool.Decides.{nat_tests}
+use mir.Syntax.{w32, w64}
+use mir.Val.{SFits}
+use Rattle.rb_alu.specs.Numbers.{wrapped}
+
+-- an immediate, sign-extended to 64 bits
+pub wrapped-immediate : (k : ℤ) → SFits w32 k → cast_unsigned w64 k ≡ wrapped 64 k
+unfolding wrapped
+wrapped-immediate (pos n) fits = let small : n < 2 ^ 31 = fits.sfits in omega arith
+wrapped-immediate (negsuc n) fits = let small : n < 2 ^ 31 = fits.sfits in omega arith
+
+-- how far it is from an offset to an end that lies behind it
+gap_fits : (end from : ℤ) → negsuc 511 ≤ℤ from → from ≤ℤ end → end ≤ℤ pos (2 ^ 32) → FitsSigned w64 (end -ℤ from)
+gap_fits end from low between high = record { sfits = grind (arith, ints) }
+
+pub cast-gap : (end from : ℤ) → FitsSigned w64 end → FitsSigned w64 from → negsuc 511 ≤ℤ from → from ≤ℤ end → end ≤ℤ pos (2 ^ 32) → cast_signed w64 (cast_unsigned w64 (cast_signed w64 (cast_unsigned w64 end) -ℤ cast_signed w64 (cast_unsigned w64 from))) ≡ end -ℤ from
+cast-gap end from f g low between high =
+    rw (to_z-of_z w64 end f, to_z-of_z w64 from g) (to_z-of_z w64 (end -ℤ from) (gap_fits end from low between high))
+
+-- a range of bytes that begins in an extent lies in it where the extent has so many bytes more
+pub contains-from : (first end from : ℤ) (len : ℕ) → first ≤ℤ from → from ≤ℤ end → nat_le len (nat_abs (end -ℤ from)) ≡ (int_le first from && int_le (from +ℤ pos len) end)
+contains-from first end from len h k = grind (arith, ints, nat_tests)
+
+-- an offset within the bounds fits in 64 bits
+fits_near : (z : ℤ) → is_near z ≡ true → FitsSigned w64 z
+fits_near z e = grind (arith, ints, nat_tests)
+
+far : (z : ℤ) → (FitsSigned w64 z → ⊥) → near z ≡ Err rule.PointerArithmetic
+far z outside = decided (is_near z) refl
+  where
+    decided : (b : Bool) → is_near z ≡ b → (if b then Ok z else Err rule.PointerArithmetic) ≡ Err rule.PointerArithmetic
+    decided true e = absurd (outside (fits_near z e))
+    decided false e = refl
+
+-- a checked sum that is tested against the bounds
+pub near_checked : (o : Option ℤ) (z : ℤ) (r : Result ℤ Rule) → SomeIff o (FitsSigned w64 z) z → MatchOption o (r ≡ Err rule.PointerArithmetic) (λ offset. r ≡ near offset) → r ≡ near z
+near_checked None z r h k = k ∙ sym (far z h)
+near_checked (Some x) z r h k = k ∙ ap near h.1

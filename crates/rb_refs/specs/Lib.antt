@@ -1,0 +1,14 @@
+pub mod Rules
+pub mod References
+pub mod Values
+pub mod States
+pub mod Changes
+pub mod Parts
+pub mod Checks
+pub mod Arithmetic
+pub mod Branches
+pub mod Helpers
+pub mod Step
+pub mod Joins
+pub mod StepOrder
+pub mod Forms

@@ -1,0 +1,60 @@
+//! What is known along both edges of a conditional jump.
+
+ghost use Rattle.std.specs.Prelude.{◌≡◌};
+ghost use Rattle.rb_refs.specs.Branches.{null_test_of, branch};
+
+use crate::checks::{number, readable};
+use crate::rule::Rule;
+use crate::state::{AbsState, Effect};
+use crate::value::Abs;
+use rb_insn::{Condition, Operand, Width};
+
+/// A test of a value against null.
+#[derive(Clone, Copy)]
+pub(crate) enum NullTest {
+    /// It jumps where the value is null.
+    JumpsIfNull,
+    /// It jumps where the value is not null.
+    JumpsIfThere,
+}
+
+/// The test against null that a conditional jump is, where it is one.
+pub(crate) fn null_test_of(width: Width, condition: Condition, operand: Operand) -> Option<NullTest>
+    ensures { result ≡ null_test_of width condition operand }
+{
+    match (width, condition, operand) {
+        (Width::W64, Condition::Equal, Operand::Immediate(0)) => Some(NullTest::JumpsIfNull),
+        (Width::W64, Condition::NotEqual, Operand::Immediate(0)) => Some(NullTest::JumpsIfThere),
+        _ => None,
+    }
+}
+
+/// The test of a reservation tells each edge what it found; else both operands are numbers.
+pub(crate) fn branch(
+    test: Option<NullTest>,
+    dst: Abs,
+    operand: Abs,
+    state: &AbsState,
+) -> Result<Effect, Rule>
+    ensures { result ≡ branch test dst operand state.now }
+{
+    if let (Some(test), Abs::Perhaps(id)) = (test, dst) {
+        let null = state.where_null(id);
+        let there = state.where_there(id);
+        return Ok(match test {
+            NullTest::JumpsIfNull => Effect {
+                next: there,
+                jump: null,
+            },
+            NullTest::JumpsIfThere => Effect {
+                next: null,
+                jump: there,
+            },
+        });
+    }
+    readable(dst)?;
+    readable(operand)?;
+    number(Rule::PointerCompared, dst)?;
+    number(Rule::PointerCompared, operand)?;
+    Ok(state.copy().along_both())
+}

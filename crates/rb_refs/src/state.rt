@@ -1,0 +1,82 @@
+//! What is known before an instruction.
+
+ghost use Rattle.std.specs.Prelude.{◌≡◌};
+ghost use Rattle.rb_refs.specs.States.{value_in, put, entry_state, both};
+
+use crate::held::Held;
+use crate::value::Abs;
+use rb_insn::Reg;
+use std::alloc::Global;
+
+/// What is known before an instruction: of each register, and which references are held.
+#[derive(Debug, Drop)]
+pub struct AbsState {
+    /// What is known of r0 to r10.
+    pub values: [Abs; 11],
+    /// The references that are held.
+    pub held: Held,
+}
+
+/// What is known along each edge out of an instruction. Where it has one edge alone, both say the same.
+#[derive(Debug, Drop)]
+pub struct Effect {
+    /// Along the edge to the next instruction.
+    pub next: AbsState,
+    /// Along the edge to the jump's target.
+    pub jump: AbsState,
+}
+
+impl AbsState {
+    /// What is known at entry: r1 points to the context, r10 to the stack, the other registers hold nothing, and no
+    /// reference is held. The references are inline, so this takes no memory.
+    pub fn entry(alloc: Global) -> Self
+        ensures { result ≡ entry_state }
+    {
+        let mut values = [Abs::Unreadable; 11];
+        values[1] = Abs::Ctx(0);
+        values[10] = Abs::Stack(0);
+        AbsState {
+            values,
+            held: Held::new(alloc),
+        }
+    }
+
+    /// The same state. It takes no memory.
+    pub fn copy(&self) -> Self
+        ensures { result ≡ self.now }
+    {
+        AbsState {
+            values: self.values,
+            held: self.held.copy(),
+        }
+    }
+
+    /// What is known of a register.
+    pub fn value(&self, register: Reg) -> Abs
+        ensures { result ≡ value_in self.now register.number }
+    {
+        self.values[usize::from(register.number)]
+    }
+
+    /// The state once a register has got a value.
+    pub(crate) fn put(&self, register: Reg, value: Abs) -> AbsState
+        ensures { result ≡ put self.now register.number value }
+    {
+        let mut values = self.values;
+        values[usize::from(register.number)] = value;
+        AbsState {
+            values,
+            held: self.held.copy(),
+        }
+    }
+
+    /// The same along both edges.
+    pub(crate) fn along_both(self) -> Effect
+        ensures { result ≡ both self }
+    {
+        Effect {
+            next: self.copy(),
+            jump: self,
+        }
+    }
+}

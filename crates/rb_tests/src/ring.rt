@@ -1,0 +1,5 @@
+//! The ring of one thread.
+
+mod drawn;
+mod plain;
+mod rows;

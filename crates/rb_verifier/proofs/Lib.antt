@@ -1,0 +1,5 @@
+mod Least
+mod Noting
+mod Turning
+mod Passing
+mod Counting

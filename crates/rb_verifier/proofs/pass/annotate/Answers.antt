@@ -1,0 +1,14 @@
+use Rattle.std.proofs.Common.{◌≡◌, ◌<◌, ◌∙◌, ap, sym, subst, [], arith}
+use Rattle.rb_decode.specs.Program.{unit_count}
+use Rattle.rb_verifier.specs.Pass.{Progress, IsStart}
+use Rattle.rb_verifier.proofs.Passing.{progress_start}
+use Rattle.rb_verifier.proofs.pass.annotate.Goals as goal
+
+pub loop-unit-init : goal.loop-unit-init
+loop-unit-init c =
+    let units : c.units-units.result ≡ unit_count c.args.shape.now = c.units-units.ensures ∙ ap unit_count c.program-2.ensures in
+    let bound = c.facts.ensures.bounds.not_empty in
+    let same : unit_count c.program.result.now ≡ unit_count c.args.shape.now = ap unit_count c.program.ensures in
+    let some : 0 < unit_count c.args.shape.now = omega (arith, bound, same) in
+    let start : IsStart (unit_count c.args.shape.now) c.in-Ok.arrivals.items = subst (λ n. IsStart n c.in-Ok.arrivals.items) units c.in-Ok.ensures in
+    subst (λ states. Progress c.args.environment c.args.shape.now states c.in-Ok.arrivals.items 0) (sym c.new-states.ensures.items) (progress_start c.args.environment c.args.shape.now c.in-Ok.arrivals.items some start)

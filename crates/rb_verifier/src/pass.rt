@@ -1,0 +1,105 @@
+//! One pass over a program in unit order.
+
+ghost use Rattle.std.specs.Prelude.{◌≡◌, ◌+◌, ◌++◌, [], ◌∷◌, ◌<◌, ℕ, Some, length, IfOk, IfErr, OnOk};
+ghost use Rattle.rb_decode.specs.Program.{unit_count, slot_at};
+ghost use Rattle.rb_refs.specs.States.{entry_state};
+ghost use Rattle.rb_verifier.specs.Annotation.{IsValid};
+ghost use Rattle.rb_verifier.specs.Pass.{Progress, state_at};
+ghost use Rattle.rb_verifier.specs.Refusals.{IsRightRefusal};
+
+use crate::arrivals::{Arrival, first_arrivals, flow};
+use crate::refusal::Refusal;
+use rb_cfg::{Shape, jump_target, next_unit};
+use rb_insn::Insn;
+use rb_refs::{AbsState, Environment, Rule, step};
+use std::alloc::Global;
+
+/// One turn of the pass, at an instruction: its state is settled, and flows on along its edges.
+fn visit(
+    environment: Environment,
+    shape: &Shape,
+    unit: u32,
+    insn: &Insn,
+    states: &mut Vec<AbsState>,
+    arrivals: &mut Vec<Arrival>,
+) -> Result<(), Refusal>
+    requires begins { slot_at shape.now unit ≡ Some insn.now }
+    requires inside { unit < unit_count shape.now }
+    requires progress { Progress environment shape.now states.old.items arrivals.old.items unit }
+    ensures progress { OnOk result (Progress environment shape.now states.new.items arrivals.new.items (unit + 1)) }
+    ensures refused { IfErr result (IsRightRefusal environment shape.now) }
+{
+    shape.facts();
+    shape.program().facts();
+    let state = match &arrivals[unit as usize] {
+        Arrival::Nothing => unreachable!(),
+        Arrival::Differ => {
+            let rule = Rule::ReferencesDiffer;
+            return Err(Refusal::Rule { unit, rule });
+        }
+        Arrival::Least(state) => state.copy(),
+    };
+    let effect = match step(environment, unit, insn, &state) {
+        Ok(effect) => effect,
+        Err(rule) => return Err(Refusal::Rule { unit, rule }),
+    };
+    if states.push(state).is_err() {
+        return Err(Refusal::Memory);
+    }
+    flow(arrivals, next_unit(unit, insn), &effect.next);
+    flow(arrivals, jump_target(unit, insn), &effect.jump);
+    Ok(())
+}
+
+/// A unit where no instruction begins gets the entry state, which nothing reads.
+fn pass_over(alloc: Global, states: &mut Vec<AbsState>) -> Result<(), Refusal>
+    ensures pushed { OnOk result (states.new.items ≡ states.old.items ++ entry_state ∷ []) }
+    ensures memory { IfErr result (λ refusal. refusal ≡ Refusal.Memory) }
+{
+    match states.push(AbsState::entry(alloc)) {
+        Ok(()) => Ok(()),
+        Err(_) => Err(Refusal::Memory),
+    }
+}
+
+/// One turn of the pass, at a unit.
+fn turn(
+    alloc: Global,
+    environment: Environment,
+    shape: &Shape,
+    unit: u32,
+    states: &mut Vec<AbsState>,
+    arrivals: &mut Vec<Arrival>,
+) -> Result<(), Refusal>
+    requires inside { unit < unit_count shape.now }
+    requires progress { Progress environment shape.now states.old.items arrivals.old.items unit }
+    ensures progress { OnOk result (Progress environment shape.now states.new.items arrivals.new.items (unit + 1)) }
+    ensures refused { IfErr result (IsRightRefusal environment shape.now) }
+{
+    shape.facts();
+    match shape.program().at(unit) {
+        Some(insn) => visit(environment, shape, unit, insn, states, arrivals),
+        None => pass_over(alloc, states),
+    }
+}
+
+/// The pass: the states of a valid annotation, one for each unit, or the first rule that is broken.
+pub(crate) fn annotate(
+    alloc: Global,
+    environment: Environment,
+    shape: &Shape,
+) -> Result<Vec<AbsState>, Refusal>
+    ensures valid { IfOk result (λ states. IsValid environment shape.now (state_at states.items)) }
+    ensures refused { IfErr result (IsRightRefusal environment shape.now) }
+{
+    shape.program().facts();
+    let units = shape.program().units();
+    let Ok(mut arrivals) = first_arrivals(alloc, units) else {
+        return Err(Refusal::Memory);
+    };
+    let mut states = Vec::new(alloc);
+    for unit in 0..units {
+        turn(alloc, environment, shape, unit, &mut states, &mut arrivals)?;
+    }
+    Ok(states)
+}

@@ -1,0 +1,7 @@
+mod Answering
+mod Feeding
+mod Inputs
+mod PayloadReads
+mod RingPass
+mod Sending
+mod Sizes

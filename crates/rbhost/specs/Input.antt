@@ -1,0 +1,75 @@
+-- The input of `feed`: payloads, one behind the other, each with its length in front (own).
+use Rattle.std.specs.Prelude.{ℕ, ◌≡◌, ◌+◌, ◌<◌, ◌≤◌, ◌^◌, ◌⊎◌, List, [], ◌∷◌, ◌++◌, length}
+use Rattle.std.specs.Int.{w32, to_le_bytes}
+use Rattle.std.specs.List.{flat_map}
+use Rattle.rb_header.specs.Span.{span}
+use Rattle.rb_header.specs.Tape.{Item, AreItemsFrom, end_of}
+use Rattle.rb_header.specs.Tape.Item.{Event}
+
+-- ---- payloads, as bytes and as records
+
+-- a payload on the input: its length in four bytes, the lowest first, and then its bytes
+abbrev pub framed : List ℕ → List ℕ
+framed payload = to_le_bytes w32 (length payload) ++ payload
+
+-- payloads on the input, with nothing between them
+abbrev pub framed_all : List (List ℕ) → List ℕ
+framed_all payloads = flat_map framed payloads
+
+-- the records that payloads become: each an event, which begins where the one before it ends
+abbrev pub events_from : ℕ → List (List ℕ) → List Item
+events_from position [] = []
+events_from position (payload ∷ payloads) = Event position payload ∷ events_from (position + span (length payload)) payloads
+
+-- ---- what may stand behind them
+
+-- a length whose record the ring can't hold, since it never fills wholly; whatever stands behind the length
+pub record IsTooLong (size : ℕ) (text : List ℕ) : Type 0 where
+  pub len : ℕ
+  pub rest : List ℕ
+  pub text_is : text ≡ to_le_bytes w32 len ++ rest
+  pub has_field : len < 2 ^ 32
+  pub no_room : size ≤ span len
+
+-- a whole payload whose record would end past 2^62
+pub record IsTooFar (size position : ℕ) (text : List ℕ) : Type 0 where
+  pub payload : List ℕ
+  pub rest : List ℕ
+  pub text_is : text ≡ framed payload ++ rest
+  pub has_field : length payload < 2 ^ 32
+  pub room : span (length payload) < size
+  pub past : 2 ^ 62 < position + span (length payload)
+
+-- a part of a length
+pub record IsCutLength (text : List ℕ) : Type 0 where
+  pub some : 0 < length text
+  pub short : length text < 4
+
+-- a length, and fewer bytes behind it
+pub record IsCutPayload (size : ℕ) (text : List ℕ) : Type 0 where
+  pub len : ℕ
+  pub part : List ℕ
+  pub text_is : text ≡ to_le_bytes w32 len ++ part
+  pub has_field : len < 2 ^ 32
+  pub room : span len < size
+  pub short : length part < len
+
+-- how an input goes on behind its first payloads: not at all, with a payload that does not fit into the ring, or with less
+-- than a whole payload
+pub data Ending : Type 0 where
+  Whole : Ending
+  Unfit : Ending
+  Cut : Ending
+
+-- what stands behind the payloads, where the next record would begin at this position of a ring of this size
+abbrev pub Follows : ℕ → ℕ → Ending → List ℕ → Type 0
+Follows size position Whole text = text ≡ []
+Follows size position Unfit text = IsTooLong size text ⊎ IsTooFar size position text
+Follows size position Cut text = IsCutLength text ⊎ IsCutPayload size text
+
+-- the input is these payloads, whose records stand on a tape of a ring of this size from the start on, and then goes on so
+pub record Says (size start : ℕ) (input : List ℕ) (payloads : List (List ℕ)) (ending : Ending) : Type 0 where
+  pub rest : List ℕ
+  pub input_is : input ≡ framed_all payloads ++ rest
+  pub stand : AreItemsFrom size start (events_from start payloads)
+  pub goes_on : Follows size (end_of start (events_from start payloads)) ending rest

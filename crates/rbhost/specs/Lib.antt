@@ -1,0 +1,5 @@
+pub mod Fed
+pub mod Input
+pub mod Items
+pub mod Passing
+pub mod Reading

@@ -1,0 +1,102 @@
+//! The program's commands.
+
+ghost use Rattle.std.specs.Prelude.{◌≡◌, ◌≤◌, OnOk};
+ghost use Rattle.std.specs.Io.KnownBytes.{Keeps};
+ghost use Rattle.rb_history.specs.View.{IsSize, IsStart};
+ghost use Rattle.rbhost.specs.Fed.{Tells, AnswersAlone, IsWholeInput};
+
+use crate::faults::FeedFault;
+use crate::feed::feed;
+use crate::options::{Request, parse};
+use clap::Error;
+use clap::error::ErrorKind;
+use std::alloc::Global;
+use std::convert::AsStr;
+use std::io::{BufReader, BufWriter, Read, Write};
+
+/// Carries out the command that the words name, which stand behind the program's name on the command line, and answers the
+/// status that the program ends with: 0; 1 where it was refused, with a line on `err` that begins with `refused `; 2 for wrong
+/// usage, which is told on `err` before anything is read or written. Help that is asked for goes to `out`.
+pub fn command<S: AsStr, R: Read, W: Write, E: Write>(
+    alloc: Global,
+    words: &[S],
+    input: &mut R,
+    out: &mut W,
+    err: &mut E,
+) -> u8
+    ensures status { result ≤ 2 }
+    ensures usage { result ≡ 2 → Keeps (R.remaining input.old) (R.remaining input.new) × Keeps (W.contents out.old) (W.contents out.new) }
+{
+    match parse(alloc, words) {
+        Ok(Request::Feed { size, start }) => feed_command(alloc, input, out, err, size, start),
+        Err(error) => tell(&error, out, err),
+    }
+}
+
+// Tells why the words name no command.
+fn tell<W: Write, E: Write>(error: &Error, out: &mut W, err: &mut E) -> u8
+    ensures status { result ≤ 2 }
+    ensures usage { result ≡ 2 → Keeps (W.contents out.old) (W.contents out.new) }
+{
+    match error.kind() {
+        ErrorKind::OutOfMemory => refuse(FeedFault::Memory, err),
+        ErrorKind::DisplayHelp => match write!(out, "{error}") {
+            Ok(()) => 0,
+            Err(_) => refuse(FeedFault::Device, err),
+        },
+        _ => {
+            let _ = write!(err, "{error}");
+            2
+        }
+    }
+}
+
+// Writes the tape of the payloads, and tells where it ends.
+fn feed_command<R: Read, W: Write, E: Write>(
+    alloc: Global,
+    input: &mut R,
+    out: &mut W,
+    err: &mut E,
+    size: u64,
+    start: u64,
+) -> u8
+    ensures status { result ≤ 1 }
+    ensures whole { result ≡ 0 → IsSize size × IsStart start × IsWholeInput size start (R.remaining input.old) }
+{
+    match feed_buffered(alloc, input, out, size, start) {
+        Ok((producer, consumer)) => match writeln!(err, "producer {producer} consumer {consumer}") {
+            Ok(()) => 0,
+            Err(_) => 1,
+        },
+        Err(fault) => refuse(fault, err),
+    }
+}
+
+// The same, over buffers. The order of the answers is that of `feed`, behind want of memory for the buffers.
+fn feed_buffered<R: Read, W: Write>(
+    alloc: Global,
+    input: &mut R,
+    out: &mut W,
+    size: u64,
+    start: u64,
+) -> Result<(u64, u64), FeedFault>
+    ensures bounds { OnOk result (IsSize size × IsStart start) }
+    ensures told { Tells size start (R.remaining input.old) result }
+    ensures only { AnswersAlone size start (R.remaining input.old) result }
+{
+    let Ok(mut reader) = BufReader::new(alloc, input) else {
+        return Err(FeedFault::Memory);
+    };
+    let Ok(mut writer) = BufWriter::new(alloc, out) else {
+        return Err(FeedFault::Memory);
+    };
+    feed(alloc, &mut reader, &mut writer, size, start)
+}
+
+// The line of a refusal.
+fn refuse<E: Write>(fault: FeedFault, err: &mut E) -> u8
+    ensures { result ≡ 1 }
+{
+    let _ = writeln!(err, "refused {fault}");
+    1
+}

@@ -1,0 +1,149 @@
+//! Payloads in, their tape out.
+
+ghost use Rattle.std.specs.Prelude.{◌≡◌, ◌≢◌, ◌+◌, ◌<◌, ◌≤◌, ◌↔◌, List, ℕ, Err, IsErrOf, IfOk, IfErr, IfSome, OnOk, false, length};
+ghost use Rattle.rb_header.specs.Span.{span};
+ghost use Rattle.rb_history.specs.Calls.{AllTaken, producer_now};
+ghost use Rattle.rb_history.specs.View.{IsSize, IsStart, fresh};
+ghost use Rattle.rbhost.specs.Fed.{Fed, FeedsOne, IsOpeningFault, Tells, AnswersAlone};
+ghost use Rattle.rbhost.specs.Passing.{MovesOn};
+
+use crate::faults::FeedFault;
+use crate::passing::pass;
+use crate::payloads::next_payload;
+use crate::tape::{Item, TapeWriter};
+use rb_history::OpenFault;
+use rb_lend::{Lent, Sheet};
+use rb_ring::RingState;
+use std::alloc::Global;
+use std::io::{Read, Write};
+
+// A payload through the ring and onto the tape. Its sheet comes back.
+fn feed_one<W: Write>(
+    ring: &mut RingState,
+    tape: &mut TapeWriter<'_, W>,
+    payload: Sheet,
+    number: u64,
+) -> Result<Sheet, FeedFault>
+    requires all_taken { AllTaken ring.old }
+    requires worker { 0 < ring.old.setup.workers }
+    requires size { IsSize ring.old.setup.size }
+    requires tape_size { tape.old.size ≡ ring.old.setup.size }
+    requires position { tape.old.position ≡ producer_now ring.old }
+    requires finished { tape.old.unfinished ≡ false }
+    requires room { span (length payload) < ring.old.setup.size }
+    ensures same_reference { tape.new.writer.ghost_name ≡ tape.old.writer.ghost_name }
+    ensures fed { FeedsOne tape.old.size tape.old.position number payload (W.contents tape.old.writer.now) (W.contents tape.new.writer.now) result }
+    ensures moves_on { OnOk result (MovesOn ring.old ring.new (length payload)) }
+    ensures size { tape.new.size ≡ tape.old.size }
+    ensures position { OnOk result (tape.new.position ≡ tape.old.position + span (length payload)) }
+    ensures finished { OnOk result (tape.new.unfinished ≡ false) }
+{
+    let (position, payload) = pass(ring, payload, number)?;
+    let item = Item::Event {
+        position,
+        bytes: payload.bytes(),
+    };
+    let Ok(()) = tape.put(&item) else {
+        return Err(FeedFault::Device);
+    };
+    Ok(payload)
+}
+
+// Payload after payload, until the input ends or one is refused: where the producer and the consumer stand then.
+fn feed_all<R: Read, W: Write>(
+    ring: &mut RingState,
+    reader: &mut R,
+    tape: &mut TapeWriter<'_, W>,
+    mut spare: Sheet,
+    size: u64,
+    start: u64,
+) -> Result<(u64, u64), FeedFault>
+    requires size { IsSize size }
+    requires start { IsStart start }
+    requires opened { ring.old ≡ fresh size start 1 }
+    requires tape_size { tape.old.size ≡ size }
+    requires position { tape.old.position ≡ start }
+    requires finished { tape.old.unfinished ≡ false }
+    ensures same_reference { tape.new.writer.ghost_name ≡ tape.old.writer.ghost_name }
+    ensures fed { Fed size start (R.remaining reader.old) (R.remaining reader.new) (W.contents tape.old.writer.now) (W.contents tape.new.writer.now) result }
+    ensures no_bounds { (result ≢ Err FeedFault.Size) × (result ≢ Err FeedFault.Start) }
+{
+    let mut number = 0;
+    while let Some(payload) = next_payload(reader, spare, size, number)? {
+        spare = feed_one(ring, tape, payload, number)?;
+        number += 1;
+    }
+    Ok((ring.query(3), ring.query(2)))
+}
+
+/// Reads payloads, each a length in four bytes, the lowest first, and that many bytes; puts each through a ring of `size`
+/// bytes that begins at `start`, and writes the tape of their records, from the start on. Answers where the producer and the
+/// consumer stand in the end.
+///
+/// It tells `Size` and `Start` before it reads. A payload is told not to fit from its length alone where its record is too
+/// long for the ring. Whatever is told, the whole tape of the payloads before was written and flushed, unless the writer itself
+/// failed. Reader and writer are called a few times for each payload: buffer them. The ring keeps three entries for each
+/// payload.
+pub fn feed<R: Read, W: Write>(
+    alloc: Global,
+    reader: &mut R,
+    writer: &mut W,
+    size: u64,
+    start: u64,
+) -> Result<(u64, u64), FeedFault>
+    // What was read and written, by the answer.
+    ensures fed { Fed size start (R.remaining reader.old) (R.remaining reader.new) (W.contents writer.old) (W.contents writer.new) result }
+
+    // Which answer it is.
+    ensures size { IsErrOf result FeedFault.Size ↔ ¬ IsSize size }
+    ensures start { IsErrOf result FeedFault.Start ↔ (IsSize size × ¬ IsStart start) }
+    ensures bounds { OnOk result (IsSize size × IsStart start) }
+    ensures told { Tells size start (R.remaining reader.old) result }
+    ensures only { AnswersAlone size start (R.remaining reader.old) result }
+{
+    let mut ring = open(alloc, size, start)?;
+    let Ok(spare) = Sheet::new(alloc, 0) else {
+        return Err(FeedFault::Memory);
+    };
+    let fed = feed_ring(&mut ring, reader, writer, spare, size, start);
+    let Ok(()) = writer.flush() else {
+        return Err(FeedFault::Device);
+    };
+    fed
+}
+
+// The ring that the payloads go through.
+fn open(alloc: Global, size: u64, start: u64) -> Result<RingState, FeedFault>
+    ensures opened { IfOk result (λ ring. ring ≡ fresh size start 1) }
+    ensures bounds { OnOk result (IsSize size × IsStart start) }
+    ensures size { IsErrOf result FeedFault.Size ↔ ¬ IsSize size }
+    ensures start { IsErrOf result FeedFault.Start ↔ (IsSize size × ¬ IsStart start) }
+    ensures memory { IfErr result IsOpeningFault }
+{
+    match RingState::new(alloc, size, start, 1) {
+        Ok(ring) => Ok(ring),
+        Err(OpenFault::Size) => Err(FeedFault::Size),
+        Err(OpenFault::Start) => Err(FeedFault::Start),
+        Err(OpenFault::Workers) => unreachable!(),
+        Err(OpenFault::Memory) => Err(FeedFault::Memory),
+    }
+}
+
+// The payloads through the ring and onto the writer.
+fn feed_ring<R: Read, W: Write>(
+    ring: &mut RingState,
+    reader: &mut R,
+    writer: &mut W,
+    spare: Sheet,
+    size: u64,
+    start: u64,
+) -> Result<(u64, u64), FeedFault>
+    requires size { IsSize size }
+    requires start { IsStart start }
+    requires opened { ring.old ≡ fresh size start 1 }
+    ensures fed { Fed size start (R.remaining reader.old) (R.remaining reader.new) (W.contents writer.old) (W.contents writer.new) result }
+    ensures no_bounds { (result ≢ Err FeedFault.Size) × (result ≢ Err FeedFault.Start) }
+{
+    let mut tape = TapeWriter::new(writer, size, start);
+    feed_all(ring, reader, &mut tape, spare, size, start)
+}

@@ -1,0 +1,4 @@
+mod commands;
+mod fakes;
+mod feeding;
+mod taping;
