@@ -3,12 +3,14 @@
 #![tactic(auto)]
 
 mod answers;
+mod bounds;
 mod entries;
 mod one_call;
 mod reservations;
 mod stored;
 
 pub use answers::{Counts, Notice, OpenFault, ReserveFault, Stray, Taken};
+pub use bounds::{LIMIT, is_size, is_start, is_worker_count, notice_for};
 pub use entries::Entry;
 pub use one_call::each_entry_is_one_call;
 pub use reservations::Reservation;

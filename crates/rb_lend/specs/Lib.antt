@@ -1,2 +1,9 @@
+pub mod Block
+pub mod Lending
+pub mod Memory
+pub mod MemoryLaws
 pub mod Ranges
+pub mod Records
 pub mod Rewritten
+pub mod SomeOf
+pub mod Stack

@@ -66,6 +66,9 @@ impl Held {
     pub fn copy(&self) -> Self
         ensures { result ≡ self.now }
     {
+        if self.is_empty() {
+            return Held::new(*self.items.allocator());
+        }
         let Ok(items) = SmallVec::from_slice(*self.items.allocator(), self.as_slice()) else {
             unreachable!()
         };

@@ -2,9 +2,9 @@
 //! lock. Each call's contract names the history alone, so that another body and other callers can take it as it stands.
 #![tactic(auto)]
 
-mod bounds;
-mod counting;
 mod ring;
+mod running;
+mod table;
 
 pub use rb_history::{Counts, Entry, Notice, OpenFault, Reservation, ReserveFault, Stray, Taken};
 pub use ring::RingState;

@@ -1,7 +1,6 @@
 //! One ring, for one thread.
 
-ghost use Rattle.std.specs.Prelude.{◌≡◌, ◌≢◌, ◌+◌, ◌<◌, ◌≤◌, ◌↔◌, ◌∷◌, [], ◌++◌, IsErrOf, IsTrue, IfOk, OnOk, OnErr, IfErr, IfSome, IfNone, OnSome, length, replicate};
-ghost use Rattle.std.specs.VecDeque.{deque_len, deque_capacity};
+ghost use Rattle.std.specs.Prelude.{ℕ, true, ◌≡◌, ◌≢◌, ◌+◌, ◌<◌, ◌≤◌, ◌↔◌, ◌∷◌, [], ◌++◌, IsErrOf, IsTrue, IfOk, OnOk, OnErr, IfErr, IfSome, IfNone, OnSome, length, replicate};
 ghost use Rattle.std.specs.FinMap.{insert};
 ghost use Rattle.rb_history.specs.History.Status.{Busy};
 ghost use Rattle.rb_history.specs.Legal.{IsLegal};
@@ -11,19 +10,23 @@ ghost use Rattle.rb_history.specs.Answers.{IsDue, ask};
 ghost use Rattle.rb_history.specs.Rows.{IsBusyAt};
 ghost use Rattle.rb_history.specs.Calls.{Logs, HasRoom, HasBusyFront, AllTaken, Takes, Grants, FindsFull, Outputs, Refuses, Holds, Submits, Discards, Strays, producer_now, consumer_now};
 
-use crate::bounds::{LIMIT, is_size, is_start, is_worker_count, notice_for};
-use crate::counting::{busy_index, discards_in, grants_in, refusals_in, reserved_in, submitted_in};
+use crate::running::Running;
+use crate::table::Table;
 use rb_header::span;
 use rb_history::{
-    Counts, Entry, Notice, OpenFault, RecordState, Reservation, ReserveFault, StoredRecord, Stray,
-    Taken,
+    Counts, Entry, LIMIT, Notice, OpenFault, Reservation, ReserveFault, Stray, Taken, is_size,
+    is_start, is_worker_count, notice_for,
 };
 use rb_lend::{Lent, Sheet};
-use std::alloc::{AllocError, Global};
-use std::collections::VecDeque;
+use std::alloc::Global;
 use std::marker::Model;
 
 /// One ring of records, for one thread. Contracts see its history, the bytes of its waiting records, and what it shows.
+///
+/// A table of header words, one for each eight bytes of the ring, has the record at position `p` at place
+/// `(p mod size) / 8`, with the number of the slot that keeps the rest of the record. `new` takes that table, 12 bytes for
+/// each place; every other call takes constant time, but for the bytes of its own record and the amortised growth of the
+/// history and of the slots.
 #[derive(Drop)]
 pub struct RingState {
     size: u64,
@@ -32,11 +35,12 @@ pub struct RingState {
     producer: u64,
     consumer: u64,
     history: Vec<Entry>,
-    // How many entries the records that are there still wait for. The history keeps room for them.
-    owed: usize,
+    // The counts of the history, of which no call walks the whole.
+    running: Running,
     // How many records each worker was granted.
     serials: Vec<u64>,
-    records: VecDeque<StoredRecord>,
+    // The records that are there, with their header words.
+    table: Table,
 }
 
 impl Model for RingState {
@@ -76,6 +80,9 @@ impl RingState {
             Ok(serials) => serials,
             Err(_) => return Err(OpenFault::Memory),
         };
+        let Ok(table) = Table::new(alloc, size) else {
+            return Err(OpenFault::Memory);
+        };
         Ok(RingState {
             size,
             start,
@@ -83,9 +90,9 @@ impl RingState {
             producer: start,
             consumer: start,
             history: Vec::new(alloc),
-            owed: 0,
+            running: Running::new(),
             serials,
-            records: VecDeque::new(alloc),
+            table,
         })
     }
 
@@ -119,15 +126,17 @@ impl RingState {
         }
     }
 
-    /// The six counts of the history. Linear in the history.
+    /// The six counts of the history.
     pub fn counts(&self) -> Counts
         ensures counts { result ≡ counts_of self.now.history }
     {
-        let made = grants_in(&self.history);
-        let refused = refusals_in(&self.history);
-        let discarded = discards_in(&self.history);
-        let waiting = submitted_in(&self.records);
-        let busy = reserved_in(&self.records);
+        let Running {
+            made,
+            refused,
+            discarded,
+            waiting,
+            busy,
+        } = self.running;
         Counts {
             made,
             refused,
@@ -175,15 +184,13 @@ impl RingState {
         ensures stray { OnErr result (Strays self.old self.new reservation) }
         ensures handed_back { IfErr result (λ s. s.reservation ≡ reservation) }
     {
-        match self.find_busy(&reservation) {
-            None => Err(Stray { reservation }),
-            Some(index) => {
-                let pos = reservation.pos();
-                let notice = self.notice(pos, flags);
-                self.send(index, pos, reservation.into_sheet());
-                Ok(notice)
-            }
+        if !self.holds(&reservation) {
+            return Err(Stray { reservation });
         }
+        let pos = reservation.pos();
+        let notice = self.notice(pos, flags);
+        self.send(pos, reservation.into_sheet());
+        Ok(notice)
     }
 
     /// Gives the reservation's record up, so that the consumer passes over it, or hands the reservation back where no busy
@@ -195,15 +202,13 @@ impl RingState {
         ensures stray { OnErr result (Strays self.old self.new reservation) }
         ensures handed_back { IfErr result (λ s. s.reservation ≡ reservation) }
     {
-        match self.find_busy(&reservation) {
-            None => Err(Stray { reservation }),
-            Some(index) => {
-                let pos = reservation.pos();
-                let notice = self.notice(pos, flags);
-                self.give_up(index, pos, reservation.len());
-                Ok(notice)
-            }
+        if !self.holds(&reservation) {
+            return Err(Stray { reservation });
         }
+        let pos = reservation.pos();
+        let notice = self.notice(pos, flags);
+        self.give_up(pos, reservation.len());
+        Ok(notice)
     }
 
     /// Grants worker `worker` a record and submits it at once, with the sheet's bytes. Flags above 3 are told first, and
@@ -226,12 +231,11 @@ impl RingState {
         if flags > 3 {
             return Err((ReserveFault::Flags, sheet));
         }
-        let index = self.records.len();
         let notice = self.notice(self.producer(), flags);
         match self.grant(worker, sheet.len()) {
             Err(fault) => Err((fault, sheet)),
             Ok((pos, _)) => {
-                self.send(index, pos, sheet);
+                self.send(pos, sheet);
                 Ok(notice)
             }
         }
@@ -245,19 +249,19 @@ impl RingState {
         ensures busy_front { (result ≡ Taken.BusyFront) ↔ HasBusyFront self.old }
         ensures empty { (result ≡ Taken.Empty) ↔ AllTaken self.old }
     {
-        if self.records.is_empty() {
+        if self.table.live() == 0 {
             return Taken::Empty;
         }
-        if self.records[0].is_reserved() {
+        let pos = self.consumer;
+        if self.table.is_busy(pos) {
             return Taken::BusyFront;
         }
-        let Some(record) = self.records.pop_front() else {
-            unreachable!()
-        };
-        self.history.push_reserved(Entry::Take(record.pos));
-        self.owed -= 1;
-        self.consumer += span(record.len);
-        record.taken()
+        let len = self.table.len_at(pos);
+        let taken = self.table.take(pos);
+        self.history.push_reserved(Entry::Take(pos));
+        self.running.take(&taken);
+        self.consumer += span(len);
+        taken
     }
 
     // Whether the room rule holds for a record of `n` bytes.
@@ -276,10 +280,13 @@ impl RingState {
         ensures refused { Refuses self.old self.new worker n result }
         ensures known_flags { result ≢ ReserveFault.Flags }
     {
-        if self.history.reserve(self.owed + 1).is_err() {
+        // Each busy record still waits for its end, and each record for its take.
+        let owed = self.table.live() + self.running.busy as usize;
+        if self.history.reserve(owed + 1).is_err() {
             return ReserveFault::Memory;
         }
         self.history.push_reserved(Entry::Full(worker, n));
+        self.running.refused += 1;
         ReserveFault::Full
     }
 
@@ -296,7 +303,11 @@ impl RingState {
         if !self.has_room(n) {
             return Err(self.refuse(worker, n));
         }
-        if self.history.reserve(self.owed + 3).is_err() || self.records.reserve(1).is_err() {
+        let owed = self.table.live() + self.running.busy as usize;
+        if self.history.reserve(owed + 3).is_err() {
+            return Err(ReserveFault::Memory);
+        }
+        if self.table.make_room().is_err() {
             return Err(ReserveFault::Memory);
         }
         let pos = self.producer;
@@ -304,39 +315,35 @@ impl RingState {
         self.serials[worker as usize] = serial + 1;
         self.history
             .push_reserved(Entry::Res(worker, serial, n, pos));
-        let newest = StoredRecord {
-            pos,
-            len: n,
-            worker,
-            serial,
-            state: RecordState::Reserved,
-        };
-        push_last(&mut self.records, newest);
-        self.owed += 2;
+        self.running.made += 1;
+        self.running.busy += 1;
+        self.table.put(pos, n, worker, serial);
         self.producer = pos + span(n);
         Ok((pos, serial))
     }
 
-    // The busy record at an index is given its bytes.
-    fn send(&mut self, index: usize, pos: u64, sheet: Sheet)
-        requires { IsBusyAt self.old.shown index pos (length sheet) }
+    // The busy record at a position is given its bytes.
+    fn send(&mut self, pos: u64, sheet: Sheet)
+        requires { (i : ℕ) × IsBusyAt self.old.shown i pos (length sheet) }
         ensures logged { Logs self.old self.new (Entry.Sub pos ∷ []) }
         ensures contents { self.new.contents ≡ insert self.old.contents pos sheet }
     {
-        self.records[index].state = RecordState::Submitted(sheet);
+        self.table.send(pos, sheet);
         self.history.push_reserved(Entry::Sub(pos));
-        self.owed -= 1;
+        self.running.busy -= 1;
+        self.running.waiting += 1;
     }
 
-    // The busy record at an index is given up.
-    fn give_up(&mut self, index: usize, pos: u64, len: u32)
-        requires { IsBusyAt self.old.shown index pos len }
+    // The busy record at a position is given up.
+    fn give_up(&mut self, pos: u64, len: u32)
+        requires { (i : ℕ) × IsBusyAt self.old.shown i pos len }
         ensures logged { Logs self.old self.new (Entry.Dis pos ∷ []) }
         ensures contents { self.new.contents ≡ self.old.contents }
     {
-        self.records[index].state = RecordState::Discarded;
+        self.table.give_up(pos);
         self.history.push_reserved(Entry::Dis(pos));
-        self.owed -= 1;
+        self.running.busy -= 1;
+        self.running.discarded += 1;
     }
 
     // Whether a notice is due for the record at `pos`.
@@ -352,22 +359,11 @@ impl RingState {
         self.producer
     }
 
-    // Where the record of a reservation stands, if it is busy.
-    fn find_busy(&self, reservation: &Reservation) -> Option<usize>
-        ensures found { IfSome result (λ i. IsBusyAt self.now.shown i reservation.now.pos (length reservation.now.bytes)) }
-        ensures busy { OnSome result (Holds self.now reservation.now) }
-        ensures none { IfNone result (¬ Holds self.now reservation.now) }
+    // Whether the record of the reservation is busy.
+    fn holds(&self, reservation: &Reservation) -> bool
+        ensures found { result ≡ true → (i : ℕ) × IsBusyAt self.now.shown i reservation.now.pos (length reservation.now.bytes) }
+        ensures busy { IsTrue result ↔ Holds self.now reservation.now }
     {
-        busy_index(&self.records, reservation)
-    }
-}
-
-// Puts a record behind the others, where there is room for it.
-fn push_last(records: &mut VecDeque<StoredRecord>, newest: StoredRecord)
-    requires { deque_len records.old < deque_capacity records.old }
-    ensures items { records.new.items ≡ records.old.items ++ newest ∷ [] }
-{
-    if records.push_back(newest).is_err() {
-        unreachable!()
+        self.table.is_reserved(reservation)
     }
 }

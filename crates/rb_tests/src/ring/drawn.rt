@@ -2,6 +2,7 @@
 
 ghost use Rattle.std.specs.Prelude.{◌≡◌, ◌<◌, IfOk, length};
 
+use super::draw::{Draw, WORKERS};
 use super::plain::{
     Status, ask, consumer, counts, grants, has_room, is_due, producer, record_at, status_of,
 };
@@ -10,27 +11,6 @@ use rb_ring::{Entry, Notice, Reservation, ReserveFault, RingState, Taken};
 use std::alloc::{AllocError, Global};
 use std::process::Abort;
 use std::test::Fail;
-
-const WORKERS: u32 = 3;
-
-// A generator of numbers that are the same in each run.
-#[derive(Drop)]
-struct Draw {
-    state: u64,
-}
-
-impl Draw {
-    fn below(&mut self, n: u32) -> u32
-        requires { 0 < n }
-        ensures { result < n }
-    {
-        self.state = self
-            .state
-            .wrapping_mul(6_364_136_223_846_793_005)
-            .wrapping_add(1_442_695_040_888_963_407);
-        (self.state >> 33) as u32 % n
-    }
-}
 
 // A ring as its history and the byte that fills each record that was submitted.
 #[derive(Drop)]
@@ -326,7 +306,7 @@ fn one_ring(
 
 #[test]
 fn drawn_commands_agree(rt: HostRuntime) -> Result<(), Fail> {
-    let mut draw = Draw { state: 2026 };
+    let mut draw = Draw::new(2026);
     // Reservations of one ring are handed to the next one too, where most are stray.
     let mut held = Vec::new(rt.alloc());
     for ring in 0..100 {

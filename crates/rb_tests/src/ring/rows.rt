@@ -289,3 +289,39 @@ fn a_granted_record_begins_as_zeros(rt: HostRuntime) -> Result<(), Fail> {
     assert_eq!(rt; reservation.bytes(), [0, 0, 0, 0].as_slice());
     Ok(())
 }
+
+// Grants as many records of length zero as fit, and answers their reservations.
+fn fill_up(alloc: Global, ring: &mut RingState) -> Result<Vec<Reservation>, Fail>
+    requires { ring.old.setup.workers ≡ 2 }
+    ensures { ring.new.setup.workers ≡ 2 }
+{
+    let mut held = Vec::new(alloc);
+    for _ in 0..1000 {
+        match ring.reserve(0, 0, sheet(alloc, 0)?) {
+            Ok(reservation) => held.push(reservation)?,
+            Err(_) => break,
+        }
+    }
+    Ok(held)
+}
+
+#[test]
+fn places_are_used_again(rt: HostRuntime) -> Result<(), Fail> {
+    let mut ring = ring(rt.alloc(), 4096, 0)?;
+    let held = fill_up(rt.alloc(), &mut ring)?;
+    assert_eq!(rt; held.len(), 511);
+    for reservation in held {
+        assert!(rt; ring.discard(reservation, 0).is_ok());
+    }
+    for place in 0..511 {
+        match ring.take() {
+            Taken::Skipped(pos, 0) => assert_eq!(rt; pos, place * 8),
+            _ => assert!(rt; false, "nothing to skip at {place}"),
+        }
+    }
+    assert!(rt; matches!(&ring.take(), Taken::Empty));
+    let held = fill_up(rt.alloc(), &mut ring)?;
+    assert_eq!(rt; held.len(), 511);
+    assert_eq!(rt; ring.query(3), 8176);
+    Ok(())
+}

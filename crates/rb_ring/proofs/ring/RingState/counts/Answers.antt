@@ -1,20 +1,12 @@
-use Rattle.std.proofs.Common.{◌∙◌, ap, arith}
-use Rattle.std.specs.List.{count_by}
-use Rattle.rb_history.specs.Counting.{is_grant, is_refusal, is_discarding}
-use Rattle.rb_ring.specs.Body.{setup_of}
+use Rattle.std.proofs.Common.{◌≡◌, ℕ, ◌+◌, ◌-◌, ◌≤◌, arith}
+use Rattle.rb_ring.specs.Body.{setup_of, rows}
 use Rattle.rb_history.proofs.Counting.{Counted, counted-split, counted-same}
 use Rattle.rb_ring.proofs.ring.RingState.counts.Goals as goal
 
-counted : (c : goal.After-reserved_in-busy) →
-    Counted (setup_of c.self.inside) c.self.inside.history.items c.self.inside.records.items c.self.inside.producer c.self.inside.consumer c.self.invariant.kept
-    c.grants_in-made.result c.refusals_in-refused.result c.discards_in-discarded.result c.submitted_in-waiting.result c.reserved_in-busy.result
-counted c = record {
-  made_is = c.grants_in-made.ensures.count ∙ ap (count_by is_grant) c.deref.ensures.value;
-  refused_is = c.refusals_in-refused.ensures.count ∙ ap (count_by is_refusal) c.deref-2.ensures.value;
-  discarded_is = c.discards_in-discarded.ensures.count ∙ ap (count_by is_discarding) c.deref-3.ensures.value;
-  waiting_is = c.submitted_in-waiting.ensures.count;
-  busy_is = c.reserved_in-busy.ensures.count;
-}
+counted : (c : goal.After-self) → Counted (setup_of c.self.inside) c.self.inside.history.items (rows c.self.inside) c.self.inside.producer c.self.inside.consumer c.self.invariant.kept c.self.inside.running.made c.self.inside.running.refused c.self.inside.running.discarded c.self.inside.running.waiting c.self.inside.running.busy
+counted c =
+    let n = c.self.invariant.counted in
+    record { made_is = n.made_is; refused_is = n.refused_is; discarded_is = n.discarded_is; waiting_is = n.waiting_is; busy_is = n.busy_is }
 
 pub overflow_sub-result : goal.overflow_sub-result
 overflow_sub-result c = omega (arith, counted-split _ _ _ _ _ c.self.invariant.kept _ _ _ _ _ (counted c))

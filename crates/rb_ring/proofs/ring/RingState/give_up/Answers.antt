@@ -1,35 +1,118 @@
-use Rattle.std.proofs.Common.{arith, refl}
+use Rattle.std.proofs.Common.{◌≡◌, ℕ, ◌+◌, ◌<◌, ◌≤◌, arith, List, [], ◌∷◌, ◌++◌, length, sym, ◌∙◌, ap, refl, set, get_or, Some, map, is_some, true, subst}
+use Rattle.std.proofs.lemmas.List.{length-set}
 use Rattle.std.proofs.lemmas.List.Elements.{All-set}
-use Rattle.rb_history.specs.declared.stored.RecordState.TheVariants.{Discarded as DiscardedState}
-use Rattle.rb_ring.specs.Body.{setup_of}
-use Rattle.rb_history.specs.Stored.{IsSized}
+use Rattle.rb_history.specs.declared.entries.Entry.TheVariants.{Dis}
+use Rattle.rb_history.specs.declared.stored.StoredRecord.{StoredRecord}
+use Rattle.rb_history.specs.declared.stored.RecordState.TheVariants.{Reserved, Submitted, Discarded as DiscardedState}
+use Rattle.rb_history.specs.Rows.{Kept}
+use Rattle.rb_history.specs.Stored.{IsSized, shown_record}
+use Rattle.rb_history.specs.Rows.{IsBusyAt}
+use Rattle.rb_ring.specs.Table.{at, Parts}
+use Rattle.rb_ring.specs.Body.{setup_of, rows, record_or, IsKept, Holding, walk}
+use Rattle.rb_ring.specs.declared.ring.RingState.TheInside.{Inside}
+use Rattle.rb_history.proofs.Settling.{BusyRecord, kept-drop, contents-drop, owed-set}
+use Rattle.rb_ring.proofs.Walking.{length-walk, at-names, Writes}
 use Rattle.rb_history.proofs.Tallies.{tally-quiet}
-use Rattle.rb_history.proofs.Settling.{busy-record, kept-drop, contents-drop, owed-set}
+use Rattle.rb_ring.proofs.Tallying.{bit, count-push, count-set, count-most}
+use Rattle.rb_ring.proofs.Bodies.{if-some-at, some-there, rows-are, there-at, settled, busy-among, found-among, busy-counts, few-counted}
+use Rattle.rb_history.specs.Counting.{is_grant, is_refusal, is_discarding}
+use Rattle.rb_history.specs.Stored.{is_reserved_state, is_submitted_state}
+use Rattle.std.specs.List.{count_by}
 use Rattle.rb_ring.proofs.ring.RingState.give_up.Goals as goal
+
+pub give_up-requires : goal.give_up-requires
+give_up-requires c =
+    let a = c.self.inside in
+    let q : (i : ℕ) × IsBusyAt (map shown_record (rows a)) i c.args.pos c.args.len = rw (← c.self.view_is) at c.requires in
+    some-there (at a.table c.args.pos) _ (there-at (at a.table) (rows a) q.0 (found-among (rows a) q.0) c.args.pos c.args.len c.self.invariant.holding (busy-among (rows a) q.0 c.args.pos c.args.len q.1))
+
+pub overflow_sub-self : goal.overflow_sub-self
+overflow_sub-self c =
+    let a = c.self.inside in
+    let q : (i : ℕ) × IsBusyAt (map shown_record (rows a)) i c.args.pos c.args.len = rw (← c.self.view_is) at c.requires in
+    omega (arith, c.self.invariant.counted.busy_is, busy-counts (rows a) q.0 (found-among (rows a) q.0) c.args.pos c.args.len (busy-among (rows a) q.0 c.args.pos c.args.len q.1))
+
+-- ---- what the call leaves
+
+index : (c : goal.After-self-2-1) → (i : ℕ) × IsBusyAt (map shown_record (rows c.self.inside)) i c.args.pos c.args.len
+index c = rw (← c.self.view_is) at c.requires
+
+old : (c : goal.After-self-2-1) → StoredRecord
+old c = found-among (rows c.self.inside) (index c).0
+
+busy : (c : goal.After-self-2-1) → BusyRecord (rows c.self.inside) (index c).0 (old c) c.args.pos c.args.len
+unfolding old
+busy c = busy-among (rows c.self.inside) (index c).0 c.args.pos c.args.len (index c).1
+
+abbrev left : goal.After-self-2-1 → List StoredRecord
+left c = set (rows c.self.inside) (index c).0 (record (old c) { state = DiscardedState })
+
+kept : (c : goal.After-self-2-1) → Kept (setup_of c.self.inside) (c.self.inside.history.items ++ Dis c.args.pos ∷ []) (map shown_record (left c)) c.self.inside.producer c.self.inside.consumer
+kept c =
+    let a = c.self.inside in
+    kept-drop (setup_of a) a.history.items (rows a) (index c).0 (old c) c.args.pos c.args.len a.producer a.consumer (busy c) c.self.invariant.kept
+
+hold : (c : goal.After-self-2-1) → Holding (at c.give_up.new.self) (left c)
+hold c =
+    let a = c.self.inside in
+    let i = c.self.invariant in
+    let t = old c in
+    let here = there-at (at a.table) (rows a) (index c).0 t c.args.pos c.args.len i.holding (busy c) in
+    let wrote : Writes (at a.table) (at c.give_up.new.self) c.args.pos (Some (record t { state = DiscardedState })) =
+    if-some-at (at a.table c.args.pos) t (λ s. Writes (at a.table) (at c.give_up.new.self) c.args.pos (Some (record s { state = DiscardedState }))) here c.give_up.ensures.records in
+    settled (at a.table) (at c.give_up.new.self) a.consumer (rows a) a.producer (index c).0 t (record t { state = DiscardedState }) c.args.pos c.args.len i.kept.in_row (busy c) refl wrote (at-names a.table) i.holding
+
+same : (c : goal.After-self-2-1) → walk (at c.give_up.new.self) c.give_up.new.self.live c.self.inside.consumer ≡ left c
+same c =
+    let a = c.self.inside in
+    rows-are (at c.give_up.new.self) c.give_up.new.self.live a.consumer (left c) a.producer (kept c).in_row (hold c)
+    (omega (arith, length-set (rows a) (index c).0 (record (old c) { state = DiscardedState }), length-walk (at a.table) a.table.live a.consumer, c.give_up.ensures.live))
+
+-- the record that was busy no longer is
+freed : (c : goal.After-self-2-1) → count_by (λ s. is_reserved_state s.state) (left c) + 1 ≡ count_by (λ s. is_reserved_state s.state) (rows c.self.inside)
+freed c =
+    let b = busy c in
+    let on : bit (is_reserved_state (old c).state) ≡ 1 = rw b.held refl in
+    omega (arith, on, count-set (λ (s : StoredRecord). is_reserved_state s.state) (rows c.self.inside) (index c).0 (old c) (record (old c) { state = DiscardedState }) b.within b.there)
+
+moved : (c : goal.After-self-2-1) → count_by (λ s. is_submitted_state s.state) (left c) ≡ count_by (λ s. is_submitted_state s.state) (rows c.self.inside) + 0
+moved c =
+    let b = busy c in
+    let off : bit (is_submitted_state (old c).state) ≡ 0 = rw b.held refl in
+    omega (arith, off, count-set (λ (s : StoredRecord). is_submitted_state s.state) (rows c.self.inside) (index c).0 (old c) (record (old c) { state = DiscardedState }) b.within b.there)
 
 pub invariant_of-self : goal.invariant_of-self
 invariant_of-self c =
     let a = c.self.inside in
     let i = c.self.invariant in
-    let t = c.index_mut.result.now in
-    let b = busy-record a.records.items c.args.index t c.args.pos c.args.len (rw (← c.self.view_is) at c.requires) c.index_mut.ensures.value in
-    let owed = owed-set a.records.items c.args.index t (record t { state = DiscardedState }) b.within b.there b.held refl in
+    let b = busy c in
+    let n = i.counted in
+    let frees = freed c in
+    let waits = moved c in
     record {
       size = i.size;
       start = i.start;
+      workers = i.workers;
       limit = i.limit;
       space = i.space;
-      kept = rw c.push_reserved.ensures.items (kept-drop (setup_of a) a.history.items a.records.items c.args.index t c.args.pos c.args.len a.producer a.consumer b i.kept);
-      sized = All-set IsSized a.records.items c.args.index (record t { state = DiscardedState }) tt i.sized;
-      workers = i.workers;
-      tallied = rw c.push_reserved.ensures.items (tally-quiet a.serials.items a.history.items a.workers _ (λ w. refl) i.tallied);
-      owed_is = omega (arith, i.owed_is, owed);
-      room = omega (arith, i.room, owed, i.owed_is, c.push_reserved.ensures.len, c.push_reserved.ensures.capacity);
+      aligned = i.aligned;
+      table_size = c.give_up.ensures.size ∙ i.table_size;
+      kept = rw (same c) (subst (λ hs. Kept (setup_of a) hs (map shown_record (left c)) a.producer a.consumer) (sym c.push_reserved.ensures.items) (kept c));
+      holding = rw (same c) (hold c);
+      sized = rw (same c) (All-set IsSized (rows a) (index c).0 (record (old c) { state = DiscardedState }) tt i.sized);
+      tallied = rw c.push_reserved.ensures.items (tally-quiet a.serials.items a.history.items a.workers (Dis c.args.pos) (λ w. refl) i.tallied);
+      counted = record {
+        made_is = rw c.push_reserved.ensures.items (omega (arith, n.made_is, count-push is_grant a.history.items (Dis c.args.pos)));
+        refused_is = rw c.push_reserved.ensures.items (omega (arith, n.refused_is, count-push is_refusal a.history.items (Dis c.args.pos)));
+        discarded_is = rw c.push_reserved.ensures.items (omega (arith, n.discarded_is, count-push is_discarding a.history.items (Dis c.args.pos)));
+        waiting_is = rw (same c) (omega (arith, n.waiting_is, waits));
+        busy_is = rw (same c) (omega (arith, n.busy_is, frees));
+      };
+      room = omega (arith, i.room, c.give_up.ensures.live, n.busy_is, frees, c.push_reserved.ensures.len, c.push_reserved.ensures.capacity);
     }
 
 pub returns-clause-contents : goal.returns-clause-contents
 returns-clause-contents c =
     let a = c.self.inside in
-    let b = busy-record a.records.items c.args.index c.index_mut.result.now c.args.pos c.args.len (rw (← c.self.view_is) at c.requires) c.index_mut.ensures.value in
-    rw (← c.self.view_is)
-    (contents-drop (setup_of a) a.history.items a.records.items c.args.index c.index_mut.result.now c.args.pos c.args.len a.producer a.consumer b c.self.invariant.kept)
+    rw (← c.self.view_is, same c)
+    (contents-drop (setup_of a) a.history.items (rows a) (index c).0 (old c) c.args.pos c.args.len a.producer a.consumer (busy c) c.self.invariant.kept)

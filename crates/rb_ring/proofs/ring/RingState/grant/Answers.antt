@@ -1,16 +1,53 @@
-use Rattle.std.proofs.Common.{◌≡◌, ◌<◌, arith, [], ◌∷◌, ◌++◌, sym, ◌∙◌, ap, refl}
+use Rattle.std.proofs.Common.{◌≡◌, ◌≢◌, ℕ, ◌+◌, ◌-◌, ◌<◌, ◌≤◌, ◌^◌, ◌*◌, arith, List, [], ◌∷◌, ◌++◌, length, get_or, set, sym, ◌∙◌, ap, refl, subst, map, Some}
+use Rattle.std.specs.List.{count_by}
+use Rattle.std.proofs.lemmas.List.{length_push, map-append}
 use Rattle.std.proofs.lemmas.List.Elements.{All-push}
+use Rattle.rb_header.specs.Span.{span}
+use Rattle.rb_history.specs.History.{grants}
+use Rattle.rb_history.specs.Counting.{is_grant, is_refusal, is_discarding}
 use Rattle.rb_history.specs.declared.entries.Entry.TheVariants.{Res}
+use Rattle.rb_history.specs.Legal.{Fits}
 use Rattle.rb_history.specs.declared.stored.StoredRecord.{StoredRecord}
 use Rattle.rb_history.specs.declared.stored.RecordState.TheVariants.{Reserved}
-use Rattle.rb_history.specs.History.{grants}
-use Rattle.rb_history.specs.Legal.{Fits}
-use Rattle.rb_history.specs.Stored.{IsSized}
-use Rattle.rb_history.proofs.Settling.{kept-grant, owed-push, on-ok}
+use Rattle.rb_history.specs.Rows.{Kept}
+use Rattle.rb_history.specs.Stored.{IsSized, shown_record, is_reserved_state, is_submitted_state}
+use Rattle.rb_history.specs.Tallies.{Tallied}
+use Rattle.rb_history.proofs.Settling.{kept-grant, on-ok}
 use Rattle.rb_history.proofs.Contents.{contents-push}
 use Rattle.rb_history.proofs.Tallies.{tally-grant, grants-low, serial-is}
-use Rattle.rb_ring.specs.Body.{setup_of}
+use Rattle.rb_ring.specs.Table.{at, written, place}
+use Rattle.rb_ring.specs.Body.{setup_of, rows, walk, IsKept, Holding}
+use Rattle.rb_ring.proofs.Tallying.{count-push}
+use Rattle.rb_ring.proofs.Walking.{length-walk, at-names, holding-push}
+use Rattle.rb_ring.proofs.Bodies.{few, walk-same, holding-same, rows-are, room-apart}
 use Rattle.rb_ring.proofs.ring.RingState.grant.Goals as goal
+
+pub make_room-requires : goal.make_room-requires
+make_room-requires c =
+    let i = c.self.invariant in
+    omega (arith, few c.self.inside i, i.space, i.size.2)
+
+pub invariant_of-self-then-is_err-2 : goal.invariant_of-self-then-is_err-2
+invariant_of-self-then-is_err-2 c =
+    let a = c.self.inside in
+    let i = c.self.invariant in
+    let same : walk (at c.make_room.new.self) c.make_room.new.self.live a.consumer ≡ rows a =
+    walk-same (at a.table) (at c.make_room.new.self) c.make_room.ensures.records c.make_room.new.self.live a.table.live a.consumer c.make_room.ensures.live in
+    record {
+      size = i.size;
+      start = i.start;
+      workers = i.workers;
+      limit = i.limit;
+      space = i.space;
+      aligned = i.aligned;
+      table_size = c.make_room.ensures.size ∙ i.table_size;
+      kept = rw (same, c.reserve.ensures.items) i.kept;
+      holding = rw same (holding-same (at a.table) (at c.make_room.new.self) c.make_room.ensures.records (rows a) i.holding);
+      sized = rw same i.sized;
+      tallied = rw c.reserve.ensures.items i.tallied;
+      counted = rw (same, c.reserve.ensures.items) i.counted;
+      room = omega (arith, i.room, c.reserve.ensures.len, c.reserve.ensures.capacity, c.make_room.ensures.live);
+    }
 
 pub overflow_add-serial : goal.overflow_add-serial
 overflow_add-serial c =
@@ -19,41 +56,94 @@ overflow_add-serial c =
     let known : c.args.worker < a.workers = rw (← c.self.view_is) at c.requires.worker in
     omega (arith, serial-is a.serials.items a.history.items a.workers c.args.worker c.index-serial.result.now i.tallied known c.index-serial.ensures, grants-low c.args.worker a.history.items, i.kept.producer_is, i.limit)
 
-known : (c : goal.After-self-3-1) → c.args.worker < c.self.inside.workers
+pub put-requires-clause-short : goal.put-requires-clause-short
+put-requires-clause-short c =
+    let i = c.self.invariant in
+    let fits : Fits (setup_of c.self.inside) c.self.inside.history.items c.args.n = rw (← c.self.view_is) at (c.has_room.ensures.test.0 c.if-not-has_room.false) in
+    omega (arith, fits.space, few c.self.inside i, i.kept.producer_is, i.kept.consumer_is, i.size.2)
+
+pub put-requires-clause-apart : goal.put-requires-clause-apart
+put-requires-clause-apart c q there =
+    let a = c.self.inside in
+    let i = c.self.invariant in
+    let t = c.make_room.new.self in
+    let size_is = c.make_room.ensures.size ∙ i.table_size in
+    room-apart t a.consumer (rows a) a.producer i.kept.in_row i.aligned (rw size_is i.size) (omega (arith, size_is, i.space, i.size.1))
+    (holding-same (at a.table) (at t) c.make_room.ensures.records (rows a) i.holding) q there (at-names t)
+
+-- ---- what the call leaves
+
+abbrev new : goal.After-self-4-1 → StoredRecord
+new c = record { pos = c.self.inside.producer; len = c.args.n; worker = c.args.worker; serial = c.index-serial.result.now; state = Reserved }
+
+known : (c : goal.After-self-4-1) → c.args.worker < c.self.inside.workers
 known c = rw (← c.self.view_is) at c.requires.worker
 
-serial_is : (c : goal.After-self-3-1) → c.index-serial.result.now ≡ grants c.args.worker c.self.inside.history.items
+serial_is : (c : goal.After-self-4-1) → c.index-serial.result.now ≡ grants c.args.worker c.self.inside.history.items
 serial_is c =
     let a = c.self.inside in
     serial-is a.serials.items a.history.items a.workers c.args.worker c.index-serial.result.now c.self.invariant.tallied (known c) c.index-serial.ensures
 
-room_is : (c : goal.After-self-3-1) → Fits (setup_of c.self.inside) c.self.inside.history.items c.args.n
-room_is c = rw (← c.self.view_is) at (c.has_room.ensures.test.0 c.if-not-has_room.false)
+room : (c : goal.After-self-4-1) → Fits (setup_of c.self.inside) c.self.inside.history.items c.args.n
+room c = rw (← c.self.view_is) at (c.has_room.ensures.test.0 c.if-not-has_room.false)
 
-newest : goal.After-self-3-1 → StoredRecord
-newest c = record { pos = c.self.inside.producer; len = c.args.n; worker = c.args.worker; serial = c.index-serial.result.now; state = Reserved }
+kept : (c : goal.After-self-4-1) →
+    Kept (setup_of c.self.inside) (c.self.inside.history.items ++ Res c.args.worker c.index-serial.result.now c.args.n c.self.inside.producer ∷ []) (map shown_record (rows c.self.inside ++ new c ∷ [])) (c.self.inside.producer + span c.args.n) c.self.inside.consumer
+kept c =
+    let a = c.self.inside in
+    kept-grant (setup_of a) a.history.items (rows a) a.producer a.consumer c.args.worker c.index-serial.result.now c.args.n c.self.invariant.kept (known c) (serial_is c) (room c)
+
+hold : (c : goal.After-self-4-1) → Holding (at c.put.new.self) (rows c.self.inside ++ new c ∷ [])
+hold c =
+    let a = c.self.inside in
+    let i = c.self.invariant in
+    holding-push (at a.table) (at c.put.new.self) a.consumer (rows a) a.producer (new c) i.kept.in_row refl
+    (λ q. c.put.ensures.records q ∙ ap (λ o. written o a.producer (Some (new c)) q) (c.make_room.ensures.records q)) i.holding
+
+same : (c : goal.After-self-4-1) → walk (at c.put.new.self) c.put.new.self.live c.self.inside.consumer ≡ rows c.self.inside ++ new c ∷ []
+same c =
+    let a = c.self.inside in
+    rows-are (at c.put.new.self) c.put.new.self.live a.consumer (rows a ++ new c ∷ []) (a.producer + span c.args.n) (kept c).in_row (hold c)
+    (omega (arith, c.put.ensures.live, c.make_room.ensures.live, length_push (rows a) (new c), length-walk (at a.table) a.table.live a.consumer))
+
+logged : (c : goal.After-self-4-1) → c.push_reserved.new.self.items ≡ c.self.inside.history.items ++ Res c.args.worker c.index-serial.result.now c.args.n c.self.inside.producer ∷ []
+logged c = c.push_reserved.ensures.items ∙ ap (λ l. l ++ Res c.args.worker c.index-serial.result.now c.args.n c.self.inside.producer ∷ []) c.reserve.ensures.items
 
 pub invariant_of-self-2 : goal.invariant_of-self-2
-unfolding newest
 invariant_of-self-2 c =
     let a = c.self.inside in
     let i = c.self.invariant in
-    let room = room_is c in
-    let owed = owed-push a.records.items (newest c) refl in
+    let n = i.counted in
+    let fits = room c in
+    let made = count-push is_grant a.history.items (Res c.args.worker c.index-serial.result.now c.args.n a.producer) in
+    let refused = count-push is_refusal a.history.items (Res c.args.worker c.index-serial.result.now c.args.n a.producer) in
+    let discarded = count-push is_discarding a.history.items (Res c.args.worker c.index-serial.result.now c.args.n a.producer) in
+    let waiting = count-push (λ (s : StoredRecord). is_submitted_state s.state) (rows a) (new c) in
+    let busy = count-push (λ (s : StoredRecord). is_reserved_state s.state) (rows a) (new c) in
     record {
       size = i.size;
       start = i.start;
       workers = i.workers;
-      limit = omega (arith, room.limit, i.kept.producer_is, c.span.ensures.value);
-      space = omega (arith, room.space, i.kept.producer_is, i.kept.consumer_is, c.span.ensures.value);
-      kept = rw (c.push_reserved.ensures.items, c.reserve.ensures.items, c.push_last.ensures.items, c.reserve-else-is_err.ensures.items, c.span.ensures.value)
-          (kept-grant (setup_of a) a.history.items a.records.items a.producer a.consumer c.args.worker c.index-serial.result.now c.args.n i.kept (known c) (serial_is c) room);
-      sized = rw (c.push_last.ensures.items, c.reserve-else-is_err.ensures.items) (All-push IsSized a.records.items (newest c) i.sized tt);
-      tallied = rw (c.push_reserved.ensures.items, c.reserve.ensures.items)
-          (tally-grant a.serials.items a.history.items a.workers c.args.worker c.index-serial.result.now c.args.n a.producer (known c) (serial_is c ∙ sym (i.tallied.each c.args.worker (known c))) i.tallied);
-      owed_is = rw (c.push_last.ensures.items, c.reserve-else-is_err.ensures.items) (omega (arith, i.owed_is, owed));
+      limit = omega (arith, fits.limit, i.kept.producer_is, c.span.ensures.value);
+      space = omega (arith, fits.space, i.kept.producer_is, i.kept.consumer_is, c.span.ensures.value);
+      aligned = i.aligned;
+      table_size = c.put.ensures.size ∙ c.make_room.ensures.size ∙ i.table_size;
+      kept = rw (same c, c.span.ensures.value) (subst (λ hs. Kept (setup_of a) hs (map shown_record (rows a ++ new c ∷ [])) (a.producer + span c.args.n) a.consumer) (sym (logged c)) (kept c));
+      holding = rw (same c) (hold c);
+      sized = rw (same c) (All-push IsSized (rows a) (new c) i.sized tt);
+      tallied = subst (λ hs. Tallied (set a.serials.items c.args.worker (c.index-serial.result.now + 1)) hs a.workers) (sym (logged c)) (tally-grant a.serials.items a.history.items a.workers c.args.worker c.index-serial.result.now c.args.n a.producer (known c) (serial_is c ∙ sym (i.tallied.each c.args.worker (known c))) i.tallied);
+      counted = record {
+        made_is = rw (logged c) (omega (arith, n.made_is, made));
+        refused_is = rw (logged c) (omega (arith, n.refused_is, refused));
+        discarded_is = rw (logged c) (omega (arith, n.discarded_is, discarded));
+        waiting_is = rw (same c) (omega (arith, n.waiting_is, waiting));
+        busy_is = rw (same c) (omega (arith, n.busy_is, busy));
+      };
       room = omega (
         arith,
+        c.live.ensures,
+        c.put.ensures.live,
+        c.make_room.ensures.live,
         c.reserve.ensures.len,
         c.push_reserved.ensures.len,
         c.push_reserved.ensures.capacity,
@@ -62,14 +152,15 @@ invariant_of-self-2 c =
     }
 
 pub returns-clause-granted : goal.returns-clause-granted
-unfolding newest
 returns-clause-granted c =
     let a = c.self.inside in
-    let k = c.self.invariant.kept in
     rw (← c.self.view_is) (record {
-      room = room_is c;
-      position = k.producer_is;
+      room = room c;
+      position = c.self.invariant.kept.producer_is;
       serial = serial_is c;
-      logged = record { setup_same = refl; history_is = c.push_reserved.ensures.items ∙ ap (λ l. l ++ Res c.args.worker c.index-serial.result.now c.args.n a.producer ∷ []) c.reserve.ensures.items };
-      contents_same = rw (c.push_last.ensures.items, c.reserve-else-is_err.ensures.items) (contents-push a.records.items (newest c) refl);
+      logged = record { setup_same = refl; history_is = logged c };
+      contents_same = rw (same c) (contents-push (rows a) (new c) refl);
     })
+
+pub returns-clause-shown : goal.returns-clause-shown
+returns-clause-shown c = rw (← c.self.view_is, same c) (map-append shown_record (rows c.self.inside) (new c ∷ []))

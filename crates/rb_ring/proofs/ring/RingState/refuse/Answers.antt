@@ -3,13 +3,17 @@ use Rattle.rb_history.specs.Stored.{shown_record}
 use Rattle.rb_history.proofs.Kept.{kept-full}
 use Rattle.rb_history.proofs.Settling.{on-ok}
 use Rattle.rb_history.proofs.Tallies.{tally-quiet}
-use Rattle.rb_ring.specs.Body.{setup_of}
+use Rattle.rb_history.specs.declared.entries.Entry.TheVariants.{Full}
+use Rattle.rb_history.specs.Counting.{is_grant, is_refusal, is_discarding}
+use Rattle.rb_ring.proofs.Tallying.{count-push}
+use Rattle.rb_ring.specs.Body.{setup_of, rows}
 use Rattle.rb_ring.proofs.ring.RingState.refuse.Goals as goal
 
 pub invariant_of-self-2 : goal.invariant_of-self-2
 invariant_of-self-2 c =
     let a = c.self.inside in
     let i = c.self.invariant in
+    let n = i.counted in
     record {
       size = i.size;
       start = i.start;
@@ -17,10 +21,19 @@ invariant_of-self-2 c =
       limit = i.limit;
       space = i.space;
       kept = rw (c.push_reserved.ensures.items, c.reserve.ensures.items)
-          (kept-full (setup_of a) a.history.items (map shown_record a.records.items) a.producer a.consumer c.args.worker c.args.n i.kept (rw (← c.self.view_is) at c.requires.worker) (rw (← c.self.view_is) at c.requires.full));
+          (kept-full (setup_of a) a.history.items (map shown_record (rows a)) a.producer a.consumer c.args.worker c.args.n i.kept (rw (← c.self.view_is) at c.requires.worker) (rw (← c.self.view_is) at c.requires.full));
       sized = i.sized;
       tallied = rw (c.push_reserved.ensures.items, c.reserve.ensures.items) (tally-quiet a.serials.items a.history.items a.workers _ (λ w. refl) i.tallied);
-      owed_is = i.owed_is;
+      aligned = i.aligned;
+      table_size = i.table_size;
+      holding = i.holding;
+      counted = record {
+        made_is = rw (c.push_reserved.ensures.items, c.reserve.ensures.items) (omega (arith, n.made_is, count-push is_grant a.history.items (Full c.args.worker c.args.n)));
+        refused_is = rw (c.push_reserved.ensures.items, c.reserve.ensures.items) (omega (arith, n.refused_is, count-push is_refusal a.history.items (Full c.args.worker c.args.n)));
+        discarded_is = rw (c.push_reserved.ensures.items, c.reserve.ensures.items) (omega (arith, n.discarded_is, count-push is_discarding a.history.items (Full c.args.worker c.args.n)));
+        waiting_is = n.waiting_is;
+        busy_is = n.busy_is;
+      };
       room = omega (
         arith,
         i.room,

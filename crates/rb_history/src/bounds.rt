@@ -1,0 +1,45 @@
+//! The tests of a ring's numbers, which every body of a ring makes.
+
+ghost use Rattle.std.specs.Prelude.{◌≡◌, ◌↔◌, IsTrue};
+ghost use Rattle.rb_history.specs.View.{IsSize, IsStart, IsWorkerCount};
+ghost use Rattle.rb_history.specs.Answers.{IsDue};
+
+use crate::answers::Notice;
+
+/// No position passes this: 2^62.
+pub const LIMIT: u64 = 1 << 62;
+
+/// Whether a ring may have this size: a power of two from 4,096 to 67,108,864.
+pub fn is_size(size: u64) -> bool
+    ensures test { IsTrue result ↔ IsSize size }
+{
+    if size < 4096 || size > 67_108_864 {
+        return false;
+    }
+    size.next_power_of_two() == size
+}
+
+/// Whether a ring may start here: at a multiple of 8, at most 2^61.
+pub fn is_start(start: u64) -> bool
+    ensures test { IsTrue result ↔ IsStart start }
+{
+    start % 8 == 0 && start <= 1 << 61
+}
+
+/// Whether a ring may have so many workers: 1 to 256.
+pub fn is_worker_count(workers: u32) -> bool
+    ensures test { IsTrue result ↔ IsWorkerCount workers }
+{
+    1 <= workers && workers <= 256
+}
+
+/// Whether the consumer, at its position, is to be told of the record at `pos`, under these flags.
+pub fn notice_for(consumer: u64, pos: u64, flags: u64) -> Notice
+    ensures due { (result ≡ Notice.Due) ↔ IsDue consumer pos flags }
+{
+    if flags & 2 != 0 || (flags & 1 == 0 && pos == consumer) {
+        Notice::Due
+    } else {
+        Notice::NotDue
+    }
+}

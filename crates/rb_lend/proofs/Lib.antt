@@ -1,0 +1,2 @@
+pub mod BlockMemory
+pub mod Laws

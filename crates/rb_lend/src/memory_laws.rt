@@ -1,0 +1,37 @@
+//! The laws of the memory that the parts show.
+
+ghost use Rattle.rb_lend.specs.MemoryLaws.{RangesAreAlone, WritesRange, LeavesOthers, FillsSlot, LeavesOtherSlots, LowestIsEmpty, NoneIsFull};
+
+use crate::context::Context;
+use crate::lent::Lent;
+
+/// Bytes that are written in the place of others leave what stands before and behind them.
+pub fn a_range_is_written_alone()
+    ensures { RangesAreAlone }
+{}
+
+/// After a write a part shows the new bytes in the range, and its old ones around it.
+pub fn a_write_shows<C: Context, R: Lent>()
+    ensures { WritesRange C.shown R.bytes_of R.with_bytes }
+{}
+
+/// A write leaves the other parts.
+pub fn a_write_leaves_the_other_parts<C: Context, R: Lent>()
+    ensures { LeavesOthers C.shown R.bytes_of R.with_bytes }
+{}
+
+/// A slot shows the bytes of the record that it holds, and none once the record is given out.
+pub fn a_slot_shows_what_it_holds<C: Context, R: Lent>()
+    ensures { FillsSlot C.shown R.bytes_of }
+{}
+
+/// Filling or emptying a slot leaves the other parts.
+pub fn a_slot_leaves_the_other_parts<C: Context, R: Lent>()
+    ensures { LeavesOtherSlots C.shown R.bytes_of }
+{}
+
+/// The lowest empty slot is empty, and where there is none, four records are held.
+pub fn four_are_held_where_no_slot_is_empty<R>()
+    ensures empty { LowestIsEmpty R }
+    ensures full { NoneIsFull R }
+{}

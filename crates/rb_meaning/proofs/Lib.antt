@@ -1,0 +1,16 @@
+mod Ids
+mod Records
+mod Held
+mod Values
+mod Changes
+mod Checks
+mod Rows
+mod Moves
+mod Sums
+mod Accesses
+mod Branches
+mod Calling
+mod Sound
+mod Running
+mod Worked
+pub mod Laws

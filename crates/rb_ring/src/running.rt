@@ -1,0 +1,40 @@
+//! The counts of a ring's history, kept from call to call.
+
+ghost use Rattle.std.specs.Prelude.{◌≡◌, ◌-◌, ◌≤◌};
+ghost use Rattle.rb_ring.specs.Running.{events, no_counts};
+
+use rb_history::Taken;
+
+/// How many records were granted, refused and discarded, and how many of those that are there wait or are busy.
+#[derive(Clone, Copy)]
+pub(crate) struct Running {
+    pub made: u64,
+    pub refused: u64,
+    pub discarded: u64,
+    pub waiting: u64,
+    pub busy: u64,
+}
+
+impl Running {
+    pub fn new() -> Running
+        ensures zeros { result ≡ no_counts }
+    {
+        Running {
+            made: 0,
+            refused: 0,
+            discarded: 0,
+            waiting: 0,
+            busy: 0,
+        }
+    }
+
+    /// Counts the record that was taken out of those that wait, where it was one.
+    pub fn take(&mut self, taken: &Taken)
+        requires some { events taken.now ≤ self.old.waiting }
+        ensures counts { self.new ≡ record self.old { waiting = self.old.waiting - events taken.now } }
+    {
+        if let Taken::Event(_, _, _, _) = taken {
+            self.waiting -= 1;
+        }
+    }
+}
