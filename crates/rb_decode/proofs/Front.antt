@@ -139,11 +139,11 @@ nonzero bytes h =
     elim (and_false (byte 8) (byte 9 && (byte 10 && byte 11)) h) [
       | inl e ↦ (8, omega arith, omega arith, not_zero_byte (slice_index bytes 8) e)
       | inr e ↦ elim (and_false (byte 9) (byte 10 && byte 11) e) [
-      | inl e ↦ (9, omega arith, omega arith, not_zero_byte (slice_index bytes 9) e)
-      | inr e ↦ elim (and_false (byte 10) (byte 11) e) [
-      | inl e ↦ (10, omega arith, omega arith, not_zero_byte (slice_index bytes 10) e)
-      | inr e ↦ (11, omega arith, omega arith, not_zero_byte (slice_index bytes 11) e)
-      ]
+        | inl e ↦ (9, omega arith, omega arith, not_zero_byte (slice_index bytes 9) e)
+        | inr e ↦ elim (and_false (byte 10) (byte 11) e) [
+          | inl e ↦ (10, omega arith, omega arith, not_zero_byte (slice_index bytes 10) e)
+          | inr e ↦ (11, omega arith, omega arith, not_zero_byte (slice_index bytes 11) e)
+        ]
       ]
     ]
 
