@@ -1,3 +1,4 @@
+pub mod Checked
 pub mod Fed
 pub mod Input
 pub mod Items

@@ -5,13 +5,15 @@ ghost use Rattle.std.specs.Io.KnownBytes.{Keeps};
 ghost use Rattle.rb_history.specs.View.{IsSize, IsStart};
 ghost use Rattle.rbhost.specs.Fed.{Tells, AnswersAlone, IsWholeInput};
 
+use crate::check::{CheckFault, check};
 use crate::faults::FeedFault;
 use crate::feed::feed;
-use crate::options::{Request, parse};
+use crate::options::{CheckOptions, Request, parse};
 use clap::Error;
 use clap::error::ErrorKind;
 use std::alloc::Global;
 use std::convert::AsStr;
+use std::fmt::Display;
 use std::io::{BufReader, BufWriter, Read, Write};
 
 /// Carries out the command that the words name, which stand behind the program's name on the command line, and answers the
@@ -29,6 +31,7 @@ pub fn command<S: AsStr, R: Read, W: Write, E: Write>(
 {
     match parse(alloc, words) {
         Ok(Request::Feed { size, start }) => feed_command(alloc, input, out, err, size, start),
+        Ok(Request::Check(options)) => check_command(alloc, input, out, err, options),
         Err(error) => tell(&error, out, err),
     }
 }
@@ -39,10 +42,10 @@ fn tell<W: Write, E: Write>(error: &Error, out: &mut W, err: &mut E) -> u8
     ensures usage { result ≡ 2 → Keeps (W.contents out.old) (W.contents out.new) }
 {
     match error.kind() {
-        ErrorKind::OutOfMemory => refuse(FeedFault::Memory, err),
+        ErrorKind::OutOfMemory => refuse(&FeedFault::Memory, err),
         ErrorKind::DisplayHelp => match write!(out, "{error}") {
             Ok(()) => 0,
-            Err(_) => refuse(FeedFault::Device, err),
+            Err(_) => refuse(&FeedFault::Device, err),
         },
         _ => {
             let _ = write!(err, "{error}");
@@ -68,7 +71,7 @@ fn feed_command<R: Read, W: Write, E: Write>(
             Ok(()) => 0,
             Err(_) => 1,
         },
-        Err(fault) => refuse(fault, err),
+        Err(fault) => refuse(&fault, err),
     }
 }
 
@@ -93,8 +96,27 @@ fn feed_buffered<R: Read, W: Write>(
     feed(alloc, &mut reader, &mut writer, size, start)
 }
 
+// Tells that a program was accepted, and what its run ended with.
+fn check_command<R: Read, W: Write, E: Write>(
+    alloc: Global,
+    input: &mut R,
+    out: &mut W,
+    err: &mut E,
+    options: CheckOptions,
+) -> u8
+    ensures status { result ≤ 1 }
+{
+    match check(alloc, input, options) {
+        Ok(value) => match writeln!(out, "accepted\nresult {value}") {
+            Ok(()) => 0,
+            Err(_) => refuse(&CheckFault::Device, err),
+        },
+        Err(fault) => refuse(&fault, err),
+    }
+}
+
 // The line of a refusal.
-fn refuse<E: Write>(fault: FeedFault, err: &mut E) -> u8
+fn refuse<F: Display, E: Write>(fault: &F, err: &mut E) -> u8
     ensures { result ≡ 1 }
 {
     let _ = writeln!(err, "refused {fault}");

@@ -1,6 +1,7 @@
 //! A host for eBPF programs that write into BPF ring buffers, as a program.
 #![tactic(auto)]
 
+mod check;
 mod command;
 mod device;
 mod faults;

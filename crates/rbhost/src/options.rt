@@ -1,6 +1,6 @@
 //! What the words of the command line ask for.
 
-ghost use Rattle.std.specs.Prelude.{◌<◌, ◌^◌};
+ghost use Rattle.std.specs.Prelude.{◌<◌, ◌≤◌, ◌^◌, IfOk};
 ghost use Rattle.std.specs.Option.{SomeIff};
 ghost use Rattle.std.specs.Str.Parse.{IsNumeral, digits_value};
 
@@ -14,6 +14,19 @@ use std::convert::AsStr;
 pub enum Request {
     /// Writes the tape of payloads: the ring's size and its first position.
     Feed { size: u64, start: u64 },
+    /// Verifies a program and runs it once.
+    Check(CheckOptions),
+}
+
+/// What a program is verified for.
+#[derive(Clone, Copy, Debug, PartialEq, Eq)]
+pub struct CheckOptions {
+    /// The length of the context in bytes, at most 65,536.
+    pub ctx_len: u32,
+    /// How many rings the program knows, at most 16.
+    pub rings: u32,
+    ghost short: { ctx_len ≤ 65536 },
+    ghost few: { rings ≤ 16 },
 }
 
 /// The command that these words name, which stand behind the program's name on the command line. An error is help that was
@@ -26,6 +39,10 @@ pub fn parse<S: AsStr>(alloc: Global, words: &[S]) -> Result<Request, Error> {
             size: number(alloc, &mut program, options, "size")?,
             start: number(alloc, &mut program, options, "start")?,
         }),
+        Some(("check", options)) => Ok(Request::Check(CheckOptions {
+            ctx_len: bounded(alloc, &mut program, options, "ctx", 65_536)?,
+            rings: bounded(alloc, &mut program, options, "rings", 16)?,
+        })),
         _ => Err(program.error(ErrorKind::MissingSubcommand, "no command was given")?),
     }
 }
@@ -37,7 +54,8 @@ fn program<'a>(alloc: Global) -> Result<Command<'a>, AllocError> {
         .about("A host for eBPF programs that write into BPF ring buffers")
         .no_binary_name(true)
         .subcommand_required(true)
-        .subcommand(feed(alloc)?)
+        .subcommand(feed(alloc)?)?
+        .subcommand(check(alloc)?)
 }
 
 fn feed<'a>(alloc: Global) -> Result<Command<'a>, AllocError> {
@@ -47,6 +65,27 @@ fn feed<'a>(alloc: Global) -> Result<Command<'a>, AllocError> {
         )
         .arg(size(alloc))?
         .arg(start(alloc))
+}
+
+fn check<'a>(alloc: Global) -> Result<Command<'a>, AllocError> {
+    Command::new(alloc, "check")
+        .about("Verifies a program, given as text in hex, and runs it once")
+        .arg(ctx(alloc))?
+        .arg(rings(alloc))
+}
+
+fn ctx<'a>(alloc: Global) -> Arg<'a> {
+    option(alloc, "ctx")
+        .value_name("N")
+        .default_value("16")
+        .help("The length of the context in bytes, at most 65536")
+}
+
+fn rings<'a>(alloc: Global) -> Arg<'a> {
+    option(alloc, "rings")
+        .value_name("N")
+        .default_value("1")
+        .help("How many rings the program knows, at most 16")
 }
 
 fn size<'a>(alloc: Global) -> Arg<'a> {
@@ -83,6 +122,24 @@ fn number(
             Err(program.error(ErrorKind::ValueValidation, message.as_str())?)
         }
     }
+}
+
+// The number that an option has, which is bounded.
+fn bounded(
+    alloc: Global,
+    program: &mut Command<'_>,
+    options: &ArgMatches<'_>,
+    name: &str,
+    most: u32,
+) -> Result<u32, Error>
+    ensures { IfOk result (λ n. n ≤ most) }
+{
+    let number = number(alloc, program, options, name)?;
+    if number <= u64::from(most) {
+        return Ok(number as u32);
+    }
+    let message = format!(in alloc; "the value of '--{name}' is above {most}")?;
+    Err(program.error(ErrorKind::ValueValidation, message.as_str())?)
 }
 
 // The number that decimal digits spell, if it is below 2^64. `parse` alone would take a plus in front.

@@ -1,3 +1,4 @@
+mod checking;
 mod commands;
 mod fakes;
 mod feeding;

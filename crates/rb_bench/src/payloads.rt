@@ -1,0 +1,23 @@
+//! The input that `rbhost feed` is measured with.
+
+use crate::fault::BenchFault;
+use std::alloc::Global;
+use std::io::{BufWriter, Write};
+
+/// The length of each payload in bytes.
+const LENGTH: u8 = 64;
+
+// How many payloads: 64,000,000 bytes of them, beside their lengths.
+const COUNT: u32 = 1_000_000;
+
+/// Writes the payloads, each behind its length in four bytes.
+pub(crate) fn write<W: Write>(alloc: Global, out: &mut W) -> Result<(), BenchFault> {
+    let mut out = BufWriter::new(alloc, out)?;
+    let mut payload = [42; 4 + LENGTH as usize];
+    payload[..4].copy_from_slice(&[LENGTH, 0, 0, 0]);
+    for _ in 0..COUNT {
+        out.write_all(&payload)?;
+    }
+    out.flush()?;
+    Ok(())
+}

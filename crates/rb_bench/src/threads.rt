@@ -1,0 +1,153 @@
+//! Records through the ring that threads share.
+
+ghost use Rattle.std.specs.Prelude.{◌≡◌, All};
+ghost use Rattle.rb_ledger.specs.Seats.{IsSameSeat, IsSameTaker};
+
+use crate::fault::BenchFault;
+use crate::one_thread::{FILL, SIZE};
+use rb_history::Taken;
+use rb_ledger::{ConsumerSeat, Seat, SharedRing, open};
+use rb_lend::{Lent, Sheet};
+use std::alloc::Global;
+use std::sync::Wait;
+use std::thread;
+use std::thread::{Threads, join_mut};
+
+/// What came of a run.
+#[derive(Clone, Copy, Debug, PartialEq, Eq)]
+pub(crate) struct Shared {
+    /// How many records the consumer was handed.
+    pub consumed: u64,
+    /// How often a producer found no room.
+    pub refused: u64,
+}
+
+/// Lets each of `producers` threads output `each` records of eight bytes, while another takes them all. A producer that
+/// finds no room, or no memory, lets the other threads go on and tries again.
+pub(crate) fn share<R: Threads + Wait + Sync>(
+    rt: &R,
+    alloc: Global,
+    producers: u32,
+    each: u32,
+) -> Result<Shared, BenchFault> {
+    let Ok((ring, mut seats, mut consumer)) = open(rt, alloc, 1, SIZE, 0, producers) else {
+        return Err(BenchFault::Memory);
+    };
+    let want = u64::from(producers) * u64::from(each);
+    run(
+        rt,
+        alloc,
+        &ring,
+        seats.as_mut_slice(),
+        &mut consumer,
+        each,
+        want,
+    );
+    let Ok(closing) = ring.close(rt, seats, consumer) else {
+        return Err(BenchFault::Lost);
+    };
+    let counts = closing.counts();
+    Ok(Shared {
+        consumed: counts.consumed,
+        refused: counts.refused,
+    })
+}
+
+// The producers and the consumer, each in a thread of its own, to the last record.
+fn run<R: Threads + Wait + Sync>(
+    rt: &R,
+    alloc: Global,
+    ring: &SharedRing,
+    seats: &mut [Seat],
+    consumer: &mut ConsumerSeat,
+    each: u32,
+    want: u64,
+)
+    requires seats { All (λ s. s.ring ≡ ring.now.ring) seats.old }
+    requires consumer { consumer.old.ring ≡ ring.now.ring }
+    ensures seats { All (λ s. s.ring ≡ ring.now.ring) seats.new }
+    ensures consumer { IsSameTaker consumer.old consumer.new }
+{
+    join_mut(
+        rt,
+        &mut ||
+            requires { consumer.now.ring ≡ ring.now.ring }
+            ensures { IsSameTaker consumer.entry.now consumer.exit.now }
+        { consume(rt, ring, consumer, want) },
+        &mut ||
+            requires { All (λ s. s.ring ≡ ring.now.ring) seats.now }
+            ensures { All (λ s. s.ring ≡ ring.entry.now.ring) seats.exit.now }
+        { produce_all(rt, alloc, ring, seats, each) },
+    );
+}
+
+// Each producer in a thread of its own.
+fn produce_all<R: Threads + Wait + Sync>(
+    rt: &R,
+    alloc: Global,
+    ring: &SharedRing,
+    seats: &mut [Seat],
+    each: u32,
+)
+    requires { All (λ s. s.ring ≡ ring.now.ring) seats.old }
+    ensures { All (λ s. s.ring ≡ ring.now.ring) seats.new }
+{
+    let threads = seats.len().max(1);
+    let work = move |_: usize, seat: &mut Seat|
+        requires { seat.now.ring ≡ ring.now.ring }
+        ensures { seat.exit.now.ring ≡ ring.entry.now.ring }
+    { produce(rt, alloc, ring, seat, each) };
+    thread::for_each_mut(rt, seats, threads, &work);
+}
+
+fn produce<R: Wait>(rt: &R, alloc: Global, ring: &SharedRing, seat: &mut Seat, each: u32)
+    requires { seat.old.ring ≡ ring.now.ring }
+    ensures { IsSameSeat seat.old seat.new }
+{
+    for _ in 0..each {
+        put(rt, alloc, ring, seat);
+    }
+}
+
+// Outputs one record, however often it finds no room.
+fn put<R: Wait>(rt: &R, alloc: Global, ring: &SharedRing, seat: &mut Seat)
+    requires { seat.old.ring ≡ ring.now.ring }
+    ensures { IsSameSeat seat.old seat.new }
+{
+    let mut sheet = filled(rt, alloc);
+    for _ in rt.forever() {
+        match ring.output(rt, seat, sheet, 0) {
+            Ok(_) => return,
+            Err((_, back)) => sheet = back,
+        }
+        thread::yield_now();
+    }
+    unreachable!()
+}
+
+// A sheet of eight bytes, once there is memory for it.
+fn filled<R: Wait>(rt: &R, alloc: Global) -> Sheet {
+    for _ in rt.forever() {
+        if let Ok(mut sheet) = Sheet::new(alloc, 8) {
+            sheet.bytes_mut().fill(FILL);
+            return sheet;
+        }
+        thread::yield_now();
+    }
+    unreachable!()
+}
+
+fn consume<R: Wait>(rt: &R, ring: &SharedRing, consumer: &mut ConsumerSeat, want: u64)
+    requires { consumer.old.ring ≡ ring.now.ring }
+    ensures { IsSameTaker consumer.old consumer.new }
+{
+    for _ in rt.forever() {
+        if consumer.consumed() >= want {
+            return;
+        }
+        match ring.take(rt, consumer) {
+            Ok(Taken::Event(_, _, _, _)) => {}
+            _ => thread::yield_now(),
+        }
+    }
+}

@@ -1,0 +1,9 @@
+mod Slots
+mod Tables
+mod Memories
+mod Nearness
+mod Giving
+mod Comparing
+mod Feasible
+mod Steady
+mod Reaching

@@ -1,0 +1,186 @@
+//! What each kind of instruction does, but for the calls.
+
+ghost use Rattle.std.specs.Prelude.{◌≡◌, ◌≢◌, ◌<◌, ◌^◌, length};
+ghost use Rattle.byteorder.specs.Endian.{little_number};
+ghost use Rattle.rb_alu.specs.Meaning.{IsArithmetic, IsConditional};
+ghost use Rattle.rb_refs.specs.Parts.{byte_count, signed_byte_count};
+ghost use Rattle.rb_meaning.specs.States.{pointed, register};
+ghost use Rattle.rb_meaning.specs.Steps.{Goes, Ends, Stuck, copied, computed, combined, loaded, signed_number, store, null_test, compared, exit};
+ghost use Rattle.rb_interp.specs.Shows.{state_of, IsNearValue, LeavesNear};
+ghost use Rattle.rb_interp.specs.Stored.{Rewrites};
+
+use crate::cpu::Core;
+use crate::numbers::{byte_count, number_in, signed_byte_count, signed_number_in};
+use crate::offsets::{behind, moved_back, moved_forward};
+use rb_alu::{jumps, value};
+use rb_insn::{BinaryOp, Condition, Insn, Operand, Reg, SignedSize, Size, Width};
+use rb_lend::{Context, Lent};
+use rb_meaning::{Place, Value};
+
+impl<C: Context, R: Lent> Core<C, R> {
+    /// A move of a number, a pointer or a ring.
+    pub(crate) fn copied(&mut self, insn: &Insn, dst: Reg, from: Value)
+        requires unit { self.old.unit < 2 ^ 31 }
+        requires meant { copied insn.now dst from (state_of R.bytes_of C.shown self.old) ≢ Stuck }
+        ensures goes { copied insn.now dst from (state_of R.bytes_of C.shown self.old) ≡ Goes (state_of R.bytes_of C.shown self.new) }
+        ensures memory { self.new.memory ≡ self.old.memory }
+    {
+        match from {
+            Value::Nothing => unreachable!(),
+            from => self.gives(insn, dst, from),
+        }
+    }
+
+    /// Arithmetic on two numbers.
+    pub(crate) fn computed(&mut self, insn: &Insn, dst: Reg, a: Value, b: Value)
+        requires unit { self.old.unit < 2 ^ 31 }
+        requires arithmetic { IsArithmetic insn.now }
+        requires meant { computed insn.now dst a b (state_of R.bytes_of C.shown self.old) ≢ Stuck }
+        ensures goes { computed insn.now dst a b (state_of R.bytes_of C.shown self.old) ≡ Goes (state_of R.bytes_of C.shown self.new) }
+        ensures memory { self.new.memory ≡ self.old.memory }
+    {
+        match (a, b) {
+            (Value::Number(a), Value::Number(b)) => {
+                self.gives(insn, dst, Value::Number(value(insn, a, b)));
+            }
+            _ => unreachable!(),
+        }
+    }
+
+    /// A sum or a difference that moves a pointer's offset, or arithmetic on two numbers.
+    pub(crate) fn combined(
+        &mut self,
+        insn: &Insn,
+        width: Width,
+        op: BinaryOp,
+        dst: Reg,
+        a: Value,
+        b: Value,
+    )
+        requires unit { self.old.unit < 2 ^ 31 }
+        requires arithmetic { IsArithmetic insn.now }
+        requires meant { LeavesNear dst (combined width op insn.now dst a b (state_of R.bytes_of C.shown self.old)) }
+        ensures goes { combined width op insn.now dst a b (state_of R.bytes_of C.shown self.old) ≡ Goes (state_of R.bytes_of C.shown self.new) }
+        ensures memory { self.new.memory ≡ self.old.memory }
+    {
+        match (a, b) {
+            (Value::Pointer(place, offset), Value::Number(by)) => match (width, op) {
+                (Width::W64, BinaryOp::Add) => {
+                    let to = moved_forward(offset, by);
+                    self.gives(insn, dst, Value::Pointer(place, to));
+                }
+                (Width::W64, BinaryOp::Sub) => {
+                    let to = moved_back(offset, by);
+                    self.gives(insn, dst, Value::Pointer(place, to));
+                }
+                _ => unreachable!(),
+            },
+            _ => self.computed(insn, dst, a, b),
+        }
+    }
+
+    /// A load that zero-extends.
+    pub(crate) fn loaded(&mut self, insn: &Insn, size: Size, dst: Reg, base: Value, offset: i16)
+        requires unit { self.old.unit < 2 ^ 31 }
+        requires near { IsNearValue base }
+        requires meant { let s = state_of R.bytes_of C.shown self.old in loaded insn.now dst (little_number (byte_count size)) (pointed s.memory base offset (byte_count size)) s ≢ Stuck }
+        ensures goes { let s = state_of R.bytes_of C.shown self.old in loaded insn.now dst (little_number (byte_count size)) (pointed s.memory base offset (byte_count size)) s ≡ Goes (state_of R.bytes_of C.shown self.new) }
+        ensures memory { self.new.memory ≡ self.old.memory }
+    {
+        match base {
+            Value::Pointer(place, start) => {
+                let at = behind(start, offset);
+                let number = number_in(size, self.memory.read(place, at, byte_count(size)));
+                self.gives(insn, dst, Value::Number(number));
+            }
+            _ => unreachable!(),
+        }
+    }
+
+    /// A load that sign-extends.
+    pub(crate) fn loaded_signed(
+        &mut self,
+        insn: &Insn,
+        size: SignedSize,
+        dst: Reg,
+        base: Value,
+        offset: i16,
+    )
+        requires unit { self.old.unit < 2 ^ 31 }
+        requires near { IsNearValue base }
+        requires meant { let s = state_of R.bytes_of C.shown self.old in loaded insn.now dst (signed_number (signed_byte_count size)) (pointed s.memory base offset (signed_byte_count size)) s ≢ Stuck }
+        ensures goes { let s = state_of R.bytes_of C.shown self.old in loaded insn.now dst (signed_number (signed_byte_count size)) (pointed s.memory base offset (signed_byte_count size)) s ≡ Goes (state_of R.bytes_of C.shown self.new) }
+        ensures memory { self.new.memory ≡ self.old.memory }
+    {
+        match base {
+            Value::Pointer(place, start) => {
+                let at = behind(start, offset);
+                let bytes = self.memory.read(place, at, signed_byte_count(size));
+                let number = signed_number_in(size, bytes);
+                self.gives(insn, dst, Value::Number(number));
+            }
+            _ => unreachable!(),
+        }
+    }
+
+    /// A store.
+    pub(crate) fn store(&mut self, insn: &Insn, size: Size, base: Value, offset: i16, from: Value)
+        requires unit { self.old.unit < 2 ^ 31 }
+        requires near { IsNearValue base }
+        requires stack { length self.old.memory.stack ≡ 512 }
+        requires meant { store insn.now base offset (byte_count size) from (state_of R.bytes_of C.shown self.old) ≢ Stuck }
+        ensures goes { store insn.now base offset (byte_count size) from (state_of R.bytes_of C.shown self.old) ≡ Goes (state_of R.bytes_of C.shown self.new) }
+        ensures same { Rewrites R.with_bytes self.old.memory.records self.new.memory.records }
+    {
+        match (base, from) {
+            (Value::Pointer(place, start), Value::Number(number)) => {
+                let at = behind(start, offset);
+                self.memory.store(place, at, byte_count(size), number);
+                self.along(insn, false);
+            }
+            _ => unreachable!(),
+        }
+    }
+
+    /// A conditional jump on two numbers, or a test of a pointer to a record against null.
+    pub(crate) fn compared(
+        &mut self,
+        insn: &Insn,
+        width: Width,
+        condition: Condition,
+        operand: Operand,
+        a: Value,
+        b: Value,
+    )
+        requires unit { self.old.unit < 2 ^ 31 }
+        requires conditional { IsConditional insn.now }
+        requires meant { compared insn.now (null_test width condition operand) a b (state_of R.bytes_of C.shown self.old) ≢ Stuck }
+        ensures goes { compared insn.now (null_test width condition operand) a b (state_of R.bytes_of C.shown self.old) ≡ Goes (state_of R.bytes_of C.shown self.new) }
+        ensures memory { self.new.memory ≡ self.old.memory }
+    {
+        match (a, b) {
+            (Value::Pointer(place, _), _) => match place {
+                Place::Record(_) => match condition {
+                    Condition::Equal => self.along(insn, false),
+                    Condition::NotEqual => self.along(insn, true),
+                    _ => unreachable!(),
+                },
+                Place::Stack => unreachable!(),
+                Place::Context => unreachable!(),
+            },
+            (Value::Number(a), Value::Number(b)) => self.along(insn, jumps(insn, a, b)),
+            _ => unreachable!(),
+        }
+    }
+
+    /// The result of the program.
+    pub(crate) fn result(&self) -> u64
+        requires { exit (register (state_of R.bytes_of C.shown self.now) 0) ≢ Stuck }
+        ensures { exit (register (state_of R.bytes_of C.shown self.now) 0) ≡ Ends result }
+    {
+        match self.register(Reg::R0) {
+            Value::Number(number) => number,
+            _ => unreachable!(),
+        }
+    }
+}

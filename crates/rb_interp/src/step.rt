@@ -1,0 +1,28 @@
+//! What a step does, and what comes next.
+
+use crate::request::Request;
+use rb_meaning::Asked;
+
+/// What a step did.
+#[derive(Drop)]
+pub enum Step<R> {
+    /// An instruction was executed, and another one comes next.
+    Went,
+    /// The program ended with this result.
+    Exit(u64),
+    /// The program made a call, and waits for its answer.
+    Call(Request<R>),
+}
+
+/// What comes next.
+#[derive(Clone, Copy, Debug, PartialEq, Eq)]
+pub enum Phase {
+    /// An instruction.
+    Ready,
+    /// The answer of a call.
+    Waiting(Asked),
+    /// Nothing: the program ended with this result.
+    Exited(u64),
+    /// Nothing: a record was handed back.
+    Strayed,
+}

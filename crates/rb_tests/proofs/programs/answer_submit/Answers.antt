@@ -1,0 +1,5 @@
+use Rattle.rb_meaning.specs.declared.asked.Asked.TheVariants.{GiveBack}
+use Rattle.rb_tests.proofs.programs.answer_submit.Goals as goal
+
+pub returns : goal.returns
+returns c = record { ready = (c.answer.ensures.goes_on GiveBack c.requires.waits).1 }

@@ -1,0 +1,130 @@
+//! Programs that call helpers, one instruction at a time and to their ends.
+
+ghost use Rattle.std.specs.Prelude.{◌≡◌, IfSome, replicate};
+ghost use Rattle.rb_meaning.specs.declared.asked.Asked.TheVariants.{Reserve, GiveBack};
+ghost use Rattle.rb_interp.specs.declared.step.Phase.TheVariants.{Ready, Waiting};
+
+use rb_cfg::shape;
+use rb_decode::from_text;
+use rb_helpers::Listed;
+use rb_interp::{Answer, Machine, Request, Step, run};
+use rb_lend::{Lent, Sheet};
+use rb_verifier::{Verified, verify};
+use std::alloc::Global;
+use std::test::Fail;
+
+const CONTEXT: [u8; 16] = [0; 16];
+
+// Reserves a record of eight bytes, and submits 42 where it was granted.
+const SUBMIT_42: &str = "1851000000000000 0000000000000000 b702000008000000 b703000000000000
+    8500000083000000 1500040000000000 7a0000002a000000 bf01000000000000
+    b702000000000000 8500000084000000 b700000000000000 9500000000000000";
+
+// A program, verified for a context of 16 bytes and one ring.
+fn verified(alloc: Global, text: &str) -> Result<Verified, Fail> {
+    let program = from_text(alloc, text)?;
+    Ok(verify(alloc, shape(alloc, program)?, 16, 1)?)
+}
+
+type Running<'p> = Machine<'p, &'static [u8], Sheet>;
+
+// Answers a reservation: with a record, or with null.
+fn answer_reserve(machine: &mut Running<'_>, len: u32, granted: Option<Sheet>)
+    requires waits { machine.old.phase ≡ Waiting (Reserve len) }
+    requires zeros { IfSome granted (λ r. r ≡ replicate len 0) }
+    ensures ready { machine.new.phase ≡ Ready }
+{
+    match granted {
+        Some(sheet) => machine.answer(Answer::Granted(sheet)),
+        None => machine.answer(Answer::Null),
+    }
+}
+
+// Takes the record that was submitted.
+fn answer_submit(machine: &mut Running<'_>)
+    requires waits { machine.old.phase ≡ Waiting GiveBack }
+    ensures ready { machine.new.phase ≡ Ready }
+{
+    machine.answer(Answer::Taken);
+}
+
+// How many instructions a program executes to its end, and the bytes that it submits, where reservations are granted or not.
+fn executed(alloc: Global, program: &Verified, grants: bool) -> Result<(u32, Vec<u8>), Fail> {
+    let mut submitted = Vec::new(alloc);
+    let Ok(mut machine) = Machine::new(program, CONTEXT.as_slice()) else {
+        return Err(Fail::from("no machine"));
+    };
+    for count in 1..=16 {
+        match machine.step() {
+            Step::Went => {}
+            Step::Exit(_) => return Ok((count, submitted)),
+            Step::Call(Request::Reserve { len, .. }) => {
+                let record = if grants {
+                    Some(Sheet::new(alloc, len)?)
+                } else {
+                    None
+                };
+                answer_reserve(&mut machine, len, record);
+            }
+            Step::Call(Request::Submit { owned, .. }) => {
+                submitted.extend_from_slice(owned.bytes())?;
+                answer_submit(&mut machine);
+            }
+            Step::Call(_) => return Err(Fail::from("another call")),
+        }
+    }
+    Err(Fail::from("no end"))
+}
+
+#[test]
+fn submit_42_executes_each_instruction_once(rt: HostRuntime) -> Result<(), Fail> {
+    let program = verified(rt.alloc(), SUBMIT_42)?;
+    let (count, submitted) = executed(rt.alloc(), &program, true)?;
+    assert_eq!(rt; count, 11);
+    assert_eq!(rt; submitted.as_slice(), [42, 0, 0, 0, 0, 0, 0, 0].as_slice());
+    let (count, submitted) = executed(rt.alloc(), &program, false)?;
+    assert_eq!(rt; count, 7);
+    assert!(rt; submitted.is_empty());
+    Ok(())
+}
+
+// What a program ends with, over helpers that grant each call.
+fn ended(alloc: Global, text: &str) -> Result<u64, Fail> {
+    let program = verified(alloc, text)?;
+    let answers = vec![in alloc; true; program.calls()]?;
+    let mut helpers = Listed::new(alloc, answers)?;
+    match run(&program, CONTEXT.as_slice(), &mut helpers) {
+        Ok(value) => Ok(value),
+        Err(_) => Err(Fail::from("no result")),
+    }
+}
+
+#[test]
+fn calls_of_helpers(rt: HostRuntime) -> Result<(), Fail> {
+    let rows = [
+        // An output is answered 0.
+        (
+            "18510000000000000000000000000000 bfa2000000000000 07020000f8ffffff b703000008000000 b704000000000000 7a0af8ff05000000 8500000082000000 9500000000000000",
+            0,
+        ),
+        // A record begins as zeros, and keeps what is written.
+        (
+            "18510000000000000000000000000000 b702000010000000 b703000000000000 8500000083000000 1500090000000000 bf06000000000000 7a06080028000000 7967080000000000 7968000000000000 0f87000000000000 bf61000000000000 b702000000000000 8500000084000000 0500010000000000 b707000001000000 bf70000000000000 9500000000000000",
+            40,
+        ),
+        // A record is discarded.
+        (
+            "18510000000000000000000000000000 b702000008000000 b703000000000000 8500000083000000 5500020000000000 b700000009000000 0500040000000000 bf01000000000000 b702000000000000 8500000085000000 b700000003000000 9500000000000000",
+            3,
+        ),
+        // A query is answered by the list with 0.
+        (
+            "18510000000000000000000000000000 b702000001000000 8500000086000000 9500000000000000",
+            0,
+        ),
+    ];
+    for (text, want) in rows {
+        assert_eq!(rt; ended(rt.alloc(), text)?, want, "of {text}");
+    }
+    Ok(())
+}
