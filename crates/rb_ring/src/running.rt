@@ -16,6 +16,7 @@ pub(crate) struct Running {
 }
 
 impl Running {
+    /// No counts: those of the empty history.
     pub fn new() -> Running
         ensures zeros { result ≡ no_counts }
     {

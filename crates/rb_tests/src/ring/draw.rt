@@ -12,10 +12,12 @@ pub struct Draw {
 }
 
 impl Draw {
+    /// A generator that begins at this seed.
     pub fn new(seed: u64) -> Draw {
         Draw { state: seed }
     }
 
+    /// The next number below `n`.
     pub fn below(&mut self, n: u32) -> u32
         requires { 0 < n }
         ensures { result < n }
