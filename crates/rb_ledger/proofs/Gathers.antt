@@ -1,32 +1,28 @@
 -- All seats and the consumer are gathered.
 use Rattle.std.proofs.Common.{◌≡◌, ℕ, suc, ◌+◌, ◌<◌, ◌≤◌, ◌==◌, ◌||◌, Bool, true, false, true≢false, List, [], ◌∷◌, ◌++◌, Some, None, inl, inr, sym, refl, ap, ◌∙◌, subst, append_assoc, eqb-true, arith}
-use Rattle.std.specs.List.{All, Any, count_by, sum_by}
+use Rattle.std.specs.List.{All, Any}
 use Rattle.std.proofs.lemmas.List.Elements.{All-nil, All-cons, All-head, All-tail, All-push, All-pop}
 use Rattle.std.specs.FinMap.{get}
 use Rattle.std.proofs.lemmas.Bool.{and_parts, or_cases}
 use Rattle.atomic_table.specs.Seated.{TableId}
-use Rattle.rb_history.specs.declared.entries.Entry.{Entry}
-use Rattle.rb_history.specs.declared.entries.Entry.TheVariants.{Res, Full, Sub, Dis, Take}
-use Rattle.rb_history.specs.History.{grants, is_grant_of}
-use Rattle.rb_history.specs.Counting.{is_grant}
-use Rattle.rb_history.specs.Legal.{Setup, IsLegal, MayFollow}
+use Rattle.rb_history.specs.Legal.{Setup}
 use Rattle.rb_history.specs.View.{Ring}
 use Rattle.rb_history.proofs.Counting.{made-split}
-use Rattle.rb_history.proofs.Laws.{legal-next}
-use Rattle.rb_history.proofs.Lists.{sum_by-cons, sum_by-add, sum_by-agree}
+use Rattle.rb_history.proofs.Lists.{sum_by-cons}
 use Rattle.rb_history.proofs.Standing.{grant-stands}
 use Rattle.rb_ledger.specs.declared.tally.Tally.{Tally}
-use Rattle.rb_ledger.specs.Own.{Role, is_record_of, Book, book_of}
+use Rattle.rb_ledger.specs.Own.{Role, is_record_of, book_of}
 use Rattle.rb_ledger.specs.Own.Role.{Consumer, Worker}
 use Rattle.rb_ledger.specs.Bytes.{IsAllSentBy}
 use Rattle.rb_ledger.specs.Numbers.{numbers_below}
 use Rattle.rb_ledger.specs.Rule.{Known, View, known, view_of, Ledger, IsRing, Fits, AllFit, TakesState, times}
-use Rattle.rb_ledger.specs.Seats.{WorkerSeat, TakerSeat, TakerTies, are_tagged, has_seat, HasAll, seats_of, all_made}
+use Rattle.rb_ledger.specs.Seats.{WorkerSeat, TakerSeat, TakerTies, are_tagged, has_seat, HasAll, seats_of}
 use Rattle.rb_ledger.specs.Headline.{roles_of, IsTied, Accounts, AreSent, IsClosed}
 use Rattle.rb_ledger.proofs.Records.{bit, record-from}
 use Rattle.rb_ledger.proofs.Tallies.{submitted-granted}
 use Rattle.rb_ledger.proofs.Seated.{ties-goes, taker-goes-on}
 use Rattle.rb_ledger.proofs.Serials.{serials-ordered, worker-in}
+use Rattle.rb_ledger.proofs.Sums.{eqb-sym, made-is}
 
 -- ---- one seat after the other
 
@@ -58,9 +54,6 @@ tagged-rings tag ring at (s ∷ ss) same tagged given =
 
 -- ---- each worker has one seat
 
-eqb-sym : (a b : ℕ) → (a == b) ≡ (b == a)
-eqb-sym a b = grind arith
-
 seats-times : (w : ℕ) (ss : List WorkerSeat) (more : List Known) → seats_of w ss ≤ times (Worker w) (roles_of ss ++ more)
 seats-times w [] more = omega arith
 seats-times w (s ∷ ss) more =
@@ -85,39 +78,6 @@ some-seat P Q w (s ∷ ss) each has give = elim (or_cases (s.worker == w) (has_s
   | inl here ↦ (0, s, omega arith, refl, give s (All-head P s ss each) (eqb-true s.worker w here))
   | inr there ↦ let x = some-seat P Q w ss (All-tail P s ss each) there give in (suc x.0, x.1, omega (arith, x.2), x.3, x.4)
 ]
-
--- ---- a count over all seats
-
-sum-none : (ss : List WorkerSeat) → sum_by (λ s. 0) ss ≡ 0
-sum-none [] = refl
-sum-none (s ∷ ss) = omega (arith, sum_by-cons (λ (x : WorkerSeat). 0) s ss, sum-none ss)
-
-sum-of : (w : ℕ) (ss : List WorkerSeat) → sum_by (λ s. bit (w == s.worker)) ss ≡ seats_of w ss
-sum-of w ss = sum_by-agree (λ s. bit (s.worker == w)) (λ s. bit (w == s.worker)) (λ s. ap bit (eqb-sym w s.worker)) ss
-
-module _ (r : Setup) (ss : List WorkerSeat) (once : (w : ℕ) → w < r.workers → seats_of w ss ≡ 1) where
-  -- an entry that grants a record is one seat's
-  entry-once : (b : List Entry) (e : Entry) → MayFollow r b e → sum_by (λ s. bit (is_grant_of s.worker e)) ss ≡ bit (is_grant e)
-  entry-once b (Res w k n p) m = sum-of w ss ∙ once w m.0
-  entry-once b (Full w n) m = sum-none ss
-  entry-once b (Sub p) m = sum-none ss
-  entry-once b (Dis p) m = sum-none ss
-  entry-once b (Take p) m = sum-none ss
-
-  grants-once : (b es : List Entry) → IsLegal r (b ++ es) → sum_by (λ s. grants s.worker es) ss ≡ count_by is_grant es
-  grants-once b [] l = sum-none ss
-  grants-once b (e ∷ es) l =
-      let more = grants-once (b ++ e ∷ []) es (subst (IsLegal r) (sym (append_assoc b (e ∷ []) es)) l) in
-      let one = entry-once b e (legal-next r b e es l) in
-      let add = sum_by-add (λ s. bit (is_grant_of s.worker e)) (λ s. grants s.worker es) (λ s. grants s.worker (e ∷ es)) (λ s. sum_by-cons (λ y. bit (is_grant_of s.worker y)) e es) ss in
-      omega (arith, sum_by-cons (λ y. bit (is_grant y)) e es)
-
-made-sum : (b : Book) (ss : List WorkerSeat) → All (Accounts b) ss → all_made ss ≡ sum_by (λ s. grants s.worker b.history) ss
-made-sum b [] ties = refl
-made-sum b (s ∷ ss) ties =
-    let more = made-sum b ss (All-tail (Accounts b) s ss ties) in
-    let one : s.tally.made ≡ grants s.worker b.history = ap (λ (t : Tally). t.made) (All-head (Accounts b) s ss ties).ties.counted in
-    omega (arith, sum_by-cons (λ (x : WorkerSeat). x.tally.made) s ss, sum_by-cons (λ (x : WorkerSeat). grants x.worker b.history) s ss)
 
 -- ---- what fits all roles
 
@@ -167,7 +127,7 @@ module _ (l : Ledger) where
       let each : (w : ℕ) → w < l.ring.setup.workers → seats_of w ss ≡ 1 = λ w low. let least = has-one w ss (has_all w low) in let most = once (Worker w) in omega (arith, seats-times w ss more) in
       let tie = accounts ss more is_ring fit tied in
       let sent = sent-by ss more (known Consumer c.seen c.got) mine fit has_all in
-      let all : all_made ss ≡ count_by is_grant l.ring.history = made-sum (book_of l.ring) ss tie ∙ grants-once l.ring.setup ss each [] l.ring.history is_ring.legal in
+      let all = made-is (book_of l.ring) is_ring.legal ss each tie in
       let parts = made-split l.ring.history in
       record {
         is_ring = is_ring;

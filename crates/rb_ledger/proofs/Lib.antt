@@ -11,6 +11,8 @@ pub mod Meets
 pub mod Taking
 pub mod Seated
 pub mod Serials
+pub mod Settled
+pub mod Sums
 pub mod Gathers
 pub mod Runs
 pub mod Laws

@@ -2,7 +2,7 @@
 -- sequential ring, and is what the ring's state stands for; and once all seats and the consumer are gathered, the history holds each
 -- worker's reservations once each in its own order, bytes taken are those submitted, and reservations equal records consumed,
 -- discarded, waiting and busy, for any number of workers" (own).
-use Rattle.std.specs.Prelude.{◌≡◌, ◌≢◌, ℕ, ◌+◌, ◌<◌, true, List, [], ◌∷◌, Some}
+use Rattle.std.specs.Prelude.{◌≡◌, ◌≢◌, ℕ, ◌+◌, ◌<◌, ◌↔◌, true, List, [], ◌∷◌, Some}
 use Rattle.std.specs.List.{All, Any}
 use Rattle.std.specs.FinMap.{get}
 use mathlib.Core.Option.{some}
@@ -17,7 +17,7 @@ use Rattle.rb_ledger.specs.Own.{is_record_of, Book, book_of, GoesOn}
 use Rattle.rb_ledger.specs.Own.Role.{Consumer, Worker}
 use Rattle.rb_ledger.specs.Numbers.{serials_of, numbers_below}
 use Rattle.rb_ledger.specs.Rule.{Known, View, known, IsRing, IsKept}
-use Rattle.rb_ledger.specs.Seats.{WorkerSeat, TakerSeat, Ties, TakerTies, seats_of, all_made}
+use Rattle.rb_ledger.specs.Seats.{WorkerSeat, TakerSeat, Ties, TakerTies, SettlesWithin, HasSettledAll, seats_of, all_made, all_submitted, all_discarded}
 
 -- ---- a ring that was closed
 
@@ -59,6 +59,19 @@ pub record IsClosed (r : Ring) (seats : List WorkerSeat) (consumer : TakerSeat) 
   pub got_is_sent : AreSent seats (book_of r) consumer.got
   pub waiting_is_sent : AreSent seats (book_of r) r.contents
   pub balanced : IsBalanced seats (counts_of r.history)
+
+-- ---- the seats' numbers and the counts
+
+-- what the seats submitted is consumed or waiting, what they discarded is discarded, and what is left of what they made is busy
+pub record NumbersAgree (seats : List WorkerSeat) (n : Counts) : Type 0 where
+  pub within : All SettlesWithin seats
+  pub submitted_are : all_submitted seats ≡ n.consumed + n.waiting
+  pub discarded_are : all_discarded seats ≡ n.discarded
+  pub rest_is_busy : all_made seats ≡ all_submitted seats + all_discarded seats + n.busy
+  pub none_busy : All HasSettledAll seats ↔ (n.busy ≡ 0)
+
+abbrev pub OnceClosed : Type 0
+OnceClosed = (r : Ring) (seats : List WorkerSeat) (consumer : TakerSeat) → IsClosed r seats consumer → NumbersAgree seats (counts_of r.history)
 
 -- ---- the headline
 

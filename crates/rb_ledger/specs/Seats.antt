@@ -1,5 +1,5 @@
 -- What contracts see of a shared ring and of its seats (own).
-use Rattle.std.specs.Prelude.{◌≡◌, ℕ, zero, suc, ◌+◌, ◌<◌, ◌==◌, Bool, true, List, [], ◌∷◌, None}
+use Rattle.std.specs.Prelude.{◌≡◌, ℕ, zero, suc, ◌+◌, ◌<◌, ◌≤◌, ◌==◌, Bool, true, List, [], ◌∷◌, None}
 use Rattle.std.specs.List.{list_any, list_all, count_by, sum_by}
 use Rattle.std.specs.FinMap.{empty}
 use Rattle.atomic_table.specs.Seated.{TableId}
@@ -103,6 +103,22 @@ seats_of worker seats = count_by (λ s. s.worker == worker) seats
 -- all reservations that the seats made
 abbrev pub all_made : List WorkerSeat → ℕ
 all_made seats = sum_by (λ s. s.tally.made) seats
+
+-- all records that they submitted, those that they output among them
+abbrev pub all_submitted : List WorkerSeat → ℕ
+all_submitted seats = sum_by (λ s. s.tally.submitted) seats
+
+-- all records that they discarded
+abbrev pub all_discarded : List WorkerSeat → ℕ
+all_discarded seats = sum_by (λ s. s.tally.discarded) seats
+
+-- the seat submitted and discarded no more records than it was granted
+abbrev pub SettlesWithin : WorkerSeat → Type 0
+SettlesWithin s = s.tally.submitted + s.tally.discarded ≤ s.tally.made
+
+-- the seat submitted or discarded each record that it was granted
+abbrev pub HasSettledAll : WorkerSeat → Type 0
+HasSettledAll s = s.tally.made ≡ s.tally.submitted + s.tally.discarded
 
 -- ---- a seat's pass between calls
 

@@ -4,7 +4,7 @@ ghost use Rattle.std.specs.Prelude.{◌≡◌, ◌<◌, [], ◌∷◌, None};
 ghost use Rattle.crossbeam_queue.specs.Passes.{view, IsPassOf, IsSamePass};
 ghost use Rattle.rb_ledger.specs.Own.Role.{Worker};
 ghost use Rattle.rb_ledger.specs.Rule.{view_of, known, first_of, rest_of};
-ghost use Rattle.rb_ledger.specs.Seats.{IsBook, Ties, fresh_seat, seen_in};
+ghost use Rattle.rb_ledger.specs.Seats.{IsBook, Ties, SettlesWithin, fresh_seat, seen_in};
 ghost use Rattle.std.specs.FinMap.{empty};
 
 use crate::lock::{Cut, Lock, RingPass};
@@ -49,10 +49,12 @@ impl Model for Seat {
 }
 
 impl Seat {
-    /// What holds of each seat: what it has seen is legal, and its numbers are those of its worker's entries there.
+    /// What holds of each seat: what it has seen is legal, its numbers are those of its worker's entries there, and it submitted and
+    /// discarded no more records than it was granted.
     pub fn facts(&self)
         ensures book { IsBook self.now.seen }
         ensures ties { Ties self.now.worker self.now.tally self.now.seen }
+        ensures within { SettlesWithin self.now }
     {
         let _ = &self.tag;
     }

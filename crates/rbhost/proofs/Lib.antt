@@ -1,5 +1,6 @@
 mod Answering
 mod Feeding
+mod Fresh
 mod Inputs
 mod PayloadReads
 mod RingPass

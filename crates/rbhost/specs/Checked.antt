@@ -1,10 +1,12 @@
 -- What the text of a program gives, once it is verified and run (own).
 use Rattle.std.specs.Prelude.{◌≡◌, ℕ, List, replicate}
+use Rattle.std.specs.List.{AllZip}
 use Rattle.rb_insn.specs.Spelling.{SpellsAll}
 use Rattle.rb_decode.specs.Text.{IsHexOf, without_white_space}
 use Rattle.rb_verifier.specs.Annotation.{HasValid}
 use Rattle.rb_verifier.specs.Subject.{Subject, environment_of}
 use Rattle.rb_helpers.specs.declared.done.Done.{Done}
+use Rattle.rb_ledger.specs.Seats.{Shared, TakerSeat}
 use Rattle.rb_meaning.specs.Runs.{Returns}
 use Rattle.rb_interp.specs.Traces.{run_under}
 
@@ -25,3 +27,11 @@ EndsWith subject value = (notes : List Done) × ((run_under subject (replicate s
 -- the text is of an accepted program, whose run ends so
 abbrev pub Gives : List ℕ → ℕ → ℕ → ℕ → Type 0
 Gives text ctx_len rings value = (subject : Subject) × IsAccepted text ctx_len rings subject × EndsWith subject value
+
+-- a consumer is one of the ring
+abbrev pub IsConsumerOf : Shared → TakerSeat → Type 0
+IsConsumerOf ring consumer = consumer.ring ≡ ring.ring
+
+-- each ring's consumer, in the rings' order
+abbrev pub AreConsumersOf : List Shared → List TakerSeat → Type 0
+AreConsumersOf rings consumers = AllZip IsConsumerOf rings consumers

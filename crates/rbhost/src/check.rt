@@ -1,42 +1,37 @@
-//! A program from its text: verified, and run once.
+//! A program from its text: verified, run once over fresh rings, and what it left in them.
 
-ghost use Rattle.std.specs.Prelude.{IfOk};
-ghost use Rattle.rbhost.specs.Checked.{IsAccepted, EndsWith, Gives};
+ghost use Rattle.std.specs.Prelude.{◌≡◌, ◌≤◌, ℕ, IfOk, IfSome, OnOk, length};
+ghost use Rattle.rb_seats.specs.Seated.{AtRings, IsAt};
+ghost use Rattle.rbhost.specs.Checked.{EndsWith, Gives, AreConsumersOf};
 
-use crate::options::CheckOptions;
-use rb_cfg::{ShapeFault, ShapeFaultKind, shape};
-use rb_decode::{DecodeFault, DecodeKind, Program, TextFault, from_text};
-use rb_helpers::Listed;
+use crate::lines::print_rings;
+use crate::program::{Bounds, ProgramFault, accept, read_all, text_of};
+use rb_history::OpenFault;
 use rb_interp::{RunFault, run};
-use rb_refs::Rule;
-use rb_verifier::{Refusal, Verified, verify};
+use rb_ledger::{ConsumerSeat, Seat, SharedRing, open};
+use rb_seats::{NoStock, SeatHelpers};
+use rb_verifier::Verified;
 use std::alloc::{AllocError, Global};
-use std::io;
-use std::io::Read;
+use std::io::{Read, Write};
+use std::sync::Wait;
 use thiserror::Error;
 
-/// Why a program was not accepted, or its run gave no result.
+/// The size in bytes of each ring over which a program is checked.
+const RING_SIZE: u64 = 4096;
+
+/// Why a program was not accepted, or what it left could not be told.
 #[derive(Clone, Copy, Debug, PartialEq, Eq, Error)]
 pub enum CheckFault {
-    /// The input is no UTF-8, or without its white space no pairs of hex digits.
-    #[error("text")]
-    Text,
-    /// The bytes are no program.
-    #[error("decode {kind:?} unit {unit}")]
-    Decode { kind: DecodeKind, unit: u32 },
-    /// The program is not well shaped.
-    #[error("shape {kind:?} unit {unit}")]
-    Shape { kind: ShapeFaultKind, unit: u32 },
-    /// The program breaks the rule of this number.
-    #[error("verify V{rule} unit {unit}")]
-    Verify { rule: u32, unit: u32 },
-    /// A record was handed back.
+    /// The program was not accepted.
+    #[error(transparent)]
+    Program(#[from] ProgramFault),
+    /// A record that the program submitted or discarded was handed back.
     #[error("stray")]
     Stray,
     /// A growth was refused.
     #[error("memory")]
     Memory,
-    /// A read or a write failed.
+    /// A write failed.
     #[error("device")]
     Device,
 }
@@ -47,87 +42,134 @@ impl From<AllocError> for CheckFault {
     }
 }
 
-/// Reads the text of a program to the end of the input, and answers as `check_text` does. Input that is no UTF-8 is `Text`.
-pub fn check<R: Read>(
+/// The rings over which a program is checked, the worker's seat at each, and each one's consumer.
+struct Fresh {
+    rings: Vec<SharedRing>,
+    seats: Vec<Seat>,
+    consumers: Vec<ConsumerSeat>,
+}
+
+/// What a run left: its result, and the rings with their consumers.
+#[derive(Drop)]
+pub struct Checked {
+    /// What the program ended with.
+    pub value: u64,
+    /// The rings, in the order of their numbers.
+    pub rings: Vec<SharedRing>,
+    /// Each ring's consumer.
+    pub consumers: Vec<ConsumerSeat>,
+}
+
+/// Verifies the program whose text is the input, runs it once with a context of zeros over fresh rings of 4,096 bytes, and prints
+/// `accepted`, what it ended with, and a line for each record that can be taken then. Input that is no UTF-8 is `Text`.
+pub fn check<T: Wait, R: Read, W: Write>(
+    rt: &T,
     alloc: Global,
     input: &mut R,
-    options: CheckOptions,
-) -> Result<u64, CheckFault> {
+    out: &mut W,
+    bounds: Bounds,
+) -> Result<(), CheckFault>
+    ensures accepted { OnOk result (IfSome (R.remaining input.old) (λ text. (value : ℕ) × Gives text bounds.ctx_len bounds.rings value)) }
+{
     let bytes = read_all(alloc, input)?;
-    let Ok(text) = str::from_utf8(bytes.as_slice()) else {
-        return Err(CheckFault::Text);
+    let text = text_of(bytes.as_slice())?;
+    let Checked {
+        value,
+        rings,
+        mut consumers,
+    } = check_text(rt, alloc, text, bounds)?;
+    let Ok(()) = writeln!(out, "accepted\nresult {value}") else {
+        return Err(CheckFault::Device);
     };
-    check_text(alloc, text, options)
+    print_rings(rt, alloc, rings.as_slice(), consumers.as_mut_slice(), out)
 }
 
-/// Verifies the program of a text in hex, and runs it once with a context of zeros, over helpers that grant every call.
-/// Answers what the program ended with.
-pub fn check_text(alloc: Global, text: &str, options: CheckOptions) -> Result<u64, CheckFault>
-    ensures gives { IfOk result (Gives text.now options.ctx_len options.rings) }
+/// Verifies the program of a text in hex, and runs it once with a context of zeros over fresh rings.
+pub fn check_text<T: Wait>(
+    rt: &T,
+    alloc: Global,
+    text: &str,
+    bounds: Bounds,
+) -> Result<Checked, CheckFault>
+    ensures gives { IfOk result (λ c. Gives text.now bounds.ctx_len bounds.rings c.value) }
+    ensures consumers { IfOk result (λ c. AreConsumersOf c.rings.items c.consumers.items) }
 {
-    let verified = accept(alloc, text, options)?;
-    run_once(alloc, &verified)
+    let verified = accept(alloc, text, bounds)?;
+    let Fresh {
+        rings,
+        seats,
+        consumers,
+    } = fresh_rings(rt, alloc, verified.rings())?;
+    let value = run_once(rt, alloc, &verified, rings.as_slice(), seats)?;
+    Ok(Checked {
+        value,
+        rings,
+        consumers,
+    })
 }
 
-// All bytes of the input.
-fn read_all<R: Read>(alloc: Global, input: &mut R) -> Result<Vec<u8>, CheckFault> {
-    let mut bytes = Vec::new(alloc);
-    match input.read_to_end(&mut bytes) {
-        Ok(_) => Ok(bytes),
-        Err(error) => Err(match error.kind() {
-            io::ErrorKind::OutOfMemory => CheckFault::Memory,
-            _ => CheckFault::Device,
-        }),
-    }
-}
-
-// The verified program of a text.
-fn accept(alloc: Global, text: &str, options: CheckOptions) -> Result<Verified, CheckFault>
-    ensures { IfOk result (IsAccepted text.now options.ctx_len options.rings) }
+#[tactic(auto, using(crate::proofs::Fresh::zip_push))]
+// So many rings, each for one worker. A ring's tag is its number.
+fn fresh_rings<T: Wait>(rt: &T, alloc: Global, number: u32) -> Result<Fresh, CheckFault>
+    ensures len { IfOk result (λ f. length f.rings.items ≡ number) }
+    ensures seats { IfOk result (λ f. AtRings f.rings.items f.seats.items) }
+    ensures consumers { IfOk result (λ f. AreConsumersOf f.rings.items f.consumers.items) }
 {
-    let program = match from_text(alloc, text) {
-        Ok(program) => program,
-        Err(fault) => return Err(text_fault(fault)),
-    };
-    let shape = match shape(alloc, program) {
-        Ok(shape) => shape,
-        Err(fault) => return Err(shape_fault(fault)),
-    };
-    match verify(alloc, shape, options.ctx_len, options.rings) {
-        Ok(verified) => Ok(verified),
-        Err(Refusal::Rule { unit, rule }) => Err(CheckFault::Verify {
-            rule: u32::from(rule.number()),
-            unit,
-        }),
-        Err(Refusal::Memory) => Err(CheckFault::Memory),
+    let mut rings = Vec::new(alloc);
+    let mut seats = Vec::new(alloc);
+    let mut consumers = Vec::new(alloc);
+    for tag in 0..number {
+        let (ring, seat, consumer) = fresh_ring(rt, alloc, u64::from(tag))?;
+        rings.push(ring).map_err(|_| CheckFault::Memory)?;
+        seats.push(seat).map_err(|_| CheckFault::Memory)?;
+        consumers.push(consumer).map_err(|_| CheckFault::Memory)?;
     }
+    Ok(Fresh {
+        rings,
+        seats,
+        consumers,
+    })
 }
 
-fn text_fault(fault: TextFault) -> CheckFault {
-    match fault {
-        TextFault::NotHex => CheckFault::Text,
-        TextFault::Memory => CheckFault::Memory,
-        TextFault::Decode(DecodeFault { unit, kind }) => CheckFault::Decode { kind, unit },
-    }
-}
-
-fn shape_fault(fault: ShapeFault) -> CheckFault {
-    match fault.kind {
-        ShapeFaultKind::Memory => CheckFault::Memory,
-        kind => CheckFault::Shape {
-            kind,
-            unit: fault.unit,
+#[tactic(auto, using(crate::proofs::Sizes::least_size, crate::proofs::Sizes::first_start, crate::proofs::Sizes::one_worker))]
+// A ring for one worker.
+fn fresh_ring<T: Wait>(
+    rt: &T,
+    alloc: Global,
+    tag: u64,
+) -> Result<(SharedRing, Seat, ConsumerSeat), CheckFault>
+    ensures seat { IfOk result (λ f. IsAt f.0 f.1) }
+    ensures consumer { IfOk result (λ f. f.2.ring ≡ f.0.ring) }
+{
+    match open(rt, alloc, tag, RING_SIZE, 0, 1) {
+        Ok((ring, mut seats, consumer)) => match seats.pop() {
+            Some(seat) => Ok((ring, seat, consumer)),
+            None => unreachable!(),
         },
+        Err(OpenFault::Memory) => Err(CheckFault::Memory),
+        Err(OpenFault::Size) => unreachable!(),
+        Err(OpenFault::Start) => unreachable!(),
+        Err(OpenFault::Workers) => unreachable!(),
     }
 }
 
-// What a program ends with over a context of zeros and helpers that grant every call.
-fn run_once(alloc: Global, verified: &Verified) -> Result<u64, CheckFault>
+// What a program ends with over a context of zeros.
+fn run_once<T: Wait>(
+    rt: &T,
+    alloc: Global,
+    verified: &Verified,
+    rings: &[SharedRing],
+    seats: Vec<Seat>,
+) -> Result<u64, CheckFault>
+    requires rings { verified.now.rings ≤ length rings.now }
+    requires seats { AtRings rings.now seats.items }
     ensures { IfOk result (EndsWith verified.now) }
 {
     let context = vec![in alloc; 0; verified.ctx_len() as usize]?;
-    let answers = vec![in alloc; true; verified.calls()]?;
-    let mut helpers = Listed::new(alloc, answers)?;
+    let mut helpers = match SeatHelpers::new(rt, alloc, rings, seats, verified.calls(), &NoStock) {
+        Ok(helpers) => helpers,
+        Err(_) => return Err(CheckFault::Memory),
+    };
     match run(verified, context.as_slice(), &mut helpers) {
         Ok(value) => Ok(value),
         Err(RunFault::ContextLength) => unreachable!(),

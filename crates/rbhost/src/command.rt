@@ -8,18 +8,23 @@ ghost use Rattle.rbhost.specs.Fed.{Tells, AnswersAlone, IsWholeInput};
 use crate::check::{CheckFault, check};
 use crate::faults::FeedFault;
 use crate::feed::feed;
-use crate::options::{CheckOptions, Request, parse};
+use crate::options::{Request, parse};
+use crate::program::Bounds;
 use clap::Error;
 use clap::error::ErrorKind;
 use std::alloc::Global;
 use std::convert::AsStr;
 use std::fmt::Display;
 use std::io::{BufReader, BufWriter, Read, Write};
+use std::sync::Wait;
 
 /// Carries out the command that the words name, which stand behind the program's name on the command line, and answers the
 /// status that the program ends with: 0; 1 where it was refused, with a line on `err` that begins with `refused `; 2 for wrong
 /// usage, which is told on `err` before anything is read or written. Help that is asked for goes to `out`.
-pub fn command<S: AsStr, R: Read, W: Write, E: Write>(
+///
+/// `feed` waits for nobody. `check` holds a ring's lock for each call.
+pub fn command<T: Wait, S: AsStr, R: Read, W: Write, E: Write>(
+    rt: &T,
     alloc: Global,
     words: &[S],
     input: &mut R,
@@ -31,7 +36,7 @@ pub fn command<S: AsStr, R: Read, W: Write, E: Write>(
 {
     match parse(alloc, words) {
         Ok(Request::Feed { size, start }) => feed_command(alloc, input, out, err, size, start),
-        Ok(Request::Check(options)) => check_command(alloc, input, out, err, options),
+        Ok(Request::Check(bounds)) => end_of(check_buffered(rt, alloc, input, out, bounds), err),
         Err(error) => tell(&error, out, err),
     }
 }
@@ -96,21 +101,30 @@ fn feed_buffered<R: Read, W: Write>(
     feed(alloc, &mut reader, &mut writer, size, start)
 }
 
-// Tells that a program was accepted, and what its run ended with.
-fn check_command<R: Read, W: Write, E: Write>(
+// A program that is checked, with its lines written through a buffer.
+fn check_buffered<T: Wait, R: Read, W: Write>(
+    rt: &T,
     alloc: Global,
     input: &mut R,
     out: &mut W,
-    err: &mut E,
-    options: CheckOptions,
-) -> u8
-    ensures status { result ≤ 1 }
+    bounds: Bounds,
+) -> Result<(), CheckFault> {
+    let Ok(mut writer) = BufWriter::new(alloc, out) else {
+        return Err(CheckFault::Memory);
+    };
+    check(rt, alloc, input, &mut writer, bounds)?;
+    match writer.flush() {
+        Ok(()) => Ok(()),
+        Err(_) => Err(CheckFault::Device),
+    }
+}
+
+// The status of a command that told its answer itself, with the line of its refusal.
+fn end_of<F: Display + Drop, E: Write>(answer: Result<(), F>, err: &mut E) -> u8
+    ensures { result ≤ 1 }
 {
-    match check(alloc, input, options) {
-        Ok(value) => match writeln!(out, "accepted\nresult {value}") {
-            Ok(()) => 0,
-            Err(_) => refuse(&CheckFault::Device, err),
-        },
+    match answer {
+        Ok(()) => 0,
         Err(fault) => refuse(&fault, err),
     }
 }

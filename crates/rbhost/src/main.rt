@@ -6,9 +6,11 @@ mod command;
 mod device;
 mod faults;
 mod feed;
+mod lines;
 mod options;
 mod passing;
 mod payloads;
+mod program;
 mod tape;
 #[cfg(test)]
 mod tests;
@@ -23,7 +25,14 @@ fn main(rt: HostRuntime) -> ExitCode {
         Err(error) => return untold(&rt, &error),
     };
     let (mut input, mut out, mut err) = (rt.stdin(), rt.stdout(), rt.stderr());
-    ExitCode::from(command(rt.alloc(), words.as_slice(), &mut input, &mut out, &mut err))
+    ExitCode::from(command(
+        &rt,
+        rt.alloc(),
+        words.as_slice(),
+        &mut input,
+        &mut out,
+        &mut err,
+    ))
 }
 
 // The words of the command line behind the program's name.

@@ -4,6 +4,7 @@ ghost use Rattle.std.specs.Prelude.{◌<◌, ◌≤◌, ◌^◌, IfOk};
 ghost use Rattle.std.specs.Option.{SomeIff};
 ghost use Rattle.std.specs.Str.Parse.{IsNumeral, digits_value};
 
+use crate::program::Bounds;
 use clap::error::ErrorKind;
 use clap::{Arg, ArgAction, ArgMatches, Command, Error};
 use std::alloc::{AllocError, Global};
@@ -15,18 +16,7 @@ pub enum Request {
     /// Writes the tape of payloads: the ring's size and its first position.
     Feed { size: u64, start: u64 },
     /// Verifies a program and runs it once.
-    Check(CheckOptions),
-}
-
-/// What a program is verified for.
-#[derive(Clone, Copy, Debug, PartialEq, Eq)]
-pub struct CheckOptions {
-    /// The length of the context in bytes, at most 65,536.
-    pub ctx_len: u32,
-    /// How many rings the program knows, at most 16.
-    pub rings: u32,
-    ghost short: { ctx_len ≤ 65536 },
-    ghost few: { rings ≤ 16 },
+    Check(Bounds),
 }
 
 /// The command that these words name, which stand behind the program's name on the command line. An error is help that was
@@ -39,9 +29,9 @@ pub fn parse<S: AsStr>(alloc: Global, words: &[S]) -> Result<Request, Error> {
             size: number(alloc, &mut program, options, "size")?,
             start: number(alloc, &mut program, options, "start")?,
         }),
-        Some(("check", options)) => Ok(Request::Check(CheckOptions {
-            ctx_len: bounded(alloc, &mut program, options, "ctx", 65_536)?,
-            rings: bounded(alloc, &mut program, options, "rings", 16)?,
+        Some(("check", options)) => Ok(Request::Check(Bounds {
+            ctx_len: bounded(alloc, &mut program, options, "ctx", 0, 65_536)?,
+            rings: bounded(alloc, &mut program, options, "rings", 0, 16)?,
         })),
         _ => Err(program.error(ErrorKind::MissingSubcommand, "no command was given")?),
     }
@@ -130,15 +120,16 @@ fn bounded(
     program: &mut Command<'_>,
     options: &ArgMatches<'_>,
     name: &str,
+    least: u32,
     most: u32,
 ) -> Result<u32, Error>
-    ensures { IfOk result (λ n. n ≤ most) }
+    ensures { IfOk result (λ n. (least ≤ n) × (n ≤ most)) }
 {
     let number = number(alloc, program, options, name)?;
-    if number <= u64::from(most) {
+    if u64::from(least) <= number && number <= u64::from(most) {
         return Ok(number as u32);
     }
-    let message = format!(in alloc; "the value of '--{name}' is above {most}")?;
+    let message = format!(in alloc; "the value of '--{name}' is not {least} to {most}")?;
     Err(program.error(ErrorKind::ValueValidation, message.as_str())?)
 }
 

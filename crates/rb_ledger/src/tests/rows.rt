@@ -1,10 +1,11 @@
 //! Worked rows.
 
-ghost use Rattle.std.specs.Prelude.{◌≡◌, ◌≢◌, IfOk};
-ghost use Rattle.rb_ledger.specs.Seats.{IsSameSeat};
+ghost use Rattle.std.specs.Prelude.{◌≡◌, ◌≢◌, IfOk, All};
+ghost use Rattle.rb_history.specs.Counting.{counts_of};
+ghost use Rattle.rb_ledger.specs.Seats.{IsSameSeat, HasSettledAll};
 
 use super::seats::{Found, one_seat, output, reserved, sheet_of, submitted, taken, two_seats};
-use crate::{Foreign, Seat, SharedRing, Tally, open};
+use crate::{Closing, ConsumerSeat, Foreign, Seat, SharedRing, Tally, numbers_agree, open};
 use rb_history::{Counts, Entry, Notice, OpenFault, Reservation, ReserveFault};
 use rb_lend::Lent;
 use std::alloc::Global;
@@ -269,6 +270,49 @@ fn a_ring_is_closed_with_all_seats_alone(rt: HostRuntime) -> Result<(), Fail> {
         Entry::Take(0),
     ];
     assert_eq!(rt; closing.history(), history.as_slice());
+    Ok(())
+}
+
+// Closes a ring with all its seats.
+fn closed<R: Wait>(
+    rt: &R,
+    ring: SharedRing,
+    seats: Vec<Seat>,
+    consumer: ConsumerSeat,
+) -> Result<Closing, Fail>
+    requires seats { All (λ s. s.ring ≡ ring.ring) seats.items }
+    requires consumer { consumer.ring ≡ ring.ring }
+    ensures none_busy { IfOk result (λ c. All HasSettledAll seats.items → (counts_of c.history).busy ≡ 0) }
+{
+    numbers_agree();
+    match ring.close(rt, seats, consumer) {
+        Ok(closing) => Ok(closing),
+        Err(_) => Err(Fail::from("not closed")),
+    }
+}
+
+#[test]
+fn seats_that_settled_all_leave_none_busy(rt: HostRuntime) -> Result<(), Fail> {
+    let (ring, mut zero, mut one, consumer) = two_seats(&rt, rt.alloc(), 6)?;
+    let _notice = output(&rt, rt.alloc(), &ring, &mut zero, 8, 1)?;
+    let first = reserved(&rt, rt.alloc(), &ring, &mut one, 24)?;
+    let second = reserved(&rt, rt.alloc(), &ring, &mut one, 8)?;
+    let _notice = submitted(&rt, &ring, &mut one, second, 0)?;
+    assert!(rt; ring.discard(&rt, &mut one, first, 0).is_ok());
+    assert_eq!(rt;
+        (zero.made(), zero.submitted(), zero.discarded()),
+        (1, 1, 0)
+    );
+    assert_eq!(rt; (one.made(), one.submitted(), one.discarded()), (2, 1, 1));
+    let mut seats = Vec::new(rt.alloc());
+    seats.push(zero)?;
+    seats.push(one)?;
+    let counts = closed(&rt, ring, seats, consumer)?.counts();
+    assert_eq!(rt; (counts.made, counts.busy), (3, 0));
+    assert_eq!(rt;
+        (counts.waiting, counts.consumed, counts.discarded),
+        (2, 0, 1)
+    );
     Ok(())
 }
 

@@ -5,6 +5,7 @@ use crate::command::command;
 use std::alloc::Global;
 use std::io::ErrorKind;
 use std::process::Abort;
+use std::sync::Wait;
 use std::test::Fail;
 
 // r0 = 0, and exit.
@@ -16,16 +17,27 @@ const SUBMIT_42: &str = "1851000000000000 0000000000000000
     1500040000000000 7a0000002a000000 bf01000000000000 b702000000000000 8500000084000000
     b700000000000000 9500000000000000";
 
+// Outputs the first eight bytes of its context.
+const OUTPUT_CONTEXT: &str = "bf12000000000000 1851000000000000 0000000000000000
+    b703000008000000 b704000000000000 8500000082000000 9500000000000000";
+
 // Reserves a record of eight bytes.
 const RESERVE: &str = "1851000000000000 0000000000000000
     b702000008000000 b703000000000000 8500000083000000";
 
 // Runs the command on a text, and compares the status and both outputs.
-fn checked(rt: &impl Abort, alloc: Global, words: &[&str], text: &str, out: &str, err: &str) {
+fn checked<T: Abort + Wait>(
+    rt: &T,
+    alloc: Global,
+    words: &[&str],
+    text: &str,
+    out: &str,
+    err: &str,
+) {
     let mut input = Source::new(text.as_bytes(), 7);
     let mut printed = Vec::new(alloc);
     let mut told = Vec::new(alloc);
-    let status = command(alloc, words, &mut input, &mut printed, &mut told);
+    let status = command(rt, alloc, words, &mut input, &mut printed, &mut told);
     assert_eq!(rt; printed.as_slice(), out.as_bytes(), "of {text}");
     assert_eq!(rt; told.as_slice(), err.as_bytes(), "of {text}");
     assert_eq!(rt; status, if err.is_empty() { 0 } else { 1 }, "of {text}");
@@ -47,7 +59,15 @@ fn accepted_programs_are_run(rt: HostRuntime) -> Result<(), Fail> {
         alloc,
         &["check"],
         SUBMIT_42,
-        "accepted\nresult 0\n",
+        "accepted\nresult 0\nring 0 pos 0 worker 0 serial 0 len 8 2a00000000000000\n",
+        "",
+    );
+    checked(
+        &rt,
+        alloc,
+        &["check"],
+        OUTPUT_CONTEXT,
+        "accepted\nresult 0\nring 0 pos 0 worker 0 serial 0 len 8 0000000000000000\n",
         "",
     );
     let minus_one = "B7 00 00 00 FF FF FF FF\t9500000000000000\n";
@@ -76,6 +96,28 @@ fn accepted_programs_are_run(rt: HostRuntime) -> Result<(), Fail> {
         &["check", "--ctx", "0", "--rings", "0"],
         EXIT_ZERO,
         "accepted\nresult 0\n",
+        "",
+    );
+    Ok(())
+}
+
+// Each ring's records are told in the order of the rings, and of the reservations in each.
+#[test]
+fn records_are_told_by_ring(rt: HostRuntime) -> Result<(), Fail> {
+    let alloc = rt.alloc();
+    // Discards a record of eight bytes in ring 1, outputs nothing to it, and outputs two bytes to ring 0.
+    let program = "bf16000000000000
+        1851000001000000 0000000000000000 b702000008000000 b703000000000000 8500000083000000
+        1500030000000000 bf01000000000000 b702000000000000 8500000085000000
+        1851000001000000 0000000000000000 bf62000000000000 b703000000000000 b704000000000000 8500000082000000
+        1851000000000000 0000000000000000 bf62000000000000 b703000002000000 b704000000000000 8500000082000000
+        9500000000000000";
+    checked(
+        &rt,
+        alloc,
+        &["check", "--rings", "2"],
+        program,
+        "accepted\nresult 0\nring 0 pos 0 worker 0 serial 0 len 2 0000\nring 1 pos 0 len 8 discarded\nring 1 pos 16 worker 0 serial 1 len 0 -\n",
         "",
     );
     Ok(())
@@ -129,7 +171,7 @@ fn texts_and_bytes_are_refused(rt: HostRuntime) -> Result<(), Fail> {
     let mut printed = Vec::new(alloc);
     let mut told = Vec::new(alloc);
     assert_eq!(rt;
-        command(alloc, &["check"], &mut input, &mut printed, &mut told),
+        command(&rt, alloc, &["check"], &mut input, &mut printed, &mut told),
         1
     );
     assert_eq!(rt; told.as_slice(), b"refused text\n".as_slice());
@@ -224,7 +266,7 @@ fn check_is_used_wrongly(rt: HostRuntime) -> Result<(), Fail> {
         let mut printed = Vec::new(rt.alloc());
         let mut told = Vec::new(rt.alloc());
         assert_eq!(rt;
-            command(rt.alloc(), words, &mut input, &mut printed, &mut told),
+            command(&rt, rt.alloc(), words, &mut input, &mut printed, &mut told),
             2
         );
         assert!(rt; printed.is_empty());
@@ -241,7 +283,7 @@ fn check_with_devices_that_fail(rt: HostRuntime) -> Result<(), Fail> {
     let mut printed = Vec::new(alloc);
     let mut told = Vec::new(alloc);
     assert_eq!(rt;
-        command(alloc, &["check"], &mut input, &mut printed, &mut told),
+        command(&rt, alloc, &["check"], &mut input, &mut printed, &mut told),
         1
     );
     assert_eq!(rt; told.as_slice(), b"refused device\n".as_slice());
@@ -249,7 +291,7 @@ fn check_with_devices_that_fail(rt: HostRuntime) -> Result<(), Fail> {
     let mut printed = Sink::new(alloc, 3, 100, Trouble::TakesNothing);
     let mut told = Vec::new(alloc);
     assert_eq!(rt;
-        command(alloc, &["check"], &mut input, &mut printed, &mut told),
+        command(&rt, alloc, &["check"], &mut input, &mut printed, &mut told),
         1
     );
     assert_eq!(rt; told.as_slice(), b"refused device\n".as_slice());

@@ -5,11 +5,12 @@ use crate::command::command;
 use std::alloc::Global;
 use std::io::ErrorKind;
 use std::process::Abort;
+use std::sync::Wait;
 use std::test::Fail;
 
 // Runs the command on the input, and compares the status and both outputs.
-fn check(
-    rt: &impl Abort,
+fn check<T: Abort + Wait>(
+    rt: &T,
     alloc: Global,
     words: &[&str],
     input: &[u8],
@@ -20,7 +21,7 @@ fn check(
     let mut reader = Source::new(input, 5);
     let mut tape = Vec::new(alloc);
     let mut told = Vec::new(alloc);
-    let ended = command(alloc, words, &mut reader, &mut tape, &mut told);
+    let ended = command(rt, alloc, words, &mut reader, &mut tape, &mut told);
     assert_eq!(rt; ended, status, "of {words:?}");
     assert_eq!(rt; tape.as_slice(), out, "of {words:?}");
     assert_eq!(rt; told.as_slice(), err.as_bytes(), "of {words:?}");
@@ -148,7 +149,7 @@ fn wrong_usage(rt: HostRuntime) -> Result<(), Fail> {
         let mut reader = Source::new(&[1], 5);
         let mut tape = Vec::new(rt.alloc());
         let mut told = Vec::new(rt.alloc());
-        let ended = command(rt.alloc(), words, &mut reader, &mut tape, &mut told);
+        let ended = command(&rt, rt.alloc(), words, &mut reader, &mut tape, &mut told);
         assert_eq!(rt; ended, 2, "of {words:?}");
         assert!(rt; tape.is_empty(), "of {words:?}");
         assert!(rt; told.as_slice().starts_with(b"error: "), "of {words:?}");
@@ -164,7 +165,7 @@ fn help(rt: HostRuntime) -> Result<(), Fail> {
         let mut reader = Source::new(&[1], 5);
         let mut text = Vec::new(rt.alloc());
         let mut told = Vec::new(rt.alloc());
-        let ended = command(rt.alloc(), words, &mut reader, &mut text, &mut told);
+        let ended = command(&rt, rt.alloc(), words, &mut reader, &mut text, &mut told);
         assert_eq!(rt; ended, 0, "of {words:?}");
         assert!(rt; !text.is_empty(), "of {words:?}");
         assert!(rt; told.is_empty(), "of {words:?}");
@@ -181,7 +182,7 @@ fn devices_that_fail(rt: HostRuntime) -> Result<(), Fail> {
         let mut reader = Source::failing(&two, kind);
         let mut tape = Vec::new(rt.alloc());
         let mut told = Vec::new(rt.alloc());
-        let ended = command(rt.alloc(), &plain, &mut reader, &mut tape, &mut told);
+        let ended = command(&rt, rt.alloc(), &plain, &mut reader, &mut tape, &mut told);
         assert_eq!(rt; ended, 1);
         assert_eq!(rt; tape.len(), 24);
         assert_eq!(rt; told.as_slice(), b"refused device\n".as_slice());
@@ -191,7 +192,7 @@ fn devices_that_fail(rt: HostRuntime) -> Result<(), Fail> {
             let mut reader = Source::new(&two, 100);
             let mut tape = Sink::new(rt.alloc(), room, 100, trouble);
             let mut told = Vec::new(rt.alloc());
-            let ended = command(rt.alloc(), &plain, &mut reader, &mut tape, &mut told);
+            let ended = command(&rt, rt.alloc(), &plain, &mut reader, &mut tape, &mut told);
             assert_eq!(rt; ended, 1);
             assert_eq!(rt; tape.taken.len(), room);
             assert_eq!(rt; told.as_slice(), b"refused device\n".as_slice());
@@ -202,7 +203,7 @@ fn devices_that_fail(rt: HostRuntime) -> Result<(), Fail> {
     let mut reader = Source::new(&two, 100);
     let mut tape = Vec::new(rt.alloc());
     let mut told = Sink::new(rt.alloc(), 3, 100, Trouble::TakesNothing);
-    let ended = command(rt.alloc(), &plain, &mut reader, &mut tape, &mut told);
+    let ended = command(&rt, rt.alloc(), &plain, &mut reader, &mut tape, &mut told);
     assert_eq!(rt; ended, 1);
     assert_eq!(rt; tape.len(), 24);
     Ok(())

@@ -1,0 +1,36 @@
+//! The records of helpers over seats.
+
+use rb_history::Reservation;
+use rb_lend::Lent;
+
+/// A record that was granted at one of the helpers' rings: the reservation, and the ring's number among them.
+#[derive(Drop)]
+pub struct SeatRecord {
+    /// The ring's number.
+    pub ring: u32,
+    /// The reservation at that ring.
+    pub reservation: Reservation,
+}
+
+impl Lent for SeatRecord {
+    ghost use Rattle.rb_lend.specs.Ranges.{in_place_of};
+    ghost use Rattle.rb_lend.specs.Rewritten.{rewritten_in_place};
+
+    ghost bytes_of = { λ s. s.reservation.bytes };
+
+    ghost with_bytes = { λ s w. record s { reservation = record s.reservation { bytes = in_place_of s.reservation.bytes w } } };
+
+    fn bytes(&self) -> &[u8] {
+        self.reservation.bytes()
+    }
+
+    fn bytes_mut(&mut self) -> &mut [u8] {
+        self.reservation.bytes_mut()
+    }
+
+    fn range_mut(&mut self, at: usize, len: usize) -> &mut [u8] {
+        self.reservation.range_mut(at, len)
+    }
+
+    ghost rewritten = { λ s w e. rewritten_in_place s.reservation.bytes w e };
+}
