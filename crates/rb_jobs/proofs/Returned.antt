@@ -108,7 +108,7 @@ given_back_in_trace (d ∷ notes) taken =
 
 -- ---- jobs
 
-calls_give_back : (subject : Subject) (context : List ℕ) (Hands : List (List ℕ) → Type 0) (result : Result ℕ RunFault) (calls : List Done)
+pub calls_give_back : (subject : Subject) (context : List ℕ) (Hands : List (List ℕ) → Type 0) (result : Result ℕ RunFault) (calls : List Done)
     → RunShows subject context [] calls Hands result → OnOk result (IsBalanced [] calls) → result ≢ Err Stray
     → times makes calls ≡ times submits calls + times discards calls
 calls_give_back subject context Hands (Ok n) calls shows balanced ends =
