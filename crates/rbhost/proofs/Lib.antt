@@ -4,5 +4,6 @@ mod Fresh
 mod Inputs
 mod PayloadReads
 mod RingPass
+mod Running
 mod Sending
 mod Sizes

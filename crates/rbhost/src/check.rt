@@ -12,7 +12,7 @@ use rb_ledger::{ConsumerSeat, Seat, SharedRing, open};
 use rb_seats::{NoStock, SeatHelpers};
 use rb_verifier::Verified;
 use std::alloc::{AllocError, Global};
-use std::io::{Read, Write};
+use std::io::{BufWriter, Read, Write};
 use std::sync::Wait;
 use thiserror::Error;
 

@@ -5,11 +5,11 @@ ghost use Rattle.std.specs.Io.KnownBytes.{Keeps};
 ghost use Rattle.rb_history.specs.View.{IsSize, IsStart};
 ghost use Rattle.rbhost.specs.Fed.{Tells, AnswersAlone, IsWholeInput};
 
-use crate::check::{CheckFault, check};
+use crate::check::check;
 use crate::faults::FeedFault;
 use crate::feed::feed;
+use crate::jobs::run;
 use crate::options::{Request, parse};
-use crate::program::Bounds;
 use clap::Error;
 use clap::error::ErrorKind;
 use std::alloc::Global;
@@ -17,13 +17,14 @@ use std::convert::AsStr;
 use std::fmt::Display;
 use std::io::{BufReader, BufWriter, Read, Write};
 use std::sync::Wait;
+use std::thread::Threads;
 
 /// Carries out the command that the words name, which stand behind the program's name on the command line, and answers the
 /// status that the program ends with: 0; 1 where it was refused, with a line on `err` that begins with `refused `; 2 for wrong
 /// usage, which is told on `err` before anything is read or written. Help that is asked for goes to `out`.
 ///
-/// `feed` waits for nobody. `check` holds a ring's lock for each call.
-pub fn command<T: Wait, S: AsStr, R: Read, W: Write, E: Write>(
+/// `feed` waits for nobody. `check` and `run` hold a ring's lock for each call, and `run` starts threads.
+pub fn command<T: Threads + Wait + Sync, S: AsStr, R: Read, W: Write, E: Write>(
     rt: &T,
     alloc: Global,
     words: &[S],
@@ -36,7 +37,8 @@ pub fn command<T: Wait, S: AsStr, R: Read, W: Write, E: Write>(
 {
     match parse(alloc, words) {
         Ok(Request::Feed { size, start }) => feed_command(alloc, input, out, err, size, start),
-        Ok(Request::Check(bounds)) => end_of(check_buffered(rt, alloc, input, out, bounds), err),
+        Ok(Request::Check(bounds)) => end_of(check(rt, alloc, input, out, bounds), err),
+        Ok(Request::Run(wanted)) => end_of(run(rt, alloc, input, out, wanted), err),
         Err(error) => tell(&error, out, err),
     }
 }
@@ -99,24 +101,6 @@ fn feed_buffered<R: Read, W: Write>(
         return Err(FeedFault::Memory);
     };
     feed(alloc, &mut reader, &mut writer, size, start)
-}
-
-// A program that is checked, with its lines written through a buffer.
-fn check_buffered<T: Wait, R: Read, W: Write>(
-    rt: &T,
-    alloc: Global,
-    input: &mut R,
-    out: &mut W,
-    bounds: Bounds,
-) -> Result<(), CheckFault> {
-    let Ok(mut writer) = BufWriter::new(alloc, out) else {
-        return Err(CheckFault::Memory);
-    };
-    check(rt, alloc, input, &mut writer, bounds)?;
-    match writer.flush() {
-        Ok(()) => Ok(()),
-        Err(_) => Err(CheckFault::Device),
-    }
 }
 
 // The status of a command that told its answer itself, with the line of its refusal.

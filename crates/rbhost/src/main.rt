@@ -6,6 +6,7 @@ mod command;
 mod device;
 mod faults;
 mod feed;
+mod jobs;
 mod lines;
 mod options;
 mod passing;

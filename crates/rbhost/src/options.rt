@@ -4,6 +4,7 @@ ghost use Rattle.std.specs.Prelude.{◌<◌, ◌≤◌, ◌^◌, IfOk};
 ghost use Rattle.std.specs.Option.{SomeIff};
 ghost use Rattle.std.specs.Str.Parse.{IsNumeral, digits_value};
 
+use crate::jobs::JobsWanted;
 use crate::program::Bounds;
 use clap::error::ErrorKind;
 use clap::{Arg, ArgAction, ArgMatches, Command, Error};
@@ -17,6 +18,8 @@ pub enum Request {
     Feed { size: u64, start: u64 },
     /// Verifies a program and runs it once.
     Check(Bounds),
+    /// Verifies a program and runs it as jobs on threads.
+    Run(JobsWanted),
 }
 
 /// The command that these words name, which stand behind the program's name on the command line. An error is help that was
@@ -33,6 +36,12 @@ pub fn parse<S: AsStr>(alloc: Global, words: &[S]) -> Result<Request, Error> {
             ctx_len: bounded(alloc, &mut program, options, "ctx", 0, 65_536)?,
             rings: bounded(alloc, &mut program, options, "rings", 0, 16)?,
         })),
+        Some(("run", options)) => Ok(Request::Run(JobsWanted {
+            workers: number(alloc, &mut program, options, "workers")?,
+            jobs: bounded(alloc, &mut program, options, "jobs", 1, 1_000_000)?,
+            size: number(alloc, &mut program, options, "size")?,
+            start: number(alloc, &mut program, options, "start")?,
+        })),
         _ => Err(program.error(ErrorKind::MissingSubcommand, "no command was given")?),
     }
 }
@@ -45,7 +54,8 @@ fn program<'a>(alloc: Global) -> Result<Command<'a>, AllocError> {
         .no_binary_name(true)
         .subcommand_required(true)
         .subcommand(feed(alloc)?)?
-        .subcommand(check(alloc)?)
+        .subcommand(check(alloc)?)?
+        .subcommand(run(alloc)?)
 }
 
 fn feed<'a>(alloc: Global) -> Result<Command<'a>, AllocError> {
@@ -62,6 +72,30 @@ fn check<'a>(alloc: Global) -> Result<Command<'a>, AllocError> {
         .about("Verifies a program, given as text in hex, and runs it once")
         .arg(ctx(alloc))?
         .arg(rings(alloc))
+}
+
+fn run<'a>(alloc: Global) -> Result<Command<'a>, AllocError> {
+    Command::new(alloc, "run")
+        .about(
+            "Verifies a program, given as text in hex, and runs it as jobs on threads over one ring",
+        )
+        .arg(workers(alloc))?
+        .arg(jobs(alloc))?
+        .arg(size(alloc))?
+        .arg(start(alloc))
+}
+
+fn workers<'a>(alloc: Global) -> Arg<'a> {
+    option(alloc, "workers").value_name("W").required(true).help(
+        "How many workers there are, each on a thread of its own: 1 to 256",
+    )
+}
+
+fn jobs<'a>(alloc: Global) -> Arg<'a> {
+    option(alloc, "jobs")
+        .value_name("J")
+        .required(true)
+        .help("How often each worker runs the program: 1 to 1000000")
 }
 
 fn ctx<'a>(alloc: Global) -> Arg<'a> {

@@ -2,4 +2,5 @@ mod checking;
 mod commands;
 mod fakes;
 mod feeding;
+mod running;
 mod taping;

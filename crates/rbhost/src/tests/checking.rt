@@ -7,6 +7,7 @@ use std::io::ErrorKind;
 use std::process::Abort;
 use std::sync::Wait;
 use std::test::Fail;
+use std::thread::Threads;
 
 // r0 = 0, and exit.
 const EXIT_ZERO: &str = "b700000000000000 9500000000000000";
@@ -26,7 +27,7 @@ const RESERVE: &str = "1851000000000000 0000000000000000
     b702000008000000 b703000000000000 8500000083000000";
 
 // Runs the command on a text, and compares the status and both outputs.
-fn checked<T: Abort + Wait>(
+fn checked<T: Abort + Threads + Wait + Sync>(
     rt: &T,
     alloc: Global,
     words: &[&str],

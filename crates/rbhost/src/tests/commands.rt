@@ -7,9 +7,10 @@ use std::io::ErrorKind;
 use std::process::Abort;
 use std::sync::Wait;
 use std::test::Fail;
+use std::thread::Threads;
 
 // Runs the command on the input, and compares the status and both outputs.
-fn check<T: Abort + Wait>(
+fn check<T: Abort + Threads + Wait + Sync>(
     rt: &T,
     alloc: Global,
     words: &[&str],

@@ -1,0 +1,56 @@
+-- A ring that was just opened may be run.
+use Rattle.std.proofs.Common.{◌≡◌, ℕ, zero, suc, ◌+◌, [], ◌∷◌, ◌++◌, length, map, refl, ap, sym, ◌∙◌, subst, arith}
+use Rattle.std.specs.Prelude.{All}
+use Rattle.std.proofs.lemmas.List.Elements.{All-cons}
+use Rattle.atomic_table.specs.Seated.{TableId}
+use Rattle.rb_ledger.specs.Own.{Book}
+use Rattle.rb_ledger.specs.Numbers.{numbers_below}
+use Rattle.rb_ledger.specs.Seats.{Shared, WorkerSeat, TakerSeat, fresh_book, fresh_seat, fresh_seats, fresh_taker}
+use Rattle.rb_seats.specs.Seated.{IsAt}
+use Rattle.rb_workers.specs.declared.opened.Opened.{Opened}
+use Rattle.rb_workers.specs.Opened.{AreOpened, IsOpened}
+use Rattle.rb_workers.proofs.Numbered.{seats_length}
+
+-- one worker more at the end
+last_worker : (tag : ℕ) (ring : TableId) (seen : Book) (first n : ℕ) → map (λ (s : WorkerSeat). s.worker) (fresh_seats tag ring seen first (suc n)) ≡ map (λ (s : WorkerSeat). s.worker) (fresh_seats tag ring seen first n) ++ (first + n) ∷ []
+last_worker tag ring seen first zero = let e : first ≡ first + 0 = omega arith in ap (λ k. k ∷ []) e
+last_worker tag ring seen first (suc n) =
+    let rest = last_worker tag ring seen (first + 1) n in
+    let e : first + 1 + n ≡ first + suc n = omega arith in
+    ap (λ l. first ∷ l) (rest ∙ ap (λ k. map (λ (s : WorkerSeat). s.worker) (fresh_seats tag ring seen (first + 1) n) ++ k ∷ []) e)
+
+fresh_numbers : (tag : ℕ) (ring : TableId) (seen : Book) (n : ℕ) → map (λ (s : WorkerSeat). s.worker) (fresh_seats tag ring seen 0 n) ≡ numbers_below n
+fresh_numbers tag ring seen zero = refl
+fresh_numbers tag ring seen (suc n) = last_worker tag ring seen 0 n ∙ (λ i. fresh_numbers tag ring seen n i ++ zero_plus n i ∷ [])
+  where
+    zero_plus : (n : ℕ) → 0 + n ≡ n
+    zero_plus n = omega arith
+
+fresh_at : (shared : Shared) (seen : Book) (first n : ℕ) → All (IsAt shared) (fresh_seats shared.tag shared.ring seen first n)
+fresh_at shared seen first zero = λ k d below. absurd (omega arith)
+fresh_at shared seen first (suc n) = All-cons (IsAt shared) (fresh_seat shared.tag shared.ring first seen) (fresh_seats shared.tag shared.ring seen (first + 1) n) (refl, refl) (fresh_at shared seen (first + 1) n)
+
+pub fresh_opened : {S : Type 0} (position : S → ℕ) (tag size start workers : ℕ) (o : Opened S) → o.ring.tag ≡ tag → o.seats.items ≡ fresh_seats tag o.ring.ring (fresh_book size start workers) 0 workers
+    → o.consumer ≡ fresh_taker tag o.ring.ring (fresh_book size start workers) → position o.sink ≡ start → IsOpened position workers o
+fresh_opened position tag size start workers o tagged seats consumer begins =
+    let book = fresh_book size start workers in
+    record {
+      numbered = ap (map (λ (s : WorkerSeat). s.worker)) seats ∙ fresh_numbers tag o.ring.ring book workers;
+      seats_at = subst (All (IsAt o.ring)) (sym seats) (subst (λ t. All (IsAt o.ring) (fresh_seats t o.ring.ring book 0 workers)) tagged (fresh_at o.ring book 0 workers));
+      as_many = ap (λ (c : TakerSeat). c.seen.setup.workers) consumer;
+      consumer_tag = ap (λ (c : TakerSeat). c.tag) consumer ∙ sym tagged;
+      consumer_at = ap (λ (c : TakerSeat). c.ring) consumer;
+      sink_follows = begins ∙ sym (ap (λ (c : TakerSeat). c.position) consumer);
+    }
+
+-- two rings for the same workers may be run together
+pub both_opened : {S : Type 0} (position : S → ℕ) (count : ℕ) (a b : Opened S) → IsOpened position count a → IsOpened position count b → AreOpened position (a ∷ b ∷ [])
+both_opened position count a b is and =
+    let many = sym (seats_length position count a is) in
+    All-cons (IsOpened position (length a.seats.items)) a (b ∷ []) (subst (λ n. IsOpened position n a) many is)
+        (All-cons (IsOpened position (length a.seats.items)) b [] (subst (λ n. IsOpened position n b) many and) (λ k d below. absurd (omega arith)))
+
+-- so may one alone
+pub one_opened : {S : Type 0} (position : S → ℕ) (count : ℕ) (a : Opened S) → IsOpened position count a → AreOpened position (a ∷ [])
+one_opened position count a is =
+    All-cons (IsOpened position (length a.seats.items)) a [] (subst (λ n. IsOpened position n a) (sym (seats_length position count a is)) is) (λ k d below. absurd (omega arith))

@@ -1,0 +1,16 @@
+pub mod Lists
+pub mod Jobs
+pub mod Deals
+pub mod Parts
+pub mod Whole
+pub mod Numbered
+pub mod Takes
+pub mod Merges
+pub mod Same
+pub mod Sums
+pub mod Totals
+pub mod SameSeats
+pub mod Reported
+pub mod Strays
+pub mod Settling
+pub mod Fresh

@@ -1,0 +1,23 @@
+-- Laws of lists that stand beside each other.
+use Rattle.std.proofs.Common.{◌≡◌, ℕ, zero, suc, ◌<◌, List, [], ◌∷◌, length, get_or, Some, refl, sym, subst, arith}
+use Rattle.std.specs.Prelude.{slice_get}
+use Rattle.std.specs.List.{AllZip}
+
+pub zip_length : {A B : Type 0} (R : A → B → Type 0) (xs : List A) (ys : List B) → AllZip R xs ys → length xs ≡ length ys
+zip_length R [] [] all = refl
+zip_length R [] (y ∷ ys) all = absurd all
+zip_length R (x ∷ xs) [] all = absurd all
+zip_length R (x ∷ xs) (y ∷ ys) all = let e = zip_length R xs ys all.1 in omega arith
+
+-- the same, where both lists are of one type
+pub zip_of : {A : Type 0} (R : A → A → Type 0) (xs ys : List A) → length xs ≡ length ys → ((i : ℕ) (d : A) → i < length xs → R (get_or xs i d) (get_or ys i d)) → AllZip R xs ys
+zip_of R [] [] len each = tt
+zip_of R [] (y ∷ ys) len each = absurd (omega arith)
+zip_of R (x ∷ xs) [] len each = absurd (omega arith)
+zip_of R (x ∷ xs) (y ∷ ys) len each = (each 0 x (omega arith), zip_of R xs ys (omega arith) (λ i d below. each (suc i) d (omega arith)))
+
+pub zip_seen : {A B : Type 0} (R : A → B → Type 0) (xs : List A) (ys : List B) (i : ℕ) (y : B) → AllZip R xs ys → i < length ys → y ≡ get_or ys i y → (x : A) × (slice_get xs i ≡ Some x) × R x y
+zip_seen R xs [] i y all below e = absurd (omega arith)
+zip_seen R [] (z ∷ zs) i y all below e = absurd all
+zip_seen R (x ∷ xs) (z ∷ zs) zero y all below e = (x, refl, subst (R x) (sym e) all.0)
+zip_seen R (x ∷ xs) (z ∷ zs) (suc i) y all below e = zip_seen R xs zs i y all.1 (omega arith) e

@@ -1,0 +1,119 @@
+-- Seats and consumers that come back are those that went out.
+use Rattle.std.proofs.Common.{◌≡◌, ℕ, ◌<◌, List, [], ◌∷◌, length, get_or, map, drop, refl, ap, sym, ◌∙◌, subst, arith}
+use Rattle.std.specs.Prelude.{All}
+use Rattle.std.specs.List.{AllZip}
+use Rattle.std.proofs.lemmas.List.Elements.{AllZip-get_or, All-cons}
+use Rattle.rb_history.specs.Legal.{Setup}
+use Rattle.rb_ledger.specs.Seats.{Shared, WorkerSeat, IsSameSeat, IsSameTaker}
+use Rattle.rb_jobs.specs.declared.job.Job.{Job}
+use Rattle.rb_workers.specs.declared.opened.Opened.{Opened}
+use Rattle.rb_workers.specs.Consumers.{IsConsumed}
+use Rattle.rb_workers.specs.Jobs.{own}
+use Rattle.rb_workers.specs.Opened.{IsOpened, AreOpened, workers_of}
+use Rattle.rb_workers.specs.Reports.{IsHandedBack, RanFirst}
+use Rattle.rb_workers.specs.Rows.{rows, column}
+use Rattle.rb_workers.proofs.Lists.{zip_length}
+use Rattle.rb_workers.proofs.Numbered.{seats_length}
+use Rattle.rb_workers.proofs.Parts.{all_first, all_rest, rows_length}
+use Rattle.rb_workers.proofs.SameSeats.{same_seats, seats_same_of_runs, rows_of_columns}
+
+pub long_rows : {S : Type 0} (count : ℕ) (opened : List (Opened S)) → All (λ o. length o.seats.items ≡ count) opened → All (λ row. length row ≡ count) (rows opened)
+long_rows count [] all = λ k d below. absurd (omega arith)
+long_rows {S} count (o ∷ more) all =
+    All-cons (λ (row : List WorkerSeat). length row ≡ count) o.seats.items (rows more)
+    (all_first (λ (x : Opened S). length x.seats.items ≡ count) (o ∷ more) more o refl all)
+    (long_rows count more (all_rest (λ (x : Opened S). length x.seats.items ≡ count) (o ∷ more) more o refl all))
+
+-- as many seats at each ring
+pub opened_long : {S : Type 0} (position : S → ℕ) (count : ℕ) (opened : List (Opened S)) → All (IsOpened position count) opened → All (λ row. length row ≡ count) (rows opened)
+opened_long position count opened all = long_rows count opened (λ k d below. seats_length position count (get_or opened k d) (all k d below))
+
+-- ---- rings that may be run again
+
+workers_same : (xs ys : List WorkerSeat) → AllZip IsSameSeat xs ys → map (λ (s : WorkerSeat). s.worker) ys ≡ map (λ (s : WorkerSeat). s.worker) xs
+workers_same [] [] p = refl
+workers_same [] (y ∷ ys) p = absurd p
+workers_same (x ∷ xs) [] p = absurd p
+workers_same (x ∷ xs) (y ∷ ys) p = λ i. p.0.worker_same i ∷ workers_same xs ys p.1 i
+
+again : {S : Type 0} (position : S → ℕ) (count : ℕ) (o b : Opened S) → IsOpened position count o → b.ring ≡ o.ring → IsConsumed position o b → AllZip IsSameSeat o.seats.items b.seats.items → IsOpened position count b
+again position count o b is ring consumed same =
+    record {
+      numbered = workers_same o.seats.items b.seats.items same ∙ is.numbered;
+      seats_at = λ k d below.
+          let s = AllZip-get_or IsSameSeat o.seats.items b.seats.items k d d same (omega (arith, zip_length IsSameSeat o.seats.items b.seats.items same)) in
+          let at = is.seats_at k d (omega (arith, zip_length IsSameSeat o.seats.items b.seats.items same)) in
+          (s.tag_same ∙ (at.0 ∙ ap (λ (r : Shared). r.tag) (sym ring)), s.ring_same ∙ (at.1 ∙ ap (λ (r : Shared). r.ring) (sym ring)));
+      as_many = ap (λ (x : Setup). x.workers) consumed.0.setup_same ∙ is.as_many;
+      consumer_tag = consumed.0.tag_same ∙ (is.consumer_tag ∙ ap (λ (r : Shared). r.tag) (sym ring));
+      consumer_at = consumed.0.ring_same ∙ (is.consumer_at ∙ ap (λ (r : Shared). r.ring) (sym ring));
+      sink_follows = consumed.1;
+    }
+
+list_head : {A : Type 0} (x y : A) (xs ys : List A) → x ∷ xs ≡ y ∷ ys → x ≡ y
+list_head x y xs ys e = ap (λ l. get_or l 0 x) e
+
+list_tail : {A : Type 0} (x y : A) (xs ys : List A) → x ∷ xs ≡ y ∷ ys → xs ≡ ys
+list_tail x y xs ys e = ap (λ l. drop 1 l) e
+
+all_again : {S : Type 0} (position : S → ℕ) (count : ℕ) (opened back : List (Opened S)) → All (IsOpened position count) opened → map (λ o. o.ring) back ≡ map (λ o. o.ring) opened
+    → AllZip (IsConsumed position) opened back → AllZip (AllZip IsSameSeat) (rows opened) (rows back) → All (IsOpened position count) back
+all_again position count [] [] all rings consumed same = λ k d below. absurd (omega arith)
+all_again position count [] (b ∷ bs) all rings consumed same = absurd consumed
+all_again position count (o ∷ os) [] all rings consumed same = absurd consumed
+all_again position count (o ∷ os) (b ∷ bs) all rings consumed same =
+    All-cons (IsOpened position count) b bs
+    (again position count o b (all_first (IsOpened position count) (o ∷ os) os o refl all) (list_head b.ring o.ring (map (λ x. x.ring) bs) (map (λ x. x.ring) os) rings) consumed.0 same.0)
+    (all_again position count os bs (all_rest (IsOpened position count) (o ∷ os) os o refl all) (list_tail b.ring o.ring (map (λ x. x.ring) bs) (map (λ x. x.ring) os) rings) consumed.1 same.1)
+
+count_same : {S : Type 0} (opened back : List (Opened S)) → AllZip (AllZip IsSameSeat) (rows opened) (rows back) → workers_of back ≡ workers_of opened
+count_same [] [] same = refl
+count_same [] (b ∷ bs) same = absurd same
+count_same (o ∷ os) [] same = absurd same
+count_same (o ∷ os) (b ∷ bs) same = sym (zip_length IsSameSeat o.seats.items b.seats.items same.0)
+
+takers_same : {S : Type 0} (position : S → ℕ) (opened back : List (Opened S)) → AllZip (IsConsumed position) opened back → AllZip (λ o b. IsSameTaker o.consumer b.consumer) opened back
+takers_same position [] [] consumed = tt
+takers_same position [] (b ∷ bs) consumed = absurd consumed
+takers_same position (o ∷ os) [] consumed = absurd consumed
+takers_same position (o ∷ os) (b ∷ bs) consumed = (record { tag_same = consumed.0.0.tag_same; ring_same = consumed.0.0.ring_same }, takers_same position os bs consumed.1)
+
+-- what came back of a run may be run again
+pub handed_back : {S : Type 0} (position : S → ℕ) (opened back : List (Opened S)) (jobs : List Job) → AreOpened position opened → map (λ o. o.ring) back ≡ map (λ o. o.ring) opened
+    → AllZip (IsConsumed position) opened back → All (λ o. length o.seats.items ≡ workers_of opened) back
+    → ((k : ℕ) → k < workers_of opened → RanFirst (own k jobs) (column k (rows opened)) (column k (rows back)))
+    → IsHandedBack position opened jobs back
+handed_back {S} position opened back jobs all rings consumed long ran =
+    let count = workers_of opened in
+    let len : length (rows opened) ≡ length (rows back) = rows_length opened ∙ (zip_length (IsConsumed position) opened back consumed ∙ sym (rows_length back)) in
+    let same = rows_of_columns IsSameSeat count (rows opened) (rows back) (opened_long position count opened all) (long_rows count back long) len
+    (λ k below. let r = ran k below in seats_same_of_runs r.0 r.2 (column k (rows opened)) (column k (rows back)) r.4) in
+    let many = count_same opened back same in
+    record {
+      rings_same = rings;
+      seats_same = same;
+      consumers_same = takers_same position opened back consumed;
+      runs_again = subst (λ n. All (IsOpened position n) back) (sym many) (all_again position count opened back all rings consumed same);
+      workers_same = many;
+      worked = ran;
+    }
+
+-- nothing ran
+pub unchanged : {S : Type 0} (position : S → ℕ) (opened : List (Opened S)) (jobs : List Job) → AreOpened position opened → IsHandedBack position opened jobs opened
+unchanged {S} position opened jobs all =
+    record {
+      rings_same = refl;
+      seats_same = each (rows opened);
+      consumers_same = takers opened;
+      runs_again = all;
+      workers_same = refl;
+      worked = λ k below. ([], own k jobs, [], refl, refl);
+    }
+  where
+    each : (xs : List (List WorkerSeat)) → AllZip (AllZip IsSameSeat) xs xs
+    each [] = tt
+    each (x ∷ xs) = (same_seats x, each xs)
+
+    takers : (xs : List (Opened S)) → AllZip (λ o b. IsSameTaker o.consumer b.consumer) xs xs
+    takers [] = tt
+    takers (x ∷ xs) = (record { tag_same = refl; ring_same = refl }, takers xs)

@@ -1,0 +1,62 @@
+-- A worker's seats stay the same seats, whatever it ran; so do all rows, where all columns do.
+use Rattle.std.proofs.Common.{◌≡◌, ℕ, zero, suc, ◌<◌, List, [], ◌∷◌, length, refl, sym, ◌∙◌, subst, arith}
+use Rattle.std.proofs.lemmas.List.Elements.{All-head, All-tail}
+use Rattle.std.specs.Prelude.{slice_get}
+use Rattle.std.specs.List.{All, AllZip, cons_option}
+use Rattle.rb_ledger.specs.Seats.{WorkerSeat, IsSameSeat}
+use Rattle.rb_jobs.specs.declared.job.Job.{Job}
+use Rattle.rb_jobs.specs.declared.job.JobAnswer.{JobAnswer}
+use Rattle.rb_workers.specs.Jobs.{Ran}
+use Rattle.rb_workers.specs.Rows.{column}
+
+-- ---- a worker's seats
+
+same_seat : (s : WorkerSeat) → IsSameSeat s s
+same_seat s = record { tag_same = refl; ring_same = refl; worker_same = refl }
+
+pub same_seats : (xs : List WorkerSeat) → AllZip IsSameSeat xs xs
+same_seats [] = tt
+same_seats (x ∷ xs) = (same_seat x, same_seats xs)
+
+then_same : (xs ys zs : List WorkerSeat) → AllZip IsSameSeat xs ys → AllZip IsSameSeat ys zs → AllZip IsSameSeat xs zs
+then_same [] [] zs one two = two
+then_same [] (y ∷ ys) zs one two = absurd one
+then_same (x ∷ xs) [] zs one two = absurd one
+then_same (x ∷ xs) (y ∷ ys) [] one two = absurd two
+then_same (x ∷ xs) (y ∷ ys) (z ∷ zs) one two =
+    let f = one.0 in let g = two.0 in (
+      record { tag_same = g.tag_same ∙ f.tag_same; ring_same = g.ring_same ∙ f.ring_same; worker_same = g.worker_same ∙ f.worker_same },
+      then_same xs ys zs one.1 two.1,
+    )
+
+pub seats_same_of_runs : (jobs : List Job) (answers : List JobAnswer) (old new : List WorkerSeat) → Ran jobs answers old new → AllZip IsSameSeat old new
+seats_same_of_runs [] [] old new same = subst (AllZip IsSameSeat old) (sym same) (same_seats old)
+seats_same_of_runs [] (a ∷ rest) old new ran = absurd ran
+seats_same_of_runs (j ∷ js) [] old new ran = absurd ran
+seats_same_of_runs (j ∷ js) (a ∷ rest) old new ran = let did = ran.1 in then_same old ran.0 new did.same (seats_same_of_runs js rest ran.0 new ran.2)
+
+-- ---- rows from columns
+
+-- both rows, and all columns below them
+row_zip : {A : Type 0} (R : A → A → Type 0) (n : ℕ) (xs ys : List A) (aboves belows : ℕ → List A) → length xs ≡ n → length ys ≡ n
+    → ((k : ℕ) → k < n → AllZip R (cons_option (slice_get xs k) (aboves k)) (cons_option (slice_get ys k) (belows k)))
+    → AllZip R xs ys × ((k : ℕ) → k < n → AllZip R (aboves k) (belows k))
+row_zip R zero [] [] aboves belows lx ly each = (tt, λ k below. absurd (omega arith))
+row_zip R zero [] (y ∷ ys) aboves belows lx ly each = absurd (omega arith)
+row_zip R zero (x ∷ xs) ys aboves belows lx ly each = absurd (omega arith)
+row_zip R (suc n) [] ys aboves belows lx ly each = absurd (omega arith)
+row_zip R (suc n) (x ∷ xs) [] aboves belows lx ly each = absurd (omega arith)
+row_zip R (suc n) (x ∷ xs) (y ∷ ys) aboves belows lx ly each =
+    let first = each 0 (omega arith) in
+    let rest = row_zip R n xs ys (λ k. aboves (suc k)) (λ k. belows (suc k)) (omega arith) (omega arith) (λ k below. each (suc k) (omega arith)) in
+    ((first.0, rest.0), elim [ zero ↦ λ below. first.1 | suc k ↦ λ below. rest.1 k (omega arith) ])
+
+-- what holds between all columns holds between all rows
+pub rows_of_columns : (R : WorkerSeat → WorkerSeat → Type 0) (count : ℕ) (old new : List (List WorkerSeat)) → All (λ row. length row ≡ count) old → All (λ row. length row ≡ count) new → length old ≡ length new
+    → ((k : ℕ) → k < count → AllZip R (column k old) (column k new)) → AllZip (AllZip R) old new
+rows_of_columns R count [] [] old_rows new_rows len columns = tt
+rows_of_columns R count [] (row ∷ new) old_rows new_rows len columns = absurd (omega arith)
+rows_of_columns R count (row ∷ old) [] old_rows new_rows len columns = absurd (omega arith)
+rows_of_columns R count (row ∷ old) (now ∷ new) old_rows new_rows len columns =
+    let first = row_zip R count row now (λ k. column k old) (λ k. column k new) (All-head (λ (r : List WorkerSeat). length r ≡ count) row old old_rows) (All-head (λ (r : List WorkerSeat). length r ≡ count) now new new_rows) columns in
+    (first.0, rows_of_columns R count old new (All-tail (λ (r : List WorkerSeat). length r ≡ count) row old old_rows) (All-tail (λ (r : List WorkerSeat). length r ≡ count) now new new_rows) (omega arith) first.1)

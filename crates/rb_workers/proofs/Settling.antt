@@ -1,0 +1,129 @@
+-- Where each worker's seats together are settled, each seat is, and so no closed ring has a busy record.
+use Rattle.std.proofs.Common.{map, ◌≡◌, ℕ, zero, suc, ◌+◌, ◌<◌, ◌≤◌, List, [], ◌∷◌, length, sym, ◌∙◌, arith}
+use Rattle.std.proofs.lemmas.List.Elements.{All-head, All-tail, All-cons, All-nil, All-same, All-map}
+use Rattle.std.proofs.lemmas.Slice.Zip.{AllZip-long}
+use Rattle.std.specs.Prelude.{slice_get}
+use Rattle.std.specs.List.{All}
+use Rattle.rb_ledger.specs.Seats.{WorkerSeat, IsSameSeat, SettlesWithin, HasSettledAll}
+use Rattle.rb_ledger.proofs.Laws.{once-closed}
+use Rattle.rb_seats.specs.Seated.{made_in, submitted_in, discarded_in}
+use Rattle.rb_jobs.specs.declared.job.Job.{Job}
+use Rattle.rb_workers.specs.declared.opened.Opened.{Opened}
+use Rattle.rb_workers.specs.declared.opened.Ended.{Ended}
+use Rattle.rb_workers.specs.declared.opened.Report.{Report}
+use Rattle.rb_workers.specs.Opened.{AreOpened, IsOpened, workers_of}
+use Rattle.rb_workers.specs.Reports.{IsReport, RingsEnd}
+use Rattle.rb_workers.specs.Rows.{column, rows}
+use Rattle.rb_workers.specs.Settled.{AreSettled, EachSettled, IsEven, EndsSettled}
+use Rattle.rb_workers.proofs.Sums.{number_at, cons_sum}
+use Rattle.rb_workers.proofs.Numbered.{seats_length}
+use Rattle.rb_workers.proofs.Strays.{stays_settled}
+
+-- ---- one row
+
+abbrev made_at : List WorkerSeat → ℕ → ℕ
+made_at row k = number_at (λ s. s.tally.made) (slice_get row k)
+
+abbrev submitted_at : List WorkerSeat → ℕ → ℕ
+submitted_at row k = number_at (λ s. s.tally.submitted) (slice_get row k)
+
+abbrev discarded_at : List WorkerSeat → ℕ → ℕ
+discarded_at row k = number_at (λ s. s.tally.discarded) (slice_get row k)
+
+within_at : (row : List WorkerSeat) (k : ℕ) → All SettlesWithin row → submitted_at row k + discarded_at row k ≤ made_at row k
+within_at [] k all = omega arith
+within_at (s ∷ row) zero all = All-head SettlesWithin s row all
+within_at (s ∷ row) (suc k) all = within_at row k (All-tail SettlesWithin s row all)
+
+row_settled : (row : List WorkerSeat) → ((k : ℕ) → k < length row → made_at row k ≡ submitted_at row k + discarded_at row k) → All HasSettledAll row
+row_settled [] each = All-nil HasSettledAll
+row_settled (s ∷ row) each = All-cons HasSettledAll s row (each 0 (omega arith)) (row_settled row (λ k below. each (suc k) (omega arith)))
+
+-- ---- all rows
+
+column_within : (k : ℕ) (seats : List (List WorkerSeat)) → All (All SettlesWithin) seats → submitted_in (column k seats) + discarded_in (column k seats) ≤ made_in (column k seats)
+column_within k [] all = omega arith
+column_within k (row ∷ seats) all =
+    let here = within_at row k (All-head (All SettlesWithin) row seats all) in
+    let rest = column_within k seats (All-tail (All SettlesWithin) row seats all) in
+    let made = cons_sum (λ (s : WorkerSeat). s.tally.made) (slice_get row k) (column k seats) in
+    let submitted = cons_sum (λ (s : WorkerSeat). s.tally.submitted) (slice_get row k) (column k seats) in
+    let discarded = cons_sum (λ (s : WorkerSeat). s.tally.discarded) (slice_get row k) (column k seats) in
+    omega (arith, here, rest, made, submitted, discarded)
+
+column_settled : (k : ℕ) (row : List WorkerSeat) (seats : List (List WorkerSeat)) → All (All SettlesWithin) (row ∷ seats) → AreSettled (column k (row ∷ seats))
+    → (made_at row k ≡ submitted_at row k + discarded_at row k) × AreSettled (column k seats)
+column_settled k row seats all settled =
+    let here = within_at row k (All-head (All SettlesWithin) row seats all) in
+    let rest = column_within k seats (All-tail (All SettlesWithin) row seats all) in
+    let made = cons_sum (λ (s : WorkerSeat). s.tally.made) (slice_get row k) (column k seats) in
+    let submitted = cons_sum (λ (s : WorkerSeat). s.tally.submitted) (slice_get row k) (column k seats) in
+    let discarded = cons_sum (λ (s : WorkerSeat). s.tally.discarded) (slice_get row k) (column k seats) in
+    (omega (arith, here, rest, made, submitted, discarded, settled), omega (arith, here, rest, made, submitted, discarded, settled))
+
+-- no seat settles more than it made, so where each worker's seats together settled all, each seat did
+each_settled : (count : ℕ) (seats : List (List WorkerSeat)) → All (λ row. length row ≡ count) seats → All (All SettlesWithin) seats → EachSettled count seats → All (All HasSettledAll) seats
+each_settled count [] rows within settled = All-nil (All HasSettledAll)
+each_settled count (row ∷ seats) rows within settled =
+    let len : length row ≡ count = All-head (λ (r : List WorkerSeat). length r ≡ count) row seats rows in
+    All-cons (All HasSettledAll) row seats (row_settled row (λ k below. (column_settled k row seats within (settled k (omega (arith, len, below)))).0))
+    (each_settled count seats (All-tail (λ (r : List WorkerSeat). length r ≡ count) row seats rows) (All-tail (All SettlesWithin) row seats within) (λ k below. (column_settled k row seats within (settled k below)).1))
+
+-- ---- closed rings
+
+rings_within : {S : Type 0} (position : S → ℕ) (opened : List (Opened S)) (ended : List (Ended S)) (seats : List (List WorkerSeat)) → RingsEnd position opened ended seats → All (All SettlesWithin) seats
+rings_within position [] [] [] ends = All-nil (All SettlesWithin)
+rings_within position [] [] (row ∷ more) ends = absurd ends
+rings_within position [] (e ∷ es) [] ends = absurd ends
+rings_within position [] (e ∷ es) (row ∷ more) ends = absurd ends
+rings_within position (o ∷ os) [] [] ends = absurd ends
+rings_within position (o ∷ os) [] (row ∷ more) ends = absurd ends
+rings_within position (o ∷ os) (e ∷ es) [] ends = absurd ends
+rings_within position (o ∷ os) (e ∷ es) (row ∷ more) ends =
+    let ring = ends.0 in
+    All-cons (All SettlesWithin) row more (once-closed e.closing row ring.consumer ring.closed).within (rings_within position os es more ends.1)
+
+rings_settled : {S : Type 0} (position : S → ℕ) (opened : List (Opened S)) (ended : List (Ended S)) (seats : List (List WorkerSeat)) → RingsEnd position opened ended seats → All (All HasSettledAll) seats → All EndsSettled ended
+rings_settled position [] [] [] ends settled = All-nil EndsSettled
+rings_settled position [] [] (row ∷ more) ends settled = absurd ends
+rings_settled position [] (e ∷ es) [] ends settled = absurd ends
+rings_settled position [] (e ∷ es) (row ∷ more) ends settled = absurd ends
+rings_settled position (o ∷ os) [] [] ends settled = absurd ends
+rings_settled position (o ∷ os) [] (row ∷ more) ends settled = absurd ends
+rings_settled position (o ∷ os) (e ∷ es) [] ends settled = absurd ends
+rings_settled position (o ∷ os) (e ∷ es) (row ∷ more) ends settled =
+    let ring = ends.0 in
+    let here = All-head (All HasSettledAll) row more settled in
+    let one : EndsSettled e = record {
+      tallies_even = All-same IsEven e.tallies.items (map (λ (s : WorkerSeat). s.tally) row) ring.tallies_are (All-map IsEven (λ (s : WorkerSeat). s.tally) row here);
+      none_busy = (once-closed e.closing row ring.consumer ring.closed).none_busy.0 here;
+    } in
+    All-cons EndsSettled e es one (rings_settled position os es more ends.1 (All-tail (All HasSettledAll) row more settled))
+
+-- ---- a report
+
+-- the rows that rings end with are as long as those that were opened
+rows_at_end : {S : Type 0} (position : S → ℕ) (count : ℕ) (opened : List (Opened S)) (ended : List (Ended S)) (seats : List (List WorkerSeat)) → All (IsOpened position count) opened
+    → RingsEnd position opened ended seats → All (λ row. length row ≡ count) seats
+rows_at_end position count [] [] [] each ends = All-nil (λ (row : List WorkerSeat). length row ≡ count)
+rows_at_end position count [] [] (row ∷ more) each ends = absurd ends
+rows_at_end position count [] (e ∷ es) [] each ends = absurd ends
+rows_at_end position count [] (e ∷ es) (row ∷ more) each ends = absurd ends
+rows_at_end position count (o ∷ os) [] [] each ends = absurd ends
+rows_at_end position count (o ∷ os) [] (row ∷ more) each ends = absurd ends
+rows_at_end position count (o ∷ os) (e ∷ es) [] each ends = absurd ends
+rows_at_end position count (o ∷ os) (e ∷ es) (row ∷ more) each ends =
+    let here = seats_length position count o (All-head (IsOpened position count) o os each) in
+    let same = AllZip-long IsSameSeat o.seats.items row ends.0.same_seats in
+    All-cons (λ (row : List WorkerSeat). length row ≡ count) row more (same ∙ here) (rows_at_end position count os es more (All-tail (IsOpened position count) o os each) ends.1)
+
+-- where no run ended with a stray record, and each worker's seats were settled before, each ring ends settled
+pub no_strays : {S : Type 0} (position : S → ℕ) (opened : List (Opened S)) (jobs : List Job) (report : Report S) → AreOpened position opened → IsReport position opened jobs report
+    → report.strays ≡ 0 → EachSettled (workers_of opened) (rows opened) → All EndsSettled report.rings.items
+no_strays position opened jobs report each told none settled =
+    let count = workers_of opened in
+    let still : EachSettled count told.seats =
+    λ k below. stays_settled k jobs report.answers.items told.calls (column k (rows opened)) (column k told.seats) told.answers_shown (sym told.strays_are ∙ none) (told.numbers_rose k below) (settled k below)
+    in
+    let all = each_settled count told.seats (rows_at_end position count opened report.rings.items told.seats each told.rings_end) (rings_within position opened report.rings.items told.seats told.rings_end) still in
+    rings_settled position opened report.rings.items told.seats told.rings_end all

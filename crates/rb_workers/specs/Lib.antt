@@ -1,0 +1,9 @@
+pub mod Rows
+pub mod Opened
+pub mod Jobs
+pub mod Workers
+pub mod Consumers
+pub mod Rooms
+pub mod Ends
+pub mod Settled
+pub mod Reports

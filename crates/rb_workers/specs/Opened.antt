@@ -1,0 +1,24 @@
+-- What rings have to be for a run: what a caller knows of each (own).
+use Rattle.std.specs.Prelude.{◌≡◌, ℕ, List, [], ◌∷◌, All, length, map}
+use Rattle.rb_ledger.specs.Numbers.{numbers_below}
+use Rattle.rb_seats.specs.Seated.{IsAt}
+use Rattle.rb_workers.specs.declared.opened.Opened.{Opened}
+
+-- the seats are one of each worker, in the order of their numbers; they and the consumer are the ring's; and the sink's position is the
+-- consumer's
+pub record IsOpened {S : Type 0} (position : S → ℕ) (count : ℕ) (o : Opened S) : Type 0 where
+  pub numbered : map (λ s. s.worker) o.seats.items ≡ numbers_below count
+  pub seats_at : All (IsAt o.ring) o.seats.items
+  pub as_many : o.consumer.seen.setup.workers ≡ count
+  pub consumer_tag : o.consumer.tag ≡ o.ring.tag
+  pub consumer_at : o.consumer.ring ≡ o.ring.ring
+  pub sink_follows : position o.sink ≡ o.consumer.position
+
+-- how many workers there are: none where there is no ring
+abbrev pub workers_of : {S : Type 0} → List (Opened S) → ℕ
+workers_of [] = 0
+workers_of (o ∷ more) = length o.seats.items
+
+-- all rings are so, for the same workers
+abbrev pub AreOpened : {S : Type 0} → (S → ℕ) → List (Opened S) → Type 0
+AreOpened position opened = All (IsOpened position (workers_of opened)) opened

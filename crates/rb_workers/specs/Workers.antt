@@ -1,0 +1,50 @@
+-- What becomes of workers, their seats and their answers. No public clause cites this file.
+use Rattle.std.specs.Prelude.{◌≡◌, ℕ, ◌<◌, ◌≤◌, List, [], ◌∷◌, ◌++◌, Bool, true, false, vec_len, vec_capacity}
+use Rattle.rb_ledger.specs.Seats.{Shared, WorkerSeat}
+use Rattle.rb_seats.specs.Seated.{AtRings}
+use Rattle.rb_jobs.specs.declared.job.Job.{Job}
+use Rattle.rb_jobs.specs.declared.job.JobAnswer.{JobAnswer}
+use Rattle.rb_jobs.specs.Jobs.{Did, task_of}
+use Rattle.rb_workers.specs.declared.workers.Worker.{Worker}
+use Rattle.rb_workers.specs.Jobs.{Worked, own}
+
+-- the worker can be dealt one seat more without memory
+abbrev pub HasRoom : Worker → Type 0
+HasRoom worker = vec_len worker.seats < vec_capacity worker.seats
+
+-- the second is the first with this seat more
+abbrev pub IsOneMore : Worker → Worker → WorkerSeat → Type 0
+IsOneMore few more seat =
+    (more.number ≡ few.number) × (more.short ≡ few.short) × (more.answers ≡ few.answers)
+    × (more.seats.items ≡ few.seats.items ++ seat ∷ []) × (vec_capacity few.seats ≤ vec_capacity more.seats)
+
+-- the second is the first with this answer more
+abbrev pub IsOneAnswerMore : Worker → Worker → JobAnswer → Type 0
+IsOneAnswerMore few more answer = more.answers.items ≡ few.answers.items ++ answer ∷ []
+
+-- a worker with no seat yet, and room for one at each ring
+abbrev pub IsNew : ℕ → ℕ → Worker → Type 0
+IsNew number rings worker = (worker.number ≡ number) × (worker.short ≡ false) × (worker.answers.items ≡ []) × (worker.seats.items ≡ []) × (rings ≤ vec_capacity worker.seats)
+
+-- the same worker, with these seats
+abbrev pub Holds : Worker → List WorkerSeat → Worker → Type 0
+Holds old seats new = (new.number ≡ old.number) × (new.short ≡ old.short) × (new.answers ≡ old.answers) × (new.seats.items ≡ seats)
+
+-- a worker that has not begun: a seat at each ring, and no answer
+abbrev pub IsReady : List Shared → Worker → Type 0
+IsReady rings worker = AtRings rings worker.seats.items × (worker.answers.items ≡ []) × (worker.short ≡ false)
+
+-- the worker ran the job; where there was no memory for it, nothing changed
+abbrev pub RanOne : Job → Bool → Worker → Worker → Type 0
+RanOne job true old new = (a : JobAnswer) × (new.answers.items ≡ old.answers.items ++ a ∷ []) × Did (task_of job) a old.seats.items new.seats.items
+RanOne job false old new = (new.answers.items ≡ old.answers.items) × (new.seats.items ≡ old.seats.items)
+
+-- what a worker's thread gives back: its seats, each the same one, and its answers
+abbrev pub GivesBack : List Shared → List Job → Worker → Worker → Type 0
+GivesBack rings jobs old new =
+    (new.number ≡ old.number) × AtRings rings new.seats.items
+    × Worked (own old.number jobs) new.short new.answers.items old.seats.items new.seats.items
+
+-- the worker ran its jobs, and its seats went from the first to the second
+abbrev pub HasRun : ℕ → List Job → List WorkerSeat → List WorkerSeat → Worker → Type 0
+HasRun number jobs old new worker = (worker.number ≡ number) × Worked (own number jobs) worker.short worker.answers.items old new

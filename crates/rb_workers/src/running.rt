@@ -1,0 +1,187 @@
+//! Runs of jobs over rings.
+
+ghost use Rattle.std.specs.Prelude.{ℕ, ◌≡◌, ◌≢◌, ◌<◌, ◌≤◌, ◌↔◌, [], All, IfErr, IfOk, false, length, map, slice_index_or, true, vec_capacity, vec_len};
+ghost use Rattle.std.specs.List.{AllZip};
+ghost use Rattle.rb_workers.specs.Consumers.{IsConsumed};
+ghost use Rattle.rb_workers.specs.Opened.{AreOpened, IsOpened, workers_of};
+ghost use Rattle.rb_workers.specs.Reports.{IsHandedBack, IsReport, IsToldAs, has_unknown_ring, has_unknown_worker};
+ghost use Rattle.rb_workers.specs.Rooms.{IsRoomy};
+ghost use Rattle.rb_workers.specs.Rows.{column, rows};
+ghost use Rattle.rb_workers.specs.Settled.{EachSettled, EndsSettled};
+ghost use Rattle.rb_workers.specs.Workers.{HasRun, IsNew};
+
+use crate::answers::{count_strays, is_any_short, merge, results_of, sum_unlogged};
+use crate::consuming::Taker;
+use crate::dealing::{part, rejoin};
+use crate::ending::close_all;
+use crate::opened::{JobFault, Opened, Report};
+use crate::rooms::{Rooms, make_rooms};
+use crate::sink::Sink;
+use crate::threads::run_threads;
+use crate::workers::Worker;
+use rb_jobs::{Gate, Job};
+use rb_ledger::SharedRing;
+use std::alloc::Global;
+use std::sync::Wait;
+use std::thread::Threads;
+
+// Whether some job's program knows more rings than these.
+fn is_ring_unknown(jobs: &[Job<'_>], rings: usize) -> bool
+    ensures { result ≡ has_unknown_ring rings jobs.now }
+{
+    for job in jobs {
+        if job.program.rings() as usize > rings {
+            return true;
+        }
+    }
+    false
+}
+
+// Whether some job's worker is none of these.
+fn is_worker_unknown(jobs: &[Job<'_>], count: u32) -> bool
+    ensures { result ≡ has_unknown_worker count jobs.now }
+{
+    for job in jobs {
+        if job.worker >= count {
+            return true;
+        }
+    }
+    false
+}
+
+// How many workers there are.
+fn count_workers<S: Sink>(opened: &[Opened<S>]) -> u32
+    requires opened { AreOpened S.position_of opened.now }
+    ensures { result ≡ workers_of opened.now }
+{
+    match opened.first() {
+        Some(one) => {
+            one.consumer.facts();
+            one.seats.len() as u32
+        }
+        None => 0,
+    }
+}
+
+// Takes the rings apart, runs the jobs in threads, and puts the rings together again.
+fn run_in<R: Threads + Wait + Sync, G: Gate + Sync, S: Sink + Send + Drop>(
+    rt: &R,
+    alloc: Global,
+    opened: Vec<Opened<S>>,
+    jobs: &[Job<'_>],
+    gate: &G,
+    mut rings: Vec<SharedRing>,
+    mut takers: Vec<Taker<S>>,
+    back: Vec<Opened<S>>,
+    workers: &mut [Worker],
+) -> Vec<Opened<S>>
+    requires jobs { All (λ j. j.program.now.rings ≤ vec_len opened) jobs.now }
+    requires opened { All (IsOpened S.position_of (length workers.old)) opened.items }
+    requires count { length workers.old ≡ workers_of opened.items }
+    requires empty { (rings.items ≡ []) × (takers.items ≡ []) × (back.items ≡ []) }
+    requires room { (vec_len opened ≤ vec_capacity rings) × (vec_len opened ≤ vec_capacity takers) × (vec_len opened ≤ vec_capacity back) }
+    requires workers { (k : ℕ) (d : _) → k < length workers.old → IsNew k (vec_len opened) (slice_index_or workers.old k d) }
+    ensures handed_back { IsHandedBack S.position_of opened.items jobs.now result.items }
+    ensures workers { (k : ℕ) (d : _) → k < workers_of opened.items → HasRun k jobs.now (column k (rows opened.items)) (column k (rows result.items)) (slice_index_or workers.new k d) }
+{
+    part(opened, &mut rings, &mut takers, workers);
+    run_threads(rt, alloc, &rings, jobs, gate, workers, &mut takers);
+    rejoin(rings, takers, workers, back)
+}
+
+// Runs the jobs, and closes the rings where each worker ran all of its own.
+fn run_known<R: Threads + Wait + Sync, S: Sink + Send + Drop, G: Gate + Sync>(
+    rt: &R,
+    alloc: Global,
+    opened: Vec<Opened<S>>,
+    jobs: &[Job<'_>],
+    gate: &G,
+    rooms: Rooms<S>,
+) -> Result<Report<S>, Vec<Opened<S>>>
+    requires opened { AreOpened S.position_of opened.items }
+    requires rings { has_unknown_ring (vec_len opened) jobs.now ≡ false }
+    requires workers { has_unknown_worker (workers_of opened.items) jobs.now ≡ false }
+    requires rooms { IsRoomy (workers_of opened.items) (vec_len opened) (length jobs.now) rooms }
+    ensures report { IfOk result (IsReport S.position_of opened.items jobs.now) }
+    ensures back { IfErr result (λ b. IsHandedBack S.position_of opened.items jobs.now b.items) }
+{
+    let Rooms {
+        rings,
+        takers,
+        back,
+        mut workers,
+        tallies,
+        ended,
+        answers,
+        results,
+    } = rooms;
+    let back = run_in(
+        rt,
+        alloc,
+        opened,
+        jobs,
+        gate,
+        rings,
+        takers,
+        back,
+        workers.as_mut_slice(),
+    );
+    if is_any_short(&workers) {
+        return Err(back);
+    }
+    let answers = merge(jobs, workers.as_mut_slice(), answers);
+    let answers_told = results_of(&answers, results);
+    let strays = count_strays(&answers_told);
+    let unlogged = sum_unlogged(&answers);
+    let rings = close_all(rt, back, tallies, ended);
+    Ok(Report {
+        rings,
+        answers: answers_told,
+        strays,
+        unlogged,
+    })
+}
+
+/// Runs the jobs over the rings that were opened, a thread for each worker and for each ring, and closes the rings.
+///
+/// Each worker runs its own jobs in the order of the list, at its seats, one at each ring in their order: ring k of a program is the k-th.
+/// Each ring's consumer gives each record that it takes to the ring's sink. When all workers have ended, what is left is taken, up to the
+/// first record that is still busy. The gate is called before each helper call, and once more after a worker's last job, with the number
+/// of helper calls that the worker has finished; so a worker without jobs calls it once, with 0. Where no thread can be made its work is
+/// done on the calling thread, the workers' first.
+///
+/// `UnknownRing` is told before `UnknownWorker`, both before anything runs, and all is handed back as it was. `Memory` is told where there
+/// is none to begin, or none for a worker's next job: that worker then runs no more, the others run on, and all is handed back as it then
+/// is, with no ring closed.
+///
+/// It takes memory for each job and each seat, and for each worker's trace and answers as it runs.
+pub fn run_jobs<R: Threads + Wait + Sync, S: Sink + Send + Drop, G: Gate + Sync>(
+    rt: &R,
+    alloc: Global,
+    opened: Vec<Opened<S>>,
+    jobs: &[Job<'_>],
+    gate: &G,
+) -> Result<Report<S>, (JobFault, Vec<Opened<S>>)>
+    requires opened { AreOpened S.position_of opened.items }
+    ensures unknown_ring { IsToldAs JobFault.UnknownRing result ↔ (has_unknown_ring (vec_len opened) jobs.now ≡ true) }
+    ensures unknown_worker { IsToldAs JobFault.UnknownWorker result ↔ ((has_unknown_ring (vec_len opened) jobs.now ≡ false) × (has_unknown_worker (workers_of opened.items) jobs.now ≡ true)) }
+    ensures nothing_ran { IfErr result (λ e. e.0 ≢ JobFault.Memory → e.1 ≡ opened) }
+    ensures handed_back { IfErr result (λ e. IsHandedBack S.position_of opened.items jobs.now e.1.items) }
+    ensures report { IfOk result (IsReport S.position_of opened.items jobs.now) }
+    ensures no_strays { IfOk result (λ r. r.strays ≡ 0 → EachSettled (workers_of opened.items) (rows opened.items) → All EndsSettled r.rings.items) }
+{
+    if is_ring_unknown(jobs, opened.len()) {
+        return Err((JobFault::UnknownRing, opened));
+    }
+    let count = count_workers(&opened);
+    if is_worker_unknown(jobs, count) {
+        return Err((JobFault::UnknownWorker, opened));
+    }
+    let Ok(rooms) = make_rooms(alloc, count, opened.len(), jobs.len()) else {
+        return Err((JobFault::Memory, opened));
+    };
+    match run_known(rt, alloc, opened, jobs, gate, rooms) {
+        Ok(report) => Ok(report),
+        Err(back) => Err((JobFault::Memory, back)),
+    }
+}

@@ -1,0 +1,27 @@
+//! What records are given to.
+
+ghost use Rattle.std.specs.Prelude.{◌≡◌, ◌+◌, ◌<◌, ◌≤◌, ◌^◌, ℕ, length};
+ghost use Rattle.rb_header.specs.Span.{span};
+
+/// What a ring's consumer gives its records to, one by one and in the order of their positions. It has a position, which moves with the
+/// consumer's.
+pub trait Sink {
+    ghost position_of: { Self → ℕ };
+
+    /// The position of the next record.
+    fn position(&self) -> u64
+        ensures position { result ≡ position_of self.now };
+
+    /// Takes the event at its position: the worker that made the record, the record's number among that worker's, and its bytes.
+    fn event(&mut self, pos: u64, worker: u32, serial: u64, bytes: &[u8])
+        requires next { pos ≡ position_of self.old }
+        requires len { length bytes.now < 2 ^ 32 }
+        requires end { pos + span (length bytes.now) ≤ 2 ^ 62 }
+        ensures moved { position_of self.new ≡ position_of self.old + span (length bytes.now) };
+
+    /// Passes over a discarded record of `n` bytes at its position.
+    fn skipped(&mut self, pos: u64, n: u32)
+        requires next { pos ≡ position_of self.old }
+        requires end { pos + span n ≤ 2 ^ 62 }
+        ensures moved { position_of self.new ≡ position_of self.old + span n };
+}

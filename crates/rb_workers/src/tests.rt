@@ -1,0 +1,5 @@
+//! Worked runs of jobs.
+
+mod given;
+mod refused;
+mod runs;

@@ -1,0 +1,169 @@
+//! What the tests share: programs, rings with sinks, and gates.
+
+ghost use Rattle.std.specs.Prelude.{◌≡◌, ◌≤◌, ℕ, IfOk, length};
+ghost use Rattle.rb_workers.specs.Opened.{IsOpened};
+
+use crate::{Gate, Opened, Sink};
+use rb_cfg::shape;
+use rb_decode::from_text;
+use rb_header::span;
+use rb_verifier::{Verified, verify};
+use std::alloc::Global;
+use std::sync::Wait;
+use std::sync::atomic::{AtomicU64, Ordering};
+use std::test::Fail;
+use std::thread;
+
+/// Reserves a record of eight bytes, and submits 42 where it was granted.
+pub(super) const SUBMIT_42: &str =
+    "1851000000000000 0000000000000000 b702000008000000 b703000000000000
+    8500000083000000 1500040000000000 7a0000002a000000 bf01000000000000
+    b702000000000000 8500000084000000 b700000000000000 9500000000000000";
+
+/// Outputs the first eight bytes of the context, and ends with the answer.
+pub(super) const OUTPUT_CONTEXT: &str = "bf12000000000000 1851000000000000 0000000000000000
+    b703000008000000 b704000000000000 8500000082000000 9500000000000000";
+
+/// A sink that counts, for each first byte, the events of eight bytes that begin so and go on with zeros, and all others.
+#[derive(Drop)]
+pub(super) struct Counter {
+    pub(super) position: u64,
+    pub(super) events: [u64; 256],
+    pub(super) others: u64,
+}
+
+impl Counter {
+    pub(super) fn new() -> Counter
+        ensures { result.position ≡ 0 }
+    {
+        Counter {
+            position: 0,
+            events: [0; 256],
+            others: 0,
+        }
+    }
+}
+
+impl Sink for Counter {
+    ghost use Rattle.std.specs.Prelude.{ℕ};
+
+    ghost position_of = { λ c. c.position };
+
+    fn position(&self) -> u64 {
+        self.position
+    }
+
+    fn event(&mut self, pos: u64, _: u32, _: u64, bytes: &[u8]) {
+        match bytes {
+            [first, 0, 0, 0, 0, 0, 0, 0] => {
+                let at = *first as usize;
+                self.events[at] = self.events[at].saturating_add(1);
+            }
+            _ => self.others = self.others.saturating_add(1),
+        }
+        self.position = pos + span(bytes.len() as u32);
+    }
+
+    fn skipped(&mut self, pos: u64, n: u32) {
+        self.others = self.others.saturating_add(1);
+        self.position = pos + span(n);
+    }
+}
+
+/// A gate that holds nobody, and tells how often worker 0 and how often the others came, and the sum of what the others had finished.
+#[derive(Drop)]
+pub(super) struct Free {
+    pub(super) first: AtomicU64,
+    pub(super) others: AtomicU64,
+    pub(super) finished: AtomicU64,
+}
+
+impl Free {
+    pub(super) fn new() -> Free {
+        Free {
+            first: AtomicU64::new(0),
+            others: AtomicU64::new(0),
+            finished: AtomicU64::new(0),
+        }
+    }
+}
+
+impl Gate for Free {
+    fn at(&self, worker: u32, call: u64) {
+        if worker == 0 {
+            self.first.fetch_add(1, Ordering::SeqCst);
+        } else {
+            self.others.fetch_add(1, Ordering::SeqCst);
+            self.finished.fetch_add(call, Ordering::SeqCst);
+        }
+    }
+}
+
+/// A gate that holds worker 1 at its first call until worker 0 has come to its second, and worker 0 there until worker 1 has finished two
+/// calls. It tells how often somebody waited too long.
+#[derive(Drop)]
+pub(super) struct Holding {
+    seen: [AtomicU64; 2],
+    pub(super) late: AtomicU64,
+}
+
+impl Holding {
+    pub(super) fn new() -> Holding {
+        Holding {
+            seen: [AtomicU64::new(0), AtomicU64::new(0)],
+            late: AtomicU64::new(0),
+        }
+    }
+
+    fn wait(&self, whom: usize, until: u64) {
+        for _ in 0..1_000_000 {
+            if self.seen[whom % 2].load(Ordering::SeqCst) >= until {
+                return;
+            }
+            thread::yield_now();
+        }
+        self.late.fetch_add(1, Ordering::SeqCst);
+    }
+}
+
+impl Gate for Holding {
+    fn at(&self, worker: u32, call: u64) {
+        if worker > 1 {
+            return;
+        }
+        self.seen[worker as usize % 2].store(call.saturating_add(1), Ordering::SeqCst);
+        if worker == 1 && call == 0 {
+            self.wait(0, 2);
+        }
+        if worker == 0 && call == 1 {
+            self.wait(1, 3);
+        }
+    }
+}
+
+/// Outputs the first eight bytes of the context to the second ring.
+pub(super) const OUTPUT_TO_SECOND: &str = "bf12000000000000 1851000001000000 0000000000000000
+    b703000008000000 b704000000000000 8500000082000000 9500000000000000";
+
+/// A program, verified for a context of 16 bytes and so many rings.
+pub(super) fn verified(alloc: Global, text: &str, rings: u32) -> Result<Verified, Fail>
+    requires { rings ≤ 16 }
+{
+    let program = from_text(alloc, text)?;
+    Ok(verify(alloc, shape(alloc, program)?, 16, rings)?)
+}
+
+/// A ring of 4,096 bytes for so many workers.
+pub(super) fn opened<R: Wait>(
+    rt: &R,
+    alloc: Global,
+    tag: u64,
+    workers: u32,
+) -> Result<Opened<Counter>, Fail>
+    ensures { IfOk result (λ o. IsOpened (λ c. c.position) workers o) }
+{
+    match Opened::open(rt, alloc, tag, 4096, 0, workers, Counter::new()) {
+        Ok(opened) => Ok(opened),
+        Err(_) => Err(Fail::from("no ring")),
+    }
+}

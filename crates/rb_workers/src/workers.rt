@@ -1,0 +1,126 @@
+//! Workers, each with its seats and the answers of its jobs.
+
+ghost use Rattle.std.specs.Prelude.{◌≡◌, ◌<◌, ◌≤◌, All, if◌then◌else◌, length, vec_len, vec_capacity};
+ghost use Rattle.rb_seats.specs.Seated.{AtRings};
+ghost use Rattle.rb_workers.specs.Jobs.{Ran, own};
+ghost use Rattle.rb_workers.specs.Workers.{HasRoom, IsOneMore, IsOneAnswerMore, IsReady, GivesBack, RanOne};
+
+use rb_jobs::{Gate, Job, JobAnswer, run_job};
+use rb_ledger::{Seat, SharedRing};
+use std::alloc::Global;
+use std::mem;
+use std::sync::Wait;
+
+/// A worker: its number, how many helper calls it has finished, its seats in the order of the rings, the answers of its jobs in their
+/// order, and whether it found no memory for a job.
+#[derive(Drop)]
+pub(crate) struct Worker {
+    pub(crate) number: u32,
+    pub(crate) calls: u64,
+    pub(crate) short: bool,
+    pub(crate) seats: Vec<Seat>,
+    pub(crate) answers: Vec<JobAnswer>,
+}
+
+impl Worker {
+    /// Deals the worker one seat more.
+    pub(crate) fn deal(&mut self, seat: Seat)
+        requires room { HasRoom self.old }
+        ensures dealt { IsOneMore self.old self.new seat }
+    {
+        self.seats.push_reserved(seat);
+    }
+
+    /// Takes the worker's last seat back.
+    pub(crate) fn give_back(&mut self) -> Seat
+        requires some { 0 < vec_len self.old.seats }
+        ensures back { IsOneMore self.new self.old result }
+    {
+        match self.seats.pop() {
+            Some(seat) => seat,
+            None => unreachable!(),
+        }
+    }
+
+    /// Takes the worker's last answer.
+    pub(crate) fn take_answer(&mut self) -> JobAnswer
+        requires some { 0 < vec_len self.old.answers }
+        ensures taken { IsOneAnswerMore self.new self.old result }
+    {
+        match self.answers.pop() {
+            Some(answer) => answer,
+            None => unreachable!(),
+        }
+    }
+
+    // Runs one of the worker's jobs, and answers whether there was memory for it. Where there is none, nothing ran.
+    fn run_one<R: Wait, G: Gate>(
+        &mut self,
+        rt: &R,
+        alloc: Global,
+        rings: &[SharedRing],
+        job: &Job<'_>,
+        gate: &G,
+    ) -> bool
+        requires rings { job.now.program.now.rings ≤ length rings.now }
+        requires seats { AtRings rings.now self.old.seats.items }
+        ensures same { (self.new.number ≡ self.old.number) × (self.new.short ≡ self.old.short) }
+        ensures ran { RanOne job.now result self.old self.new }
+        ensures seats { AtRings rings.now self.new.seats.items }
+    {
+        if self.answers.reserve(1).is_err() {
+            return false;
+        }
+        let seats = mem::replace(&mut self.seats, Vec::new(alloc));
+        let (answer, seats) = run_job(rt, alloc, rings, seats, job, gate, &mut self.calls);
+        self.seats = seats;
+        match answer {
+            Ok(answer) => {
+                self.answers.push_reserved(answer);
+                true
+            }
+            Err(_) => false,
+        }
+    }
+
+    // Runs the worker's jobs in their order, up to the first that finds no memory.
+    fn run_own<R: Wait, G: Gate>(
+        &mut self,
+        rt: &R,
+        alloc: Global,
+        rings: &[SharedRing],
+        jobs: &[Job<'_>],
+        gate: &G,
+    )
+        requires rings { All (λ j. j.program.now.rings ≤ length rings.now) jobs.now }
+        requires ready { IsReady rings.now self.old }
+        ensures back { GivesBack rings.now jobs.now self.old self.new }
+    {
+        for job in jobs {
+            if job.worker != self.number {
+                continue;
+            }
+            if !self.run_one(rt, alloc, rings, job, gate) {
+                self.short = true;
+                return;
+            }
+        }
+    }
+
+    /// Runs the worker's jobs in their order, up to the first that finds no memory, and comes to the gate once more at the end.
+    pub(crate) fn work<R: Wait, G: Gate>(
+        &mut self,
+        rt: &R,
+        alloc: Global,
+        rings: &[SharedRing],
+        jobs: &[Job<'_>],
+        gate: &G,
+    )
+        requires rings { All (λ j. j.program.now.rings ≤ length rings.now) jobs.now }
+        requires ready { IsReady rings.now self.old }
+        ensures back { GivesBack rings.now jobs.now self.old self.new }
+    {
+        self.run_own(rt, alloc, rings, jobs, gate);
+        gate.at(self.number, self.calls);
+    }
+}
