@@ -9,6 +9,7 @@ use rb_insn::{
     BinaryOp, ByteOrder, DivisionOp, Extend32, Extend64, Insn, Signedness, SwapWidth, Width,
 };
 
+#[inline(always)]
 #[tactic(auto, unfolding(crate::specs::Meaning::value_of))]
 /// The value that an arithmetic instruction gives, where its destination register holds `dst` and its source register `src`
 /// (RFC 9669, sections 4.1 and 4.2). An instruction with an immediate operand does not look at `src`, and a move does not look
@@ -48,6 +49,7 @@ pub fn value(insn: &Insn, dst: u64, src: u64) -> u64
     }
 }
 
+#[inline(always)]
 /// Arithmetic on two numbers of the width.
 #[tactic(auto, unfolding(crate::specs::Numbers::binary_of))]
 fn binary(width: Width, op: BinaryOp, a: u64, b: u64) -> u64

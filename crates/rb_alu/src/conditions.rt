@@ -7,6 +7,7 @@ ghost use Rattle.rb_alu.specs.Meaning.{bits_of, IgnoresSource, IsConditional, ju
 use crate::operands::{low_bits, operand_value, signed};
 use rb_insn::{Condition, Insn, Width};
 
+#[inline(always)]
 #[tactic(auto, unfolding(crate::specs::Meaning::jumps_of))]
 /// Whether a conditional instruction jumps, where its destination register holds `dst` and its source register `src`
 /// (RFC 9669, section 4.3). An instruction with an immediate operand does not look at `src`. Takes constant time.
@@ -29,6 +30,7 @@ pub fn jumps(insn: &Insn, dst: u64, src: u64) -> bool
     }
 }
 
+#[inline(always)]
 /// Whether the condition holds of two numbers of the width.
 #[tactic(auto, unfolding(crate::specs::Numbers::condition_holds))]
 fn holds(width: Width, condition: Condition, a: u64, b: u64) -> bool

@@ -7,6 +7,7 @@ ghost use Rattle.rb_alu.specs.Meaning.{bits_of, operand_of};
 use rb_insn::{Operand, Width};
 
 /// The second operand as a number of 64 bits: the immediate, sign-extended, or the source register.
+#[inline(always)]
 pub(crate) fn operand_value(operand: Operand, src: u64) -> u64
     ensures { result ≡ operand_of operand src }
 {
@@ -17,6 +18,7 @@ pub(crate) fn operand_value(operand: Operand, src: u64) -> u64
 }
 
 /// A shift's count: the operand modulo the number of the width's bits.
+#[inline(always)]
 pub(crate) fn shift_count(width: Width, operand: u64) -> u32
     ensures { result ≡ operand % bits_of width }
 {
@@ -27,6 +29,7 @@ pub(crate) fn shift_count(width: Width, operand: u64) -> u32
 }
 
 /// The low bits, as many as the width has.
+#[inline(always)]
 pub(crate) fn low_bits(width: Width, number: u64) -> u64
     ensures { result ≡ low_bits (bits_of width) number }
 {
@@ -37,6 +40,7 @@ pub(crate) fn low_bits(width: Width, number: u64) -> u64
 }
 
 /// A number of the width, read as signed.
+#[inline(always)]
 pub(crate) fn signed(width: Width, number: u64) -> i64
     requires { number < 2 ^ bits_of width }
     ensures { result ≡ signed_of (bits_of width) number }

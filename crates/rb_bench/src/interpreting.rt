@@ -14,9 +14,10 @@ pub(crate) fn run_rounds(
     rounds: u32,
 ) -> Result<u64, BenchFault> {
     let context = [0; 16];
+    let calls = program.calls();
     let mut sum: u64 = 0;
     for _ in 0..rounds {
-        let answers = vec![in alloc; true; program.calls()]?;
+        let answers = vec![in alloc; true; calls]?;
         let mut helpers = Listed::new(alloc, answers)?;
         match run(program, context.as_slice(), &mut helpers) {
             Ok(value) => sum = sum.wrapping_add(value),

@@ -6,6 +6,7 @@ ghost use Rattle.rb_cfg.specs.Edges.{Next, Target, distance_of, leads};
 
 use rb_insn::Insn;
 
+#[inline(always)]
 #[tactic(auto, unfolding(crate::specs::Edges::leads))]
 /// The unit behind the instruction at `unit`, where it may go on to it: none for EXIT and for an unconditional jump (RFC 9669,
 /// section 4.3). A wide instruction takes two units. The unit may lie past the end of the program.
@@ -19,6 +20,7 @@ pub fn next_unit(unit: u32, insn: &Insn) -> Option<u32>
     }
 }
 
+#[inline(always)]
 #[tactic(auto, unfolding(crate::specs::Edges::leads))]
 /// The unit to which the instruction at `unit` jumps, its unit plus 1 plus the distance (RFC 9669, section 4.3): none where it is
 /// no jump, and none where that number is below 0. The unit may lie past the end of the program.

@@ -11,7 +11,8 @@ const BUSY: u32 = 1 << 31;
 // The bit of the length word that says that the record was discarded.
 const DISCARD: u32 = 1 << 30;
 
-/// What stands in front of a record: its length, its state and its page. (Linux Documentation/bpf/ringbuf.rst.)
+/// The header that stands in front of a record, eight bytes when written: its length, its state and its page. (Linux
+/// Documentation/bpf/ringbuf.rst.)
 #[derive(Clone, Copy, Debug, PartialEq, Eq)]
 pub struct Header {
     /// How many bytes the record has, below 2^30.
@@ -24,7 +25,7 @@ pub struct Header {
     pub page: u32,
 }
 
-/// Why eight bytes are no header.
+/// Why eight bytes are no record's header.
 #[derive(Clone, Copy, Debug, PartialEq, Eq, Error)]
 pub enum HeaderFault {
     /// The busy bit and the discard bit are both set beside the length.
@@ -35,8 +36,8 @@ pub enum HeaderFault {
 impl Header {
     ghost use Rattle.rb_header.specs.Header.{header_bytes, IsHeader, HasBothBits};
 
-    /// The eight bytes of the header: the length word, whose bit 30 is the discard bit and bit 31 the busy bit, and
-    /// the page, each with its lowest byte first.
+    /// The eight bytes of the header: the length word, whose bits 0 to 29 are the length, bit 30 the discard bit and bit 31 the
+    /// busy bit, and then the page, each of the two with its lowest byte first. In constant time.
     pub fn to_bytes(&self) -> [u8; 8]
         requires len { self.now.len < 2 ^ 30 }
         requires one_bit { (self.now.busy && self.now.discard) ≡ false }
@@ -55,7 +56,7 @@ impl Header {
         bytes
     }
 
-    /// The header whose bytes these are, or a fault exactly where both bits are set.
+    /// The one header whose bytes these are, or `LengthWithBusyAndDiscard` exactly where both bits are set. In constant time.
     pub fn from_bytes(bytes: &[u8; 8]) -> Result<Header, HeaderFault>
         ensures found { IfOk result (λ h. IsHeader h × (header_bytes h ≡ bytes.now)) }
         ensures only { (h : Header) → IsHeader h → header_bytes h ≡ bytes.now → result ≡ Ok h }

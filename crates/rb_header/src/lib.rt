@@ -1,4 +1,4 @@
-//! The spans and headers of records, and the tape that they are written as.
+//! The spans and headers of records, and the laws of the tape: the bytes that records are written as, one behind the other.
 #![tactic(auto)]
 
 mod headers;

@@ -4,7 +4,8 @@ ghost use Rattle.std.specs.Prelude.{◌≡◌, ℕ, ◌+◌, ◌*◌, ◌≤◌}
 ghost use Rattle.rb_header.specs.Span as spans;
 
 /// The bytes that a record of `n` bytes takes in a ring: eight for its header, and its payload rounded up to a
-/// multiple of eight. At most 4,294,967,304. (Linux Documentation/bpf/ringbuf.rst.)
+/// multiple of eight. At most 4,294,967,304. In constant time. (Linux Documentation/bpf/ringbuf.rst has the header; the
+/// rounding is own.)
 pub fn span(n: u32) -> u64
     ensures value { result ≡ spans.span n }
     ensures holds { 8 + n ≤ result }

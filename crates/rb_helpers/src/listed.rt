@@ -14,8 +14,9 @@ use std::marker::Model;
 
 /// Helpers that answer from a list, one answer for each call. They have a ring of every number, and look at no flags.
 ///
-/// `true` grants (null where memory refuses the record), takes, and outputs with answer 0; `false` is null, hands back, and
-/// answers `NO_RECORD`. A query uses its answer up too, and gives 0.
+/// An answer of `true` grants a record (but null where there is no memory for it), takes one, or outputs with answer 0. One of
+/// `false` is null, hands the record back, or answers `NO_RECORD`. A query uses its answer up too, and gives 0. No call takes
+/// memory but `new` and `reserve`.
 #[derive(Drop)]
 pub struct Listed {
     alloc: Global,
@@ -51,6 +52,7 @@ impl Listed {
         })
     }
 
+    // The answer of the next call.
     fn next_answer(&self) -> bool
         requires { 0 < length self.now.left }
         ensures { result ≡ next_of self.now.left }
@@ -58,6 +60,7 @@ impl Listed {
         self.answers[self.next]
     }
 
+    // Notes a call and uses its answer up. There is room for it.
     #[tactic(auto, using(crate::proofs::Counts::behind_next))]
     fn log(&mut self, done: Done)
         requires { 0 < length self.old.left }
@@ -82,7 +85,7 @@ impl Helpers for Listed {
 
     ghost leads = { λ start given h. given_calls start.trace + length given ≡ given_calls h.trace };
 
-    /// A sheet of `n` zero bytes where the next answer is `true` and memory does not refuse it.
+    /// A sheet of `n` zero bytes where the next answer is `true` and there is memory for it, else null.
     fn reserve(&mut self, ring: u32, n: u32, flags: u64) -> Option<Sheet>
         requires room { 0 < length self.old.left }
         ensures trace { self.new.trace ≡ self.old.trace ++ Reserve ring n flags (is_some result) ∷ [] }

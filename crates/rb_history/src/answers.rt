@@ -7,7 +7,7 @@ use thiserror::Error;
 /// Why a ring can't be made. The first of these that stands is told, in this order.
 #[derive(Clone, Copy, Debug, Error, PartialEq, Eq)]
 pub enum OpenFault {
-    /// The size is no power of two from 4,096 to 67,108,864.
+    /// The size in bytes is no power of two from 4,096 to 67,108,864.
     #[error("the size is no power of two from 4096 to 67108864")]
     Size,
     /// The start is no multiple of 8, or above 2^61.
@@ -16,12 +16,12 @@ pub enum OpenFault {
     /// The number of workers is not 1 to 256.
     #[error("the number of workers is not 1 to 256")]
     Workers,
-    /// There is no memory for the ring.
+    /// A growth was refused: there is no memory for the ring.
     #[error("out of memory")]
     Memory,
 }
 
-/// Whether the consumer is to be told of a record.
+/// Whether the consumer is to be told of a record (bpf-helpers(7): the notification of new data).
 #[derive(Clone, Copy, Debug, PartialEq, Eq)]
 pub enum Notice {
     /// It is to be told.
@@ -33,13 +33,13 @@ pub enum Notice {
 /// Why no record was granted.
 #[derive(Clone, Copy, Debug, Error, PartialEq, Eq)]
 pub enum ReserveFault {
-    /// The room rule fails. The refusal is logged.
+    /// The ring has no room for the record. The refusal is logged.
     #[error("the ring has no room")]
     Full,
     /// A growth was refused. Nothing changed.
     #[error("out of memory")]
     Memory,
-    /// The flags are above 3. Nothing changed.
+    /// The flags of an `output` are above 3. Nothing changed.
     #[error("unknown flags")]
     Flags,
     /// The seat is another ring's. Nothing changed. A ring of one thread never answers so.
@@ -47,7 +47,7 @@ pub enum ReserveFault {
     Foreign,
 }
 
-/// A reservation that no busy record of the ring has, handed back whole.
+/// A reservation that agrees with no busy record of the ring in position, worker, serial and length, handed back whole.
 #[derive(Drop)]
 pub struct Stray {
     /// The reservation that was handed in.
@@ -59,9 +59,9 @@ pub struct Stray {
 pub enum Taken {
     /// A submitted record was taken: its position, worker and serial, and its bytes.
     Event(u64, u32, u64, Sheet),
-    /// A discarded record was passed over: its position and length.
+    /// A discarded record was passed over: its position, and its length in bytes.
     Skipped(u64, u32),
-    /// The record there is busy. Nothing changed.
+    /// The record there is busy: neither submitted nor discarded yet. Nothing changed.
     BusyFront,
     /// There is no record there. Nothing changed.
     Empty,
@@ -73,7 +73,7 @@ pub enum Taken {
 pub struct Counts {
     /// Records that were granted.
     pub made: u64,
-    /// Reservations that found no room.
+    /// Reservations and outputs that found no room.
     pub refused: u64,
     /// Records that were submitted and taken.
     pub consumed: u64,

@@ -4,10 +4,10 @@ ghost use Rattle.std.specs.Prelude.{◌≡◌};
 ghost use Rattle.rb_history.specs.History.{is_grant_of};
 ghost use Rattle.rb_history.specs.Counting.{is_grant, is_refusal, is_discarding};
 
-/// One step of a ring's history. Workers are named by their numbers, records by their positions.
+/// One step of a ring's history. Workers are named by their numbers, from 0 on, and records by their positions, in bytes.
 #[derive(Clone, Copy, Debug, PartialEq, Eq)]
 pub enum Entry {
-    /// `Res(w, k, n, p)`: worker `w` was granted a record of `n` bytes at position `p`, its `k`-th from 0 on this ring.
+    /// `Res(w, k, n, p)`: worker `w`, whom this ring granted `k` records before, was granted one of `n` bytes at position `p`.
     Res(u32, u64, u32, u64),
     /// `Full(w, n)`: worker `w` asked for a record of `n` bytes and found no room.
     Full(u32, u32),

@@ -1,5 +1,5 @@
-//! What a ring's history says: its entries, the answers of a ring's calls, and the definitions and laws that every body of a
-//! ring and every caller shares. No body of a ring stands here.
+//! What a ring's history says: its entries, the answers of a ring's calls, and the definitions and laws that the rings
+//! (`rb_ring`, `rb_ring_list` and `rb_ledger`) and their callers share. No ring itself stands here.
 #![tactic(auto)]
 
 mod answers;
@@ -8,6 +8,8 @@ mod entries;
 mod one_call;
 mod reservations;
 mod stored;
+#[cfg(test)]
+mod tests;
 
 pub use answers::{Counts, Notice, OpenFault, ReserveFault, Stray, Taken};
 pub use bounds::{LIMIT, is_size, is_start, is_worker_count, notice_for};

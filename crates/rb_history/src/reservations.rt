@@ -7,7 +7,8 @@ use rb_lend::{Lent, Sheet};
 use std::marker::Model;
 
 /// A granted record and its bytes. A ring's `reserve` makes it; it is submitted or discarded once, and can't be cloned.
-/// Given up without either, its record stays busy.
+/// Dropped without either, its record stays busy. Its calls take no memory and constant time. (Linux
+/// Documentation/bpf/ringbuf.rst: a reserved record is committed or discarded.)
 #[derive(Drop)]
 pub struct Reservation {
     pos: u64,
@@ -25,7 +26,9 @@ impl Model for Reservation {
 }
 
 impl Reservation {
-    /// The reservation of a record at a position, for a ring's body, which calls it where it has logged the grant.
+    /// The reservation of a record at a position, of this worker and serial, as long as the sheet. For a ring's `reserve`, which
+    /// calls it once it has logged the grant. A ring hands any other back as `Stray`, unless a busy record has its four
+    /// numbers.
     pub fn new(pos: u64, worker: u32, serial: u64, sheet: Sheet) -> Reservation
         ensures parts { result ≡ record { pos = pos; worker = worker; serial = serial; bytes = sheet } }
     {
@@ -37,21 +40,21 @@ impl Reservation {
         }
     }
 
-    /// The record's position.
+    /// The record's position, in bytes.
     pub fn pos(&self) -> u64
         ensures value { result ≡ self.now.pos }
     {
         self.pos
     }
 
-    /// The worker that the record was granted to.
+    /// The number of the worker that the record was granted to.
     pub fn worker(&self) -> u32
         ensures value { result ≡ self.now.worker }
     {
         self.worker
     }
 
-    /// How many records that worker was granted before on this ring.
+    /// How many records this ring granted that worker before.
     pub fn serial(&self) -> u64
         ensures value { result ≡ self.now.serial }
     {
@@ -65,7 +68,7 @@ impl Reservation {
         self.sheet.len()
     }
 
-    /// The reservation's sheet, for a ring's body, which calls it where it has logged the submit.
+    /// The reservation's sheet, with the bytes that were written. For a ring's `submit`.
     pub fn into_sheet(self) -> Sheet
         ensures value { result ≡ self.bytes }
     {

@@ -7,25 +7,26 @@ use crate::answers::Taken;
 use crate::reservations::Reservation;
 use rb_lend::Sheet;
 
-/// What became of a record that was not taken yet.
+/// What became of a record that was not taken yet (Linux Documentation/bpf/ringbuf.rst: reserved, then committed or
+/// discarded).
 #[derive(Drop)]
 pub enum RecordState {
-    /// It is busy: its worker has its sheet.
+    /// It is busy: it was neither submitted nor discarded yet. Its bytes are its worker's.
     Reserved,
-    /// It waits for the consumer, with its bytes.
+    /// It was submitted and waits for the consumer, with its bytes.
     Submitted(Sheet),
     /// It was discarded and is to be passed over.
     Discarded,
 }
 
-/// A record that was granted and not taken yet.
+/// A record that was granted and not taken yet. Its calls take no memory and constant time.
 #[derive(Drop)]
 pub struct StoredRecord {
-    /// Its position.
+    /// Its position, in bytes.
     pub pos: u64,
     /// Its length in bytes.
     pub len: u32,
-    /// The worker that it was granted to.
+    /// The number of the worker that it was granted to.
     pub worker: u32,
     /// How many records that worker was granted before.
     pub serial: u64,
@@ -41,14 +42,14 @@ impl StoredRecord {
         matches!(self.state, RecordState::Reserved)
     }
 
-    /// Whether the record waits for the consumer.
+    /// Whether the record was submitted and waits for the consumer.
     pub fn is_submitted(&self) -> bool
         ensures test { result ≡ is_submitted_state self.now.state }
     {
         matches!(self.state, RecordState::Submitted(_))
     }
 
-    /// Whether the record is busy under the four numbers of the reservation.
+    /// Whether the record is busy and has the reservation's position, worker, serial and length.
     pub fn is_reserved_by(&self, reservation: &Reservation) -> bool
         ensures test { result ≡ is_reserved_by reservation.now self.now }
     {
@@ -59,7 +60,8 @@ impl StoredRecord {
             && self.len == reservation.len()
     }
 
-    /// What a take of this record hands out.
+    /// What a take of this record hands out: the event with its bytes where it was submitted, else that it is skipped, with its
+    /// position and length. No ring takes a busy one.
     pub fn taken(self) -> Taken
         ensures taken { IsTakenOf self result }
     {

@@ -267,6 +267,7 @@ impl Insn {
     ghost use Rattle.std.specs.Prelude.{◌≡◌};
     ghost use Rattle.rb_insn.specs.Units.{units_taken};
 
+    #[inline(always)]
     /// How many units of eight bytes the instruction takes: 2 where it is wide, else 1.
     pub fn units(&self) -> usize
         ensures { result ≡ units_taken self.now }

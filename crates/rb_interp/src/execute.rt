@@ -15,6 +15,7 @@ use rb_refs::Helper;
 impl<C: Context, R: Lent + Drop> Core<C, R> {
     /// Executes an instruction, in constant time.
     #[tactic(auto, unfolding(rb_meaning::specs::Steps::exec))]
+    #[inline(always)]
     pub(crate) fn execute(&mut self, insn: &Insn) -> Step<R>
         requires orderly { IsOrderly (state_of R.bytes_of C.shown self.old) }
         requires feasible { IsFeasible (exec insn.now (state_of R.bytes_of C.shown self.old)) }

@@ -2,13 +2,15 @@
 
 ghost use Rattle.std.specs.Prelude.{◌≡◌, ◌≢◌, ℕ, ◌<◌, ◌≤◌, [], ◌∷◌, ◌++◌, None, Some, replicate, length};
 ghost use Rattle.byteorder.specs.Endian.{little_bytes};
+ghost use Rattle.rb_refs.specs.Parts.{byte_count};
 ghost use Rattle.rb_meaning.specs.Memory.{byte_of, read, write};
 ghost use Rattle.rb_interp.specs.Stored.{Stored, memory_of, record_at, others, IsNear, Rewrites};
 ghost use Rattle.rb_interp.specs.Table.{part_named};
 
-use crate::numbers::put_number;
+use crate::numbers::{byte_count, put_number};
 use crate::table::{Entry, entry_of, without};
 use arrayvec::ArrayVec;
+use rb_insn::Size;
 use rb_lend::{Context, Lent, Part, Parts};
 use rb_meaning::Place;
 use std::marker::Model;
@@ -121,13 +123,12 @@ impl<C: Context, R: Lent> Memory<C, R> {
         }
     }
 
-    /// Writes the low `len` bytes of a number from an offset of a part on, the lowest first.
-    pub(crate) fn store(&mut self, place: Place, offset: i64, len: usize, number: u64)
+    /// Writes the low bytes of a number from an offset of a part on, the lowest first.
+    pub(crate) fn store(&mut self, place: Place, offset: i64, size: Size, number: u64)
         requires near { IsNear offset }
-        requires short { len ≤ 8 }
         requires stack { length self.old.stack ≡ 512 }
-        requires inside { write (memory_of R.bytes_of C.shown self.old) place offset (little_bytes len number) ≢ None }
-        ensures written { write (memory_of R.bytes_of C.shown self.old) place offset (little_bytes len number) ≡ Some (memory_of R.bytes_of C.shown self.new) }
+        requires inside { write (memory_of R.bytes_of C.shown self.old) place offset (little_bytes (byte_count size) number) ≢ None }
+        ensures written { write (memory_of R.bytes_of C.shown self.old) place offset (little_bytes (byte_count size) number) ≡ Some (memory_of R.bytes_of C.shown self.new) }
         ensures same { Rewrites R.with_bytes self.old.records self.new.records }
     {
         let Some(part) = part_of(self.entries.as_slice(), place) else {
@@ -136,7 +137,7 @@ impl<C: Context, R: Lent> Memory<C, R> {
         let Some(at) = byte_of(place, offset) else {
             unreachable!()
         };
-        let bytes = self.parts.range_mut(part, at, len);
-        put_number(bytes, number);
+        let bytes = self.parts.range_mut(part, at, byte_count(size));
+        put_number(size, bytes, number);
     }
 }

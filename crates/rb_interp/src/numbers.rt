@@ -73,12 +73,16 @@ fn extended(from: Extend64, number: u64) -> u64
     value(&extension, 0, number)
 }
 
-/// Writes the low bytes of a number, as many as there is place for.
-pub(crate) fn put_number(bytes: &mut [u8], number: u64)
-    requires { length bytes.old ≤ 8 }
-    ensures { bytes.new ≡ little_bytes (length bytes.old) number }
+/// Writes the low bytes of a number, the lowest first.
+#[inline(always)]
+pub(crate) fn put_number(size: Size, bytes: &mut [u8], number: u64)
+    requires { length bytes.old ≡ byte_count size }
+    ensures { bytes.new ≡ little_bytes (byte_count size) number }
 {
-    let mut all = [0; 8];
-    LittleEndian::write_u64(&mut all, number);
-    bytes.copy_from_slice(&all[..bytes.len()]);
+    match size {
+        Size::Byte => bytes[0] = (number % (1 << 8)) as u8,
+        Size::Half => LittleEndian::write_u16(bytes, (number % (1 << 16)) as u16),
+        Size::Word => LittleEndian::write_u32(bytes, (number % (1 << 32)) as u32),
+        Size::Double => LittleEndian::write_u64(bytes, number),
+    }
 }

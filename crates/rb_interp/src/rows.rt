@@ -19,6 +19,7 @@ use rb_meaning::{Place, Value};
 
 impl<C: Context, R: Lent> Core<C, R> {
     /// A move of a number, a pointer or a ring.
+    #[inline(always)]
     pub(crate) fn copied(&mut self, insn: &Insn, dst: Reg, from: Value)
         requires unit { self.old.unit < 2 ^ 31 }
         requires meant { copied insn.now dst from (state_of R.bytes_of C.shown self.old) ≢ Stuck }
@@ -32,6 +33,7 @@ impl<C: Context, R: Lent> Core<C, R> {
     }
 
     /// Arithmetic on two numbers.
+    #[inline(always)]
     pub(crate) fn computed(&mut self, insn: &Insn, dst: Reg, a: Value, b: Value)
         requires unit { self.old.unit < 2 ^ 31 }
         requires arithmetic { IsArithmetic insn.now }
@@ -48,6 +50,7 @@ impl<C: Context, R: Lent> Core<C, R> {
     }
 
     /// A sum or a difference that moves a pointer's offset, or arithmetic on two numbers.
+    #[inline(always)]
     pub(crate) fn combined(
         &mut self,
         insn: &Insn,
@@ -135,7 +138,7 @@ impl<C: Context, R: Lent> Core<C, R> {
         match (base, from) {
             (Value::Pointer(place, start), Value::Number(number)) => {
                 let at = behind(start, offset);
-                self.memory.store(place, at, byte_count(size), number);
+                self.memory.store(place, at, size, number);
                 self.along(insn, false);
             }
             _ => unreachable!(),

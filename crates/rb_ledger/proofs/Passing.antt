@@ -39,6 +39,10 @@ held role v r w idle took =
       is_role = subst (λ (x : Ring). IsRoleIn x.setup role) took.1.1 fit.is_role;
     }
 
+-- the same of the ring where it stands
+pub held-at : (role : Role) (v : View) (r x : Ring) (w : View) → IsIdle role v → TakesState v x w → r ≡ x → Held role v r w
+held-at role v r x w idle took same = held role v r w idle (subst (λ y. TakesState v y w) (sym same) took)
+
 pub may-put : (role : Role) (v : View) (r new : Ring) (w : View) → Held role v r w → StepIn (known role (seen_in v) (bytes_in v)) r new (known_after r new (known role (seen_in v) (bytes_in v))) → MayPut w new
 may-put role v r new w h step = (known role (seen_in v) (bytes_in v), r, h.now, step)
 

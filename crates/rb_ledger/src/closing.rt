@@ -24,7 +24,7 @@ use std::sync::Wait;
 /// What a closed ring holds: the whole history, the counts and both positions. Contracts see the ring.
 #[derive(Drop)]
 pub struct Closing {
-    state: RingState,
+    state: Box<RingState>,
 }
 
 impl Model for Closing {
@@ -36,7 +36,7 @@ impl Model for Closing {
 
     ghost coded = { Prim.hlevel (codes, contents_code, entry.the_row.coded) };
 
-    ghost view = { λ c. c.state };
+    ghost view = { λ c. c.state.value };
 }
 
 impl Closing {
@@ -58,7 +58,7 @@ impl Closing {
     pub fn counts(&self) -> Counts
         ensures counts { result ≡ counts_of self.now.history }
     {
-        self.state.counts()
+        self.state.as_ref().counts()
     }
 
     /// The producer position.
@@ -138,11 +138,11 @@ fn gather(lock: &Lock, pass: &mut RingPass, mut seats: Vec<Seat>)
 }
 
 // Takes the state out by a pass that has taken in all roles.
-fn collect<R: Wait>(rt: &R, lock: &Lock, seats: Vec<Seat>, consumer: ConsumerSeat) -> RingState
+fn collect<R: Wait>(rt: &R, lock: &Lock, seats: Vec<Seat>, consumer: ConsumerSeat) -> Box<RingState>
     requires consumer { consumer.ring ≡ lock.now.table.shared.table_id }
     requires seats { All (λ s. s.ring ≡ consumer.ring) seats.items }
     requires all { HasAll consumer.seen.setup.workers seats.items }
-    ensures closed { IsClosed result seats.items consumer }
+    ensures closed { IsClosed result.value seats.items consumer }
 {
     let mut pass = consumer.into_pass();
     gather(lock, &mut pass, seats);

@@ -7,11 +7,11 @@ ghost use Rattle.rb_ledger.specs.Rule.{TakesState, PutsState, OpensState, MayPut
 
 use crossbeam_queue::protocol::{Join, Lesson, Outcome, Protocol, Split};
 use crossbeam_queue::{Pass, RuledArrayQueue};
+use crossbeam_utils::Backoff;
 use rb_ring::RingState;
 use std::alloc::{AllocError, Global};
 use std::marker::Model;
 use std::sync::Wait;
-use std::thread;
 
 /// What a pass knows: its roles, and the state that it has out. It exists in proofs alone, and no value of it is made.
 pub struct Knowledge;
@@ -30,10 +30,28 @@ impl Model for Knowledge {
     ghost view = { λ k. view_of [] None };
 }
 
+/// A ring's state while it lies in the lock. It stands on the heap, so that a pointer moves where the lock is taken and freed.
+#[derive(Drop)]
+pub struct Resting {
+    ring: Box<RingState>,
+}
+
+impl Model for Resting {
+    ghost use Rattle.std.specs.Coded.{codes};
+    ghost use Rattle.rb_history.specs.View.{Ring, contents_code};
+    ghost use Rattle.rb_history.specs.contracts.entries.Entry as entry;
+
+    ghost Value = { Ring };
+
+    ghost coded = { Prim.hlevel (codes, contents_code, entry.the_row.coded) };
+
+    ghost view = { λ r. r.ring.value };
+}
+
 /// The rule of the lock.
 pub struct Locked;
 
-impl Protocol<RingState, Knowledge> for Locked {
+impl Protocol<Resting, Knowledge> for Locked {
     ghost use Rattle.std.specs.Prelude.{[], Some};
     ghost use Rattle.rb_ledger.specs.Rule.{IsKept, view_of, unopened};
 
@@ -44,25 +62,25 @@ impl Protocol<RingState, Knowledge> for Locked {
 
 struct Taking;
 
-impl Outcome<RingState, Knowledge> for Taking {
+impl Outcome<Resting, Knowledge> for Taking {
     ghost use Rattle.rb_ledger.specs.Rule.{TakesState};
 
     ghost then = { TakesState };
 }
 
-impl Lesson<RingState, Knowledge> for Taking {
+impl Lesson<Resting, Knowledge> for Taking {
     ghost fact = { λ v items. Unit {0} };
 }
 
 struct Putting;
 
-impl Outcome<RingState, Knowledge> for Putting {
+impl Outcome<Resting, Knowledge> for Putting {
     ghost use Rattle.rb_ledger.specs.Rule.{PutsState};
 
     ghost then = { PutsState };
 }
 
-impl Lesson<RingState, Knowledge> for Putting {
+impl Lesson<Resting, Knowledge> for Putting {
     ghost use Rattle.std.specs.Prelude.{◌≡◌, []};
 
     ghost fact = { λ v items. items ≡ [] };
@@ -70,13 +88,13 @@ impl Lesson<RingState, Knowledge> for Putting {
 
 struct Opening;
 
-impl Outcome<RingState, Knowledge> for Opening {
+impl Outcome<Resting, Knowledge> for Opening {
     ghost use Rattle.rb_ledger.specs.Rule.{OpensState};
 
     ghost then = { OpensState };
 }
 
-impl Lesson<RingState, Knowledge> for Opening {
+impl Lesson<Resting, Knowledge> for Opening {
     ghost use Rattle.std.specs.Prelude.{◌≡◌, []};
 
     ghost fact = { λ v items. items ≡ [] };
@@ -107,10 +125,10 @@ impl Join<Knowledge> for Both {
 }
 
 /// A seat's right to use the lock, and what it has seen and sent or got.
-pub type RingPass = Pass<RingState, Knowledge>;
+pub type RingPass = Pass<Resting, Knowledge>;
 
 /// The queue of one place in which a ring's state lies.
-pub type Lock = RuledArrayQueue<RingState, Knowledge, Locked>;
+pub type Lock = RuledArrayQueue<Resting, Knowledge, Locked>;
 
 /// A lock without a state, and the pass that puts the first one in.
 pub fn new_lock(alloc: Global) -> Result<(Lock, RingPass), AllocError>
@@ -121,43 +139,47 @@ pub fn new_lock(alloc: Global) -> Result<(Lock, RingPass), AllocError>
     Lock::ruled(alloc, 1)
 }
 
-/// Takes the state out, once it is there.
-pub fn take_out<R: Wait>(rt: &R, lock: &Lock, pass: &mut RingPass) -> RingState
+/// Takes the state out, once it is there. A thread that finds it gone waits for longer each time before it looks again, and lets other
+/// threads go on from the eighth time.
+pub fn take_out<R: Wait>(rt: &R, lock: &Lock, pass: &mut RingPass) -> Box<RingState>
     requires pass { IsPassOf lock.now pass.old }
     requires free { (view pass.old).out ≡ None }
     ensures same { IsSamePass pass.old pass.new }
-    ensures took { TakesState (view pass.old) result (view pass.new) }
+    ensures took { TakesState (view pass.old) result.value (view pass.new) }
 {
+    let backoff = Backoff::new();
     for _ in rt.forever() {
         if let Some(state) = lock.pop_as::<Taking, R>(rt, pass) {
-            return state;
+            return state.ring;
         }
-        thread::yield_now();
+        backoff.snooze();
     }
     unreachable!()
 }
 
 /// Puts the state back, after a call of the pass's one role.
-pub fn put_back<R: Wait>(rt: &R, lock: &Lock, pass: &mut RingPass, state: RingState)
+pub fn put_back<R: Wait>(rt: &R, lock: &Lock, pass: &mut RingPass, state: Box<RingState>)
     requires pass { IsPassOf lock.now pass.old × (ruled_capacity lock.now ≡ 1) }
-    requires step { MayPut (view pass.old) state }
+    requires step { MayPut (view pass.old) state.value }
     ensures same { IsSamePass pass.old pass.new }
-    ensures put { PutsState (view pass.old) state (view pass.new) }
+    ensures put { PutsState (view pass.old) state.value (view pass.new) }
 {
-    if lock.push_as::<Putting, R>(rt, pass, state).is_err() {
+    let resting = Resting { ring: state };
+    if lock.push_as::<Putting, R>(rt, pass, resting).is_err() {
         unreachable!()
     }
 }
 
 /// Puts the first state in. From then on the pass has the roles of the consumer and of all workers.
-pub fn put_first<R: Wait>(rt: &R, lock: &Lock, pass: &mut RingPass, state: RingState)
+pub fn put_first<R: Wait>(rt: &R, lock: &Lock, pass: &mut RingPass, state: Box<RingState>)
     requires pass { IsPassOf lock.now pass.old × (ruled_capacity lock.now ≡ 1) }
     requires unopened { view pass.old ≡ view_of [] (Some unopened) }
-    requires opened { IsRing state × (state.contents ≡ empty) }
+    requires opened { IsRing state.value × (state.value.contents ≡ empty) }
     ensures same { IsSamePass pass.old pass.new }
-    ensures put { OpensState (view pass.old) state (view pass.new) }
+    ensures put { OpensState (view pass.old) state.value (view pass.new) }
 {
-    if lock.push_as::<Opening, R>(rt, pass, state).is_err() {
+    let resting = Resting { ring: state };
+    if lock.push_as::<Opening, R>(rt, pass, resting).is_err() {
         unreachable!()
     }
 }

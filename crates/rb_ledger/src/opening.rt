@@ -36,6 +36,9 @@ pub fn open<R: Wait>(
     let Ok((lock, mut pass)) = new_lock(alloc) else {
         return Err(OpenFault::Memory);
     };
+    let Ok(state) = Box::new(alloc, state) else {
+        return Err(OpenFault::Memory);
+    };
     put_first(rt, &lock, &mut pass, state);
     let consumer = new_consumer(&lock, &mut pass, tag, workers, start);
     let mut seats = Vec::new(alloc);

@@ -43,10 +43,11 @@ pub fn reserve_with<R: Wait>(
     ensures handed_back { IfErr result (λ e. e.1 ≡ sheet) }
     ensures short { length (seen_in (view pass.new)).history < 2 ^ 64 }
 {
-    let mut state = take_out(rt, lock, pass);
+    let mut held = take_out(rt, lock, pass);
+    let state = held.as_mut();
     let answer = state.reserve(worker, n, sheet);
-    facts_of(&state);
-    put_back(rt, lock, pass, state);
+    facts_of(state);
+    put_back(rt, lock, pass, held);
     answer
 }
 
@@ -69,10 +70,11 @@ pub fn submit_with<R: Wait>(
     ensures handed_back { IfErr result (λ s. s.reservation ≡ reservation) }
     ensures short { length (seen_in (view pass.new)).history < 2 ^ 64 }
 {
-    let mut state = take_out(rt, lock, pass);
+    let mut held = take_out(rt, lock, pass);
+    let state = held.as_mut();
     let answer = state.submit(reservation, flags);
-    facts_of(&state);
-    put_back(rt, lock, pass, state);
+    facts_of(state);
+    put_back(rt, lock, pass, held);
     answer
 }
 
@@ -95,10 +97,11 @@ pub fn discard_with<R: Wait>(
     ensures handed_back { IfErr result (λ s. s.reservation ≡ reservation) }
     ensures short { length (seen_in (view pass.new)).history < 2 ^ 64 }
 {
-    let mut state = take_out(rt, lock, pass);
+    let mut held = take_out(rt, lock, pass);
+    let state = held.as_mut();
     let answer = state.discard(reservation, flags);
-    facts_of(&state);
-    put_back(rt, lock, pass, state);
+    facts_of(state);
+    put_back(rt, lock, pass, held);
     answer
 }
 
@@ -119,10 +122,11 @@ pub fn output_with<R: Wait>(
     ensures handed_back { IfErr result (λ e. e.1 ≡ sheet) }
     ensures short { length (seen_in (view pass.new)).history < 2 ^ 64 }
 {
-    let mut state = take_out(rt, lock, pass);
+    let mut held = take_out(rt, lock, pass);
+    let state = held.as_mut();
     let answer = state.output(worker, sheet, flags);
-    facts_of(&state);
-    put_back(rt, lock, pass, state);
+    facts_of(state);
+    put_back(rt, lock, pass, held);
     answer
 }
 
@@ -136,10 +140,11 @@ pub fn take_with<R: Wait>(rt: &R, lock: &Lock, pass: &mut RingPass) -> Taken
     ensures bytes { bytes_in (view pass.new) ≡ got_by (bytes_in (view pass.old)) result }
     ensures short { length (seen_in (view pass.new)).history < 2 ^ 64 }
 {
-    let mut state = take_out(rt, lock, pass);
+    let mut held = take_out(rt, lock, pass);
+    let state = held.as_mut();
     let answer = state.take();
-    facts_of(&state);
-    put_back(rt, lock, pass, state);
+    facts_of(state);
+    put_back(rt, lock, pass, held);
     answer
 }
 
@@ -152,9 +157,9 @@ pub fn query_with<R: Wait>(rt: &R, lock: &Lock, pass: &mut RingPass, worker: u32
     ensures call { Turn (Worker worker) (seen_in (view pass.old)) (seen_in (view pass.new)) (Asks what result) }
     ensures bytes { bytes_in (view pass.new) ≡ bytes_in (view pass.old) }
 {
-    let state = take_out(rt, lock, pass);
-    let answer = state.query(what);
-    put_back(rt, lock, pass, state);
+    let held = take_out(rt, lock, pass);
+    let answer = held.as_ref().query(what);
+    put_back(rt, lock, pass, held);
     answer
 }
 
@@ -167,8 +172,8 @@ pub fn audit_with<R: Wait>(rt: &R, lock: &Lock, pass: &mut RingPass, worker: u32
     ensures call { Turn (Worker worker) (seen_in (view pass.old)) (seen_in (view pass.new)) (Audits worker result) }
     ensures bytes { bytes_in (view pass.new) ≡ bytes_in (view pass.old) }
 {
-    let state = take_out(rt, lock, pass);
-    let answer = audit_of(&state, worker);
-    put_back(rt, lock, pass, state);
+    let held = take_out(rt, lock, pass);
+    let answer = audit_of(held.as_ref(), worker);
+    put_back(rt, lock, pass, held);
     answer
 }

@@ -7,7 +7,7 @@ pub trait Context {
     /// The bytes that a view shows.
     ghost shown: { Self → List ℕ };
 
-    /// Lends the bytes for reading.
+    /// Lends the bytes that the view shows, for reading.
     fn bytes(&self) -> &[u8]
         ensures { result.now ≡ shown self.now };
 }

@@ -1,11 +1,11 @@
-//! The laws of the memory that the parts show.
+//! The laws of the memory that the parts show. Each is the contract of a function that does nothing.
 
 ghost use Rattle.rb_lend.specs.MemoryLaws.{RangesAreAlone, WritesRange, LeavesOthers, FillsSlot, LeavesOtherSlots, LowestIsEmpty, NoneIsFull};
 
 use crate::context::Context;
 use crate::lent::Lent;
 
-/// Bytes that are written in the place of others leave what stands before and behind them.
+/// Bytes that are written in the place of as many others stand there, and leave what stands before and behind them.
 pub fn a_range_is_written_alone()
     ensures { RangesAreAlone }
 {}
@@ -15,12 +15,12 @@ pub fn a_write_shows<C: Context, R: Lent>()
     ensures { WritesRange C.shown R.bytes_of R.with_bytes }
 {}
 
-/// A write leaves the other parts.
+/// A write to a part leaves the other parts.
 pub fn a_write_leaves_the_other_parts<C: Context, R: Lent>()
     ensures { LeavesOthers C.shown R.bytes_of R.with_bytes }
 {}
 
-/// A slot shows the bytes of the record that it holds, and none once the record is given out.
+/// A slot that is filled shows the bytes of its record, and one that is emptied is a part without bytes to read.
 pub fn a_slot_shows_what_it_holds<C: Context, R: Lent>()
     ensures { FillsSlot C.shown R.bytes_of }
 {}

@@ -10,7 +10,8 @@ use crate::spot::Spot;
 use crate::stack::Stack;
 use thiserror::Error;
 
-/// The range does not lie inside the part, the slot is empty, or the context would be written.
+/// Why a range can't be read or written: it does not lie inside the part, the slot is empty, or it is the context, which is
+/// never written.
 #[derive(Debug, Drop, Error)]
 #[error("outside the part")]
 pub struct Outside;
@@ -27,7 +28,7 @@ pub enum Part {
 }
 
 /// The parts of memory that a program reaches: its stack of 512 bytes, the context that it may read, and at most four
-/// records. They take no memory of their own and wait for nobody.
+/// records. Their calls are given neither an allocator nor a runtime.
 ///
 /// The three fields are lent apart from one another, so a caller splits the parts by borrowing them side by side.
 #[derive(Drop)]
@@ -59,7 +60,8 @@ impl<C, R> Parts<C, R> {
         }
     }
 
-    /// Takes the record into the lowest empty slot, and hands it back exactly where four are held.
+    /// Takes the record into the lowest empty slot and answers that slot, or hands the record back exactly where four are held.
+    /// In constant time.
     pub fn hold(&mut self, owned: R) -> Result<Slot, R>
     where
         R: Drop,
@@ -75,7 +77,7 @@ impl<C, R> Parts<C, R> {
     }
 
     /// Hands out what the slot holds: the very value that was held, with the bytes that were written since. `None` exactly
-    /// where the slot is empty. It is empty then.
+    /// where the slot was empty. The slot is empty afterwards. In constant time.
     pub fn give(&mut self, slot: Slot) -> Option<R>
         ensures value { result ≡ in_slot self.old.records slot }
         ensures records { self.new.records ≡ with_slot self.old.records slot None }
@@ -92,8 +94,8 @@ impl<C: Context, R: Lent> Parts<C, R> {
     ghost use Rattle.rb_lend.specs.Lending.{LendsRangeOfStack, LendsRangeOfRecord, LendsPart, RestsIfOutside, IsSpotOf};
 
     /// Lends `len` bytes from place `off` of a part for reading, `Outside` exactly where they do not lie inside it. `off`
-    /// counts from the part's first byte. No byte at all lies inside at each place from the first byte to one past the
-    /// last.
+    /// counts from the part's first byte. A range of no bytes lies inside at each place from the first byte to one past the
+    /// last. No range lies inside an empty slot.
     pub fn read(&self, part: Part, off: usize, len: usize) -> Result<&[u8], Outside>
         ensures value { MatchResult result
             (λ bytes. range_of off len (memory_of R.bytes_of C.shown self.now part) ≡ Some bytes.now)
@@ -113,7 +115,8 @@ impl<C: Context, R: Lent> Parts<C, R> {
         Err(Outside)
     }
 
-    /// Whether `len` bytes from place `off` on lie inside a part that may be written: the stack or a record that is held.
+    /// Whether `len` bytes from place `off` on lie inside a part that may be written: the stack or a record that is held. Never
+    /// of the context or of an empty slot.
     pub fn can_write(&self, part: Part, off: usize, len: usize) -> bool
         ensures { result ≡ may_write R.bytes_of self.now part off len }
     {
@@ -127,6 +130,7 @@ impl<C: Context, R: Lent> Parts<C, R> {
         }
     }
 
+    // The bytes of a range that lies inside the stack, lent for writing.
     fn stack_range(&mut self, off: usize, len: usize) -> &mut [u8]
         requires { off + len ≤ 512 }
         ensures* writes_back { sem 𝓛 (LendsRangeOfStack C.row R.row self.entry off result) }
@@ -137,6 +141,7 @@ impl<C: Context, R: Lent> Parts<C, R> {
         self.stack.range_mut(off, len)
     }
 
+    // The bytes of a range that lies inside the record in a slot, lent for writing.
     fn record_range(&mut self, slot: Slot, off: usize, len: usize) -> &mut [u8]
         requires { record_has R.bytes_of (in_slot self.old.records slot) off len ≡ true }
         ensures* writes_back { sem 𝓛 (LendsRangeOfRecord C.row R.row R.with_bytes R.bytes_of self.entry slot off result) }
@@ -147,7 +152,8 @@ impl<C: Context, R: Lent> Parts<C, R> {
         owned.range_mut(off, len)
     }
 
-    /// Lends `len` bytes from place `off` of a part for writing, where they may be written. All else stays.
+    /// Lends `len` bytes from place `off` of a part for writing, for callers that know from `can_write` or otherwise that they
+    /// may be written. All else stays.
     pub fn range_mut(&mut self, part: Part, off: usize, len: usize) -> &mut [u8]
         requires { may_write R.bytes_of self.old part off len ≡ true }
         ensures* writes_back { sem 𝓛 (LendsPart C.row R.row R.with_bytes R.bytes_of self.entry part off result) }
@@ -161,8 +167,8 @@ impl<C: Context, R: Lent> Parts<C, R> {
         }
     }
 
-    /// The `len` bytes from place `off` of a part, to be lent for writing, `Outside` exactly where they may not be
-    /// written; then nothing is changed.
+    /// The `len` bytes from place `off` of a part, to be lent for writing by `Spot::into_bytes`, or `Outside` exactly where they
+    /// may not be written; then nothing is changed.
     pub fn write(&mut self, part: Part, off: usize, len: usize) -> Result<Spot<'_, C, R>, Outside>
         ensures* refused { sem 𝓛 (RestsIfOutside C.row R.row self.entry result) }
         ensures cases { MatchResult result
@@ -182,6 +188,7 @@ impl<C: Context, R: Lent> Parts<C, R> {
     }
 }
 
+// Whether `len` places from `off` on lie among the first `size`.
 fn fits(off: usize, len: usize, size: usize) -> bool
     ensures { result ≡ nat_le (off + len) size }
 {

@@ -19,7 +19,7 @@ pub enum Slot {
     Fourth,
 }
 
-/// The records that are held, by their slots.
+/// The records that are held, by their slots. The calls take no memory of their own and look at four slots at most.
 #[derive(Drop)]
 pub struct Records<R> {
     /// What the lowest slot holds.
@@ -51,7 +51,7 @@ impl<R> Records<R> {
         }
     }
 
-    /// What the slot holds, lent for reading.
+    /// What the slot holds, lent for reading: `None` exactly where it is empty.
     pub fn get(&self, slot: Slot) -> &Option<R>
         ensures { result.now ≡ in_slot self.now slot }
     {
@@ -63,6 +63,7 @@ impl<R> Records<R> {
         }
     }
 
+    // What the slot holds, lent for writing.
     fn slot_mut(&mut self, slot: Slot) -> &mut Option<R>
         ensures* writes_back { sem 𝓛 (LendsSlot R.row self.entry slot result) }
         ensures value { result.now ≡ in_slot self.old slot }
@@ -75,7 +76,7 @@ impl<R> Records<R> {
         }
     }
 
-    /// The record in the slot, lent for writing.
+    /// The record in the slot, which is not empty, lent for writing. The other slots stay.
     pub fn record_mut(&mut self, slot: Slot) -> &mut R
         requires { IsSome (in_slot self.old slot) }
         ensures* writes_back { sem 𝓛 (LendsRecordIn R.row self.entry slot result) }
@@ -85,6 +86,7 @@ impl<R> Records<R> {
         some_mut(place)
     }
 
+    // Gives the slot this record, in place of what it held.
     fn put(&mut self, slot: Slot, owned: R)
     where
         R: Drop,
@@ -98,6 +100,7 @@ impl<R> Records<R> {
         }
     }
 
+    // The lowest empty slot, where there is one.
     fn empty_slot(&self) -> Option<Slot>
         ensures { result ≡ lowest_empty self.now }
     {
@@ -116,7 +119,7 @@ impl<R> Records<R> {
         None
     }
 
-    /// Takes the record into the lowest empty slot, and hands it back exactly where four are held.
+    /// Takes the record into the lowest empty slot and answers that slot, or hands the record back exactly where four are held.
     pub fn hold(&mut self, owned: R) -> Result<Slot, R>
     where
         R: Drop,
@@ -135,8 +138,8 @@ impl<R> Records<R> {
         }
     }
 
-    /// Hands out what the slot holds: the very value that was held, with the bytes that were written since. The slot is
-    /// empty then.
+    /// Hands out what the slot holds: the very value that was held, with the bytes that were written since. `None` exactly
+    /// where the slot was empty. The slot is empty afterwards.
     pub fn give(&mut self, slot: Slot) -> Option<R>
         ensures value { result ≡ in_slot self.old slot }
         ensures rest { self.new ≡ with_slot self.old slot None }
@@ -154,7 +157,7 @@ impl<R: Lent> Records<R> {
     ghost use Rattle.rb_lend.specs.Lending.{LendsBytesIn};
     ghost use Rattle.rb_lend.specs.Records.{in_slot};
 
-    /// The bytes of the record in the slot, lent for writing.
+    /// The bytes of the record in the slot, which is not empty, lent for writing. The other slots stay.
     pub fn bytes_mut(&mut self, slot: Slot) -> &mut [u8]
         requires { IsSome (in_slot self.old slot) }
         ensures* writes_back { sem 𝓛 (LendsBytesIn R.row R.with_bytes self.entry slot result) }
@@ -165,6 +168,7 @@ impl<R: Lent> Records<R> {
     }
 }
 
+// The value of an option that is no `None`, lent for writing.
 fn some_mut<T>(place: &mut Option<T>) -> &mut T
     requires { IsSome place.old }
     ensures* writes_back { sem 𝓛 (LendsSome T.row place.entry result) }

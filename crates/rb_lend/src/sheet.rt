@@ -6,7 +6,8 @@ use crate::lent::Lent;
 use std::alloc::{AllocError, Global};
 use std::marker::Model;
 
-/// The bytes of one record, on the heap: at most 4,294,967,295. Contracts see it as the list of its bytes.
+/// The bytes of one record, on the heap: at most 4,294,967,295. Contracts see it as the list of its bytes. Only `new` and
+/// `renew` take memory.
 #[derive(Drop)]
 pub struct Sheet {
     bytes: Vec<u8>,
@@ -23,7 +24,7 @@ impl Model for Sheet {
 }
 
 impl Sheet {
-    /// A sheet of `n` zero bytes, or `AllocError` where there is no memory for them.
+    /// A sheet of `n` zero bytes, or `AllocError` where there is no memory for them. In time linear in `n`.
     pub fn new(alloc: Global, n: u32) -> Result<Sheet, AllocError>
         ensures zeros { IfOk result (λ s. s ≡ replicate n 0) }
     {
@@ -32,7 +33,7 @@ impl Sheet {
     }
 
     /// The sheet as one of `n` zero bytes. It takes memory only where the sheet never held as many bytes; where that is
-    /// refused, the sheet comes back as it was.
+    /// refused, the sheet comes back as it was. In time linear in `n`, and in the old bytes where they are moved.
     pub fn renew(self, n: u32) -> Result<Sheet, (AllocError, Sheet)>
         ensures zeros { IfOk result (λ s. s ≡ replicate n 0) }
         ensures handed_back { IfErr result (λ e. e.1 ≡ self) }

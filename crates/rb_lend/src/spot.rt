@@ -7,7 +7,7 @@ use crate::context::Context;
 use crate::lent::Lent;
 use crate::parts::{Part, Parts};
 
-/// The `len` bytes from place `off` of a part, which may be written.
+/// A range of a part that `Parts::write` found to be one that may be written.
 #[derive(Drop)]
 pub struct Spot<'m, C, R> {
     /// The parts that are lent.
@@ -24,7 +24,7 @@ impl<'m, C: Context, R: Lent> Spot<'m, C, R> {
     ghost use Rattle.rb_lend.specs.Lending.{LendsSpot};
     ghost use Rattle.rb_lend.specs.Memory.{may_write, memory_of, range_of};
 
-    /// Lends the bytes for writing. All else stays.
+    /// Lends the `len` bytes for writing. All else of the parts stays.
     pub fn into_bytes(self) -> &'m mut [u8]
         requires { may_write R.bytes_of self.parts.now self.part self.off self.len ≡ true }
         ensures* writes_back { sem 𝓛 (LendsSpot C.row R.row R.with_bytes R.bytes_of self.entry result) }

@@ -7,7 +7,8 @@ ghost use Rattle.rb_lend.specs.Stack.{LendsStack, LendsStackRange};
 use crate::block::Block;
 use std::marker::Model;
 
-/// The stack of a program: 512 bytes, in place. Contracts see it as the list of its bytes.
+/// The stack of a program: 512 bytes (Linux include/linux/filter.h, MAX_BPF_STACK), in place. Contracts see it as the list of
+/// its bytes. Its calls take no memory.
 #[derive(Drop)]
 pub struct Stack {
     block: Block,
@@ -39,7 +40,7 @@ impl Stack {
         whole(&self.block.bytes)
     }
 
-    /// Lends the bytes for writing.
+    /// Lends all 512 bytes for writing.
     pub fn bytes_mut(&mut self) -> &mut [u8]
         ensures* writes_back { sem 𝓛 (LendsStack self.entry result) }
         ensures value { result.now ≡ self.old }
@@ -47,7 +48,7 @@ impl Stack {
         self.block.bytes_mut()
     }
 
-    /// Lends `len` bytes from place `at` on for writing. The other bytes stay.
+    /// Lends `len` bytes from place `at` on for writing, where they lie inside. Place 0 is the first byte. The other bytes stay.
     pub fn range_mut(&mut self, at: usize, len: usize) -> &mut [u8]
         requires { at + len ≤ 512 }
         ensures* writes_back { sem 𝓛 (LendsStackRange self.entry at len result) }
@@ -59,6 +60,7 @@ impl Stack {
     }
 }
 
+// The 512 bytes as a slice.
 fn whole(bytes: &[u8; 512]) -> &[u8]
     ensures value { result.now ≡ bytes.now }
     ensures size { length bytes.now ≡ 512 }

@@ -1,9 +1,9 @@
 -- The references stay in ascending order of their ids.
-use Rattle.std.proofs.Common.{◌≡◌, ℕ, ◌+◌, ◌<◌, ◌≤◌, Bool, true, false, cond, refl, sym, ap, subst, List, [], ◌∷◌, ◌++◌, length, filter, map, arith}
+use Rattle.std.proofs.Common.{◌≡◌, ℕ, ◌+◌, ◌<◌, Bool, true, false, cond, refl, sym, subst, List, [], ◌∷◌, ◌++◌, filter, map, arith}
 use Rattle.std.specs.List.{AllByRecursion}
 use Rattle.std.specs.Prelude.{◌==◌, if◌then◌else◌}
 use Rattle.rb_refs.specs.declared.held.Reference.{Reference}
-use Rattle.rb_refs.specs.References.{IsAscending, AreEarlier, other_than, tested_in}
+use Rattle.rb_refs.specs.References.{IsAscending, AreEarlier, tested_in}
 
 -- a test keeps the id
 pub tested_in-id : (id : ℕ) (r : Reference) → (tested_in id r).id ≡ r.id

@@ -1,8 +1,6 @@
 -- The checks of one value keep the order, and so do the values that instructions give.
-use Rattle.std.proofs.Common.{◌≡◌, ℕ, ℤ, pos, refl, sym, ◌∙◌, ap, subst, List, Result, Ok, Err, Bool, true, false, Option, Some, None}
+use Rattle.std.proofs.Common.{◌≡◌, ℕ, ℤ, refl, List, Result, Ok, Err, Option, Some, None}
 use Rattle.rb_insn.specs.declared.insn.Insn.{Insn}
-use Rattle.rb_insn.specs.declared.insn.Operand.{Operand}
-use Rattle.rb_insn.specs.declared.insn.Operand.TheVariants.{Immediate, Register}
 use Rattle.rb_refs.specs.declared.arithmetic.Direction.{Direction}
 use Rattle.rb_refs.specs.declared.environment.Environment.{Environment}
 use Rattle.rb_refs.specs.declared.held.Reference.{Reference}

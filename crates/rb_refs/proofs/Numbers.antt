@@ -1,6 +1,6 @@
 -- The numbers of the code and those of the definitions are the same.
-use Rattle.std.proofs.Common.{◌≡◌, ℕ, ◌+◌, ◌-◌, ◌%◌, ◌^◌, ◌<◌, ◌≤◌, Bool, true, false, refl, sym, ◌∙◌, ap, arith, rules}
-use Rattle.std.specs.Prelude.{Option, Some, None, Result, Ok, Err, MatchOption, if◌then◌else◌, ℤ, pos, negsuc, ◌-ℤ◌, ◌+ℤ◌, ◌≤ℤ◌, ◌<ℤ◌, ◌&&◌, int_le, nat_le, nat_abs, FitsSigned}
+use Rattle.std.proofs.Common.{◌≡◌, ℕ, ◌^◌, ◌<◌, Bool, true, false, refl, sym, ◌∙◌, ap, arith}
+use Rattle.std.specs.Prelude.{Option, Some, None, Result, Ok, Err, MatchOption, if◌then◌else◌, ℤ, pos, negsuc, ◌-ℤ◌, ◌+ℤ◌, ◌≤ℤ◌, ◌&&◌, int_le, nat_le, nat_abs, FitsSigned}
 use Rattle.std.specs.Option.{SomeIff}
 use Rattle.rb_refs.specs.Arithmetic.{is_near, near}
 use Rattle.rb_refs.specs.declared.rule.Rule.{Rule}

@@ -1,13 +1,12 @@
 -- Loops over the registers.
-use Rattle.std.proofs.Common.{◌≡◌, ◌≢◌, ◌+◌, ◌<◌, ◌≤◌, ℕ, List, ◌++◌, length, map, take, drop, get_or, set, refl, sym, ◌∙◌, ap, subst, arith, get_or-set_same, get_or-set_other, below_more, ⊎_elim}
+use Rattle.std.proofs.Common.{◌≡◌, ◌≢◌, ◌+◌, ◌<◌, ℕ, List, ◌++◌, length, map, take, drop, get_or, set, sym, ◌∙◌, ap, subst, arith, get_or-set_same, get_or-set_other, below_more, ⊎_elim}
 use Rattle.std.proofs.lemmas.Bool.{cases_lt}
 use Rattle.std.proofs.lemmas.List.{get_or_past, get_or_default}
 use Rattle.std.proofs.lemmas.List.Edits.{map_over_more}
 use Rattle.rb_refs.specs.declared.value.Abs.{Abs}
 use Rattle.rb_refs.specs.declared.value.Abs.TheVariants.{Unreadable}
 use Rattle.rb_refs.specs.declared.state.AbsState.{AbsState}
-use Rattle.rb_refs.specs.Values.{BelowValue}
-use Rattle.rb_refs.specs.States.{Below, value_in}
+use Rattle.rb_refs.specs.States.{value_in}
 use Rattle.rb_refs.specs.Joins.{IsJoin, IsJoinValue}
 
 -- a loop that changes each value by a function

@@ -1,5 +1,5 @@
 -- The effects on states keep the order.
-use Rattle.std.proofs.Common.{◌≡◌, ℕ, zero, suc, refl, sym, ◌∙◌, ap, List, [], ◌∷◌, length, map, get_or, set, length-set}
+use Rattle.std.proofs.Common.{◌≡◌, ℕ, zero, suc, sym, ◌∙◌, ap, List, [], ◌∷◌, length, map, get_or, set, length-set}
 use Rattle.std.proofs.lemmas.List.{length-map}
 use Rattle.rb_refs.specs.declared.changes.Change.{Change}
 use Rattle.rb_refs.specs.declared.held.Reference.{Reference}
@@ -7,7 +7,7 @@ use Rattle.rb_refs.specs.declared.state.AbsState.{AbsState}
 use Rattle.rb_refs.specs.declared.value.Abs.{Abs}
 use Rattle.rb_refs.specs.declared.value.Abs.TheVariants.{Unreadable}
 use Rattle.rb_refs.specs.Values.{BelowValue}
-use Rattle.rb_refs.specs.States.{Below, EffectBelow, value_in, put, both}
+use Rattle.rb_refs.specs.States.{Below, EffectBelow, put, both}
 use Rattle.rb_refs.specs.Changes.{changed}
 use Rattle.rb_refs.specs.Helpers.{answered}
 use Rattle.rb_refs.proofs.CheckOrder.{changed_below}

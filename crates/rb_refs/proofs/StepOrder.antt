@@ -1,5 +1,5 @@
 -- Each row of the table keeps the order, and so does the table.
-use Rattle.std.proofs.Common.{◌≡◌, ℕ, ℤ, pos, refl, sym, subst, List, [], ◌∷◌, ◌++◌, filter, map, Result, Ok, Err, Bool, true, false, Option, Some, None}
+use Rattle.std.proofs.Common.{◌≡◌, ℕ, ℤ, pos, refl, subst, List, [], ◌∷◌, ◌++◌, filter, map, Result, false, Option, Some, None}
 use Rattle.std.specs.Prelude.{nat_le, not}
 use Rattle.rb_alu.specs.Meaning.{value_of}
 use Rattle.rb_insn.specs.declared.insn.Insn.{Insn}
@@ -22,13 +22,13 @@ use Rattle.rb_refs.specs.declared.state.AbsState.{AbsState}
 use Rattle.rb_refs.specs.declared.state.Effect.{Effect}
 use Rattle.rb_refs.specs.declared.value.Abs.{Abs}
 use Rattle.rb_refs.specs.declared.value.Abs.TheVariants.{Unreadable, Number, Known, Ctx, Stack, Ring, Perhaps, Record}
-use Rattle.rb_refs.specs.Arithmetic.{operand_value, computed, direction_of, combined}
+use Rattle.rb_refs.specs.Arithmetic.{operand_value, direction_of}
 use Rattle.rb_refs.specs.Branches.{null_test_of, branch}
-use Rattle.rb_refs.specs.Checks.{◌>>=◌, Check, refused_if, writable, readable, number, tested, not_context, inside, ring_of, in_part, known_size, record_size, record_start}
-use Rattle.rb_refs.specs.Helpers.{helper_of, call, output, reserve, give_back, query, reserved, answered}
+use Rattle.rb_refs.specs.Checks.{◌>>=◌, Check, refused_if, writable, readable, number, tested, not_context, inside, in_part}
+use Rattle.rb_refs.specs.Helpers.{helper_of, call, output, reserve, give_back, query, reserved}
 use Rattle.rb_refs.specs.Changes.{given_back_state, null_state, there_state}
 use Rattle.rb_refs.specs.References.{is_empty, is_full, other_than, tested_in}
-use Rattle.rb_refs.specs.States.{Below, EffectBelow, value_in, put, both}
+use Rattle.rb_refs.specs.States.{Below, EffectBelow, value_in}
 use Rattle.rb_refs.specs.Step.{step_of, assigned, given, copied, converted, altered, operated, ring_given, loaded, stored, ended}
 use Rattle.rb_refs.specs.StepOrder.{ResultBelow, StepKeepsOrder}
 use Rattle.rb_refs.specs.Values.{IsNumber, BelowValue}

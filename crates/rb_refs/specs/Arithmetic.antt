@@ -8,7 +8,7 @@ use Rattle.rb_insn.specs.declared.insn.BinaryOp.TheVariants.{Add, Sub}
 use Rattle.rb_insn.specs.declared.insn.Operand.{Operand}
 use Rattle.rb_insn.specs.declared.insn.Operand.TheVariants.{Immediate, Register}
 use Rattle.rb_insn.specs.declared.insn.Width.{Width}
-use Rattle.rb_insn.specs.declared.insn.Width.TheVariants.{W32, W64}
+use Rattle.rb_insn.specs.declared.insn.Width.TheVariants.{W64}
 use Rattle.rb_refs.specs.declared.arithmetic.Direction.{Direction}
 use Rattle.rb_refs.specs.declared.arithmetic.Direction.TheVariants.{Forward, Back}
 use Rattle.rb_refs.specs.declared.rule.Rule.{Rule}

@@ -1,11 +1,11 @@
 -- What is known along both edges of a conditional jump (own profile).
-use Rattle.std.specs.Prelude.{ℕ, pos, Option, Some, None, Result, Ok, Err}
+use Rattle.std.specs.Prelude.{ℕ, pos, Option, Some, None, Result, Ok}
 use Rattle.rb_insn.specs.declared.insn.Condition.{Condition}
 use Rattle.rb_insn.specs.declared.insn.Condition.TheVariants.{Equal, NotEqual}
 use Rattle.rb_insn.specs.declared.insn.Operand.{Operand}
-use Rattle.rb_insn.specs.declared.insn.Operand.TheVariants.{Immediate, Register}
+use Rattle.rb_insn.specs.declared.insn.Operand.TheVariants.{Immediate}
 use Rattle.rb_insn.specs.declared.insn.Width.{Width}
-use Rattle.rb_insn.specs.declared.insn.Width.TheVariants.{W32, W64}
+use Rattle.rb_insn.specs.declared.insn.Width.TheVariants.{W64}
 use Rattle.rb_refs.specs.declared.branches.NullTest.{NullTest}
 use Rattle.rb_refs.specs.declared.branches.NullTest.TheVariants.{JumpsIfNull, JumpsIfThere}
 use Rattle.rb_refs.specs.declared.rule.Rule.{Rule}

@@ -1,8 +1,7 @@
 -- What every state before a unit has, and the law that the table keeps it.
-use Rattle.std.specs.Prelude.{◌≡◌, ◌≤◌, ◌+◌, ℕ, length, Result, Ok}
+use Rattle.std.specs.Prelude.{◌≡◌, ◌≤◌, ◌+◌, ℕ, length, Ok}
 use Rattle.rb_insn.specs.declared.insn.Insn.{Insn}
 use Rattle.rb_refs.specs.declared.environment.Environment.{Environment}
-use Rattle.rb_refs.specs.declared.rule.Rule.{Rule}
 use Rattle.rb_refs.specs.declared.state.AbsState.{AbsState}
 use Rattle.rb_refs.specs.declared.state.Effect.{Effect}
 use Rattle.rb_refs.specs.References.{IsAscending, AreEarlier}

@@ -1,5 +1,6 @@
 -- What is known before an instruction, and the order of such knowledge (own profile).
-use Rattle.std.specs.Prelude.{◌≡◌, ℕ, pos, [], length, slice_set, slice_index_or, replicate}
+use Rattle.std.specs.Prelude.{◌≡◌, ℕ, pos, [], length, slice_set, slice_index_or, replicate, Option, Some, None, Result, Ok, Err}
+use Rattle.rb_refs.specs.declared.rule.Rule.{Rule}
 use Rattle.rb_refs.specs.declared.value.Abs.{Abs}
 use Rattle.rb_refs.specs.declared.value.Abs.TheVariants.{Unreadable, Ctx, Stack}
 use Rattle.rb_refs.specs.declared.state.AbsState.{AbsState}
@@ -24,6 +25,16 @@ entry_state = record {
 -- the same along both edges
 abbrev pub both : AbsState → Effect
 both s = record { next = s; jump = s }
+
+-- the state along a jump's edge: the one that is told, else the state along the other edge
+abbrev pub along_jump : Option AbsState → AbsState → AbsState
+along_jump None next = next
+along_jump (Some jump) next = jump
+
+-- what a step in place tells: a rule that is broken, or an effect, of which it leaves the state along the next edge
+abbrev pub effect_left : Result (Option AbsState) Rule → AbsState → Result Effect Rule
+effect_left (Ok jump) next = Ok (record { next = next; jump = along_jump jump next })
+effect_left (Err broken) next = Err broken
 
 -- the order of states: the references are the same, and what is known of each register is below
 pub record Below (s t : AbsState) : Type 0 where

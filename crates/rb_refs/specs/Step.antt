@@ -1,5 +1,5 @@
 -- The table of verification: the checks of each instruction in their order, and what is known along each edge out of it (own profile).
-use Rattle.std.specs.Prelude.{ℕ, ℤ, nat_le, not, Option, None, Result, Ok, Err}
+use Rattle.std.specs.Prelude.{ℕ, ℤ, nat_le, not, Option, None, Result, Ok}
 use Rattle.rb_alu.specs.Meaning.{value_of}
 use Rattle.rb_insn.specs.declared.insn.Insn.{Insn}
 use Rattle.rb_insn.specs.declared.insn.Insn.TheVariants.{Binary, Division, Negate, Move, MoveExtended32, MoveExtended64, Reorder, Jump, JumpFar, Branch, Call, Exit, LoadNumber, LoadRing, Load, LoadSigned, StoreImmediate, StoreRegister}

@@ -1,11 +1,12 @@
 //! What is known along both edges of a conditional jump.
 
-ghost use Rattle.std.specs.Prelude.{◌≡◌};
+ghost use Rattle.std.specs.Prelude.{◌≡◌, IfErr};
 ghost use Rattle.rb_refs.specs.Branches.{null_test_of, branch};
+ghost use Rattle.rb_refs.specs.States.{effect_left};
 
 use crate::checks::{number, readable};
 use crate::rule::Rule;
-use crate::state::{AbsState, Effect};
+use crate::state::AbsState;
 use crate::value::Abs;
 use rb_insn::{Condition, Operand, Width};
 
@@ -34,27 +35,28 @@ pub(crate) fn branch(
     test: Option<NullTest>,
     dst: Abs,
     operand: Abs,
-    state: &AbsState,
-) -> Result<Effect, Rule>
-    ensures { result ≡ branch test dst operand state.now }
+    state: &mut AbsState,
+) -> Result<Option<AbsState>, Rule>
+    ensures effect { effect_left result state.new ≡ branch test dst operand state.old }
+    ensures unchanged { IfErr result (λ _. state.new ≡ state.old) }
 {
     if let (Some(test), Abs::Perhaps(id)) = (test, dst) {
         let null = state.where_null(id);
         let there = state.where_there(id);
-        return Ok(match test {
-            NullTest::JumpsIfNull => Effect {
-                next: there,
-                jump: null,
-            },
-            NullTest::JumpsIfThere => Effect {
-                next: null,
-                jump: there,
-            },
-        });
+        return match test {
+            NullTest::JumpsIfNull => {
+                *state = there;
+                Ok(Some(null))
+            }
+            NullTest::JumpsIfThere => {
+                *state = null;
+                Ok(Some(there))
+            }
+        };
     }
     readable(dst)?;
     readable(operand)?;
     number(Rule::PointerCompared, dst)?;
     number(Rule::PointerCompared, operand)?;
-    Ok(state.copy().along_both())
+    Ok(None)
 }

@@ -1,8 +1,9 @@
 //! The calls of helpers: the checks of their arguments, and what is known after the call.
 
-ghost use Rattle.std.specs.Prelude.{◌≡◌, ◌<◌, length};
+ghost use Rattle.std.specs.Prelude.{◌≡◌, ◌<◌, length, IfErr};
 ghost use Rattle.rb_refs.specs.Helpers.{answered, reserved, output, reserve, give_back, query, call};
 ghost use Rattle.rb_refs.specs.References.{AreEarlier};
+ghost use Rattle.rb_refs.specs.States.{effect_left};
 
 use crate::checks::{
     in_part, inside, known_size, number, record_size, record_start, ring_of, tested,
@@ -11,32 +12,28 @@ use crate::environment::Environment;
 use crate::held::Reference;
 use crate::helper::Helper;
 use crate::rule::Rule;
-use crate::state::{AbsState, Effect};
+use crate::state::AbsState;
 use crate::value::Abs;
+use rb_insn::Reg;
 
 impl AbsState {
     /// After a call: r0 holds the answer, and r1 to r5 hold nothing.
-    fn answered(&self, answer: Abs) -> AbsState
-        ensures { result ≡ answered answer self.now }
+    fn answer(&mut self, answer: Abs)
+        ensures { self.new ≡ answered answer self.old }
     {
-        let mut values = self.values;
-        values[0] = answer;
-        values[1] = Abs::Unreadable;
-        values[2] = Abs::Unreadable;
-        values[3] = Abs::Unreadable;
-        values[4] = Abs::Unreadable;
-        values[5] = Abs::Unreadable;
-        AbsState {
-            values,
-            held: self.held.copy(),
-        }
+        self.put(Reg::R0, answer);
+        self.put(Reg::R1, Abs::Unreadable);
+        self.put(Reg::R2, Abs::Unreadable);
+        self.put(Reg::R3, Abs::Unreadable);
+        self.put(Reg::R4, Abs::Unreadable);
+        self.put(Reg::R5, Abs::Unreadable);
     }
 
     /// After the reservation by the CALL at a unit.
-    fn reserved(&self, unit: u32, ring: u32, size: u32) -> AbsState
-        requires room { length self.now.held < 4 }
-        requires earlier { AreEarlier unit self.now.held }
-        ensures { result ≡ reserved unit ring size self.now }
+    fn reserve(&mut self, unit: u32, ring: u32, size: u32)
+        requires room { length self.old.held < 4 }
+        requires earlier { AreEarlier unit self.old.held }
+        ensures { self.new ≡ reserved unit ring size self.old }
     {
         let reference = Reference {
             id: unit,
@@ -44,17 +41,15 @@ impl AbsState {
             size,
             sure: false,
         };
-        let state = AbsState {
-            values: self.values,
-            held: self.held.added(reference),
-        };
-        state.answered(Abs::Perhaps(unit))
+        self.held = self.held.added(reference);
+        self.answer(Abs::Perhaps(unit));
     }
 }
 
 /// output(ring, data, size, flags)
-fn output(environment: Environment, state: &AbsState) -> Result<Effect, Rule>
-    ensures { result ≡ output environment state.now }
+fn output(environment: Environment, state: &mut AbsState) -> Result<Option<AbsState>, Rule>
+    ensures effect { effect_left result state.new ≡ output environment state.old }
+    ensures unchanged { IfErr result (λ _. state.new ≡ state.old) }
 {
     let [_, ring, data, size, flags, ..] = state.values;
     ring_of(ring)?;
@@ -63,13 +58,15 @@ fn output(environment: Environment, state: &AbsState) -> Result<Effect, Rule>
     let size = known_size(size)?;
     inside(environment, &state.held, data, 0, size)?;
     number(Rule::HelperArgument, flags)?;
-    Ok(state.answered(Abs::Number).along_both())
+    state.answer(Abs::Number);
+    Ok(None)
 }
 
 /// reserve(ring, size, flags)
-fn reserve(unit: u32, state: &AbsState) -> Result<Effect, Rule>
-    requires { AreEarlier unit state.now.held }
-    ensures { result ≡ reserve unit state.now }
+fn reserve(unit: u32, state: &mut AbsState) -> Result<Option<AbsState>, Rule>
+    requires { AreEarlier unit state.old.held }
+    ensures effect { effect_left result state.new ≡ reserve unit state.old }
+    ensures unchanged { IfErr result (λ _. state.new ≡ state.old) }
 {
     let [_, ring, size, flags, ..] = state.values;
     let ring = ring_of(ring)?;
@@ -78,32 +75,33 @@ fn reserve(unit: u32, state: &AbsState) -> Result<Effect, Rule>
     if state.held.is_full() {
         return Err(Rule::TooManyReferences);
     }
-    Ok(state.reserved(unit, ring, size).along_both())
+    state.reserve(unit, ring, size);
+    Ok(None)
 }
 
 /// submit(record, flags) and discard(record, flags)
-fn give_back(state: &AbsState) -> Result<Effect, Rule>
-    ensures { result ≡ give_back state.now }
+fn give_back(state: &mut AbsState) -> Result<Option<AbsState>, Rule>
+    ensures effect { effect_left result state.new ≡ give_back state.old }
+    ensures unchanged { IfErr result (λ _. state.new ≡ state.old) }
 {
     let [_, record, flags, ..] = state.values;
     let id = record_start(record)?;
     number(Rule::HelperArgument, flags)?;
-    Ok(
-        state
-            .once_given_back(id)
-            .answered(Abs::Unreadable)
-            .along_both(),
-    )
+    *state = state.once_given_back(id);
+    state.answer(Abs::Unreadable);
+    Ok(None)
 }
 
 /// query(ring, what)
-fn query(state: &AbsState) -> Result<Effect, Rule>
-    ensures { result ≡ query state.now }
+fn query(state: &mut AbsState) -> Result<Option<AbsState>, Rule>
+    ensures effect { effect_left result state.new ≡ query state.old }
+    ensures unchanged { IfErr result (λ _. state.new ≡ state.old) }
 {
     let [_, ring, what, ..] = state.values;
     ring_of(ring)?;
     number(Rule::HelperArgument, what)?;
-    Ok(state.answered(Abs::Number).along_both())
+    state.answer(Abs::Number);
+    Ok(None)
 }
 
 /// The call of a helper at a unit.
@@ -111,10 +109,11 @@ pub(crate) fn call(
     environment: Environment,
     unit: u32,
     helper: Option<Helper>,
-    state: &AbsState,
-) -> Result<Effect, Rule>
-    requires { AreEarlier unit state.now.held }
-    ensures { result ≡ call environment unit helper state.now }
+    state: &mut AbsState,
+) -> Result<Option<AbsState>, Rule>
+    requires { AreEarlier unit state.old.held }
+    ensures effect { effect_left result state.new ≡ call environment unit helper state.old }
+    ensures unchanged { IfErr result (λ _. state.new ≡ state.old) }
 {
     match helper {
         None => Err(Rule::UnknownHelper),

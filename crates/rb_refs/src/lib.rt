@@ -30,5 +30,5 @@ pub use joins::{below, join};
 pub use rule::Rule;
 pub use state::{AbsState, Effect};
 pub use step_laws::{step_keeps_form, step_keeps_order};
-pub use steps::step;
+pub use steps::{step, step_in_place};
 pub use value::Abs;

@@ -58,16 +58,12 @@ impl AbsState {
         self.values[usize::from(register.number)]
     }
 
-    /// The state once a register has got a value.
-    pub(crate) fn put(&self, register: Reg, value: Abs) -> AbsState
-        ensures { result ≡ put self.now register.number value }
+    /// A register gets a value.
+    #[inline(always)]
+    pub(crate) fn put(&mut self, register: Reg, value: Abs)
+        ensures { self.new ≡ put self.old register.number value }
     {
-        let mut values = self.values;
-        values[usize::from(register.number)] = value;
-        AbsState {
-            values,
-            held: self.held.copy(),
-        }
+        self.values[register.index()] = value;
     }
 
     /// The same along both edges.

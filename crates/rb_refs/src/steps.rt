@@ -1,9 +1,10 @@
 //! One abstract step: the table of checks and effects.
 
-ghost use Rattle.std.specs.Prelude.{◌≡◌, ◌<◌, ◌^◌, ℕ};
+ghost use Rattle.std.specs.Prelude.{◌≡◌, ◌<◌, ◌^◌, ℕ, IfErr};
 ghost use Rattle.rb_alu.specs.Meaning.{IsArithmetic};
 ghost use Rattle.rb_refs.specs.References.{AreEarlier};
-ghost use Rattle.rb_refs.specs.Step.{step_of, assigned, given, copied, converted, altered, operated, ring_given, loaded, stored, ended};
+ghost use Rattle.rb_refs.specs.States.{effect_left};
+ghost use Rattle.rb_refs.specs.Step.{step_of, given, copied, converted, altered, operated, ring_given, loaded, stored, ended};
 
 use crate::arithmetic::{Direction, combined, computed, direction_of, operand_value};
 use crate::branches::{branch, null_test_of};
@@ -17,51 +18,57 @@ use crate::state::{AbsState, Effect};
 use crate::value::Abs;
 use rb_insn::{Insn, Operand, Reg, Width};
 
-/// A register has got a value.
-fn assigned(dst: Reg, value: Abs, state: &AbsState) -> Effect
-    ensures { result ≡ assigned dst value state.now }
-{
-    state.put(dst, value).along_both()
-}
-
 /// A register gets this value, whatever it held.
-fn given(dst: Reg, value: Abs, state: &AbsState) -> Result<Effect, Rule>
-    ensures { result ≡ given dst value state.now }
+fn given(dst: Reg, value: Abs, state: &mut AbsState) -> Result<Option<AbsState>, Rule>
+    ensures effect { effect_left result state.new ≡ given dst value state.old }
+    ensures unchanged { IfErr result (λ _. state.new ≡ state.old) }
 {
     writable(dst)?;
-    Ok(assigned(dst, value, state))
+    state.put(dst, value);
+    Ok(None)
 }
 
 /// A 64-bit move, which copies pointers too.
-fn copied(dst: Reg, src: Reg, state: &AbsState) -> Result<Effect, Rule>
-    ensures { result ≡ copied dst src state.now }
+fn copied(dst: Reg, src: Reg, state: &mut AbsState) -> Result<Option<AbsState>, Rule>
+    ensures effect { effect_left result state.new ≡ copied dst src state.old }
+    ensures unchanged { IfErr result (λ _. state.new ≡ state.old) }
 {
     writable(dst)?;
     let value = state.value(src);
     readable(value)?;
-    Ok(assigned(dst, value, state))
+    state.put(dst, value);
+    Ok(None)
 }
 
 /// A move that computes, from a number in src.
-fn converted(insn: &Insn, dst: Reg, src: Reg, state: &AbsState) -> Result<Effect, Rule>
+fn converted(
+    insn: &Insn,
+    dst: Reg,
+    src: Reg,
+    state: &mut AbsState,
+) -> Result<Option<AbsState>, Rule>
     requires { IsArithmetic insn.now }
-    ensures { result ≡ converted insn.now dst src state.now }
+    ensures effect { effect_left result state.new ≡ converted insn.now dst src state.old }
+    ensures unchanged { IfErr result (λ _. state.new ≡ state.old) }
 {
     writable(dst)?;
     let value = state.value(src);
     number(Rule::PointerArithmetic, value)?;
-    Ok(assigned(dst, computed(insn, Abs::Known(0), value), state))
+    state.put(dst, computed(insn, Abs::Known(0), value));
+    Ok(None)
 }
 
 /// Arithmetic on the number in dst alone.
-fn altered(insn: &Insn, dst: Reg, state: &AbsState) -> Result<Effect, Rule>
+fn altered(insn: &Insn, dst: Reg, state: &mut AbsState) -> Result<Option<AbsState>, Rule>
     requires { IsArithmetic insn.now }
-    ensures { result ≡ altered insn.now dst state.now }
+    ensures effect { effect_left result state.new ≡ altered insn.now dst state.old }
+    ensures unchanged { IfErr result (λ _. state.new ≡ state.old) }
 {
     writable(dst)?;
     let value = state.value(dst);
     number(Rule::PointerArithmetic, value)?;
-    Ok(assigned(dst, computed(insn, value, Abs::Known(0)), state))
+    state.put(dst, computed(insn, value, Abs::Known(0)));
+    Ok(None)
 }
 
 /// Arithmetic on dst and a second operand.
@@ -70,10 +77,11 @@ fn operated(
     insn: &Insn,
     dst: Reg,
     operand: Operand,
-    state: &AbsState,
-) -> Result<Effect, Rule>
+    state: &mut AbsState,
+) -> Result<Option<AbsState>, Rule>
     requires { IsArithmetic insn.now }
-    ensures { result ≡ operated direction insn.now dst operand state.now }
+    ensures effect { effect_left result state.new ≡ operated direction insn.now dst operand state.old }
+    ensures unchanged { IfErr result (λ _. state.new ≡ state.old) }
 {
     writable(dst)?;
     let left = state.value(dst);
@@ -81,7 +89,8 @@ fn operated(
     readable(left)?;
     readable(right)?;
     let value = combined(direction, insn, left, right)?;
-    Ok(assigned(dst, value, state))
+    state.put(dst, value);
+    Ok(None)
 }
 
 /// The ring of a number.
@@ -89,15 +98,17 @@ fn ring_given(
     environment: Environment,
     dst: Reg,
     ring: u32,
-    state: &AbsState,
-) -> Result<Effect, Rule>
-    ensures { result ≡ ring_given environment dst ring state.now }
+    state: &mut AbsState,
+) -> Result<Option<AbsState>, Rule>
+    ensures effect { effect_left result state.new ≡ ring_given environment dst ring state.old }
+    ensures unchanged { IfErr result (λ _. state.new ≡ state.old) }
 {
     writable(dst)?;
     if ring >= environment.rings {
         return Err(Rule::HelperArgument);
     }
-    Ok(assigned(dst, Abs::Ring(ring), state))
+    state.put(dst, Abs::Ring(ring));
+    Ok(None)
 }
 
 /// A load of so many bytes.
@@ -107,15 +118,17 @@ fn loaded(
     base: Reg,
     offset: i16,
     len: u64,
-    state: &AbsState,
-) -> Result<Effect, Rule>
-    ensures { result ≡ loaded environment dst base offset len state.now }
+    state: &mut AbsState,
+) -> Result<Option<AbsState>, Rule>
+    ensures effect { effect_left result state.new ≡ loaded environment dst base offset len state.old }
+    ensures unchanged { IfErr result (λ _. state.new ≡ state.old) }
 {
     writable(dst)?;
     let base = state.value(base);
     tested(base)?;
     inside(environment, &state.held, base, i64::from(offset), len)?;
-    Ok(assigned(dst, Abs::Number, state))
+    state.put(dst, Abs::Number);
+    Ok(None)
 }
 
 /// A store of so many bytes of a value.
@@ -125,41 +138,46 @@ fn stored(
     offset: i16,
     len: u64,
     value: Abs,
-    state: &AbsState,
-) -> Result<Effect, Rule>
-    ensures { result ≡ stored environment base offset len value state.now }
+    state: &mut AbsState,
+) -> Result<Option<AbsState>, Rule>
+    ensures effect { effect_left result state.new ≡ stored environment base offset len value state.old }
+    ensures unchanged { IfErr result (λ _. state.new ≡ state.old) }
 {
     let base = state.value(base);
     tested(base)?;
     not_context(base)?;
     inside(environment, &state.held, base, i64::from(offset), len)?;
     number(Rule::PointerStored, value)?;
-    Ok(state.copy().along_both())
+    Ok(None)
 }
 
 /// The end of the program.
-fn ended(state: &AbsState) -> Result<Effect, Rule>
-    ensures { result ≡ ended state.now }
+fn ended(state: &mut AbsState) -> Result<Option<AbsState>, Rule>
+    ensures effect { effect_left result state.new ≡ ended state.old }
+    ensures unchanged { IfErr result (λ _. state.new ≡ state.old) }
 {
     if !state.held.is_empty() {
         return Err(Rule::ReferenceLeft);
     }
     let [result, ..] = state.values;
     number(Rule::ResultNotNumber, result)?;
-    Ok(state.copy().along_both())
+    Ok(None)
 }
 
 #[tactic(auto, unfolding(crate::specs::Step::step_of))]
-/// One abstract step of the instruction at a unit: what is known along each edge out of it, or the first rule that it
-/// breaks. The references that are held were reserved at earlier units. It takes no memory, and constant time.
-pub fn step(
+/// One abstract step of the instruction at a unit, in place: the state becomes what is known along the edge to the next
+/// instruction, and what is known along a jump's edge is answered where it differs; or the first rule that the instruction
+/// breaks, and then the state is unchanged. The references that are held were reserved at earlier units. It takes no memory,
+/// and constant time.
+pub fn step_in_place(
     environment: Environment,
     unit: u32,
     insn: &Insn,
-    state: &AbsState,
-) -> Result<Effect, Rule>
-    requires { AreEarlier unit state.now.held }
-    ensures { result ≡ step_of environment unit insn.now state.now }
+    state: &mut AbsState,
+) -> Result<Option<AbsState>, Rule>
+    requires { AreEarlier unit state.old.held }
+    ensures effect { effect_left result state.new ≡ step_of environment unit insn.now state.old }
+    ensures unchanged { IfErr result (λ _. state.new ≡ state.old) }
 {
     match *insn {
         Insn::Move {
@@ -246,8 +264,26 @@ pub fn step(
             operand_value(operand, state),
             state,
         ),
-        Insn::Jump { .. } | Insn::JumpFar { .. } => Ok(state.copy().along_both()),
+        Insn::Jump { .. } | Insn::JumpFar { .. } => Ok(None),
         Insn::Call { helper } => call(environment, unit, Helper::from_number(helper), state),
         Insn::Exit => ended(state),
+    }
+}
+
+/// One abstract step of the instruction at a unit: what is known along each edge out of it, or the first rule that it
+/// breaks. The references that are held were reserved at earlier units. It takes no memory, and constant time.
+pub fn step(
+    environment: Environment,
+    unit: u32,
+    insn: &Insn,
+    state: &AbsState,
+) -> Result<Effect, Rule>
+    requires { AreEarlier unit state.now.held }
+    ensures { result ≡ step_of environment unit insn.now state.now }
+{
+    let mut next = state.copy();
+    match step_in_place(environment, unit, insn, &mut next)? {
+        Some(jump) => Ok(Effect { next, jump }),
+        None => Ok(next.along_both()),
     }
 }

@@ -1,5 +1,5 @@
 //! The plain twin of `rb_ring`: the same ring of records for one thread, with the same contracts, over a plain list of records.
-//! Nothing of the product stands on it; tests compare the two.
+//! No other library uses it; tests give both the same calls and compare the answers.
 #![tactic(auto)]
 
 mod counting;

@@ -22,8 +22,10 @@ use std::alloc::Global;
 use std::collections::VecDeque;
 use std::marker::Model;
 
-/// One ring of records, for one thread, whose records are a plain list. Its contracts are those of `rb_ring`'s, word for word.
-/// `submit` and `discard` look for their record from the front, and `counts` walks the history.
+/// One ring of records, for one thread, whose records are a plain list (Linux Documentation/bpf/ringbuf.rst). The contracts of its
+/// public calls are those of `rb_ring`'s, word for word. `submit` and `discard` take time linear in the records that were not
+/// taken, as they look for theirs from the front, and `counts` in the history. The others take constant time, but for a record's
+/// own bytes and the amortised growth of the lists.
 #[derive(Drop)]
 pub struct RingState {
     size: u64,
@@ -56,7 +58,8 @@ impl Model for RingState {
 }
 
 impl RingState {
-    /// A ring without records, for `workers` workers, or the first of `OpenFault`'s refusals that stands.
+    /// A ring without records, of `size` bytes, whose positions begin at `start`, for `workers` workers, or the first of
+    /// `OpenFault`'s refusals that stands. In time linear in the workers.
     pub fn new(alloc: Global, size: u64, start: u64, workers: u32) -> Result<RingState, OpenFault>
         ensures opened { IfOk result (λ ring. ring ≡ fresh size start workers) }
         ensures size { IsErrOf result OpenFault.Size ↔ ¬ IsSize size }
@@ -90,6 +93,7 @@ impl RingState {
     }
 
     /// What holds of each ring: its history is legal, it is what the ring's state stands for, and its numbers are within bounds.
+    /// The call does nothing.
     pub fn facts(&self)
         ensures legal { IsLegal self.now.setup self.now.history }
         ensures stands { StandsFor self.now }
@@ -98,7 +102,7 @@ impl RingState {
         let _ = &self.history;
     }
 
-    /// The whole history, oldest entry first.
+    /// The whole history since `new`, oldest entry first.
     pub fn history(&self) -> &[Entry]
         ensures entries { result.now ≡ self.now.history }
     {
@@ -139,7 +143,8 @@ impl RingState {
     }
 
     /// Grants worker `worker` a record of `n` bytes at the producer position, in a sheet of as many bytes, which become
-    /// zeros; or logs that it finds no room, and hands the sheet back. `Memory` changes nothing.
+    /// zeros; or logs that it finds no room, and hands the sheet back. `Memory` changes nothing and hands the sheet back too.
+    /// (bpf-helpers(7), bpf_ringbuf_reserve.)
     pub fn reserve(
         &mut self,
         worker: u32,
@@ -167,7 +172,7 @@ impl RingState {
     }
 
     /// Hands the reservation's bytes to the consumer, or hands the reservation back where no busy record has its four
-    /// numbers. Of the flags only bits 0 and 1 are looked at.
+    /// numbers. Of the flags only bits 0 and 1 are looked at. It takes no memory. (bpf-helpers(7), bpf_ringbuf_submit.)
     pub fn submit(&mut self, reservation: Reservation, flags: u64) -> Result<Notice, Stray>
         ensures same_ring { self.new.setup ≡ self.old.setup }
         ensures submitted { OnOk result (Submits self.old self.new reservation) }
@@ -187,7 +192,8 @@ impl RingState {
     }
 
     /// Gives the reservation's record up, so that the consumer passes over it, or hands the reservation back where no busy
-    /// record has its four numbers. Of the flags only bits 0 and 1 are looked at.
+    /// record has its four numbers. Of the flags only bits 0 and 1 are looked at. It takes no memory. (bpf-helpers(7),
+    /// bpf_ringbuf_discard.)
     pub fn discard(&mut self, reservation: Reservation, flags: u64) -> Result<Notice, Stray>
         ensures same_ring { self.new.setup ≡ self.old.setup }
         ensures discarded { OnOk result (Discards self.old self.new reservation) }
@@ -207,7 +213,8 @@ impl RingState {
     }
 
     /// Grants worker `worker` a record and submits it at once, with the sheet's bytes. Flags above 3 are told first, and
-    /// nothing is logged then; otherwise it refuses as `reserve` does. A refusal hands the sheet back.
+    /// nothing is logged then; otherwise it refuses as `reserve` does. A refusal hands the sheet back. (bpf-helpers(7),
+    /// bpf_ringbuf_output.)
     pub fn output(
         &mut self,
         worker: u32,
@@ -238,7 +245,8 @@ impl RingState {
     }
 
     /// Takes the record at the consumer position: hands out a submitted one and passes over a discarded one. A busy one
-    /// stops it, whatever stands behind.
+    /// stops it, whatever stands behind. It takes no memory. (Linux Documentation/bpf/ringbuf.rst: records are consumed in the
+    /// order of their reservation.)
     pub fn take(&mut self) -> Taken
         ensures same_ring { self.new.setup ≡ self.old.setup }
         ensures takes { Takes self.old self.new result }

@@ -1,15 +1,16 @@
 -- A ring that was just opened may be run.
-use Rattle.std.proofs.Common.{◌≡◌, ℕ, zero, suc, ◌+◌, [], ◌∷◌, ◌++◌, length, map, refl, ap, sym, ◌∙◌, subst, arith}
+use Rattle.std.proofs.Common.{List, ◌≡◌, ℕ, zero, suc, ◌+◌, [], ◌∷◌, ◌++◌, map, refl, ap, sym, ◌∙◌, subst, arith}
 use Rattle.std.specs.Prelude.{All}
 use Rattle.std.proofs.lemmas.List.Elements.{All-cons}
 use Rattle.atomic_table.specs.Seated.{TableId}
 use Rattle.rb_ledger.specs.Own.{Book}
 use Rattle.rb_ledger.specs.Numbers.{numbers_below}
-use Rattle.rb_ledger.specs.Seats.{Shared, WorkerSeat, TakerSeat, fresh_book, fresh_seat, fresh_seats, fresh_taker}
+use Rattle.rb_ledger.specs.Seats.{Shared, HasSettledAll, WorkerSeat, TakerSeat, fresh_book, fresh_seat, fresh_seats, fresh_taker}
 use Rattle.rb_seats.specs.Seated.{IsAt}
 use Rattle.rb_workers.specs.declared.opened.Opened.{Opened}
 use Rattle.rb_workers.specs.Opened.{AreOpened, IsOpened}
 use Rattle.rb_workers.proofs.Numbered.{seats_length}
+use Rattle.rb_workers.proofs.Parts.{all_first}
 
 -- one worker more at the end
 last_worker : (tag : ℕ) (ring : TableId) (seen : Book) (first n : ℕ) → map (λ (s : WorkerSeat). s.worker) (fresh_seats tag ring seen first (suc n)) ≡ map (λ (s : WorkerSeat). s.worker) (fresh_seats tag ring seen first n) ++ (first + n) ∷ []
@@ -43,14 +44,13 @@ fresh_opened position tag size start workers o tagged seats consumer begins =
       sink_follows = begins ∙ sym (ap (λ (c : TakerSeat). c.position) consumer);
     }
 
--- two rings for the same workers may be run together
-pub both_opened : {S : Type 0} (position : S → ℕ) (count : ℕ) (a b : Opened S) → IsOpened position count a → IsOpened position count b → AreOpened position (a ∷ b ∷ [])
-both_opened position count a b is and =
-    let many = sym (seats_length position count a is) in
-    All-cons (IsOpened position (length a.seats.items)) a (b ∷ []) (subst (λ n. IsOpened position n a) many is)
-        (All-cons (IsOpened position (length a.seats.items)) b [] (subst (λ n. IsOpened position n b) many and) (λ k d below. absurd (omega arith)))
+-- rings for the same workers may be run together
+pub all_opened : {S : Type 0} (position : S → ℕ) (count : ℕ) (opened : List (Opened S)) → All (IsOpened position count) opened → AreOpened position opened
+all_opened position count [] all = λ k d below. absurd (omega arith)
+all_opened position count (o ∷ more) all =
+    subst (λ n. All (IsOpened position n) (o ∷ more)) (sym (seats_length position count o (all_first (IsOpened position count) (o ∷ more) more o refl all))) all
 
--- so may one alone
-pub one_opened : {S : Type 0} (position : S → ℕ) (count : ℕ) (a : Opened S) → IsOpened position count a → AreOpened position (a ∷ [])
-one_opened position count a is =
-    All-cons (IsOpened position (length a.seats.items)) a [] (subst (λ n. IsOpened position n a) (sym (seats_length position count a is)) is) (λ k d below. absurd (omega arith))
+-- seats that have made nothing
+pub fresh_settled : (tag : ℕ) (ring : TableId) (seen : Book) (first n : ℕ) → All HasSettledAll (fresh_seats tag ring seen first n)
+fresh_settled tag ring seen first zero = λ k d below. absurd (omega arith)
+fresh_settled tag ring seen first (suc n) = All-cons HasSettledAll (fresh_seat tag ring first seen) (fresh_seats tag ring seen (first + 1) n) refl (fresh_settled tag ring seen (first + 1) n)

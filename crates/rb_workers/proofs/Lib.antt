@@ -14,3 +14,4 @@ pub mod Reported
 pub mod Strays
 pub mod Settling
 pub mod Fresh
+pub mod Laws

@@ -10,4 +10,3 @@ abbrev pub IsMerged : List Job → List Worker → ℕ → List JobAnswer → Li
 IsMerged js olds at answers workers = (k : ℕ) (d : Worker) → k < length olds
     → (length (get_or workers k d).answers.items ≡ length (own k (take at js)))
     × ((get_or workers k d).answers.items ++ own_answers k (drop at js) (reverse answers) ≡ (get_or olds k d).answers.items)
-

@@ -1,5 +1,6 @@
 -- Laws of seats in rows and columns.
-use Rattle.std.proofs.Common.{◌≡◌, ℕ, zero, suc, ◌+◌, ◌<◌, ◌≤◌, List, [], ◌∷◌, ◌++◌, length, get_or, Option, Some, None, refl, ap, sym, ◌∙◌, subst, append_assoc, append-nil, length-append, arith}
+use Rattle.std.proofs.Common.{◌≡◌, ℕ, suc, ◌+◌, ◌<◌, ◌≤◌, List, [], ◌∷◌, ◌++◌, length, Option, Some, None, refl, ap, sym, ◌∙◌, subst, append_assoc, append-nil, length-append, arith}
+use Rattle.std.proofs.lemmas.List.{get_or_append_left, get_or_push, length-map}
 use Rattle.std.proofs.lemmas.List.Elements.{filter_map-append}
 use Rattle.std.specs.Prelude.{slice_get, All}
 use Rattle.std.specs.List.{AllZip, cons_option}
@@ -44,8 +45,7 @@ pub all_rest : {A : Type 0} (P : A → Type 0) (rest more : List A) (x : A) → 
 all_rest P rest more x e all = λ k d below. (subst (All P) e all) (suc k) d (omega arith)
 
 pub rows_length : {S : Type 0} (xs : List (Opened S)) → length (rows xs) ≡ length xs
-rows_length [] = refl
-rows_length (x ∷ xs) = let e = rows_length xs in omega arith
+rows_length xs = length-map xs (λ o. o.seats.items)
 
 pub nothing : {A : Type 0} (done rest all : List A) → done ++ rest ≡ all → length rest ≡ 0 → done ≡ all
 nothing done [] all e z = sym (append-nil done) ∙ e
@@ -54,20 +54,11 @@ nothing done (x ∷ rest) all e z = absurd (omega arith)
 pub unshift : {A : Type 0} (front back done all : List A) (x : A) → back ≡ front ++ x ∷ [] → back ++ done ≡ all → front ++ x ∷ done ≡ all
 unshift front back done all x e e' = sym (append_assoc front (x ∷ []) done) ∙ (ap (λ l. l ++ done) (sym e) ∙ e')
 
-pub low_any : {A : Type 0} (xs : List A) (y d : A) (k : ℕ) → k < length xs → get_or (xs ++ y ∷ []) k d ≡ get_or xs k d
-low_any [] y d k below = absurd (omega arith)
-low_any (x ∷ xs) y d zero below = refl
-low_any (x ∷ xs) y d (suc k) below = low_any xs y d k (omega arith)
-
 pub all_front : {A : Type 0} (P : A → Type 0) (front back : List A) (x : A) → back ≡ front ++ x ∷ [] → All P back → All P front
-all_front P front back x e all = λ k d below. subst P (low_any front x d k below) ((subst (All P) e all) k d (let n = length-append front (x ∷ []) in omega arith))
-
-last_any : {A : Type 0} (xs : List A) (y d : A) → get_or (xs ++ y ∷ []) (length xs) d ≡ y
-last_any [] y d = refl
-last_any (x ∷ xs) y d = last_any xs y d
+all_front P front back x e all = λ k d below. subst P (get_or_append_left front (x ∷ []) d k below) ((subst (All P) e all) k d (let n = length-append front (x ∷ []) in omega arith))
 
 pub all_last : {A : Type 0} (P : A → Type 0) (front back : List A) (x : A) → back ≡ front ++ x ∷ [] → All P back → P x
-all_last P front back x e all = subst P (last_any front x x) ((subst (All P) e all) (length front) x (let n = length-append front (x ∷ []) in omega arith))
+all_last P front back x e all = subst P (get_or_push front x x (length front) refl) ((subst (All P) e all) (length front) x (let n = length-append front (x ∷ []) in omega arith))
 
 pub column_cons : (k : ℕ) (row : List WorkerSeat) (seats : List (List WorkerSeat)) (s : WorkerSeat) → slice_get row k ≡ Some s → column k (row ∷ seats) ≡ s ∷ column k seats
 column_cons k row seats s e = ap (λ (o : Option WorkerSeat). cons_option o (column k seats)) e

@@ -1,5 +1,5 @@
 -- Where each worker's seats together are settled, each seat is, and so no closed ring has a busy record.
-use Rattle.std.proofs.Common.{map, ◌≡◌, ℕ, zero, suc, ◌+◌, ◌<◌, ◌≤◌, List, [], ◌∷◌, length, sym, ◌∙◌, arith}
+use Rattle.std.proofs.Common.{refl, map, ◌≡◌, ℕ, zero, suc, ◌+◌, ◌<◌, ◌≤◌, List, [], ◌∷◌, length, sym, ◌∙◌, arith}
 use Rattle.std.proofs.lemmas.List.Elements.{All-head, All-tail, All-cons, All-nil, All-same, All-map}
 use Rattle.std.proofs.lemmas.Slice.Zip.{AllZip-long}
 use Rattle.std.specs.Prelude.{slice_get}
@@ -68,6 +68,22 @@ each_settled count (row ∷ seats) rows within settled =
     let len : length row ≡ count = All-head (λ (r : List WorkerSeat). length r ≡ count) row seats rows in
     All-cons (All HasSettledAll) row seats (row_settled row (λ k below. (column_settled k row seats within (settled k (omega (arith, len, below)))).0))
     (each_settled count seats (All-tail (λ (r : List WorkerSeat). length r ≡ count) row seats rows) (All-tail (All SettlesWithin) row seats within) (λ k below. (column_settled k row seats within (settled k below)).1))
+
+-- what is settled seat by seat is settled together
+settled_within : (row : List WorkerSeat) (k : ℕ) → All HasSettledAll row → made_at row k ≡ submitted_at row k + discarded_at row k
+settled_within [] k all = refl
+settled_within (s ∷ row) zero all = All-head HasSettledAll s row all
+settled_within (s ∷ row) (suc k) all = settled_within row k (All-tail HasSettledAll s row all)
+
+pub settled_together : (count : ℕ) (seats : List (List WorkerSeat)) → All (All HasSettledAll) seats → EachSettled count seats
+settled_together count [] all k below = refl
+settled_together count (row ∷ seats) all k below =
+    let here = settled_within row k (All-head (All HasSettledAll) row seats all) in
+    let rest = settled_together count seats (All-tail (All HasSettledAll) row seats all) k below in
+    let made = cons_sum (λ (s : WorkerSeat). s.tally.made) (slice_get row k) (column k seats) in
+    let submitted = cons_sum (λ (s : WorkerSeat). s.tally.submitted) (slice_get row k) (column k seats) in
+    let discarded = cons_sum (λ (s : WorkerSeat). s.tally.discarded) (slice_get row k) (column k seats) in
+    omega (arith, here, rest, made, submitted, discarded)
 
 -- ---- closed rings
 

@@ -1,6 +1,7 @@
 -- How the parts of a run fit together.
 use Rattle.std.proofs.Common.{◌≡◌, ℕ, ◌<◌, ◌≤◌, List, [], ◌∷◌, ◌++◌, length, take, drop, get_or, map, refl, ap, sym, ◌∙◌, subst, arith}
 use Rattle.std.proofs.Math.Seq.{take-append_seam}
+use Rattle.std.proofs.lemmas.List.{length-map}
 use Rattle.std.specs.Prelude.{Bool, All, vec_capacity}
 use Rattle.std.specs.List.{AllZip}
 use Rattle.std.proofs.lemmas.Option.{slice_get-get_or}
@@ -66,8 +67,7 @@ pub lent_whole : {A : Type 0} (len : ℕ) (new items : List A) → length new �
 lent_whole len new items e = subst (λ n. take n (new ++ drop (length new) items) ≡ new) e (take-append_seam new (drop (length new) items))
 
 pub rings_length : {S : Type 0} (xs : List (Opened S)) → length (map (λ (o : Opened S). o.ring) xs) ≡ length xs
-rings_length [] = refl
-rings_length (x ∷ xs) = let e = rings_length xs in omega arith
+rings_length xs = length-map xs (λ o. o.ring)
 
 abbrev HasEnded : {S : Type 0} → (S → ℕ) → Opened S → Taker S → Type 0
 HasEnded position o u = IsSameConsumer o.consumer u.consumer × (position u.sink ≡ u.consumer.position)

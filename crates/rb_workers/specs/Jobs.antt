@@ -8,7 +8,7 @@ use Rattle.rb_jobs.specs.declared.job.Job.{Job}
 use Rattle.rb_jobs.specs.declared.job.JobAnswer.{JobAnswer}
 use Rattle.rb_jobs.specs.Jobs.{Did, task_of}
 
--- the jobs, one after another, gave the answers
+-- the jobs, one after another, gave the answers, and took the seats from the one state to the other
 abbrev pub Ran : List Job → List JobAnswer → List WorkerSeat → List WorkerSeat → Type 0
 Ran [] [] old new = new ≡ old
 Ran [] (a ∷ rest) old new = ⊥
@@ -18,6 +18,14 @@ Ran (j ∷ js) (a ∷ rest) old new = (mid : List WorkerSeat) × Did (task_of j)
 -- the worker's own jobs, in the list's order
 abbrev pub own : ℕ → List Job → List Job
 own worker jobs = filter (λ j. j.worker == worker) jobs
+
+-- the run ended with a stray record
+abbrev pub is_stray : Result ℕ RunFault → Bool
+is_stray (Ok n) = false
+is_stray (Err ContextLength) = false
+is_stray (Err Stray) = true
+
+-- ---- no public clause cites what follows
 
 -- the answers of the worker's own jobs, where there is one for each job
 abbrev pub own_answers : ℕ → List Job → List JobAnswer → List JobAnswer
@@ -29,9 +37,3 @@ own_answers worker (j ∷ js) (a ∷ rest) = cond (j.worker == worker) (a ∷ ow
 abbrev pub Worked : List Job → Bool → List JobAnswer → List WorkerSeat → List WorkerSeat → Type 0
 Worked jobs short answers old new =
     (done left : List Job) × (jobs ≡ done ++ left) × (short ≡ false → left ≡ []) × Ran done answers old new
-
--- the run ended with a stray record
-abbrev pub is_stray : Result ℕ RunFault → Bool
-is_stray (Ok n) = false
-is_stray (Err ContextLength) = false
-is_stray (Err Stray) = true

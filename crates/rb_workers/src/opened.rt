@@ -1,7 +1,8 @@
 //! What jobs run over, and what comes of them.
 
-ghost use Rattle.std.specs.Prelude.{◌≡◌, ◌↔◌, IfOk, IsErrOf};
+ghost use Rattle.std.specs.Prelude.{◌≡◌, ◌↔◌, All, IfOk, IsErrOf};
 ghost use Rattle.rb_history.specs.View.{IsSize, IsStart, IsWorkerCount};
+ghost use Rattle.rb_ledger.specs.Seats.{HasSettledAll, fresh_book};
 ghost use Rattle.rb_workers.specs.Opened.{IsOpened};
 
 use crate::sink::Sink;
@@ -38,7 +39,10 @@ impl<S: Sink + Drop> Opened<S> {
     ) -> Result<Opened<S>, OpenFault>
         requires begins { S.position_of sink ≡ start }
         ensures opened { IfOk result (IsOpened S.position_of workers) }
+        ensures tag { IfOk result (λ o. o.ring.tag ≡ tag) }
+        ensures book { IfOk result (λ o. o.consumer.seen ≡ fresh_book size start workers) }
         ensures sink { IfOk result (λ o. o.sink ≡ sink) }
+        ensures nothing_made { IfOk result (λ o. All HasSettledAll o.seats.items) }
         ensures size { IsErrOf result OpenFault.Size ↔ ¬ IsSize size }
         ensures start { IsErrOf result OpenFault.Start ↔ (IsSize size × ¬ IsStart start) }
         ensures workers { IsErrOf result OpenFault.Workers ↔ (IsSize size × IsStart start × ¬ IsWorkerCount workers) }

@@ -9,4 +9,4 @@ gather-requires-clause-seats g c = subst (λ t. All (λ s. s.ring ≡ t) c.args.
 
 pub returns : goal.returns
 returns g c =
-    record { closed = collected c.args.seats.items c.args.consumer (view c.into_pass-pass.result) _ _ c.take_out.result c.into_pass-pass.ensures.knows c.gather.ensures.knows c.take_out.ensures.took c.gather.ensures.ties c.into_pass-pass.ensures.ties c.requires.all }
+    record { closed = collected c.args.seats.items c.args.consumer (view c.into_pass-pass.result) _ _ c.take_out.result.value c.into_pass-pass.ensures.knows c.gather.ensures.knows c.take_out.ensures.took c.gather.ensures.ties c.into_pass-pass.ensures.ties c.requires.all }

@@ -1,4 +1,4 @@
-use Rattle.std.proofs.Common.{◌≡◌, ◌∙◌, length-set, arith}
+use Rattle.std.proofs.Common.{◌∙◌, length-set, arith}
 use Rattle.rb_refs.specs.Changes.{changed}
 use Rattle.rb_refs.proofs.Registers.{changed_more}
 use Rattle.rb_refs.proofs.changes.changed_values.Goals as goal

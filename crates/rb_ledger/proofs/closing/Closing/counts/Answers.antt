@@ -4,4 +4,4 @@ use Rattle.rb_history.specs.View.{Ring}
 use Rattle.rb_ledger.proofs.closing.Closing.counts.Goals as goal
 
 pub returns : goal.returns
-returns c = record { counts = c.counts.ensures.counts ∙ ap (λ (r : Ring). counts_of r.history) c.self.view_is }
+returns c = record { counts = c.counts.ensures.counts ∙ ap (λ (r : Ring). counts_of r.history) c.as_ref.ensures ∙ ap (λ (r : Ring). counts_of r.history) c.self.view_is }

@@ -1,7 +1,7 @@
-use Rattle.std.proofs.Common.{◌≡◌, map, filter, sym, subst, arith}
+use Rattle.std.proofs.Common.{◌≡◌, map, sym, subst, arith}
 use Rattle.std.proofs.lemmas.Grind.{common_steps}
-use Rattle.rb_refs.specs.References.{IsAscending, tested_in, other_than}
-use Rattle.rb_refs.proofs.Ascending.{ascending_tested, ascending_filtered}
+use Rattle.rb_refs.specs.References.{IsAscending, tested_in}
+use Rattle.rb_refs.proofs.Ascending.{ascending_tested}
 use Rattle.rb_refs.proofs.held.Held.tested.Goals as goal
 
 pub invariant_of-result : goal.invariant_of-result
