@@ -21,14 +21,34 @@ pub(crate) fn output_and_take(alloc: Global, records: u32, len: u32) -> Result<u
     let mut sheet = Sheet::new(alloc, len)?;
     let mut sum: u64 = 0;
     for _ in 0..records {
-        sheet.bytes_mut().fill(FILL);
-        if ring.output(0, sheet, 0).is_err() {
-            return Err(BenchFault::Lost);
-        }
-        sheet = next_sheet(&mut ring)?;
+        sheet = pass(&mut ring, sheet)?;
         sum = sum.wrapping_add(first_byte(&sheet));
     }
     Ok(sum)
+}
+
+/// Outputs and takes so many records more at a ring for one worker, and answers the sheet that went round.
+pub(crate) fn go_on(ring: &mut RingState, sheet: Sheet, records: u32) -> Result<Sheet, BenchFault>
+    requires { ring.old.setup.workers ≡ 1 }
+    ensures { ring.new.setup ≡ ring.old.setup }
+{
+    let mut sheet = sheet;
+    for _ in 0..records {
+        sheet = pass(ring, sheet)?;
+    }
+    Ok(sheet)
+}
+
+// One record through the ring: the sheet is filled, output and taken.
+fn pass(ring: &mut RingState, mut sheet: Sheet) -> Result<Sheet, BenchFault>
+    requires { ring.old.setup.workers ≡ 1 }
+    ensures { ring.new.setup ≡ ring.old.setup }
+{
+    sheet.bytes_mut().fill(FILL);
+    if ring.output(0, sheet, 0).is_err() {
+        return Err(BenchFault::Lost);
+    }
+    next_sheet(ring)
 }
 
 /// Reserves, writes, submits and takes `records` records of `len` bytes, one after the other, and answers the sum of their
@@ -52,8 +72,8 @@ pub(crate) fn reserve_and_submit(alloc: Global, records: u32, len: u32) -> Resul
     Ok(sum)
 }
 
-// An empty ring for one worker.
-fn opened(alloc: Global) -> Result<RingState, BenchFault>
+/// An empty ring for one worker.
+pub(crate) fn opened(alloc: Global) -> Result<RingState, BenchFault>
     ensures { IfOk result (λ ring. ring.setup.workers ≡ 1) }
 {
     match RingState::new(alloc, SIZE, 0, 1) {

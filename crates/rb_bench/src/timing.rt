@@ -3,9 +3,10 @@
 use crate::fault::BenchFault;
 use crate::interpreting::run_rounds;
 use crate::loading::load;
-use crate::one_thread::{output_and_take, reserve_and_submit};
+use crate::one_thread::{go_on, opened, output_and_take, reserve_and_submit};
 use crate::programs::{arithmetic, memory};
 use crate::threads::{Shared, share};
+use rb_lend::Sheet;
 use std::alloc::Global;
 use std::io::Print;
 use std::sync::Wait;
@@ -14,6 +15,9 @@ use std::time::{Clock, Instant};
 
 // How often each workload runs.
 const ROUNDS: u32 = 5;
+
+// How many records make a stretch of the measure of growth.
+const STRETCH: u32 = 100_000;
 
 // How often a program of 4,000 units runs in each round.
 const RUNS: u32 = 250;
@@ -31,6 +35,8 @@ pub(crate) fn run<R: Threads + Wait + Sync + Print + Clock>(
             println!(rt; "reserve_submit_take {len} {records} {least}")?;
         }
     }
+    let (first, last) = growth(rt, alloc)?;
+    println!(rt; "growth {STRETCH} {first} {last}")?;
     for (producers, each) in [(1, 1_000_000), (2, 500_000), (4, 250_000)] {
         shared(rt, alloc, producers, each)?;
     }
@@ -46,6 +52,24 @@ pub(crate) fn run<R: Threads + Wait + Sync + Print + Clock>(
     let least = best(rt, || run_rounds(alloc, &program, RUNS))?;
     println!(rt; "run memory {least}")?;
     Ok(())
+}
+
+// The nanoseconds of the first and of the last 100,000 of 1,000,000 records of eight bytes that go through one ring, each the shortest of
+// some rounds: what a record costs where the history is short, and where it is long.
+fn growth<R: Clock>(rt: &R, alloc: Global) -> Result<(u64, u64), BenchFault> {
+    let (mut first, mut last) = (u64::MAX, u64::MAX);
+    for _ in 0..ROUNDS {
+        let mut ring = opened(alloc)?;
+        let sheet = Sheet::new(alloc, 8)?;
+        let start = Instant::now(rt)?;
+        let sheet = go_on(&mut ring, sheet, STRETCH)?;
+        first = first.min(nanos_since(rt, start)?);
+        let sheet = go_on(&mut ring, sheet, 8 * STRETCH)?;
+        let start = Instant::now(rt)?;
+        let _ = go_on(&mut ring, sheet, STRETCH)?;
+        last = last.min(nanos_since(rt, start)?);
+    }
+    Ok((first, last))
 }
 
 // The shared ring at a number of producers, with how often one of them found no room in the best round.

@@ -3,7 +3,7 @@ use Rattle.std.specs.Prelude.{ℕ}
 use Rattle.rb_refs.specs.declared.rule.Rule.{Rule}
 use Rattle.rb_refs.specs.declared.rule.Rule.TheVariants.{Unreadable, FramePointerWritten, PointerArithmetic, OutsidePart, ContextWritten, PointerStored, HelperArgument, SizeNotKnown, TooManyReferences, ReferenceLeft, ReferencesDiffer, ResultNotNumber, PointerCompared, NullNotTested, UnknownHelper}
 
--- the rule's number, as in V11
+-- the rule's number, from 1 to 15
 abbrev pub number_of : Rule → ℕ
 number_of Unreadable = 1
 number_of FramePointerWritten = 2

@@ -1,5 +1,5 @@
 -- The CALL instructions are those that begin at the units.
-use Rattle.std.proofs.Common.{◌≡◌, ℕ, zero, suc, ◌+◌, ◌-◌, Bool, true, false, cond, refl, sym, ◌∙◌, ap, List, [], ◌∷◌, ◌++◌, replicate, Option, Some, None, zero-add}
+use Rattle.std.proofs.Common.{◌≡◌, ℕ, zero, suc, ◌+◌, ◌-◌, Bool, cond, refl, sym, ◌∙◌, ap, List, [], ◌∷◌, ◌++◌, replicate, Option, Some, None, zero-add}
 use Rattle.std.proofs.lemmas.List.Sums.{sum_by-cons}
 use Rattle.std.specs.Prelude.{count_by}
 use Rattle.rb_insn.specs.declared.insn.Insn.{Insn}

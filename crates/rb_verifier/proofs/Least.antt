@@ -1,9 +1,9 @@
 -- Whatever arrives under the least annotation lies below every valid one; so a refusal excludes them all.
-use Rattle.std.proofs.Common.{◌≡◌, ◌⊎◌, inl, inr, ⊎_elim, ℕ, ◌<◌, ◌≤◌, refl, sym, ◌∙◌, subst, List, Result, Ok, Err, Some, arith}
+use Rattle.std.proofs.Common.{◌≡◌, ⊎_elim, ℕ, ◌<◌, ◌≤◌, refl, sym, ◌∙◌, subst, List, Result, Ok, Err, Some, arith}
 use Rattle.std.proofs.lemmas.Bool.{cases_lt}
 use Rattle.rb_insn.specs.declared.insn.Insn.{Insn}
 use Rattle.rb_decode.specs.Program.{unit_count, slot_at}
-use Rattle.rb_cfg.specs.Edges.{Edge, Next, Target, leads, HasEdge}
+use Rattle.rb_cfg.specs.Edges.{Edge, Next, Target, HasEdge}
 use Rattle.rb_cfg.specs.Shape.{EachIsEntered}
 use Rattle.rb_refs.specs.declared.environment.Environment.{Environment}
 use Rattle.rb_refs.specs.declared.rule.Rule.{Rule}

@@ -1,5 +1,5 @@
 -- The progress of the pass, from its start to its end or to a refusal.
-use Rattle.std.proofs.Common.{◌≡◌, ◌⊎◌, ⊎_elim, ℕ, ◌+◌, ◌<◌, ◌≤◌, refl, sym, ◌∙◌, ap, subst, List, [], ◌∷◌, length, Ok, Err, Option, Some, None, arith, length-append}
+use Rattle.std.proofs.Common.{◌≡◌, ⊎_elim, ℕ, ◌+◌, ◌<◌, refl, sym, ◌∙◌, ap, subst, List, [], ◌∷◌, length, Ok, Err, Some, None, arith, length-append}
 use Rattle.std.proofs.lemmas.Bool.{cases_eq, cases_lt}
 use Rattle.std.proofs.lemmas.List.{get_or_past}
 use Rattle.rb_insn.specs.declared.insn.Insn.{Insn}
@@ -17,8 +17,8 @@ use Rattle.rb_refs.specs.Step.{step_of}
 use Rattle.rb_refs.proofs.Laws.{below_refl, form_entry, step_forms}
 use Rattle.rb_verifier.specs.declared.arrivals.Arrival.{Arrival}
 use Rattle.rb_verifier.specs.declared.arrivals.Arrival.TheVariants.{Nothing, Least, Differ}
-use Rattle.rb_verifier.specs.Annotation.{Annotation, along_edge, IsValid, IsValidBefore, Arrives, at_entry, by_edge, HaveDifferent, Stands, differ, check, IsFirstFault, HasNoValid}
-use Rattle.rb_verifier.specs.Pass.{state_at, noted_at, IsLeastOfSome, IsNoted, IsFormedAt, Flows, Progress, IsStart}
+use Rattle.rb_verifier.specs.Annotation.{Annotation, IsValid, IsValidBefore, Arrives, at_entry, by_edge, HaveDifferent, differ, check, IsFirstFault, HasNoValid}
+use Rattle.rb_verifier.specs.Pass.{state_at, noted_at, IsLeastOfSome, IsNoted, IsFormedAt, IsTaken, Flows, Progress, IsStart}
 use Rattle.rb_verifier.proofs.Least.{no_valid_differ, no_valid_check, something_arrives}
 use Rattle.rb_verifier.proofs.Noting.{noted_iff, formed_flows}
 use Rattle.rb_verifier.proofs.Turning.{more, least_more, noted_more, least_passed, passed_arrives, arrives_passed}
@@ -95,17 +95,17 @@ module _ {env : Environment} {p : List Insn} {states : List AbsState} {arrivals 
     Here = Arrives env p (state_at states) u u
 
     -- one turn of the pass
-    pub advance : EdgesLeadForward p → (i : Insn) (s : AbsState) (e : Effect) (between new : List Arrival) → slot_at p u ≡ Some i → noted_at arrivals u ≡ Least s → step_of env u i s ≡ Ok e → Flows (leads u i Next) e.next arrivals between → Flows (leads u i Target) e.jump between new → Progress env p (more states s) new (u + 1)
-    advance forward i s e between new at is ok f g =
+    pub advance : EdgesLeadForward p → (i : Insn) (s : AbsState) (e : Effect) (rest between new : List Arrival) → slot_at p u ≡ Some i → noted_at arrivals u ≡ Least s → step_of env u i s ≡ Ok e → IsTaken u arrivals rest → Flows (leads u i Target) e.jump rest between → Flows (leads u i Next) e.next between new → Progress env p (more states s) new (u + 1)
+    advance forward i s e rest between new at is ok taken f g =
         let here : IsLeastOfSome Here s = subst (IsNoted Here) is (h.noted u (omega arith) lt) in
         record {
           done = length-append states (s ∷ []) ∙ ap (λ n. n + 1) h.done;
-          count = g.count ∙ f.count ∙ h.count;
+          count = g.count ∙ f.count ∙ taken.count ∙ h.count;
           least = least_more env p forward states u s i e h.done h.least lt at here.least ok;
-          noted = λ t k t_lt. noted_more env p forward states u s i e h.done h.least lt at here.least ok t arrivals between new (h.noted t (omega arith) t_lt) f g;
+          noted = λ t k t_lt. noted_more env p forward states u s i e h.done h.least lt at here.least ok t rest between new (subst (IsNoted (Arrives env p (state_at states) u t)) (sym (taken.elsewhere t (omega arith))) (h.noted t (omega arith) t_lt)) f g;
           formed = λ t k.
               let effect = step_forms env u i s e (formed_here s is) ok in
-              formed_flows t g (λ leads_to. (effect t k).1) (formed_flows t f (λ leads_to. (effect t k).0) (h.formed t (omega arith)));
+              formed_flows t g (λ leads_to. (effect t k).0) (formed_flows t f (λ leads_to. (effect t k).1) (subst (IsFormedAt t) (sym (taken.elsewhere t (omega arith))) (h.formed t (omega arith))));
         }
 
     pub refused_differ : noted_at arrivals u ≡ Differ → HasNoValid env p × IsFirstFault env p u ReferencesDiffer

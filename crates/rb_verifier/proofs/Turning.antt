@@ -1,5 +1,5 @@
 -- One turn of the pass: the least annotation grows by one unit, and what arrives behind it is noted.
-use Rattle.std.proofs.Common.{◌≡◌, ◌≢◌, ◌⊎◌, inl, inr, ⊎_elim, ℕ, ◌+◌, ◌<◌, ◌≤◌, refl, sym, ◌∙◌, ap, subst, List, [], ◌∷◌, ◌++◌, length, Ok, Err, Option, Some, None, arith, length-append}
+use Rattle.std.proofs.Common.{◌≡◌, inl, inr, ⊎_elim, ℕ, ◌+◌, ◌<◌, refl, sym, ◌∙◌, ap, subst, List, [], ◌∷◌, ◌++◌, length, Ok, Some, None, arith}
 use Rattle.std.proofs.Math.ListN.{get_or-append}
 use Rattle.std.proofs.Math.Seq.{get_or-append_seam}
 use Rattle.std.proofs.lemmas.Bool.{cases_eq}
@@ -93,11 +93,11 @@ module _ (env : Environment) (p : List Insn) (forward : EdgesLeadForward p) (sta
 
   -- what arrives at a later unit
   abbrev Later : ℕ → AbsState → Type 0
-  Later t = AndIf (AndIf (Arrives env p (state_at states) u t) (leads u i Next) t e.next) (leads u i Target) t e.jump
+  Later t = AndIf (AndIf (Arrives env p (state_at states) u t) (leads u i Target) t e.jump) (leads u i Next) t e.next
 
   along_new : (along : Edge) (t : ℕ) (x : AbsState) → leads u i along ≡ Some t → x ≡ along_edge along e → Later t x
-  along_new Next t x leads_to is = inl (inr (leads_to, is))
-  along_new Target t x leads_to is = inr (leads_to, is)
+  along_new Target t x leads_to is = inl (inr (leads_to, is))
+  along_new Next t x leads_to is = inr (leads_to, is)
 
   from_new : (along : Edge) (t : ℕ) (x : AbsState) → leads u i along ≡ Some t → x ≡ along_edge along e → Arrives env p Grown (u + 1) t x
   from_new along t x leads_to is = by_edge u i e along (omega arith) at (subst (λ y. step_of env u i y ≡ Ok e) (sym new_at) ok) leads_to is
@@ -105,8 +105,8 @@ module _ (env : Environment) (p : List Insn) (forward : EdgesLeadForward p) (sta
   later_arrives : (t : ℕ) (x : AbsState) → Later t x → Arrives env p Grown (u + 1) t x
   later_arrives t x (inl (inl (at_entry z is))) = at_entry z is
   later_arrives t x (inl (inl (by_edge from j f along k at_j checks leads_to is))) = by_edge from j f along (omega arith) at_j (subst (λ y. step_of env from j y ≡ Ok f) (sym (old_at from k)) checks) leads_to is
-  later_arrives t x (inl (inr (leads_to, is))) = from_new Next t x leads_to is
-  later_arrives t x (inr (leads_to, is)) = from_new Target t x leads_to is
+  later_arrives t x (inl (inr (leads_to, is))) = from_new Target t x leads_to is
+  later_arrives t x (inr (leads_to, is)) = from_new Next t x leads_to is
 
   arrives_later : (t : ℕ) (x : AbsState) → Arrives env p Grown (u + 1) t x → Later t x
   arrives_later t x (at_entry z is) = inl (inl (at_entry z is))
@@ -121,10 +121,10 @@ module _ (env : Environment) (p : List Insn) (forward : EdgesLeadForward p) (sta
       (λ ne. let k_old : from < u = omega arith in inl (inl (by_edge from j f along k_old at_j (subst (λ y. step_of env from j y ≡ Ok f) (old_at from k_old) checks) leads_to is)))
       (cases_eq from u)
 
-  pub noted_more : (t : ℕ) (old between new : List Arrival) → IsNoted (Arrives env p (state_at states) u t) (noted_at old t) → Flows (leads u i Next) e.next old between → Flows (leads u i Target) e.jump between new → IsNoted (Arrives env p Grown (u + 1) t) (noted_at new t)
+  pub noted_more : (t : ℕ) (old between new : List Arrival) → IsNoted (Arrives env p (state_at states) u t) (noted_at old t) → Flows (leads u i Target) e.jump old between → Flows (leads u i Next) e.next between new → IsNoted (Arrives env p Grown (u + 1) t) (noted_at new t)
   noted_more t old between new h f g =
       noted_iff {A = Later t} {B = Arrives env p Grown (u + 1) t} (later_arrives t) (arrives_later t) (noted_at new t)
-      (noted_flows (AndIf (Arrives env p (state_at states) u t) (leads u i Next) t e.next) t g (noted_flows (Arrives env p (state_at states) u t) t f h))
+      (noted_flows (AndIf (Arrives env p (state_at states) u t) (leads u i Target) t e.jump) t g (noted_flows (Arrives env p (state_at states) u t) t f h))
 
 -- the turn of a unit at which no instruction begins
 module _ (env : Environment) (p : List Insn) (forward : EdgesLeadForward p) (states : List AbsState) (u : ℕ) (done : length states ≡ u) (l : IsLeastBefore env p (state_at states) u) (none : slot_at p u ≡ None) where

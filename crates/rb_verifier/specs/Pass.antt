@@ -44,6 +44,11 @@ IsMerged (Least t) s (Least r) = IsJoin t s r
 IsMerged (Least t) s Differ = t.held ≢ s.held
 IsMerged Differ s new = new ≡ Differ
 
+-- what was noted at a unit was taken out, and the rest is the same
+pub record IsTaken (unit : ℕ) (old new : List Arrival) : Type 0 where
+  pub count : length new ≡ length old
+  pub elsewhere : (other : ℕ) → other ≢ unit → noted_at new other ≡ noted_at old other
+
 -- a state flows to one unit, where there is one
 pub record Flows (target : Option ℕ) (s : AbsState) (old new : List Arrival) : Type 0 where
   pub count : length new ≡ length old

@@ -1,10 +1,12 @@
 //! What is noted of the states that arrive at the units.
 
-ghost use Rattle.std.specs.Prelude.{◌≡◌, ◌<◌, ◌≤◌, ℕ, Some, IfOk, vec_len};
-ghost use Rattle.rb_verifier.specs.Pass.{IsMerged, Flows, IsStart};
+ghost use Rattle.std.specs.Prelude.{◌≡◌, ◌≢◌, ◌<◌, ◌≤◌, ℕ, Some, IfOk, vec_len};
+ghost use Rattle.rb_refs.specs.States.{along_jump};
+ghost use Rattle.rb_verifier.specs.Pass.{IsMerged, IsTaken, Flows, IsStart, noted_at};
 
 use rb_refs::{AbsState, join};
 use std::alloc::{AllocError, Global};
+use std::mem;
 
 /// What was noted of the states that arrive at a unit.
 #[derive(Drop)]
@@ -18,12 +20,13 @@ pub(crate) enum Arrival {
 }
 
 /// One more state is noted.
-fn merged(arrival: &Arrival, state: &AbsState) -> Arrival
-    ensures { IsMerged arrival.now state.now result }
+#[inline(always)]
+fn merged(arrival: &Arrival, state: AbsState) -> Arrival
+    ensures { IsMerged arrival.now state result }
 {
     match arrival {
-        Arrival::Nothing => Arrival::Least(state.copy()),
-        Arrival::Least(other) => match join(other, state) {
+        Arrival::Nothing => Arrival::Least(state),
+        Arrival::Least(other) => match join(other, &state) {
             Some(least) => Arrival::Least(least),
             None => Arrival::Differ,
         },
@@ -32,9 +35,10 @@ fn merged(arrival: &Arrival, state: &AbsState) -> Arrival
 }
 
 /// Notes a state at the unit to which it flows, where there is one.
-pub(crate) fn flow(arrivals: &mut Vec<Arrival>, target: Option<u32>, state: &AbsState)
+#[inline(always)]
+pub(crate) fn flow(arrivals: &mut Vec<Arrival>, target: Option<u32>, state: AbsState)
     requires { (to : ℕ) → target ≡ Some to → to < vec_len arrivals.old }
-    ensures { Flows target state.now arrivals.old.items arrivals.new.items }
+    ensures { Flows target state arrivals.old.items arrivals.new.items }
 {
     if let Some(to) = target {
         let unit = to as usize;
@@ -43,11 +47,40 @@ pub(crate) fn flow(arrivals: &mut Vec<Arrival>, target: Option<u32>, state: &Abs
     }
 }
 
+/// Notes the state along a jump's edge at the unit to which it leads, where there is one: the one that is told, else a copy of
+/// the state along the other edge.
+#[inline(always)]
+pub(crate) fn flow_jump(
+    arrivals: &mut Vec<Arrival>,
+    target: Option<u32>,
+    jump: Option<AbsState>,
+    next: &AbsState,
+)
+    requires { (to : ℕ) → target ≡ Some to → to < vec_len arrivals.old }
+    ensures { Flows target (along_jump jump next.now) arrivals.old.items arrivals.new.items }
+{
+    match (target, jump) {
+        (None, _) => {}
+        (Some(_), Some(jump)) => flow(arrivals, target, jump),
+        (Some(_), None) => flow(arrivals, target, next.copy()),
+    }
+}
+
+/// Takes out what was noted at a unit.
+#[inline(always)]
+pub(crate) fn take(arrivals: &mut Vec<Arrival>, unit: u32) -> Arrival
+    requires { unit < vec_len arrivals.old }
+    ensures noted { result ≡ noted_at arrivals.old.items unit }
+    ensures rest { IsTaken unit arrivals.old.items arrivals.new.items }
+{
+    mem::replace(&mut arrivals[unit as usize], Arrival::Nothing)
+}
+
 /// What is noted at the start: the entry state at the first unit, and nothing at the others.
 pub(crate) fn first_arrivals(alloc: Global, units: u32) -> Result<Vec<Arrival>, AllocError>
     ensures { IfOk result (λ arrivals. IsStart units arrivals.items) }
 {
-    let mut arrivals = Vec::new(alloc);
+    let mut arrivals = Vec::with_capacity(alloc, units as usize)?;
     for unit in 0..units {
         if unit == 0 {
             arrivals.push(Arrival::Least(AbsState::entry(alloc)))?;

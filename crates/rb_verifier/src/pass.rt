@@ -7,14 +7,14 @@ ghost use Rattle.rb_verifier.specs.Annotation.{IsValid};
 ghost use Rattle.rb_verifier.specs.Pass.{Progress, state_at};
 ghost use Rattle.rb_verifier.specs.Refusals.{IsRightRefusal};
 
-use crate::arrivals::{Arrival, first_arrivals, flow};
+use crate::arrivals::{Arrival, first_arrivals, flow, flow_jump, take};
 use crate::refusal::Refusal;
 use rb_cfg::{Shape, jump_target, next_unit};
 use rb_insn::Insn;
-use rb_refs::{AbsState, Environment, Rule, step};
+use rb_refs::{AbsState, Environment, Rule, step_in_place};
 use std::alloc::Global;
 
-/// One turn of the pass, at an instruction: its state is settled, and flows on along its edges.
+/// One turn of the pass, at an instruction: its state is settled and kept, and what the instruction makes of it flows on along its edges.
 fn visit(
     environment: Environment,
     shape: &Shape,
@@ -31,23 +31,23 @@ fn visit(
 {
     shape.facts();
     shape.program().facts();
-    let state = match &arrivals[unit as usize] {
+    let mut state = match take(arrivals, unit) {
         Arrival::Nothing => unreachable!(),
         Arrival::Differ => {
             let rule = Rule::ReferencesDiffer;
             return Err(Refusal::Rule { unit, rule });
         }
-        Arrival::Least(state) => state.copy(),
+        Arrival::Least(state) => state,
     };
-    let effect = match step(environment, unit, insn, &state) {
-        Ok(effect) => effect,
-        Err(rule) => return Err(Refusal::Rule { unit, rule }),
-    };
-    if states.push(state).is_err() {
+    if states.push(state.copy()).is_err() {
         return Err(Refusal::Memory);
     }
-    flow(arrivals, next_unit(unit, insn), &effect.next);
-    flow(arrivals, jump_target(unit, insn), &effect.jump);
+    let jump = match step_in_place(environment, unit, insn, &mut state) {
+        Ok(jump) => jump,
+        Err(rule) => return Err(Refusal::Rule { unit, rule }),
+    };
+    flow_jump(arrivals, jump_target(unit, insn), jump, &state);
+    flow(arrivals, next_unit(unit, insn), state);
     Ok(())
 }
 
@@ -97,7 +97,9 @@ pub(crate) fn annotate(
     let Ok(mut arrivals) = first_arrivals(alloc, units) else {
         return Err(Refusal::Memory);
     };
-    let mut states = Vec::new(alloc);
+    let Ok(mut states) = Vec::with_capacity(alloc, units as usize) else {
+        return Err(Refusal::Memory);
+    };
     for unit in 0..units {
         turn(alloc, environment, shape, unit, &mut states, &mut arrivals)?;
     }

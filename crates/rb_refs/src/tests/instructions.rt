@@ -4,7 +4,7 @@ ghost use Rattle.std.specs.Prelude.{◌≡◌, ◌≤◌};
 ghost use Rattle.rb_refs.specs.References.{AreEarlier};
 
 use super::{ENVIRONMENT, UNIT, mixed, reg};
-use crate::{Abs, AbsState, Rule, step};
+use crate::{Abs, AbsState, Rule, step, step_in_place};
 use rb_insn::{
     BinaryOp, ByteOrder, Condition, DivisionOp, Extend64, Insn, Operand, Reg, SignedSize,
     Signedness, Size, SwapWidth, Width,
@@ -350,5 +350,21 @@ fn null_test_tells_each_edge(rt: HostRuntime) -> Result<(), Fail> {
             Some(true)
         );
     }
+    Ok(())
+}
+
+#[test]
+fn a_step_in_place_leaves_the_state_along_the_next_edge(rt: HostRuntime) -> Result<(), Fail> {
+    let mut state = mixed(rt.alloc());
+    let same = step_in_place(ENVIRONMENT, UNIT, &load(7, 10, -512), &mut state)?;
+    assert!(rt; same.is_none());
+    assert_eq!(rt; state.value(reg(7)), Abs::Number);
+    let mut state = mixed(rt.alloc());
+    let equal = branch(Width::W64, Condition::Equal, 0, Operand::Immediate(0));
+    match step_in_place(ENVIRONMENT, UNIT, &equal, &mut state)? {
+        Some(jump) => assert_eq!(rt; jump.value(reg(0)), Abs::Known(0)),
+        None => assert!(rt; false),
+    }
+    assert_eq!(rt; state.value(reg(0)), Abs::Record(4, 0));
     Ok(())
 }

@@ -11,4 +11,4 @@ loop-unit-init c =
     let same : unit_count c.program.result.now ≡ unit_count c.args.shape.now = ap unit_count c.program.ensures in
     let some : 0 < unit_count c.args.shape.now = omega (arith, bound, same) in
     let start : IsStart (unit_count c.args.shape.now) c.in-Ok.arrivals.items = subst (λ n. IsStart n c.in-Ok.arrivals.items) units c.in-Ok.ensures in
-    subst (λ states. Progress c.args.environment c.args.shape.now states c.in-Ok.arrivals.items 0) (sym c.new-states.ensures.items) (progress_start c.args.environment c.args.shape.now c.in-Ok.arrivals.items some start)
+    subst (λ states. Progress c.args.environment c.args.shape.now states c.in-Ok.arrivals.items 0) (sym c.in-Ok-with_capacity.ensures.items) (progress_start c.args.environment c.args.shape.now c.in-Ok.arrivals.items some start)
