@@ -1,4 +1,4 @@
-//! How long each workload takes: the best of five rounds.
+//! How long each workload takes: the best of five rounds, but for the measure of growth, which has one.
 
 use crate::fault::BenchFault;
 use crate::interpreting::run_rounds;
@@ -27,6 +27,8 @@ pub(crate) fn run<R: Threads + Wait + Sync + Print + Clock>(
     rt: &R,
     alloc: Global,
 ) -> Result<(), BenchFault> {
+    let (first, last) = growth(rt, alloc)?;
+    println!(rt; "growth {STRETCH} {first} {last}")?;
     for len in [8, 256] {
         for records in [100_000, 1_000_000] {
             let least = best(rt, || output_and_take(alloc, records, len))?;
@@ -35,8 +37,6 @@ pub(crate) fn run<R: Threads + Wait + Sync + Print + Clock>(
             println!(rt; "reserve_submit_take {len} {records} {least}")?;
         }
     }
-    let (first, last) = growth(rt, alloc)?;
-    println!(rt; "growth {STRETCH} {first} {last}")?;
     for (producers, each) in [(1, 1_000_000), (2, 500_000), (4, 250_000)] {
         shared(rt, alloc, producers, each)?;
     }
@@ -54,22 +54,18 @@ pub(crate) fn run<R: Threads + Wait + Sync + Print + Clock>(
     Ok(())
 }
 
-// The nanoseconds of the first and of the last 100,000 of 1,000,000 records of eight bytes that go through one ring, each the shortest of
-// some rounds: what a record costs where the history is short, and where it is long.
+// The nanoseconds of the first and of the last 100,000 of 1,000,000 records of eight bytes that go through one ring: what a record costs
+// where the history is short, and where it is long. Both take fresh memory as long as nothing has given any back, so it comes first.
 fn growth<R: Clock>(rt: &R, alloc: Global) -> Result<(u64, u64), BenchFault> {
-    let (mut first, mut last) = (u64::MAX, u64::MAX);
-    for _ in 0..ROUNDS {
-        let mut ring = opened(alloc)?;
-        let sheet = Sheet::new(alloc, 8)?;
-        let start = Instant::now(rt)?;
-        let sheet = go_on(&mut ring, sheet, STRETCH)?;
-        first = first.min(nanos_since(rt, start)?);
-        let sheet = go_on(&mut ring, sheet, 8 * STRETCH)?;
-        let start = Instant::now(rt)?;
-        let _ = go_on(&mut ring, sheet, STRETCH)?;
-        last = last.min(nanos_since(rt, start)?);
-    }
-    Ok((first, last))
+    let mut ring = opened(alloc)?;
+    let sheet = Sheet::new(alloc, 8)?;
+    let start = Instant::now(rt)?;
+    let sheet = go_on(&mut ring, sheet, STRETCH)?;
+    let first = nanos_since(rt, start)?;
+    let sheet = go_on(&mut ring, sheet, 8 * STRETCH)?;
+    let start = Instant::now(rt)?;
+    let _ = go_on(&mut ring, sheet, STRETCH)?;
+    Ok((first, nanos_since(rt, start)?))
 }
 
 // The shared ring at a number of producers, with how often one of them found no room in the best round.
