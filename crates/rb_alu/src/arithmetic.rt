@@ -27,8 +27,11 @@ pub fn value(insn: &Insn, dst: u64, src: u64) -> u64
             operand,
             ..
         } => {
-            let second = low_bits(width, operand_value(operand, src));
-            binary(width, op, low_bits(width, dst), second)
+            let second = operand_value(operand, src);
+            match width {
+                Width::W32 => binary_at(Width::W32, op, dst, second),
+                Width::W64 => binary_at(Width::W64, op, dst, second),
+            }
         }
         Insn::Division {
             width,
@@ -47,6 +50,15 @@ pub fn value(insn: &Insn, dst: u64, src: u64) -> u64
         Insn::Reorder { order, width, .. } => reordered(order, width, dst),
         _ => unreachable!(),
     }
+}
+
+#[inline(always)]
+/// Arithmetic on the low bits of two numbers, as many as the width has. Callers name the width, so that each gets code for it
+/// alone.
+fn binary_at(width: Width, op: BinaryOp, dst: u64, src: u64) -> u64
+    ensures { result ≡ binary_of (bits_of width) op (low_bits (bits_of width) dst) (low_bits (bits_of width) src) }
+{
+    binary(width, op, low_bits(width, dst), low_bits(width, src))
 }
 
 #[inline(always)]

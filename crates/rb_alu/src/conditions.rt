@@ -1,7 +1,7 @@
 //! Whether a conditional instruction jumps.
 
 ghost use Rattle.std.specs.Prelude.{◌≡◌, ℕ, ◌^◌, ◌<◌};
-ghost use Rattle.rb_alu.specs.Numbers.{condition_holds};
+ghost use Rattle.rb_alu.specs.Numbers.{condition_holds, low_bits};
 ghost use Rattle.rb_alu.specs.Meaning.{bits_of, IgnoresSource, IsConditional, jumps_of};
 
 use crate::operands::{low_bits, operand_value, signed};
@@ -23,11 +23,23 @@ pub fn jumps(insn: &Insn, dst: u64, src: u64) -> bool
             operand,
             ..
         } => {
-            let second = low_bits(width, operand_value(operand, src));
-            holds(width, condition, low_bits(width, dst), second)
+            let second = operand_value(operand, src);
+            match width {
+                Width::W32 => holds_at(Width::W32, condition, dst, second),
+                Width::W64 => holds_at(Width::W64, condition, dst, second),
+            }
         }
         _ => unreachable!(),
     }
+}
+
+#[inline(always)]
+/// Whether the condition holds of the low bits of two numbers, as many as the width has. Callers name the width, so that each
+/// gets code for it alone.
+fn holds_at(width: Width, condition: Condition, dst: u64, src: u64) -> bool
+    ensures { result ≡ condition_holds (bits_of width) condition (low_bits (bits_of width) dst) (low_bits (bits_of width) src) }
+{
+    holds(width, condition, low_bits(width, dst), low_bits(width, src))
 }
 
 #[inline(always)]

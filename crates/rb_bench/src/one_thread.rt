@@ -39,6 +39,7 @@ pub(crate) fn go_on(ring: &mut RingState, sheet: Sheet, records: u32) -> Result<
     Ok(sheet)
 }
 
+#[inline(always)]
 // One record through the ring: the sheet is filled, output and taken.
 fn pass(ring: &mut RingState, mut sheet: Sheet) -> Result<Sheet, BenchFault>
     requires { ring.old.setup.workers ≡ 1 }
@@ -82,6 +83,7 @@ pub(crate) fn opened(alloc: Global) -> Result<RingState, BenchFault>
     }
 }
 
+#[inline(always)]
 // The bytes of the record that is taken next.
 fn next_sheet(ring: &mut RingState) -> Result<Sheet, BenchFault>
     ensures { ring.new.setup ≡ ring.old.setup }

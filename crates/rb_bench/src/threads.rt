@@ -6,7 +6,7 @@ ghost use Rattle.rb_ledger.specs.Seats.{IsSameSeat, IsSameTaker};
 use crate::fault::BenchFault;
 use crate::one_thread::{FILL, SIZE};
 use rb_history::Taken;
-use rb_ledger::{ConsumerSeat, Seat, SharedRing, open};
+use rb_ledger::{ConsumerSeat, Patience, Seat, SharedRing, open};
 use rb_lend::{Lent, Sheet};
 use std::alloc::Global;
 use std::sync::Wait;
@@ -22,8 +22,8 @@ pub(crate) struct Shared {
     pub refused: u64,
 }
 
-/// Lets each of `producers` threads output `each` records of eight bytes, while another takes them all. A producer that
-/// finds no room, or no memory, lets the other threads go on and tries again.
+/// Lets each of `producers` threads output `each` records of eight bytes, while another takes them all. A producer that finds no
+/// room, and a consumer that finds no record, waits for longer each time and tries again.
 pub(crate) fn share<R: Threads + Wait + Sync>(
     rt: &R,
     alloc: Global,
@@ -115,12 +115,13 @@ fn put<R: Wait>(rt: &R, alloc: Global, ring: &SharedRing, seat: &mut Seat)
     ensures { IsSameSeat seat.old seat.new }
 {
     let mut sheet = filled(rt, alloc);
+    let mut patience = Patience::new();
     for _ in rt.forever() {
         match ring.output(rt, seat, sheet, 0) {
             Ok(_) => return,
             Err((_, back)) => sheet = back,
         }
-        thread::yield_now();
+        patience.wait();
     }
     unreachable!()
 }
@@ -141,13 +142,14 @@ fn consume<R: Wait>(rt: &R, ring: &SharedRing, consumer: &mut ConsumerSeat, want
     requires { consumer.old.ring ≡ ring.now.ring }
     ensures { IsSameTaker consumer.old consumer.new }
 {
+    let mut patience = Patience::new();
     for _ in rt.forever() {
         if consumer.consumed() >= want {
             return;
         }
         match ring.take(rt, consumer) {
-            Ok(Taken::Event(_, _, _, _)) => {}
-            _ => thread::yield_now(),
+            Ok(Taken::Event(_, _, _, _)) => patience = Patience::new(),
+            _ => patience.wait(),
         }
     }
 }

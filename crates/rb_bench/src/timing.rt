@@ -27,6 +27,13 @@ pub(crate) fn run<R: Threads + Wait + Sync + Print + Clock>(
     rt: &R,
     alloc: Global,
 ) -> Result<(), BenchFault> {
+    one_thread(rt, alloc)?;
+    threads(rt, alloc)?;
+    loads(rt, alloc)?;
+    runs(rt, alloc)
+}
+
+fn one_thread<R: Print + Clock>(rt: &R, alloc: Global) -> Result<(), BenchFault> {
     let (first, last) = growth(rt, alloc)?;
     println!(rt; "growth {STRETCH} {first} {last}")?;
     for len in [8, 256] {
@@ -37,14 +44,36 @@ pub(crate) fn run<R: Threads + Wait + Sync + Print + Clock>(
             println!(rt; "reserve_submit_take {len} {records} {least}")?;
         }
     }
-    for (producers, each) in [(1, 1_000_000), (2, 500_000), (4, 250_000)] {
+    Ok(())
+}
+
+fn threads<R: Threads + Wait + Sync + Print + Clock>(
+    rt: &R,
+    alloc: Global,
+) -> Result<(), BenchFault> {
+    for (producers, each) in [
+        (1, 100_000),
+        (2, 50_000),
+        (4, 25_000),
+        (1, 1_000_000),
+        (2, 500_000),
+        (4, 250_000),
+    ] {
         shared(rt, alloc, producers, each)?;
     }
+    Ok(())
+}
+
+fn loads<R: Print + Clock>(rt: &R, alloc: Global) -> Result<(), BenchFault> {
     for units in [1000, 4000] {
         let bytes = arithmetic(alloc, units)?;
         let least = best(rt, || loaded(alloc, bytes.as_slice()))?;
         println!(rt; "load {units} {least}")?;
     }
+    Ok(())
+}
+
+fn runs<R: Print + Clock>(rt: &R, alloc: Global) -> Result<(), BenchFault> {
     let program = load(alloc, arithmetic(alloc, 4000)?.as_slice())?;
     let least = best(rt, || run_rounds(alloc, &program, RUNS))?;
     println!(rt; "run arithmetic {least}")?;

@@ -28,7 +28,7 @@ impl Model for Program {
 }
 
 impl Program {
-    ghost use Rattle.std.specs.Prelude.{◌≡◌, ◌≤◌};
+    ghost use Rattle.std.specs.Prelude.{◌≡◌, ◌≢◌, ◌≤◌, None, Some};
     ghost use Rattle.std.specs.Option.{option_copied};
     ghost use Rattle.std.specs.List.{AllByRecursion};
     ghost use Rattle.rb_insn.specs.Spelling.{Fits};
@@ -66,6 +66,18 @@ impl Program {
         match self.units.get(unit as usize) {
             Some(slot) => slot.as_ref(),
             None => None,
+        }
+    }
+
+    #[inline(always)]
+    /// The instruction that begins at a unit, for callers that know that one does. In constant time.
+    pub fn fetch(&self, unit: u32) -> &Insn
+        requires { slot_at self.now unit ≢ None }
+        ensures { slot_at self.now unit ≡ Some result.now }
+    {
+        match &self.units[unit as usize] {
+            Some(insn) => insn,
+            None => unreachable!(),
         }
     }
 

@@ -220,6 +220,9 @@ fn sign_extending_move(rt: HostRuntime) -> Result<(), Fail> {
         src: Reg::R2,
     };
     assert_eq!(rt; program.at(0).copied(), Some(insn));
+    if program.at(0).is_some() {
+        assert_eq!(rt; *program.fetch(0), insn);
+    }
     assert_eq!(rt; program.units(), 1);
     Ok(())
 }

@@ -67,11 +67,18 @@ impl<C: Context, R: Lent + Drop> Core<C, R> {
                 op,
                 dst,
                 operand,
-            } => {
-                let left = self.register(dst);
-                self.combined(insn, width, op, dst, left, self.operand(operand));
-                Step::Went
-            }
+            } => match operand {
+                Operand::Immediate(k) => {
+                    let right = Value::Number(immediate(k));
+                    self.combined(insn, width, op, dst, self.register(dst), right);
+                    Step::Went
+                }
+                Operand::Register(src) => {
+                    let right = self.register(src);
+                    self.combined(insn, width, op, dst, self.register(dst), right);
+                    Step::Went
+                }
+            },
             Insn::LoadNumber { dst, value } => {
                 self.gives(insn, dst, Value::Number(value));
                 Step::Went
@@ -124,12 +131,18 @@ impl<C: Context, R: Lent + Drop> Core<C, R> {
                 dst,
                 operand,
                 ..
-            } => {
-                let left = self.register(dst);
-                let right = self.operand(operand);
-                self.compared(insn, width, condition, operand, left, right);
-                Step::Went
-            }
+            } => match operand {
+                Operand::Immediate(k) => {
+                    let right = Value::Number(immediate(k));
+                    self.compared(insn, width, condition, operand, self.register(dst), right);
+                    Step::Went
+                }
+                Operand::Register(src) => {
+                    let right = self.register(src);
+                    self.compared(insn, width, condition, operand, self.register(dst), right);
+                    Step::Went
+                }
+            },
             Insn::Jump { .. } => {
                 self.along(insn, true);
                 Step::Went

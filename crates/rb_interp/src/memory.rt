@@ -34,19 +34,6 @@ impl<C, R> Model for Memory<C, R> {
     ghost invariant = { λ m. IsTable m.entries.items m.parts.records };
 }
 
-/// The byte of its part that an offset names, counted from the first.
-fn byte_of(place: Place, offset: i64) -> Option<usize>
-    requires { IsNear offset }
-    ensures { result ≡ byte_of place offset }
-{
-    let from_first = match place {
-        Place::Stack => offset + 512,
-        Place::Context => offset,
-        Place::Record(_) => offset,
-    };
-    usize::try_from(from_first).ok()
-}
-
 impl<C, R> Memory<C, R> {
     /// A stack of zero bytes, a context, and no records.
     pub(crate) fn new(context: C) -> Memory<C, R>
@@ -89,17 +76,22 @@ impl<C, R> Memory<C, R> {
     }
 }
 
-/// The part that a place names, where it is there.
-fn part_of(entries: &[Entry], place: Place) -> Option<Part>
-    ensures { result ≡ part_named entries.now place }
+#[inline(always)]
+/// The part that a place names, and the byte of it that an offset names, counted from the first.
+fn located(entries: &[Entry], place: Place, offset: i64) -> (Part, usize)
+    requires near { IsNear offset }
+    requires held { part_named entries.now place ≢ None }
+    requires counted { byte_of place offset ≢ None }
+    ensures part { part_named entries.now place ≡ Some result.0 }
+    ensures byte { byte_of place offset ≡ Some result.1 }
 {
     match place {
-        Place::Stack => Some(Part::Stack),
-        Place::Context => Some(Part::Ctx),
-        Place::Record(id) => {
-            let entry = entry_of(entries, id)?;
-            Some(Part::Record(entry.slot))
-        }
+        Place::Stack => (Part::Stack, (offset + 512) as usize),
+        Place::Context => (Part::Ctx, offset as usize),
+        Place::Record(id) => match entry_of(entries, id) {
+            Some(entry) => (Part::Record(entry.slot), offset as usize),
+            None => unreachable!(),
+        },
     }
 }
 
@@ -111,16 +103,8 @@ impl<C: Context, R: Lent> Memory<C, R> {
         ensures bytes { read (memory_of R.bytes_of C.shown self.now) place offset len ≡ Some result.now }
         ensures length { length result.now ≡ len }
     {
-        let Some(part) = part_of(self.entries.as_slice(), place) else {
-            unreachable!()
-        };
-        let Some(at) = byte_of(place, offset) else {
-            unreachable!()
-        };
-        match self.parts.read(part, at, len) {
-            Ok(bytes) => bytes,
-            Err(_) => unreachable!(),
-        }
+        let (part, at) = located(self.entries.as_slice(), place, offset);
+        self.parts.range(part, at, len)
     }
 
     /// Writes the low bytes of a number from an offset of a part on, the lowest first.
@@ -131,12 +115,7 @@ impl<C: Context, R: Lent> Memory<C, R> {
         ensures written { write (memory_of R.bytes_of C.shown self.old) place offset (little_bytes (byte_count size) number) ≡ Some (memory_of R.bytes_of C.shown self.new) }
         ensures same { Rewrites R.with_bytes self.old.records self.new.records }
     {
-        let Some(part) = part_of(self.entries.as_slice(), place) else {
-            unreachable!()
-        };
-        let Some(at) = byte_of(place, offset) else {
-            unreachable!()
-        };
+        let (part, at) = located(self.entries.as_slice(), place, offset);
         let bytes = self.parts.range_mut(part, at, byte_count(size));
         put_number(size, bytes, number);
     }

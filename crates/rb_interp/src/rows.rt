@@ -13,6 +13,7 @@ use crate::cpu::Core;
 use crate::numbers::{byte_count, number_in, signed_byte_count, signed_number_in};
 use crate::offsets::{behind, moved_back, moved_forward};
 use rb_alu::{jumps, value};
+use rb_cfg::next_unit;
 use rb_insn::{BinaryOp, Condition, Insn, Operand, Reg, SignedSize, Size, Width};
 use rb_lend::{Context, Lent};
 use rb_meaning::{Place, Value};
@@ -66,19 +67,27 @@ impl<C: Context, R: Lent> Core<C, R> {
         ensures goes { combined width op insn.now dst a b (state_of R.bytes_of C.shown self.old) ≡ Goes (state_of R.bytes_of C.shown self.new) }
         ensures memory { self.new.memory ≡ self.old.memory }
     {
-        match (a, b) {
-            (Value::Pointer(place, offset), Value::Number(by)) => match (width, op) {
-                (Width::W64, BinaryOp::Add) => {
-                    let to = moved_forward(offset, by);
-                    self.gives(insn, dst, Value::Pointer(place, to));
-                }
-                (Width::W64, BinaryOp::Sub) => {
-                    let to = moved_back(offset, by);
-                    self.gives(insn, dst, Value::Pointer(place, to));
-                }
-                _ => unreachable!(),
-            },
-            _ => self.computed(insn, dst, a, b),
+        let Value::Number(b) = b else { unreachable!() };
+        if let Value::Number(a) = a {
+            self.gives(insn, dst, Value::Number(value(insn, a, b)));
+            return;
+        }
+        match (width, op) {
+            (Width::W64, BinaryOp::Add) => {
+                let Value::Pointer(place, offset) = a else {
+                    unreachable!()
+                };
+                let to = moved_forward(offset, b);
+                self.gives(insn, dst, Value::Pointer(place, to));
+            }
+            (Width::W64, BinaryOp::Sub) => {
+                let Value::Pointer(place, offset) = a else {
+                    unreachable!()
+                };
+                let to = moved_back(offset, b);
+                self.gives(insn, dst, Value::Pointer(place, to));
+            }
+            _ => unreachable!(),
         }
     }
 
@@ -137,14 +146,18 @@ impl<C: Context, R: Lent> Core<C, R> {
     {
         match (base, from) {
             (Value::Pointer(place, start), Value::Number(number)) => {
+                let Some(next) = next_unit(self.unit, insn) else {
+                    unreachable!()
+                };
                 let at = behind(start, offset);
                 self.memory.store(place, at, size, number);
-                self.along(insn, false);
+                self.unit = next;
             }
             _ => unreachable!(),
         }
     }
 
+    #[inline(always)]
     /// A conditional jump on two numbers, or a test of a pointer to a record against null.
     pub(crate) fn compared(
         &mut self,

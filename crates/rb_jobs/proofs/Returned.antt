@@ -1,8 +1,8 @@
 -- A job that ends with a result submitted and discarded as many records as it made.
-use Rattle.std.proofs.Common.{◌≡◌, ◌≢◌, ℕ, zero, suc, ◌+◌, pos, negsuc, Bool, true, false, cond, List, [], ◌∷◌, map, Result, Ok, Err, refl, sym, subst, arith}
+use Rattle.std.proofs.Common.{◌≡◌, ◌≢◌, ℕ, zero, suc, ◌+◌, pos, negsuc, true, false, cond, List, [], ◌∷◌, map, Result, Ok, Err, refl, sym, subst, arith}
 use Rattle.std.specs.Prelude.{count_by, OnOk}
-use Rattle.std.proofs.lemmas.List.Sums.{sum_by-cons}
 use Rattle.rb_verifier.specs.Subject.{Subject}
+use Rattle.rb_verifier.proofs.Counting.{count_by-cons}
 use Rattle.rb_helpers.specs.declared.done.Done.{Done}
 use Rattle.rb_helpers.specs.declared.done.Done.TheVariants as done
 use Rattle.rb_meaning.specs.States.{State}
@@ -72,9 +72,6 @@ module _ (subject : Subject) (n : ℕ) where
 abbrev outputs : Done → ℕ
 outputs (done.Output ring len flags (pos zero)) = 1
 outputs _ = 0
-
-count_by-cons : {X : Type 0} (p : X → Bool) (x : X) (xs : List X) → count_by p (x ∷ xs) ≡ cond (p x) 1 0 + count_by p xs
-count_by-cons p x xs = sum_by-cons (λ x. cond (p x) 1 0) x xs
 
 made_by : (d : Done) → makes d ≡ cond {A = ℕ} (is_grant d) 1 0 + outputs d
 made_by (done.Reserve ring len flags true) = refl

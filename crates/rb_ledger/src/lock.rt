@@ -5,9 +5,9 @@ ghost use Rattle.std.specs.FinMap.{empty};
 ghost use Rattle.crossbeam_queue.specs.Passes.{view, IsPassOf, IsSamePass, ruled_capacity};
 ghost use Rattle.rb_ledger.specs.Rule.{TakesState, PutsState, OpensState, MayPut, IsRing, view_of, unopened};
 
+use crate::patience::Patience;
 use crossbeam_queue::protocol::{Join, Lesson, Outcome, Protocol, Split};
 use crossbeam_queue::{Pass, RuledArrayQueue};
-use crossbeam_utils::Backoff;
 use rb_ring::RingState;
 use std::alloc::{AllocError, Global};
 use std::marker::Model;
@@ -139,20 +139,19 @@ pub fn new_lock(alloc: Global) -> Result<(Lock, RingPass), AllocError>
     Lock::ruled(alloc, 1)
 }
 
-/// Takes the state out, once it is there. A thread that finds it gone waits for longer each time before it looks again, and lets other
-/// threads go on from the eighth time.
+/// Takes the state out, once it is there. A thread that finds it gone waits for longer each time before it looks again.
 pub fn take_out<R: Wait>(rt: &R, lock: &Lock, pass: &mut RingPass) -> Box<RingState>
     requires pass { IsPassOf lock.now pass.old }
     requires free { (view pass.old).out ≡ None }
     ensures same { IsSamePass pass.old pass.new }
     ensures took { TakesState (view pass.old) result.value (view pass.new) }
 {
-    let backoff = Backoff::new();
+    let mut patience = Patience::new();
     for _ in rt.forever() {
         if let Some(state) = lock.pop_as::<Taking, R>(rt, pass) {
             return state.ring;
         }
-        backoff.snooze();
+        patience.wait();
     }
     unreachable!()
 }

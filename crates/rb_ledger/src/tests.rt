@@ -1,5 +1,6 @@
 //! Worked rows, each through seats, and threads.
 
+mod patience;
 mod rows;
 mod seats;
 mod threads;

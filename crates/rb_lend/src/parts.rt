@@ -1,6 +1,6 @@
 //! The disjoint parts of memory that a program reaches.
 
-ghost use Rattle.std.specs.Prelude.{◌≡◌, ℕ, ◌+◌, ◌≤◌, List, length, replicate, IfOk, IfErr, MatchResult, take, drop, Some, None, option_map, nat_le, true, false};
+ghost use Rattle.std.specs.Prelude.{◌≡◌, ◌≢◌, ℕ, ◌+◌, ◌≤◌, List, length, replicate, IfOk, IfErr, MatchResult, take, drop, Some, None, option_map, nat_le, true, false};
 ghost use Rattle.std.specs.Borrow.{sem};
 
 use crate::context::Context;
@@ -113,6 +113,24 @@ impl<C: Context, R: Lent> Parts<C, R> {
             return Ok(&bytes[off..off + len]);
         }
         Err(Outside)
+    }
+
+    #[inline(always)]
+    /// Lends `len` bytes from place `off` of a part for reading, for callers that know that they lie inside it. `off` counts as
+    /// in `read`.
+    pub fn range(&self, part: Part, off: usize, len: usize) -> &[u8]
+        requires { range_of off len (memory_of R.bytes_of C.shown self.now part) ≢ None }
+        ensures value { range_of off len (memory_of R.bytes_of C.shown self.now part) ≡ Some result.now }
+        ensures length { length result.now ≡ len }
+    {
+        match part {
+            Part::Stack => &self.stack.bytes()[off..off + len],
+            Part::Ctx => &self.context.bytes()[off..off + len],
+            Part::Record(slot) => match self.records.get(slot) {
+                Some(owned) => &owned.bytes()[off..off + len],
+                None => unreachable!(),
+            },
+        }
     }
 
     /// Whether `len` bytes from place `off` on lie inside a part that may be written: the stack or a record that is held. Never

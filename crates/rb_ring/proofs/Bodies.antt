@@ -1,21 +1,15 @@
 -- What a write to the table makes of the records that a walk finds.
-use Rattle.std.proofs.Common.{◌≡◌, ◌≢◌, ℕ, zero, suc, ◌+◌, ◌-◌, ◌*◌, ◌%◌, ◌<◌, ◌≤◌, Bool, true, false, cond, eqb, List, [], ◌∷◌, ◌++◌, length, map, get_or, set, Option, Some, None, is_some, refl, sym, ap, ◌∙◌, inl, inr, arith, subst, IfSome}
-use Rattle.std.specs.List.{All, Contains, count_by, sum_by}
-use Rattle.std.proofs.lemmas.Bool.{cases_eq, eqb-true, eq-eqb, ne_eqb, false≢true}
-use Rattle.std.proofs.lemmas.List.{length-set, get_or-set_same, get_or-set_other, get_or_read}
-use Rattle.rb_history.specs.declared.entries.Entry.{Entry}
-use Rattle.rb_history.specs.declared.entries.Entry.TheVariants.{Res, Full, Sub, Dis, Take}
+use Rattle.std.proofs.Common.{◌≡◌, ◌≢◌, ℕ, zero, suc, ◌+◌, ◌-◌, ◌*◌, ◌%◌, ◌<◌, ◌≤◌, Bool, true, List, ◌∷◌, length, map, get_or, set, Option, Some, None, is_some, refl, sym, ap, ◌∙◌, arith, subst, IfSome}
+use Rattle.std.specs.List.{count_by}
+use Rattle.std.proofs.lemmas.Bool.{false≢true}
 use Rattle.rb_header.specs.Span.{span}
-use Rattle.rb_history.specs.History.{grants, is_grant_of, granted_span}
-use Rattle.rb_history.specs.Legal.{Setup}
 use Rattle.rb_history.specs.declared.stored.StoredRecord.{StoredRecord}
-use Rattle.rb_history.specs.Rows.{InRow, Kept}
+use Rattle.rb_history.specs.Rows.{InRow}
 use Rattle.rb_history.specs.Stored.{shown_record}
 use Rattle.rb_ring.specs.Table.{Parts, at, place}
 use Rattle.rb_history.specs.View.{IsSize}
-use Rattle.rb_ring.specs.Body.{Placed, record_or, walk, Stands, Holding, IsKept, rows}
+use Rattle.rb_ring.specs.Body.{Placed, record_or, walk, Holding, IsKept, rows}
 use Rattle.rb_ring.specs.declared.ring.RingState.TheInside.{Inside}
-use Rattle.rb_history.proofs.Lists.{sum_by-snoc, sum_by-cons}
 use Rattle.rb_history.specs.declared.stored.RecordState.TheVariants.{Reserved, Discarded as DiscardedState}
 use Rattle.rb_history.specs.Rows.{IsBusyAt}
 use Rattle.rb_history.specs.Stored.{is_reserved_state}
@@ -23,7 +17,7 @@ use Rattle.rb_ring.proofs.Tallying.{bit, count-set, count-most}
 use Rattle.rb_history.proofs.Row.{get_or-default}
 use Rattle.rb_history.proofs.Contents.{length-map}
 use Rattle.rb_history.proofs.Settling.{BusyRecord, busy-record}
-use Rattle.rb_ring.proofs.Walking.{walk-is, length-walk, row-many, Writes, Names, place-apart, row-within, row-end, holding-push, holding-set, holding-tail}
+use Rattle.rb_ring.proofs.Walking.{walk-is, length-walk, row-many, Writes, Names, place-apart, row-within, row-end, holding-set}
 
 pub if-some-at : {X : Type 0} (o : Option X) (x : X) (P : X → Type 0) → o ≡ Some x → IfSome o P → P x
 if-some-at None x P e p = cc

@@ -1,31 +1,18 @@
 -- The record of a reservation is looked for.
-use Rattle.std.proofs.Common.{◌≡◌, ◌≢◌, ℕ, zero, suc, ◌+◌, ◌<◌, ◌≤◌, Bool, true, false, cond, ◌&&◌, List, [], ◌∷◌, ◌⊎◌, Option, Some, None, map, length, get_or, refl, sym, ap, ◌∙◌, inl, inr, arith, subst, eqb}
-use Rattle.std.specs.List.{All, Contains, position, position_or_len}
-use Rattle.std.specs.Prelude.{IfSome, IfNone, OnSome}
-use Rattle.std.proofs.lemmas.Bool.{and_parts, and_from, eqb-true, eq-eqb, cases_lt, lt-ltb, true≢false, false≢true}
-use Rattle.std.proofs.lemmas.List.Quantifiers.{position-Some}
-use Rattle.std.proofs.lemmas.List.Sums.{fails_before_first}
+use Rattle.std.proofs.Common.{◌≡◌, ℕ, true, List, Option, Some, None, map, length, get_or, refl, sym, ap, ◌∙◌, subst}
+use Rattle.std.specs.List.{Contains}
+use Rattle.std.proofs.lemmas.Bool.{false≢true}
 use Rattle.rb_history.specs.declared.entries.Entry.{Entry}
-use Rattle.rb_history.specs.declared.entries.Entry.TheVariants.{Res}
 use Rattle.rb_history.specs.declared.stored.StoredRecord.{StoredRecord}
-use Rattle.rb_history.specs.declared.stored.RecordState.{RecordState}
-use Rattle.rb_history.specs.declared.stored.RecordState.TheVariants.{Reserved, Submitted, Discarded as DiscardedState}
-use Rattle.rb_history.specs.History.{Shown, Status, status_by, status_of, submitted, discarded, taken}
-use Rattle.rb_history.specs.History.Status.{Busy}
 use Rattle.rb_history.specs.Granted.{Granted}
 use Rattle.rb_history.specs.Legal.{Setup}
 use Rattle.rb_history.specs.Rows.{Kept}
-use Rattle.rb_history.specs.Stored.{shown_record, state_status}
-use Rattle.rb_history.specs.Stored.{is_reserved_by, is_reserved_state}
+use Rattle.rb_history.specs.Stored.{shown_record}
+use Rattle.rb_history.specs.Stored.{is_reserved_by}
 use Rattle.rb_ring.specs.Table.{is_reserved_in}
 use Rattle.rb_history.specs.Calls.{IsBusy}
 use Rattle.rb_history.specs.Rows.{IsBusyAt}
 use Rattle.rb_ring.specs.Body.{Placed, Holding}
-use Rattle.rb_history.proofs.Steps.{Named}
-use Rattle.rb_history.proofs.Row.{get_or-default}
-use Rattle.rb_history.proofs.Taking.{held-state, state-held}
-use Rattle.rb_history.proofs.Contents.{get-map, length-map}
-use Rattle.rb_history.proofs.Standing.{all-named, busy-untaken, in-row, head-status}
 use Rattle.rb_history.proofs.Finding.{found-at, found-busy, busy-there}
 
 module _ (r : Setup) (h : List Entry) (numbers : List StoredRecord) (p c : ℕ) (k : Kept r h (map shown_record numbers) p c) (v : Granted) where

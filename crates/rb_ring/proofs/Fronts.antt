@@ -1,5 +1,5 @@
 -- The record at the consumer position.
-use Rattle.std.proofs.Common.{◌≡◌, ◌≢◌, ℕ, ◌+◌, ◌-◌, ◌<◌, ◌≤◌, Bool, true, false, List, [], ◌∷◌, ◌++◌, length, map, get_or, Option, Some, None, refl, sym, ap, ◌∙◌, arith, subst, IfSome}
+use Rattle.std.proofs.Common.{◌≡◌, ℕ, ◌+◌, ◌-◌, ◌<◌, Bool, List, ◌∷◌, map, Some, None, sym, ap, ◌∙◌, arith, subst, IfSome}
 use Rattle.std.specs.List.{All, count_by}
 use Rattle.rb_ring.proofs.Tallying.{bit, count-cons}
 use Rattle.std.proofs.lemmas.List.Elements.{All-head}

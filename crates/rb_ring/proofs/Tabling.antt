@@ -1,12 +1,12 @@
 -- A write to the table leaves the records at other positions.
-use Rattle.std.proofs.Common.{◌≡◌, ◌≢◌, ℕ, ◌+◌, ◌<◌, ◌≤◌, ◌&&◌, Bool, true, false, cond, List, [], ◌∷◌, ◌++◌, length, get_or, set, Option, Some, None, is_some, refl, sym, ap, ◌∙◌, inl, inr, arith, eqb, subst, zero, suc, ◌*◌, ◌/◌, ◌%◌, IfSome}
+use Rattle.std.proofs.Common.{◌≡◌, ◌≢◌, ℕ, ◌+◌, ◌<◌, ◌&&◌, Bool, true, false, cond, List, [], ◌∷◌, ◌++◌, length, get_or, set, Option, Some, None, is_some, refl, sym, ap, ◌∙◌, inl, inr, arith, eqb, subst, zero, suc, ◌/◌, ◌%◌, IfSome}
 use Rattle.std.proofs.lemmas.Bool.{cases_Bool, cases_eq, cases_lt, ne_eqb, eq-eqb, eqb-true, and_parts, true≢false, false≢true}
 use Rattle.std.proofs.lemmas.List.{get_or-set_same, get_or-set_other, get_or_past, set-get_or, get_or_append_left, get_or_push}
 use Rattle.rb_ring.specs.declared.table.Word.{Word}
 use Rattle.rb_ring.specs.declared.table.Slot.{Slot}
 use Rattle.rb_history.specs.declared.stored.StoredRecord.{StoredRecord}
 use Rattle.rb_history.specs.declared.stored.RecordState.TheVariants.{Reserved, Submitted, Discarded as DiscardedState}
-use Rattle.rb_ring.specs.Table.{Parts, place, no_word, no_slot, record_of, slot_of, standing_in, at, written}
+use Rattle.rb_ring.specs.Table.{place, no_word, no_slot, record_of, slot_of, standing_in, written}
 
 -- the slot is no record's at q
 abbrev pub Off : ℕ → Slot → Type 0
@@ -215,10 +215,10 @@ slot-at size ws ks ss p k s l is there off q =
 
 -- ---- the words that are written
 
-pub busy-word : (len page pos worker serial : ℕ) → len < 1073741824 →
-    record_of (record { length = 2147483648 + len; page = page }) (record { used = true; pos = pos; worker = worker; serial = serial; sheet = None })
+pub busy-word : (len page pos worker serial : ℕ) (sheet : Option (List ℕ)) → len < 1073741824 →
+    record_of (record { length = 2147483648 + len; page = page }) (record { used = true; pos = pos; worker = worker; serial = serial; sheet = sheet })
     ≡ record { pos = pos; len = len; worker = worker; serial = serial; state = Reserved }
-busy-word len page pos worker serial l =
+busy-word len page pos worker serial sheet l =
     let bits : (2147483648 + len) / 2147483648 ≡ 1 = omega arith in
     let rest : (2147483648 + len) % 1073741824 ≡ len = omega arith in
     rw (bits, rest) refl

@@ -1,8 +1,6 @@
 -- The counts that a ring keeps, and what changes them.
-use Rattle.std.proofs.Common.{◌≡◌, ℕ, zero, suc, ◌+◌, ◌<◌, ◌≤◌, Bool, true, false, cond, List, [], ◌∷◌, ◌++◌, length, get_or, set, refl, sym, ap, ◌∙◌, arith}
+use Rattle.std.proofs.Common.{◌≡◌, ℕ, zero, suc, ◌+◌, ◌<◌, ◌≤◌, Bool, true, false, cond, List, [], ◌∷◌, ◌++◌, length, get_or, set, ap, arith}
 use Rattle.std.specs.List.{count_by}
-use Rattle.rb_history.specs.declared.entries.Entry.{Entry}
-use Rattle.rb_history.specs.declared.stored.StoredRecord.{StoredRecord}
 use Rattle.rb_history.proofs.Lists.{sum_by-cons, sum_by-snoc}
 
 abbrev pub bit : Bool → ℕ

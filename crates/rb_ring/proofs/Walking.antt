@@ -1,7 +1,7 @@
 -- The records of a ring are those that a walk round the table finds.
-use Rattle.std.proofs.Common.{◌≡◌, ◌≢◌, ℕ, zero, suc, ◌+◌, ◌-◌, ◌*◌, ◌/◌, ◌%◌, ◌<◌, ◌≤◌, ◌^◌, Bool, true, false, List, [], ◌∷◌, ◌++◌, length, map, get_or, set, Option, Some, None, is_some, refl, sym, ap, ◌∙◌, inl, inr, arith, subst, ◌⊎◌}
+use Rattle.std.proofs.Common.{◌≡◌, ◌≢◌, ℕ, zero, suc, ◌+◌, ◌*◌, ◌/◌, ◌%◌, ◌<◌, ◌≤◌, List, [], ◌∷◌, ◌++◌, length, map, get_or, set, Option, Some, None, is_some, refl, sym, ap, ◌∙◌, inl, inr, arith, subst, ◌⊎◌}
 use Rattle.std.specs.List.{All, Contains}
-use Rattle.std.proofs.lemmas.Bool.{cases_eq, cases_order}
+use Rattle.std.proofs.lemmas.Bool.{cases_eq}
 use Rattle.std.proofs.lemmas.List.{get_or-set_same, get_or-set_other, length-set}
 use Rattle.std.proofs.lemmas.List.Elements.{All-nil, All-cons, All-head, All-tail, All-push, Contains-append_left, Contains-append_right}
 use Rattle.rb_header.specs.Span.{span}
@@ -11,7 +11,7 @@ use Rattle.rb_history.specs.Stored.{shown_record}
 use Rattle.rb_ring.specs.Table.{place, Parts, at, written, no_word, slot_of}
 use Rattle.rb_ring.specs.Body.{Placed, record_or, walk, Stands, Holding}
 use Rattle.rb_history.specs.View.{IsSize}
-use Rattle.rb_history.proofs.Row.{InRow-le, InRow-push, get_or-default}
+use Rattle.rb_history.proofs.Row.{InRow-le, get_or-default}
 use Rattle.rb_ring.proofs.Places.{places-apart}
 use Rattle.rb_ring.proofs.Sizes.{eights-in}
 use Rattle.rb_ring.proofs.Tabling.{written-here, written-else, standing_in-parts, on-some}

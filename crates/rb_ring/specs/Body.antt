@@ -1,20 +1,17 @@
 -- The ring whose records stand in a table: what it means, and what it keeps.
-use Rattle.std.specs.Prelude.{ℕ, zero, suc, ◌≡◌, ◌+◌, ◌-◌, ◌%◌, ◌<◌, ◌≤◌, ◌^◌, List, [], ◌∷◌, Option, Some, None, map, length, vec_len, vec_capacity}
-use Rattle.std.specs.List.{sum_by, All, Contains, slice_index_or as get_or}
-use Rattle.rb_history.specs.declared.entries.Entry.{Entry}
+use Rattle.std.specs.Prelude.{ℕ, zero, suc, ◌≡◌, ◌+◌, ◌-◌, ◌%◌, ◌≤◌, ◌^◌, List, [], ◌∷◌, Option, Some, None, map, vec_len, vec_capacity}
+use Rattle.std.specs.List.{All, Contains}
 use Rattle.rb_ring.specs.declared.ring.RingState.TheInside.{Inside}
 use Rattle.rb_header.specs.Span.{span}
-use Rattle.rb_history.specs.History.{grants}
 use Rattle.rb_history.specs.Legal.{Setup}
 use Rattle.rb_history.specs.View.{Ring, IsSize, IsStart, IsWorkerCount}
 use Rattle.rb_history.specs.declared.stored.StoredRecord.{StoredRecord}
-use Rattle.rb_history.specs.declared.stored.RecordState.{RecordState}
 use Rattle.rb_history.specs.Rows.{Kept}
-use Rattle.rb_history.specs.Stored.{IsSized, shown_record, state_status, contents_of, entries_owed}
+use Rattle.rb_history.specs.Stored.{IsSized, shown_record, contents_of}
 use Rattle.rb_history.specs.declared.stored.RecordState.TheVariants.{Discarded as DiscardedState}
 use Rattle.rb_history.specs.Tallies.{Tallied}
 use Rattle.rb_ring.specs.Running.{IsCounted}
-use Rattle.rb_ring.specs.Table.{Parts, at}
+use Rattle.rb_ring.specs.Table.{at}
 
 -- a table read as a partial map from positions to records
 abbrev pub Placed : Type 0

@@ -1,5 +1,5 @@
 -- A table of header words, and the records that stand in it.
-use Rattle.std.specs.Prelude.{ℕ, ◌≡◌, ◌≢◌, ◌+◌, ◌*◌, ◌/◌, ◌%◌, ◌<◌, ◌≤◌, ◌==◌, ◌&&◌, Bool, true, false, List, Option, Some, None, length, vec_len, vec_capacity, if◌then◌else◌}
+use Rattle.std.specs.Prelude.{ℕ, ◌/◌, ◌%◌, ◌==◌, ◌&&◌, Bool, true, false, List, Option, Some, None, if◌then◌else◌}
 use Rattle.std.specs.List.{slice_index_or as get_or}
 use Rattle.rb_ring.specs.declared.table.Word.{Word}
 use Rattle.rb_ring.specs.declared.table.Slot.{Slot}

@@ -1,5 +1,5 @@
 -- What a table keeps.
-use Rattle.std.specs.Prelude.{ℕ, ◌≡◌, ◌≢◌, ◌+◌, ◌/◌, ◌<◌, ◌≤◌, false, length, vec_len, vec_capacity}
+use Rattle.std.specs.Prelude.{ℕ, ◌≡◌, ◌≢◌, ◌+◌, ◌/◌, ◌<◌, ◌≤◌, false, vec_len, vec_capacity}
 use Rattle.std.specs.List.{slice_index_or as get_or}
 use Rattle.rb_ring.specs.declared.table.Table.TheInside.{Inside}
 use Rattle.rb_history.specs.View.{IsSize}

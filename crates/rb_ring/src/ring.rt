@@ -211,6 +211,7 @@ impl RingState {
         Ok(notice)
     }
 
+    #[inline(always)]
     /// Grants worker `worker` a record and submits it at once, with the sheet's bytes. Flags above 3 are told first, and
     /// nothing is logged then; otherwise it refuses as `reserve` does. A refusal hands the sheet back.
     pub fn output(
@@ -241,6 +242,7 @@ impl RingState {
         }
     }
 
+    #[inline(always)]
     /// Takes the record at the consumer position: hands out a submitted one and passes over a discarded one. A busy one
     /// stops it, whatever stands behind.
     pub fn take(&mut self) -> Taken
@@ -264,6 +266,7 @@ impl RingState {
         taken
     }
 
+    #[inline(always)]
     // Whether the room rule holds for a record of `n` bytes.
     fn has_room(&self, n: u32) -> bool
         ensures test { IsTrue result ↔ HasRoom self.now n }
@@ -272,6 +275,8 @@ impl RingState {
         end <= self.consumer + (self.size - 1) && end <= LIMIT
     }
 
+    #[cold]
+    #[inline(never)]
     // Logs that there is no room. It takes room for that one entry.
     fn refuse(&mut self, worker: u32, n: u32) -> ReserveFault
         requires worker { worker < self.old.setup.workers }
@@ -290,6 +295,7 @@ impl RingState {
         ReserveFault::Full
     }
 
+    #[inline(always)]
     // Grants a busy record of `n` bytes, or logs that it has no room. First comes the room for all that the record will
     // ever log, and for its place.
     fn grant(&mut self, worker: u32, n: u32) -> Result<(u64, u64), ReserveFault>
@@ -322,6 +328,7 @@ impl RingState {
         Ok((pos, serial))
     }
 
+    #[inline(always)]
     // The busy record at a position is given its bytes.
     fn send(&mut self, pos: u64, sheet: Sheet)
         requires { (i : ℕ) × IsBusyAt self.old.shown i pos (length sheet) }
@@ -346,6 +353,7 @@ impl RingState {
         self.running.discarded += 1;
     }
 
+    #[inline(always)]
     // Whether a notice is due for the record at `pos`.
     fn notice(&self, pos: u64, flags: u64) -> Notice
         ensures due { (result ≡ Notice.Due) ↔ IsDue (consumer_now self.now) pos flags }
@@ -353,6 +361,7 @@ impl RingState {
         notice_for(self.consumer, pos, flags)
     }
 
+    #[inline(always)]
     fn producer(&self) -> u64
         ensures value { result ≡ producer_now self.now }
     {

@@ -5,14 +5,16 @@ ghost use Rattle.rb_ring.specs.Running.{events, no_counts};
 
 use rb_history::Taken;
 
-/// How many records were granted, refused and discarded, and how many of those that are there wait or are busy.
+/// How many records were granted, refused and discarded, and how many of those that are there wait or are busy. `busy` stands
+/// apart from the counts that change with it: neighbours that change together are read as one, and that waits for writes
+/// of either that came just before.
 #[derive(Clone, Copy)]
 pub(crate) struct Running {
-    pub made: u64,
+    pub busy: u64,
     pub refused: u64,
+    pub made: u64,
     pub discarded: u64,
     pub waiting: u64,
-    pub busy: u64,
 }
 
 impl Running {
@@ -29,6 +31,7 @@ impl Running {
         }
     }
 
+    #[inline(always)]
     /// Counts the record that was taken out of those that wait, where it was one.
     pub fn take(&mut self, taken: &Taken)
         requires some { events taken.now ≤ self.old.waiting }

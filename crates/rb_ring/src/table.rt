@@ -1,6 +1,6 @@
 //! The records that are there, in a table of header words by position.
 
-ghost use Rattle.std.specs.Prelude.{◌≡◌, ◌≢◌, ℕ, ◌+◌, ◌/◌, ◌<◌, ◌≤◌, ◌^◌, true, IfOk, OnOk, OnErr, IfSome, Some, None, is_some, length};
+ghost use Rattle.std.specs.Prelude.{◌≡◌, ◌≢◌, ℕ, ◌+◌, ◌/◌, ◌<◌, ◌≤◌, ◌^◌, true, false, IfOk, OnOk, OnErr, IfSome, Some, None, is_some, length};
 ghost use Rattle.rb_history.specs.declared.stored.StoredRecord.{StoredRecord};
 ghost use Rattle.rb_history.specs.declared.stored.RecordState.{RecordState};
 ghost use Rattle.rb_history.specs.declared.stored.RecordState.TheVariants.{Reserved, Submitted, Discarded as DiscardedState};
@@ -13,7 +13,6 @@ use rb_history::{Reservation, Taken};
 use rb_lend::Sheet;
 use std::alloc::{AllocError, Global};
 use std::marker::Model;
-use std::mem;
 
 // The bit of a length word that says that the record was discarded.
 const DISCARD: u32 = 1 << 30;
@@ -29,18 +28,21 @@ pub(crate) struct Word {
 }
 
 impl Word {
+    #[inline(always)]
     fn len(self) -> u32
         ensures { result ≡ len_of self }
     {
         self.length % DISCARD
     }
 
+    #[inline(always)]
     fn is_busy(self) -> bool
         ensures { result ≡ is_busy self }
     {
         self.length / BUSY == 1
     }
 
+    #[inline(always)]
     fn is_discarded(self) -> bool
         ensures { result ≡ is_discarded self }
     {
@@ -56,6 +58,35 @@ pub(crate) struct Slot {
     worker: u32,
     serial: u64,
     sheet: Option<Sheet>,
+}
+
+impl Slot {
+    #[inline(always)]
+    // Keeps a record that has no bytes yet.
+    fn keep(&mut self, pos: u64, worker: u32, serial: u64)
+        ensures { self.new ≡ record self.old { used = true; pos = pos; worker = worker; serial = serial } }
+    {
+        self.used = true;
+        self.pos = pos;
+        self.worker = worker;
+        self.serial = serial;
+    }
+
+    #[inline(always)]
+    // Frees the slot, and hands out the record that it keeps beside this word.
+    fn hand_out(&mut self, word: Word) -> Taken
+        ensures taken { result ≡ taken_of (record_of word self.old) (record_of word self.old).state }
+        ensures free { self.new.used ≡ false }
+    {
+        self.used = false;
+        if word.is_busy() || word.is_discarded() {
+            return Taken::Skipped(self.pos, word.len());
+        }
+        match self.sheet.take() {
+            Some(sheet) => Taken::Event(self.pos, self.worker, self.serial, sheet),
+            None => Taken::Skipped(self.pos, word.len()),
+        }
+    }
 }
 
 // The records that are there. The record at a position is found through the position's place: there stand its header word
@@ -107,12 +138,14 @@ impl Table {
         })
     }
 
+    #[inline(always)]
     pub(crate) fn live(&self) -> usize
         ensures { result ≡ self.now.live }
     {
         self.live
     }
 
+    #[inline(always)]
     // Takes the room for one more record.
     pub(crate) fn make_room(&mut self) -> Result<(), AllocError>
         requires { self.old.live < 2 ^ 31 }
@@ -122,21 +155,37 @@ impl Table {
         ensures size { self.new.size ≡ self.old.size }
     {
         if self.free.is_empty() {
-            let next = self.slots.len();
-            self.slots.reserve(1)?;
-            self.free.reserve(next + 1)?;
-            self.slots.push_reserved(Slot {
-                used: false,
-                pos: 0,
-                worker: 0,
-                serial: 0,
-                sheet: None,
-            });
-            self.free.push_reserved(next as u32);
+            self.grow()?;
         }
         Ok(())
     }
 
+    #[cold]
+    #[inline(never)]
+    // Adds a free slot.
+    fn grow(&mut self) -> Result<(), AllocError>
+        requires few { self.old.live < 2 ^ 31 }
+        requires none { length self.old.free ≡ 0 }
+        ensures room { OnOk result (0 < length self.new.free) }
+        ensures records { (p : ℕ) → at self.new p ≡ at self.old p }
+        ensures live { self.new.live ≡ self.old.live }
+        ensures size { self.new.size ≡ self.old.size }
+    {
+        let next = self.slots.len();
+        self.slots.reserve(1)?;
+        self.free.reserve(next + 1)?;
+        self.slots.push_reserved(Slot {
+            used: false,
+            pos: 0,
+            worker: 0,
+            serial: 0,
+            sheet: None,
+        });
+        self.free.push_reserved(next as u32);
+        Ok(())
+    }
+
+    #[inline(always)]
     // Writes a busy record at a place where none stands.
     pub(crate) fn put(&mut self, pos: u64, len: u32, worker: u32, serial: u64)
         requires room { 0 < length self.old.free }
@@ -155,22 +204,18 @@ impl Table {
             page: (place / 512) as u32,
         };
         self.numbers[place] = number;
-        self.slots[number as usize] = Slot {
-            used: true,
-            pos,
-            worker,
-            serial,
-            sheet: None,
-        };
+        self.slots[number as usize].keep(pos, worker, serial);
         self.live += 1;
     }
 
+    #[inline(always)]
     pub(crate) fn is_busy(&self, pos: u64) -> bool
         ensures { IfSome (at self.now pos) (λ s. result ≡ is_reserved_state s.state) }
     {
         self.words[place_in(self.size, pos)].is_busy()
     }
 
+    #[inline(always)]
     pub(crate) fn len_at(&self, pos: u64) -> u32
         ensures { IfSome (at self.now pos) (λ s. result ≡ s.len) }
     {
@@ -196,6 +241,7 @@ impl Table {
         }
     }
 
+    #[inline(always)]
     // The record at a position is given its bytes.
     pub(crate) fn send(&mut self, pos: u64, sheet: Sheet)
         requires { is_some (at self.old pos) ≡ true }
@@ -228,6 +274,7 @@ impl Table {
         };
     }
 
+    #[inline(always)]
     // The record at a position is handed out, and its slot is free.
     pub(crate) fn take(&mut self, pos: u64) -> Taken
         requires there { is_some (at self.old pos) ≡ true }
@@ -240,20 +287,14 @@ impl Table {
         let place = place_in(self.size, pos);
         let word = self.words[place];
         let number = self.numbers[place];
-        let vacant = Slot {
-            used: false,
-            pos: 0,
-            worker: 0,
-            serial: 0,
-            sheet: None,
-        };
-        let slot = mem::replace(&mut self.slots[number as usize], vacant);
+        let taken = self.slots[number as usize].hand_out(word);
         self.free.push_reserved(number);
         self.live -= 1;
-        taken(word, slot)
+        taken
     }
 }
 
+#[inline(always)]
 // The place of a position, of eight bytes a place.
 fn place_in(size: u64, pos: u64) -> usize
     requires { IsSize size }
@@ -261,25 +302,6 @@ fn place_in(size: u64, pos: u64) -> usize
     ensures within { result < size / 8 }
 {
     ((pos & (size - 1)) / 8) as usize
-}
-
-fn taken(word: Word, slot: Slot) -> Taken
-    ensures { result ≡ taken_of (record_of word slot) (record_of word slot).state }
-{
-    let Slot {
-        used: _,
-        pos,
-        worker,
-        serial,
-        sheet,
-    } = slot;
-    if word.is_busy() || word.is_discarded() {
-        return Taken::Skipped(pos, word.len());
-    }
-    match sheet {
-        Some(sheet) => Taken::Event(pos, worker, serial, sheet),
-        None => Taken::Skipped(pos, word.len()),
-    }
 }
 
 #[cfg(test)]

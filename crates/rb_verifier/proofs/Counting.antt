@@ -7,7 +7,8 @@ use Rattle.rb_insn.specs.Units.{units_taken}
 use Rattle.rb_decode.specs.Program.{units_of}
 use Rattle.rb_verifier.specs.Subject.{calls, is_call, call_count}
 
-count_by-cons : {X : Type 0} (p : X → Bool) (x : X) (xs : List X) → count_by p (x ∷ xs) ≡ cond (p x) 1 0 + count_by p xs
+-- how many of a list pass a test, by its first element and the rest
+pub count_by-cons : {X : Type 0} (p : X → Bool) (x : X) (xs : List X) → count_by p (x ∷ xs) ≡ cond (p x) 1 0 + count_by p xs
 count_by-cons p x xs = sum_by-cons (λ x. cond (p x) 1 0) x xs
 
 -- nothing begins at the other units of an instruction

@@ -2,4 +2,4 @@ mod Least
 mod Noting
 mod Turning
 mod Passing
-mod Counting
+pub mod Counting

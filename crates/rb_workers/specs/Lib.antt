@@ -5,5 +5,6 @@ pub mod Workers
 pub mod Consumers
 pub mod Rooms
 pub mod Ends
+pub mod Told
 pub mod Settled
 pub mod Reports

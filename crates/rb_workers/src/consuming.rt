@@ -4,11 +4,10 @@ ghost use Rattle.std.specs.Prelude.{◌≡◌};
 ghost use Rattle.rb_workers.specs.Consumers.{IsTakerOf, Consumed};
 
 use crate::sink::Sink;
-use rb_ledger::{ConsumerSeat, Foreign, Seat, SharedRing, Taken};
+use rb_ledger::{ConsumerSeat, Foreign, Patience, Seat, SharedRing, Taken};
 use rb_lend::Lent;
 use std::sync::Wait;
 use std::sync::atomic::{AtomicBool, Ordering};
-use std::thread;
 
 /// A ring's consumer, what it gives the records to, and the place to which the ring's seats come back.
 #[derive(Drop)]
@@ -41,7 +40,8 @@ impl<S: Sink> Taker<S> {
     }
 }
 
-/// Takes records until the workers have ended and a take that began after that finds none.
+/// Takes records until the workers have ended and a take that began after that finds none. Where it finds none it waits, for longer each
+/// time.
 pub(crate) fn consume<R: Wait, S: Sink>(
     rt: &R,
     ring: &SharedRing,
@@ -51,14 +51,16 @@ pub(crate) fn consume<R: Wait, S: Sink>(
     requires ready { IsTakerOf S.position_of ring.now taker.old }
     ensures back { Consumed S.position_of taker.old taker.new }
 {
+    let mut patience = Patience::new();
     for _ in rt.forever() {
         let over = ended.load(Ordering::SeqCst);
         if taker.take_next(rt, ring) {
+            patience = Patience::new();
             continue;
         }
         if over {
             break;
         }
-        thread::yield_now();
+        patience.wait();
     }
 }

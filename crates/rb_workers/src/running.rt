@@ -5,21 +5,24 @@ ghost use Rattle.std.specs.List.{AllZip};
 ghost use Rattle.rb_workers.specs.Consumers.{IsConsumed};
 ghost use Rattle.rb_workers.specs.Opened.{AreOpened, IsOpened, workers_of};
 ghost use Rattle.rb_workers.specs.Reports.{IsHandedBack, IsReport, IsToldAs, has_unknown_ring, has_unknown_worker};
-ghost use Rattle.rb_workers.specs.Rooms.{IsRoomy};
+ghost use Rattle.rb_workers.specs.Jobs.{own};
+ghost use Rattle.rb_workers.specs.Rooms.{IsEmptyFor, IsRoomy};
 ghost use Rattle.rb_workers.specs.Rows.{column, rows};
 ghost use Rattle.rb_workers.specs.Settled.{EachSettled, EndsSettled};
+ghost use Rattle.rb_workers.specs.Told.{Tells};
 ghost use Rattle.rb_workers.specs.Workers.{HasRun, IsNew};
 
 use crate::answers::{count_strays, is_any_short, merge, results_of, sum_unlogged};
 use crate::consuming::Taker;
 use crate::dealing::{part, rejoin};
 use crate::ending::close_all;
-use crate::opened::{JobFault, Opened, Report};
+use crate::opened::{Ended, JobFault, Opened, Report};
 use crate::rooms::{Rooms, make_rooms};
 use crate::sink::Sink;
 use crate::threads::run_threads;
 use crate::workers::Worker;
-use rb_jobs::{Gate, Job};
+use rb_interp::RunFault;
+use rb_jobs::{Gate, Job, JobAnswer};
 use rb_ledger::SharedRing;
 use std::alloc::Global;
 use std::sync::Wait;
@@ -89,6 +92,32 @@ fn run_in<R: Threads + Wait + Sync, G: Gate + Sync, S: Sink + Send + Drop>(
     rejoin(rings, takers, workers, back)
 }
 
+// What jobs over these closed rings came to, where each worker ran all of its own.
+fn report_on<S: Drop>(
+    rings: Vec<Ended<S>>,
+    jobs: &[Job<'_>],
+    workers: &mut [Worker],
+    answers: Vec<JobAnswer>,
+    results: Vec<Result<u64, RunFault>>,
+) -> Report<S>
+    requires known { All (λ j. j.worker < length workers.old) jobs.now }
+    requires each { (k : ℕ) (d : _) → k < length workers.old → length (slice_index_or workers.old k d).answers.items ≡ length (own k jobs.now) }
+    requires room { IsEmptyFor (length jobs.now) answers × IsEmptyFor (length jobs.now) results }
+    ensures rings { result.rings ≡ rings }
+    ensures told { Tells jobs.now workers.old result }
+{
+    let answers = merge(jobs, workers, answers);
+    let answers_told = results_of(&answers, results);
+    let strays = count_strays(&answers_told);
+    let unlogged = sum_unlogged(&answers);
+    Report {
+        rings,
+        answers: answers_told,
+        strays,
+        unlogged,
+    }
+}
+
 // Runs the jobs, and closes the rings where each worker ran all of its own.
 fn run_known<R: Threads + Wait + Sync, S: Sink + Send + Drop, G: Gate + Sync>(
     rt: &R,
@@ -129,17 +158,8 @@ fn run_known<R: Threads + Wait + Sync, S: Sink + Send + Drop, G: Gate + Sync>(
     if is_any_short(&workers) {
         return Err(back);
     }
-    let answers = merge(jobs, workers.as_mut_slice(), answers);
-    let answers_told = results_of(&answers, results);
-    let strays = count_strays(&answers_told);
-    let unlogged = sum_unlogged(&answers);
     let rings = close_all(rt, back, tallies, ended);
-    Ok(Report {
-        rings,
-        answers: answers_told,
-        strays,
-        unlogged,
-    })
+    Ok(report_on(rings, jobs, workers.as_mut_slice(), answers, results))
 }
 
 /// Runs the jobs over the rings that were opened, a thread for each worker and for each ring, and closes the rings.

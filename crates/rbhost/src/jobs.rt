@@ -1,6 +1,7 @@
 //! A program from its text, run as jobs on threads over one ring.
 
 ghost use Rattle.std.specs.Prelude.{◌≡◌, ◌<◌, ◌^◌, ℕ, All, IfOk, IfSome, OnOk, length, vec_len};
+ghost use Rattle.rb_history.specs.View.{IsSize, IsStart, IsWorkerCount};
 ghost use Rattle.rb_verifier.specs.Subject.{Subject};
 ghost use Rattle.rbhost.specs.Checked.{IsAccepted};
 ghost use Rattle.rbhost.specs.Jobs.{IsJobFor};
@@ -106,6 +107,7 @@ pub fn run<T: Threads + Wait + Sync, R: Read, W: Write>(
     wanted: JobsWanted,
 ) -> Result<(), JobsFault>
     ensures accepted { OnOk result (IfSome (R.remaining input.old) (λ text. (subject : Subject) × IsAccepted text 16 1 subject)) }
+    ensures bounds { OnOk result (IsSize wanted.size × IsStart wanted.start × IsWorkerCount wanted.workers) }
 {
     let bytes = read_all(alloc, input)?;
     let text = text_of(bytes.as_slice())?;
@@ -135,6 +137,7 @@ fn run_program<T: Threads + Wait + Sync>(
     wanted: JobsWanted,
 ) -> Result<Report<Passed>, JobsFault>
     requires one_ring { program.now.rings ≡ 1 }
+    ensures bounds { OnOk result (IsSize wanted.size × IsStart wanted.start × IsWorkerCount wanted.workers) }
 {
     let workers = u32::try_from(wanted.workers).unwrap_or(u32::MAX);
     let sink = Passed {
@@ -144,6 +147,7 @@ fn run_program<T: Threads + Wait + Sync>(
         Ok(one) => one,
         Err(fault) => return Err(open_fault(fault)),
     };
+    one.consumer.facts();
     let Ok(opened) = vec![in alloc; one] else {
         return Err(JobsFault::Memory);
     };

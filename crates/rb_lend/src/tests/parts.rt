@@ -37,6 +37,18 @@ fn new_parts_are_zero_bytes_a_context_and_empty_slots(rt: HostRuntime) -> Result
     Ok(())
 }
 
+#[test]
+fn a_range_is_what_read_lends(rt: HostRuntime) -> Result<(), Fail> {
+    let context = [5, 6, 7];
+    let parts: Parts<&[u8], Sheet> = Parts::new(context.as_slice());
+    match parts.read(Part::Ctx, 1, 2) {
+        Ok(bytes) => assert_eq!(rt; bytes, [6, 7].as_slice()),
+        Err(_) => return Err(Fail::from("outside")),
+    }
+    assert_eq!(rt; parts.range(Part::Ctx, 1, 2), [6, 7].as_slice());
+    Ok(())
+}
+
 fn is_outside(parts: &Parts<&[u8], Sheet>, part: Part, off: usize, len: usize) -> bool {
     parts.read(part, off, len).is_err()
 }

@@ -1,5 +1,4 @@
-use Rattle.std.proofs.Common.{◌≡◌, ℕ, ◌/◌, ◌<◌, ap, subst, sym, ◌∙◌}
-use Rattle.rb_ring.specs.Table.{place}
+use Rattle.std.proofs.Common.{◌/◌, ◌<◌, ap, subst, sym}
 use Rattle.rb_ring.proofs.Sizes.{mask-is, place-lt}
 use Rattle.rb_ring.proofs.table.place_in.Goals as goal
 

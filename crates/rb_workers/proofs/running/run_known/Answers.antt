@@ -1,11 +1,10 @@
-use Rattle.std.proofs.Common.{◌≡◌, ◌∙◌, ℕ, ◌<◌, List, false, get_or, length, map, sym, ap, subst, arith}
+use Rattle.std.proofs.Common.{◌≡◌, ◌∙◌, ℕ, ◌<◌, List, false, get_or, length, sym, ap, subst, arith}
 use Rattle.std.specs.Prelude.{All}
-use Rattle.std.specs.List.{AllZip, count_by, list_any, sum_by}
+use Rattle.std.specs.List.{AllZip, list_any}
 use Rattle.rb_ledger.specs.Seats.{IsSameSeat}
-use Rattle.rb_jobs.specs.declared.job.JobAnswer.{JobAnswer}
-use Rattle.rb_workers.specs.declared.opened.Report.{Report}
 use Rattle.rb_workers.specs.declared.workers.Worker.{Worker}
-use Rattle.rb_workers.specs.Jobs.{own, own_answers, is_stray}
+use Rattle.rb_workers.specs.Ends.{Closes}
+use Rattle.rb_workers.specs.Jobs.{own, own_answers}
 use Rattle.rb_workers.specs.Opened.{workers_of}
 use Rattle.rb_workers.specs.Rooms.{IsEmptyFor}
 use Rattle.rb_workers.specs.Rows.{rows, column}
@@ -15,8 +14,8 @@ use Rattle.rb_workers.proofs.Parts.{rows_length}
 use Rattle.rb_workers.proofs.Whole.{lent_whole}
 use Rattle.rb_workers.proofs.running.run_known.Goals as goal
 
-pub merge-answers-requires-clause-known : goal.merge-answers-requires-clause-known
-merge-answers-requires-clause-known g c =
+pub report_on-requires-clause-known : goal.report_on-requires-clause-known
+report_on-requires-clause-known g c =
     let count = workers_of c.args.opened.items in
     let many : length c.as_mut_slice.result.now ≡ count = ap length c.as_mut_slice.ensures.value ∙ (sym c.args.rooms.workers.ok.0 ∙ c.requires.rooms.workers_count) in
     let workers = c.run_in-back.new.workers in
@@ -25,8 +24,8 @@ merge-answers-requires-clause-known g c =
     let longer : length c.as_mut_slice-2.result.now ≡ count = ap length same ∙ len in
     λ k d below. let known = known_workers count c.args.jobs.now c.requires.workers k d below in omega (arith, known, longer)
 
-pub merge-answers-requires-clause-each : goal.merge-answers-requires-clause-each
-merge-answers-requires-clause-each g c =
+pub report_on-requires-clause-each : goal.report_on-requires-clause-each
+report_on-requires-clause-each g c =
     let opened = c.args.opened.items in
     let back = c.run_in-back.result.items in
     let jobs = c.args.jobs.now in
@@ -64,12 +63,10 @@ returns-clause-report g c =
     let same' : c.deref.result.now ≡ workers = c.deref.ensures.value ∙ lent_whole c.args.rooms.workers.len workers c.args.rooms.workers.items (omega (arith, len, c.requires.rooms.workers_count)) in
     let short : list_any (λ (w : Worker). w.short) workers ≡ false = ap (list_any (λ (w : Worker). w.short)) (sym same') ∙ (sym c.is_any_short.ensures ∙ c.if-is_any_short.false) in
     let answered = each_answered count jobs (rows opened) (rows back) workers len short c.run_in-back.ensures.workers in
-    let answers = c.merge-answers.result.items in
-    let merged : (k : ℕ) (d : Worker) → k < count → own_answers k jobs answers ≡ (get_or workers k d).answers.items =
-    λ k d below. (subst (λ (l : List Worker). (k : ℕ) (d : Worker) → k < length l → own_answers k jobs answers ≡ (get_or l k d).answers.items) same c.merge-answers.ensures.own) k d (omega (arith, len, below)) in
-    let results : c.results_of-answers_told.result.items ≡ map (λ (a : JobAnswer). a.result) answers = c.results_of-answers_told.ensures ∙ ap (map (λ (a : JobAnswer). a.result)) c.deref-2.ensures.value in
-    let strays : c.count_strays-strays.result ≡ count_by is_stray c.results_of-answers_told.result.items = c.count_strays-strays.ensures ∙ ap (count_by is_stray) c.deref-3.ensures.value in
-    let unlogged : c.sum_unlogged-unlogged.result ≡ sum_by (λ (a : JobAnswer). a.unlogged) answers = c.sum_unlogged-unlogged.ensures ∙ ap (sum_by (λ (a : JobAnswer). a.unlogged)) c.deref-4.ensures.value in
-    let report : Report g.row.S.Denot = record { rings = c.close_all-rings.result; answers = c.results_of-answers_told.result; strays = c.count_strays-strays.result; unlogged = c.sum_unlogged-unlogged.result } in
-    reported g.S.Sink.position_of opened back jobs answers report c.requires.opened c.run_in-back.ensures.handed_back c.merge-answers.ensures.len (known_workers count jobs c.requires.workers)
-    (each_told count jobs answers (rows opened) (rows back) workers len answered merged) c.close_all-rings.ensures.closes results strays unlogged
+    let report = c.report_on.result in
+    let told = c.report_on.ensures.told in
+    let own_told : (k : ℕ) (d : Worker) → k < count → own_answers k jobs told.answers ≡ (get_or workers k d).answers.items =
+    λ k d below. (subst (λ (l : List Worker). (k : ℕ) (d : Worker) → k < length l → own_answers k jobs told.answers ≡ (get_or l k d).answers.items) same told.own_are) k d (omega (arith, len, below)) in
+    let closes : AllZip Closes back report.rings.items = subst (λ rings. AllZip Closes back rings.items) (sym c.report_on.ensures.rings) c.close_all-rings.ensures.closes in
+    reported g.S.Sink.position_of opened back jobs told.answers report c.requires.opened c.run_in-back.ensures.handed_back told.one_each (known_workers count jobs c.requires.workers)
+    (each_told count jobs told.answers (rows opened) (rows back) workers len answered own_told) closes told.results_are told.strays_are told.unlogged_is

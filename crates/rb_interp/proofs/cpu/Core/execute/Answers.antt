@@ -38,9 +38,13 @@ pub returns-in-Division : goal.returns-in-Division
 unfolding exec
 returns-in-Division g c = (search rules, same_rewrites g.R.Lent.with_bytes _ _ (search rules))
 
-pub returns-in-Binary : goal.returns-in-Binary
+pub returns-in-Immediate-operand : goal.returns-in-Immediate-operand
 unfolding exec
-returns-in-Binary g c = (search rules, same_rewrites g.R.Lent.with_bytes _ _ (search rules))
+returns-in-Immediate-operand g c = (search rules, same_rewrites g.R.Lent.with_bytes _ _ (search rules))
+
+pub returns-in-Register-operand : goal.returns-in-Register-operand
+unfolding exec
+returns-in-Register-operand g c = (search rules, same_rewrites g.R.Lent.with_bytes _ _ (search rules))
 
 pub returns-in-LoadNumber : goal.returns-in-LoadNumber
 unfolding exec
@@ -58,9 +62,13 @@ pub returns-in-LoadSigned : goal.returns-in-LoadSigned
 unfolding exec
 returns-in-LoadSigned g c = (search rules, same_rewrites g.R.Lent.with_bytes _ _ (search rules))
 
-pub returns-in-Branch : goal.returns-in-Branch
+pub returns-in-Immediate-operand-2 : goal.returns-in-Immediate-operand-2
 unfolding exec
-returns-in-Branch g c = (search rules, same_rewrites g.R.Lent.with_bytes _ _ (search rules))
+returns-in-Immediate-operand-2 g c = (search rules, same_rewrites g.R.Lent.with_bytes _ _ (search rules))
+
+pub returns-in-Register-operand-2 : goal.returns-in-Register-operand-2
+unfolding exec
+returns-in-Register-operand-2 g c = (search rules, same_rewrites g.R.Lent.with_bytes _ _ (search rules))
 
 pub returns-in-Jump : goal.returns-in-Jump
 unfolding exec

@@ -8,60 +8,55 @@ use Rattle.rb_lend.specs.Memory.{may_write, part_with}
 use Rattle.rb_interp.specs.Table.{part_named}
 use Rattle.rb_interp.specs.Stored.{memory_of}
 use Rattle.rb_meaning.specs.Memory.{write, byte_of}
-use Rattle.rb_interp.proofs.Memories.{no_part_written, no_write, written, shows}
+use Rattle.rb_interp.proofs.Memories.{no_part_written, written, shows}
 use Rattle.rb_interp.proofs.memory.Memory.store.Goals as goal
 
-pub unreachable-requires : goal.unreachable-requires
-unreachable-requires g c =
-    let part : part_named c.self.inside.entries.items c.args.place ≡ None = ap (λ es. part_named es c.args.place) (sym c.as_slice.ensures.value) ∙ (sym c.part_of.ensures ∙ c.in_default.is) in
+pub located-part-requires-clause-held : goal.located-part-requires-clause-held
+located-part-requires-clause-held g c none =
+    let part : part_named c.self.inside.entries.items c.args.place ≡ None = ap (λ es. part_named es c.args.place) (sym c.as_slice.ensures.value) ∙ none in
     c.requires.inside (ap (λ v. write (memory_of g.R.Lent.bytes_of g.C.Context.shown v) c.args.place c.args.offset (little_bytes (byte_count c.args.size) c.args.number)) (sym c.self.view_is)
     ∙ no_part_written g.R.Lent.bytes_of g.C.Context.shown g.R.Lent.with_bytes g.met.R.Lent.rewritten c.self.inside.parts c.self.inside.entries.items c.args.place c.args.offset (little_bytes (byte_count c.args.size) c.args.number) c.self.invariant part)
 
-pub unreachable-requires-in_default-byte_of : goal.unreachable-requires-in_default-byte_of
-unreachable-requires-in_default-byte_of g c =
-    c.requires.inside (no_write (memory_of g.R.Lent.bytes_of g.C.Context.shown c.args.self.now) c.args.place c.args.offset (little_bytes (byte_count c.args.size) c.args.number)
-    (ap (byte_of c.args.place) (sym (to_z-of_z w64 c.args.offset c.ranges.offset)) ∙ (sym c.byte_of.ensures ∙ c.in_default-byte_of.is)))
-
 pub range_mut-bytes-requires : goal.range_mut-bytes-requires
 range_mut-bytes-requires g c =
-    let part : part_named c.self.inside.entries.items c.args.place ≡ Some c.in-Some.part = ap (λ es. part_named es c.args.place) (sym c.as_slice.ensures.value) ∙ (sym c.part_of.ensures ∙ c.in-Some.is) in
-    let byte : byte_of c.args.place c.args.offset ≡ Some c.in-Some-byte_of.at = ap (byte_of c.args.place) (sym (to_z-of_z w64 c.args.offset c.ranges.offset)) ∙ (sym c.byte_of.ensures ∙ c.in-Some-byte_of.is) in
+    let part : part_named c.self.inside.entries.items c.args.place ≡ Some c.located-part.result.0 = ap (λ es. part_named es c.args.place) (sym c.as_slice.ensures.value) ∙ c.located-part.ensures.part in
+    let byte : byte_of c.args.place c.args.offset ≡ Some c.located-part.result.1 = ap (byte_of c.args.place) (sym (to_z-of_z w64 c.args.offset c.ranges.offset)) ∙ c.located-part.ensures.byte in
     let new : List ℕ = little_bytes (byte_count c.args.size) c.args.number in
     let some : write (shows g.R.Lent.bytes_of g.C.Context.shown c.self.inside.parts c.self.inside.entries.items) c.args.place c.args.offset new ≢ None =
     λ none. c.requires.inside (ap (λ v. write (memory_of g.R.Lent.bytes_of g.C.Context.shown v) c.args.place c.args.offset new) (sym c.self.view_is) ∙ none) in
-    let w = written g.R.Lent.bytes_of g.C.Context.shown g.R.Lent.with_bytes g.met.R.Lent.rewritten c.self.inside.parts c.self.inside.entries.items c.args.place c.args.offset c.in-Some.part c.in-Some-byte_of.at new c.self.invariant (ap (λ v. length v.stack) c.self.view_is ∙ c.requires.stack) part byte some in
-    ap (may_write g.R.Lent.bytes_of c.self.inside.parts c.in-Some.part c.in-Some-byte_of.at) (c.byte_count.ensures ∙ sym (length-bytes_low_first 0 (byte_count c.args.size) c.args.number)) ∙ w.may
+    let w = written g.R.Lent.bytes_of g.C.Context.shown g.R.Lent.with_bytes g.met.R.Lent.rewritten c.self.inside.parts c.self.inside.entries.items c.args.place c.args.offset c.located-part.result.0 c.located-part.result.1 new c.self.invariant (ap (λ v. length v.stack) c.self.view_is ∙ c.requires.stack) part byte some in
+    ap (may_write g.R.Lent.bytes_of c.self.inside.parts c.located-part.result.0 c.located-part.result.1) (c.byte_count.ensures ∙ sym (length-bytes_low_first 0 (byte_count c.args.size) c.args.number)) ∙ w.may
 
 pub invariant_of-self : goal.invariant_of-self
 invariant_of-self g c =
-    let part : part_named c.self.inside.entries.items c.args.place ≡ Some c.in-Some.part = ap (λ es. part_named es c.args.place) (sym c.as_slice.ensures.value) ∙ (sym c.part_of.ensures ∙ c.in-Some.is) in
-    let byte : byte_of c.args.place c.args.offset ≡ Some c.in-Some-byte_of.at = ap (byte_of c.args.place) (sym (to_z-of_z w64 c.args.offset c.ranges.offset)) ∙ (sym c.byte_of.ensures ∙ c.in-Some-byte_of.is) in
+    let part : part_named c.self.inside.entries.items c.args.place ≡ Some c.located-part.result.0 = ap (λ es. part_named es c.args.place) (sym c.as_slice.ensures.value) ∙ c.located-part.ensures.part in
+    let byte : byte_of c.args.place c.args.offset ≡ Some c.located-part.result.1 = ap (byte_of c.args.place) (sym (to_z-of_z w64 c.args.offset c.ranges.offset)) ∙ c.located-part.ensures.byte in
     let new : List ℕ = little_bytes (byte_count c.args.size) c.args.number in
     let some : write (shows g.R.Lent.bytes_of g.C.Context.shown c.self.inside.parts c.self.inside.entries.items) c.args.place c.args.offset new ≢ None =
     λ none. c.requires.inside (ap (λ v. write (memory_of g.R.Lent.bytes_of g.C.Context.shown v) c.args.place c.args.offset new) (sym c.self.view_is) ∙ none) in
-    let w = written g.R.Lent.bytes_of g.C.Context.shown g.R.Lent.with_bytes g.met.R.Lent.rewritten c.self.inside.parts c.self.inside.entries.items c.args.place c.args.offset c.in-Some.part c.in-Some-byte_of.at new c.self.invariant (ap (λ v. length v.stack) c.self.view_is ∙ c.requires.stack) part byte some in
+    let w = written g.R.Lent.bytes_of g.C.Context.shown g.R.Lent.with_bytes g.met.R.Lent.rewritten c.self.inside.parts c.self.inside.entries.items c.args.place c.args.offset c.located-part.result.0 c.located-part.result.1 new c.self.invariant (ap (λ v. length v.stack) c.self.view_is ∙ c.requires.stack) part byte some in
     let put : c.put_number.new.bytes ≡ new = c.put_number.ensures in
     rw put w.table
 
 pub returns-clause-written : goal.returns-clause-written
 returns-clause-written g c =
-    let part : part_named c.self.inside.entries.items c.args.place ≡ Some c.in-Some.part = ap (λ es. part_named es c.args.place) (sym c.as_slice.ensures.value) ∙ (sym c.part_of.ensures ∙ c.in-Some.is) in
-    let byte : byte_of c.args.place c.args.offset ≡ Some c.in-Some-byte_of.at = ap (byte_of c.args.place) (sym (to_z-of_z w64 c.args.offset c.ranges.offset)) ∙ (sym c.byte_of.ensures ∙ c.in-Some-byte_of.is) in
+    let part : part_named c.self.inside.entries.items c.args.place ≡ Some c.located-part.result.0 = ap (λ es. part_named es c.args.place) (sym c.as_slice.ensures.value) ∙ c.located-part.ensures.part in
+    let byte : byte_of c.args.place c.args.offset ≡ Some c.located-part.result.1 = ap (byte_of c.args.place) (sym (to_z-of_z w64 c.args.offset c.ranges.offset)) ∙ c.located-part.ensures.byte in
     let new : List ℕ = little_bytes (byte_count c.args.size) c.args.number in
     let some : write (shows g.R.Lent.bytes_of g.C.Context.shown c.self.inside.parts c.self.inside.entries.items) c.args.place c.args.offset new ≢ None =
     λ none. c.requires.inside (ap (λ v. write (memory_of g.R.Lent.bytes_of g.C.Context.shown v) c.args.place c.args.offset new) (sym c.self.view_is) ∙ none) in
-    let w = written g.R.Lent.bytes_of g.C.Context.shown g.R.Lent.with_bytes g.met.R.Lent.rewritten c.self.inside.parts c.self.inside.entries.items c.args.place c.args.offset c.in-Some.part c.in-Some-byte_of.at new c.self.invariant (ap (λ v. length v.stack) c.self.view_is ∙ c.requires.stack) part byte some in
+    let w = written g.R.Lent.bytes_of g.C.Context.shown g.R.Lent.with_bytes g.met.R.Lent.rewritten c.self.inside.parts c.self.inside.entries.items c.args.place c.args.offset c.located-part.result.0 c.located-part.result.1 new c.self.invariant (ap (λ v. length v.stack) c.self.view_is ∙ c.requires.stack) part byte some in
     let put : c.put_number.new.bytes ≡ new = c.put_number.ensures in
     ap (λ v. write (memory_of g.R.Lent.bytes_of g.C.Context.shown v) c.args.place c.args.offset new) (sym c.self.view_is) ∙ (w.shown_after
-    ∙ ap (λ (b : List ℕ). Some (shows g.R.Lent.bytes_of g.C.Context.shown (part_with g.R.Lent.with_bytes g.R.Lent.bytes_of c.self.inside.parts c.in-Some.part c.in-Some-byte_of.at b) c.self.inside.entries.items)) (sym put))
+    ∙ ap (λ (b : List ℕ). Some (shows g.R.Lent.bytes_of g.C.Context.shown (part_with g.R.Lent.with_bytes g.R.Lent.bytes_of c.self.inside.parts c.located-part.result.0 c.located-part.result.1 b) c.self.inside.entries.items)) (sym put))
 
 pub returns-clause-same : goal.returns-clause-same
 returns-clause-same g c =
-    let part : part_named c.self.inside.entries.items c.args.place ≡ Some c.in-Some.part = ap (λ es. part_named es c.args.place) (sym c.as_slice.ensures.value) ∙ (sym c.part_of.ensures ∙ c.in-Some.is) in
-    let byte : byte_of c.args.place c.args.offset ≡ Some c.in-Some-byte_of.at = ap (byte_of c.args.place) (sym (to_z-of_z w64 c.args.offset c.ranges.offset)) ∙ (sym c.byte_of.ensures ∙ c.in-Some-byte_of.is) in
+    let part : part_named c.self.inside.entries.items c.args.place ≡ Some c.located-part.result.0 = ap (λ es. part_named es c.args.place) (sym c.as_slice.ensures.value) ∙ c.located-part.ensures.part in
+    let byte : byte_of c.args.place c.args.offset ≡ Some c.located-part.result.1 = ap (byte_of c.args.place) (sym (to_z-of_z w64 c.args.offset c.ranges.offset)) ∙ c.located-part.ensures.byte in
     let new : List ℕ = little_bytes (byte_count c.args.size) c.args.number in
     let some : write (shows g.R.Lent.bytes_of g.C.Context.shown c.self.inside.parts c.self.inside.entries.items) c.args.place c.args.offset new ≢ None =
     λ none. c.requires.inside (ap (λ v. write (memory_of g.R.Lent.bytes_of g.C.Context.shown v) c.args.place c.args.offset new) (sym c.self.view_is) ∙ none) in
-    let w = written g.R.Lent.bytes_of g.C.Context.shown g.R.Lent.with_bytes g.met.R.Lent.rewritten c.self.inside.parts c.self.inside.entries.items c.args.place c.args.offset c.in-Some.part c.in-Some-byte_of.at new c.self.invariant (ap (λ v. length v.stack) c.self.view_is ∙ c.requires.stack) part byte some in
+    let w = written g.R.Lent.bytes_of g.C.Context.shown g.R.Lent.with_bytes g.met.R.Lent.rewritten c.self.inside.parts c.self.inside.entries.items c.args.place c.args.offset c.located-part.result.0 c.located-part.result.1 new c.self.invariant (ap (λ v. length v.stack) c.self.view_is ∙ c.requires.stack) part byte some in
     let put : c.put_number.new.bytes ≡ new = c.put_number.ensures in
     rw (← c.self.view_is, put) w.same

@@ -1,4 +1,4 @@
-use Rattle.std.proofs.Common.{◌≡◌, ℕ, ◌+◌, ◌-◌, ◌≤◌, arith}
+use Rattle.std.proofs.Common.{arith}
 use Rattle.rb_ring.specs.Body.{setup_of, rows}
 use Rattle.rb_history.proofs.Counting.{Counted, counted-split, counted-same}
 use Rattle.rb_ring.proofs.ring.RingState.counts.Goals as goal

@@ -1,5 +1,4 @@
-use Rattle.std.proofs.Common.{◌≡◌, ◌≢◌, ℕ, ◌+◌, ◌-◌, ◌<◌, ◌≤◌, ◌^◌, ◌*◌, arith, List, [], ◌∷◌, ◌++◌, length, get_or, set, sym, ◌∙◌, ap, refl, subst, map, Some}
-use Rattle.std.specs.List.{count_by}
+use Rattle.std.proofs.Common.{◌≡◌, ◌+◌, ◌<◌, arith, [], ◌∷◌, ◌++◌, set, sym, ◌∙◌, ap, refl, subst, map, Some}
 use Rattle.std.proofs.lemmas.List.{length_push, map-append}
 use Rattle.std.proofs.lemmas.List.Elements.{All-push}
 use Rattle.rb_header.specs.Span.{span}
@@ -15,8 +14,8 @@ use Rattle.rb_history.specs.Tallies.{Tallied}
 use Rattle.rb_history.proofs.Settling.{kept-grant, on-ok}
 use Rattle.rb_history.proofs.Contents.{contents-push}
 use Rattle.rb_history.proofs.Tallies.{tally-grant, grants-low, serial-is}
-use Rattle.rb_ring.specs.Table.{at, written, place}
-use Rattle.rb_ring.specs.Body.{setup_of, rows, walk, IsKept, Holding}
+use Rattle.rb_ring.specs.Table.{at, written}
+use Rattle.rb_ring.specs.Body.{setup_of, rows, walk, Holding}
 use Rattle.rb_ring.proofs.Tallying.{count-push}
 use Rattle.rb_ring.proofs.Walking.{length-walk, at-names, holding-push}
 use Rattle.rb_ring.proofs.Bodies.{few, walk-same, holding-same, rows-are, room-apart}

@@ -1,4 +1,4 @@
-use Rattle.std.proofs.Common.{◌≡◌, ◌∙◌, ap, sym, true}
+use Rattle.std.proofs.Common.{◌∙◌, sym}
 use Rattle.rb_ring.specs.Table.{at}
 use Rattle.rb_ring.specs.Body.{setup_of, rows}
 use Rattle.rb_ring.proofs.Finding.{finds-at, finds-busy, busy-found}

@@ -1,19 +1,18 @@
-use Rattle.std.proofs.Common.{◌≡◌, ℕ, ◌+◌, ◌<◌, ◌≤◌, arith, List, [], ◌∷◌, ◌++◌, length, sym, ◌∙◌, ap, refl, set, get_or, Some, map, is_some, true, subst}
+use Rattle.std.proofs.Common.{◌≡◌, ℕ, ◌+◌, arith, List, [], ◌∷◌, ◌++◌, length, sym, ◌∙◌, refl, set, Some, map, subst}
 use Rattle.std.proofs.lemmas.List.{length-set}
 use Rattle.std.proofs.lemmas.List.Elements.{All-set}
 use Rattle.rb_history.specs.declared.entries.Entry.TheVariants.{Sub}
 use Rattle.rb_history.specs.declared.stored.StoredRecord.{StoredRecord}
-use Rattle.rb_history.specs.declared.stored.RecordState.TheVariants.{Reserved, Submitted, Discarded as DiscardedState}
+use Rattle.rb_history.specs.declared.stored.RecordState.TheVariants.{Submitted}
 use Rattle.rb_history.specs.Rows.{Kept}
 use Rattle.rb_history.specs.Stored.{IsSized, shown_record}
 use Rattle.rb_history.specs.Rows.{IsBusyAt}
-use Rattle.rb_ring.specs.Table.{at, Parts}
-use Rattle.rb_ring.specs.Body.{setup_of, rows, record_or, IsKept, Holding, walk}
-use Rattle.rb_ring.specs.declared.ring.RingState.TheInside.{Inside}
-use Rattle.rb_history.proofs.Settling.{BusyRecord, kept-send, contents-send, owed-set}
+use Rattle.rb_ring.specs.Table.{at}
+use Rattle.rb_ring.specs.Body.{setup_of, rows, Holding, walk}
+use Rattle.rb_history.proofs.Settling.{BusyRecord, kept-send, contents-send}
 use Rattle.rb_ring.proofs.Walking.{length-walk, at-names, Writes}
 use Rattle.rb_history.proofs.Tallies.{tally-quiet}
-use Rattle.rb_ring.proofs.Tallying.{bit, count-push, count-set, count-most}
+use Rattle.rb_ring.proofs.Tallying.{bit, count-push, count-set}
 use Rattle.rb_ring.proofs.Bodies.{if-some-at, some-there, rows-are, there-at, settled, busy-among, found-among, busy-counts, few-counted}
 use Rattle.rb_history.specs.Counting.{is_grant, is_refusal, is_discarding}
 use Rattle.rb_history.specs.Stored.{is_reserved_state, is_submitted_state}

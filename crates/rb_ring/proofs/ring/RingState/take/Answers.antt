@@ -1,27 +1,23 @@
-use Rattle.std.proofs.Common.{◌≡◌, ◌≢◌, ℕ, ◌+◌, ◌-◌, ◌<◌, ◌≤◌, ◌%◌, arith, List, [], ◌∷◌, ◌++◌, length, get_or, map, sym, ◌∙◌, ap, refl, subst, true, false, Some, None, is_some, eqb}
-use Rattle.std.proofs.lemmas.Bool.{eqb-true, eqb-false, false≢true}
+use Rattle.std.proofs.Common.{◌≡◌, ◌≢◌, ◌+◌, ◌<◌, arith, [], ◌∷◌, ◌++◌, length, get_or, sym, ◌∙◌, ap, refl}
+use Rattle.std.proofs.lemmas.Bool.{false≢true}
 use Rattle.rb_header.specs.Span.{span}
 use Rattle.rb_history.specs.declared.stored.RecordState.TheVariants.{Reserved, Submitted, Discarded as DiscardedState}
 use Rattle.rb_history.specs.declared.entries.Entry.TheVariants.{Take}
-use Rattle.rb_history.specs.declared.answers.Taken.TheVariants.{Event, Skipped, BusyFront, Empty}
-use Rattle.rb_history.specs.Rows.{Kept}
-use Rattle.rb_history.specs.Stored.{shown_record}
+use Rattle.rb_history.specs.declared.answers.Taken.TheVariants.{BusyFront, Empty}
 use Rattle.rb_history.specs.Stored.{is_reserved_state, taken_of}
 use Rattle.rb_ring.specs.Table.{at}
-use Rattle.rb_ring.specs.Body.{setup_of, ring_of, rows, walk, IsKept, Holding}
+use Rattle.rb_ring.specs.Body.{setup_of, ring_of, rows, walk}
 use Rattle.rb_history.specs.Calls.{Takes}
-use Rattle.rb_history.proofs.Taking.{Taking, held-state, front-busy, takes-front, keeps-front, low-front, sized-front, owed-front}
-use Rattle.rb_history.proofs.Settling.{owed-some}
+use Rattle.rb_history.proofs.Taking.{Taking, held-state, front-busy, takes-front, keeps-front, low-front, sized-front}
 use Rattle.rb_history.proofs.Exact.{exact-busy, exact-empty, none-there}
-use Rattle.rb_ring.proofs.Walking.{length-walk, Writes}
+use Rattle.rb_ring.proofs.Walking.{length-walk}
 use Rattle.rb_history.specs.Counting.{is_grant, is_refusal, is_discarding}
-use Rattle.std.specs.List.{count_by}
 use Rattle.rb_history.specs.declared.stored.StoredRecord.{StoredRecord}
 use Rattle.rb_history.specs.declared.stored.RecordState.{RecordState}
 use Rattle.rb_history.specs.Stored.{is_submitted_state}
 use Rattle.rb_ring.specs.Running.{events}
 use Rattle.rb_history.proofs.Tallies.{tally-quiet}
-use Rattle.rb_ring.proofs.Tallying.{bit, count-push, count-cons}
+use Rattle.rb_ring.proofs.Tallying.{bit, count-push}
 use Rattle.rb_ring.proofs.Bodies.{some-there}
 use Rattle.rb_ring.proofs.Fronts.{front, behind, split, row, there, of-front, hold-behind, walk-behind, front-counted}
 use Rattle.rb_ring.proofs.ring.RingState.take.Goals as goal

@@ -1,8 +1,6 @@
-use Rattle.std.proofs.Common.{◌≡◌, ◌≢◌, ℕ, ◌+◌, ◌-◌, ◌<◌, ◌≤◌, ◌/◌, ◌∙◌, ap, sym, refl, subst, arith, true, false, List, Option, Some, None, is_some, length, get_or}
+use Rattle.std.proofs.Common.{◌≡◌, ◌<◌, arith, true, is_some, length, get_or}
 use Rattle.std.proofs.lemmas.List.{get_or_read}
-use Rattle.rb_ring.specs.declared.table.Word.{Word}
-use Rattle.rb_ring.specs.declared.table.Slot.{Slot}
-use Rattle.rb_ring.specs.Table.{Parts, place, at, no_word, no_slot, slot_of, record_of}
+use Rattle.rb_ring.specs.Table.{place, at, no_word, slot_of, record_of}
 use Rattle.rb_ring.specs.Tabled.{parts_of}
 use Rattle.rb_ring.proofs.Tabling.{word-at, if-some, record-there, dropped-word}
 use Rattle.rb_ring.proofs.table.Table.give_up.Goals as goal

@@ -1,8 +1,6 @@
-use Rattle.std.proofs.Common.{◌≡◌, ◌≢◌, ℕ, ◌+◌, ◌-◌, ◌<◌, ◌≤◌, ◌/◌, ◌∙◌, ap, sym, refl, subst, arith, true, false, List, Option, Some, None, is_some, length, get_or}
+use Rattle.std.proofs.Common.{◌≡◌, ◌<◌, refl, arith, true, Some, is_some, length, get_or}
 use Rattle.std.proofs.lemmas.List.{get_or_read}
-use Rattle.rb_ring.specs.declared.table.Word.{Word}
-use Rattle.rb_ring.specs.declared.table.Slot.{Slot}
-use Rattle.rb_ring.specs.Table.{Parts, place, at, no_word, no_slot, slot_of, record_of}
+use Rattle.rb_ring.specs.Table.{place, at, no_word, no_slot, slot_of, record_of}
 use Rattle.rb_ring.specs.Tabled.{parts_of}
 use Rattle.rb_ring.proofs.Tabling.{Same, changes-at, if-some, record-there, sent-word, standing_in-parts, used-within}
 use Rattle.rb_ring.proofs.table.Table.send.Goals as goal
