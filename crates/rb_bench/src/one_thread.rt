@@ -1,6 +1,6 @@
 //! Records through the ring of one thread.
 
-ghost use Rattle.std.specs.Prelude.{◌≡◌, ◌<◌, ◌^◌, OnOk, IfOk, length, replicate};
+ghost use Rattle.std.specs.Prelude.{◌≡◌, IfOk};
 
 use crate::fault::BenchFault;
 use rb_history::Taken;
@@ -25,18 +25,6 @@ pub(crate) fn output_and_take(alloc: Global, records: u32, len: u32) -> Result<u
         sum = sum.wrapping_add(first_byte(&sheet));
     }
     Ok(sum)
-}
-
-/// Outputs and takes so many records more at a ring for one worker, and answers the sheet that went round.
-pub(crate) fn go_on(ring: &mut RingState, sheet: Sheet, records: u32) -> Result<Sheet, BenchFault>
-    requires { ring.old.setup.workers ≡ 1 }
-    ensures { ring.new.setup ≡ ring.old.setup }
-{
-    let mut sheet = sheet;
-    for _ in 0..records {
-        sheet = pass(ring, sheet)?;
-    }
-    Ok(sheet)
 }
 
 #[inline(always)]

@@ -1,12 +1,11 @@
-//! How long each workload takes: the best of five rounds, but for the measure of growth, which has one.
+//! How long each workload takes: the best of five rounds.
 
 use crate::fault::BenchFault;
 use crate::interpreting::run_rounds;
 use crate::loading::load;
-use crate::one_thread::{go_on, opened, output_and_take, reserve_and_submit};
+use crate::one_thread::{output_and_take, reserve_and_submit};
 use crate::programs::{arithmetic, memory};
 use crate::threads::{Shared, share};
-use rb_lend::Sheet;
 use std::alloc::Global;
 use std::io::Print;
 use std::sync::Wait;
@@ -15,9 +14,6 @@ use std::time::{Clock, Instant};
 
 // How often each workload runs.
 const ROUNDS: u32 = 5;
-
-// How many records make a stretch of the measure of growth.
-const STRETCH: u32 = 100_000;
 
 // How often a program of 4,000 units runs in each round.
 const RUNS: u32 = 250;
@@ -34,8 +30,6 @@ pub(crate) fn run<R: Threads + Wait + Sync + Print + Clock>(
 }
 
 fn one_thread<R: Print + Clock>(rt: &R, alloc: Global) -> Result<(), BenchFault> {
-    let (first, last) = growth(rt, alloc)?;
-    println!(rt; "growth {STRETCH} {first} {last}")?;
     for len in [8, 256] {
         for records in [100_000, 1_000_000] {
             let least = best(rt, || output_and_take(alloc, records, len))?;
@@ -81,20 +75,6 @@ fn runs<R: Print + Clock>(rt: &R, alloc: Global) -> Result<(), BenchFault> {
     let least = best(rt, || run_rounds(alloc, &program, RUNS))?;
     println!(rt; "run memory {least}")?;
     Ok(())
-}
-
-// The nanoseconds of the first and of the last 100,000 of 1,000,000 records of eight bytes that go through one ring: what a record costs
-// where the history is short, and where it is long. Both take fresh memory as long as nothing has given any back, so it comes first.
-fn growth<R: Clock>(rt: &R, alloc: Global) -> Result<(u64, u64), BenchFault> {
-    let mut ring = opened(alloc)?;
-    let sheet = Sheet::new(alloc, 8)?;
-    let start = Instant::now(rt)?;
-    let sheet = go_on(&mut ring, sheet, STRETCH)?;
-    let first = nanos_since(rt, start)?;
-    let sheet = go_on(&mut ring, sheet, 8 * STRETCH)?;
-    let start = Instant::now(rt)?;
-    let _ = go_on(&mut ring, sheet, STRETCH)?;
-    Ok((first, nanos_since(rt, start)?))
 }
 
 // The shared ring at a number of producers, with how often one of them found no room in the best round.

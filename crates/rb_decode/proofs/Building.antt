@@ -1,5 +1,5 @@
 -- The instruction that the decoder makes of the fields is spelled by them.
-use Rattle.std.proofs.Common.{◌≡◌, ℕ, ◌+◌, ◌*◌, ◌/◌, ◌%◌, ◌^◌, ◌<◌, ◌≤◌, ◌⊎◌, inl, inr, Bool, true, false, cond, ◌||◌, ◌&&◌, eqb, min, List, [], ◌∷◌, ◌++◌, refl, sym, ap, subst, ◌∙◌, arith}
+use Rattle.std.proofs.Common.{◌≡◌, ℕ, ◌+◌, ◌*◌, ◌/◌, ◌%◌, ◌^◌, ◌<◌, ◌≤◌, ◌⊎◌, inl, inr, Bool, true, false, cond, ◌||◌, ◌&&◌, eqb, List, [], ◌∷◌, ◌++◌, refl, sym, ap, subst, ◌∙◌, arith}
 use Rattle.std.specs.Prelude.{FitsSigned}
 use Rattle.std.specs.Int.{w16, w32, cast_signed}
 use Rattle.std.proofs.Math.Nat.{min-eq_left}
@@ -9,13 +9,13 @@ use Rattle.std.proofs.Math.Facts.{sfits_to_z}
 use Rattle.rb_insn.specs.declared.insn.Width.TheVariants.{W32, W64}
 use Rattle.rb_insn.specs.declared.insn.Insn.{Insn}
 use Rattle.rb_insn.specs.Units.{units_taken}
-use Rattle.rb_insn.specs.Opcodes.{ld, jmp, jmp32, ldx, st, stx, alu, alu64, source_k, source_x, operation, access, imm_mode, mem_mode, memsx_mode, alu_class, jump_class, binary_code, division_code, neg_code, mov_code, condition_code, ja_code, call_code, exit_code, double_code, size_code, signed_size_code, division_offset, swap_bits, reorder_opcode, map_by_index}
+use Rattle.rb_insn.specs.Opcodes.{alu, alu64, source_x, operation, mov_code, division_offset, swap_bits}
 use Rattle.rb_insn.specs.Spelling.{unit, second_unit, bits16, bits32, spelling, Fits, OffsetFits, ImmFits}
 use Rattle.rb_decode.specs.declared.fields.Fields.{Fields}
 use Rattle.rb_decode.specs.declared.operation.Source.TheVariants.{Immediate, Register}
 use Rattle.rb_decode.specs.declared.operation.Operation.{Operation}
 use Rattle.rb_decode.specs.declared.operation.Operation.TheVariants.{Binary, Division, Negate, Move, Reorder, Branch, Jump, JumpFar, Call, Exit, Wide, Load, LoadSigned, StoreImmediate, StoreRegister}
-use Rattle.rb_decode.specs.Table.{Row, register, one_of, wide_number, wide_map}
+use Rattle.rb_decode.specs.Table.{register, one_of, wide_number, wide_map}
 use Rattle.rb_decode.specs.Checks.{is_named_by, row_for, registers_fit, fits_register, fits_unused, reg_at, sign_from, move32_from, move64_from, swap_width_from, insn_from}
 use Rattle.rb_decode.proofs.Opcodes.{opcode_of}
 use Rattle.rb_decode.proofs.Named.{fields}

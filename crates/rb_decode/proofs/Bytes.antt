@@ -1,9 +1,9 @@
 -- The bytes of a unit, from its fields.
-use Rattle.std.proofs.Common.{◌≡◌, ℕ, zero, suc, ◌+◌, ◌-◌, ◌*◌, ◌/◌, ◌%◌, ◌^◌, ◌<◌, ◌≤◌, List, [], ◌∷◌, ◌++◌, length, take, drop, get_or, refl, sym, ap, ◌∙◌, arith}
-use Rattle.byteorder.specs.Endian.{little_bytes, little_number}
-use Rattle.rb_insn.specs.Spelling.{unit, second_unit}
+use Rattle.std.proofs.Common.{◌≡◌, ℕ, ◌+◌, ◌*◌, ◌/◌, ◌%◌, ◌<◌, ◌≤◌, List, [], ◌∷◌, ◌++◌, length, take, drop, get_or, sym, ap, ◌∙◌, arith}
+use Rattle.byteorder.specs.Endian.{little_bytes}
+use Rattle.rb_insn.specs.Spelling.{second_unit}
 use Rattle.rb_decode.specs.Fields.{fields_at, next_imm_at}
-use Rattle.rb_decode.proofs.Building.{unit_of, IsInRange}
+use Rattle.rb_decode.proofs.Building.{unit_of}
 
 abbrev pub IsBytes : List ℕ → Type 0
 IsBytes bytes = (i : ℕ) → get_or bytes i 0 < 256

@@ -1,11 +1,11 @@
 -- The laws of decoding: what has been decoded goes on by an instruction or ends at the first fault; bytes that spell a
 -- program have no fault; there is one first fault at most.
 use Rattle.std.proofs.lemmas.Bool.{cases_lt}
-use Rattle.std.proofs.Common.{◌≡◌, ℕ, ◌+◌, ◌*◌, ◌%◌, ◌/◌, ◌<◌, ◌≤◌, ◌⊎◌, inl, inr, List, [], ◌∷◌, ◌++◌, length, take, drop, replicate, Option, Some, None, get_or, Result, Ok, Err, ◌-◌, cond, eqb, refl, sym, ap, subst, ◌∙◌, append_assoc, arith}
+use Rattle.std.proofs.Common.{◌≡◌, ℕ, ◌+◌, ◌*◌, ◌<◌, ◌≤◌, ◌⊎◌, inl, inr, List, [], ◌∷◌, ◌++◌, length, take, drop, Option, Some, None, get_or, Result, Ok, Err, ◌-◌, cond, eqb, refl, sym, ap, subst, ◌∙◌, append_assoc, arith}
 use Rattle.std.specs.Prelude.{IfOk, IfErr}
 use Rattle.std.specs.List.{flat_map, AllByRecursion}
 use Rattle.std.proofs.Math.Seq.{take-add}
-use Rattle.std.proofs.lemmas.List.{append-nil, append_cancel_left, length-append, length-take, length-drop, take-append-drop, drop-append-le, drop_all, take_all, take_more}
+use Rattle.std.proofs.lemmas.List.{append-nil, append_cancel_left, length-append, length-take, length-drop, take-append-drop, take_all, take_more}
 use Rattle.std.proofs.lemmas.List.Concat.{flat_map-cons}
 use Rattle.std.proofs.lemmas.Grind.{flat_map-append}
 use Rattle.rb_insn.specs.declared.insn.Insn.{Insn}
@@ -17,26 +17,14 @@ use Rattle.rb_decode.specs.declared.fault.DecodeKind.TheVariants.{Length, TooLon
 use Rattle.rb_decode.specs.declared.fault.DecodeFault.{DecodeFault}
 use Rattle.rb_decode.specs.Faults.{Stands, number, IsFirstKind}
 use Rattle.rb_decode.specs.FirstFault.{no_memory, HasBadLength, IsTooLong, IsFaultAt, IsFirstFaultOf, IsFirstFault}
-use Rattle.rb_decode.specs.Program.{units_of, unit_count, IsProgram}
-use Rattle.rb_decode.specs.Units.{insns_in}
+use Rattle.rb_decode.specs.Program.{unit_count, IsProgram}
+use Rattle.rb_decode.specs.Units.{insns_in, insns_kept, kept_units}
 use Rattle.rb_decode.specs.Decoded.{IsDecoded}
-use Rattle.rb_decode.proofs.Laws.{units_of-append, unit_count-append, unit_count-cons, units_taken-one_or_two, units_of-narrow, units_of-wide}
+use Rattle.rb_decode.proofs.Laws.{unit_count-append, unit_count-cons}
+use Rattle.rb_decode.proofs.Kept.{insns_in-append, kept_units-append, insns_kept-kept, length-kept_units}
 use Rattle.rb_decode.proofs.Spelled.{no_fault-spelling}
 
 -- ---- units and instructions
-
-pub insns_in-append : (front back : List (Option Insn)) → insns_in (front ++ back) ≡ insns_in front ++ insns_in back
-insns_in-append [] back = refl
-insns_in-append (Some insn ∷ front) back = ap (λ (l : List Insn). insn ∷ l) (insns_in-append front back)
-insns_in-append (None ∷ front) back = insns_in-append front back
-
-pub insns_in-units_of : (insns : List Insn) → insns_in (units_of insns) ≡ insns
-insns_in-units_of [] = refl
-insns_in-units_of (insn ∷ insns) =
-    elim (units_taken-one_or_two insn) [
-      | inl one ↦ ap insns_in (units_of-narrow insn insns one) ∙ ap (λ (l : List Insn). insn ∷ l) (insns_in-units_of insns)
-      | inr two ↦ ap insns_in (units_of-wide insn insns two) ∙ ap (λ (l : List Insn). insn ∷ l) (insns_in-units_of insns)
-    ]
 
 -- a program's spelling fills its units
 pub length-spelled : (insns : List Insn) → length (flat_map spelling insns) ≡ 8 * unit_count insns
@@ -62,21 +50,22 @@ spelled_more insns insn bytes n m all one = record {
       ∙ sym (flat_map-append spelling insns (insn ∷ []));
 }
 
-pub decoded_more : (bytes : List ℕ) (units : List (Option Insn)) (insn : Insn) → IsDecoded bytes units
+pub decoded_more : (bytes : List ℕ) (units : List Insn) (insn : Insn) → IsDecoded bytes units
     → 8 * units_taken insn ≤ length (drop (8 * length units) bytes) → Spells insn (take (8 * units_taken insn) (drop (8 * length units) bytes))
-    → IsDecoded bytes (units ++ units_of (insn ∷ []))
+    → IsDecoded bytes (units ++ kept_units (insn ∷ []))
 decoded_more bytes units insn decoded room spells =
-    let more : insns_in (units ++ units_of (insn ∷ [])) ≡ insns_in units ++ insn ∷ [] =
-    insns_in-append units (units_of (insn ∷ [])) ∙ ap (λ (l : List Insn). insns_in units ++ l) (insns_in-units_of (insn ∷ [])) in
-    let count : length (units ++ units_of (insn ∷ [])) ≡ length units + units_taken insn =
-    omega (arith, length-append units (units_of (insn ∷ [])), unit_count-cons insn []) in
-    let bytes_count : 8 * length units + 8 * units_taken insn ≡ 8 * length (units ++ units_of (insn ∷ [])) = omega arith in
+    let longer : kept_units (insns_kept units ++ insn ∷ []) ≡ units ++ kept_units (insn ∷ []) =
+    kept_units-append (insns_kept units) (insn ∷ []) ∙ ap (λ (l : List Insn). l ++ kept_units (insn ∷ [])) decoded.laid_out in
+    let more : insns_kept (units ++ kept_units (insn ∷ [])) ≡ insns_kept units ++ insn ∷ [] = ap insns_kept (sym longer) ∙ insns_kept-kept (insns_kept units ++ insn ∷ []) in
+    let count : length (units ++ kept_units (insn ∷ [])) ≡ length units + units_taken insn =
+    omega (arith, length-append units (kept_units (insn ∷ [])), length-kept_units (insn ∷ []), unit_count-cons insn []) in
+    let bytes_count : 8 * length units + 8 * units_taken insn ≡ 8 * length (units ++ kept_units (insn ∷ [])) = omega arith in
     record {
-      laid_out = ap units_of more ∙ units_of-append (insns_in units) (insn ∷ []) ∙ ap (λ (l : List (Option Insn)). l ++ units_of (insn ∷ [])) decoded.laid_out;
+      laid_out = ap kept_units more ∙ longer;
       within = let inside = decoded.within in omega (arith, length-drop (8 * length units) bytes);
-      spelled = subst (λ (n : ℕ). SpellsAll (insns_in (units ++ units_of (insn ∷ []))) (take n bytes)) bytes_count
+      spelled = subst (λ (n : ℕ). SpellsAll (insns_kept (units ++ kept_units (insn ∷ []))) (take n bytes)) bytes_count
           (subst (λ (l : List Insn). SpellsAll l (take (8 * length units + 8 * units_taken insn) bytes)) (sym more)
-          (spelled_more (insns_in units) insn bytes (8 * length units) (8 * units_taken insn) decoded.spelled spells));
+          (spelled_more (insns_kept units) insn bytes (8 * length units) (8 * units_taken insn) decoded.spelled spells));
     }
 
 -- ---- the first fault
@@ -93,12 +82,12 @@ at_unit bytes unit TooLong fault length_fits not_long = absurd fault.first.stand
 at_unit bytes unit Memory fault length_fits not_long = absurd fault.first.stands
 at_unit bytes unit kind fault length_fits not_long = (fault, length_fits, not_long)
 
-pub fault_here : (bytes : List ℕ) (units : List (Option Insn)) (kind : DecodeKind) → IsDecoded bytes units → 8 * length units < length bytes
+pub fault_here : (bytes : List ℕ) (units : List Insn) (kind : DecodeKind) → IsDecoded bytes units → 8 * length units < length bytes
     → (HasBadLength bytes → ⊥) → (IsTooLong bytes → ⊥) → IsFirstKind kind (drop (8 * length units) bytes) → IsFirstFaultOf bytes (length units) kind
 fault_here bytes units kind decoded more length_fits not_long first =
     at_unit bytes (length units) kind (record {
       within = more;
-      front = insns_in units;
+      front = insns_kept units;
       spelled = decoded.spelled;
       longest = no_spelling kind (drop (8 * length units) bytes) first.stands;
       first = first;

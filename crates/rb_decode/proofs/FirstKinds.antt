@@ -1,12 +1,12 @@
 -- The first kind of fault at a unit, from what the decoder found of the unit.
-use Rattle.std.proofs.Common.{◌≡◌, ℕ, ◌+◌, ◌*◌, ◌<◌, ◌≤◌, ◌⊎◌, inl, inr, Bool, true, false, ◌||◌, ◌&&◌, eqb, leb, List, [], ◌∷◌, length, Option, Some, None, refl, sym, ap, subst, ◌∙◌, arith}
+use Rattle.std.proofs.Common.{◌≡◌, ℕ, ◌<◌, ◌≤◌, ◌⊎◌, inl, inr, Bool, true, false, ◌&&◌, List, length, Option, Some, None, refl, sym, ap, subst, arith}
 use Rattle.std.specs.Prelude.{IsSomeAnd, IsSome, IsTrue}
 use Rattle.std.proofs.lemmas.Bool.{leb-false, leb-true}
 use Rattle.rb_decode.specs.declared.fields.Fields.{Fields}
 use Rattle.rb_decode.specs.declared.fault.DecodeKind.{DecodeKind}
 use Rattle.rb_decode.specs.declared.fault.DecodeKind.TheVariants.{Length, TooLong, LeftOut, BadOpcode, BadRegister, UnusedField, HalfWide, Memory}
 use Rattle.rb_decode.specs.Fields.{fields_at}
-use Rattle.rb_decode.specs.Table.{Allowed, register, any, only, named, Row, one_of, row_of}
+use Rattle.rb_decode.specs.Table.{Allowed, register, any, only, named, Row, row_of}
 use Rattle.rb_decode.specs.Faults.{is_left_out, IsBadRegister, HasBadRegister, IsRefused, HasBadSecondUnit, HasUnusedField, Stands, number, IsFirstKind}
 use Rattle.rb_decode.specs.Checks.{fits_register, fits_unused, registers_fit, numbers_fit}
 

@@ -1,31 +1,30 @@
 -- What the decoder answers at the front of bytes: each exit of its one step.
-use Rattle.std.proofs.Common.{◌≡◌, ℕ, ◌+◌, ◌*◌, ◌^◌, ◌<◌, ◌≤◌, ◌⊎◌, inl, inr, Bool, true, false, cond, ◌||◌, ◌&&◌, eqb, List, [], ◌∷◌, ◌++◌, length, take, drop, slice_index, get_or, Option, Some, None, refl, sym, ap, subst, ◌∙◌, arith}
-use Rattle.std.specs.Prelude.{IsSomeAnd, IsSome, is_some, ◌≢◌}
+use Rattle.std.proofs.Common.{◌≡◌, ℕ, ◌+◌, ◌*◌, ◌^◌, ◌<◌, ◌≤◌, ◌⊎◌, inl, inr, Bool, true, false, cond, ◌||◌, ◌&&◌, eqb, List, [], ◌++◌, length, take, drop, slice_index, get_or, Option, Some, None, refl, sym, ap, subst, ◌∙◌, arith}
+use Rattle.std.specs.Prelude.{IsSomeAnd, is_some, ◌≢◌}
 use Rattle.std.proofs.lemmas.Bool.{eqb-true}
-use Rattle.std.proofs.lemmas.List.{append-nil, get_or-drop, take-append-drop, length-drop}
+use Rattle.std.proofs.lemmas.List.{append-nil, get_or-drop}
 use Rattle.std.proofs.Math.Seq.{take-add}
-use Rattle.byteorder.specs.Endian.{little_number}
 use Rattle.byteorder.specs.Numbers.{little_from-lt}
 use Rattle.rb_insn.specs.declared.insn.Insn.{Insn}
 use Rattle.rb_insn.specs.Units.{units_taken}
 use Rattle.rb_insn.specs.Spelling.{second_unit, spelling, Fits, Spells}
 use Rattle.rb_decode.specs.declared.fields.Fields.{Fields}
 use Rattle.rb_decode.specs.declared.fault.DecodeKind.{DecodeKind}
-use Rattle.rb_decode.specs.declared.fault.DecodeKind.TheVariants.{Length, TooLong, LeftOut, BadOpcode, BadRegister, UnusedField, HalfWide, Memory}
+use Rattle.rb_decode.specs.declared.fault.DecodeKind.TheVariants.{BadOpcode, BadRegister, UnusedField, HalfWide}
 use Rattle.rb_decode.specs.declared.operation.Operation.{Operation}
 use Rattle.rb_decode.specs.declared.operation.Operation.TheVariants.{Binary, Division, Move, Branch, Wide}
 use Rattle.rb_decode.specs.declared.operation.Source.TheVariants.{Immediate, Register}
 use Rattle.rb_insn.specs.declared.insn.Width.TheVariants.{W32, W64}
 use Rattle.rb_decode.specs.Fields.{fields_at, next_imm_at}
-use Rattle.rb_decode.specs.Table.{Allowed, Row, any, wide_number, wide_map, row_of}
+use Rattle.rb_decode.specs.Table.{Row, wide_number, wide_map}
 use Rattle.rb_decode.specs.Table.{zero as zero_only}
-use Rattle.rb_decode.specs.Faults.{is_left_out, HasBadRegister, IsRefused, HasBadSecondUnit, HasUnusedField, IsFirstKind}
+use Rattle.rb_decode.specs.Faults.{is_left_out, IsRefused, HasBadSecondUnit, IsFirstKind}
 use Rattle.rb_decode.specs.Operations.{operation_at}
 use Rattle.rb_decode.specs.Checks.{is_named_by, row_for, registers_fit, numbers_fit, insn_from}
 use Rattle.rb_decode.specs.SecondUnit.{has_zeros, IsSecondUnit, IsBadSecond, IsSecondFault}
 use Rattle.rb_decode.proofs.Opcodes.{opcode_of, operation_at-some, row_of-unlisted}
 use Rattle.rb_decode.proofs.Named.{row_of-named, row_of-unnamed}
-use Rattle.rb_decode.proofs.FirstKinds.{InRow, NumbersFit, numbers_fit-each, has_bad_register, has_no_bad_register, has_unused, has_no_unused, first_bad_opcode, first_bad_register, first_unused, first_half}
+use Rattle.rb_decode.proofs.FirstKinds.{InRow, numbers_fit-each, has_bad_register, has_no_bad_register, has_unused, has_no_unused, first_bad_opcode, first_bad_register, first_unused, first_half}
 use Rattle.rb_decode.proofs.Building.{unit_of, second_of, IsInRange, IsChecked, NextFits, units_for, insn_from-spelled, insn_from-units, insn_from-fits}
 use Rattle.rb_decode.proofs.Spelled.{zeros, not_refused_zero}
 use Rattle.rb_decode.proofs.Bytes.{IsBytes, unit_of-fields_at, second_unit-next_imm_at}

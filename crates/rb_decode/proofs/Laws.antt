@@ -1,12 +1,12 @@
 -- Laws on the units of a program, for the crates above.
 use Rattle.std.proofs.Common.{◌≡◌, ℕ, zero, suc, ◌+◌, ◌-◌, ◌<◌, ◌≤◌, ◌⊎◌, inl, inr, List, [], ◌∷◌, ◌++◌, length, replicate, get_or, Option, Some, None, refl, sym, ap, subst, ◌∙◌, append_assoc, arith}
 use Rattle.std.proofs.lemmas.Bool.{cases_lt}
-use Rattle.std.proofs.lemmas.List.{length-append, length-replicate, get_or-append-add, get_or_past}
+use Rattle.std.proofs.lemmas.List.{length-append, get_or-append-add, get_or_past}
 use Rattle.std.proofs.Math.Seq.{get_or-append_seam}
 use Rattle.rb_insn.specs.declared.insn.Insn.{Insn}
 use Rattle.rb_insn.specs.declared.insn.Insn.TheVariants.{LoadNumber, LoadRing}
 use Rattle.rb_insn.specs.Units.{units_taken}
-use Rattle.rb_decode.specs.Program.{units_of, unit_count, slot_at, IsProgram, IsLaidOut}
+use Rattle.rb_decode.specs.Program.{units_of, unit_count, slot_at, IsLaidOut}
 
 pub units_taken-one_or_two : (insn : Insn) → (units_taken insn ≡ 1) ⊎ (units_taken insn ≡ 2)
 units_taken-one_or_two (LoadNumber dst value) = inr refl

@@ -1,4 +1,5 @@
 pub mod Laws
+pub mod Kept
 pub mod Opcodes
 pub mod Named
 pub mod FirstKinds

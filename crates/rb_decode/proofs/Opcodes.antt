@@ -1,8 +1,7 @@
 -- The operation that the decoder finds for an opcode, and the rows of the table: a check of each of the 256 opcodes.
-use Rattle.std.proofs.Common.{◌≡◌, ℕ, zero, suc, ◌+◌, ◌<◌, ◌≤◌, ◌⊎◌, inl, inr, Bool, true, false, cond, eqb, List, [], ◌∷◌, Option, Some, None, refl, sym, ap, ◌∙◌, arith}
+use Rattle.std.proofs.Common.{◌≡◌, ℕ, zero, suc, ◌<◌, inl, inr, Bool, true, false, cond, List, [], ◌∷◌, Option, Some, None, refl, sym, ap, ◌∙◌, arith}
 use Rattle.std.specs.Option.{option_map}
 use Rattle.std.proofs.lemmas.Bool.{cases_lt}
-use Rattle.rb_insn.specs.declared.insn.Width.TheVariants.{W32, W64}
 use Rattle.rb_insn.specs.Opcodes.{ld, ldx, st, stx, jmp, jmp32, source_k, source_x, operation, imm_mode, mem_mode, memsx_mode, access, alu_class, jump_class, binary_code, division_code, neg_code, mov_code, condition_code, ja_code, call_code, exit_code, double_code, size_code, signed_size_code, reorder_opcode}
 use Rattle.rb_decode.specs.declared.operation.Source.{Source}
 use Rattle.rb_decode.specs.declared.operation.Source.TheVariants.{Immediate, Register}

@@ -1,19 +1,13 @@
 -- No fault stands at a unit where an instruction is spelled.
-use Rattle.std.proofs.Common.{◌≡◌, ℕ, ◌+◌, ◌*◌, ◌/◌, ◌%◌, ◌^◌, ◌<◌, ◌≤◌, ◌⊎◌, inl, inr, Bool, true, false, ◌&&◌, leb, List, [], ◌∷◌, ◌++◌, length, slice_index, drop, Some, refl, sym, ap, subst, ◌∙◌, append_assoc, arith}
-use Rattle.std.specs.Prelude.{IsSomeAnd, IsSome, ◌≢◌}
+use Rattle.std.proofs.Common.{◌≡◌, ℕ, ◌/◌, ◌%◌, ◌^◌, ◌<◌, ◌≤◌, inl, inr, true, ◌&&◌, leb, List, [], ◌∷◌, ◌++◌, length, slice_index, refl, ap, subst, ◌∙◌, arith}
+use Rattle.std.specs.Prelude.{IsSome, ◌≢◌}
 use Rattle.std.proofs.lemmas.Bool.{cases_lt, le-leb}
 use Rattle.std.proofs.lemmas.List.{length-append}
-use Rattle.byteorder.specs.Endian.{little_number}
 use Rattle.rb_insn.specs.declared.reg.Reg.{Reg}
-use Rattle.rb_insn.specs.declared.insn.Width.{Width}
 use Rattle.rb_insn.specs.declared.insn.Width.TheVariants.{W32, W64}
-use Rattle.rb_insn.specs.declared.insn.Signedness.{Signedness}
 use Rattle.rb_insn.specs.declared.insn.Signedness.TheVariants.{Unsigned, Signed}
-use Rattle.rb_insn.specs.declared.insn.Extend32.{Extend32}
 use Rattle.rb_insn.specs.declared.insn.Extend32.TheVariants as extend32
-use Rattle.rb_insn.specs.declared.insn.Extend64.{Extend64}
 use Rattle.rb_insn.specs.declared.insn.Extend64.TheVariants as extend64
-use Rattle.rb_insn.specs.declared.insn.SwapWidth.{SwapWidth}
 use Rattle.rb_insn.specs.declared.insn.SwapWidth.TheVariants.{B16, B32, B64}
 use Rattle.rb_insn.specs.declared.insn.Operand.TheVariants as operands
 use Rattle.rb_insn.specs.declared.insn.Insn.{Insn}
@@ -22,14 +16,13 @@ use Rattle.rb_insn.specs.Opcodes.{division_offset, extend32_offset, extend64_off
 use Rattle.rb_insn.specs.Spelling.{unit, second_unit, bits16, bits32, spelling, Fits}
 use Rattle.rb_insn.proofs.Units as spelled
 use Rattle.rb_insn.proofs.Units.{bits16-bound, bits32-bound, next-second_unit}
-use Rattle.rb_insn.proofs.Laws.{length-spelling-bound}
 use Rattle.rb_decode.specs.declared.fields.Fields.{Fields}
 use Rattle.rb_decode.specs.declared.operation.Source.TheVariants.{Immediate, Register}
 use Rattle.rb_decode.specs.declared.operation.Operation.{Operation}
 use Rattle.rb_decode.specs.declared.operation.Operation.TheVariants.{Binary, Division, Negate, Move, Reorder, Branch, Jump, JumpFar, Call, Exit, Wide, Load, LoadSigned, StoreImmediate, StoreRegister}
 use Rattle.rb_decode.specs.declared.fault.DecodeKind.{DecodeKind}
 use Rattle.rb_decode.specs.Fields.{fields_at, next_imm_at}
-use Rattle.rb_decode.specs.Table.{Row, any, one_of, row_of}
+use Rattle.rb_decode.specs.Table.{any, one_of, row_of}
 use Rattle.rb_decode.specs.Table.{zero as zero_only}
 use Rattle.rb_decode.specs.Faults.{is_left_out, IsRefused, HasBadSecondUnit, Stands}
 use Rattle.rb_decode.specs.Checks.{is_named_by, row_for, registers_fit, numbers_fit}

@@ -1,6 +1,6 @@
 -- What the decoder checks of an operation's fields, and the instruction that it makes of them. No public clause cites
 -- this file.
-use Rattle.std.specs.Prelude.{ℕ, ◌+◌, ◌*◌, ◌^◌, Bool, true, false, ◌==◌, ◌&&◌, nat_le, List, [], ◌∷◌, min, if◌then◌else◌}
+use Rattle.std.specs.Prelude.{ℕ, ◌+◌, ◌*◌, ◌^◌, Bool, true, false, ◌==◌, ◌&&◌, nat_le, [], ◌∷◌, min, if◌then◌else◌}
 use Rattle.std.specs.Int.{w16, w32, cast_signed}
 use Rattle.std.proofs.Math.Nat.{min-le_right}
 use Rattle.rb_insn.specs.declared.reg.Reg.{Reg}

@@ -1,10 +1,10 @@
 -- When each fault stands at a unit. The bytes are those from the unit on.
-use Rattle.std.specs.Prelude.{◌≡◌, ◌≢◌, ℕ, ◌<◌, ◌≤◌, Bool, false, ◌==◌, ◌&&◌, ◌||◌, List, [], ◌∷◌, length, slice_index, Option, Some, None, IsSomeAnd, IsSome, IsTrue, ◌⊎◌}
+use Rattle.std.specs.Prelude.{◌≡◌, ◌≢◌, ℕ, ◌<◌, ◌≤◌, Bool, false, ◌==◌, ◌&&◌, ◌||◌, List, [], ◌∷◌, length, slice_index, None, IsSomeAnd, IsSome, IsTrue, ◌⊎◌}
 use Rattle.rb_decode.specs.declared.fields.Fields.{Fields}
 use Rattle.rb_decode.specs.declared.fault.DecodeKind.{DecodeKind}
 use Rattle.rb_decode.specs.declared.fault.DecodeKind.TheVariants.{Length, TooLong, LeftOut, BadOpcode, BadRegister, UnusedField, HalfWide, Memory}
 use Rattle.rb_decode.specs.Fields.{fields_at, next_imm_at}
-use Rattle.rb_decode.specs.Table.{Allowed, register, any, only, named, Row, one_of, row_of}
+use Rattle.rb_decode.specs.Table.{Allowed, register, only, Row, one_of, row_of}
 
 -- packet access (RFC 9669, section 5.5), atomics (5.3), calls by register
 abbrev pub left_out_opcodes : List ℕ

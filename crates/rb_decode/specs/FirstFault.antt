@@ -1,9 +1,9 @@
 -- The first fault of bytes that are no program.
-use Rattle.std.specs.Prelude.{◌≡◌, ◌≢◌, ℕ, ◌*◌, ◌%◌, ◌<◌, List, [], ◌∷◌, ◌++◌, length, take, drop, ◌⊎◌}
+use Rattle.std.specs.Prelude.{◌≡◌, ◌≢◌, ℕ, ◌*◌, ◌%◌, ◌<◌, List, [], ◌++◌, length, take, drop, ◌⊎◌}
 use Rattle.rb_insn.specs.declared.insn.Insn.{Insn}
 use Rattle.rb_insn.specs.Spelling.{Spells, SpellsAll}
 use Rattle.rb_decode.specs.declared.fault.DecodeKind.{DecodeKind}
-use Rattle.rb_decode.specs.declared.fault.DecodeKind.TheVariants.{Length, TooLong, LeftOut, BadOpcode, BadRegister, UnusedField, HalfWide, Memory}
+use Rattle.rb_decode.specs.declared.fault.DecodeKind.TheVariants.{Length, TooLong, Memory}
 use Rattle.rb_decode.specs.declared.fault.DecodeFault.{DecodeFault}
 use Rattle.rb_decode.specs.Faults.{IsFirstKind}
 use Rattle.rb_decode.specs.Program.{IsProgram}

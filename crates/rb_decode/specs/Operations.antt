@@ -1,5 +1,5 @@
 -- The operation of an opcode, as the decoder finds it. No public clause cites this file.
-use Rattle.std.specs.Prelude.{ℕ, ◌/◌, ◌%◌, ◌==◌, List, [], ◌∷◌, Option, Some, None, if◌then◌else◌}
+use Rattle.std.specs.Prelude.{ℕ, ◌/◌, ◌%◌, ◌==◌, Option, Some, None, if◌then◌else◌}
 use Rattle.std.specs.Option.{option_map}
 use Rattle.rb_insn.specs.declared.insn.Width.{Width}
 use Rattle.rb_insn.specs.declared.insn.Width.TheVariants.{W32, W64}

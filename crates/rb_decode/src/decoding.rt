@@ -5,7 +5,8 @@ ghost use Rattle.rb_insn.specs.declared.insn.Insn.{Insn};
 ghost use Rattle.rb_insn.specs.Spelling.{SpellsAll};
 ghost use Rattle.rb_decode.specs.declared.fault.DecodeFault.{DecodeFault};
 ghost use Rattle.rb_decode.specs.FirstFault.{IsFirstFault, no_memory, ProgramsHaveNoFault, FaultsAreUnique};
-ghost use Rattle.rb_decode.specs.Program.{units_of, IsProgram};
+ghost use Rattle.rb_decode.specs.Program.{IsProgram};
+ghost use Rattle.rb_decode.specs.Units.{kept_units};
 ghost use Rattle.rb_decode.specs.Decoded.{IsDecoded};
 
 use crate::fault::{DecodeFault, DecodeKind};
@@ -15,12 +16,12 @@ use rb_insn::Insn;
 use std::alloc::{AllocError, Global};
 
 /// Adds an instruction behind the others.
-fn push_insn(units: &mut Vec<Option<Insn>>, insn: Insn) -> Result<(), AllocError>
-    ensures { OnOk result (units.new.items ≡ units.old.items ++ units_of (insn ∷ [])) }
+fn push_insn(units: &mut Vec<Insn>, insn: Insn) -> Result<(), AllocError>
+    ensures { OnOk result (units.new.items ≡ units.old.items ++ kept_units (insn ∷ [])) }
 {
-    units.push(Some(insn))?;
+    units.push(insn)?;
     if insn.units() == 2 {
-        units.push(None)?;
+        units.push(Insn::Exit)?;
     }
     Ok(())
 }
@@ -83,8 +84,8 @@ pub fn encode(alloc: Global, program: &Program) -> Result<Vec<u8>, AllocError>
     ensures { IfOk result (λ bytes. SpellsAll program.now bytes.items) }
 {
     let mut bytes = Vec::with_capacity(alloc, 8 * program.units() as usize)?;
-    for slot in program.as_units() {
-        if let Some(insn) = *slot {
+    for unit in 0..program.units() {
+        if let Some(insn) = program.at(unit) {
             let mut spelling = [0; 16];
             let count = insn.spell(&mut spelling);
             bytes.extend_from_slice(&spelling[..count])?;

@@ -12,7 +12,7 @@ mod text;
 
 pub use decoding::{decode, decoding_laws, encode};
 pub use fault::{DecodeFault, DecodeKind, TextFault};
-pub use program::{MAX_UNITS, Program};
+pub use program::{Code, MAX_UNITS, Program};
 pub use text::from_text;
 
 #[cfg(test)]

@@ -1,5 +1,8 @@
 //! The type of programs.
 
+ghost use Rattle.std.specs.Prelude.{◌≡◌};
+ghost use Rattle.rb_decode.specs.Units.{is_behind_wide as is_behind_wide_of};
+
 use rb_insn::Insn;
 use std::marker::Model;
 
@@ -11,20 +14,28 @@ pub const MAX_UNITS: u32 = 4096;
 /// Contracts see the list of its instructions, in order.
 #[derive(Debug, Drop)]
 pub struct Program {
-    /// What stands at each unit: nothing at the second unit of a wide instruction.
-    units: Vec<Option<Insn>>,
+    /// The instruction that begins at each unit. At the second unit of a wide one stands an EXIT that is never read, so that
+    /// each unit takes 16 bytes.
+    units: Vec<Insn>,
 }
 
 impl Model for Program {
     ghost use Rattle.std.specs.Prelude.{List};
     ghost use Rattle.rb_insn.specs.declared.insn.Insn.{Insn};
-    ghost use Rattle.rb_decode.specs.Units.{insns_in, AreUnits};
+    ghost use Rattle.rb_decode.specs.Units.{insns_kept, AreUnits};
 
     ghost Value = { List Insn };
 
-    ghost view = { λ p. insns_in p.units.items };
+    ghost view = { λ p. insns_kept p.units.items };
 
     ghost invariant = { λ p. AreUnits p.units.items };
+}
+
+/// Whether a wide instruction is kept in front of a unit.
+fn is_behind_wide(units: &[Insn], unit: usize) -> bool
+    ensures { result ≡ is_behind_wide_of units.now unit }
+{
+    unit > 0 && unit <= units.len() && units[unit - 1].units() == 2
 }
 
 impl Program {
@@ -33,22 +44,14 @@ impl Program {
     ghost use Rattle.std.specs.List.{AllByRecursion};
     ghost use Rattle.rb_insn.specs.Spelling.{Fits};
     ghost use Rattle.rb_decode.specs.Program.{unit_count, slot_at, IsProgram, IsLaidOut};
-    ghost use Rattle.rb_decode.specs.Units.{insns_in, AreUnits};
+    ghost use Rattle.rb_decode.specs.Units.{insns_kept, AreUnits};
 
     /// The program of these units.
-    pub(crate) fn from_units(units: Vec<Option<Insn>>) -> Self
+    pub(crate) fn from_units(units: Vec<Insn>) -> Self
         requires { AreUnits units.items }
-        ensures { result ≡ insns_in units.items }
+        ensures { result ≡ insns_kept units.items }
     {
         Program { units }
-    }
-
-    /// What stands at each unit, in order: nothing at the second unit of a wide instruction.
-    pub(crate) fn as_units(&self) -> &[Option<Insn>]
-        ensures units { AreUnits result.now }
-        ensures insns { insns_in result.now ≡ self.now }
-    {
-        &self.units
     }
 
     /// How many units the program has, 1 to 4096. In constant time.
@@ -63,10 +66,11 @@ impl Program {
     pub fn at(&self, unit: u32) -> Option<&Insn>
         ensures { option_copied result ≡ slot_at self.now unit }
     {
-        match self.units.get(unit as usize) {
-            Some(slot) => slot.as_ref(),
-            None => None,
+        let unit = unit as usize;
+        if is_behind_wide(&self.units, unit) {
+            return None;
         }
+        self.units.get(unit)
     }
 
     #[inline(always)]
@@ -75,10 +79,15 @@ impl Program {
         requires { slot_at self.now unit ≢ None }
         ensures { slot_at self.now unit ≡ Some result.now }
     {
-        match &self.units[unit as usize] {
-            Some(insn) => insn,
-            None => unreachable!(),
-        }
+        self.code().fetch(unit)
+    }
+
+    #[inline(always)]
+    /// The instructions of the program, for a loop that fetches one after the other.
+    pub fn code(&self) -> Code<'_>
+        ensures { result ≡ self.now }
+    {
+        Code { units: &self.units }
     }
 
     /// What every program is: it has 1 to 4096 units, an instruction begins at each unit but the second ones of wide
@@ -89,5 +98,39 @@ impl Program {
         ensures fit { AllByRecursion Fits self.now }
     {
         let _ = &self.units;
+    }
+}
+
+/// The instructions of a program, for a loop that fetches one after the other.
+///
+/// Contracts see the list of the program's instructions, in order.
+#[derive(Debug, Drop)]
+pub struct Code<'p> {
+    units: &'p [Insn],
+}
+
+impl<'p> Model for Code<'p> {
+    ghost use Rattle.std.specs.Prelude.{List};
+    ghost use Rattle.rb_insn.specs.declared.insn.Insn.{Insn};
+    ghost use Rattle.rb_decode.specs.Units.{insns_kept, AreUnits};
+
+    ghost Value = { List Insn };
+
+    ghost view = { λ c. insns_kept c.units.now };
+
+    ghost invariant = { λ c. AreUnits c.units.now };
+}
+
+impl<'p> Code<'p> {
+    ghost use Rattle.std.specs.Prelude.{◌≡◌, ◌≢◌, None, Some};
+    ghost use Rattle.rb_decode.specs.Program.{slot_at};
+
+    #[inline(always)]
+    /// The instruction that begins at a unit, for callers that know that one does. In constant time.
+    pub fn fetch(&self, unit: u32) -> &'p Insn
+        requires { slot_at self.now unit ≢ None }
+        ensures { slot_at self.now unit ≡ Some result.now }
+    {
+        &self.units[unit as usize]
     }
 }

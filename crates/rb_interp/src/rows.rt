@@ -69,7 +69,7 @@ impl<C: Context, R: Lent> Core<C, R> {
     {
         let Value::Number(b) = b else { unreachable!() };
         if let Value::Number(a) = a {
-            self.gives(insn, dst, Value::Number(value(insn, a, b)));
+            self.gives_number(insn, dst, value(insn, a, b));
             return;
         }
         match (width, op) {

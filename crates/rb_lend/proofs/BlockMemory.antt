@@ -4,7 +4,7 @@ use Prim.Native.Nat.{ℕ, zero, ◌+◌}
 use mathlib.Core.List.{List, [], ◌∷◌}
 use lib.ListN.{length}
 use seplogic.Ra.Ura.{Ura}
-use mir.Syntax.{Ty, ty_array, ty_int, w8, ty_struct}
+use mir.Syntax.{Ty, Args, a_number, ty_array, ty_int, w8, ty_struct}
 use base.Logic.{SProp, ent, sep, guard}
 use base.Fraction.{full_share}
 use base.Fml.{Fml, ftrue, fsep, feq}
@@ -16,8 +16,9 @@ use denote.ArrayMemory.{Array-apart, Array-whole}
 use denote.Builtin.{u8}
 use denote.Index.{row, whole_in, whole_out}
 use denote.Memory.{mem, part_at}
+use denote.Param.{param, number, layouts, ArrayAt}
+use denote.Param.Laws.{number_array_laws, of_field}
 use denote.RattleType.{RattleType}
-use denote.Param.Laws.{array_laws, of_field}
 use denote.Struct.Laws.{u8-laws, u8-copy}
 use denote.Struct.Field.{u8-field}
 use denote.Param.Shared.{copy_shared}
@@ -27,50 +28,61 @@ use denote.Struct.Members.{Member, raw_tys}
 use denote.Struct.Parts.{shape_of, Struct-left, left_Struct}
 use denote.Struct.Recorded.{Recorded-part}
 use denote.Struct.Struct.{Struct}
-use Rattle.rb_lend.specs.declared.block.Block.{Block}
 use Rattle.rb_lend.specs.contracts.block.Block.{the_row, the_type}
 
-abbrev pub bytes_ty : Ty
-bytes_ty = ty_array (ty_int w8) 512
+module _ (n : ℕ) where
+  abbrev pub args : Args
+  args = layouts (a_number ∷ []) (number n, tt)
 
-abbrev pub fields : List Member
-fields = record { row = Array u8 512; ty = bytes_ty } ∷ []
+  -- the type of the length, and the struct
+  abbrev pub N : RattleType
+  N = param 0 (number n)
 
-abbrev pub Tuple : RattleType
-Tuple = Struct (shape_of the_type.name fields)
+  abbrev pub S : RattleType
+  S = the_row N
 
-as_tuple : (v : Block) (b o : ℕ) → part_at the_row full_share v b o ≡ part_at Tuple full_share (v.bytes, tt) b o
-as_tuple v b o = Recorded-part (Struct (shape the_type)) the_type.D the_type.to the_type.to_one full_share v b o
+  abbrev pub bytes_ty : Ty
+  bytes_ty = ty_array (ty_int w8) n
 
-module _ {M : Type 1} {𝓤 : Ura M} (𝓛 : Logic 𝓤) (b o : ℕ) where
-  open 𝓛 use {H}
+  abbrev pub fields : List Member
+  fields = record { row = ArrayAt u8 N; ty = bytes_ty } ∷ []
 
-  -- what is left of the struct while its field is out
-  abbrev pub Left : SProp 𝓤
-  Left = H.left full_share (ty_struct [] (raw_tys fields)) (raw_tys fields) b o
+  abbrev pub Tuple : RattleType
+  Tuple = Struct (shape_of (the_type N).name fields)
 
-  pub bytes_out : (v : Block) → ent 𝓤 (sem 𝓛 ((mem the_row).own_at v b o))
-      (guard 𝓤 (length v.bytes ≡ 512) (sep 𝓤 (sem 𝓛 (cells (mem u8) v.bytes b (o + zero))) Left))
-  bytes_out v =
-      qed 𝓛 (‵ (part_at the_row full_share v b o) ∷ []) ∵
-      rewrite ! 0 (λ (f : Fml). ‵ f) (as_tuple v b o) refl $
-      use1 𝓛 (‵ (fsep (part_at (Array u8 512) full_share v.bytes b (o + zero)) ftrue) ⊛ raw Left)
-      (Struct-left 𝓛 full_share the_type.name fields ((array_laws u8 (of_field u8-field u8-laws refl (copy_shared u8-field u8-copy)) 512).single, tt) (v.bytes, tt) b o) $
-      split ! $ fsplit ! $ move ! (1 ∷ []) $ drop ! $
-      use1 𝓛 (‵ (fsep (feq ℕ (length v.bytes) 512) (row u8 full_share v.bytes b (o + zero))))
-      (Array-apart 𝓛 u8 full_share tt 512 v.bytes b (o + zero)) $ fsplit ! $ feq_l ! (λ long.
-      use1 𝓛 (‵ (cells (mem u8) v.bytes b (o + zero))) (whole_in 𝓛 u8 v.bytes b (o + zero)) $
-      check ! long $ done !)
+  as_tuple : (v : S.Denot) (b o : ℕ) → part_at S full_share v b o ≡ part_at Tuple full_share (v.bytes, tt) b o
+  as_tuple v b o = let D = the_type N in Recorded-part (Struct (shape D)) D.D D.to D.to_one full_share v b o
 
-  pub bytes_in : (v : Block) → length v.bytes ≡ 512
-      → ent 𝓤 (sep 𝓤 (sem 𝓛 (cells (mem u8) v.bytes b (o + zero))) Left) (sem 𝓛 ((mem the_row).own_at v b o))
-  bytes_in v long =
-      qed 𝓛 (‵ (cells (mem u8) v.bytes b (o + zero)) ∷ raw Left ∷ []) ∵
-      use1 𝓛 (‵ (row u8 full_share v.bytes b (o + zero))) (whole_out 𝓛 u8 v.bytes b (o + zero)) $
-      feq_i ! ℕ (length v.bytes) 512 long $ fjoin ! $
-      use1 𝓛 (‵ (part_at (Array u8 512) full_share v.bytes b (o + zero)))
-      (Array-whole 𝓛 u8 full_share 512 v.bytes b (o + zero)) $
-      nothing ! $ move ! (1 ∷ 0 ∷ []) $ fjoin ! $
-      use2 𝓛 (‵ (part_at Tuple full_share (v.bytes, tt) b o))
-      (left_Struct 𝓛 full_share the_type.name fields (v.bytes, tt) b o) $
-      rewrite ! 0 (λ (f : Fml). ‵ f) (sym (as_tuple v b o)) refl $ done !
+  module _ {M : Type 1} {𝓤 : Ura M} (𝓛 : Logic 𝓤) (b o : ℕ) where
+    open 𝓛 use {H}
+
+    -- what is left of the struct while its field is out
+    abbrev pub Left : SProp 𝓤
+    Left = H.left full_share (ty_struct [] (raw_tys fields)) (raw_tys fields) b o
+
+    pub bytes_out : (v : S.Denot) → ent 𝓤 (sem 𝓛 ((mem S).own_at v b o))
+        (guard 𝓤 (length v.bytes ≡ n) (sep 𝓤 (sem 𝓛 (cells (mem u8) v.bytes b (o + zero))) Left))
+    bytes_out v =
+        let lone = (number_array_laws u8 (of_field u8-field u8-laws refl (copy_shared u8-field u8-copy)) N refl).single in
+        qed 𝓛 (‵ (part_at S full_share v b o) ∷ []) ∵
+        rewrite ! 0 (λ (f : Fml). ‵ f) (as_tuple v b o) refl $
+        use1 𝓛 (‵ (fsep (part_at (Array u8 n) full_share v.bytes b (o + zero)) ftrue) ⊛ raw Left)
+        (Struct-left 𝓛 full_share (the_type N).name fields (lone, tt) (v.bytes, tt) b o) $
+        split ! $ fsplit ! $ move ! (1 ∷ []) $ drop ! $
+        use1 𝓛 (‵ (fsep (feq ℕ (length v.bytes) n) (row u8 full_share v.bytes b (o + zero))))
+        (Array-apart 𝓛 u8 full_share tt n v.bytes b (o + zero)) $ fsplit ! $ feq_l ! (λ long.
+        use1 𝓛 (‵ (cells (mem u8) v.bytes b (o + zero))) (whole_in 𝓛 u8 v.bytes b (o + zero)) $
+        check ! long $ done !)
+
+    pub bytes_in : (v : S.Denot) → length v.bytes ≡ n
+        → ent 𝓤 (sep 𝓤 (sem 𝓛 (cells (mem u8) v.bytes b (o + zero))) Left) (sem 𝓛 ((mem S).own_at v b o))
+    bytes_in v long =
+        qed 𝓛 (‵ (cells (mem u8) v.bytes b (o + zero)) ∷ raw Left ∷ []) ∵
+        use1 𝓛 (‵ (row u8 full_share v.bytes b (o + zero))) (whole_out 𝓛 u8 v.bytes b (o + zero)) $
+        feq_i ! ℕ (length v.bytes) n long $ fjoin ! $
+        use1 𝓛 (‵ (part_at (Array u8 n) full_share v.bytes b (o + zero)))
+        (Array-whole 𝓛 u8 full_share n v.bytes b (o + zero)) $
+        nothing ! $ move ! (1 ∷ 0 ∷ []) $ fjoin ! $
+        use2 𝓛 (‵ (part_at Tuple full_share (v.bytes, tt) b o))
+        (left_Struct 𝓛 full_share (the_type N).name fields (v.bytes, tt) b o) $
+        rewrite ! 0 (λ (f : Fml). ‵ f) (sym (as_tuple v b o)) refl $ done !

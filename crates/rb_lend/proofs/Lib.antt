@@ -1,2 +1,3 @@
 pub mod BlockMemory
+pub mod Fronts
 pub mod Laws

@@ -5,5 +5,7 @@ pub mod MemoryLaws
 pub mod Ranges
 pub mod Records
 pub mod Rewritten
+pub mod Sheet
+pub mod Short
 pub mod SomeOf
 pub mod Stack

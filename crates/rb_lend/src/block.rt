@@ -1,29 +1,29 @@
-//! 512 bytes side by side, which lend a range of themselves.
+//! Bytes side by side, which lend a range of themselves.
 
 ghost use Rattle.std.specs.Prelude.{◌≡◌, ◌+◌, ◌≤◌, take, drop, length};
 ghost use Rattle.std.specs.Borrow.{sem};
-ghost use Rattle.rb_lend.specs.Block.{LendsBlock, LendsBlockRange};
+ghost use Rattle.rb_lend.specs.Block.{LendsBlockRange};
 
-/// 512 bytes side by side.
+/// `N` bytes side by side.
 #[derive(Drop)]
-pub struct Block {
-    pub bytes: [u8; 512],
+pub struct Block<const N: usize> {
+    pub bytes: [u8; N],
 }
 
-impl Block {
-    /// Lends the bytes for writing.
-    pub fn bytes_mut(&mut self) -> &mut [u8]
-        ensures* writes_back { sem 𝓛 (LendsBlock self.entry result) }
-        ensures value { result.now ≡ self.old.bytes }
+impl<const N: usize> Block<N> {
+    /// Lends the bytes for reading.
+    pub fn bytes(&self) -> &[u8]
+        ensures value { result.now ≡ self.now.bytes }
+        ensures size { length self.now.bytes ≡ N }
     {
-        &mut self.bytes[..]
+        self.bytes.as_slice()
     }
 
     /// Lends `len` bytes from place `at` on for writing.
     pub fn range_mut(&mut self, at: usize, len: usize) -> &mut [u8]
-        requires { at + len ≤ 512 }
-        ensures* writes_back { sem 𝓛 (LendsBlockRange self.entry at len result) }
-        ensures value { (result.now ≡ take len (drop at self.old.bytes)) × ((length result.now ≡ len) × (length self.old.bytes ≡ 512)) }
+        requires { at + len ≤ N }
+        ensures* writes_back { sem 𝓛 (LendsBlockRange N.row self.entry at result) }
+        ensures value { (result.now ≡ take len (drop at self.old.bytes)) × ((length result.now ≡ len) × (length self.old.bytes ≡ N)) }
     {
         &mut self.bytes[at..at + len]
     }

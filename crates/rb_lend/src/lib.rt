@@ -8,6 +8,7 @@ mod memory_laws;
 mod parts;
 mod records;
 mod sheet;
+mod short;
 mod spot;
 mod stack;
 

@@ -2,7 +2,7 @@
 
 ghost use Rattle.std.specs.Prelude.{◌≡◌, ◌+◌, ◌≤◌, take, drop, length, replicate};
 ghost use Rattle.std.specs.Borrow.{sem};
-ghost use Rattle.rb_lend.specs.Stack.{LendsStack, LendsStackRange};
+ghost use Rattle.rb_lend.specs.Stack.{LendsStackRange};
 
 use crate::block::Block;
 use std::marker::Model;
@@ -11,7 +11,7 @@ use std::marker::Model;
 /// its bytes. Its calls take no memory.
 #[derive(Drop)]
 pub struct Stack {
-    block: Block,
+    block: Block<512>,
 }
 
 impl Model for Stack {
@@ -37,15 +37,7 @@ impl Stack {
         ensures value { result.now ≡ self.now }
         ensures size { length self.now ≡ 512 }
     {
-        whole(&self.block.bytes)
-    }
-
-    /// Lends all 512 bytes for writing.
-    pub fn bytes_mut(&mut self) -> &mut [u8]
-        ensures* writes_back { sem 𝓛 (LendsStack self.entry result) }
-        ensures value { result.now ≡ self.old }
-    {
-        self.block.bytes_mut()
+        self.block.bytes()
     }
 
     /// Lends `len` bytes from place `at` on for writing, where they lie inside. Place 0 is the first byte. The other bytes stay.
@@ -58,12 +50,4 @@ impl Stack {
     {
         self.block.range_mut(at, len)
     }
-}
-
-// The 512 bytes as a slice.
-fn whole(bytes: &[u8; 512]) -> &[u8]
-    ensures value { result.now ≡ bytes.now }
-    ensures size { length bytes.now ≡ 512 }
-{
-    bytes.as_slice()
 }

@@ -53,10 +53,10 @@ impl Word {
 // What is kept of a record beside its header word.
 #[derive(Drop)]
 pub(crate) struct Slot {
-    used: bool,
     pos: u64,
-    worker: u32,
     serial: u64,
+    worker: u32,
+    used: bool,
     sheet: Option<Sheet>,
 }
 

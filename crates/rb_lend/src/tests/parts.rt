@@ -200,7 +200,7 @@ fn all_parts_are_lent_at_once(rt: HostRuntime) -> Result<(), Fail> {
 #[test]
 fn the_whole_stack_and_a_whole_record_are_lent(rt: HostRuntime) -> Result<(), Fail> {
     let mut parts: Parts<&[u8], Sheet> = Parts::new([].as_slice());
-    parts.stack.bytes_mut().fill(3);
+    parts.stack.range_mut(0, 512).fill(3);
     let Ok(Slot::First) = parts.hold(Sheet::new(rt.alloc(), 2)?) else {
         return Err(Fail::from("another slot"));
     };

@@ -35,3 +35,54 @@ fn a_range_is_written_alone(rt: HostRuntime) -> Result<(), Fail> {
     assert_eq!(rt; sheet.bytes(), [0, 9, 9, 0, 0].as_slice());
     Ok(())
 }
+
+/// Lengths on both sides of what fits in place.
+const LENGTHS: [u32; 6] = [0, 1, 15, 16, 17, 40];
+
+#[test]
+fn sheets_of_any_length_lend_their_bytes(rt: HostRuntime) -> Result<(), Fail> {
+    for n in LENGTHS {
+        let mut sheet = Sheet::new(rt.alloc(), n)?;
+        assert_eq!(rt; sheet.len(), n);
+        assert_eq!(rt;
+            sheet.bytes(),
+            vec![in rt.alloc(); 0; n as usize]?.as_slice(),
+            "{n}"
+        );
+        sheet.bytes_mut().fill(5);
+        assert_eq!(rt;
+            sheet.bytes(),
+            vec![in rt.alloc(); 5; n as usize]?.as_slice(),
+            "{n}"
+        );
+    }
+    Ok(())
+}
+
+#[test]
+fn sheets_of_any_length_are_renewed_as_any(rt: HostRuntime) -> Result<(), Fail> {
+    for old in LENGTHS {
+        for new in LENGTHS {
+            let mut sheet = Sheet::new(rt.alloc(), old)?;
+            sheet.bytes_mut().fill(5);
+            let Ok(sheet) = sheet.renew(new) else {
+                return Err(Fail::from("no memory"));
+            };
+            assert_eq!(rt;
+                sheet.bytes(),
+                vec![in rt.alloc(); 0; new as usize]?.as_slice(),
+                "{old} {new}"
+            );
+        }
+    }
+    Ok(())
+}
+
+#[test]
+fn a_range_behind_the_sixteenth_byte_is_written_alone(rt: HostRuntime) -> Result<(), Fail> {
+    let mut sheet = Sheet::new(rt.alloc(), 20)?;
+    assert!(rt; sheet.len() == 20);
+    sheet.range_mut(15, 2).fill(9);
+    assert_eq!(rt; &sheet.bytes()[14..18], [0, 9, 9, 0].as_slice());
+    Ok(())
+}

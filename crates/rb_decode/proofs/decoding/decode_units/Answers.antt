@@ -1,9 +1,11 @@
-use Rattle.std.proofs.Common.{◌≡◌, ◌≤◌, ◌<◌, ◌*◌, ◌%◌, ◌-◌, ℕ, List, ◌++◌, ◌∷◌, [], take, drop, length, inl, inr, sym, subst, ap, ◌∙◌, arith}
+use Rattle.std.proofs.Common.{◌≡◌, ◌≤◌, ◌<◌, ◌*◌, ◌%◌, ◌-◌, ℕ, List, take, drop, length, inl, inr, sym, subst, ap, ◌∙◌, arith}
+use Rattle.std.proofs.lemmas.Grind.{common_steps}
 use Rattle.rb_insn.specs.Units.{units_taken}
 use Rattle.rb_insn.specs.Spelling.{Spells}
 use Rattle.rb_decode.specs.Faults.{IsFirstKind}
 use Rattle.rb_decode.specs.FirstFault.{HasBadLength, IsTooLong, IsFirstFaultOf}
 use Rattle.rb_decode.specs.Decoded.{IsDecoded}
+use Rattle.rb_decode.proofs.Kept.{counted}
 use Rattle.rb_decode.proofs.FirstFaults.{decoded_more, fault_here, rest_of}
 use Rattle.rb_decode.proofs.decoding.decode_units.Goals as goal
 
@@ -17,6 +19,16 @@ loop-units-preserved c =
     let room = subst (λ (l : List ℕ). 8 * units_taken insn ≤ length l) rest c.in-Ok.ensures.within in
     let spells = subst (λ (l : List ℕ). Spells insn (take (8 * units_taken insn) l)) rest c.in-Ok.ensures.ok in
     subst (IsDecoded bytes) (sym c.in_ok-push_insn-in-Ok.ensures) (decoded_more bytes units insn c.loop-units.invariant room spells)
+
+pub from_units-requires : goal.from_units-requires
+from_units-requires c =
+    let units = c.loop-units.units.items in
+    let count = counted units c.loop-units.invariant.laid_out in
+    record {
+      laid_out = c.loop-units.invariant.laid_out;
+      bounds = record { not_empty = let h = c.is_empty.ensures in let k = c.if-is_empty.ensures in grind (arith, common_steps, count, h, k); not_too_long = omega arith };
+      fit = c.loop-units.invariant.spelled.fit;
+    }
 
 pub returns-in-Err-clause-fault : goal.returns-in-Err-clause-fault
 returns-in-Err-clause-fault c =

@@ -1,23 +1,37 @@
-use Rattle.std.proofs.Common.{◌≡◌, Option, Some, None, Vec, Global, ℕ, get_or, take, sym, subst, ap, ◌+◌, ◌∙◌, arith}
+use Rattle.std.proofs.Common.{◌≡◌, ◌≤◌, ◌<◌, Some, None, List, Vec, Global, ℕ, take, sym, subst, ap, ◌+◌, ◌∙◌, arith}
+use Rattle.std.proofs.lemmas.List.{take_all, get_or_default}
+use Rattle.std.specs.Option.{option_copied}
 use Rattle.rb_insn.specs.declared.insn.Insn.{Insn}
 use Rattle.rb_insn.specs.Spelling.{SpellsAll}
+use Rattle.rb_decode.specs.Program.{units_of, unit_count}
 use Rattle.rb_decode.specs.Units.{insns_in}
+use Rattle.rb_decode.proofs.Kept.{insns_in-units_of}
 use Rattle.rb_decode.proofs.FirstFaults.{encoded_more, encoded_second}
 use Rattle.rb_decode.proofs.decoding.encode.Goals as goal
 use Rattle.rb_decode.proofs.decoding.encode.Goals.{in-Some+in_ok-extend_from_slice, in_default}
 
-pub loop-slot-preserved : goal.loop-slot-preserved
-loop-slot-preserved c =
-    let units = c.as_units-slot-items.result.now in
-    let i = c.loop-slot.slot-index in
-    elim c.match-slot.branch [
+pub loop-unit-preserved : goal.loop-unit-preserved
+loop-unit-preserved c =
+    let program = c.args.program.now in
+    let unit = c.loop-unit.unit in
+    let below : unit < unit_count program = omega arith in
+    elim c.match-at.branch [
       | in-Some+in_ok-extend_from_slice w ↦
-          let insn = w.in-Some.insn in
-          let at = subst (λ (slot : Option Insn). slot ≡ get_or units i slot) w.in-Some.is c.slot-item.is in
+          let insn = w.in-Some.insn.now in
+          let at = w.in-Some.ensures ∙ get_or_default (units_of program) unit None (Some insn) below in
           let bytes = ap (λ (v : Vec ℕ Global). v.items) w.bytes-is ∙ w.in_ok-extend_from_slice.ensures.items in
-          subst (λ l. SpellsAll (insns_in (take (i + 1) units)) l) (sym bytes) (encoded_more units i insn c.loop-slot.bytes.items _ c.loop-slot-test.true at c.loop-slot.invariant w.spell-count.ensures.spelled)
+          subst (λ l. SpellsAll (insns_in (take (unit + 1) (units_of program))) l) (sym bytes)
+          (encoded_more (units_of program) unit insn c.loop-unit.bytes.items _ below at c.loop-unit.invariant w.spell-count.ensures.spelled)
       | in_default w ↦
-          let at = subst (λ (slot : Option Insn). slot ≡ get_or units i slot) w.in_default.is c.slot-item.is in
+          let at = ap option_copied (sym w.in_default.is) ∙ c.at.ensures in
           let bytes = ap (λ (v : Vec ℕ Global). v.items) w.bytes-is in
-          subst (λ l. SpellsAll (insns_in (take (i + 1) units)) l) (sym bytes) (encoded_second units i c.loop-slot.bytes.items c.loop-slot-test.true at c.loop-slot.invariant)
+          subst (λ l. SpellsAll (insns_in (take (unit + 1) (units_of program))) l) (sym bytes)
+          (encoded_second (units_of program) unit c.loop-unit.bytes.items below at c.loop-unit.invariant)
     ]
+
+pub returns : goal.returns
+returns c =
+    let program = c.args.program.now in
+    let past : unit_count program ≤ c.loop-unit.unit = omega arith in
+    let whole : insns_in (take c.loop-unit.unit (units_of program)) ≡ program = ap insns_in (take_all c.loop-unit.unit (units_of program) past) ∙ insns_in-units_of program in
+    subst (λ (insns : List Insn). SpellsAll insns c.loop-unit.bytes.items) whole c.loop-unit.invariant

@@ -1,4 +1,4 @@
-use Rattle.std.proofs.Common.{◌≡◌, List, ℕ, sym, subst}
+use Rattle.std.proofs.Common.{sym, subst}
 use Rattle.std.proofs.lemmas.Result.{err_from_is_err_and}
 use Rattle.rb_decode.specs.Text.{IsHexOf}
 use Rattle.rb_decode.proofs.Texts.{hex_fault, decode_fault, decode_of-is_hex}

@@ -1,6 +1,4 @@
-use Rattle.std.proofs.Common.{◌≡◌, List, Result, ap, subst, ◌∙◌}
-use Rattle.rb_insn.specs.declared.insn.Insn.{Insn}
-use Rattle.rb_decode.specs.declared.fault.TextFault.{TextFault}
+use Rattle.std.proofs.Common.{ap, subst, ◌∙◌}
 use Rattle.rb_decode.specs.Text.{without_white_space}
 use Rattle.rb_decode.proofs.Texts.{IsTextAnswer, only_hex, text_program, text_fault}
 use Rattle.rb_decode.proofs.text.from_text.Goals as goal

@@ -1,0 +1,82 @@
+//! A few bytes in place.
+
+ghost use Rattle.std.specs.Prelude.{◌≡◌, ◌≤◌, ◌+◌, replicate, length, take, drop};
+ghost use Rattle.std.specs.Borrow.{sem};
+
+use crate::block::Block;
+use std::marker::Model;
+
+/// How many bytes fit in place.
+pub const CAPACITY: usize = 16;
+
+/// At most 16 bytes, in place. Contracts see the list of them.
+#[derive(Drop)]
+pub struct Short {
+    block: Block<CAPACITY>,
+    len: usize,
+}
+
+impl Model for Short {
+    ghost use Rattle.std.specs.Prelude.{ℕ, List, take, ◌≤◌};
+
+    ghost Value = { List ℕ };
+
+    ghost view = { λ s. take s.len s.block.bytes };
+
+    ghost invariant = { λ s. s.len ≤ 16 };
+}
+
+impl Short {
+    ghost use Rattle.rb_lend.specs.Short.{LendsShort, LendsShortRange};
+
+    #[inline]
+    /// So many zero bytes.
+    pub fn zeros(len: usize) -> Short
+        requires { len ≤ 16 }
+        ensures { result ≡ replicate len 0 }
+    {
+        Short {
+            block: Block {
+                bytes: [0; CAPACITY],
+            },
+            len,
+        }
+    }
+
+    #[inline]
+    /// How many bytes there are.
+    pub fn len(&self) -> usize
+        ensures { result ≡ length self.now }
+    {
+        let _ = self.block.bytes();
+        self.len
+    }
+
+    #[inline]
+    /// Lends the bytes for reading.
+    pub fn bytes(&self) -> &[u8]
+        ensures { result.now ≡ self.now }
+    {
+        &self.block.bytes()[..self.len]
+    }
+
+    #[inline]
+    /// Lends the bytes for writing.
+    pub fn bytes_mut(&mut self) -> &mut [u8]
+        ensures* writes_back { sem 𝓛 (LendsShort self.entry result) }
+        ensures value { result.now ≡ self.old }
+    {
+        let len = self.len;
+        self.block.range_mut(0, len)
+    }
+
+    #[inline]
+    /// Lends `len` bytes from place `at` on for writing, where they lie inside. The other bytes stay.
+    pub fn range_mut(&mut self, at: usize, len: usize) -> &mut [u8]
+        requires { at + len ≤ length self.old }
+        ensures* writes_back { sem 𝓛 (LendsShortRange self.entry at result) }
+        ensures value { result.now ≡ take len (drop at self.old) }
+    {
+        self.block.range_mut(at, len)
+    }
+}
