@@ -24,8 +24,8 @@ use Rattle.rb_insn.specs.declared.insn.SwapWidth.{SwapWidth}
 use Rattle.rb_insn.specs.declared.insn.SwapWidth.TheVariants.{B16, B32, B64}
 use Rattle.rb_insn.specs.declared.insn.Insn.{Insn}
 use Rattle.rb_insn.specs.declared.insn.Insn.TheVariants.{Binary, Division, Negate, Move, MoveExtended32, MoveExtended64, Reorder, Branch}
-use Rattle.rb_alu.specs.Numbers.{low_bits, signed_of, wrapped, reversed_bytes, binary_of, unsigned_division, signed_division, condition_holds}
-use Rattle.rb_alu.specs.Meaning.{bits_of, operand_of, division_of, sign_extended, reordered, swap_bytes_of, IgnoresSource, IgnoresDestination, value_of, jumps_of}
+use Rattle.rb_alu.specs.WholeNumbers.{low_bits, signed_of, wrapped, reversed_bytes, binary_of, unsigned_division, signed_division, condition_holds}
+use Rattle.rb_alu.specs.ArithmeticAndJumps.{bits_of, operand_of, division_of, sign_extended, reordered, swap_bytes_of, IgnoresSource, IgnoresDestination, value_of, jumps_of}
 use Rattle.rb_alu.proofs.Signed as signed
 
 -- a value of at most 64 bits

@@ -9,8 +9,8 @@ use Rattle.std.specs.Int.{cast_signed, cast_unsigned, int_shr, int_wrapping_div}
 use lib.Signed.{mag, mag_rem, mag_shr}
 use Rattle.rb_insn.specs.declared.insn.Width.{Width}
 use Rattle.rb_insn.specs.declared.insn.Width.TheVariants.{W32, W64}
-use Rattle.rb_alu.specs.Numbers.{low_bits, signed_of, wrapped, floor_div, remainder}
-use Rattle.rb_alu.specs.Meaning.{bits_of}
+use Rattle.rb_alu.specs.WholeNumbers.{low_bits, signed_of, wrapped, floor_div, remainder}
+use Rattle.rb_alu.specs.ArithmeticAndJumps.{bits_of}
 
 -- a value read as signed is what a cast to the signed type gives
 pub signed_of-cast_8 : (n : ℕ) → n < 2 ^ 8 → cast_signed w8 n ≡ signed_of 8 n

@@ -1,2 +1,2 @@
-pub mod Numbers
-pub mod Meaning
+pub mod WholeNumbers
+pub mod ArithmeticAndJumps

@@ -1,8 +1,8 @@
 //! The value that an arithmetic instruction gives.
 
 ghost use Rattle.std.specs.Prelude.{◌≡◌, ℕ, ◌*◌, ◌^◌, ◌<◌};
-ghost use Rattle.rb_alu.specs.Numbers.{low_bits, reversed_bytes, binary_of};
-ghost use Rattle.rb_alu.specs.Meaning.{bits_of, division_of, extend32_bits, extend64_bits, sign_extended, reordered, swap_bytes_of, IgnoresDestination, IgnoresSource, IsArithmetic, value_of};
+ghost use Rattle.rb_alu.specs.WholeNumbers.{low_bits, reversed_bytes, binary_of};
+ghost use Rattle.rb_alu.specs.ArithmeticAndJumps.{bits_of, division_of, extend32_bits, extend64_bits, sign_extended, reordered, swap_bytes_of, IgnoresDestination, IgnoresSource, IsArithmetic, value_of};
 
 use crate::operands::{low_bits, operand_value, shift_count, signed};
 use rb_insn::{
@@ -10,7 +10,7 @@ use rb_insn::{
 };
 
 #[inline(always)]
-#[tactic(auto, unfolding(crate::specs::Meaning::value_of))]
+#[tactic(auto, unfolding(crate::specs::ArithmeticAndJumps::value_of))]
 /// The value that an arithmetic instruction gives, where its destination register holds `dst` and its source register `src`
 /// (RFC 9669, sections 4.1 and 4.2). An instruction with an immediate operand does not look at `src`, and a move does not look
 /// at `dst`. Results wrap at the instruction's width, and above it all bits are zero. Takes constant time.
@@ -46,24 +46,24 @@ pub fn value(insn: &Insn, dst: u64, src: u64) -> u64
         Insn::Negate { width, .. } => low_bits(width, dst.wrapping_neg()),
         Insn::Move { width, operand, .. } => low_bits(width, operand_value(operand, src)),
         Insn::MoveExtended32 { from, .. } => extended_to_32(from, src),
-        Insn::MoveExtended64 { from, .. } => extended_to_64(from, src),
+        Insn::MoveExtended64 { from, .. } => sign_extended(from, src),
         Insn::Reorder { order, width, .. } => reordered(order, width, dst),
         _ => unreachable!(),
     }
 }
 
-#[inline(always)]
 /// Arithmetic on the low bits of two numbers, as many as the width has. Callers name the width, so that each gets code for it
 /// alone.
+#[inline(always)]
 fn binary_at(width: Width, op: BinaryOp, dst: u64, src: u64) -> u64
     ensures { result ≡ binary_of (bits_of width) op (low_bits (bits_of width) dst) (low_bits (bits_of width) src) }
 {
     binary(width, op, low_bits(width, dst), low_bits(width, src))
 }
 
-#[inline(always)]
 /// Arithmetic on two numbers of the width.
-#[tactic(auto, unfolding(crate::specs::Numbers::binary_of))]
+#[inline(always)]
+#[tactic(auto, unfolding(crate::specs::WholeNumbers::binary_of))]
 fn binary(width: Width, op: BinaryOp, a: u64, b: u64) -> u64
     requires first { a < 2 ^ bits_of width }
     requires second { b < 2 ^ bits_of width }
@@ -86,7 +86,7 @@ fn binary(width: Width, op: BinaryOp, a: u64, b: u64) -> u64
 }
 
 /// A division of two numbers of the width, or its remainder.
-#[tactic(auto, unfolding(crate::specs::Numbers::unsigned_division, crate::specs::Numbers::signed_division, crate::specs::Meaning::division_of))]
+#[tactic(auto, unfolding(crate::specs::WholeNumbers::unsigned_division, crate::specs::WholeNumbers::signed_division, crate::specs::ArithmeticAndJumps::division_of))]
 fn division(sign: Signedness, width: Width, op: DivisionOp, a: u64, b: u64) -> u64
     requires first { a < 2 ^ bits_of width }
     requires second { b < 2 ^ bits_of width }
@@ -109,7 +109,7 @@ fn division(sign: Signedness, width: Width, op: DivisionOp, a: u64, b: u64) -> u
 }
 
 /// The low bits, sign-extended to 32 bits.
-#[tactic(auto, unfolding(crate::specs::Meaning::sign_extended))]
+#[tactic(auto, unfolding(crate::specs::ArithmeticAndJumps::sign_extended))]
 fn extended_to_32(from: Extend32, number: u64) -> u64
     ensures { result ≡ sign_extended (extend32_bits from) 32 number }
 {
@@ -120,9 +120,9 @@ fn extended_to_32(from: Extend32, number: u64) -> u64
     u64::from(extended.cast_unsigned())
 }
 
-/// The low bits, sign-extended to 64 bits.
-#[tactic(auto, unfolding(crate::specs::Meaning::sign_extended))]
-fn extended_to_64(from: Extend64, number: u64) -> u64
+#[tactic(auto, unfolding(crate::specs::ArithmeticAndJumps::sign_extended))]
+/// The low bits of a number, sign-extended to 64 bits (RFC 9669, section 4.1), as a sign-extending load does too.
+pub fn sign_extended(from: Extend64, number: u64) -> u64
     ensures { result ≡ sign_extended (extend64_bits from) 64 number }
 {
     let extended = match from {
@@ -134,7 +134,7 @@ fn extended_to_64(from: Extend64, number: u64) -> u64
 }
 
 /// The low bytes, in the order asked for; all bits above them are zero.
-#[tactic(auto, unfolding(crate::specs::Meaning::reordered))]
+#[tactic(auto, unfolding(crate::specs::ArithmeticAndJumps::reordered))]
 fn reordered(order: ByteOrder, width: SwapWidth, number: u64) -> u64
     ensures { result ≡ reordered order (swap_bytes_of width) number }
 {
@@ -156,7 +156,7 @@ fn low_bytes(width: SwapWidth, number: u64) -> u64
 }
 
 /// The low bytes, in reverse order.
-#[tactic(auto, unfolding(crate::specs::Numbers::reversed_bytes))]
+#[tactic(auto, unfolding(crate::specs::WholeNumbers::reversed_bytes))]
 fn swapped(width: SwapWidth, number: u64) -> u64
     ensures { result ≡ reversed_bytes (swap_bytes_of width) number }
 {

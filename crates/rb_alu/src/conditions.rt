@@ -1,14 +1,14 @@
 //! Whether a conditional instruction jumps.
 
 ghost use Rattle.std.specs.Prelude.{◌≡◌, ℕ, ◌^◌, ◌<◌};
-ghost use Rattle.rb_alu.specs.Numbers.{condition_holds, low_bits};
-ghost use Rattle.rb_alu.specs.Meaning.{bits_of, IgnoresSource, IsConditional, jumps_of};
+ghost use Rattle.rb_alu.specs.WholeNumbers.{condition_holds, low_bits};
+ghost use Rattle.rb_alu.specs.ArithmeticAndJumps.{bits_of, IgnoresSource, IsConditional, jumps_of};
 
 use crate::operands::{low_bits, operand_value, signed};
 use rb_insn::{Condition, Insn, Width};
 
 #[inline(always)]
-#[tactic(auto, unfolding(crate::specs::Meaning::jumps_of))]
+#[tactic(auto, unfolding(crate::specs::ArithmeticAndJumps::jumps_of))]
 /// Whether a conditional instruction jumps, where its destination register holds `dst` and its source register `src`
 /// (RFC 9669, section 4.3). An instruction with an immediate operand does not look at `src`. Takes constant time.
 pub fn jumps(insn: &Insn, dst: u64, src: u64) -> bool
@@ -33,18 +33,18 @@ pub fn jumps(insn: &Insn, dst: u64, src: u64) -> bool
     }
 }
 
-#[inline(always)]
 /// Whether the condition holds of the low bits of two numbers, as many as the width has. Callers name the width, so that each
 /// gets code for it alone.
+#[inline(always)]
 fn holds_at(width: Width, condition: Condition, dst: u64, src: u64) -> bool
     ensures { result ≡ condition_holds (bits_of width) condition (low_bits (bits_of width) dst) (low_bits (bits_of width) src) }
 {
     holds(width, condition, low_bits(width, dst), low_bits(width, src))
 }
 
-#[inline(always)]
 /// Whether the condition holds of two numbers of the width.
-#[tactic(auto, unfolding(crate::specs::Numbers::condition_holds))]
+#[inline(always)]
+#[tactic(auto, unfolding(crate::specs::WholeNumbers::condition_holds))]
 fn holds(width: Width, condition: Condition, a: u64, b: u64) -> bool
     requires first { a < 2 ^ bits_of width }
     requires second { b < 2 ^ bits_of width }

@@ -1,8 +1,8 @@
 //! Operands, at the width of an instruction.
 
 ghost use Rattle.std.specs.Prelude.{◌≡◌, ◌%◌, ◌^◌, ◌<◌};
-ghost use Rattle.rb_alu.specs.Numbers.{low_bits, signed_of};
-ghost use Rattle.rb_alu.specs.Meaning.{bits_of, operand_of};
+ghost use Rattle.rb_alu.specs.WholeNumbers.{low_bits, signed_of};
+ghost use Rattle.rb_alu.specs.ArithmeticAndJumps.{bits_of, operand_of};
 
 use rb_insn::{Operand, Width};
 

@@ -1,12 +1,12 @@
 //! Records through the ring that threads share.
 
 ghost use Rattle.std.specs.Prelude.{◌≡◌, All};
-ghost use Rattle.rb_ledger.specs.Seats.{IsSameSeat, IsSameTaker};
+ghost use Rattle.rb_ledger.specs.Seats.{IsSameSeat, IsSameConsumerSeat};
 
 use crate::fault::BenchFault;
 use crate::one_thread::{FILL, SIZE};
 use rb_history::Taken;
-use rb_ledger::{ConsumerSeat, Patience, Seat, SharedRing, open};
+use rb_ledger::{ConsumerSeat, Seat, SharedRing, WaitBackoff, open};
 use rb_lend::{Lent, Sheet};
 use std::alloc::Global;
 use std::sync::Wait;
@@ -66,13 +66,13 @@ fn run<R: Threads + Wait + Sync>(
     requires seats { All (λ s. s.ring ≡ ring.now.ring) seats.old }
     requires consumer { consumer.old.ring ≡ ring.now.ring }
     ensures seats { All (λ s. s.ring ≡ ring.now.ring) seats.new }
-    ensures consumer { IsSameTaker consumer.old consumer.new }
+    ensures consumer { IsSameConsumerSeat consumer.old consumer.new }
 {
     join_mut(
         rt,
         &mut ||
             requires { consumer.now.ring ≡ ring.now.ring }
-            ensures { IsSameTaker consumer.entry.now consumer.exit.now }
+            ensures { IsSameConsumerSeat consumer.entry.now consumer.exit.now }
         { consume(rt, ring, consumer, want) },
         &mut ||
             requires { All (λ s. s.ring ≡ ring.now.ring) seats.now }
@@ -115,13 +115,13 @@ fn put<R: Wait>(rt: &R, alloc: Global, ring: &SharedRing, seat: &mut Seat)
     ensures { IsSameSeat seat.old seat.new }
 {
     let mut sheet = filled(rt, alloc);
-    let mut patience = Patience::new();
+    let mut backoff = WaitBackoff::new();
     for _ in rt.forever() {
         match ring.output(rt, seat, sheet, 0) {
             Ok(_) => return,
             Err((_, back)) => sheet = back,
         }
-        patience.wait();
+        backoff.wait();
     }
     unreachable!()
 }
@@ -140,16 +140,16 @@ fn filled<R: Wait>(rt: &R, alloc: Global) -> Sheet {
 
 fn consume<R: Wait>(rt: &R, ring: &SharedRing, consumer: &mut ConsumerSeat, want: u64)
     requires { consumer.old.ring ≡ ring.now.ring }
-    ensures { IsSameTaker consumer.old consumer.new }
+    ensures { IsSameConsumerSeat consumer.old consumer.new }
 {
-    let mut patience = Patience::new();
+    let mut backoff = WaitBackoff::new();
     for _ in rt.forever() {
         if consumer.consumed() >= want {
             return;
         }
         match ring.take(rt, consumer) {
-            Ok(Taken::Event(_, _, _, _)) => patience = Patience::new(),
-            _ => patience.wait(),
+            Ok(Taken::Event(_, _, _, _)) => backoff = WaitBackoff::new(),
+            _ => backoff.wait(),
         }
     }
 }

@@ -7,16 +7,16 @@ use Rattle.rb_decode.specs.Program.{units_of, unit_count, slot_at}
 use Rattle.rb_cfg.specs.declared.fault.ShapeFaultKind.{ShapeFaultKind}
 use Rattle.rb_cfg.specs.declared.fault.ShapeFaultKind.TheVariants.{Backward, OutOfProgram, IntoWide, FallsOff, Unreachable, Memory}
 use Rattle.rb_cfg.specs.Edges.{IsReached}
-use Rattle.rb_cfg.specs.Faults.{Stands, HasNoFault}
-use Rattle.rb_cfg.specs.Shape.{Begins, IsWellShaped}
+use Rattle.rb_cfg.specs.ShapeFaults.{HasShapeFault, HasNoFault}
+use Rattle.rb_cfg.specs.Shape.{IsInstructionStart, IsWellShaped}
 
 -- no fault stands at a unit, and it is reached where an instruction begins
 pub record IsFaultless (program : List Insn) (unit : ℕ) : Type 0 where
   pub no_fault : HasNoFault program unit
-  pub reached : Begins program unit → IsReached program unit
+  pub reached : IsInstructionStart program unit → IsReached program unit
 
 -- a fault stands at an instruction alone
-pub stands-begins : (program : List Insn) (unit : ℕ) (kind : ShapeFaultKind) → Stands program unit kind → Begins program unit
+pub stands-begins : (program : List Insn) (unit : ℕ) (kind : ShapeFaultKind) → HasShapeFault program unit kind → IsInstructionStart program unit
 stands-begins program unit Backward fault = (fault.0, fault.1)
 stands-begins program unit OutOfProgram fault = (fault.1.insn, fault.1.begins)
 stands-begins program unit IntoWide fault = (fault.1.insn, fault.1.begins)
@@ -24,7 +24,7 @@ stands-begins program unit FallsOff fault = (fault.1.insn, fault.1.begins)
 stands-begins program unit Unreachable fault = (fault.0, fault.1)
 stands-begins program unit Memory fault = absurd fault
 
-none_begins : (program : List Insn) (unit : ℕ) → slot_at program unit ≡ None → Begins program unit → ⊥
+none_begins : (program : List Insn) (unit : ℕ) → slot_at program unit ≡ None → IsInstructionStart program unit → ⊥
 none_begins program unit none begins = let clash : None ≡ Some begins.0 = sym none ∙ begins.1 in cc
 
 pub faultless_none : (program : List Insn) (unit : ℕ) → slot_at program unit ≡ None → IsFaultless program unit

@@ -6,8 +6,8 @@ use Rattle.std.proofs.lemmas.List.{get_or_past}
 use Rattle.std.proofs.lemmas.List.Elements.{Contains-append_left, Contains-push, Contains-push_cases}
 use Rattle.rb_insn.specs.declared.insn.Insn.{Insn}
 use Rattle.rb_decode.specs.Program.{unit_count, units_of, slot_at}
-use Rattle.rb_cfg.specs.Edges.{Edge, Next, Target, leads, IsReached, start, by_edge}
-use Rattle.rb_cfg.specs.Reach.{IsMarked, unmarked, MarksReached, Marks, TargetsMarked, Search}
+use Rattle.rb_cfg.specs.Edges.{Edge, Next, Target, edge_target, IsReached, start, by_edge}
+use Rattle.rb_cfg.specs.inner.Reach.{IsMarked, unmarked, MarksReached, Marks, TargetsMarked, Search}
 
 marked_inside : (marks : List Bool) (u : ℕ) → IsMarked marks u → u < length marks
 marked_inside marks u m = ⊎_elim (λ lt. lt) (λ le. let e : false ≡ true = sym (get_or_past marks u false le) ∙ m in cc) (cases_lt u (length marks))
@@ -68,7 +68,7 @@ nothing_there {program} {marks} waiting u none h = record {
     no_edge along to e lt = let f : None ≡ Some e.insn = sym none ∙ e.begins in cc
 
 -- the targets of a unit are marked
-pub looked_at : {program : List Insn} {marks m1 m2 : List Bool} {t1 t2 : List ℕ} (waiting : List ℕ) (u : ℕ) (i : Insn) → slot_at program u ≡ Some i → Search program marks (waiting ++ u ∷ []) → Marks (leads u i Next) marks waiting m1 t1 → Marks (leads u i Target) m1 t1 m2 t2 → Search program m2 t2
+pub looked_at : {program : List Insn} {marks m1 m2 : List Bool} {t1 t2 : List ℕ} (waiting : List ℕ) (u : ℕ) (i : Insn) → slot_at program u ≡ Some i → Search program marks (waiting ++ u ∷ []) → Marks (edge_target u i Next) marks waiting m1 t1 → Marks (edge_target u i Target) m1 t1 m2 t2 → Search program m2 t2
 looked_at {program} {marks} {m1} {m2} {t1} {t2} waiting u i at h f g = record {
   count = g.count ∙ f.count ∙ h.count;
   start = λ lt. g.keeps 0 (f.keeps 0 (h.start lt));
@@ -77,10 +77,10 @@ looked_at {program} {marks} {m1} {m2} {t1} {t2} waiting u i at h f g = record {
   closed = λ v m. ⊎_elim (λ a. ⊎_elim (λ b. old v b) (λ b. inl (g.waiting_keeps v b)) (f.fresh v a)) (λ a. inl a) (g.fresh v m);
 }
   where
-    reached : (along : Edge) (v : ℕ) → leads u i along ≡ Some v → IsReached program v
+    reached : (along : Edge) (v : ℕ) → edge_target u i along ≡ Some v → IsReached program v
     reached along v e = by_edge along (h.sound u (h.waiting_marked u (Contains-push waiting u))) (record { insn = i; begins = at; leads_to = e })
 
-    target_marked : (along : Edge) (to : ℕ) → leads u i along ≡ Some to → to < unit_count program → IsMarked m2 to
+    target_marked : (along : Edge) (to : ℕ) → edge_target u i along ≡ Some to → to < unit_count program → IsMarked m2 to
     target_marked Next to e lt = g.keeps to (f.there to e (omega (arith, h.count)))
     target_marked Target to e lt = g.there to e (omega (arith, h.count, f.count))
 
@@ -88,7 +88,7 @@ looked_at {program} {marks} {m1} {m2} {t1} {t2} waiting u i at h f g = record {
     here along to e lt =
         let both : Some e.insn ≡ Some i = sym e.begins ∙ at in
         let same : e.insn ≡ i = cc in
-        target_marked along to (subst (λ x. leads u x along ≡ Some to) same e.leads_to) lt
+        target_marked along to (subst (λ x. edge_target u x along ≡ Some to) same e.leads_to) lt
 
     old : (v : ℕ) → IsMarked marks v → Contains t2 v ⊎ TargetsMarked program m2 v
     old v m = ⊎_elim

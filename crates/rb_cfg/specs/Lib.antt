@@ -1,4 +1,4 @@
 pub mod Edges
-pub mod Faults
-pub mod Reach
+pub mod ShapeFaults
 pub mod Shape
+pub mod inner

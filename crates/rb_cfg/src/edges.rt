@@ -2,17 +2,17 @@
 
 ghost use Rattle.std.specs.Prelude.{◌≡◌, ◌^◌, ◌<◌, IfSome, FitsSigned};
 ghost use Rattle.std.specs.Int.{w32};
-ghost use Rattle.rb_cfg.specs.Edges.{Next, Target, distance_of, leads};
+ghost use Rattle.rb_cfg.specs.Edges.{Next, Target, distance_of, edge_target};
 
 use rb_insn::Insn;
 
 #[inline(always)]
-#[tactic(auto, unfolding(crate::specs::Edges::leads))]
+#[tactic(auto, unfolding(crate::specs::Edges::edge_target))]
 /// The unit behind the instruction at `unit`, where it may go on to it: none for EXIT and for an unconditional jump (RFC 9669,
 /// section 4.3). A wide instruction takes two units. The unit may lie past the end of the program.
 pub fn next_unit(unit: u32, insn: &Insn) -> Option<u32>
     requires { unit < 2 ^ 31 }
-    ensures { result ≡ leads unit insn.now Next }
+    ensures { result ≡ edge_target unit insn.now Next }
 {
     match *insn {
         Insn::Jump { .. } | Insn::JumpFar { .. } | Insn::Exit => None,
@@ -21,12 +21,12 @@ pub fn next_unit(unit: u32, insn: &Insn) -> Option<u32>
 }
 
 #[inline(always)]
-#[tactic(auto, unfolding(crate::specs::Edges::leads))]
+#[tactic(auto, unfolding(crate::specs::Edges::edge_target))]
 /// The unit to which the instruction at `unit` jumps, its unit plus 1 plus the distance (RFC 9669, section 4.3): none where it is
 /// no jump, and none where that number is below 0. The unit may lie past the end of the program.
 pub fn jump_target(unit: u32, insn: &Insn) -> Option<u32>
     requires { unit < 2 ^ 31 }
-    ensures { result ≡ leads unit insn.now Target }
+    ensures { result ≡ edge_target unit insn.now Target }
 {
     let distance = distance(insn)?;
     u32::try_from(i64::from(unit) + 1 + distance).ok()

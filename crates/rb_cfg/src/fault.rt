@@ -3,7 +3,7 @@
 use std::alloc::AllocError;
 use thiserror::Error;
 
-/// What is wrong at an instruction, in the order in which faults of one unit are told.
+/// What is wrong at an instruction, in the order in which faults of one unit are returned.
 #[derive(Clone, Copy, Debug, PartialEq, Eq, Error)]
 pub enum ShapeFaultKind {
     /// It jumps by a distance below 0.
@@ -26,7 +26,7 @@ pub enum ShapeFaultKind {
     Memory,
 }
 
-/// The first fault in the shape of a program: at the lowest unit, and there the first kind. Want of memory is told at unit 0.
+/// The first fault in the shape of a program: at the lowest unit, and there the first kind. Out of memory has unit 0.
 #[derive(Clone, Copy, Debug, PartialEq, Eq, Error)]
 #[error("unit {unit}: {kind}")]
 pub struct ShapeFault {
@@ -38,9 +38,9 @@ pub struct ShapeFault {
 
 impl From<AllocError> for ShapeFault {
     ghost use Rattle.std.specs.Prelude.{◌≡◌};
-    ghost use Rattle.rb_cfg.specs.Faults.{no_memory};
+    ghost use Rattle.rb_cfg.specs.ShapeFaults.{shape_no_memory};
 
-    ghost from_gives = { λ _ fault. fault ≡ no_memory };
+    ghost from_gives = { λ _ fault. fault ≡ shape_no_memory };
 
     fn from(_error: AllocError) -> ShapeFault {
         ShapeFault {

@@ -2,7 +2,7 @@
 
 ghost use Rattle.std.specs.Prelude.{◌≡◌, ◌+◌, ◌*◌, ◌<◌, ◌≤◌, ◌++◌, [], ◌∷◌, length, OnOk, IfOk};
 ghost use Rattle.rb_decode.specs.Program.{unit_count};
-ghost use Rattle.rb_cfg.specs.Reach.{Marks, MarksReached, Search, unmarked};
+ghost use Rattle.rb_cfg.specs.inner.Reach.{Marks, MarksReached, Search, unmarked};
 
 use crate::edges::{jump_target, next_unit};
 use rb_decode::Program;

@@ -9,14 +9,14 @@ use Rattle.std.proofs.Math.Facts.{sfits_to_z}
 use Rattle.rb_insn.specs.declared.insn.Width.TheVariants.{W32, W64}
 use Rattle.rb_insn.specs.declared.insn.Insn.{Insn}
 use Rattle.rb_insn.specs.Units.{units_taken}
-use Rattle.rb_insn.specs.Opcodes.{alu, alu64, source_x, operation, mov_code, division_offset, swap_bits}
-use Rattle.rb_insn.specs.Spelling.{unit, second_unit, bits16, bits32, spelling, Fits, OffsetFits, ImmFits}
+use Rattle.rb_insn.specs.Opcodes.{alu, alu64, source_x, operation_opcode, mov_code, division_offset, swap_bits}
+use Rattle.rb_insn.specs.Spelling.{unit, second_unit, bits16, bits32, spelling, FieldsFit, OffsetFits, ImmFits}
 use Rattle.rb_decode.specs.declared.fields.Fields.{Fields}
 use Rattle.rb_decode.specs.declared.operation.Source.TheVariants.{Immediate, Register}
 use Rattle.rb_decode.specs.declared.operation.Operation.{Operation}
 use Rattle.rb_decode.specs.declared.operation.Operation.TheVariants.{Binary, Division, Negate, Move, Reorder, Branch, Jump, JumpFar, Call, Exit, Wide, Load, LoadSigned, StoreImmediate, StoreRegister}
-use Rattle.rb_decode.specs.Table.{register, one_of, wide_number, wide_map}
-use Rattle.rb_decode.specs.Checks.{is_named_by, row_for, registers_fit, fits_register, fits_unused, reg_at, sign_from, move32_from, move64_from, swap_width_from, insn_from}
+use Rattle.rb_decode.specs.OpcodeTable.{register, one_of, wide_number_row, wide_map_row}
+use Rattle.rb_decode.specs.inner.FieldChecks.{is_named_by, row_for, registers_fit, fits_register, fits_unused, reg_at, sign_from, move32_from, move64_from, swap_width_from, insn_from}
 use Rattle.rb_decode.proofs.Opcodes.{opcode_of}
 use Rattle.rb_decode.proofs.Named.{fields}
 use Rattle.rb_decode.proofs.FirstKinds.{NumbersFit}
@@ -125,9 +125,9 @@ sign_is n h =
     ]
 
 moved32 : (f : Fields) (n : ℕ) → one_of (0 ∷ 8 ∷ 16 ∷ []) n ≡ true
-    → spelling (move32_from (fields f.opcode f.dst f.src n f.imm)) ≡ unit (operation mov_code source_x alu) (reg_at f.dst).number (reg_at f.src).number n 0
+    → spelling (move32_from (fields f.opcode f.dst f.src n f.imm)) ≡ unit (operation_opcode mov_code source_x alu) (reg_at f.dst).number (reg_at f.src).number n 0
 moved32 f n h =
-    let P : ℕ → Type 0 = λ m. spelling (move32_from (fields f.opcode f.dst f.src m f.imm)) ≡ unit (operation mov_code source_x alu) (reg_at f.dst).number (reg_at f.src).number m 0 in
+    let P : ℕ → Type 0 = λ m. spelling (move32_from (fields f.opcode f.dst f.src m f.imm)) ≡ unit (operation_opcode mov_code source_x alu) (reg_at f.dst).number (reg_at f.src).number m 0 in
     elim (first_or_later n 0 (8 ∷ 16 ∷ []) h) [
       | inl e ↦ subst P (sym e) refl
       | inr e ↦ elim (first_or_later n 8 (16 ∷ []) e) [
@@ -137,9 +137,9 @@ moved32 f n h =
     ]
 
 moved64 : (f : Fields) (n : ℕ) → one_of (0 ∷ 8 ∷ 16 ∷ 32 ∷ []) n ≡ true
-    → spelling (move64_from (fields f.opcode f.dst f.src n f.imm)) ≡ unit (operation mov_code source_x alu64) (reg_at f.dst).number (reg_at f.src).number n 0
+    → spelling (move64_from (fields f.opcode f.dst f.src n f.imm)) ≡ unit (operation_opcode mov_code source_x alu64) (reg_at f.dst).number (reg_at f.src).number n 0
 moved64 f n h =
-    let P : ℕ → Type 0 = λ m. spelling (move64_from (fields f.opcode f.dst f.src m f.imm)) ≡ unit (operation mov_code source_x alu64) (reg_at f.dst).number (reg_at f.src).number m 0 in
+    let P : ℕ → Type 0 = λ m. spelling (move64_from (fields f.opcode f.dst f.src m f.imm)) ≡ unit (operation_opcode mov_code source_x alu64) (reg_at f.dst).number (reg_at f.src).number m 0 in
     elim (first_or_later n 0 (8 ∷ 16 ∷ 32 ∷ []) h) [
       | inl e ↦ subst P (sym e) refl
       | inr e ↦ elim (first_or_later n 8 (16 ∷ 32 ∷ []) e) [
@@ -196,13 +196,13 @@ NextFits op f next = Unit {0}
 
 wide_register : (f : Fields) → fits_register (row_for Wide f.src).dst f.dst ≡ true → fits_register register f.dst ≡ true
 wide_register f h =
-    let P : Bool → Type 0 = λ b. fits_register (cond b wide_number wide_map).dst f.dst ≡ true → fits_register register f.dst ≡ true in
+    let P : Bool → Type 0 = λ b. fits_register (cond b wide_number_row wide_map_row).dst f.dst ≡ true → fits_register register f.dst ≡ true in
     let both : (b : Bool) → P b = λ b. elim b as P [ true ↦ λ e. e | false ↦ λ e. e ] in
     both (eqb f.src 0) h
 
 wide_offset : (f : Fields) → fits_unused (row_for Wide f.src).offset f.offset ≡ true → 0 ≡ f.offset
 wide_offset f h =
-    let P : Bool → Type 0 = λ b. fits_unused (cond b wide_number wide_map).offset f.offset ≡ true → 0 ≡ f.offset in
+    let P : Bool → Type 0 = λ b. fits_unused (cond b wide_number_row wide_map_row).offset f.offset ≡ true → 0 ≡ f.offset in
     let both : (b : Bool) → P b = λ b. elim b as P [ true ↦ zero_is f.offset | false ↦ zero_is f.offset ] in
     both (eqb f.src 0) h
 
@@ -259,7 +259,7 @@ insn_from-spelled (StoreRegister size) f next c n =
 
 -- ---- its units, and the ranges of its numbers
 
-either_fits : (b : Bool) (x y : Insn) → Fits x → Fits y → Fits (cond b x y)
+either_fits : (b : Bool) (x y : Insn) → FieldsFit x → FieldsFit y → FieldsFit (cond b x y)
 either_fits true x y fx fy = fx
 either_fits false x y fx fy = fy
 
@@ -279,10 +279,10 @@ insn_from-units (Move w Immediate) f next = refl
 insn_from-units Wide f next = either_units (eqb f.src 0) _ _ 2 refl refl
 insn_from-units op f next = refl
 
-fitting : (i : Insn) → OffsetFits i → ImmFits i → Fits i
+fitting : (i : Insn) → OffsetFits i → ImmFits i → FieldsFit i
 fitting i o m = record { offset = o; imm = m }
 
-pub insn_from-fits : (op : Operation) (f : Fields) (next : ℕ) → IsInRange f → next < 2 ^ 32 → Fits (insn_from op f next)
+pub insn_from-fits : (op : Operation) (f : Fields) (next : ℕ) → IsInRange f → next < 2 ^ 32 → FieldsFit (insn_from op f next)
 insn_from-fits (Binary w op Immediate) f next range n = fitting _ tt (signed32-fits f.imm range.imm)
 insn_from-fits (Binary w op Register) f next range n = fitting _ tt tt
 insn_from-fits (Division w op Immediate) f next range n = fitting _ tt (signed32-fits f.imm range.imm)

@@ -2,7 +2,7 @@
 use Rattle.std.proofs.Common.{◌≡◌, ℕ, ◌+◌, ◌*◌, ◌/◌, ◌%◌, ◌<◌, ◌≤◌, List, [], ◌∷◌, ◌++◌, length, take, drop, get_or, sym, ap, ◌∙◌, arith}
 use Rattle.byteorder.specs.Endian.{little_bytes}
 use Rattle.rb_insn.specs.Spelling.{second_unit}
-use Rattle.rb_decode.specs.Fields.{fields_at, next_imm_at}
+use Rattle.rb_decode.specs.UnitFields.{fields_at, next_imm_at}
 use Rattle.rb_decode.proofs.Building.{unit_of}
 
 abbrev pub IsBytes : List ℕ → Type 0

@@ -10,16 +10,16 @@ use Rattle.std.proofs.lemmas.List.Concat.{flat_map-cons}
 use Rattle.std.proofs.lemmas.Grind.{flat_map-append}
 use Rattle.rb_insn.specs.declared.insn.Insn.{Insn}
 use Rattle.rb_insn.specs.Units.{units_taken}
-use Rattle.rb_insn.specs.Spelling.{spelling, Fits, Spells, SpellsAll}
+use Rattle.rb_insn.specs.Spelling.{spelling, FieldsFit, Spells, SpellsAll}
 use Rattle.rb_insn.proofs.Laws.{length-spelling, fronts, one_list_spells}
 use Rattle.rb_decode.specs.declared.fault.DecodeKind.{DecodeKind}
 use Rattle.rb_decode.specs.declared.fault.DecodeKind.TheVariants.{Length, TooLong, LeftOut, BadOpcode, BadRegister, UnusedField, HalfWide, Memory}
 use Rattle.rb_decode.specs.declared.fault.DecodeFault.{DecodeFault}
-use Rattle.rb_decode.specs.Faults.{Stands, number, IsFirstKind}
-use Rattle.rb_decode.specs.FirstFault.{no_memory, HasBadLength, IsTooLong, IsFaultAt, IsFirstFaultOf, IsFirstFault}
+use Rattle.rb_decode.specs.DecodeFaults.{HasDecodeFault, kind_order, IsFirstKind}
+use Rattle.rb_decode.specs.FirstDecodeFault.{decode_no_memory, HasBadLength, HasTooManyUnits, IsFaultAt, IsFirstFaultAt, IsFirstDecodeFault}
 use Rattle.rb_decode.specs.Program.{unit_count, IsProgram}
-use Rattle.rb_decode.specs.Units.{insns_in, insns_kept, kept_units}
-use Rattle.rb_decode.specs.Decoded.{IsDecoded}
+use Rattle.rb_decode.specs.DecodedUnits.{insns_in, insns_kept, kept_units}
+use Rattle.rb_decode.specs.inner.Decoded.{IsDecoded}
 use Rattle.rb_decode.proofs.Laws.{unit_count-append, unit_count-cons}
 use Rattle.rb_decode.proofs.Kept.{insns_in-append, kept_units-append, insns_kept-kept, length-kept_units}
 use Rattle.rb_decode.proofs.Spelled.{no_fault-spelling}
@@ -33,7 +33,7 @@ length-spelled (insn ∷ insns) =
     ap length (flat_map-cons spelling insn insns)
     ∙ omega (arith, length-append (spelling insn) (flat_map spelling insns), length-spelling insn, length-spelled insns, unit_count-cons insn insns)
 
-fit-append : (front back : List Insn) → AllByRecursion Fits front → AllByRecursion Fits back → AllByRecursion Fits (front ++ back)
+fit-append : (front back : List Insn) → AllByRecursion FieldsFit front → AllByRecursion FieldsFit back → AllByRecursion FieldsFit (front ++ back)
 fit-append [] back f b = b
 fit-append (insn ∷ front) back f b = (f.0, fit-append front back f.1 b)
 
@@ -70,20 +70,20 @@ decoded_more bytes units insn decoded room spells =
 
 -- ---- the first fault
 
-no_spelling : (kind : DecodeKind) (rest : List ℕ) → Stands kind rest → (insn : Insn) (s p : List ℕ) → Spells insn s → rest ≡ s ++ p → ⊥
+no_spelling : (kind : DecodeKind) (rest : List ℕ) → HasDecodeFault kind rest → (insn : Insn) (s p : List ℕ) → Spells insn s → rest ≡ s ++ p → ⊥
 no_spelling kind rest stands insn s p spells e =
     let at : rest ≡ spelling insn ++ p = e ∙ ap (λ (l : List ℕ). l ++ p) spells.bytes_are in
-    no_fault-spelling insn p spells.fits kind (subst (λ (l : List ℕ). Stands kind l) at stands)
+    no_fault-spelling insn p spells.fits kind (subst (λ (l : List ℕ). HasDecodeFault kind l) at stands)
 
 -- a fault at a unit is of a kind that stands at units
-at_unit : (bytes : List ℕ) (unit : ℕ) (kind : DecodeKind) → IsFaultAt bytes unit kind → (HasBadLength bytes → ⊥) → (IsTooLong bytes → ⊥) → IsFirstFaultOf bytes unit kind
+at_unit : (bytes : List ℕ) (unit : ℕ) (kind : DecodeKind) → IsFaultAt bytes unit kind → (HasBadLength bytes → ⊥) → (HasTooManyUnits bytes → ⊥) → IsFirstFaultAt bytes unit kind
 at_unit bytes unit Length fault length_fits not_long = absurd fault.first.stands
 at_unit bytes unit TooLong fault length_fits not_long = absurd fault.first.stands
 at_unit bytes unit Memory fault length_fits not_long = absurd fault.first.stands
 at_unit bytes unit kind fault length_fits not_long = (fault, length_fits, not_long)
 
 pub fault_here : (bytes : List ℕ) (units : List Insn) (kind : DecodeKind) → IsDecoded bytes units → 8 * length units < length bytes
-    → (HasBadLength bytes → ⊥) → (IsTooLong bytes → ⊥) → IsFirstKind kind (drop (8 * length units) bytes) → IsFirstFaultOf bytes (length units) kind
+    → (HasBadLength bytes → ⊥) → (HasTooManyUnits bytes → ⊥) → IsFirstKind kind (drop (8 * length units) bytes) → IsFirstFaultAt bytes (length units) kind
 fault_here bytes units kind decoded more length_fits not_long first =
     at_unit bytes (length units) kind (record {
       within = more;
@@ -95,7 +95,7 @@ fault_here bytes units kind decoded more length_fits not_long first =
 
 -- ---- a program and a fault exclude each other
 
-bytes_of_program : (program : List Insn) (bytes : List ℕ) → IsProgram program → SpellsAll program bytes → (HasBadLength bytes → ⊥) × (IsTooLong bytes → ⊥)
+bytes_of_program : (program : List Insn) (bytes : List ℕ) → IsProgram program → SpellsAll program bytes → (HasBadLength bytes → ⊥) × (HasTooManyUnits bytes → ⊥)
 bytes_of_program program bytes bounds spells =
     let count : length bytes ≡ 8 * unit_count program = ap length spells.bytes_are ∙ length-spelled program in
     let low = bounds.not_empty in
@@ -107,7 +107,7 @@ bytes_of_program program bytes bounds spells =
       λ long. absurd (omega arith),
     )
 
-fits_behind : (front back : List Insn) → AllByRecursion Fits (front ++ back) → AllByRecursion Fits back
+fits_behind : (front back : List Insn) → AllByRecursion FieldsFit (front ++ back) → AllByRecursion FieldsFit back
 fits_behind [] back f = f
 fits_behind (insn ∷ front) back f = fits_behind front back f.1
 
@@ -122,7 +122,7 @@ unit_is bytes unit kind fault =
 
 -- no instruction is spelled behind the front
 nothing_behind : (bytes : List ℕ) (unit : ℕ) (kind : DecodeKind) (fault : IsFaultAt bytes unit kind) (more : List Insn) (rest : List ℕ)
-    → AllByRecursion Fits more → bytes ≡ flat_map spelling (fault.front ++ more) ++ rest → more ≡ []
+    → AllByRecursion FieldsFit more → bytes ≡ flat_map spelling (fault.front ++ more) ++ rest → more ≡ []
 nothing_behind bytes unit kind fault [] rest fits e = refl
 nothing_behind bytes unit kind fault (insn ∷ more) rest fits e =
     let regrouped : flat_map spelling (fault.front ++ insn ∷ more) ++ rest ≡ flat_map spelling fault.front ++ (spelling insn ++ (flat_map spelling more ++ rest)) =
@@ -136,12 +136,12 @@ nothing_behind bytes unit kind fault (insn ∷ more) rest fits e =
 
 -- a list of instructions that begins the bytes is a beginning of the front
 front_begins : (bytes : List ℕ) (unit : ℕ) (kind : DecodeKind) (fault : IsFaultAt bytes unit kind) (insns : List Insn) (rest : List ℕ)
-    → AllByRecursion Fits insns → bytes ≡ flat_map spelling insns ++ rest → (more : List Insn) × (fault.front ≡ insns ++ more)
+    → AllByRecursion FieldsFit insns → bytes ≡ flat_map spelling insns ++ rest → (more : List Insn) × (fault.front ≡ insns ++ more)
 front_begins bytes unit kind fault insns rest fits e =
     elim (fronts fault.front insns (drop (8 * unit) bytes) rest fault.spelled.fit fits (sym (cut bytes unit kind fault) ∙ e)) [
       | inl f ↦
           let longer : insns ≡ fault.front ++ f.0 = f.1 in
-          let fit : AllByRecursion Fits (fault.front ++ f.0) = subst (AllByRecursion Fits) longer fits in
+          let fit : AllByRecursion FieldsFit (fault.front ++ f.0) = subst (AllByRecursion FieldsFit) longer fits in
           let none : f.0 ≡ [] = nothing_behind bytes unit kind fault f.0 rest (fits_behind fault.front f.0 fit) (e ∙ ap (λ (l : List Insn). flat_map spelling l ++ rest) longer) in
           ([], sym (ap (λ (l : List Insn). l ++ []) (longer ∙ ap (λ (l : List Insn). fault.front ++ l) none ∙ append-nil fault.front) ∙ append-nil fault.front))
       | inr f ↦ (f.0, f.1)
@@ -159,22 +159,22 @@ not_at_unit program bytes unit kind spells fault =
 pub record IsBehindFront (bytes : List ℕ) (unit : ℕ) (kind : DecodeKind) : Type 0 where
   pub fault : IsFaultAt bytes unit kind
   pub length_fits : HasBadLength bytes → ⊥
-  pub not_long : IsTooLong bytes → ⊥
+  pub not_long : HasTooManyUnits bytes → ⊥
 
 abbrev IsLength : List ℕ → ℕ → DecodeKind → Type 0
 IsLength bytes unit kind = (kind ≡ Length) × (unit ≡ 0) × HasBadLength bytes
 
 abbrev IsLong : List ℕ → ℕ → DecodeKind → Type 0
-IsLong bytes unit kind = (kind ≡ TooLong) × (unit ≡ 4096) × IsTooLong bytes × (HasBadLength bytes → ⊥)
+IsLong bytes unit kind = (kind ≡ TooLong) × (unit ≡ 4096) × HasTooManyUnits bytes × (HasBadLength bytes → ⊥)
 
-one_of_three : (bytes : List ℕ) (unit : ℕ) (kind : DecodeKind) → IsFirstFaultOf bytes unit kind → IsLength bytes unit kind ⊎ (IsLong bytes unit kind ⊎ IsBehindFront bytes unit kind)
+one_of_three : (bytes : List ℕ) (unit : ℕ) (kind : DecodeKind) → IsFirstFaultAt bytes unit kind → IsLength bytes unit kind ⊎ (IsLong bytes unit kind ⊎ IsBehindFront bytes unit kind)
 one_of_three bytes unit Length first = inl (refl, first.0, first.1)
 one_of_three bytes unit TooLong first = inr (inl (refl, first.0, first.1, first.2))
 one_of_three bytes unit Memory first = absurd first
 one_of_three bytes unit kind first = inr (inr (record { fault = first.0; length_fits = first.1; not_long = first.2 }))
 
 -- bytes that spell a program have no fault
-pub spelled_no_fault : (program : List Insn) (bytes : List ℕ) (fault : DecodeFault) → IsProgram program → SpellsAll program bytes → IsFirstFault bytes fault → ⊥
+pub spelled_no_fault : (program : List Insn) (bytes : List ℕ) (fault : DecodeFault) → IsProgram program → SpellsAll program bytes → IsFirstDecodeFault bytes fault → ⊥
 spelled_no_fault program bytes fault bounds spells first =
     let fine = bytes_of_program program bytes bounds spells in
     elim (one_of_three bytes fault.unit fault.kind first) [
@@ -191,18 +191,18 @@ abbrev kind_of : ℕ → DecodeKind
 kind_of n =
     cond (eqb n 1) Length (cond (eqb n 2) TooLong (cond (eqb n 3) LeftOut (cond (eqb n 4) BadOpcode (cond (eqb n 5) BadRegister (cond (eqb n 6) UnusedField (cond (eqb n 7) HalfWide Memory))))))
 
-kind_of-number : (kind : DecodeKind) → kind_of (number kind) ≡ kind
+kind_of-number : (kind : DecodeKind) → kind_of (kind_order kind) ≡ kind
 kind_of-number Length = refl
 kind_of-number kind = refl
 
 one_first_kind : (bytes : List ℕ) (k l : DecodeKind) → IsFirstKind k bytes → IsFirstKind l bytes → k ≡ l
 one_first_kind bytes k l first second =
-    elim (cases_lt (number k) (number l)) [
+    elim (cases_lt (kind_order k) (kind_order l)) [
       | inl below ↦ absurd (second.first k below first.stands)
-      | inr above ↦ elim (cases_lt (number l) (number k)) [
+      | inr above ↦ elim (cases_lt (kind_order l) (kind_order k)) [
         | inl below ↦ absurd (first.first l below second.stands)
         | inr same ↦
-            let e : number k ≡ number l = omega arith in
+            let e : kind_order k ≡ kind_order l = omega arith in
             sym (kind_of-number k) ∙ ap kind_of e ∙ kind_of-number l
       ]
     ]
@@ -222,7 +222,7 @@ same_fault f g u k =
     ∙ ap (λ (l : DecodeKind). (let fault : DecodeFault = record { unit = g.unit; kind = l } in fault)) k
 
 -- bytes have one first fault at most
-pub one_first_fault : (bytes : List ℕ) (f g : DecodeFault) → IsFirstFault bytes f → IsFirstFault bytes g → f ≡ g
+pub one_first_fault : (bytes : List ℕ) (f g : DecodeFault) → IsFirstDecodeFault bytes f → IsFirstDecodeFault bytes g → f ≡ g
 one_first_fault bytes f g first second =
     elim (one_of_three bytes f.unit f.kind first) [
       | inl a ↦ elim (one_of_three bytes g.unit g.kind second) [
@@ -260,10 +260,10 @@ rest_of n bytes = take_all (length bytes - n) (drop n bytes) (omega (arith, leng
 pub record IsAnswer (bytes : List ℕ) (answer : Result (List Insn) DecodeFault) : Type 0 where
   pub bounds : IfOk answer IsProgram
   pub spelled : IfOk answer (λ program. SpellsAll program bytes)
-  pub fault : IfErr answer (λ fault. (fault ≡ no_memory) ⊎ IsFirstFault bytes fault)
+  pub fault : IfErr answer (λ fault. (fault ≡ decode_no_memory) ⊎ IsFirstDecodeFault bytes fault)
 
 pub only_program : (bytes : List ℕ) (answer : Result (List Insn) DecodeFault) → IsAnswer bytes answer → (program : List Insn) → IsProgram program → SpellsAll program bytes
-    → (answer ≡ Ok program) ⊎ (answer ≡ Err no_memory)
+    → (answer ≡ Ok program) ⊎ (answer ≡ Err decode_no_memory)
 only_program bytes (Ok found) is program bounds spells = inl (ap Ok (one_list_spells found program bytes is.spelled spells))
 only_program bytes (Err fault) is program bounds spells =
     elim is.fault [
@@ -271,8 +271,8 @@ only_program bytes (Err fault) is program bounds spells =
       | inr first ↦ absurd (spelled_no_fault program bytes fault bounds spells first)
     ]
 
-pub only_fault : (bytes : List ℕ) (answer : Result (List Insn) DecodeFault) → IsAnswer bytes answer → (fault : DecodeFault) → IsFirstFault bytes fault
-    → (answer ≡ Err fault) ⊎ (answer ≡ Err no_memory)
+pub only_fault : (bytes : List ℕ) (answer : Result (List Insn) DecodeFault) → IsAnswer bytes answer → (fault : DecodeFault) → IsFirstDecodeFault bytes fault
+    → (answer ≡ Err fault) ⊎ (answer ≡ Err decode_no_memory)
 only_fault bytes (Ok found) is fault first = absurd (spelled_no_fault found bytes fault is.bounds is.spelled first)
 only_fault bytes (Err found) is fault first =
     elim is.fault [

@@ -5,10 +5,10 @@ use Rattle.std.proofs.lemmas.Bool.{leb-false, leb-true}
 use Rattle.rb_decode.specs.declared.fields.Fields.{Fields}
 use Rattle.rb_decode.specs.declared.fault.DecodeKind.{DecodeKind}
 use Rattle.rb_decode.specs.declared.fault.DecodeKind.TheVariants.{Length, TooLong, LeftOut, BadOpcode, BadRegister, UnusedField, HalfWide, Memory}
-use Rattle.rb_decode.specs.Fields.{fields_at}
-use Rattle.rb_decode.specs.Table.{Allowed, register, any, only, named, Row, row_of}
-use Rattle.rb_decode.specs.Faults.{is_left_out, IsBadRegister, HasBadRegister, IsRefused, HasBadSecondUnit, HasUnusedField, Stands, number, IsFirstKind}
-use Rattle.rb_decode.specs.Checks.{fits_register, fits_unused, registers_fit, numbers_fit}
+use Rattle.rb_decode.specs.UnitFields.{fields_at}
+use Rattle.rb_decode.specs.OpcodeTable.{Allowed, register, any, only, named, Row, row_of}
+use Rattle.rb_decode.specs.DecodeFaults.{is_left_out, IsBadRegister, HasBadRegister, IsNotAllowed, HasBadSecondUnit, HasUnusedField, HasDecodeFault, kind_order, IsFirstKind}
+use Rattle.rb_decode.specs.inner.FieldChecks.{fits_register, fits_unused, registers_fit, numbers_fit}
 
 -- ---- registers
 
@@ -45,13 +45,13 @@ has_no_bad_register r f h (inr bad) = good_register r.src f.src (and_true (fits_
 
 -- ---- other fields
 
-refused : (a : Allowed) (n : ℕ) → fits_unused a n ≡ false → IsRefused a n
+refused : (a : Allowed) (n : ℕ) → fits_unused a n ≡ false → IsNotAllowed a n
 refused register n h = absurd cc
 refused any n h = absurd cc
 refused (only numbers) n h = h
 refused (named numbers) n h = absurd cc
 
-not_refused : (a : Allowed) (n : ℕ) → fits_unused a n ≡ true → IsRefused a n → ⊥
+not_refused : (a : Allowed) (n : ℕ) → fits_unused a n ≡ true → IsNotAllowed a n → ⊥
 not_refused register n h bad = bad
 not_refused any n h bad = bad
 not_refused (only numbers) n h bad = absurd cc
@@ -107,7 +107,7 @@ at_row o r P e p = subst (λ (x : Option Row). IsSomeAnd x P) (sym e) p
 of_row : (o : Option Row) (r : Row) (P : Row → Type 0) → o ≡ Some r → IsSomeAnd o P → P r
 of_row o r P e p = subst (λ (x : Option Row). IsSomeAnd x P) e p
 
-before_left_out : (bytes : List ℕ) (other : DecodeKind) → number other < number LeftOut → Stands other bytes → ⊥
+before_left_out : (bytes : List ℕ) (other : DecodeKind) → kind_order other < kind_order LeftOut → HasDecodeFault other bytes → ⊥
 before_left_out bytes Length h stands = stands
 before_left_out bytes TooLong h stands = stands
 before_left_out bytes Memory h stands = stands
@@ -116,7 +116,7 @@ before_left_out bytes other h stands = absurd (omega arith)
 pub first_left_out : (bytes : List ℕ) → is_left_out (fields_at bytes) ≡ true → IsFirstKind LeftOut bytes
 first_left_out bytes h = record { stands = h; first = before_left_out bytes }
 
-before_bad_opcode : (bytes : List ℕ) → is_left_out (fields_at bytes) ≡ false → (other : DecodeKind) → number other < number BadOpcode → Stands other bytes → ⊥
+before_bad_opcode : (bytes : List ℕ) → is_left_out (fields_at bytes) ≡ false → (other : DecodeKind) → kind_order other < kind_order BadOpcode → HasDecodeFault other bytes → ⊥
 before_bad_opcode bytes kept LeftOut h stands = left (is_left_out (fields_at bytes)) kept stands
 before_bad_opcode bytes kept Length h stands = stands
 before_bad_opcode bytes kept TooLong h stands = stands
@@ -134,7 +134,7 @@ pub record InRow (r : Row) (bytes : List ℕ) : Type 0 where
 no_row : (o : Option Row) (r : Row) → o ≡ Some r → o ≡ None → ⊥
 no_row o r e n = absurd cc
 
-before_bad_register : (r : Row) (bytes : List ℕ) → InRow r bytes → (other : DecodeKind) → number other < number BadRegister → Stands other bytes → ⊥
+before_bad_register : (r : Row) (bytes : List ℕ) → InRow r bytes → (other : DecodeKind) → kind_order other < kind_order BadRegister → HasDecodeFault other bytes → ⊥
 before_bad_register r bytes in_row LeftOut h stands = left (is_left_out (fields_at bytes)) in_row.kept stands
 before_bad_register r bytes in_row BadOpcode h stands = no_row (row_of (fields_at bytes)) r in_row.row stands
 before_bad_register r bytes in_row Length h stands = stands
@@ -148,7 +148,7 @@ first_bad_register r bytes in_row bad = record {
   first = before_bad_register r bytes in_row;
 }
 
-before_unused : (r : Row) (bytes : List ℕ) → InRow r bytes → (HasBadRegister r (fields_at bytes) → ⊥) → (other : DecodeKind) → number other < number UnusedField → Stands other bytes → ⊥
+before_unused : (r : Row) (bytes : List ℕ) → InRow r bytes → (HasBadRegister r (fields_at bytes) → ⊥) → (other : DecodeKind) → kind_order other < kind_order UnusedField → HasDecodeFault other bytes → ⊥
 before_unused r bytes in_row good LeftOut h stands = left (is_left_out (fields_at bytes)) in_row.kept stands
 before_unused r bytes in_row good BadOpcode h stands = no_row (row_of (fields_at bytes)) r in_row.row stands
 before_unused r bytes in_row good BadRegister h stands = good (of_row (row_of (fields_at bytes)) r (λ row. HasBadRegister row (fields_at bytes)) in_row.row stands)
@@ -165,7 +165,7 @@ first_unused r bytes in_row good bad = record {
 
 -- no fault stands but that a second unit may be missing
 pub none_but_half : (r : Row) (bytes : List ℕ) → InRow r bytes → (HasBadRegister r (fields_at bytes) → ⊥) → (HasUnusedField r bytes → ⊥)
-    → (other : DecodeKind) → (other ≡ HalfWide → ⊥) → Stands other bytes → ⊥
+    → (other : DecodeKind) → (other ≡ HalfWide → ⊥) → HasDecodeFault other bytes → ⊥
 none_but_half r bytes in_row good used LeftOut h stands = left (is_left_out (fields_at bytes)) in_row.kept stands
 none_but_half r bytes in_row good used BadOpcode h stands = no_row (row_of (fields_at bytes)) r in_row.row stands
 none_but_half r bytes in_row good used BadRegister h stands = good (of_row (row_of (fields_at bytes)) r (λ row. HasBadRegister row (fields_at bytes)) in_row.row stands)
@@ -175,8 +175,8 @@ none_but_half r bytes in_row good used Length h stands = stands
 none_but_half r bytes in_row good used TooLong h stands = stands
 none_but_half r bytes in_row good used Memory h stands = stands
 
-before_half : (other : DecodeKind) → number other < number HalfWide → other ≡ HalfWide → ⊥
-before_half other h e = let same = ap number e in absurd (omega arith)
+before_half : (other : DecodeKind) → kind_order other < kind_order HalfWide → other ≡ HalfWide → ⊥
+before_half other h e = let same = ap kind_order e in absurd (omega arith)
 
 pub first_half : (r : Row) (bytes : List ℕ) → InRow r bytes → (HasBadRegister r (fields_at bytes) → ⊥) → (HasUnusedField r bytes → ⊥)
     → IsSome r.next → length bytes < 16 → IsFirstKind HalfWide bytes
@@ -191,12 +191,12 @@ half_or_other other = inr (λ e. absurd cc)
 
 -- no fault stands at a unit that keeps the rules of its row
 pub no_kind : (r : Row) (bytes : List ℕ) → InRow r bytes → (HasBadRegister r (fields_at bytes) → ⊥) → (HasUnusedField r bytes → ⊥)
-    → (IsSome r.next → 16 ≤ length bytes) → (kind : DecodeKind) → Stands kind bytes → ⊥
+    → (IsSome r.next → 16 ≤ length bytes) → (kind : DecodeKind) → HasDecodeFault kind bytes → ⊥
 no_kind r bytes in_row good used whole kind stands =
     elim (half_or_other kind) [
       | inl e ↦
-          let P : DecodeKind → Type 0 = λ k. Stands k bytes in
-          let half : Stands HalfWide bytes = subst P e stands in
+          let P : DecodeKind → Type 0 = λ k. HasDecodeFault k bytes in
+          let half : HasDecodeFault HalfWide bytes = subst P e stands in
           let both = of_row (row_of (fields_at bytes)) r (λ row. IsSome row.next × (length bytes < 16)) in_row.row half in
           let long : 16 ≤ length bytes = whole both.0 in
           let short : length bytes < 16 = both.1 in

@@ -7,7 +7,7 @@ use Rattle.std.proofs.Math.Seq.{take-add}
 use Rattle.byteorder.specs.Numbers.{little_from-lt}
 use Rattle.rb_insn.specs.declared.insn.Insn.{Insn}
 use Rattle.rb_insn.specs.Units.{units_taken}
-use Rattle.rb_insn.specs.Spelling.{second_unit, spelling, Fits, Spells}
+use Rattle.rb_insn.specs.Spelling.{second_unit, spelling, FieldsFit, Spells}
 use Rattle.rb_decode.specs.declared.fields.Fields.{Fields}
 use Rattle.rb_decode.specs.declared.fault.DecodeKind.{DecodeKind}
 use Rattle.rb_decode.specs.declared.fault.DecodeKind.TheVariants.{BadOpcode, BadRegister, UnusedField, HalfWide}
@@ -15,13 +15,13 @@ use Rattle.rb_decode.specs.declared.operation.Operation.{Operation}
 use Rattle.rb_decode.specs.declared.operation.Operation.TheVariants.{Binary, Division, Move, Branch, Wide}
 use Rattle.rb_decode.specs.declared.operation.Source.TheVariants.{Immediate, Register}
 use Rattle.rb_insn.specs.declared.insn.Width.TheVariants.{W32, W64}
-use Rattle.rb_decode.specs.Fields.{fields_at, next_imm_at}
-use Rattle.rb_decode.specs.Table.{Row, wide_number, wide_map}
-use Rattle.rb_decode.specs.Table.{zero as zero_only}
-use Rattle.rb_decode.specs.Faults.{is_left_out, IsRefused, HasBadSecondUnit, IsFirstKind}
-use Rattle.rb_decode.specs.Operations.{operation_at}
-use Rattle.rb_decode.specs.Checks.{is_named_by, row_for, registers_fit, numbers_fit, insn_from}
-use Rattle.rb_decode.specs.SecondUnit.{has_zeros, IsSecondUnit, IsBadSecond, IsSecondFault}
+use Rattle.rb_decode.specs.UnitFields.{fields_at, next_imm_at}
+use Rattle.rb_decode.specs.OpcodeTable.{Row, wide_number_row, wide_map_row}
+use Rattle.rb_decode.specs.OpcodeTable.{unused as zero_only}
+use Rattle.rb_decode.specs.DecodeFaults.{is_left_out, IsNotAllowed, HasBadSecondUnit, IsFirstKind}
+use Rattle.rb_decode.specs.inner.Operations.{operation_at}
+use Rattle.rb_decode.specs.inner.FieldChecks.{is_named_by, row_for, registers_fit, numbers_fit, insn_from}
+use Rattle.rb_decode.specs.inner.SecondUnit.{has_zeros, IsSecondUnit, IsBadSecond, IsSecondFault}
 use Rattle.rb_decode.proofs.Opcodes.{opcode_of, operation_at-some, row_of-unlisted}
 use Rattle.rb_decode.proofs.Named.{row_of-named, row_of-unnamed}
 use Rattle.rb_decode.proofs.FirstKinds.{InRow, numbers_fit-each, has_bad_register, has_no_bad_register, has_unused, has_no_unused, first_bad_opcode, first_bad_register, first_unused, first_half}
@@ -77,7 +77,7 @@ not_zero : (b : Bool) → (b ≡ true → ⊥) → (b || false) ≡ false
 not_zero true h = absurd (h refl)
 not_zero false h = refl
 
-refused_zero : (n : ℕ) → n ≢ 0 → IsRefused zero_only n
+refused_zero : (n : ℕ) → n ≢ 0 → IsNotAllowed zero_only n
 refused_zero n h = not_zero (eqb n 0) (λ e. h (eqb-true n 0 e))
 
 only_wide : (op : Operation) (src : ℕ) → is_some (row_for op src).next ≡ true → op ≡ Wide
@@ -93,7 +93,7 @@ only_wide (Branch w c Immediate) src h = absurd cc
 only_wide (Branch w c Register) src h = absurd cc
 only_wide op src h = absurd cc
 
-wide_next : (b : Bool) → is_some (cond b wide_number wide_map).next ≡ true
+wide_next : (b : Bool) → is_some (cond b wide_number_row wide_map_row).next ≡ true
 wide_next true = refl
 wide_next false = refl
 
@@ -147,7 +147,7 @@ nonzero bytes h =
     ]
 
 -- what a byte or the next immediate of a second unit says of the row
-bad_second : (b : Bool) (bytes : List ℕ) (src : ℕ) → eqb src 0 ≡ b → IsBadSecond bytes src → IsSomeAnd (cond b wide_number wide_map).next (λ next. HasBadSecondUnit next bytes)
+bad_second : (b : Bool) (bytes : List ℕ) (src : ℕ) → eqb src 0 ≡ b → IsBadSecond bytes src → IsSomeAnd (cond b wide_number_row wide_map_row).next (λ next. HasBadSecondUnit next bytes)
 bad_second true bytes src e (inl bad) = inl (nonzero bytes bad)
 bad_second true bytes src e (inr bad) = absurd (bad.0 (eqb-true src 0 e))
 bad_second false bytes src e (inl bad) = inl (nonzero bytes bad)
@@ -157,7 +157,7 @@ second_zeros : (bytes : List ℕ) (src next : ℕ) → IsSecondUnit bytes src ne
 second_zeros bytes src next second bad = let z = are_zeros bytes second.zeros in zeros bytes z.eighth z.ninth z.tenth z.eleventh bad
 
 good_second : (b : Bool) (bytes : List ℕ) (src next : ℕ) → eqb src 0 ≡ b → IsSecondUnit bytes src next
-    → IsSomeAnd (cond b wide_number wide_map).next (λ row. HasBadSecondUnit row bytes) → ⊥
+    → IsSomeAnd (cond b wide_number_row wide_map_row).next (λ row. HasBadSecondUnit row bytes) → ⊥
 good_second true bytes src next e second (inl bad) = second_zeros bytes src next second bad
 good_second true bytes src next e second (inr bad) = bad
 good_second false bytes src next e second (inl bad) = second_zeros bytes src next second bad
@@ -213,7 +213,7 @@ next_fits-zero Wide f = λ e. refl
 next_fits-zero op f = tt
 
 -- what spells an instruction of so many units
-spelled : (insn : Insn) (units : ℕ) (bytes : List ℕ) → Fits insn → units_taken insn ≡ units → spelling insn ≡ take (8 * units) bytes → Spells insn (take (8 * units_taken insn) bytes)
+spelled : (insn : Insn) (units : ℕ) (bytes : List ℕ) → FieldsFit insn → units_taken insn ≡ units → spelling insn ≡ take (8 * units) bytes → Spells insn (take (8 * units_taken insn) bytes)
 spelled insn units bytes fits taken e = record {
   fits = fits;
   bytes_are = ap (λ (n : ℕ). take (8 * n) bytes) taken ∙ sym e;

@@ -10,7 +10,8 @@ use Rattle.rb_insn.specs.declared.insn.Insn.{Insn}
 use Rattle.rb_insn.specs.declared.insn.Insn.TheVariants.{Exit}
 use Rattle.rb_insn.specs.Units.{units_taken}
 use Rattle.rb_decode.specs.Program.{units_of, unit_count, slot_at}
-use Rattle.rb_decode.specs.Units.{kept_units, slots_behind, insns_in, insns_kept, is_behind_wide}
+use Rattle.rb_decode.specs.DecodedUnits.{kept_units, slots_behind, insns_in, insns_kept}
+use Rattle.rb_decode.specs.inner.WideUnits.{is_behind_wide}
 use Rattle.rb_decode.proofs.Laws.{units_taken-one_or_two, units_of-narrow, units_of-wide}
 
 pub insns_in-append : (front back : List (Option Insn)) → insns_in (front ++ back) ≡ insns_in front ++ insns_in back

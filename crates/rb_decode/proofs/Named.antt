@@ -20,9 +20,9 @@ use Rattle.rb_decode.specs.declared.operation.Source.{Source}
 use Rattle.rb_decode.specs.declared.operation.Source.TheVariants.{Immediate, Register}
 use Rattle.rb_decode.specs.declared.operation.Operation.{Operation}
 use Rattle.rb_decode.specs.declared.operation.Operation.TheVariants.{Binary, Division, Negate, Move, Reorder, Branch, Jump, JumpFar, Call, Exit, Wide, Load, LoadSigned, StoreImmediate, StoreRegister}
-use Rattle.rb_decode.specs.Table.{Row, one_of, row_of, byte_swap, call, wide_number, wide_map}
-use Rattle.rb_decode.specs.Faults.{is_left_out}
-use Rattle.rb_decode.specs.Checks.{is_named_by, row_for}
+use Rattle.rb_decode.specs.OpcodeTable.{Row, one_of, row_of, byte_swap_row, call_row, wide_number_row, wide_map_row}
+use Rattle.rb_decode.specs.DecodeFaults.{is_left_out}
+use Rattle.rb_decode.specs.inner.FieldChecks.{is_named_by, row_for}
 use Rattle.rb_decode.proofs.Opcodes.{opcode_of}
 
 abbrev pub fields : ℕ → ℕ → ℕ → ℕ → ℕ → Fields
@@ -85,15 +85,15 @@ store_register size d s o i = refl
 
 -- ---- where another field names the row
 
-reorder : (order : ByteOrder) (d s o i : ℕ) → row_of (fields (opcode_of (Reorder order)) d s o i) ≡ cond (one_of (16 ∷ 32 ∷ 64 ∷ []) i) (Some byte_swap) None
+reorder : (order : ByteOrder) (d s o i : ℕ) → row_of (fields (opcode_of (Reorder order)) d s o i) ≡ cond (one_of (16 ∷ 32 ∷ 64 ∷ []) i) (Some byte_swap_row) None
 reorder Little d s o i = refl
 reorder Big d s o i = refl
 reorder Swap d s o i = refl
 
-calls : (d s o i : ℕ) → row_of (fields (opcode_of Call) d s o i) ≡ cond (one_of (0 ∷ []) s && true) (Some call) None
+calls : (d s o i : ℕ) → row_of (fields (opcode_of Call) d s o i) ≡ cond (one_of (0 ∷ []) s && true) (Some call_row) None
 calls d s o i = refl
 
-wide : (d s o i : ℕ) → row_of (fields (opcode_of Wide) d s o i) ≡ cond (one_of (0 ∷ []) s && true) (Some wide_number) (cond (one_of (5 ∷ []) s && true) (Some wide_map) None)
+wide : (d s o i : ℕ) → row_of (fields (opcode_of Wide) d s o i) ≡ cond (one_of (0 ∷ []) s && true) (Some wide_number_row) (cond (one_of (5 ∷ []) s && true) (Some wide_map_row) None)
 wide d s o i = refl
 
 chosen : (b : Bool) (r : Row) → b ≡ true → cond b (Some r) None ≡ Some r
@@ -127,22 +127,22 @@ named (Binary w op source) d s o i h = binary w op source d s o i
 named (Division w op source) d s o i h = division w op source d s o i
 named (Negate w) d s o i h = negate w d s o i
 named (Move w source) d s o i h = move w source d s o i
-named (Reorder order) d s o i h = reorder order d s o i ∙ chosen (one_of (16 ∷ 32 ∷ 64 ∷ []) i) byte_swap h
+named (Reorder order) d s o i h = reorder order d s o i ∙ chosen (one_of (16 ∷ 32 ∷ 64 ∷ []) i) byte_swap_row h
 named (Branch w c source) d s o i h = branch w c source d s o i
 named Jump d s o i h = refl
 named JumpFar d s o i h = refl
-named Call d s o i h = calls d s o i ∙ chosen_and (one_of (0 ∷ []) s) call h
+named Call d s o i h = calls d s o i ∙ chosen_and (one_of (0 ∷ []) s) call_row h
 named Exit d s o i h = refl
-named Wide d s o i h = wide d s o i ∙ chosen_of_two (eqb s 0) (eqb s 5) wide_number wide_map h
+named Wide d s o i h = wide d s o i ∙ chosen_of_two (eqb s 0) (eqb s 5) wide_number_row wide_map_row h
 named (Load size) d s o i h = load size d s o i
 named (LoadSigned size) d s o i h = load_signed size d s o i
 named (StoreImmediate size) d s o i h = store_immediate size d s o i
 named (StoreRegister size) d s o i h = store_register size d s o i
 
 unnamed : (op : Operation) (d s o i : ℕ) → is_named_by op (fields (opcode_of op) d s o i) ≡ false → row_of (fields (opcode_of op) d s o i) ≡ None
-unnamed (Reorder order) d s o i h = reorder order d s o i ∙ left (one_of (16 ∷ 32 ∷ 64 ∷ []) i) byte_swap h
-unnamed Call d s o i h = calls d s o i ∙ left_and (one_of (0 ∷ []) s) call h
-unnamed Wide d s o i h = wide d s o i ∙ left_of_two (eqb s 0) (eqb s 5) wide_number wide_map h
+unnamed (Reorder order) d s o i h = reorder order d s o i ∙ left (one_of (16 ∷ 32 ∷ 64 ∷ []) i) byte_swap_row h
+unnamed Call d s o i h = calls d s o i ∙ left_and (one_of (0 ∷ []) s) call_row h
+unnamed Wide d s o i h = wide d s o i ∙ left_of_two (eqb s 0) (eqb s 5) wide_number_row wide_map_row h
 unnamed op d s o i h = absurd cc
 
 -- ---- at any unit

@@ -13,7 +13,7 @@ use Rattle.rb_insn.specs.declared.insn.Operand.TheVariants as operands
 use Rattle.rb_insn.specs.declared.insn.Insn.{Insn}
 use Rattle.rb_insn.specs.declared.insn.Insn.TheVariants as insns
 use Rattle.rb_insn.specs.Opcodes.{division_offset, extend32_offset, extend64_offset, swap_bits, map_by_index}
-use Rattle.rb_insn.specs.Spelling.{unit, second_unit, bits16, bits32, spelling, Fits}
+use Rattle.rb_insn.specs.Spelling.{unit, second_unit, bits16, bits32, spelling, FieldsFit}
 use Rattle.rb_insn.proofs.Units as spelled
 use Rattle.rb_insn.proofs.Units.{bits16-bound, bits32-bound, next-second_unit}
 use Rattle.rb_decode.specs.declared.fields.Fields.{Fields}
@@ -21,11 +21,11 @@ use Rattle.rb_decode.specs.declared.operation.Source.TheVariants.{Immediate, Reg
 use Rattle.rb_decode.specs.declared.operation.Operation.{Operation}
 use Rattle.rb_decode.specs.declared.operation.Operation.TheVariants.{Binary, Division, Negate, Move, Reorder, Branch, Jump, JumpFar, Call, Exit, Wide, Load, LoadSigned, StoreImmediate, StoreRegister}
 use Rattle.rb_decode.specs.declared.fault.DecodeKind.{DecodeKind}
-use Rattle.rb_decode.specs.Fields.{fields_at, next_imm_at}
-use Rattle.rb_decode.specs.Table.{any, one_of, row_of}
-use Rattle.rb_decode.specs.Table.{zero as zero_only}
-use Rattle.rb_decode.specs.Faults.{is_left_out, IsRefused, HasBadSecondUnit, Stands}
-use Rattle.rb_decode.specs.Checks.{is_named_by, row_for, registers_fit, numbers_fit}
+use Rattle.rb_decode.specs.UnitFields.{fields_at, next_imm_at}
+use Rattle.rb_decode.specs.OpcodeTable.{any, one_of, row_of}
+use Rattle.rb_decode.specs.OpcodeTable.{unused as zero_only}
+use Rattle.rb_decode.specs.DecodeFaults.{is_left_out, IsNotAllowed, HasBadSecondUnit, HasDecodeFault}
+use Rattle.rb_decode.specs.inner.FieldChecks.{is_named_by, row_for, registers_fit, numbers_fit}
 use Rattle.rb_decode.proofs.Opcodes.{opcode_of}
 use Rattle.rb_decode.proofs.Named.{fields, row_of-named, not_left_out}
 use Rattle.rb_decode.proofs.FirstKinds.{InRow, SecondFits, has_no_bad_register, has_no_unused, no_kind}
@@ -100,7 +100,7 @@ zero16 = omega arith
 zero32 : 0 < 2 ^ 32
 zero32 = omega arith
 
-fields_at-spelling : (a : Insn) (p : List ℕ) → Fits a → fields_at (spelling a ++ p) ≡ fields_of a
+fields_at-spelling : (a : Insn) (p : List ℕ) → FieldsFit a → fields_at (spelling a ++ p) ≡ fields_of a
 fields_at-spelling (insns.Binary w op dst (operands.Immediate v)) p fits = fields_at-unit _ _ _ _ _ p (dst16 dst) zero16 (bits32-bound v fits.imm)
 fields_at-spelling (insns.Binary w op dst (operands.Register src)) p fits = fields_at-unit _ _ _ _ _ p (dst16 dst) zero16 zero32
 fields_at-spelling (insns.Division w op Unsigned dst (operands.Immediate v)) p fits = fields_at-unit _ _ _ _ _ p (dst16 dst) zero16 (bits32-bound v fits.imm)
@@ -206,7 +206,7 @@ pub zeros : (bytes : List ℕ) → slice_index bytes 8 ≡ 0 → slice_index byt
     → (i : ℕ) × (8 ≤ i) × (i < 12) × (slice_index bytes i ≢ 0) → ⊥
 zeros bytes a b c d bad = bad.3 (between (λ i. slice_index bytes i ≡ 0) a b c d bad.0 bad.1 bad.2)
 
-pub not_refused_zero : (n : ℕ) → n ≡ 0 → IsRefused zero_only n → ⊥
+pub not_refused_zero : (n : ℕ) → n ≡ 0 → IsNotAllowed zero_only n → ⊥
 not_refused_zero n e h = let same : one_of (0 ∷ []) n ≡ true = ap (one_of (0 ∷ [])) e in absurd cc
 
 second_number : (dst : Reg) (value : ℕ) (p : List ℕ) → HasBadSecondUnit any (spelling (insns.LoadNumber dst value) ++ p) → ⊥
@@ -248,7 +248,7 @@ whole a p some = absurd cc
 -- ---- no fault
 
 -- No fault stands at the front of bytes that a spelling begins.
-pub no_fault-spelling : (a : Insn) (p : List ℕ) → Fits a → (kind : DecodeKind) → Stands kind (spelling a ++ p) → ⊥
+pub no_fault-spelling : (a : Insn) (p : List ℕ) → FieldsFit a → (kind : DecodeKind) → HasDecodeFault kind (spelling a ++ p) → ⊥
 no_fault-spelling a p fits =
     let bytes = spelling a ++ p in
     let at : fields_at bytes ≡ fields_of a = fields_at-spelling a p fits in

@@ -13,10 +13,11 @@ use Rattle.rb_decode.specs.declared.fault.TextFault.{TextFault}
 use Rattle.rb_decode.specs.declared.fault.TextFault.TheVariants.{NotHex, Memory, Decode}
 use Rattle.rb_decode.specs.declared.fault.DecodeKind.{DecodeKind}
 use Rattle.rb_decode.specs.declared.fault.DecodeKind.TheVariants as kinds
-use Rattle.rb_decode.specs.FirstFault.{no_memory, IsFirstFault}
+use Rattle.rb_decode.specs.FirstDecodeFault.{decode_no_memory, IsFirstDecodeFault}
 use Rattle.rb_decode.specs.Program.{IsProgram}
 use Rattle.rb_decode.specs.Text.{IsHexDigit, IsHexOf}
-use Rattle.rb_decode.specs.TextFaults.{hex_fault_of, text_fault_of, IsTextFault}
+use Rattle.rb_decode.specs.TextFaults.{hex_fault_of, text_fault_of}
+use Rattle.rb_decode.specs.inner.TextFaults.{IsTextFault}
 use Rattle.rb_decode.proofs.FirstFaults.{spelled_no_fault, one_first_fault}
 
 -- ---- digits
@@ -192,10 +193,10 @@ text_program digits (Err NotHex) is bytes program hex bounds spells = absurd (is
 text_program digits (Err Memory) is bytes program hex bounds spells = inr refl
 text_program digits (Err (Decode fault)) is bytes program hex bounds spells =
     let same = one_list_of_bytes digits is.fault.0 bytes is.fault.1 hex in
-    absurd (spelled_no_fault program bytes fault bounds spells (subst (λ (l : List ℕ). IsFirstFault l fault) same is.fault.2))
+    absurd (spelled_no_fault program bytes fault bounds spells (subst (λ (l : List ℕ). IsFirstDecodeFault l fault) same is.fault.2))
 
 pub text_fault : (digits : List ℕ) (answer : Result (List Insn) TextFault) → IsTextAnswer digits answer → (bytes : List ℕ) (fault : DecodeFault) → IsHexOf digits bytes
-    → IsFirstFault bytes fault → (answer ≡ Err (Decode fault)) ⊎ (answer ≡ Err Memory)
+    → IsFirstDecodeFault bytes fault → (answer ≡ Err (Decode fault)) ⊎ (answer ≡ Err Memory)
 text_fault digits (Ok found) is bytes fault hex first =
     let same = one_list_of_bytes digits is.spelled.0 bytes is.spelled.1 hex in
     absurd (spelled_no_fault found bytes fault is.bounds (subst (SpellsAll found) same is.spelled.2) first)
@@ -203,7 +204,7 @@ text_fault digits (Err NotHex) is bytes fault hex first = absurd (is.fault bytes
 text_fault digits (Err Memory) is bytes fault hex first = inr refl
 text_fault digits (Err (Decode found)) is bytes fault hex first =
     let same = one_list_of_bytes digits is.fault.0 bytes is.fault.1 hex in
-    inl (ap (λ (f : DecodeFault). Err (Decode f)) (one_first_fault bytes found fault (subst (λ (l : List ℕ). IsFirstFault l found) same is.fault.2) first))
+    inl (ap (λ (f : DecodeFault). Err (Decode f)) (one_first_fault bytes found fault (subst (λ (l : List ℕ). IsFirstDecodeFault l found) same is.fault.2) first))
 
 -- ---- faults that are passed on
 
@@ -222,15 +223,15 @@ hex_fault digits (InvalidHexCharacter c index) (inr read) = no_bytes digits (Inv
 abbrev fault_at : ℕ → DecodeKind → DecodeFault
 fault_at unit kind = record { unit = unit; kind = kind }
 
-kept : (digits bytes : List ℕ) (f : DecodeFault) → IsHexOf digits bytes → (f.kind ≡ kinds.Memory → ⊥) → (f ≡ no_memory) ⊎ IsFirstFault bytes f
-    → (bytes : List ℕ) × IsHexOf digits bytes × IsFirstFault bytes f
+kept : (digits bytes : List ℕ) (f : DecodeFault) → IsHexOf digits bytes → (f.kind ≡ kinds.Memory → ⊥) → (f ≡ decode_no_memory) ⊎ IsFirstDecodeFault bytes f
+    → (bytes : List ℕ) × IsHexOf digits bytes × IsFirstDecodeFault bytes f
 kept digits bytes f hex other (inl memory) = absurd (other (ap (λ (g : DecodeFault). g.kind) memory))
 kept digits bytes f hex other (inr first) = (bytes, hex, first)
 
-passed_on : (digits bytes : List ℕ) (unit : ℕ) (kind : DecodeKind) → IsHexOf digits bytes → (fault_at unit kind ≡ no_memory) ⊎ IsFirstFault bytes (fault_at unit kind)
+passed_on : (digits bytes : List ℕ) (unit : ℕ) (kind : DecodeKind) → IsHexOf digits bytes → (fault_at unit kind ≡ decode_no_memory) ⊎ IsFirstDecodeFault bytes (fault_at unit kind)
     → IsTextFault digits (text_fault_of (fault_at unit kind))
 passed_on digits bytes unit kinds.Memory hex h = tt
 passed_on digits bytes unit kind hex h = kept digits bytes (fault_at unit kind) hex (λ e. absurd cc) h
 
-pub decode_fault : (digits bytes : List ℕ) (f : DecodeFault) → IsHexOf digits bytes → (f ≡ no_memory) ⊎ IsFirstFault bytes f → IsTextFault digits (text_fault_of f)
+pub decode_fault : (digits bytes : List ℕ) (f : DecodeFault) → IsHexOf digits bytes → (f ≡ decode_no_memory) ⊎ IsFirstDecodeFault bytes f → IsTextFault digits (text_fault_of f)
 decode_fault digits bytes f hex h = passed_on digits bytes f.unit f.kind hex h

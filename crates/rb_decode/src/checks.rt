@@ -1,7 +1,7 @@
 //! What the decoder checks of an operation's fields, and the instruction that it makes of them.
 
 ghost use Rattle.std.specs.Prelude.{◌≡◌, ◌≤◌, ◌==◌, ◌||◌, ℕ, true, is_some};
-ghost use Rattle.rb_decode.specs.Checks.{
+ghost use Rattle.rb_decode.specs.inner.FieldChecks.{
   is_named_by,
   row_for,
   is_register,
@@ -16,6 +16,9 @@ ghost use Rattle.rb_decode.specs.Checks.{
   swap_width_from,
   wide_from,
   insn_from,
+  IsAluOperation,
+  IsJumpOperation,
+  IsAccessOperation,
 };
 
 use crate::fields::Fields;
@@ -139,6 +142,31 @@ impl Operation {
         ensures { result ≡ insn_from self fields.now next_imm }
     {
         match self {
+            Operation::Binary(_, _, _)
+            | Operation::Division(_, _, _)
+            | Operation::Negate(_)
+            | Operation::Move(_, _)
+            | Operation::Reorder(_) => self.arithmetic_insn(fields),
+            Operation::Branch(_, _, _)
+            | Operation::Jump
+            | Operation::JumpFar
+            | Operation::Call
+            | Operation::Exit => self.jump_insn(fields),
+            Operation::Wide => wide(fields, next_imm),
+            Operation::Load(_)
+            | Operation::LoadSigned(_)
+            | Operation::StoreImmediate(_)
+            | Operation::StoreRegister(_) => self.access_insn(fields),
+        }
+    }
+
+    /// The instruction of an operation of the classes ALU and ALU64.
+    fn arithmetic_insn(self, fields: &Fields) -> Insn
+        requires class { IsAluOperation self }
+        requires registers { registers_fit (row_for self fields.now.src) fields.now ≡ true }
+        ensures { (next : ℕ) → result ≡ insn_from self fields.now next }
+    {
+        match self {
             Operation::Binary(width, op, source) => Insn::Binary {
                 width,
                 op,
@@ -168,6 +196,17 @@ impl Operation {
                 width: swap_width(fields.imm),
                 dst: register(fields.dst),
             },
+            _ => unreachable!(),
+        }
+    }
+
+    /// The instruction of an operation of the classes JMP and JMP32.
+    fn jump_insn(self, fields: &Fields) -> Insn
+        requires class { IsJumpOperation self }
+        requires registers { registers_fit (row_for self fields.now.src) fields.now ≡ true }
+        ensures { (next : ℕ) → result ≡ insn_from self fields.now next }
+    {
+        match self {
             Operation::Branch(width, condition, source) => Insn::Branch {
                 width,
                 condition,
@@ -183,7 +222,17 @@ impl Operation {
             },
             Operation::Call => Insn::Call { helper: fields.imm },
             Operation::Exit => Insn::Exit,
-            Operation::Wide => wide(fields, next_imm),
+            _ => unreachable!(),
+        }
+    }
+
+    /// The instruction of a load or a store.
+    fn access_insn(self, fields: &Fields) -> Insn
+        requires class { IsAccessOperation self }
+        requires registers { registers_fit (row_for self fields.now.src) fields.now ≡ true }
+        ensures { (next : ℕ) → result ≡ insn_from self fields.now next }
+    {
+        match self {
             Operation::Load(size) => Insn::Load {
                 size,
                 dst: register(fields.dst),
@@ -208,6 +257,7 @@ impl Operation {
                 offset: fields.offset.cast_signed(),
                 src: register(fields.src),
             },
+            _ => unreachable!(),
         }
     }
 }
@@ -220,7 +270,7 @@ fn register(number: u8) -> Reg
     Reg { number }
 }
 
-/// The second operand, where it stands.
+/// The second operand, from its source.
 fn operand(source: Source, fields: &Fields) -> Operand
     requires { source ≡ Source.Register → fields.now.src ≤ 10 }
     ensures { result ≡ operand_from source fields.now }

@@ -4,10 +4,10 @@ ghost use Rattle.std.specs.Prelude.{◌≡◌, ◌⊎◌, ◌++◌, ◌∷◌, [
 ghost use Rattle.rb_insn.specs.declared.insn.Insn.{Insn};
 ghost use Rattle.rb_insn.specs.Spelling.{SpellsAll};
 ghost use Rattle.rb_decode.specs.declared.fault.DecodeFault.{DecodeFault};
-ghost use Rattle.rb_decode.specs.FirstFault.{IsFirstFault, no_memory, ProgramsHaveNoFault, FaultsAreUnique};
+ghost use Rattle.rb_decode.specs.FirstDecodeFault.{IsFirstDecodeFault, decode_no_memory, ProgramsHaveNoFault, FaultsAreUnique};
 ghost use Rattle.rb_decode.specs.Program.{IsProgram};
-ghost use Rattle.rb_decode.specs.Units.{kept_units};
-ghost use Rattle.rb_decode.specs.Decoded.{IsDecoded};
+ghost use Rattle.rb_decode.specs.DecodedUnits.{kept_units, insns_kept, AreUnits};
+ghost use Rattle.rb_decode.specs.inner.Decoded.{IsDecoded};
 
 use crate::fault::{DecodeFault, DecodeKind};
 use crate::insn_at::insn_at;
@@ -26,11 +26,11 @@ fn push_insn(units: &mut Vec<Insn>, insn: Insn) -> Result<(), AllocError>
     Ok(())
 }
 
-/// The program that the bytes spell, or their first fault, or want of memory.
-fn decode_units(alloc: Global, bytes: &[u8]) -> Result<Program, DecodeFault>
-    ensures bounds { IfOk result IsProgram }
-    ensures spelled { IfOk result (λ program. SpellsAll program bytes.now) }
-    ensures fault { IfErr result (λ fault. (fault ≡ no_memory) ⊎ IsFirstFault bytes.now fault) }
+/// The units of the program that the bytes spell, as the program keeps them; or the bytes' first fault, or out of memory.
+fn decode_units(alloc: Global, bytes: &[u8]) -> Result<Vec<Insn>, DecodeFault>
+    ensures kept { IfOk result (λ units. AreUnits units.items) }
+    ensures spelled { IfOk result (λ units. SpellsAll (insns_kept units.items) bytes.now) }
+    ensures fault { IfErr result (λ fault. (fault ≡ decode_no_memory) ⊎ IsFirstDecodeFault bytes.now fault) }
 {
     if bytes.is_empty() || bytes.len() % 8 != 0 {
         return Err(DecodeFault {
@@ -58,25 +58,26 @@ fn decode_units(alloc: Global, bytes: &[u8]) -> Result<Program, DecodeFault>
             }
         }
     }
-    Ok(Program::from_units(units))
+    Ok(units)
 }
 
-/// The program that the bytes spell, and their first fault where they spell none. Want of memory may come in place of
-/// either, and changes nothing.
+/// The program that the bytes spell, and their first fault where they spell none. Out of memory may come in place of
+/// either.
 ///
 /// One pass over the bytes: each unit is looked at once.
 pub fn decode(alloc: Global, bytes: &[u8]) -> Result<Program, DecodeFault>
     // What is answered is spelled by the bytes, and a program that they spell is answered.
     ensures spelled { IfOk result (λ program. SpellsAll program bytes.now) }
     ensures only_program { (program : List Insn) → IsProgram program → SpellsAll program bytes.now
-        → (result ≡ Ok program) ⊎ (result ≡ Err no_memory) }
+        → (result ≡ Ok program) ⊎ (result ≡ Err decode_no_memory) }
 
     // A fault is the first one, and where there is one it is answered.
-    ensures fault { IfErr result (λ fault. (fault ≡ no_memory) ⊎ IsFirstFault bytes.now fault) }
-    ensures only_fault { (fault : DecodeFault) → IsFirstFault bytes.now fault
-        → (result ≡ Err fault) ⊎ (result ≡ Err no_memory) }
+    ensures fault { IfErr result (λ fault. (fault ≡ decode_no_memory) ⊎ IsFirstDecodeFault bytes.now fault) }
+    ensures only_fault { (fault : DecodeFault) → IsFirstDecodeFault bytes.now fault
+        → (result ≡ Err fault) ⊎ (result ≡ Err decode_no_memory) }
 {
-    decode_units(alloc, bytes)
+    let units = decode_units(alloc, bytes)?;
+    Ok(Program::from_units(units))
 }
 
 /// The bytes that the program spells, 8 for each of its units. One pass over the program.

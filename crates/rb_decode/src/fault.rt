@@ -4,7 +4,7 @@ use hex::FromHexError;
 use std::alloc::{AllocError, AllocFailed};
 use thiserror::Error;
 
-/// What is wrong with bytes that are no program, in the order in which faults of one unit are told.
+/// What is wrong with bytes that are no program, in the order in which faults of one unit are returned.
 #[derive(Clone, Copy, Debug, PartialEq, Eq, Error)]
 pub enum DecodeKind {
     /// There are no bytes, or their number is no multiple of 8.
@@ -34,7 +34,7 @@ pub enum DecodeKind {
     Memory,
 }
 
-/// The first fault of bytes that are no program: at the lowest unit, and there the first kind. Want of memory is told at
+/// The first fault of bytes that are no program: at the lowest unit, and there the first kind. Out of memory has
 /// unit 0.
 #[derive(Clone, Copy, Debug, PartialEq, Eq, Error)]
 #[error("unit {unit}: {kind}")]
@@ -46,7 +46,7 @@ pub struct DecodeFault {
 }
 
 impl DecodeFault {
-    /// Want of memory, told at unit 0.
+    /// Out of memory, at unit 0.
     pub const NO_MEMORY: DecodeFault = DecodeFault {
         unit: 0,
         kind: DecodeKind::Memory,
@@ -55,9 +55,9 @@ impl DecodeFault {
 
 impl From<AllocError> for DecodeFault {
     ghost use Rattle.std.specs.Prelude.{◌≡◌};
-    ghost use Rattle.rb_decode.specs.FirstFault.{no_memory};
+    ghost use Rattle.rb_decode.specs.FirstDecodeFault.{decode_no_memory};
 
-    ghost from_gives = { λ _ fault. fault ≡ no_memory };
+    ghost from_gives = { λ _ fault. fault ≡ decode_no_memory };
 
     fn from(_error: AllocError) -> DecodeFault {
         DecodeFault::NO_MEMORY
@@ -66,9 +66,9 @@ impl From<AllocError> for DecodeFault {
 
 impl<T: Drop> From<AllocFailed<T>> for DecodeFault {
     ghost use Rattle.std.specs.Prelude.{◌≡◌};
-    ghost use Rattle.rb_decode.specs.FirstFault.{no_memory};
+    ghost use Rattle.rb_decode.specs.FirstDecodeFault.{decode_no_memory};
 
-    ghost from_gives = { λ _ fault. fault ≡ no_memory };
+    ghost from_gives = { λ _ fault. fault ≡ decode_no_memory };
 
     fn from(_error: AllocFailed<T>) -> DecodeFault {
         DecodeFault::NO_MEMORY

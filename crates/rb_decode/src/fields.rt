@@ -1,7 +1,7 @@
 //! The fields of a unit (RFC 9669, section 3.1).
 
 ghost use Rattle.std.specs.Prelude.{◌≡◌, ◌≤◌, length};
-ghost use Rattle.rb_decode.specs.Fields.{fields_at, next_imm_at};
+ghost use Rattle.rb_decode.specs.UnitFields.{fields_at, next_imm_at};
 
 use byteorder::{ByteOrder, LittleEndian};
 

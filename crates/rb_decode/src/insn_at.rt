@@ -3,8 +3,8 @@
 ghost use Rattle.std.specs.Prelude.{◌≡◌, ◌≢◌, ◌≤◌, ◌<◌, ◌*◌, length, take, slice_index, IfOk, IfErr};
 ghost use Rattle.rb_insn.specs.Spelling.{Spells};
 ghost use Rattle.rb_insn.specs.Units.{units_taken};
-ghost use Rattle.rb_decode.specs.Faults.{IsFirstKind, is_left_out as is_left_out_of};
-ghost use Rattle.rb_decode.specs.SecondUnit.{has_zeros as has_zeros_at, IsSecondUnit, IsSecondFault};
+ghost use Rattle.rb_decode.specs.DecodeFaults.{IsFirstKind, is_left_out as is_left_out_of};
+ghost use Rattle.rb_decode.specs.inner.SecondUnit.{has_zeros as has_zeros_at, IsSecondUnit, IsSecondFault};
 
 use crate::fault::DecodeKind;
 use crate::fields::{Fields, read_fields, read_next_imm};

@@ -1,4 +1,8 @@
-//! Programs: a list of instructions, and the bytes that spell it (RFC 9669).
+//! eBPF programs: bytes or hex text to a list of instructions and back (RFC 9669), for hosts that load programs. `decode`
+//! returns the only program that the bytes spell, or their first fault: the lowest unit, and there the first kind of
+//! `DecodeKind`. `encode` returns the bytes of a program, and `from_text` reads pairs of hex digits between white space.
+//! The table of opcodes and of the fields that each may use is `specs/OpcodeTable.antt`. A `Program` has 1 to 4096 units
+//! of eight bytes as a fact of its type.
 #![tactic(auto)]
 
 mod checks;
@@ -14,6 +18,3 @@ pub use decoding::{decode, decoding_laws, encode};
 pub use fault::{DecodeFault, DecodeKind, TextFault};
 pub use program::{Code, MAX_UNITS, Program};
 pub use text::from_text;
-
-#[cfg(test)]
-mod tests;

@@ -1,7 +1,7 @@
 //! What an opcode does, before its registers and numbers are known (RFC 9669, sections 3.3, 4 and 5).
 
 ghost use Rattle.std.specs.Prelude.{◌≡◌, ◌<◌};
-ghost use Rattle.rb_decode.specs.Operations.{
+ghost use Rattle.rb_decode.specs.inner.Operations.{
   binary_at,
   division_at,
   condition_at,
@@ -15,9 +15,14 @@ ghost use Rattle.rb_decode.specs.Operations.{
   operation_at,
 };
 
+use rb_insn::opcodes::{
+    ADD, ALU, AND, ARSH, B, CALL, DIV, END, EXIT, H, JA, JEQ, JGE, JGT, JLE, JLT, JMP, JMP32, JNE,
+    JSET, JSGE, JSGT, JSLE, JSLT, LD, LDX, LSH, MEM, MEMSX, MOD, MOV, MUL, NEG, OR, RSH, ST, STX,
+    SUB, W, XOR,
+};
 use rb_insn::{BinaryOp, ByteOrder, Condition, DivisionOp, SignedSize, Size, Width};
 
-/// Where the second operand stands.
+/// Where the second operand is.
 #[derive(Clone, Copy)]
 pub(crate) enum Source {
     /// In the immediate (K).
@@ -39,7 +44,7 @@ pub(crate) enum Operation {
     JumpFar,
     Call,
     Exit,
-    /// Loads a number or a map, which the source field tells.
+    /// Loads a number or a map, by the source field.
     Wide,
     Load(Size),
     LoadSigned(SignedSize),
@@ -47,41 +52,8 @@ pub(crate) enum Operation {
     StoreRegister(Size),
 }
 
-/// The classes, in the low three bits of an opcode.
-const LD: u8 = 0;
-
-const LDX: u8 = 1;
-
-const ST: u8 = 2;
-
-const STX: u8 = 3;
-
-const ALU: u8 = 4;
-
-const JMP: u8 = 5;
-
-const JMP32: u8 = 6;
-
-/// The codes of arithmetic and jumps that no enum has.
-const NEG: u8 = 8;
-
-const MOV: u8 = 11;
-
-const END: u8 = 13;
-
-const JA: u8 = 0;
-
-const CALL: u8 = 8;
-
-const EXIT: u8 = 9;
-
 /// A wide instruction: the mode IMM, eight bytes, the class LD.
 const WIDE: u8 = 0x18;
-
-/// The modes of loads and stores, in the high three bits of an opcode.
-const MEM: u8 = 3;
-
-const MEMSX: u8 = 4;
 
 impl Operation {
     /// The operation of an opcode: none where no instruction has it.
@@ -172,15 +144,15 @@ fn binary_op(code: u8) -> Option<BinaryOp>
     ensures { result ≡ binary_at code }
 {
     match code {
-        0 => Some(BinaryOp::Add),
-        1 => Some(BinaryOp::Sub),
-        2 => Some(BinaryOp::Mul),
-        4 => Some(BinaryOp::Or),
-        5 => Some(BinaryOp::And),
-        6 => Some(BinaryOp::Lsh),
-        7 => Some(BinaryOp::Rsh),
-        10 => Some(BinaryOp::Xor),
-        12 => Some(BinaryOp::Arsh),
+        ADD => Some(BinaryOp::Add),
+        SUB => Some(BinaryOp::Sub),
+        MUL => Some(BinaryOp::Mul),
+        OR => Some(BinaryOp::Or),
+        AND => Some(BinaryOp::And),
+        LSH => Some(BinaryOp::Lsh),
+        RSH => Some(BinaryOp::Rsh),
+        XOR => Some(BinaryOp::Xor),
+        ARSH => Some(BinaryOp::Arsh),
         _ => None,
     }
 }
@@ -189,8 +161,8 @@ fn division_op(code: u8) -> Option<DivisionOp>
     ensures { result ≡ division_at code }
 {
     match code {
-        3 => Some(DivisionOp::Div),
-        9 => Some(DivisionOp::Mod),
+        DIV => Some(DivisionOp::Div),
+        MOD => Some(DivisionOp::Mod),
         _ => None,
     }
 }
@@ -199,17 +171,17 @@ fn condition(code: u8) -> Option<Condition>
     ensures { result ≡ condition_at code }
 {
     match code {
-        1 => Some(Condition::Equal),
-        2 => Some(Condition::Above),
-        3 => Some(Condition::AtLeast),
-        4 => Some(Condition::AnyBit),
-        5 => Some(Condition::NotEqual),
-        6 => Some(Condition::SignedAbove),
-        7 => Some(Condition::SignedAtLeast),
-        10 => Some(Condition::Below),
-        11 => Some(Condition::AtMost),
-        12 => Some(Condition::SignedBelow),
-        13 => Some(Condition::SignedAtMost),
+        JEQ => Some(Condition::Equal),
+        JGT => Some(Condition::Above),
+        JGE => Some(Condition::AtLeast),
+        JSET => Some(Condition::AnyBit),
+        JNE => Some(Condition::NotEqual),
+        JSGT => Some(Condition::SignedAbove),
+        JSGE => Some(Condition::SignedAtLeast),
+        JLT => Some(Condition::Below),
+        JLE => Some(Condition::AtMost),
+        JSLT => Some(Condition::SignedBelow),
+        JSLE => Some(Condition::SignedAtMost),
         _ => None,
     }
 }
@@ -218,9 +190,9 @@ fn size_of(size: u8) -> Size
     ensures { result ≡ size_at size }
 {
     match size {
-        0 => Size::Word,
-        1 => Size::Half,
-        2 => Size::Byte,
+        W => Size::Word,
+        H => Size::Half,
+        B => Size::Byte,
         _ => Size::Double,
     }
 }
@@ -229,9 +201,9 @@ fn signed_size_of(size: u8) -> Option<SignedSize>
     ensures { result ≡ signed_size_at size }
 {
     match size {
-        0 => Some(SignedSize::Word),
-        1 => Some(SignedSize::Half),
-        2 => Some(SignedSize::Byte),
+        W => Some(SignedSize::Word),
+        H => Some(SignedSize::Half),
+        B => Some(SignedSize::Byte),
         _ => None,
     }
 }

@@ -1,7 +1,7 @@
 //! The type of programs.
 
 ghost use Rattle.std.specs.Prelude.{◌≡◌};
-ghost use Rattle.rb_decode.specs.Units.{is_behind_wide as is_behind_wide_of};
+ghost use Rattle.rb_decode.specs.inner.WideUnits.{is_behind_wide as is_behind_wide_of};
 
 use rb_insn::Insn;
 use std::marker::Model;
@@ -14,7 +14,7 @@ pub const MAX_UNITS: u32 = 4096;
 /// Contracts see the list of its instructions, in order.
 #[derive(Debug, Drop)]
 pub struct Program {
-    /// The instruction that begins at each unit. At the second unit of a wide one stands an EXIT that is never read, so that
+    /// The instruction that begins at each unit. The second unit of a wide one has an EXIT that is never read, so that
     /// each unit takes 16 bytes.
     units: Vec<Insn>,
 }
@@ -22,7 +22,7 @@ pub struct Program {
 impl Model for Program {
     ghost use Rattle.std.specs.Prelude.{List};
     ghost use Rattle.rb_insn.specs.declared.insn.Insn.{Insn};
-    ghost use Rattle.rb_decode.specs.Units.{insns_kept, AreUnits};
+    ghost use Rattle.rb_decode.specs.DecodedUnits.{insns_kept, AreUnits};
 
     ghost Value = { List Insn };
 
@@ -42,9 +42,9 @@ impl Program {
     ghost use Rattle.std.specs.Prelude.{◌≡◌, ◌≢◌, ◌≤◌, None, Some};
     ghost use Rattle.std.specs.Option.{option_copied};
     ghost use Rattle.std.specs.List.{AllByRecursion};
-    ghost use Rattle.rb_insn.specs.Spelling.{Fits};
+    ghost use Rattle.rb_insn.specs.Spelling.{FieldsFit};
     ghost use Rattle.rb_decode.specs.Program.{unit_count, slot_at, IsProgram, IsLaidOut};
-    ghost use Rattle.rb_decode.specs.Units.{insns_kept, AreUnits};
+    ghost use Rattle.rb_decode.specs.DecodedUnits.{insns_kept, AreUnits};
 
     /// The program of these units.
     pub(crate) fn from_units(units: Vec<Insn>) -> Self
@@ -95,7 +95,7 @@ impl Program {
     pub fn facts(&self)
         ensures bounds { IsProgram self.now }
         ensures laid_out { IsLaidOut self.now }
-        ensures fit { AllByRecursion Fits self.now }
+        ensures fit { AllByRecursion FieldsFit self.now }
     {
         let _ = &self.units;
     }
@@ -112,7 +112,7 @@ pub struct Code<'p> {
 impl<'p> Model for Code<'p> {
     ghost use Rattle.std.specs.Prelude.{List};
     ghost use Rattle.rb_insn.specs.declared.insn.Insn.{Insn};
-    ghost use Rattle.rb_decode.specs.Units.{insns_kept, AreUnits};
+    ghost use Rattle.rb_decode.specs.DecodedUnits.{insns_kept, AreUnits};
 
     ghost Value = { List Insn };
 

@@ -4,10 +4,10 @@ ghost use Rattle.std.specs.Prelude.{◌≡◌, ◌⊎◌, ℕ, List, Ok, Err, If
 ghost use Rattle.rb_insn.specs.declared.insn.Insn.{Insn};
 ghost use Rattle.rb_insn.specs.Spelling.{SpellsAll};
 ghost use Rattle.rb_decode.specs.declared.fault.DecodeFault.{DecodeFault};
-ghost use Rattle.rb_decode.specs.FirstFault.{IsFirstFault};
+ghost use Rattle.rb_decode.specs.FirstDecodeFault.{IsFirstDecodeFault};
 ghost use Rattle.rb_decode.specs.Program.{IsProgram};
 ghost use Rattle.rb_decode.specs.Text.{IsHexOf, without_white_space};
-ghost use Rattle.rb_decode.specs.TextFaults.{IsTextFault};
+ghost use Rattle.rb_decode.specs.inner.TextFaults.{IsTextFault};
 
 use crate::decoding::decode;
 use crate::fault::TextFault;
@@ -24,7 +24,7 @@ fn digits_of(alloc: Global, text: &[u8]) -> Result<Vec<u8>, AllocError>
         .collect(alloc)
 }
 
-/// The program of the bytes that the digits are, or their first fault, or that they are no hex, or want of memory.
+/// The program of the bytes that the digits are, or their first fault, or that they are no hex, or out of memory.
 fn decode_digits(alloc: Global, digits: &[u8]) -> Result<Program, TextFault>
     ensures bounds { IfOk result IsProgram }
     ensures spelled { IfOk result (λ program. (bytes : List ℕ) × IsHexOf digits.now bytes × SpellsAll program bytes) }
@@ -37,7 +37,7 @@ fn decode_digits(alloc: Global, digits: &[u8]) -> Result<Program, TextFault>
 }
 
 /// The program of a text: its bytes as pairs of hex digits of either case, with ASCII white space anywhere between the
-/// digits (Rust's set: tab, line feed, form feed, carriage return, space). Want of memory may come in place of any other
+/// digits (Rust's set: tab, line feed, form feed, carriage return, space). Out of memory may come in place of any other
 /// answer.
 ///
 /// One pass over the text, and one over its bytes.
@@ -53,9 +53,9 @@ pub fn from_text(alloc: Global, text: &str) -> Result<Program, TextFault>
     ensures only_program { (bytes : List ℕ) (program : List Insn) → IsHexOf (without_white_space text.now) bytes
         → IsProgram program → SpellsAll program bytes → (result ≡ Ok program) ⊎ (result ≡ Err TextFault.Memory) }
     ensures fault { (fault : DecodeFault) → result ≡ Err (TextFault.Decode fault) → (bytes : List ℕ)
-        × IsHexOf (without_white_space text.now) bytes × IsFirstFault bytes fault }
+        × IsHexOf (without_white_space text.now) bytes × IsFirstDecodeFault bytes fault }
     ensures only_fault { (bytes : List ℕ) (fault : DecodeFault) → IsHexOf (without_white_space text.now) bytes
-        → IsFirstFault bytes fault → (result ≡ Err (TextFault.Decode fault)) ⊎ (result ≡ Err TextFault.Memory) }
+        → IsFirstDecodeFault bytes fault → (result ≡ Err (TextFault.Decode fault)) ⊎ (result ≡ Err TextFault.Memory) }
 {
     let digits = digits_of(alloc, text.as_bytes())?;
     decode_digits(alloc, &digits)

@@ -7,13 +7,13 @@ use Rattle.std.proofs.lemmas.List.{append_cancel_left, length-append, length-rep
 use Rattle.std.proofs.lemmas.List.Sums.{sum_by-cons, sum_by-append}
 use Rattle.rb_header.specs.Header.{header_bytes, length_word}
 use Rattle.rb_header.specs.Span.{eights}
-use Rattle.rb_header.specs.Tape.{Item, position_of, len_of, is_skip, payload_of, header_of, padding, zeros, item_bytes, tape, item_span, IsItemAt, AreItemsFrom, end_of}
-use Rattle.rb_header.specs.Tape.Item.{Event, Skip}
+use Rattle.rb_header.specs.TapeBytes.{Item, item_position, item_len, is_skip, payload_of, header_of, padding, zeros, item_bytes, tape, item_span, IsItemAt, AreItemsFrom, end_of}
+use Rattle.rb_header.specs.TapeBytes.Item.{Event, Skip}
 use Rattle.rb_header.proofs.HeaderBytes.{halves, same_number, same_fields}
 
 -- ---- lengths
 
-pub length-payload_of : (item : Item) → length (payload_of item) ≡ len_of item
+pub length-payload_of : (item : Item) → length (payload_of item) ≡ item_len item
 length-payload_of (Event position bytes) = refl
 length-payload_of (Skip position len) = length-replicate len 0
 
@@ -22,11 +22,11 @@ pub length-item_bytes : (size : ℕ) (item : Item) → length (item_bytes size i
 length-item_bytes size item =
     let h = header_bytes (header_of size item) in
     let p = payload_of item in
-    let z = zeros (padding (len_of item)) in
+    let z = zeros (padding (item_len item)) in
     let whole : length ((h ++ p) ++ z) ≡ (8 + length p) + length z = length-append (h ++ p) z ∙ ap (λ (n : ℕ). n + length z) (length-append h p) in
     let payload = length-payload_of item in
-    let filled : length z ≡ padding (len_of item) = length-replicate (padding (len_of item)) 0 in
-    let up : len_of item ≤ 8 * eights (len_of item) = omega arith in
+    let filled : length z ≡ padding (item_len item) = length-replicate (padding (item_len item)) 0 in
+    let up : item_len item ≤ 8 * eights (item_len item) = omega arith in
     omega arith
 
 -- two texts that begin with the four bytes of a number begin with those of one number
@@ -71,7 +71,7 @@ AreItemsFrom-push size start items item a i = AreItemsFrom-append size start ite
 -- ---- one text, one list of items
 
 -- which of two kinds an item is, where and how long, and its bytes, are all there is to it
-same_item : (i j : Item) → position_of i ≡ position_of j → len_of i ≡ len_of j → is_skip i ≡ is_skip j → payload_of i ≡ payload_of j → i ≡ j
+same_item : (i j : Item) → item_position i ≡ item_position j → item_len i ≡ item_len j → is_skip i ≡ is_skip j → payload_of i ≡ payload_of j → i ≡ j
 same_item (Event p b) (Event q c) at len kind bytes = cc
 same_item (Event p b) (Skip q m) at len kind bytes = absurd (false≢true kind)
 same_item (Skip p n) (Event q c) at len kind bytes = absurd (true≢false kind)
@@ -88,13 +88,13 @@ regroup a b c d = simp append_assoc
 first_item : (size at : ℕ) (i j : Item) (rest more : List ℕ) → IsItemAt size at i → IsItemAt size at j → item_bytes size i ++ rest ≡ item_bytes size j ++ more → (i ≡ j) × (rest ≡ more)
 first_item size at i j rest more hi hj e =
     let header = λ (x : Item). header_bytes (header_of size x) in
-    let fill = λ (x : Item). zeros (padding (len_of x)) in
+    let fill = λ (x : Item). zeros (padding (item_len x)) in
     let text : header i ++ (payload_of i ++ (fill i ++ rest)) ≡ header j ++ (payload_of j ++ (fill j ++ more)) =
     sym (regroup (header i) (payload_of i) (fill i) rest) ∙ e ∙ regroup (header j) (payload_of j) (fill j) more in
     let fronts = halves (header i) (payload_of i ++ (fill i ++ rest)) (header j) (payload_of j ++ (fill j ++ more)) refl text in
     let words = halves (to_le_bytes w32 (length_word (header_of size i))) (to_le_bytes w32 (header_of size i).page) (to_le_bytes w32 (length_word (header_of size j))) (to_le_bytes w32 (header_of size j).page) refl fronts.0 in
-    let word = same_number (length_word (header_of size i)) (length_word (header_of size j)) (word_below (len_of i) (is_skip i) hi.has_header) (word_below (len_of j) (is_skip j) hj.has_header) words.0 in
-    let fields = same_fields (len_of i) (len_of j) (is_skip i) (is_skip j) false false hi.has_header hj.has_header word in
+    let word = same_number (length_word (header_of size i)) (length_word (header_of size j)) (word_below (item_len i) (is_skip i) hi.has_header) (word_below (item_len j) (is_skip j) hj.has_header) words.0 in
+    let fields = same_fields (item_len i) (item_len j) (is_skip i) (is_skip j) false false hi.has_header hj.has_header word in
     let bodies = halves (payload_of i) (fill i ++ rest) (payload_of j) (fill j ++ more) (length-payload_of i ∙ fields.0 ∙ sym (length-payload_of j)) fronts.1 in
     let tails : fill i ++ rest ≡ fill i ++ more = bodies.1 ∙ ap (λ (n : ℕ). zeros (padding n) ++ more) (sym fields.0) in
     (same_item i j (hi.here ∙ sym hj.here) fields.0 fields.1 bodies.0, append_cancel_left (fill i) rest more tails)

@@ -3,10 +3,12 @@
 use Rattle.std.specs.Prelude.{ℕ, ◌≡◌, ◌+◌, ◌^◌, ◌<◌, ◌&&◌, true, false, List, ◌++◌, if◌then◌else◌}
 use Rattle.std.specs.Int.{w32, to_le_bytes}
 use Rattle.rb_header.specs.declared.headers.Header.{Header}
+use Rattle.rb_header.specs.declared.headers.TheConstants.{BUSY_BIT, DISCARD_BIT}
 
--- the length in bits 0 to 29, bit 30 where the record was discarded, bit 31 while it is busy
+-- the length in bits 0 to 29, DISCARD_BIT (2^30) where the record was discarded, BUSY_BIT (2^31) while it is busy.
+-- For example 0x40000008 for a discarded record of eight bytes
 abbrev pub length_word : Header → ℕ
-length_word h = h.len + (if h.discard then 2 ^ 30 else 0) + (if h.busy then 2 ^ 31 else 0)
+length_word h = h.len + (if h.discard then DISCARD_BIT else 0) + (if h.busy then BUSY_BIT else 0)
 
 -- the eight bytes: the length word, then the page, each with its lowest byte first
 abbrev pub header_bytes : Header → List ℕ

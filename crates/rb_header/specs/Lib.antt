@@ -1,3 +1,3 @@
 pub mod Header
 pub mod Span
-pub mod Tape
+pub mod TapeBytes

@@ -5,13 +5,15 @@ ghost use Rattle.std.specs.Prelude.{◌≡◌, ◌<◌, ◌^◌, ◌&&◌, ◌�
 use byteorder::{ByteOrder, LittleEndian};
 use thiserror::Error;
 
-// The bit of the length word that says that the record is busy.
-const BUSY: u32 = 1 << 31;
+/// The bit of a header's length word that says that the record is busy: bit 31, above the 30 bits of the length and the discard
+/// bit (Linux include/uapi/linux/bpf.h, BPF_RINGBUF_BUSY_BIT).
+pub const BUSY_BIT: u32 = 1 << 31;
 
-// The bit of the length word that says that the record was discarded.
-const DISCARD: u32 = 1 << 30;
+/// The bit of a header's length word that says that the record was discarded: bit 30, right above the length (Linux
+/// include/uapi/linux/bpf.h, BPF_RINGBUF_DISCARD_BIT).
+pub const DISCARD_BIT: u32 = 1 << 30;
 
-/// The header that stands in front of a record, eight bytes when written: its length, its state and its page. (Linux
+/// The header in front of a record, eight bytes when written: its length, its state and its page. (Linux
 /// Documentation/bpf/ringbuf.rst.)
 #[derive(Clone, Copy, Debug, PartialEq, Eq)]
 pub struct Header {
@@ -45,10 +47,10 @@ impl Header {
     {
         let mut word = self.len;
         if self.discard {
-            word |= DISCARD;
+            word |= DISCARD_BIT;
         }
         if self.busy {
-            word |= BUSY;
+            word |= BUSY_BIT;
         }
         let mut bytes = [0; 8];
         LittleEndian::write_u32(&mut bytes, word);
@@ -64,13 +66,13 @@ impl Header {
     {
         let word = LittleEndian::read_u32(bytes);
         let page = LittleEndian::read_u32(&bytes[4..]);
-        let busy = word & BUSY != 0;
-        let discard = word & DISCARD != 0;
+        let busy = word & BUSY_BIT != 0;
+        let discard = word & DISCARD_BIT != 0;
         if busy && discard {
             return Err(HeaderFault::LengthWithBusyAndDiscard);
         }
         Ok(Header {
-            len: word & (DISCARD - 1),
+            len: word & (DISCARD_BIT - 1),
             busy,
             discard,
             page,

@@ -2,7 +2,7 @@
 //! header, its bytes and zeros up to a multiple of eight, a discarded one as its header and zeros in the place of its bytes.
 
 ghost use Rattle.std.specs.Prelude.{◌≡◌, ℕ, List, length, ◌+◌, ◌++◌};
-ghost use Rattle.rb_header.specs.Tape.{Item, AreItemsFrom, tape, end_of};
+ghost use Rattle.rb_header.specs.TapeBytes.{Item, AreItemsFrom, tape, end_of};
 
 /// What holds of every tape, of a ring of any size and start. Bytes begin with the tape of at most one list of so many items,
 /// so a tape can be read back in one way alone; and a tape has as many bytes as its items move the positions. The function

@@ -55,7 +55,7 @@ pub trait Helpers {
         ensures given { (start : Self) (given : List (List ℕ)) → leads start given self.old → leads start given self.new }
         ensures handed_back { IfErr result (λ back. back ≡ owned) };
 
-    /// Outputs a copy of the bytes to the ring. The answer is 0, or a failure below it, as `BAD_FLAGS` or `NO_RECORD`
+    /// Outputs a copy of the bytes to the ring. The answer is 0, or a failure below it, as `-EINVAL` or `-EAGAIN`
     /// (bpf_ringbuf_output).
     fn output(&mut self, ring: u32, bytes: &[u8], flags: u64) -> i64
         requires room { 0 < room_of self.old }

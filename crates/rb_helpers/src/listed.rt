@@ -3,11 +3,11 @@
 ghost use Rattle.std.specs.Prelude.{◌≡◌, ℕ, ◌+◌, ◌<◌, ◌≤◌, List, [], ◌∷◌, ◌++◌, length, replicate, IfOk, IfErr, IfSome, is_some, is_ok, Bool, true, drop, ℤ, pos};
 ghost use Rattle.rb_helpers.specs.declared.done.Done.{Done};
 ghost use Rattle.rb_helpers.specs.declared.done.Done.TheVariants.{Reserve, Submit, Discard, Output, Query};
-ghost use Rattle.rb_helpers.specs.Answers.{Answers, next_of, output_answer, given_calls};
+ghost use Rattle.rb_helpers.specs.ListedAnswers.{Answers, next_of, output_answer, given_calls};
 
 use crate::done::Done;
 use crate::helpers::Helpers;
-use crate::numbers::NO_RECORD;
+use crate::numbers::EAGAIN;
 use rb_lend::{Lent, Sheet};
 use std::alloc::{AllocError, Global};
 use std::marker::Model;
@@ -15,7 +15,7 @@ use std::marker::Model;
 /// Helpers that answer from a list, one answer for each call. They have a ring of every number, and look at no flags.
 ///
 /// An answer of `true` grants a record (but null where there is no memory for it), takes one, or outputs with answer 0. One of
-/// `false` is null, hands the record back, or answers `NO_RECORD`. A query uses its answer up too, and gives 0. No call takes
+/// `false` is null, hands the record back, or answers `-EAGAIN`. A query uses its answer up too, and gives 0. No call takes
 /// memory but `new` and `reserve`.
 #[derive(Drop)]
 pub struct Listed {
@@ -27,7 +27,7 @@ pub struct Listed {
 
 impl Model for Listed {
     ghost use Rattle.std.specs.Prelude.{◌+◌, ◌-◌, ◌≤◌, drop, vec_len, vec_capacity};
-    ghost use Rattle.rb_helpers.specs.Answers.{Answers};
+    ghost use Rattle.rb_helpers.specs.ListedAnswers.{Answers};
 
     ghost Value = { Answers };
 
@@ -139,7 +139,7 @@ impl Helpers for Listed {
         if taken { Ok(()) } else { Err(owned) }
     }
 
-    /// Answers 0 where the next answer is `true`, else `NO_RECORD`.
+    /// Answers 0 where the next answer is `true`, else `-EAGAIN`.
     fn output(&mut self, ring: u32, bytes: &[u8], flags: u64) -> i64
         requires room { 0 < length self.old.left }
         ensures trace { self.new.trace ≡ self.old.trace ++ Output ring (length bytes.now) flags result ∷ [] }
@@ -148,7 +148,7 @@ impl Helpers for Listed {
         ensures given { (start : Answers) (given : List (List ℕ)) → given_calls start.trace + length given ≡ given_calls self.old.trace → given_calls start.trace + length (given ++ bytes.now ∷ []) ≡ given_calls self.new.trace }
         ensures answer { result ≡ output_answer (next_of self.old.left) }
     {
-        let answer = if self.next_answer() { 0 } else { NO_RECORD };
+        let answer = if self.next_answer() { 0 } else { -EAGAIN };
         self.log(Done::Output {
             ring,
             len: bytes.len() as u64,

@@ -1,5 +1,5 @@
-//! The numbers of the helpers (Linux include/uapi/linux/bpf.h), and the answers of an output that are failures. What each helper
-//! does is in bpf-helpers(7).
+//! The numbers of the helpers (Linux include/uapi/linux/bpf.h), and the error numbers that an output returns negated. What each
+//! helper does is in bpf-helpers(7).
 
 /// bpf_ringbuf_output: a record with a copy of bytes, submitted at once.
 pub const OUTPUT: u32 = 130;
@@ -16,8 +16,8 @@ pub const DISCARD: u32 = 133;
 /// bpf_ringbuf_query: one of four numbers of a ring.
 pub const QUERY: u32 = 134;
 
-/// The answer of an output whose flags are above 3: -EINVAL (errno(3)).
-pub const BAD_FLAGS: i64 = -22;
+/// Try again (errno(3)). An output for which no record could be made returns `-EAGAIN`.
+pub const EAGAIN: i64 = 11;
 
-/// The answer of an output for which no record could be made: -EAGAIN (errno(3)).
-pub const NO_RECORD: i64 = -11;
+/// Invalid argument (errno(3)). An output whose flags are above 3 returns `-EINVAL`.
+pub const EINVAL: i64 = 22;

@@ -6,13 +6,13 @@ use Rattle.std.specs.Cmp.{nat_cmp_total, unsigned_tied}
 use Rattle.std.specs.FinMap.{get, insert, remove, find, from_entries, get-insert, get-remove, get-from_entries, same_map, nat_cmp-IsAntisymmetric}
 use Rattle.std.proofs.lemmas.List.Elements.{filter_map-append}
 use Rattle.std.proofs.lemmas.Bool.{cases_eq, eq-eqb, ne_eqb}
-use Rattle.rb_history.specs.declared.stored.StoredRecord.{StoredRecord}
-use Rattle.rb_history.specs.declared.stored.RecordState.{RecordState}
-use Rattle.rb_history.specs.declared.stored.RecordState.TheVariants.{Reserved, Submitted, Discarded as DiscardedState}
+use Rattle.rb_history.specs.declared.stored_records.StoredRecord.{StoredRecord}
+use Rattle.rb_history.specs.declared.stored_records.RecordState.{RecordState}
+use Rattle.rb_history.specs.declared.stored_records.RecordState.TheVariants.{Reserved, Submitted, Discarded as DiscardedState}
 use Rattle.rb_header.specs.Span.{span}
 use Rattle.rb_history.specs.History.{Shown}
-use Rattle.rb_history.specs.Rows.{InRow}
-use Rattle.rb_history.specs.Stored.{shown_record, state_bytes, record_bytes, contents_of}
+use Rattle.rb_history.specs.inner.RecordRows.{InRow}
+use Rattle.rb_history.specs.StoredRecords.{shown_record, state_bytes, record_bytes, contents_of}
 use Rattle.rb_history.proofs.Row.{at-least, InRow-le}
 
 abbrev Held_at : Type 0

@@ -6,15 +6,15 @@ use Rattle.std.proofs.lemmas.List.Folds.{list_any_none, list_any_at}
 use Rattle.std.proofs.lemmas.List.Elements.{All-weaker}
 use Rattle.rb_history.specs.declared.entries.Entry.{Entry}
 use Rattle.rb_history.specs.declared.entries.Entry.TheVariants.{Res, Full, Sub, Dis, Take}
-use Rattle.rb_history.specs.declared.stored.StoredRecord.{StoredRecord}
+use Rattle.rb_history.specs.declared.stored_records.StoredRecord.{StoredRecord}
 use Rattle.rb_history.specs.declared.answers.Taken.{Taken}
 use Rattle.rb_history.specs.declared.answers.Taken.TheVariants.{Event, Skipped, BusyFront, Empty}
-use Rattle.rb_history.specs.History.{is_grant_at, granted, status_of, producer_of, consumer_of}
+use Rattle.rb_history.specs.History.{is_grant_at, is_granted_at, status_of, producer_of, consumer_of}
 use Rattle.rb_history.specs.History.Status.{Busy, Waiting, Discarded}
-use Rattle.rb_history.specs.Legal.{Setup}
-use Rattle.rb_history.specs.View.{Ring}
-use Rattle.rb_history.specs.Rows.{InRow, NamesBelow, Kept}
-use Rattle.rb_history.specs.Stored.{shown_record}
+use Rattle.rb_history.specs.RoomRule.{Setup}
+use Rattle.rb_history.specs.RingModel.{Ring}
+use Rattle.rb_history.specs.inner.RecordRows.{InRow, NamesBelow, HistoryFacts}
+use Rattle.rb_history.specs.StoredRecords.{shown_record}
 use Rattle.rb_history.specs.Calls.{Takes, HasBusyFront, AllTaken}
 use Rattle.rb_history.proofs.Taking.{ring_with}
 
@@ -26,20 +26,20 @@ no-grant p q le (Dis x) b = refl
 no-grant p q le (Take x) b = refl
 
 -- a record stands below the producer position
-pub granted-below : (h : List Entry) (p q : ℕ) → All (NamesBelow p) h → granted h q ≡ true → q < p
+pub granted-below : (h : List Entry) (p q : ℕ) → All (NamesBelow p) h → is_granted_at h q ≡ true → q < p
 granted-below h p q b is = elim (cases_lt q p) [
   | inl lt ↦ lt
   | inr le ↦ absurd (true≢false (sym is ∙ list_any_none (is_grant_at q) h (All-weaker (NamesBelow p) (λ e. is_grant_at q e ≡ false) (no-grant p q le) h b)))
 ]
 
-pub granted-from : (h : List Entry) (w k n q : ℕ) → Contains h (Res w k n q) → granted h q ≡ true
+pub granted-from : (h : List Entry) (w k n q : ℕ) → Contains h (Res w k n q) → is_granted_at h q ≡ true
 granted-from h w k n q is = list_any_at (is_grant_at q) h is.0 (Res w k n q) is.1 (ap (is_grant_at q) is.2 ∙ eq-eqb q q refl)
 
-module _ (r : Setup) (h : List Entry) (stored : List StoredRecord) (p c : ℕ) (k : Kept r h (map shown_record stored) p c) (new : Ring) where
+module _ (r : Setup) (h : List Entry) (stored : List StoredRecord) (p c : ℕ) (k : HistoryFacts r h (map shown_record stored) p c) (new : Ring) where
   old : Ring
   old = ring_with r h stored p c
 
-  apart : granted h (consumer_of r.start h) ≡ true → producer_of r.start h ≡ consumer_of r.start h → ⊥
+  apart : is_granted_at h (consumer_of r.start h) ≡ true → producer_of r.start h ≡ consumer_of r.start h → ⊥
   apart g e =
       let low : consumer_of r.start h < p = granted-below h p (consumer_of r.start h) k.below g in
       omega (arith, low, k.producer_is, e)
@@ -51,8 +51,8 @@ module _ (r : Setup) (h : List Entry) (stored : List StoredRecord) (p c : ℕ) (
   exact-busy Empty a = (λ e. cc, λ b. absurd (apart b.granted_is a.all_taken))
 
   pub exact-empty : (t : Taken) → Takes (ring_with r h stored p c) new t → (t ≡ Empty) ↔ AllTaken (ring_with r h stored p c)
-  exact-empty (Event x w n s) a = (λ e. cc, λ b. absurd (apart (subst (λ q. granted h q ≡ true) a.front (granted-from h w n (length s) x a.granted_is)) b))
-  exact-empty (Skipped x n) a = (λ e. cc, λ b. absurd (apart (subst (λ q. granted h q ≡ true) a.front (granted-from h a.granted_is.0 a.granted_is.1.0 n x a.granted_is.1.1)) b))
+  exact-empty (Event x w n s) a = (λ e. cc, λ b. absurd (apart (subst (λ q. is_granted_at h q ≡ true) a.front (granted-from h w n (length s) x a.granted_is)) b))
+  exact-empty (Skipped x n) a = (λ e. cc, λ b. absurd (apart (subst (λ q. is_granted_at h q ≡ true) a.front (granted-from h a.granted_is.0 a.granted_is.1.0 n x a.granted_is.1.1)) b))
   exact-empty BusyFront a = (λ e. cc, λ b. absurd (apart a.front.granted_is b))
   exact-empty Empty a = (λ e. a.all_taken, λ b. refl)
 

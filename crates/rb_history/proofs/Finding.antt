@@ -3,17 +3,17 @@ use Rattle.std.proofs.Common.{◌≡◌, ℕ, ◌<◌, true, false, List, map, l
 use Rattle.std.specs.List.{Contains}
 use Rattle.std.proofs.lemmas.Bool.{and_parts, eqb-true, eq-eqb}
 use Rattle.rb_history.specs.declared.entries.Entry.{Entry}
-use Rattle.rb_history.specs.declared.stored.StoredRecord.{StoredRecord}
-use Rattle.rb_history.specs.declared.stored.RecordState.TheVariants.{Reserved}
-use Rattle.rb_history.specs.History.{Shown, status_by, status_of, submitted, discarded}
+use Rattle.rb_history.specs.declared.stored_records.StoredRecord.{StoredRecord}
+use Rattle.rb_history.specs.declared.stored_records.RecordState.TheVariants.{Reserved}
+use Rattle.rb_history.specs.History.{Shown, status_by, status_of, is_submitted_at, is_discarded_at}
 use Rattle.rb_history.specs.History.Status.{Busy}
-use Rattle.rb_history.specs.Granted.{Granted}
-use Rattle.rb_history.specs.Legal.{Setup}
-use Rattle.rb_history.specs.Rows.{Kept}
-use Rattle.rb_history.specs.Stored.{shown_record, state_status}
-use Rattle.rb_history.specs.Stored.{is_reserved_by}
+use Rattle.rb_history.specs.ReservationModel.{Granted}
+use Rattle.rb_history.specs.RoomRule.{Setup}
+use Rattle.rb_history.specs.inner.RecordRows.{HistoryFacts}
+use Rattle.rb_history.specs.StoredRecords.{shown_record, state_status}
+use Rattle.rb_history.specs.StoredRecords.{is_reserved_by}
 use Rattle.rb_history.specs.Calls.{IsBusy}
-use Rattle.rb_history.specs.Rows.{IsBusyAt}
+use Rattle.rb_history.specs.inner.RecordRows.{IsBusyAt}
 use Rattle.rb_history.proofs.Steps.{Named}
 use Rattle.rb_history.proofs.Row.{get_or-default}
 use Rattle.rb_history.proofs.Taking.{held-state, state-held}
@@ -45,7 +45,7 @@ reserved v s is =
 is-reserved : (v : Granted) (s : StoredRecord) → HasNumbers v s → is_reserved_by v s ≡ true
 is-reserved v s r = rw (r.held, eq-eqb _ _ r.pos_is, eq-eqb _ _ r.worker_is, eq-eqb _ _ r.serial_is, eq-eqb _ _ r.len_is) refl
 
-module _ (r : Setup) (h : List Entry) (stored : List StoredRecord) (p c : ℕ) (k : Kept r h (map shown_record stored) p c) (v : Granted) where
+module _ (r : Setup) (h : List Entry) (stored : List StoredRecord) (p c : ℕ) (k : HistoryFacts r h (map shown_record stored) p c) (v : Granted) where
   pub found-at : (i : ℕ) (s : StoredRecord) → i < length stored → s ≡ get_or stored i s → is_reserved_by v s ≡ true → IsBusyAt (map shown_record stored) i v.pos (length v.bytes)
   found-at i s low at on =
       let z = reserved v s on in
@@ -73,8 +73,8 @@ module _ (r : Setup) (h : List Entry) (stored : List StoredRecord) (p c : ℕ) (
   busy-there b =
       let t = busy-untaken r h stored p c k v.pos b.busy in
       let there = in-row r h stored p c k v.worker v.serial (length v.bytes) v.pos t b.granted_is in
-      let st : status_by (submitted h v.pos) (discarded h v.pos) false ≡ Busy = ap (status_by (submitted h v.pos) (discarded h v.pos)) (sym t) ∙ b.busy in
-      let x : Shown = record { pos = v.pos; len = length v.bytes; worker = v.worker; serial = v.serial; status = status_by (submitted h v.pos) (discarded h v.pos) false } in
+      let st : status_by (is_submitted_at h v.pos) (is_discarded_at h v.pos) false ≡ Busy = ap (status_by (is_submitted_at h v.pos) (is_discarded_at h v.pos)) (sym t) ∙ b.busy in
+      let x : Shown = record { pos = v.pos; len = length v.bytes; worker = v.worker; serial = v.serial; status = status_by (is_submitted_at h v.pos) (is_discarded_at h v.pos) false } in
       let d : StoredRecord = record { pos = 0; len = 0; worker = 0; serial = 0; state = Reserved } in
       let i = there.0 in
       let s = get_or stored i d in

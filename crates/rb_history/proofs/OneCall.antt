@@ -8,11 +8,12 @@ use Rattle.std.proofs.lemmas.List.Elements.{Contains-append_left}
 use Rattle.std.proofs.lemmas.Bool.{cases_eq, eq-eqb, ne_eqb, cases_Bool, false_from_ne_true}
 use Rattle.rb_history.specs.declared.entries.Entry.{Entry}
 use Rattle.rb_history.specs.declared.entries.Entry.TheVariants.{Res, Full, Sub, Dis, Take}
-use Rattle.rb_history.specs.History.{status_by, status_of, is_submit, is_discard, is_take, submitted, discarded, taken, records, producer_of, consumer_of}
+use Rattle.rb_history.specs.History.{status_by, status_of, is_submit, is_discard, is_take, is_submitted_at, is_discarded_at, is_taken_at, records, producer_of, consumer_of}
 use Rattle.rb_history.specs.History.Status.{Busy, Waiting, Consumed, Discarded}
-use Rattle.rb_history.specs.Legal.{Setup, MayFollow}
-use Rattle.rb_history.specs.View.{Ring, Contents, StandsFor, HasLength}
-use Rattle.rb_history.specs.Steps.{IsOneCall, EachEntryIsOneCall}
+use Rattle.rb_history.specs.RoomRule.{Setup}
+use Rattle.rb_history.specs.Legal.{MayFollow}
+use Rattle.rb_history.specs.RingModel.{Ring, Contents, StandsFor, HasLength}
+use Rattle.rb_history.specs.OneCall.{IsOneCall, EachEntryIsOneCall}
 use Rattle.rb_history.proofs.Lists.{list_any-snoc, or-false}
 use Rattle.rb_history.proofs.Contents.{hit-yes, hit-no}
 use Rattle.rb_history.proofs.Standing.{grant-stands}
@@ -35,11 +36,11 @@ longer : (h : List Entry) (e : Entry) (q n : ℕ) → HasLength h q n → HasLen
 longer h e q n a = (a.0, (a.1.0, Contains-append_left h (e ∷ []) _ a.1.1))
 
 -- the status of a record after one entry more
-after : (h : List Entry) (e : Entry) (q : ℕ) → status_of (h ++ e ∷ []) q ≡ status_by (submitted h q || is_submit q e) (discarded h q || is_discard q e) (taken h q || is_take q e)
+after : (h : List Entry) (e : Entry) (q : ℕ) → status_of (h ++ e ∷ []) q ≡ status_by (is_submitted_at h q || is_submit q e) (is_discarded_at h q || is_discard q e) (is_taken_at h q || is_take q e)
 after h e q = rw (list_any-snoc (is_submit q) h e, list_any-snoc (is_discard q) h e, list_any-snoc (is_take q) h e)
 
 quiet : (h : List Entry) (e : Entry) (q : ℕ) → is_submit q e ≡ false → is_discard q e ≡ false → is_take q e ≡ false → status_of (h ++ e ∷ []) q ≡ status_of h q
-quiet h e q s d t = after h e q ∙ rw (s, d, t, or-false (submitted h q), or-false (discarded h q), or-false (taken h q))
+quiet h e q s d t = after h e q ∙ rw (s, d, t, or-false (is_submitted_at h q), or-false (is_discarded_at h q), or-false (is_taken_at h q))
 
 module _ (old : Ring) (a : StandsFor old) where
   -- an entry that changes no record leaves the contents
@@ -104,10 +105,10 @@ module _ (old : Ring) (a : StandsFor old) where
     ];
   }
 
-busy-free : (r : Setup) (h : List Entry) (p : ℕ) → KeptAs r h → submitted h p ≡ false → discarded h p ≡ false → taken h p ≡ false
-busy-free r h p k s d = false_from_ne_true (taken h p) (λ t. (let settled : (submitted h p || discarded h p) ≡ true = k.closed p t in let none : false ≡ true = sym (rw (s, d)) ∙ settled in cc))
+busy-free : (r : Setup) (h : List Entry) (p : ℕ) → KeptAs r h → is_submitted_at h p ≡ false → is_discarded_at h p ≡ false → is_taken_at h p ≡ false
+busy-free r h p k s d = false_from_ne_true (is_taken_at h p) (λ t. (let settled : (is_submitted_at h p || is_discarded_at h p) ≡ true = k.closed p t in let none : false ≡ true = sym (rw (s, d)) ∙ settled in cc))
 
-status-of : (h : List Entry) (p : ℕ) (s d t : Bool) → submitted h p ≡ s → discarded h p ≡ d → taken h p ≡ t → status_of h p ≡ status_by s d t
+status-of : (h : List Entry) (p : ℕ) (s d t : Bool) → is_submitted_at h p ≡ s → is_discarded_at h p ≡ d → is_taken_at h p ≡ t → status_of h p ≡ status_by s d t
 status-of h p s d t e f g = rw (e, f, g)
 
 busy-by : (t : Bool) → status_by false false t ≡ Busy
@@ -119,8 +120,8 @@ discarded-by s t = refl
 apart : (p q : ℕ) → q ≢ p → eqb p q ≡ false
 apart p q other = ne_eqb p q (λ e. other (sym e))
 
-settle-free : (h : List Entry) (p : ℕ) → submitted h p ≡ false → discarded h p ≡ false → status_of h p ≡ Waiting → ⊥
-settle-free h p s d w = let no_way : Busy ≡ Waiting = sym (status-of h p false false (taken h p) s d refl) ∙ w in cc
+settle-free : (h : List Entry) (p : ℕ) → is_submitted_at h p ≡ false → is_discarded_at h p ≡ false → status_of h p ≡ Waiting → ⊥
+settle-free h p s d w = let no_way : Busy ≡ Waiting = sym (status-of h p false false (is_taken_at h p) s d refl) ∙ w in cc
 
 module _ (old : Ring) (a : StandsFor old) where
   setup : Setup
@@ -164,7 +165,7 @@ module _ (old : Ring) (a : StandsFor old) where
       let free = busy-free old.setup h p k m.1 m.2 in
       let now : status_of (h ++ e ∷ []) p ≡ Waiting = after h e p ∙ rw (m.1, m.2, free, eq-eqb p p refl) refl in
       let c = holds-insert old a e p bytes (g.0, (g.1.0, there)) now (λ q other. quiet h e q (apart p q other) refl refl) in
-      let busy : status_of h p ≡ Busy = status-of h p false false (taken h p) m.1 m.2 refl ∙ busy-by (taken h p) in (
+      let busy : status_of h p ≡ Busy = status-of h p false false (is_taken_at h p) m.1 m.2 refl ∙ busy-by (is_taken_at h p) in (
         ring_for old.setup (h ++ e ∷ []) (insert old.contents p bytes),
         record {
           stands = stands-for old.setup h (h ++ e ∷ []) old.contents (insert old.contents p bytes) c;
@@ -194,7 +195,7 @@ module _ (old : Ring) (a : StandsFor old) where
       let there : Contains h (Res g.0 g.1.0 (length bytes) p) = subst (λ n. Contains h (Res g.0 g.1.0 n p)) long g.1.1.1 in
       let now : status_of (h ++ e ∷ []) p ≡ Discarded = after h e p ∙ rw (m.1, m.2, eq-eqb p p refl) refl in
       let c = holds-still old a e p (settle-free h p m.1 m.2) (λ w. (let no_way : Discarded ≡ Waiting = sym now ∙ w in cc)) (λ q other. quiet h e q refl (apart p q other) refl) in
-      let busy : status_of h p ≡ Busy = status-of h p false false (taken h p) m.1 m.2 refl ∙ busy-by (taken h p) in (
+      let busy : status_of h p ≡ Busy = status-of h p false false (is_taken_at h p) m.1 m.2 refl ∙ busy-by (is_taken_at h p) in (
         ring_for old.setup (h ++ e ∷ []) old.contents,
         record {
           stands = stands-for old.setup h (h ++ e ∷ []) old.contents old.contents c;
@@ -213,13 +214,13 @@ module _ (old : Ring) (a : StandsFor old) where
         },
       )
 
-  skip : (p : ℕ) → KeptAs old.setup old.history → MayFollow old.setup old.history (Take p) → discarded old.history p ≡ true → (new : Ring) × IsOneCall old (Take p) new
+  skip : (p : ℕ) → KeptAs old.setup old.history → MayFollow old.setup old.history (Take p) → is_discarded_at old.history p ≡ true → (new : Ring) × IsOneCall old (Take p) new
   unfolding ring_for
   skip p k m d =
       let h = old.history in
       let e = Take p in
       let g = grant-stands h p (k.named p m.1) in
-      let was : status_of h p ≡ Discarded = status-of h p (submitted h p) true (taken h p) refl d refl ∙ discarded-by (submitted h p) (taken h p) in
+      let was : status_of h p ≡ Discarded = status-of h p (is_submitted_at h p) true (is_taken_at h p) refl d refl ∙ discarded-by (is_submitted_at h p) (is_taken_at h p) in
       let now : status_of (h ++ e ∷ []) p ≡ Discarded = after h e p ∙ rw d refl in
       let c = holds-still old a e p (λ w. (let no_way : Discarded ≡ Waiting = sym was ∙ w in cc)) (λ w. (let no_way : Discarded ≡ Waiting = sym now ∙ w in cc)) (λ q other. quiet h e q refl refl (apart p q other)) in (
         ring_for old.setup (h ++ e ∷ []) old.contents,
@@ -239,19 +240,19 @@ module _ (old : Ring) (a : StandsFor old) where
         },
       )
 
-  hand-out : (p : ℕ) → KeptAs old.setup old.history → MayFollow old.setup old.history (Take p) → discarded old.history p ≡ false → submitted old.history p ≡ true →
+  hand-out : (p : ℕ) → KeptAs old.setup old.history → MayFollow old.setup old.history (Take p) → is_discarded_at old.history p ≡ false → is_submitted_at old.history p ≡ true →
       (o : Option (List ℕ)) → get old.contents p ≡ o → (new : Ring) × IsOneCall old (Take p) new
   unfolding ring_for
   hand-out p k m d s None is =
       let h = old.history in
-      let free : taken h p ≡ false = false_from_ne_true (taken h p) (λ t. omega (arith, k.passed p t, m.0)) in
+      let free : is_taken_at h p ≡ false = false_from_ne_true (is_taken_at h p) (λ t. omega (arith, k.passed p t, m.0)) in
       let was : status_of h p ≡ Waiting = status-of h p true false false s d free in
       let none : false ≡ true = sym (ap is_some is) ∙ (a.contents p).1 was in
       cc
   hand-out p k m d s (Some bytes) is =
       let h = old.history in
       let e = Take p in
-      let free : taken h p ≡ false = false_from_ne_true (taken h p) (λ t. omega (arith, k.passed p t, m.0)) in
+      let free : is_taken_at h p ≡ false = false_from_ne_true (is_taken_at h p) (λ t. omega (arith, k.passed p t, m.0)) in
       let was : status_of h p ≡ Waiting = status-of h p true false false s d free in
       let long = a.sized p bytes is in
       let now : status_of (h ++ e ∷ []) p ≡ Consumed = after h e p ∙ rw (s, d, free, eq-eqb p p refl) refl in
@@ -281,10 +282,10 @@ module _ (old : Ring) (a : StandsFor old) where
       )
 
   call-take : (p : ℕ) → KeptAs old.setup old.history → MayFollow old.setup old.history (Take p) → (new : Ring) × IsOneCall old (Take p) new
-  call-take p k m = elim (cases_Bool (discarded old.history p)) [
+  call-take p k m = elim (cases_Bool (is_discarded_at old.history p)) [
     | inl d ↦ skip p k m d
     | inr d ↦
-        let s : submitted old.history p ≡ true = sym (rw (d, or-false (submitted old.history p))) ∙ m.1 in
+        let s : is_submitted_at old.history p ≡ true = sym (rw (d, or-false (is_submitted_at old.history p))) ∙ m.1 in
         hand-out p k m d s (get old.contents p) refl
   ]
 

@@ -6,7 +6,7 @@ use Rattle.rb_header.specs.Span.{span}
 use Rattle.rb_history.specs.History.{Shown, Status}
 use Rattle.rb_history.proofs.Lists.{sum_by-cons}
 use Rattle.rb_history.proofs.Steps.{mark, elsewhere, shown_span}
-use Rattle.rb_history.specs.Rows.{InRow}
+use Rattle.rb_history.specs.inner.RecordRows.{InRow}
 
 pub InRow-le : (c : ℕ) (ss : List Shown) (p : ℕ) → InRow c ss p → c ≤ p
 InRow-le c [] p h = omega arith

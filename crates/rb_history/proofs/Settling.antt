@@ -7,16 +7,16 @@ use Rattle.std.specs.Prelude.{Result, Ok, Err, is_err, OnOk}
 use Rattle.std.proofs.lemmas.List.{map-append}
 use Rattle.rb_history.specs.declared.entries.Entry.{Entry}
 use Rattle.rb_history.specs.declared.entries.Entry.TheVariants.{Res, Sub, Dis}
-use Rattle.rb_history.specs.declared.stored.StoredRecord.{StoredRecord}
-use Rattle.rb_history.specs.declared.stored.RecordState.{RecordState}
-use Rattle.rb_history.specs.declared.stored.RecordState.TheVariants.{Reserved, Submitted, Discarded as DiscardedState}
+use Rattle.rb_history.specs.declared.stored_records.StoredRecord.{StoredRecord}
+use Rattle.rb_history.specs.declared.stored_records.RecordState.{RecordState}
+use Rattle.rb_history.specs.declared.stored_records.RecordState.TheVariants.{Reserved, Submitted, Discarded as DiscardedState}
 use Rattle.rb_header.specs.Span.{span}
 use Rattle.rb_history.specs.History.{Shown, grants}
 use Rattle.rb_history.specs.History.Status.{Busy, Waiting, Discarded}
-use Rattle.rb_history.specs.Legal.{Setup, Fits}
-use Rattle.rb_history.specs.Rows.{Kept}
-use Rattle.rb_history.specs.Stored.{shown_record, state_status, record_bytes, contents_of, entries_owed}
-use Rattle.rb_history.specs.Rows.{IsBusyAt}
+use Rattle.rb_history.specs.RoomRule.{Setup, HasRoomFor}
+use Rattle.rb_history.specs.inner.RecordRows.{HistoryFacts}
+use Rattle.rb_history.specs.StoredRecords.{shown_record, state_status, record_bytes, contents_of, entries_owed}
+use Rattle.rb_history.specs.inner.RecordRows.{IsBusyAt}
 use Rattle.rb_history.proofs.Lists.{sum_by-cons, sum_by-snoc}
 use Rattle.rb_history.proofs.Row.{get_or-default}
 use Rattle.rb_history.proofs.Taking.{state-held}
@@ -53,8 +53,8 @@ map-set f [] i y = refl
 map-set f (t ∷ stored) zero y = refl
 map-set f (t ∷ stored) (suc i) y = ap (λ l. f t ∷ l) (map-set f stored i y)
 
-pub kept-grant : (r : Setup) (h : List Entry) (stored : List StoredRecord) (p c w s n : ℕ) → Kept r h (map shown_record stored) p c → w < r.workers → s ≡ grants w h → Fits r h n →
-    Kept r (h ++ Res w s n p ∷ []) (map shown_record (stored ++ record { pos = p; len = n; worker = w; serial = s; state = Reserved } ∷ [])) (p + span n) c
+pub kept-grant : (r : Setup) (h : List Entry) (stored : List StoredRecord) (p c w s n : ℕ) → HistoryFacts r h (map shown_record stored) p c → w < r.workers → s ≡ grants w h → HasRoomFor r h n →
+    HistoryFacts r (h ++ Res w s n p ∷ []) (map shown_record (stored ++ record { pos = p; len = n; worker = w; serial = s; state = Reserved } ∷ [])) (p + span n) c
 kept-grant r h stored p c w s n k in_workers serial room =
     rw (map-append shown_record stored (record { pos = p; len = n; worker = w; serial = s; state = Reserved } ∷ []))
     (kept-res r h (map shown_record stored) p c w s n k in_workers serial room)
@@ -79,7 +79,7 @@ busy-record stored i t pos n b is =
       held = state-held t.state (ap (λ x. x.status) (sym same) ∙ here.2);
     }
 
-module _ (r : Setup) (h : List Entry) (stored : List StoredRecord) (i : ℕ) (t : StoredRecord) (pos n p c : ℕ) (b : BusyRecord stored i t pos n) (k : Kept r h (map shown_record stored) p c) where
+module _ (r : Setup) (h : List Entry) (stored : List StoredRecord) (i : ℕ) (t : StoredRecord) (pos n p c : ℕ) (b : BusyRecord stored i t pos n) (k : HistoryFacts r h (map shown_record stored) p c) where
   seen : get_or (map shown_record stored) i (shown_record t) ≡ shown_record t
   seen = get-map shown_record stored i t ∙ ap shown_record (sym b.there)
 
@@ -89,19 +89,19 @@ module _ (r : Setup) (h : List Entry) (stored : List StoredRecord) (i : ℕ) (t 
   busy : (get_or (map shown_record stored) i (shown_record t)).status ≡ Busy
   busy = ap (λ x. x.status) seen ∙ ap state_status b.held
 
-  pub kept-send : (bytes : List ℕ) → Kept r (h ++ Sub pos ∷ []) (map shown_record (set stored i (record t { state = Submitted bytes }))) p c
+  pub kept-send : (bytes : List ℕ) → HistoryFacts r (h ++ Sub pos ∷ []) (map shown_record (set stored i (record t { state = Submitted bytes }))) p c
   kept-send bytes =
       let step = kept-sub r h (map shown_record stored) p c i (shown_record t) k inside busy in
-      let same = subst (λ x. Kept r (h ++ Sub x.pos ∷ []) (set (map shown_record stored) i (record x { status = Waiting })) p c) seen step in
-      let listed = subst (λ ss. Kept r (h ++ Sub t.pos ∷ []) ss p c) (map-set shown_record stored i (record t { state = Submitted bytes })) same in
-      subst (λ q. Kept r (h ++ Sub q ∷ []) (map shown_record (set stored i (record t { state = Submitted bytes }))) p c) b.at listed
+      let same = subst (λ x. HistoryFacts r (h ++ Sub x.pos ∷ []) (set (map shown_record stored) i (record x { status = Waiting })) p c) seen step in
+      let listed = subst (λ ss. HistoryFacts r (h ++ Sub t.pos ∷ []) ss p c) (map-set shown_record stored i (record t { state = Submitted bytes })) same in
+      subst (λ q. HistoryFacts r (h ++ Sub q ∷ []) (map shown_record (set stored i (record t { state = Submitted bytes }))) p c) b.at listed
 
-  pub kept-drop : Kept r (h ++ Dis pos ∷ []) (map shown_record (set stored i (record t { state = DiscardedState }))) p c
+  pub kept-drop : HistoryFacts r (h ++ Dis pos ∷ []) (map shown_record (set stored i (record t { state = DiscardedState }))) p c
   kept-drop =
       let step = kept-dis r h (map shown_record stored) p c i (shown_record t) k inside busy in
-      let same = subst (λ x. Kept r (h ++ Dis x.pos ∷ []) (set (map shown_record stored) i (record x { status = Discarded })) p c) seen step in
-      let listed = subst (λ ss. Kept r (h ++ Dis t.pos ∷ []) ss p c) (map-set shown_record stored i (record t { state = DiscardedState })) same in
-      subst (λ q. Kept r (h ++ Dis q ∷ []) (map shown_record (set stored i (record t { state = DiscardedState }))) p c) b.at listed
+      let same = subst (λ x. HistoryFacts r (h ++ Dis x.pos ∷ []) (set (map shown_record stored) i (record x { status = Discarded })) p c) seen step in
+      let listed = subst (λ ss. HistoryFacts r (h ++ Dis t.pos ∷ []) ss p c) (map-set shown_record stored i (record t { state = DiscardedState })) same in
+      subst (λ q. HistoryFacts r (h ++ Dis q ∷ []) (map shown_record (set stored i (record t { state = DiscardedState }))) p c) b.at listed
 
   found : (y : StoredRecord) → get_or stored i y ≡ t
   found y = get_or-default stored i y t b.within ∙ sym b.there

@@ -8,20 +8,20 @@ use Rattle.std.proofs.lemmas.List.Elements.{All-head, All-tail, Contains-append_
 use Rattle.std.proofs.lemmas.Bool.{cases_eq, eqb-true, or_cases, or_left, cases_Bool}
 use Rattle.rb_history.specs.declared.entries.Entry.{Entry}
 use Rattle.rb_history.specs.declared.entries.Entry.TheVariants.{Res, Full, Sub, Dis, Take}
-use Rattle.rb_history.specs.declared.stored.StoredRecord.{StoredRecord}
-use Rattle.rb_history.specs.declared.stored.RecordState.{RecordState}
-use Rattle.rb_history.specs.declared.stored.RecordState.TheVariants.{Reserved, Submitted, Discarded as DiscardedState}
-use Rattle.rb_history.specs.History.{Shown, status_by, status_of, is_grant_at, granted, submitted, discarded, taken}
+use Rattle.rb_history.specs.declared.stored_records.StoredRecord.{StoredRecord}
+use Rattle.rb_history.specs.declared.stored_records.RecordState.{RecordState}
+use Rattle.rb_history.specs.declared.stored_records.RecordState.TheVariants.{Reserved, Submitted, Discarded as DiscardedState}
+use Rattle.rb_history.specs.History.{Shown, status_by, status_of, is_grant_at, is_granted_at, is_submitted_at, is_discarded_at, is_taken_at}
 use Rattle.rb_history.specs.History.Status.{Busy, Waiting, Discarded}
-use Rattle.rb_history.specs.Legal.{Setup}
-use Rattle.rb_history.specs.Rows.{Kept}
-use Rattle.rb_history.specs.View.{HasLength}
-use Rattle.rb_history.specs.Stored.{IsSized, SizedAs, shown_record, state_status, record_bytes, contents_of}
+use Rattle.rb_history.specs.RoomRule.{Setup}
+use Rattle.rb_history.specs.inner.RecordRows.{HistoryFacts}
+use Rattle.rb_history.specs.RingModel.{HasLength}
+use Rattle.rb_history.specs.StoredRecords.{IsSized, SizedAs, shown_record, state_status, record_bytes, contents_of}
 use Rattle.rb_history.proofs.Steps.{Named, named, shown-contains}
 use Rattle.rb_history.proofs.Contents.{hit-yes, hit-no}
 
 pub head-status : (h : List Entry) (s : Shown) → Named h h s → status_of h s.pos ≡ s.status
-head-status h s n = ap (status_by (submitted h s.pos) (discarded h s.pos)) n.taken_is ∙ n.status_is
+head-status h s n = ap (status_by (is_submitted_at h s.pos) (is_discarded_at h s.pos)) n.taken_is ∙ n.status_is
 
 some-waiting : (h : List Entry) (stored : List StoredRecord) (q : ℕ) → All (Named h h) (map shown_record stored) → is_some (find nat_cmp q (filter_map record_bytes stored)) ≡ true → status_of h q ≡ Waiting
 some-waiting h [] q a is = cc
@@ -42,9 +42,9 @@ waiting-parts true false false e = (refl, refl, refl)
 waiting-parts false false t e = cc
 
 -- who was granted the record at a position
-pub grant-stands : (h : List Entry) (q : ℕ) → granted h q ≡ true → (w : ℕ) × ((s : ℕ) × ((n : ℕ) × Contains h (Res w s n q)))
+pub grant-stands : (h : List Entry) (q : ℕ) → is_granted_at h q ≡ true → (w : ℕ) × ((s : ℕ) × ((n : ℕ) × Contains h (Res w s n q)))
 grant-stands [] q is = cc
-grant-stands (e ∷ h) q is = elim (or_cases (is_grant_at q e) (granted h q) is) [
+grant-stands (e ∷ h) q is = elim (or_cases (is_grant_at q e) (is_granted_at h q) is) [
   | inl here ↦ first e here
   | inr more ↦ let g = grant-stands h q more in (g.0, (g.1.0, (g.1.1.0, Contains-append_right (e ∷ []) h _ g.1.1.1)))
 ]
@@ -70,13 +70,13 @@ waiting-some (t ∷ stored) x (suc k, l, is) w = past (record_bytes t) (waiting-
     past None r = r
     past (Some e) r = elim (eq_by_cmp nat_cmp x.pos e.0) as (λ b. is_some (cond b (Some e.1) (find nat_cmp x.pos (filter_map record_bytes stored))) ≡ true) [ true ↦ refl | false ↦ r ]
 
-module _ (r : Setup) (h : List Entry) (stored : List StoredRecord) (p c : ℕ) (k : Kept r h (map shown_record stored) p c) where
+module _ (r : Setup) (h : List Entry) (stored : List StoredRecord) (p c : ℕ) (k : HistoryFacts r h (map shown_record stored) p c) where
   pub all-named : All (Named h h) (map shown_record stored)
   all-named = rw k.shown (named h h)
 
-  pub busy-untaken : (q : ℕ) → status_of h q ≡ Busy → taken h q ≡ false
-  busy-untaken q b = elim (cases_Bool (taken h q)) [
-    | inl t ↦ absurd (clash (submitted h q) (discarded h q) (taken h q) b (k.closed q t))
+  pub busy-untaken : (q : ℕ) → status_of h q ≡ Busy → is_taken_at h q ≡ false
+  busy-untaken q b = elim (cases_Bool (is_taken_at h q)) [
+    | inl t ↦ absurd (clash (is_submitted_at h q) (is_discarded_at h q) (is_taken_at h q) b (k.closed q t))
     | inr f ↦ f
   ]
     where
@@ -87,8 +87,8 @@ module _ (r : Setup) (h : List Entry) (stored : List StoredRecord) (p c : ℕ) (
       clash false false t e o = cc
 
   -- a record that was granted and not taken stands in the row
-  pub in-row : (w s n q : ℕ) → taken h q ≡ false → Contains h (Res w s n q) →
-      Contains (map shown_record stored) (record { pos = q; len = n; worker = w; serial = s; status = status_by (submitted h q) (discarded h q) false })
+  pub in-row : (w s n q : ℕ) → is_taken_at h q ≡ false → Contains h (Res w s n q) →
+      Contains (map shown_record stored) (record { pos = q; len = n; worker = w; serial = s; status = status_by (is_submitted_at h q) (is_discarded_at h q) false })
   in-row w s n q t is = rw k.shown (shown-contains h h w s n q t is)
 
   to-waiting : (q : ℕ) → is_some (get (contents_of stored) q) ≡ true → status_of h q ≡ Waiting
@@ -96,8 +96,8 @@ module _ (r : Setup) (h : List Entry) (stored : List StoredRecord) (p c : ℕ) (
 
   from-waiting : (q : ℕ) → status_of h q ≡ Waiting → is_some (get (contents_of stored) q) ≡ true
   from-waiting q w =
-      let parts = waiting-parts (submitted h q) (discarded h q) (taken h q) w in
-      let g = grant-stands h q (k.named q (or_left (submitted h q) (discarded h q) parts.0)) in
+      let parts = waiting-parts (is_submitted_at h q) (is_discarded_at h q) (is_taken_at h q) w in
+      let g = grant-stands h q (k.named q (or_left (is_submitted_at h q) (is_discarded_at h q) parts.0)) in
       let there = in-row g.0 g.1.0 g.1.1.0 q parts.2 g.1.1.1 in
       ap is_some (get-from_entries nat_cmp_total (filter_map record_bytes stored) q)
       ∙ waiting-some stored _ there (rw (parts.0, parts.1))
@@ -125,7 +125,7 @@ found-record h (t ∷ stored) q bytes a s is = at t.state refl (found-record h s
       | inr other ↦ rest (rw (e, hit-no q t.pos other) at is)
     ]
 
-module _ (r : Setup) (h : List Entry) (stored : List StoredRecord) (p c : ℕ) (k : Kept r h (map shown_record stored) p c) (s : All IsSized stored) where
+module _ (r : Setup) (h : List Entry) (stored : List StoredRecord) (p c : ℕ) (k : HistoryFacts r h (map shown_record stored) p c) (s : All IsSized stored) where
   pub contents-sized : (q : ℕ) (bytes : List ℕ) → get (contents_of stored) q ≡ Some bytes → HasLength h q (length bytes)
   contents-sized q bytes is =
       found-record h stored q bytes (all-named r h stored p c k) s (sym (get-from_entries nat_cmp_total (filter_map record_bytes stored) q) ∙ is)

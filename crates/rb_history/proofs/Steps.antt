@@ -7,7 +7,7 @@ use Rattle.std.proofs.lemmas.List.Elements.{All-nil, All-cons, All-weaker, Conta
 use Rattle.rb_history.specs.declared.entries.Entry.{Entry}
 use Rattle.rb_history.specs.declared.entries.Entry.TheVariants.{Res, Full, Sub, Dis, Take}
 use Rattle.rb_header.specs.Span.{span}
-use Rattle.rb_history.specs.History.{Shown, Status, status_by, status_of, is_submit, is_discard, is_take, granted, submitted, discarded, taken, granted_span, granted_span_at, taken_span, producer_of, consumer_of, untaken, records}
+use Rattle.rb_history.specs.History.{Shown, Status, status_by, status_of, is_submit, is_discard, is_take, is_granted_at, is_submitted_at, is_discarded_at, is_taken_at, granted_span, granted_span_at, taken_span, producer_of, consumer_of, untaken, records}
 use Rattle.rb_history.specs.History.Status.{Busy, Waiting, Discarded}
 use Rattle.rb_history.proofs.Lists.{option_map, option_filter, or-false, list_any-snoc, sum_by-snoc, sum_by-cons, sum_by-agree, opt_sum, sum_by-only, filter_map-agree, filter_map-map, filter_map-filter}
 
@@ -20,9 +20,9 @@ elsewhere p s = not (s.pos == p)
 
 -- two histories that say the same of every record
 pub record Alike (h k : List Entry) : Type 0 where
-  pub taken_same : (q : ℕ) → taken k q ≡ taken h q
-  pub submitted_same : (q : ℕ) → submitted k q ≡ submitted h q
-  pub discarded_same : (q : ℕ) → discarded k q ≡ discarded h q
+  pub taken_same : (q : ℕ) → is_taken_at k q ≡ is_taken_at h q
+  pub submitted_same : (q : ℕ) → is_submitted_at k q ≡ is_submitted_at h q
+  pub discarded_same : (q : ℕ) → is_discarded_at k q ≡ is_discarded_at h q
 
 untaken-alike : (h k : List Entry) → Alike h k → (e : Entry) → untaken k e ≡ untaken h e
 untaken-alike h k a (Res w n l q) = simp (a.taken_same, a.submitted_same, a.discarded_same)
@@ -57,11 +57,11 @@ res-alike h w k n p = record {
   discarded_same = λ q. list_any-snoc (is_discard q) h (Res w k n p) ∙ or-false _;
 }
 
-untaken-new : (h k : List Entry) (w s n p : ℕ) → Alike h k → taken h p ≡ false → submitted h p ≡ false → discarded h p ≡ false →
+untaken-new : (h k : List Entry) (w s n p : ℕ) → Alike h k → is_taken_at h p ≡ false → is_submitted_at h p ≡ false → is_discarded_at h p ≡ false →
     untaken k (Res w s n p) ≡ Some (record { pos = p; len = n; worker = w; serial = s; status = Busy })
 untaken-new h k w s n p a t u d = simp (a.taken_same p ∙ t, a.submitted_same p ∙ u, a.discarded_same p ∙ d)
 
-pub records-res : (h : List Entry) (w s n p : ℕ) → taken h p ≡ false → submitted h p ≡ false → discarded h p ≡ false →
+pub records-res : (h : List Entry) (w s n p : ℕ) → is_taken_at h p ≡ false → is_submitted_at h p ≡ false → is_discarded_at h p ≡ false →
     records (h ++ Res w s n p ∷ []) ≡ records h ++ record { pos = p; len = n; worker = w; serial = s; status = Busy } ∷ []
 records-res h w s n p t u d =
     let k = h ++ Res w s n p ∷ [] in
@@ -84,9 +84,9 @@ marked w s n q p st false false sk sh dk dh e y z =
     elim (cases_eq q p) [ inl same ↦ rw (eq-eqb q p same, y same) | inr other ↦ rw (ne_eqb q p other, z other) ]
 
 pub record Settles (h k : List Entry) (p : ℕ) (st : Status) : Type 0 where
-  pub taken_same : (q : ℕ) → taken k q ≡ taken h q
-  pub here : (q : ℕ) → q ≡ p → status_by (submitted k q) (discarded k q) false ≡ st
-  pub others : (q : ℕ) → q ≢ p → status_by (submitted k q) (discarded k q) false ≡ status_by (submitted h q) (discarded h q) false
+  pub taken_same : (q : ℕ) → is_taken_at k q ≡ is_taken_at h q
+  pub here : (q : ℕ) → q ≡ p → status_by (is_submitted_at k q) (is_discarded_at k q) false ≡ st
+  pub others : (q : ℕ) → q ≢ p → status_by (is_submitted_at k q) (is_discarded_at k q) false ≡ status_by (is_submitted_at h q) (is_discarded_at h q) false
 
 untaken-settled : (h k : List Entry) (p : ℕ) (st : Status) → Settles h k p st → (e : Entry) → untaken k e ≡ option_map (mark p st) (untaken h e)
 untaken-settled h k p st a (Res w s n q) = marked w s n q p st _ _ _ _ _ _ (a.taken_same q) (a.here q) (a.others q)
@@ -111,33 +111,33 @@ dis_here s false false e = cc
 dis_other : (s a b : Bool) → b ≡ false → status_by s (a || b) false ≡ status_by s a false
 dis_other s a b e = rw (e, or-false a)
 
-sub-settles : (h : List Entry) (p : ℕ) → discarded h p ≡ false → Settles h (h ++ Sub p ∷ []) p Waiting
+sub-settles : (h : List Entry) (p : ℕ) → is_discarded_at h p ≡ false → Settles h (h ++ Sub p ∷ []) p Waiting
 sub-settles h p d = record {
   taken_same = λ q. list_any-snoc (is_take q) h (Sub p) ∙ or-false _;
   here = λ q e.
-      let same : discarded (h ++ Sub p ∷ []) q ≡ false = list_any-snoc (is_discard q) h (Sub p) ∙ or-false _ ∙ ap (discarded h) e ∙ d in
-      let more : submitted (h ++ Sub p ∷ []) q ≡ (submitted h q || eqb p q) = list_any-snoc (is_submit q) h (Sub p) in
-      rw (same, more) (sub_here (submitted h q) (eqb p q) (eq-eqb p q (sym e)));
+      let same : is_discarded_at (h ++ Sub p ∷ []) q ≡ false = list_any-snoc (is_discard q) h (Sub p) ∙ or-false _ ∙ ap (is_discarded_at h) e ∙ d in
+      let more : is_submitted_at (h ++ Sub p ∷ []) q ≡ (is_submitted_at h q || eqb p q) = list_any-snoc (is_submit q) h (Sub p) in
+      rw (same, more) (sub_here (is_submitted_at h q) (eqb p q) (eq-eqb p q (sym e)));
   others = λ q e.
-      let same : discarded (h ++ Sub p ∷ []) q ≡ discarded h q = list_any-snoc (is_discard q) h (Sub p) ∙ or-false _ in
-      let more : submitted (h ++ Sub p ∷ []) q ≡ (submitted h q || eqb p q) = list_any-snoc (is_submit q) h (Sub p) in
-      rw (same, more) (sub_other (submitted h q) (eqb p q) (discarded h q) (ne_eqb p q (λ f. e (sym f))));
+      let same : is_discarded_at (h ++ Sub p ∷ []) q ≡ is_discarded_at h q = list_any-snoc (is_discard q) h (Sub p) ∙ or-false _ in
+      let more : is_submitted_at (h ++ Sub p ∷ []) q ≡ (is_submitted_at h q || eqb p q) = list_any-snoc (is_submit q) h (Sub p) in
+      rw (same, more) (sub_other (is_submitted_at h q) (eqb p q) (is_discarded_at h q) (ne_eqb p q (λ f. e (sym f))));
 }
 
 dis-settles : (h : List Entry) (p : ℕ) → Settles h (h ++ Dis p ∷ []) p Discarded
 dis-settles h p = record {
   taken_same = λ q. list_any-snoc (is_take q) h (Dis p) ∙ or-false _;
   here = λ q e.
-      let same : submitted (h ++ Dis p ∷ []) q ≡ submitted h q = list_any-snoc (is_submit q) h (Dis p) ∙ or-false _ in
-      let more : discarded (h ++ Dis p ∷ []) q ≡ (discarded h q || eqb p q) = list_any-snoc (is_discard q) h (Dis p) in
-      rw (same, more) (dis_here (submitted h q) (discarded h q) (eqb p q) (eq-eqb p q (sym e)));
+      let same : is_submitted_at (h ++ Dis p ∷ []) q ≡ is_submitted_at h q = list_any-snoc (is_submit q) h (Dis p) ∙ or-false _ in
+      let more : is_discarded_at (h ++ Dis p ∷ []) q ≡ (is_discarded_at h q || eqb p q) = list_any-snoc (is_discard q) h (Dis p) in
+      rw (same, more) (dis_here (is_submitted_at h q) (is_discarded_at h q) (eqb p q) (eq-eqb p q (sym e)));
   others = λ q e.
-      let same : submitted (h ++ Dis p ∷ []) q ≡ submitted h q = list_any-snoc (is_submit q) h (Dis p) ∙ or-false _ in
-      let more : discarded (h ++ Dis p ∷ []) q ≡ (discarded h q || eqb p q) = list_any-snoc (is_discard q) h (Dis p) in
-      rw (same, more) (dis_other (submitted h q) (discarded h q) (eqb p q) (ne_eqb p q (λ f. e (sym f))));
+      let same : is_submitted_at (h ++ Dis p ∷ []) q ≡ is_submitted_at h q = list_any-snoc (is_submit q) h (Dis p) ∙ or-false _ in
+      let more : is_discarded_at (h ++ Dis p ∷ []) q ≡ (is_discarded_at h q || eqb p q) = list_any-snoc (is_discard q) h (Dis p) in
+      rw (same, more) (dis_other (is_submitted_at h q) (is_discarded_at h q) (eqb p q) (ne_eqb p q (λ f. e (sym f))));
 }
 
-pub records-sub : (h : List Entry) (p : ℕ) → discarded h p ≡ false → records (h ++ Sub p ∷ []) ≡ map (mark p Waiting) (records h)
+pub records-sub : (h : List Entry) (p : ℕ) → is_discarded_at h p ≡ false → records (h ++ Sub p ∷ []) ≡ map (mark p Waiting) (records h)
 records-sub h p d =
     let k = h ++ Sub p ∷ [] in
     filter_map-append (untaken k) h (Sub p ∷ []) ∙ append-nil _ ∙ filter_map-map (untaken h) (untaken k) (mark p Waiting) (untaken-settled h k p Waiting (sub-settles h p d)) h
@@ -166,9 +166,9 @@ dropped w s n q p tk false sk sh dk dh e f g =
     ]
 
 pub record Takes (h k : List Entry) (p : ℕ) : Type 0 where
-  pub taken_more : (q : ℕ) → taken k q ≡ (taken h q || eqb p q)
-  pub submitted_same : (q : ℕ) → submitted k q ≡ submitted h q
-  pub discarded_same : (q : ℕ) → discarded k q ≡ discarded h q
+  pub taken_more : (q : ℕ) → is_taken_at k q ≡ (is_taken_at h q || eqb p q)
+  pub submitted_same : (q : ℕ) → is_submitted_at k q ≡ is_submitted_at h q
+  pub discarded_same : (q : ℕ) → is_discarded_at k q ≡ is_discarded_at h q
 
 take-takes : (h : List Entry) (p : ℕ) → Takes h (h ++ Take p ∷ []) p
 take-takes h p = record {
@@ -227,15 +227,15 @@ untaken-span h w s n p (Take q) off =
     let other : granted_span_at q (Res w s n p) ≡ 0 = rw (ne_eqb p q (λ x. eqb-false q p off (sym x))) in
     omega (arith, sum_by-snoc (granted_span_at q) h (Res w s n p), other)
 
-untaken-spans : (h es : List Entry) (w s n p : ℕ) → taken es p ≡ false → sum_by (taken_span (h ++ Res w s n p ∷ [])) es ≡ sum_by (taken_span h) es
+untaken-spans : (h es : List Entry) (w s n p : ℕ) → is_taken_at es p ≡ false → sum_by (taken_span (h ++ Res w s n p ∷ [])) es ≡ sum_by (taken_span h) es
 untaken-spans h [] w s n p t = refl
 untaken-spans h (e ∷ es) w s n p t =
     let k = h ++ Res w s n p ∷ [] in
-    let parts = or_parts (is_take p e) (taken es p) t in
+    let parts = or_parts (is_take p e) (is_taken_at es p) t in
     omega (arith, sum_by-cons (taken_span h) e es, sum_by-cons (taken_span k) e es, untaken-span h w s n p e parts.0, untaken-spans h es w s n p parts.1)
 
 -- a record at a position that no entry takes leaves it
-pub consumer-res : (start : ℕ) (h : List Entry) (w s n p : ℕ) → taken h p ≡ false → consumer_of start (h ++ Res w s n p ∷ []) ≡ consumer_of start h
+pub consumer-res : (start : ℕ) (h : List Entry) (w s n p : ℕ) → is_taken_at h p ≡ false → consumer_of start (h ++ Res w s n p ∷ []) ≡ consumer_of start h
 consumer-res start h w s n p t =
     let k = h ++ Res w s n p ∷ [] in
     omega (arith, sum_by-snoc (taken_span k) h (Res w s n p), untaken-spans h h w s n p t)
@@ -252,15 +252,15 @@ span-here w s n q p true st free = elim (cases_eq q p) [
   | inr other ↦ rw (ne_eqb q p other)
 ]
 
-span-shown : (h : List Entry) (p : ℕ) → taken h p ≡ false → (e : Entry) → granted_span_at p e ≡ opt_sum (shown_span p) (untaken h e)
-span-shown h p t (Res w s n q) = span-here w s n q p (taken h q) (status_of h q) (λ same. ap (taken h) same ∙ t)
+span-shown : (h : List Entry) (p : ℕ) → is_taken_at h p ≡ false → (e : Entry) → granted_span_at p e ≡ opt_sum (shown_span p) (untaken h e)
+span-shown h p t (Res w s n q) = span-here w s n q p (is_taken_at h q) (status_of h q) (λ same. ap (is_taken_at h) same ∙ t)
 span-shown h p t (Full w n) = refl
 span-shown h p t (Sub q) = refl
 span-shown h p t (Dis q) = refl
 span-shown h p t (Take q) = refl
 
 -- a take of a record that is there moves it by the record's span
-pub consumer-take : (start : ℕ) (h : List Entry) (p : ℕ) → taken h p ≡ false →
+pub consumer-take : (start : ℕ) (h : List Entry) (p : ℕ) → is_taken_at h p ≡ false →
     consumer_of start (h ++ Take p ∷ []) ≡ consumer_of start h + sum_by (shown_span p) (records h)
 consumer-take start h p t =
     let k = h ++ Take p ∷ [] in
@@ -275,10 +275,10 @@ consumer-take start h p t =
 -- ---- what a record that is shown says of its history
 
 pub record Named (h es : List Entry) (s : Shown) : Type 0 where
-  pub granted_is : granted es s.pos ≡ true
+  pub granted_is : is_granted_at es s.pos ≡ true
   pub stands : Contains es (Res s.worker s.serial s.len s.pos)
-  pub taken_is : taken h s.pos ≡ false
-  pub status_is : status_by (submitted h s.pos) (discarded h s.pos) false ≡ s.status
+  pub taken_is : is_taken_at h s.pos ≡ false
+  pub status_is : status_by (is_submitted_at h s.pos) (is_discarded_at h s.pos) false ≡ s.status
 
 cons_untaken : (P : Shown → Type 0) (t : Bool) (f : Bool → Shown) (rest : List Shown) → (t ≡ false → P (f false)) → All P rest →
     All P (cons_option (cond t None (Some (f t))) rest)
@@ -291,8 +291,8 @@ Named-more h es e a = All-weaker (Named h es) (Named h (e ∷ es)) (λ s n. reco
 pub named : (h es : List Entry) → All (Named h es) (filter_map (untaken h) es)
 named h [] = All-nil _
 named h (Res w s n q ∷ es) =
-    cons_untaken (Named h (Res w s n q ∷ es)) (taken h q) (λ t. record { pos = q; len = n; worker = w; serial = s; status = status_by (submitted h q) (discarded h q) t }) _
-    (λ t. record { granted_is = ap (λ b. b || granted es q) (eq-eqb q q refl); stands = (0, omega arith, refl); taken_is = t; status_is = refl })
+    cons_untaken (Named h (Res w s n q ∷ es)) (is_taken_at h q) (λ t. record { pos = q; len = n; worker = w; serial = s; status = status_by (is_submitted_at h q) (is_discarded_at h q) t }) _
+    (λ t. record { granted_is = ap (λ b. b || is_granted_at es q) (eq-eqb q q refl); stands = (0, omega arith, refl); taken_is = t; status_is = refl })
     (Named-more h es (Res w s n q) (named h es))
 named h (Full w n ∷ es) = Named-more h es (Full w n) (named h es)
 named h (Sub q ∷ es) = Named-more h es (Sub q) (named h es)
@@ -300,8 +300,8 @@ named h (Dis q ∷ es) = Named-more h es (Dis q) (named h es)
 named h (Take q ∷ es) = Named-more h es (Take q) (named h es)
 
 -- a record that was granted and not taken is shown
-pub shown-contains : (h es : List Entry) (w s n q : ℕ) → taken h q ≡ false → Contains es (Res w s n q) →
-    Contains (filter_map (untaken h) es) (record { pos = q; len = n; worker = w; serial = s; status = status_by (submitted h q) (discarded h q) false })
+pub shown-contains : (h es : List Entry) (w s n q : ℕ) → is_taken_at h q ≡ false → Contains es (Res w s n q) →
+    Contains (filter_map (untaken h) es) (record { pos = q; len = n; worker = w; serial = s; status = status_by (is_submitted_at h q) (is_discarded_at h q) false })
 shown-contains h [] w s n q t is = absurd (omega (arith, is.1))
 shown-contains h (e ∷ es) w s n q t is =
     elim (Contains-append_cases (e ∷ []) es (Res w s n q) is) [

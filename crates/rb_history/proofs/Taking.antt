@@ -5,18 +5,18 @@ use Rattle.std.proofs.lemmas.List.Elements.{All-head, All-tail}
 use Rattle.std.proofs.lemmas.Bool.{eqb-false, false≢true}
 use Rattle.rb_history.specs.declared.entries.Entry.{Entry}
 use Rattle.rb_history.specs.declared.entries.Entry.TheVariants.{Res, Take}
-use Rattle.rb_history.specs.declared.stored.StoredRecord.{StoredRecord}
-use Rattle.rb_history.specs.declared.stored.RecordState.{RecordState}
-use Rattle.rb_history.specs.declared.stored.RecordState.TheVariants.{Reserved, Submitted, Discarded as DiscardedState}
+use Rattle.rb_history.specs.declared.stored_records.StoredRecord.{StoredRecord}
+use Rattle.rb_history.specs.declared.stored_records.RecordState.{RecordState}
+use Rattle.rb_history.specs.declared.stored_records.RecordState.TheVariants.{Reserved, Submitted, Discarded as DiscardedState}
 use Rattle.rb_header.specs.Span.{span}
-use Rattle.rb_history.specs.History.{status_by, status_of, granted, submitted, discarded, consumer_of}
+use Rattle.rb_history.specs.History.{status_by, status_of, is_granted_at, is_submitted_at, is_discarded_at, consumer_of}
 use Rattle.rb_history.specs.History.Status.{Busy}
-use Rattle.rb_history.specs.Legal.{Setup}
-use Rattle.rb_history.specs.View.{Ring}
-use Rattle.rb_history.specs.Rows.{InRow, Kept}
-use Rattle.rb_history.specs.Stored.{shown_record, state_status, contents_of, entries_owed, SizedAs, IsSized}
+use Rattle.rb_history.specs.RoomRule.{Setup}
+use Rattle.rb_history.specs.RingModel.{Ring}
+use Rattle.rb_history.specs.inner.RecordRows.{InRow, HistoryFacts}
+use Rattle.rb_history.specs.StoredRecords.{shown_record, state_status, contents_of, entries_owed, SizedAs, IsSized}
 use Rattle.rb_history.specs.Calls.{Takes, FindsBusyFront}
-use Rattle.rb_history.specs.Stored.{taken_of, is_reserved_state}
+use Rattle.rb_history.specs.StoredRecords.{taken_of, is_reserved_state}
 use Rattle.rb_history.proofs.Lists.{sum_by-cons}
 use Rattle.rb_history.proofs.Row.{InRow-le}
 use Rattle.rb_history.proofs.Steps.{Named}
@@ -37,24 +37,24 @@ abbrev pub ring_with : Setup → List Entry → List StoredRecord → ℕ → �
 ring_with r h stored p c = record { setup = r; history = h; contents = contents_of stored; shown = map shown_record stored; producer = p; consumer = c }
 
 module _ (r : Setup) (h : List Entry) (after : List StoredRecord) (p c : ℕ) where
-  pub front-status : (t : StoredRecord) → Kept r h (map shown_record (t ∷ after)) p c → status_of h t.pos ≡ state_status t.state
+  pub front-status : (t : StoredRecord) → HistoryFacts r h (map shown_record (t ∷ after)) p c → status_of h t.pos ≡ state_status t.state
   front-status t k =
       let n : Named h h (shown_record t) = named-at r h (map shown_record (t ∷ after)) p c 0 (shown_record t) k (omega arith) in
-      ap (status_by (submitted h t.pos) (discarded h t.pos)) n.taken_is ∙ n.status_is
+      ap (status_by (is_submitted_at h t.pos) (is_discarded_at h t.pos)) n.taken_is ∙ n.status_is
 
-  pub front-stands : (t : StoredRecord) → Kept r h (map shown_record (t ∷ after)) p c → Contains h (Res t.worker t.serial t.len t.pos)
+  pub front-stands : (t : StoredRecord) → HistoryFacts r h (map shown_record (t ∷ after)) p c → Contains h (Res t.worker t.serial t.len t.pos)
   front-stands t k =
       let n : Named h h (shown_record t) = named-at r h (map shown_record (t ∷ after)) p c 0 (shown_record t) k (omega arith) in
       n.stands
 
-  pub kept-front : (t : StoredRecord) → Kept r h (map shown_record (t ∷ after)) p c → t.state ≢ Reserved → Kept r (h ++ Take t.pos ∷ []) (map shown_record after) p (c + span t.len)
+  pub kept-front : (t : StoredRecord) → HistoryFacts r h (map shown_record (t ∷ after)) p c → t.state ≢ Reserved → HistoryFacts r (h ++ Take t.pos ∷ []) (map shown_record after) p (c + span t.len)
   kept-front t k free =
       let at : c ≡ t.pos = sym k.in_row.0 in
-      subst (λ x. Kept r (h ++ Take x ∷ []) (map shown_record after) p (c + span t.len)) at
+      subst (λ x. HistoryFacts r (h ++ Take x ∷ []) (map shown_record after) p (c + span t.len)) at
       (kept-take r h (shown_record t) (map shown_record after) p c k (λ b. free (state-held t.state b)))
 
   takes-at : (pos len worker serial : ℕ) (state : RecordState) → state ≢ Reserved → SizedAs len state →
-      Kept r h (map shown_record ((record { pos = pos; len = len; worker = worker; serial = serial; state = state }) ∷ after)) p c →
+      HistoryFacts r h (map shown_record ((record { pos = pos; len = len; worker = worker; serial = serial; state = state }) ∷ after)) p c →
       Takes (ring_with r h (record { pos = pos; len = len; worker = worker; serial = serial; state = state } ∷ after) p c)
       (ring_with r (h ++ Take pos ∷ []) after p (c + span len))
       (taken_of (record { pos = pos; len = len; worker = worker; serial = serial; state = state }) state)
@@ -87,15 +87,15 @@ pub record Taking (h : List Entry) (stored after : List StoredRecord) (t : Store
   pub free : t.state ≢ Reserved
 
 module _ (r : Setup) (h : List Entry) (stored after : List StoredRecord) (t : StoredRecord) (p c : ℕ) (h' : List Entry) (c' : ℕ) (a : Taking h stored after t c h' c') where
-  pub takes-front : All IsSized stored → Kept r h (map shown_record stored) p c → Takes (ring_with r h stored p c) (ring_with r h' after p c') (taken_of t t.state)
+  pub takes-front : All IsSized stored → HistoryFacts r h (map shown_record stored) p c → Takes (ring_with r h stored p c) (ring_with r h' after p c') (taken_of t t.state)
   takes-front sized k =
       rw (a.split, a.history_is, a.consumer_is)
       (takes-at r h after p c t.pos t.len t.worker t.serial t.state a.free (All-head IsSized t after (rw a.split at sized)) (rw a.split at k))
 
-  pub keeps-front : Kept r h (map shown_record stored) p c → Kept r h' (map shown_record after) p c'
+  pub keeps-front : HistoryFacts r h (map shown_record stored) p c → HistoryFacts r h' (map shown_record after) p c'
   keeps-front k = rw (a.history_is, a.consumer_is) (kept-front r h after p c t (rw a.split at k) a.free)
 
-  pub low-front : Kept r h (map shown_record stored) p c → c + span t.len ≤ p
+  pub low-front : HistoryFacts r h (map shown_record stored) p c → c + span t.len ≤ p
   low-front k = let row : InRow c (map shown_record (t ∷ after)) p = rw a.split at k.in_row in InRow-le (c + span t.len) (map shown_record after) p row.1
 
   pub sized-front : All IsSized stored → All IsSized after
@@ -115,14 +115,14 @@ not-empty n m b f e is = let no : n ≡ 0 → ⊥ = eqb-false n 0 (sym e ∙ f) 
 
 -- the front is busy
 pub front-busy : (r : Setup) (h : List Entry) (stored : List StoredRecord) (t : StoredRecord) (p c : ℕ) → 0 < length stored → t ≡ get_or stored 0 t → t.state ≡ Reserved →
-    Kept r h (map shown_record stored) p c → FindsBusyFront (ring_with r h stored p c) (ring_with r h stored p c)
+    HistoryFacts r h (map shown_record stored) p c → FindsBusyFront (ring_with r h stored p c) (ring_with r h stored p c)
 front-busy r h [] t p c l is held k = absurd (omega arith)
 front-busy r h (x ∷ stored) t p c l is held k =
     let at : x.pos ≡ consumer_of r.start h = k.in_row.0 ∙ k.consumer_is in
     let n : Named h h (shown_record x) = named-at r h (map shown_record (x ∷ stored)) p c 0 (shown_record x) k (omega arith) in
     record {
       front = record {
-        granted_is = subst (λ q. granted h q ≡ true) at n.granted_is;
+        granted_is = subst (λ q. is_granted_at h q ≡ true) at n.granted_is;
         busy = subst (λ q. status_of h q ≡ Busy) at (front-status r h stored p c x k ∙ ap state_status (ap (λ s. s.state) (sym is) ∙ held));
       };
       same = refl;

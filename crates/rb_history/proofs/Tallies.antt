@@ -6,7 +6,7 @@ use Rattle.std.proofs.lemmas.List.{length-replicate, length-set, get_or-set_same
 use Rattle.rb_history.specs.declared.entries.Entry.{Entry}
 use Rattle.rb_history.specs.declared.entries.Entry.TheVariants.{Res, Full, Sub, Dis, Take}
 use Rattle.rb_history.specs.History.{grants, is_grant_of, granted_span}
-use Rattle.rb_history.specs.Tallies.{Tallied}
+use Rattle.rb_history.specs.inner.GrantCounts.{CountsGrants}
 use Rattle.rb_history.proofs.Lists.{sum_by-snoc, sum_by-cons}
 
 abbrev bit : Bool → ℕ
@@ -19,10 +19,10 @@ grants-snoc w h e off = omega (arith, sum_by-snoc (λ y. bit (is_grant_of w y)) 
     none = rw off refl
 
 -- an entry that grants nothing
-pub tally-quiet : (ns : List ℕ) (h : List Entry) (k : ℕ) (e : Entry) → ((w : ℕ) → is_grant_of w e ≡ false) → Tallied ns h k → Tallied ns (h ++ e ∷ []) k
+pub tally-quiet : (ns : List ℕ) (h : List Entry) (k : ℕ) (e : Entry) → ((w : ℕ) → is_grant_of w e ≡ false) → CountsGrants ns h k → CountsGrants ns (h ++ e ∷ []) k
 tally-quiet ns h k e off t = record { all = t.all; each = λ w l. t.each w l ∙ sym (grants-snoc w h e (off w)) }
 
-pub tally-grant : (ns : List ℕ) (h : List Entry) (k v s n p : ℕ) → v < k → s ≡ get_or ns v 0 → Tallied ns h k → Tallied (set ns v (s + 1)) (h ++ Res v s n p ∷ []) k
+pub tally-grant : (ns : List ℕ) (h : List Entry) (k v s n p : ℕ) → v < k → s ≡ get_or ns v 0 → CountsGrants ns h k → CountsGrants (set ns v (s + 1)) (h ++ Res v s n p ∷ []) k
 tally-grant ns h k v s n p l is t = record {
   all = length-set ns v (s + 1) ∙ t.all;
   each = λ w low. elim (cases_eq v w) [
@@ -42,7 +42,7 @@ get-zeros (suc k) zero = refl
 get-zeros (suc k) (suc w) = get-zeros k w
 
 -- no worker was granted anything
-pub tally-none : (k : ℕ) → Tallied (replicate {A = ℕ} k 0) [] k
+pub tally-none : (k : ℕ) → CountsGrants (replicate {A = ℕ} k 0) [] k
 tally-none k = record { all = length-replicate k 0; each = λ w l. get-zeros k w }
 
 -- each record takes eight bytes at least
@@ -62,5 +62,5 @@ grants-low w (e ∷ h) = omega (arith, grants-low w h, one e, sum_by-cons grante
     one (Take p) = omega arith
 
 -- the number that is read for a worker
-pub serial-is : (ns : List ℕ) (h : List Entry) (k w x : ℕ) → Tallied ns h k → w < k → x ≡ get_or ns w x → x ≡ grants w h
+pub serial-is : (ns : List ℕ) (h : List Entry) (k w x : ℕ) → CountsGrants ns h k → w < k → x ≡ get_or ns w x → x ≡ grants w h
 serial-is ns h k w x t l is = get_or_read ns w x (omega (arith, t.all, l)) is 0 ∙ t.each w l

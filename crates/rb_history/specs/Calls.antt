@@ -8,11 +8,11 @@ use Rattle.rb_history.specs.declared.answers.Taken.{Taken}
 use Rattle.rb_history.specs.declared.answers.Taken.TheVariants.{Event, Skipped, BusyFront, Empty}
 use Rattle.rb_history.specs.declared.answers.ReserveFault.{ReserveFault}
 use Rattle.rb_history.specs.declared.answers.ReserveFault.TheVariants.{Full as FaultFull, Memory as FaultMemory, Flags as FaultFlags, Foreign as FaultForeign}
-use Rattle.rb_history.specs.History.{status_of, granted, grants, producer_of, consumer_of}
+use Rattle.rb_history.specs.History.{status_of, is_granted_at, grants, producer_of, consumer_of}
 use Rattle.rb_history.specs.History.Status.{Busy, Waiting, Discarded}
-use Rattle.rb_history.specs.Granted.{Granted}
-use Rattle.rb_history.specs.Legal.{Fits}
-use Rattle.rb_history.specs.View.{Ring, HasLength}
+use Rattle.rb_history.specs.ReservationModel.{Granted}
+use Rattle.rb_history.specs.RoomRule.{HasRoomFor}
+use Rattle.rb_history.specs.RingModel.{Ring, HasLength}
 
 -- ---- what a ring's history says now
 
@@ -22,8 +22,8 @@ producer_now v = producer_of v.setup.start v.history
 abbrev pub consumer_now : Ring → ℕ
 consumer_now v = consumer_of v.setup.start v.history
 
-abbrev pub HasRoom : Ring → ℕ → Type 0
-HasRoom v n = Fits v.setup v.history n
+abbrev pub RingHasRoom : Ring → ℕ → Type 0
+RingHasRoom v n = HasRoomFor v.setup v.history n
 
 -- a record of these four numbers is busy
 pub record IsBusy (h : List Entry) (p w k n : ℕ) : Type 0 where
@@ -31,12 +31,12 @@ pub record IsBusy (h : List Entry) (p w k n : ℕ) : Type 0 where
   pub busy : status_of h p ≡ Busy
 
 -- the record of the reservation is busy
-abbrev pub Holds : Ring → Granted → Type 0
-Holds v r = IsBusy v.history r.pos r.worker r.serial (length r.bytes)
+abbrev pub HoldsReservation : Ring → Granted → Type 0
+HoldsReservation v r = IsBusy v.history r.pos r.worker r.serial (length r.bytes)
 
 -- the record at the consumer position is busy
 pub record HasBusyFront (v : Ring) : Type 0 where
-  pub granted_is : granted v.history (consumer_now v) ≡ true
+  pub granted_is : is_granted_at v.history (consumer_now v) ≡ true
   pub busy : status_of v.history (consumer_now v) ≡ Busy
 
 -- every record was taken
@@ -52,7 +52,7 @@ pub record Logs (old new : Ring) (entries : List Entry) : Type 0 where
 
 -- a record of n bytes was granted to a worker
 pub record Grants (old new : Ring) (w n p k : ℕ) : Type 0 where
-  pub room : HasRoom old n
+  pub room : RingHasRoom old n
   pub position : p ≡ producer_now old
   pub serial : k ≡ grants w old.history
   pub logged : Logs old new (Res w k n p ∷ [])
@@ -60,13 +60,13 @@ pub record Grants (old new : Ring) (w n p k : ℕ) : Type 0 where
 
 -- there is no room for a record of n bytes, and that is logged
 pub record FindsFull (old new : Ring) (w n : ℕ) : Type 0 where
-  pub no_room : ¬ HasRoom old n
+  pub no_room : ¬ RingHasRoom old n
   pub logged : Logs old new (Full w n ∷ [])
   pub contents_same : new.contents ≡ old.contents
 
 -- a record of these bytes was granted and submitted at once
 pub record Outputs (old new : Ring) (w : ℕ) (bytes : List ℕ) : Type 0 where
-  pub room : HasRoom old (length bytes)
+  pub room : RingHasRoom old (length bytes)
   pub logged : Logs old new (Res w (grants w old.history) (length bytes) (producer_now old) ∷ Sub (producer_now old) ∷ [])
   pub contents_are : new.contents ≡ insert old.contents (producer_now old) bytes
 
@@ -81,19 +81,19 @@ Refuses old new w n FaultForeign = ⊥
 
 -- the record of the reservation was submitted, with its bytes
 pub record Submits (old new : Ring) (r : Granted) : Type 0 where
-  pub was_busy : Holds old r
+  pub was_busy : HoldsReservation old r
   pub logged : Logs old new (Sub r.pos ∷ [])
   pub contents_are : new.contents ≡ insert old.contents r.pos r.bytes
 
 -- the record of the reservation was discarded
 pub record Discards (old new : Ring) (r : Granted) : Type 0 where
-  pub was_busy : Holds old r
+  pub was_busy : HoldsReservation old r
   pub logged : Logs old new (Dis r.pos ∷ [])
   pub contents_same : new.contents ≡ old.contents
 
 -- no busy record has the four numbers of the reservation
 pub record Strays (old new : Ring) (r : Granted) : Type 0 where
-  pub not_busy : ¬ Holds old r
+  pub not_busy : ¬ HoldsReservation old r
   pub same : new ≡ old
 
 -- ---- take

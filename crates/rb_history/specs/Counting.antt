@@ -7,17 +7,17 @@ use Rattle.rb_history.specs.declared.answers.Counts.{Counts}
 use Rattle.rb_history.specs.History.{Status, status_of}
 use Rattle.rb_history.specs.History.Status.{Busy, Waiting, Consumed, Discarded}
 
-abbrev pub is_grant : Entry → Bool
-is_grant (Res w k n p) = true
-is_grant _ = false
+abbrev pub is_grant_entry : Entry → Bool
+is_grant_entry (Res w k n p) = true
+is_grant_entry _ = false
 
-abbrev pub is_refusal : Entry → Bool
-is_refusal (Full w n) = true
-is_refusal _ = false
+abbrev pub is_refusal_entry : Entry → Bool
+is_refusal_entry (Full w n) = true
+is_refusal_entry _ = false
 
-abbrev pub is_discarding : Entry → Bool
-is_discarding (Dis p) = true
-is_discarding _ = false
+abbrev pub is_discard_entry : Entry → Bool
+is_discard_entry (Dis p) = true
+is_discard_entry _ = false
 
 abbrev pub is_same : Status → Status → Bool
 is_same Busy Busy = true
@@ -32,16 +32,16 @@ has_status st h (Res w k n p) = is_same st (status_of h p)
 has_status st h _ = false
 
 -- how many records have this status
-abbrev pub number_of : Status → List Entry → ℕ
-number_of st h = count_by (has_status st h) h
+abbrev pub status_count : Status → List Entry → ℕ
+status_count st h = count_by (has_status st h) h
 
 -- the six counts
 abbrev pub counts_of : List Entry → Counts
 counts_of h = record {
-  made = count_by is_grant h;
-  refused = count_by is_refusal h;
-  consumed = number_of Consumed h;
-  discarded = number_of Discarded h;
-  waiting = number_of Waiting h;
-  busy = number_of Busy h;
+  made = count_by is_grant_entry h;
+  refused = count_by is_refusal_entry h;
+  consumed = status_count Consumed h;
+  discarded = status_count Discarded h;
+  waiting = status_count Waiting h;
+  busy = status_count Busy h;
 }

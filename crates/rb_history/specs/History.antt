@@ -29,17 +29,17 @@ is_take p _ = false
 
 -- ---- what a history says of the record at a position
 
-abbrev pub granted : List Entry → ℕ → Bool
-granted h p = list_any (is_grant_at p) h
+abbrev pub is_granted_at : List Entry → ℕ → Bool
+is_granted_at h p = list_any (is_grant_at p) h
 
-abbrev pub submitted : List Entry → ℕ → Bool
-submitted h p = list_any (is_submit p) h
+abbrev pub is_submitted_at : List Entry → ℕ → Bool
+is_submitted_at h p = list_any (is_submit p) h
 
-abbrev pub discarded : List Entry → ℕ → Bool
-discarded h p = list_any (is_discard p) h
+abbrev pub is_discarded_at : List Entry → ℕ → Bool
+is_discarded_at h p = list_any (is_discard p) h
 
-abbrev pub taken : List Entry → ℕ → Bool
-taken h p = list_any (is_take p) h
+abbrev pub is_taken_at : List Entry → ℕ → Bool
+is_taken_at h p = list_any (is_take p) h
 
 pub data Status : Type 0 where
   Busy : Status
@@ -57,7 +57,7 @@ status_by false false t = Busy
 -- a record is busy until it is submitted or discarded; a submitted one waits until it is taken and is consumed then;
 -- a discarded one stays so (ringbuf.rst: a reserved record is committed or discarded)
 abbrev pub status_of : List Entry → ℕ → Status
-status_of h p = status_by (submitted h p) (discarded h p) (taken h p)
+status_of h p = status_by (is_submitted_at h p) (is_discarded_at h p) (is_taken_at h p)
 
 -- ---- the two positions (ringbuf.rst: the producer and the consumer counter)
 
@@ -101,7 +101,7 @@ pub record Shown : Type 0 where
 
 abbrev pub untaken : List Entry → Entry → Option Shown
 untaken h (Res w k n p) =
-    if taken h p then None else Some (record { pos = p; len = n; worker = w; serial = k; status = status_of h p })
+    if is_taken_at h p then None else Some (record { pos = p; len = n; worker = w; serial = k; status = status_of h p })
 untaken h _ = None
 
 -- the records of a history without a Take, in order

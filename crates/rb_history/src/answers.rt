@@ -4,7 +4,7 @@ use crate::reservations::Reservation;
 use rb_lend::Sheet;
 use thiserror::Error;
 
-/// Why a ring can't be made. The first of these that stands is told, in this order.
+/// Why a ring can't be made: the first of these that applies, in this order.
 #[derive(Clone, Copy, Debug, Error, PartialEq, Eq)]
 pub enum OpenFault {
     /// The size in bytes is no power of two from 4,096 to 67,108,864.
@@ -21,16 +21,16 @@ pub enum OpenFault {
     Memory,
 }
 
-/// Whether the consumer is to be told of a record (bpf-helpers(7): the notification of new data).
+/// Whether a notice of a record is due to the consumer (bpf-helpers(7): the notification of new data availability).
 #[derive(Clone, Copy, Debug, PartialEq, Eq)]
 pub enum Notice {
-    /// It is to be told.
+    /// A notice is due.
     Due,
-    /// It need not be told.
+    /// None is due.
     NotDue,
 }
 
-/// Why no record was granted.
+/// Why no record was granted. A refusal hands the sheet back.
 #[derive(Clone, Copy, Debug, Error, PartialEq, Eq)]
 pub enum ReserveFault {
     /// The ring has no room for the record. The refusal is logged.
@@ -47,7 +47,7 @@ pub enum ReserveFault {
     Foreign,
 }
 
-/// A reservation that agrees with no busy record of the ring in position, worker, serial and length, handed back whole.
+/// A reservation that agrees with no busy record of the ring in position, worker, serial and length. It is handed back whole.
 #[derive(Drop)]
 pub struct Stray {
     /// The reservation that was handed in.

@@ -1,18 +1,19 @@
 //! The tests of a ring's numbers, which every body of a ring makes.
 
-ghost use Rattle.std.specs.Prelude.{◌≡◌, ◌↔◌, IsTrue};
-ghost use Rattle.rb_history.specs.View.{IsSize, IsStart, IsWorkerCount};
-ghost use Rattle.rb_history.specs.Answers.{IsDue};
+ghost use Rattle.std.specs.Prelude.{◌≡◌, ◌≢◌, ◌↔◌, IsTrue, IsErrOf, OnOk, OnErr};
+ghost use Rattle.rb_history.specs.RingModel.{IsRingSize, IsStartPosition, IsWorkerCount};
 
-use crate::answers::Notice;
+use crate::answers::OpenFault;
 
-/// The highest position of a ring, in bytes: 2^62.
-pub const LIMIT: u64 = 1 << 62;
+/// The highest position of a ring, in bytes: 2^62. Positions only grow. A record moves them by 2^32 + 8 at most, and the room
+/// rule adds a size of 2^26 at most, so with positions up to 2^62 no sum comes near 2^64. From the highest start, 2^61, there are
+/// 2^61 bytes left to grant: 73 years at a gigabyte a second. (Own; the kernel's positions wrap.)
+pub const POSITION_LIMIT: u64 = 1 << 62;
 
 /// Whether a ring may have this size in bytes: a power of two from 4,096 to 67,108,864. In constant time. (Linux
 /// Documentation/bpf/ringbuf.rst asks for a power of two; the bounds are own.)
 pub fn is_size(size: u64) -> bool
-    ensures test { IsTrue result ↔ IsSize size }
+    ensures test { IsTrue result ↔ IsRingSize size }
 {
     if size < 4096 || size > 67_108_864 {
         return false;
@@ -22,7 +23,7 @@ pub fn is_size(size: u64) -> bool
 
 /// Whether a ring's positions may start here: at a multiple of 8, at most 2^61. In constant time.
 pub fn is_start(start: u64) -> bool
-    ensures test { IsTrue result ↔ IsStart start }
+    ensures test { IsTrue result ↔ IsStartPosition start }
 {
     start % 8 == 0 && start <= 1 << 61
 }
@@ -34,15 +35,23 @@ pub fn is_worker_count(workers: u32) -> bool
     1 <= workers && workers <= 256
 }
 
-/// Whether the consumer, which stands at position `consumer`, is to be told of the record at position `pos`. Always under
-/// bit 1 of the flags (BPF_RB_FORCE_WAKEUP); else never under bit 0 (BPF_RB_NO_WAKEUP); else exactly where `pos` is
-/// `consumer`. The other bits are not looked at. In constant time. (bpf-helpers(7), bpf_ringbuf_output.)
-pub fn notice_for(consumer: u64, pos: u64, flags: u64) -> Notice
-    ensures due { (result ≡ Notice.Due) ↔ IsDue consumer pos flags }
+/// Whether a ring may be made with these numbers, or the first of `OpenFault`'s refusals, in their order; never `Memory`. In
+/// constant time.
+pub fn check_setup(size: u64, start: u64, workers: u32) -> Result<(), OpenFault>
+    ensures size { IsErrOf result OpenFault.Size ↔ ¬ IsRingSize size }
+    ensures start { IsErrOf result OpenFault.Start ↔ (IsRingSize size × ¬ IsStartPosition start) }
+    ensures workers { IsErrOf result OpenFault.Workers ↔ (IsRingSize size × IsStartPosition start × ¬ IsWorkerCount workers) }
+    ensures allowed { OnOk result (IsRingSize size × IsStartPosition start × IsWorkerCount workers) }
+    ensures memory { result ≢ Err OpenFault.Memory }
 {
-    if flags & 2 != 0 || (flags & 1 == 0 && pos == consumer) {
-        Notice::Due
-    } else {
-        Notice::NotDue
+    if !is_size(size) {
+        return Err(OpenFault::Size);
     }
+    if !is_start(start) {
+        return Err(OpenFault::Start);
+    }
+    if !is_worker_count(workers) {
+        return Err(OpenFault::Workers);
+    }
+    Ok(())
 }

@@ -2,7 +2,7 @@
 
 ghost use Rattle.std.specs.Prelude.{◌≡◌};
 ghost use Rattle.rb_history.specs.History.{is_grant_of};
-ghost use Rattle.rb_history.specs.Counting.{is_grant, is_refusal, is_discarding};
+ghost use Rattle.rb_history.specs.Counting.{is_grant_entry, is_refusal_entry, is_discard_entry};
 
 /// One step of a ring's history. Workers are named by their numbers, from 0 on, and records by their positions, in bytes.
 #[derive(Clone, Copy, Debug, PartialEq, Eq)]
@@ -22,21 +22,21 @@ pub enum Entry {
 impl Entry {
     /// Whether the entry grants a record.
     pub fn is_grant(&self) -> bool
-        ensures test { result ≡ is_grant self.now }
+        ensures test { result ≡ is_grant_entry self.now }
     {
         matches!(self, Entry::Res(_, _, _, _))
     }
 
     /// Whether the entry says that there was no room.
     pub fn is_refusal(&self) -> bool
-        ensures test { result ≡ is_refusal self.now }
+        ensures test { result ≡ is_refusal_entry self.now }
     {
         matches!(self, Entry::Full(_, _))
     }
 
     /// Whether the entry discards a record.
     pub fn is_discarding(&self) -> bool
-        ensures test { result ≡ is_discarding self.now }
+        ensures test { result ≡ is_discard_entry self.now }
     {
         matches!(self, Entry::Dis(_))
     }

@@ -1,7 +1,7 @@
 //! What a worker holds of a record that it was granted.
 
 ghost use Rattle.std.specs.Prelude.{◌≡◌, length};
-ghost use Rattle.rb_history.specs.Granted.{Granted};
+ghost use Rattle.rb_history.specs.ReservationModel.{Granted};
 
 use rb_lend::{Lent, Sheet};
 use std::marker::Model;
@@ -18,7 +18,7 @@ pub struct Reservation {
 }
 
 impl Model for Reservation {
-    ghost use Rattle.rb_history.specs.Granted.{Granted};
+    ghost use Rattle.rb_history.specs.ReservationModel.{Granted};
 
     ghost Value = { Granted };
 

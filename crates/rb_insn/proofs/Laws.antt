@@ -8,7 +8,7 @@ use Rattle.rb_insn.specs.declared.insn.Insn.{Insn}
 use Rattle.rb_insn.specs.declared.insn.Insn.TheVariants.{Binary, Division, Move, Branch, LoadNumber, LoadRing}
 use Rattle.rb_insn.specs.declared.insn.Operand.TheVariants.{Immediate, Register}
 use Rattle.rb_insn.specs.Units.{units_taken}
-use Rattle.rb_insn.specs.Spelling.{spelling, Fits, SpellingsFillUnits, NoSpellingBeginsAnother, OneListSpells}
+use Rattle.rb_insn.specs.Spelling.{spelling, FieldsFit, SpellingsFillUnits, NoSpellingBeginsAnother, OneListSpells}
 use Rattle.rb_insn.proofs.Rows.{read, read-spelling}
 
 -- ---- lengths
@@ -35,7 +35,7 @@ length-spelling-bound insn = omega (arith, length-spelling insn)
 -- ---- one spelling
 
 -- instructions whose spellings begin the same bytes are one
-pub spelling-first : (a b : Insn) (p q : List ℕ) → Fits a → Fits b → spelling a ++ p ≡ spelling b ++ q → a ≡ b
+pub spelling-first : (a b : Insn) (p q : List ℕ) → FieldsFit a → FieldsFit b → spelling a ++ p ≡ spelling b ++ q → a ≡ b
 spelling-first a b p q fa fb e = sym (read-spelling a p fa) ∙ ap read e ∙ read-spelling b q fb
 
 pub no_spelling_begins_another : NoSpellingBeginsAnother
@@ -47,7 +47,7 @@ no_spelling_begins_another a b s t p q sa tb e =
 -- ---- lists of instructions
 
 -- Lists that begin the same bytes begin each other.
-pub fronts : (a b : List Insn) (p q : List ℕ) → AllByRecursion Fits a → AllByRecursion Fits b → flat_map spelling a ++ p ≡ flat_map spelling b ++ q
+pub fronts : (a b : List Insn) (p q : List ℕ) → AllByRecursion FieldsFit a → AllByRecursion FieldsFit b → flat_map spelling a ++ p ≡ flat_map spelling b ++ q
     → ((c : List Insn) × (b ≡ a ++ c)) ⊎ ((c : List Insn) × (a ≡ b ++ c))
 fronts [] b p q fa fb e = inl (b, refl)
 fronts (x ∷ xs) [] p q fa fb e = inr (x ∷ xs, refl)

@@ -19,7 +19,7 @@ use Rattle.rb_insn.specs.declared.insn.SignedSize.TheVariants as signed_sizes
 use Rattle.rb_insn.specs.declared.insn.Operand.TheVariants.{Immediate, Register}
 use Rattle.rb_insn.specs.declared.insn.Insn.{Insn}
 use Rattle.rb_insn.specs.declared.insn.Insn.TheVariants.{Binary, Division, Negate, Move, MoveExtended32, MoveExtended64, Reorder, Jump, JumpFar, Branch, Call, Exit, LoadNumber, LoadRing, Load, LoadSigned, StoreImmediate, StoreRegister}
-use Rattle.rb_insn.specs.Opcodes.{ld, ldx, st, stx, alu, jmp, jmp32, alu64, source_k, source_x, operation, imm_mode, mem_mode, memsx_mode, access, alu_class, jump_class, binary_code, division_code, neg_code, mov_code, condition_code, ja_code, call_code, exit_code, double_code, size_code, signed_size_code, reorder_opcode}
+use Rattle.rb_insn.specs.Opcodes.{ld, ldx, st, stx, alu, jmp, jmp32, alu64, source_k, source_x, operation_opcode, imm_mode, mem_mode, memsx_mode, access_opcode, alu_class, jump_class, binary_code, division_code, neg_code, mov_code, condition_code, ja_code, call_code, exit_code, double_code, size_code, signed_size_code, reorder_opcode}
 use Rattle.rb_insn.proofs.Registers.{reg_of}
 use Rattle.rb_insn.proofs.Units.{Fields}
 
@@ -66,46 +66,46 @@ widths = W32 ∷ W64 ∷ []
 
 abbrev binary_rows : List Row
 binary_rows = flat_map (λ w. flat_map (λ op.
-    row (operation (binary_code op) source_k (alu_class w)) (λ f. Binary w op (reg_of f.dst) (Immediate (signed32 f.imm)))
-    ∷ row (operation (binary_code op) source_x (alu_class w)) (λ f. Binary w op (reg_of f.dst) (Register (reg_of f.src))) ∷ [])
+    row (operation_opcode (binary_code op) source_k (alu_class w)) (λ f. Binary w op (reg_of f.dst) (Immediate (signed32 f.imm)))
+    ∷ row (operation_opcode (binary_code op) source_x (alu_class w)) (λ f. Binary w op (reg_of f.dst) (Register (reg_of f.src))) ∷ [])
     (Add ∷ Sub ∷ Mul ∷ Or ∷ And ∷ Lsh ∷ Rsh ∷ Xor ∷ Arsh ∷ [])) widths
 
 abbrev division_rows : List Row
 division_rows = flat_map (λ w. flat_map (λ op.
-    row (operation (division_code op) source_k (alu_class w)) (λ f. Division w op (sign_of f.offset) (reg_of f.dst) (Immediate (signed32 f.imm)))
-    ∷ row (operation (division_code op) source_x (alu_class w)) (λ f. Division w op (sign_of f.offset) (reg_of f.dst) (Register (reg_of f.src))) ∷ [])
+    row (operation_opcode (division_code op) source_k (alu_class w)) (λ f. Division w op (sign_of f.offset) (reg_of f.dst) (Immediate (signed32 f.imm)))
+    ∷ row (operation_opcode (division_code op) source_x (alu_class w)) (λ f. Division w op (sign_of f.offset) (reg_of f.dst) (Register (reg_of f.src))) ∷ [])
     (Div ∷ Mod ∷ [])) widths
 
 abbrev move_rows : List Row
 move_rows =
     flat_map (λ w.
-    row (operation neg_code source_k (alu_class w)) (λ f. Negate w (reg_of f.dst))
-    ∷ row (operation mov_code source_k (alu_class w)) (λ f. Move w (reg_of f.dst) (Immediate (signed32 f.imm))) ∷ []) widths
-    ++ row (operation mov_code source_x alu) moved32 ∷ row (operation mov_code source_x alu64) moved64 ∷ []
+    row (operation_opcode neg_code source_k (alu_class w)) (λ f. Negate w (reg_of f.dst))
+    ∷ row (operation_opcode mov_code source_k (alu_class w)) (λ f. Move w (reg_of f.dst) (Immediate (signed32 f.imm))) ∷ []) widths
+    ++ row (operation_opcode mov_code source_x alu) moved32 ∷ row (operation_opcode mov_code source_x alu64) moved64 ∷ []
     ++ map (λ order. row (reorder_opcode order) (λ f. Reorder order (swap_of f.imm) (reg_of f.dst))) (Little ∷ Big ∷ Swap ∷ [])
 
 abbrev branch_rows : List Row
 branch_rows = flat_map (λ w. flat_map (λ c.
-    row (operation (condition_code c) source_k (jump_class w)) (λ f. Branch w c (reg_of f.dst) (Immediate (signed32 f.imm)) (signed16 f.offset))
-    ∷ row (operation (condition_code c) source_x (jump_class w)) (λ f. Branch w c (reg_of f.dst) (Register (reg_of f.src)) (signed16 f.offset)) ∷ [])
+    row (operation_opcode (condition_code c) source_k (jump_class w)) (λ f. Branch w c (reg_of f.dst) (Immediate (signed32 f.imm)) (signed16 f.offset))
+    ∷ row (operation_opcode (condition_code c) source_x (jump_class w)) (λ f. Branch w c (reg_of f.dst) (Register (reg_of f.src)) (signed16 f.offset)) ∷ [])
     (Equal ∷ NotEqual ∷ AnyBit ∷ Above ∷ AtLeast ∷ Below ∷ AtMost ∷ SignedAbove ∷ SignedAtLeast ∷ SignedBelow ∷ SignedAtMost ∷ [])) widths
 
 abbrev jump_rows : List Row
 jump_rows =
-    row (operation ja_code source_k jmp) (λ f. Jump (signed16 f.offset))
-    ∷ row (operation ja_code source_k jmp32) (λ f. JumpFar (signed32 f.imm))
-    ∷ row (operation call_code source_k jmp) (λ f. Call f.imm)
-    ∷ row (operation exit_code source_k jmp) (λ f. Exit) ∷ []
+    row (operation_opcode ja_code source_k jmp) (λ f. Jump (signed16 f.offset))
+    ∷ row (operation_opcode ja_code source_k jmp32) (λ f. JumpFar (signed32 f.imm))
+    ∷ row (operation_opcode call_code source_k jmp) (λ f. Call f.imm)
+    ∷ row (operation_opcode exit_code source_k jmp) (λ f. Exit) ∷ []
 
 abbrev memory_rows : List Row
 memory_rows =
-    row (access imm_mode double_code ld) wide ∷ []
+    row (access_opcode imm_mode double_code ld) wide ∷ []
     ++ flat_map (λ size.
-    row (access mem_mode (size_code size) ldx) (λ f. Load size (reg_of f.dst) (reg_of f.src) (signed16 f.offset))
-    ∷ row (access mem_mode (size_code size) st) (λ f. StoreImmediate size (reg_of f.dst) (signed16 f.offset) (signed32 f.imm))
-    ∷ row (access mem_mode (size_code size) stx) (λ f. StoreRegister size (reg_of f.dst) (signed16 f.offset) (reg_of f.src)) ∷ [])
+    row (access_opcode mem_mode (size_code size) ldx) (λ f. Load size (reg_of f.dst) (reg_of f.src) (signed16 f.offset))
+    ∷ row (access_opcode mem_mode (size_code size) st) (λ f. StoreImmediate size (reg_of f.dst) (signed16 f.offset) (signed32 f.imm))
+    ∷ row (access_opcode mem_mode (size_code size) stx) (λ f. StoreRegister size (reg_of f.dst) (signed16 f.offset) (reg_of f.src)) ∷ [])
     (sizes.Byte ∷ sizes.Half ∷ sizes.Word ∷ sizes.Double ∷ [])
-    ++ map (λ size. row (access memsx_mode (signed_size_code size) ldx) (λ f. LoadSigned size (reg_of f.dst) (reg_of f.src) (signed16 f.offset)))
+    ++ map (λ size. row (access_opcode memsx_mode (signed_size_code size) ldx) (λ f. LoadSigned size (reg_of f.dst) (reg_of f.src) (signed16 f.offset)))
     (signed_sizes.Byte ∷ signed_sizes.Half ∷ signed_sizes.Word ∷ [])
 
 abbrev rows : List Row

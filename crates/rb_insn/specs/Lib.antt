@@ -1,4 +1,5 @@
 pub mod Opcodes
-pub mod Operands
+pub mod Sizes
 pub mod Spelling
 pub mod Units
+pub mod inner

@@ -48,7 +48,7 @@ jmp32 = 6
 abbrev pub alu64 : ℕ
 alu64 = 7
 
--- where the second operand stands: K, in the immediate; X, in the source register
+-- where the second operand is: K, in the immediate; X, in the source register
 abbrev pub source_k : ℕ
 source_k = 0
 
@@ -56,8 +56,8 @@ abbrev pub source_x : ℕ
 source_x = 8
 
 -- the opcode of arithmetic and jumps
-abbrev pub operation : ℕ → ℕ → ℕ → ℕ
-operation code source class = 16 * code + source + class
+abbrev pub operation_opcode : ℕ → ℕ → ℕ → ℕ
+operation_opcode code source class = 16 * code + source + class
 
 -- the modes of loads and stores
 abbrev pub imm_mode : ℕ
@@ -70,8 +70,8 @@ abbrev pub memsx_mode : ℕ
 memsx_mode = 4
 
 -- the opcode of loads and stores
-abbrev pub access : ℕ → ℕ → ℕ → ℕ
-access mode size class = 32 * mode + 8 * size + class
+abbrev pub access_opcode : ℕ → ℕ → ℕ → ℕ
+access_opcode mode size class = 32 * mode + 8 * size + class
 
 abbrev pub alu_class : Width → ℕ
 alu_class W32 = alu
@@ -174,9 +174,9 @@ swap_bits B32 = 32
 swap_bits B64 = 64
 
 abbrev pub reorder_opcode : ByteOrder → ℕ
-reorder_opcode Little = operation end_code source_k alu
-reorder_opcode Big = operation end_code source_x alu
-reorder_opcode Swap = operation end_code source_k alu64
+reorder_opcode Little = operation_opcode end_code source_k alu
+reorder_opcode Big = operation_opcode end_code source_x alu
+reorder_opcode Swap = operation_opcode end_code source_k alu64
 
 -- the source register of a wide instruction that loads a map by its index (section 5.4)
 abbrev pub map_by_index : ℕ

@@ -8,7 +8,7 @@ use Rattle.rb_insn.specs.declared.insn.Operand.{Operand}
 use Rattle.rb_insn.specs.declared.insn.Operand.TheVariants.{Immediate, Register}
 use Rattle.rb_insn.specs.declared.insn.Insn.{Insn}
 use Rattle.rb_insn.specs.declared.insn.Insn.TheVariants.{Binary, Division, Negate, Move, MoveExtended32, MoveExtended64, Reorder, Jump, JumpFar, Branch, Call, Exit, LoadNumber, LoadRing, Load, LoadSigned, StoreImmediate, StoreRegister}
-use Rattle.rb_insn.specs.Opcodes.{ld, ldx, st, stx, alu, jmp, jmp32, alu64, source_k, source_x, operation, imm_mode, mem_mode, memsx_mode, access, alu_class, jump_class, binary_code, division_code, neg_code, mov_code, condition_code, ja_code, call_code, exit_code, double_code, size_code, signed_size_code, division_offset, extend32_offset, extend64_offset, swap_bits, reorder_opcode, map_by_index}
+use Rattle.rb_insn.specs.Opcodes.{ld, ldx, st, stx, alu, jmp, jmp32, alu64, source_k, source_x, operation_opcode, imm_mode, mem_mode, memsx_mode, access_opcode, alu_class, jump_class, binary_code, division_code, neg_code, mov_code, condition_code, ja_code, call_code, exit_code, double_code, size_code, signed_size_code, division_offset, extend32_offset, extend64_offset, swap_bits, reorder_opcode, map_by_index}
 use Rattle.rb_insn.specs.Units.{units_taken}
 
 -- ---- units (section 3.1, 3.2)
@@ -33,28 +33,28 @@ bits32 z = cast_unsigned w32 z
 
 -- The bytes of each instruction.
 abbrev pub spelling : Insn → List ℕ
-spelling (Binary width op dst (Immediate value)) = unit (operation (binary_code op) source_k (alu_class width)) dst.number 0 0 (bits32 value)
-spelling (Binary width op dst (Register src)) = unit (operation (binary_code op) source_x (alu_class width)) dst.number src.number 0 0
-spelling (Division width op sign dst (Immediate value)) = unit (operation (division_code op) source_k (alu_class width)) dst.number 0 (division_offset sign) (bits32 value)
-spelling (Division width op sign dst (Register src)) = unit (operation (division_code op) source_x (alu_class width)) dst.number src.number (division_offset sign) 0
-spelling (Negate width dst) = unit (operation neg_code source_k (alu_class width)) dst.number 0 0 0
-spelling (Move width dst (Immediate value)) = unit (operation mov_code source_k (alu_class width)) dst.number 0 0 (bits32 value)
-spelling (Move width dst (Register src)) = unit (operation mov_code source_x (alu_class width)) dst.number src.number 0 0
-spelling (MoveExtended32 from dst src) = unit (operation mov_code source_x alu) dst.number src.number (extend32_offset from) 0
-spelling (MoveExtended64 from dst src) = unit (operation mov_code source_x alu64) dst.number src.number (extend64_offset from) 0
+spelling (Binary width op dst (Immediate value)) = unit (operation_opcode (binary_code op) source_k (alu_class width)) dst.number 0 0 (bits32 value)
+spelling (Binary width op dst (Register src)) = unit (operation_opcode (binary_code op) source_x (alu_class width)) dst.number src.number 0 0
+spelling (Division width op sign dst (Immediate value)) = unit (operation_opcode (division_code op) source_k (alu_class width)) dst.number 0 (division_offset sign) (bits32 value)
+spelling (Division width op sign dst (Register src)) = unit (operation_opcode (division_code op) source_x (alu_class width)) dst.number src.number (division_offset sign) 0
+spelling (Negate width dst) = unit (operation_opcode neg_code source_k (alu_class width)) dst.number 0 0 0
+spelling (Move width dst (Immediate value)) = unit (operation_opcode mov_code source_k (alu_class width)) dst.number 0 0 (bits32 value)
+spelling (Move width dst (Register src)) = unit (operation_opcode mov_code source_x (alu_class width)) dst.number src.number 0 0
+spelling (MoveExtended32 from dst src) = unit (operation_opcode mov_code source_x alu) dst.number src.number (extend32_offset from) 0
+spelling (MoveExtended64 from dst src) = unit (operation_opcode mov_code source_x alu64) dst.number src.number (extend64_offset from) 0
 spelling (Reorder order width dst) = unit (reorder_opcode order) dst.number 0 0 (swap_bits width)
-spelling (Branch width condition dst (Immediate value) distance) = unit (operation (condition_code condition) source_k (jump_class width)) dst.number 0 (bits16 distance) (bits32 value)
-spelling (Branch width condition dst (Register src) distance) = unit (operation (condition_code condition) source_x (jump_class width)) dst.number src.number (bits16 distance) 0
-spelling (Jump distance) = unit (operation ja_code source_k jmp) 0 0 (bits16 distance) 0
-spelling (JumpFar distance) = unit (operation ja_code source_k jmp32) 0 0 0 (bits32 distance)
-spelling (Call helper) = unit (operation call_code source_k jmp) 0 0 0 helper
-spelling Exit = unit (operation exit_code source_k jmp) 0 0 0 0
-spelling (LoadNumber dst value) = unit (access imm_mode double_code ld) dst.number 0 0 (value % 2 ^ 32) ++ second_unit (value / 2 ^ 32)
-spelling (LoadRing dst ring) = unit (access imm_mode double_code ld) dst.number map_by_index 0 ring ++ second_unit 0
-spelling (Load size dst base offset) = unit (access mem_mode (size_code size) ldx) dst.number base.number (bits16 offset) 0
-spelling (LoadSigned size dst base offset) = unit (access memsx_mode (signed_size_code size) ldx) dst.number base.number (bits16 offset) 0
-spelling (StoreImmediate size base offset value) = unit (access mem_mode (size_code size) st) base.number 0 (bits16 offset) (bits32 value)
-spelling (StoreRegister size base offset src) = unit (access mem_mode (size_code size) stx) base.number src.number (bits16 offset) 0
+spelling (Branch width condition dst (Immediate value) distance) = unit (operation_opcode (condition_code condition) source_k (jump_class width)) dst.number 0 (bits16 distance) (bits32 value)
+spelling (Branch width condition dst (Register src) distance) = unit (operation_opcode (condition_code condition) source_x (jump_class width)) dst.number src.number (bits16 distance) 0
+spelling (Jump distance) = unit (operation_opcode ja_code source_k jmp) 0 0 (bits16 distance) 0
+spelling (JumpFar distance) = unit (operation_opcode ja_code source_k jmp32) 0 0 0 (bits32 distance)
+spelling (Call helper) = unit (operation_opcode call_code source_k jmp) 0 0 0 helper
+spelling Exit = unit (operation_opcode exit_code source_k jmp) 0 0 0 0
+spelling (LoadNumber dst value) = unit (access_opcode imm_mode double_code ld) dst.number 0 0 (value % 2 ^ 32) ++ second_unit (value / 2 ^ 32)
+spelling (LoadRing dst ring) = unit (access_opcode imm_mode double_code ld) dst.number map_by_index 0 ring ++ second_unit 0
+spelling (Load size dst base offset) = unit (access_opcode mem_mode (size_code size) ldx) dst.number base.number (bits16 offset) 0
+spelling (LoadSigned size dst base offset) = unit (access_opcode memsx_mode (signed_size_code size) ldx) dst.number base.number (bits16 offset) 0
+spelling (StoreImmediate size base offset value) = unit (access_opcode mem_mode (size_code size) st) base.number 0 (bits16 offset) (bits32 value)
+spelling (StoreRegister size base offset src) = unit (access_opcode mem_mode (size_code size) stx) base.number src.number (bits16 offset) 0
 
 -- ---- what has a spelling: each value of the program's types does, since its numbers are in the ranges of their fields
 
@@ -83,18 +83,18 @@ ImmFits (LoadRing dst ring) = ring < 2 ^ 32
 ImmFits (StoreImmediate size base offset value) = FitsSigned w32 value
 ImmFits insn = Unit {0}
 
-pub record Fits (insn : Insn) : Type 0 where
+pub record FieldsFit (insn : Insn) : Type 0 where
   pub offset : OffsetFits insn
   pub imm : ImmFits insn
 
 -- The bytes spell the instruction.
 pub record Spells (insn : Insn) (bytes : List ℕ) : Type 0 where
-  pub fits : Fits insn
+  pub fits : FieldsFit insn
   pub bytes_are : bytes ≡ spelling insn
 
 -- The bytes spell the instructions, one after the other.
 pub record SpellsAll (insns : List Insn) (bytes : List ℕ) : Type 0 where
-  pub fit : AllByRecursion Fits insns
+  pub fit : AllByRecursion FieldsFit insns
   pub bytes_are : bytes ≡ flat_map spelling insns
 
 -- ---- laws

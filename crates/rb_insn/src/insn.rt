@@ -154,6 +154,43 @@ pub enum SignedSize {
     Word,
 }
 
+impl Size {
+    ghost use Rattle.std.specs.Prelude.{◌≡◌, ◌≤◌};
+    ghost use Rattle.rb_insn.specs.Sizes.{byte_count};
+
+    #[inline(always)]
+    /// How many bytes a load or a store moves.
+    pub fn bytes(self) -> usize
+        ensures value { result ≡ byte_count self }
+        ensures bound { result ≤ 8 }
+    {
+        match self {
+            Size::Byte => 1,
+            Size::Half => 2,
+            Size::Word => 4,
+            Size::Double => 8,
+        }
+    }
+}
+
+impl SignedSize {
+    ghost use Rattle.std.specs.Prelude.{◌≡◌, ◌≤◌};
+    ghost use Rattle.rb_insn.specs.Sizes.{signed_byte_count};
+
+    #[inline(always)]
+    /// How many bytes a sign-extending load moves.
+    pub fn bytes(self) -> usize
+        ensures value { result ≡ signed_byte_count self }
+        ensures bound { result ≤ 4 }
+    {
+        match self {
+            SignedSize::Byte => 1,
+            SignedSize::Half => 2,
+            SignedSize::Word => 4,
+        }
+    }
+}
+
 /// An instruction of the profile. Each value has one spelling, of 8 or 16 bytes.
 #[derive(Clone, Copy, Debug, PartialEq, Eq)]
 pub enum Insn {

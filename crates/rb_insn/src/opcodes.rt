@@ -1,9 +1,11 @@
-//! Opcodes (RFC 9669, sections 3 to 5).
+//! Opcodes, by the tables of RFC 9669, sections 3 to 5. In arithmetic and jumps the high four bits are the code, bit 3
+//! the source, and the low three bits the class; in loads and stores the high three bits are the mode, the next two the
+//! size, and the low three bits the class.
 
 ghost use Rattle.std.specs.Prelude.{◌≡◌, ◌<◌, ◌≤◌};
 ghost use Rattle.rb_insn.specs.Opcodes.{
-  operation as operation_of,
-  access as access_of,
+  operation_opcode as operation_of,
+  access_opcode as access_of,
   alu_class,
   jump_class,
   binary_code,
@@ -23,53 +25,107 @@ use crate::insn::{
     SwapWidth, Width,
 };
 
-/// The classes, in the low three bits.
-pub(crate) const LD: u8 = 0;
+/// Class (the low three bits): loads of a 64-bit immediate.
+pub const LD: u8 = 0;
+/// Class: loads into a register.
+pub const LDX: u8 = 1;
+/// Class: stores of an immediate.
+pub const ST: u8 = 2;
+/// Class: stores of a register.
+pub const STX: u8 = 3;
+/// Class: arithmetic on 32 bits.
+pub const ALU: u8 = 4;
+/// Class: jumps that compare 64 bits.
+pub const JMP: u8 = 5;
+/// Class: jumps that compare 32 bits.
+pub const JMP32: u8 = 6;
+/// Class: arithmetic on 64 bits.
+pub const ALU64: u8 = 7;
 
-pub(crate) const LDX: u8 = 1;
+/// Source (bit 3): the second operand is the immediate.
+pub const K: u8 = 0;
+/// Source: the second operand is the source register.
+pub const X: u8 = 8;
 
-pub(crate) const ST: u8 = 2;
+/// Arithmetic code (the high four bits): dst + operand.
+pub const ADD: u8 = 0;
+/// Arithmetic code: dst - operand.
+pub const SUB: u8 = 1;
+/// Arithmetic code: dst * operand.
+pub const MUL: u8 = 2;
+/// Arithmetic code: dst / operand.
+pub const DIV: u8 = 3;
+/// Arithmetic code: bitwise or.
+pub const OR: u8 = 4;
+/// Arithmetic code: bitwise and.
+pub const AND: u8 = 5;
+/// Arithmetic code: shift left.
+pub const LSH: u8 = 6;
+/// Arithmetic code: shift right, filled with zeros.
+pub const RSH: u8 = 7;
+/// Arithmetic code: 0 - dst.
+pub const NEG: u8 = 8;
+/// Arithmetic code: dst % operand.
+pub const MOD: u8 = 9;
+/// Arithmetic code: bitwise exclusive or.
+pub const XOR: u8 = 10;
+/// Arithmetic code: the operand itself.
+pub const MOV: u8 = 11;
+/// Arithmetic code: shift right, filled with the sign.
+pub const ARSH: u8 = 12;
+/// Arithmetic code: byte swap.
+pub const END: u8 = 13;
 
-pub(crate) const STX: u8 = 3;
+/// Jump code (the high four bits): always.
+pub const JA: u8 = 0;
+/// Jump code: dst equals the operand.
+pub const JEQ: u8 = 1;
+/// Jump code: dst is above the operand.
+pub const JGT: u8 = 2;
+/// Jump code: dst is at least the operand.
+pub const JGE: u8 = 3;
+/// Jump code: a bit is set in both.
+pub const JSET: u8 = 4;
+/// Jump code: dst does not equal the operand.
+pub const JNE: u8 = 5;
+/// Jump code: dst is above the operand, both signed.
+pub const JSGT: u8 = 6;
+/// Jump code: dst is at least the operand, both signed.
+pub const JSGE: u8 = 7;
+/// Jump code: a call of a helper.
+pub const CALL: u8 = 8;
+/// Jump code: the program's end.
+pub const EXIT: u8 = 9;
+/// Jump code: dst is below the operand.
+pub const JLT: u8 = 10;
+/// Jump code: dst is at most the operand.
+pub const JLE: u8 = 11;
+/// Jump code: dst is below the operand, both signed.
+pub const JSLT: u8 = 12;
+/// Jump code: dst is at most the operand, both signed.
+pub const JSLE: u8 = 13;
 
-pub(crate) const ALU: u8 = 4;
+/// Mode (the high three bits) of a load or store: a 64-bit immediate.
+pub const IMM: u8 = 0;
+/// Mode: memory.
+pub const MEM: u8 = 3;
+/// Mode: memory, sign-extended.
+pub const MEMSX: u8 = 4;
 
-pub(crate) const JMP: u8 = 5;
-
-pub(crate) const JMP32: u8 = 6;
-
-pub(crate) const ALU64: u8 = 7;
-
-/// The second operand is the immediate.
-pub(crate) const K: u8 = 0;
-/// The second operand is the source register.
-pub(crate) const X: u8 = 8;
-
-/// The codes of arithmetic and jumps that no enum has.
-pub(crate) const NEG: u8 = 8;
-
-pub(crate) const MOV: u8 = 11;
-
-pub(crate) const END: u8 = 13;
-
-pub(crate) const JA: u8 = 0;
-
-pub(crate) const CALL: u8 = 8;
-
-pub(crate) const EXIT: u8 = 9;
-
-/// The modes of loads and stores.
-pub(crate) const IMM: u8 = 0;
-
-pub(crate) const MEM: u8 = 3;
-
-pub(crate) const MEMSX: u8 = 4;
+/// Size (bits 3 and 4) of a load or store: four bytes.
+pub const W: u8 = 0;
+/// Size: two bytes.
+pub const H: u8 = 1;
+/// Size: one byte.
+pub const B: u8 = 2;
+/// Size: eight bytes.
+pub const DW: u8 = 3;
 
 /// The source field of a wide instruction that loads a map by its index.
-pub(crate) const MAP_BY_INDEX: u8 = 5;
+pub const MAP_BY_INDEX: u8 = 5;
 
 /// The opcode of arithmetic or a jump.
-pub(crate) fn operation(code: u8, source: u8, class: u8) -> u8
+pub(crate) fn operation_opcode(code: u8, source: u8, class: u8) -> u8
     requires code { code < 16 }
     requires source { source ≤ 8 }
     requires class { class < 8 }
@@ -79,7 +135,7 @@ pub(crate) fn operation(code: u8, source: u8, class: u8) -> u8
 }
 
 /// The opcode of a load or store.
-pub(crate) fn access(mode: u8, size: u8, class: u8) -> u8
+pub(crate) fn access_opcode(mode: u8, size: u8, class: u8) -> u8
     requires mode { mode < 8 }
     requires size { size < 4 }
     requires class { class < 8 }
@@ -119,15 +175,15 @@ impl BinaryOp {
         ensures bound { result < 16 }
     {
         match self {
-            BinaryOp::Add => 0,
-            BinaryOp::Sub => 1,
-            BinaryOp::Mul => 2,
-            BinaryOp::Or => 4,
-            BinaryOp::And => 5,
-            BinaryOp::Lsh => 6,
-            BinaryOp::Rsh => 7,
-            BinaryOp::Xor => 10,
-            BinaryOp::Arsh => 12,
+            BinaryOp::Add => ADD,
+            BinaryOp::Sub => SUB,
+            BinaryOp::Mul => MUL,
+            BinaryOp::Or => OR,
+            BinaryOp::And => AND,
+            BinaryOp::Lsh => LSH,
+            BinaryOp::Rsh => RSH,
+            BinaryOp::Xor => XOR,
+            BinaryOp::Arsh => ARSH,
         }
     }
 }
@@ -139,8 +195,8 @@ impl DivisionOp {
         ensures bound { result < 16 }
     {
         match self {
-            DivisionOp::Div => 3,
-            DivisionOp::Mod => 9,
+            DivisionOp::Div => DIV,
+            DivisionOp::Mod => MOD,
         }
     }
 }
@@ -201,9 +257,9 @@ impl ByteOrder {
         ensures { result ≡ reorder_opcode self }
     {
         match self {
-            ByteOrder::Little => operation(END, K, ALU),
-            ByteOrder::Big => operation(END, X, ALU),
-            ByteOrder::Swap => operation(END, K, ALU64),
+            ByteOrder::Little => operation_opcode(END, K, ALU),
+            ByteOrder::Big => operation_opcode(END, X, ALU),
+            ByteOrder::Swap => operation_opcode(END, K, ALU64),
         }
     }
 }
@@ -215,17 +271,17 @@ impl Condition {
         ensures bound { result < 16 }
     {
         match self {
-            Condition::Equal => 1,
-            Condition::Above => 2,
-            Condition::AtLeast => 3,
-            Condition::AnyBit => 4,
-            Condition::NotEqual => 5,
-            Condition::SignedAbove => 6,
-            Condition::SignedAtLeast => 7,
-            Condition::Below => 10,
-            Condition::AtMost => 11,
-            Condition::SignedBelow => 12,
-            Condition::SignedAtMost => 13,
+            Condition::Equal => JEQ,
+            Condition::Above => JGT,
+            Condition::AtLeast => JGE,
+            Condition::AnyBit => JSET,
+            Condition::NotEqual => JNE,
+            Condition::SignedAbove => JSGT,
+            Condition::SignedAtLeast => JSGE,
+            Condition::Below => JLT,
+            Condition::AtMost => JLE,
+            Condition::SignedBelow => JSLT,
+            Condition::SignedAtMost => JSLE,
         }
     }
 }
@@ -237,10 +293,10 @@ impl Size {
         ensures bound { result < 4 }
     {
         match self {
-            Size::Word => 0,
-            Size::Half => 1,
-            Size::Byte => 2,
-            Size::Double => 3,
+            Size::Word => W,
+            Size::Half => H,
+            Size::Byte => B,
+            Size::Double => DW,
         }
     }
 }
@@ -252,9 +308,9 @@ impl SignedSize {
         ensures bound { result < 4 }
     {
         match self {
-            SignedSize::Word => Size::Word.code(),
-            SignedSize::Half => Size::Half.code(),
-            SignedSize::Byte => Size::Byte.code(),
+            SignedSize::Word => W,
+            SignedSize::Half => H,
+            SignedSize::Byte => B,
         }
     }
 }

@@ -3,19 +3,19 @@
 
 ghost use Rattle.std.specs.Prelude.{◌≡◌, ◌+◌, ◌*◌, ◌<◌, ◌≤◌, ◌%◌, ◌/◌, ◌^◌, ◌++◌, ◌∷◌, [], length, take, drop, slice_index, MatchOption};
 ghost use Rattle.byteorder.specs.Endian.{little_bytes};
-ghost use Rattle.rb_insn.specs.Operands.{source_of, src_of, imm_of};
+ghost use Rattle.rb_insn.specs.inner.Operands.{source_of, src_of, imm_of};
 ghost use Rattle.rb_insn.specs.Spelling.{spelling, second_unit, Spells, OffsetFits, OperandFits, ImmFits, SpellingsFillUnits, NoSpellingBeginsAnother, OneListSpells};
 ghost use Rattle.rb_insn.specs.Units.{units_taken};
 
 use crate::insn::{Insn, Operand, Size};
 use crate::opcodes::{
     ALU, ALU64, CALL, EXIT, IMM, JA, JMP, JMP32, K, LD, LDX, MAP_BY_INDEX, MEM, MEMSX, MOV, NEG,
-    ST, STX, X, access, operation,
+    ST, STX, X, access_opcode, operation_opcode,
 };
 use byteorder::{ByteOrder, LittleEndian};
 
 impl Operand {
-    /// Where the operand stands.
+    /// Where the operand is: K or X.
     fn source(self) -> u8
         ensures { result ≡ source_of self }
     {
@@ -58,37 +58,41 @@ impl Insn {
                 op,
                 operand,
                 ..
-            } => operation(op.code(), operand.source(), width.alu_class()),
+            } => operation_opcode(op.code(), operand.source(), width.alu_class()),
             Insn::Division {
                 width,
                 op,
                 operand,
                 ..
-            } => operation(op.code(), operand.source(), width.alu_class()),
-            Insn::Negate { width, .. } => operation(NEG, K, width.alu_class()),
-            Insn::Move { width, operand, .. } => operation(
+            } => operation_opcode(op.code(), operand.source(), width.alu_class()),
+            Insn::Negate { width, .. } => operation_opcode(NEG, K, width.alu_class()),
+            Insn::Move { width, operand, .. } => operation_opcode(
                 MOV,
                 operand.source(),
                 width.alu_class(),
             ),
-            Insn::MoveExtended32 { .. } => operation(MOV, X, ALU),
-            Insn::MoveExtended64 { .. } => operation(MOV, X, ALU64),
+            Insn::MoveExtended32 { .. } => operation_opcode(MOV, X, ALU),
+            Insn::MoveExtended64 { .. } => operation_opcode(MOV, X, ALU64),
             Insn::Reorder { order, .. } => order.opcode(),
-            Insn::Jump { .. } => operation(JA, K, JMP),
-            Insn::JumpFar { .. } => operation(JA, K, JMP32),
+            Insn::Jump { .. } => operation_opcode(JA, K, JMP),
+            Insn::JumpFar { .. } => operation_opcode(JA, K, JMP32),
             Insn::Branch {
                 width,
                 condition,
                 operand,
                 ..
-            } => operation(condition.code(), operand.source(), width.jump_class()),
-            Insn::Call { .. } => operation(CALL, K, JMP),
-            Insn::Exit => operation(EXIT, K, JMP),
-            Insn::LoadNumber { .. } | Insn::LoadRing { .. } => access(IMM, Size::Double.code(), LD),
-            Insn::Load { size, .. } => access(MEM, size.code(), LDX),
-            Insn::LoadSigned { size, .. } => access(MEMSX, size.code(), LDX),
-            Insn::StoreImmediate { size, .. } => access(MEM, size.code(), ST),
-            Insn::StoreRegister { size, .. } => access(MEM, size.code(), STX),
+            } => operation_opcode(condition.code(), operand.source(), width.jump_class()),
+            Insn::Call { .. } => operation_opcode(CALL, K, JMP),
+            Insn::Exit => operation_opcode(EXIT, K, JMP),
+            Insn::LoadNumber { .. } | Insn::LoadRing { .. } => access_opcode(
+                IMM,
+                Size::Double.code(),
+                LD,
+            ),
+            Insn::Load { size, .. } => access_opcode(MEM, size.code(), LDX),
+            Insn::LoadSigned { size, .. } => access_opcode(MEMSX, size.code(), LDX),
+            Insn::StoreImmediate { size, .. } => access_opcode(MEM, size.code(), ST),
+            Insn::StoreRegister { size, .. } => access_opcode(MEM, size.code(), STX),
         }
     }
 

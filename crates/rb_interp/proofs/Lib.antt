@@ -7,3 +7,4 @@ mod Comparing
 mod Feasible
 mod Steady
 mod Reaching
+mod RunSteps

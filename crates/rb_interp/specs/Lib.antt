@@ -1,8 +1,6 @@
-pub mod Table
-pub mod Stored
-pub mod Shows
-pub mod Calls
-pub mod Executed
-pub mod Machines
-pub mod Traces
-pub mod Reaching
+pub mod StoredMemory
+pub mod ShownState
+pub mod CodeCalls
+pub mod MachineState
+pub mod RunTraces
+pub mod inner

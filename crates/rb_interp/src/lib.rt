@@ -1,25 +1,27 @@
-//! Runs verified programs over lent memory and helpers, one instruction at a time or to the end.
+//! The interpreter, for hosts that run verified programs over lent memory and helpers. `run` runs a program to its end: its
+//! result, and the calls that it makes of the `Helpers`, are those of the program's meaning (`rb_semantics`, after RFC
+//! 9669), and it is never stuck. A `Machine` does it one instruction at a time: `step` is one step of the meaning, a call
+//! comes out as a `Request`, and `answer` goes on with its `Answer`. A step takes constant time and no memory, and a run
+//! has at most as many steps as the program has units.
 #![tactic(auto)]
 
-mod calls;
+mod byte_numbers;
 mod cpu;
-mod execute;
 mod fault;
+mod helper_requests;
+mod instruction;
+mod instruction_rows;
 mod machine;
-mod memory;
-mod numbers;
+mod machine_memory;
 mod offsets;
-mod range;
+mod part_range;
+mod program_run;
 mod request;
-mod rows;
-mod running;
+mod slot_table;
 mod step;
-mod table;
-#[cfg(test)]
-mod tests;
 
 pub use fault::RunFault;
 pub use machine::Machine;
+pub use program_run::run;
 pub use request::{Answer, Request};
-pub use running::run;
 pub use step::{Phase, Step};

@@ -1,9 +1,9 @@
 //! Offsets of pointers, and signed numbers.
 
 ghost use Rattle.std.specs.Prelude.{◌≡◌, ◌+ℤ◌, ◌-ℤ◌, true};
-ghost use Rattle.rb_alu.specs.Numbers.{signed_of, wrapped};
-ghost use Rattle.rb_refs.specs.Arithmetic.{is_near};
-ghost use Rattle.rb_interp.specs.Stored.{IsNear};
+ghost use Rattle.rb_alu.specs.WholeNumbers.{signed_of, wrapped};
+ghost use Rattle.rb_refs.specs.AbstractArithmetic.{is_near};
+ghost use Rattle.rb_interp.specs.inner.NearOffsets.{IsNear};
 
 /// A signed number as one of 64 bits, in two's complement.
 pub(crate) fn unsigned(number: i64) -> u64

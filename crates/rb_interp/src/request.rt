@@ -29,6 +29,6 @@ pub enum Answer<R> {
     HandedBack,
     /// The code of an output: 0, or a failure below it.
     Code(i64),
-    /// What a query told.
+    /// The number that a query returned.
     Told(u64),
 }

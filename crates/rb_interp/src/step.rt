@@ -1,7 +1,7 @@
 //! What a step does, and what comes next.
 
 use crate::request::Request;
-use rb_meaning::Asked;
+use rb_semantics::PendingCall;
 
 /// What a step did.
 #[derive(Drop)]
@@ -20,7 +20,7 @@ pub enum Phase {
     /// An instruction.
     Ready,
     /// The answer of a call.
-    Waiting(Asked),
+    Waiting(PendingCall),
     /// Nothing: the program ended with this result.
     Exited(u64),
     /// Nothing: a record was handed back.

@@ -1,2 +1,2 @@
 pub mod Jobs
-pub mod Counted
+pub mod inner

@@ -19,11 +19,11 @@ pub struct Job<'j> {
 pub struct JobAnswer {
     /// The program's result, or why there is none.
     pub result: Result<u64, RunFault>,
-    /// How many of the nulls for flags 0 and of the answers -11 of its calls no entry of a ring explains.
+    /// How many of the nulls for flags 0 and of the answers `-EAGAIN` of its calls no entry of a ring explains.
     pub unlogged: u64,
 }
 
-/// What stands before each helper call of a job.
+/// A gate that each helper call of a job goes through first.
 pub trait Gate {
     /// Is called outside every lock before each helper call of a worker's jobs, with the number of helper calls that the worker has
     /// finished, which stays at the greatest `u64`. Nothing is promised of what a gate does; the call waits for it. That it is called, and

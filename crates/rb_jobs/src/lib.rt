@@ -1,13 +1,16 @@
-//! Jobs of workers: runs of verified programs over a worker's seats at shared rings.
+//! A job: one run of a verified program (RFC 9669, with the helper calls of bpf-helpers(7)) over a worker's seats at shared rings.
+//!
+//! `run_job` is for whoever has threads run programs over shared rings, as rb_workers does. What is promised: the result is the one
+//! that the program's meaning gives under the calls that were made; the numbers of the worker's seats rise by just what these calls
+//! say; a run that did not end with a stray record submitted and discarded as many records as it made (`jobs_give_back`); and
+//! the seats come back, whatever the result. Before each helper call a `Gate` is called outside every lock.
 #![tactic(auto)]
 
-mod gated;
+mod gated_helpers;
 mod job;
-mod laws;
-mod running;
-#[cfg(test)]
-mod tests;
+mod job_laws;
+mod job_run;
 
 pub use job::{Gate, Job, JobAnswer};
-pub use laws::jobs_give_back;
-pub use running::run_job;
+pub use job_laws::jobs_give_back;
+pub use job_run::run_job;

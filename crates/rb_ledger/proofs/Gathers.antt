@@ -5,19 +5,23 @@ use Rattle.std.proofs.lemmas.List.Elements.{All-nil, All-cons, All-head, All-tai
 use Rattle.std.specs.FinMap.{get}
 use Rattle.std.proofs.lemmas.Bool.{and_parts, or_cases}
 use Rattle.atomic_table.specs.Seated.{TableId}
-use Rattle.rb_history.specs.Legal.{Setup}
-use Rattle.rb_history.specs.View.{Ring}
+use Rattle.rb_history.specs.RoomRule.{Setup}
+use Rattle.rb_history.specs.RingModel.{Ring}
 use Rattle.rb_history.proofs.Counting.{made-split}
 use Rattle.rb_history.proofs.Lists.{sum_by-cons}
 use Rattle.rb_history.proofs.Standing.{grant-stands}
 use Rattle.rb_ledger.specs.declared.tally.Tally.{Tally}
-use Rattle.rb_ledger.specs.Own.{Role, is_record_of, book_of}
-use Rattle.rb_ledger.specs.Own.Role.{Consumer, Worker}
-use Rattle.rb_ledger.specs.Bytes.{IsAllSentBy}
-use Rattle.rb_ledger.specs.Numbers.{numbers_below}
-use Rattle.rb_ledger.specs.Rule.{Known, View, known, view_of, Ledger, IsRing, Fits, AllFit, TakesState, times}
-use Rattle.rb_ledger.specs.Seats.{WorkerSeat, TakerSeat, TakerTies, are_tagged, has_seat, HasAll, seats_of}
-use Rattle.rb_ledger.specs.Headline.{roles_of, IsTied, Accounts, AreSent, IsClosed}
+use Rattle.rb_ledger.specs.Roles.{Role, is_record_of, book_of}
+use Rattle.rb_ledger.specs.Roles.Role.{Consumer, Worker}
+use Rattle.rb_ledger.specs.SentBytes.{IsAllSentBy}
+use Rattle.rb_ledger.specs.WorkerCounts.{numbers_below}
+use Rattle.rb_ledger.specs.RoleKnowledge.{RoleKnowledge, PassView, role_knowledge, pass_view, role_count}
+use Rattle.rb_ledger.specs.Ledger.{Ledger, IsRing, FitsLedger}
+use Rattle.rb_ledger.specs.LockRule.{AllFit}
+use Rattle.rb_ledger.specs.inner.LockSteps.{TakesState}
+use Rattle.rb_ledger.specs.Seats.{WorkerSeat, ConsumerSeatValue, ConsumerTies, are_tagged, has_seat, HasAll, seats_of}
+use Rattle.rb_ledger.specs.Headline.{Accounts, AreSent, IsClosed}
+use Rattle.rb_ledger.specs.inner.SeatRoles.{roles_of, HasOwnCounts}
 use Rattle.rb_ledger.proofs.Records.{bit, record-from}
 use Rattle.rb_ledger.proofs.Tallies.{submitted-granted}
 use Rattle.rb_ledger.proofs.Seated.{ties-goes, taker-goes-on}
@@ -26,18 +30,18 @@ use Rattle.rb_ledger.proofs.Sums.{eqb-sym, made-is}
 
 -- ---- one seat after the other
 
-roles-snoc : (ss : List WorkerSeat) (s : WorkerSeat) → roles_of (ss ++ s ∷ []) ≡ roles_of ss ++ known (Worker s.worker) s.seen s.sent ∷ []
+roles-snoc : (ss : List WorkerSeat) (s : WorkerSeat) → roles_of (ss ++ s ∷ []) ≡ roles_of ss ++ role_knowledge (Worker s.worker) s.seen s.sent ∷ []
 roles-snoc [] s = refl
-roles-snoc (x ∷ ss) s = ap (λ ks. known (Worker x.worker) x.seen x.sent ∷ ks) (roles-snoc ss s)
+roles-snoc (x ∷ ss) s = ap (λ ks. role_knowledge (Worker x.worker) x.seen x.sent ∷ ks) (roles-snoc ss s)
 
-pub gather-step : (items rest : List WorkerSeat) (s : WorkerSeat) (v after own : View) → items ≡ rest ++ s ∷ [] → own ≡ view_of (known (Worker s.worker) s.seen s.sent ∷ []) None → after ≡ view_of (own.knows ++ v.knows) v.out
-    → view_of (roles_of rest ++ after.knows) after.out ≡ view_of (roles_of items ++ v.knows) v.out
+pub gather-step : (items rest : List WorkerSeat) (s : WorkerSeat) (v after own : PassView) → items ≡ rest ++ s ∷ [] → own ≡ pass_view (role_knowledge (Worker s.worker) s.seen s.sent ∷ []) None → after ≡ pass_view (own.knows ++ v.knows) v.out
+    → pass_view (roles_of rest ++ after.knows) after.out ≡ pass_view (roles_of items ++ v.knows) v.out
 gather-step items rest s v after own cut is_own is_after =
-    let k = known (Worker s.worker) s.seen s.sent in
-    ap (λ (y : View). view_of (roles_of rest ++ y.knows) y.out) is_after
-    ∙ ap (λ (y : View). view_of (roles_of rest ++ (y.knows ++ v.knows)) v.out) is_own
-    ∙ ap (λ ks. view_of ks v.out) (sym (ap (λ l. l ++ v.knows) (roles-snoc rest s) ∙ append_assoc (roles_of rest) (k ∷ []) v.knows))
-    ∙ ap (λ l. view_of (roles_of l ++ v.knows) v.out) (sym cut)
+    let k = role_knowledge (Worker s.worker) s.seen s.sent in
+    ap (λ (y : PassView). pass_view (roles_of rest ++ y.knows) y.out) is_after
+    ∙ ap (λ (y : PassView). pass_view (roles_of rest ++ (y.knows ++ v.knows)) v.out) is_own
+    ∙ ap (λ ks. pass_view ks v.out) (sym (ap (λ l. l ++ v.knows) (roles-snoc rest s) ∙ append_assoc (roles_of rest) (k ∷ []) v.knows))
+    ∙ ap (λ l. pass_view (roles_of l ++ v.knows) v.out) (sym cut)
 
 pub rest-rings : (at : TableId) (items rest : List WorkerSeat) (s : WorkerSeat) → items ≡ rest ++ s ∷ [] → All (λ x. x.ring ≡ at) items → All (λ x. x.ring ≡ at) rest
 rest-rings at items rest s cut all = (All-pop (λ (x : WorkerSeat). x.ring ≡ at) items rest (Some s) cut all).0
@@ -54,7 +58,7 @@ tagged-rings tag ring at (s ∷ ss) same tagged given =
 
 -- ---- each worker has one seat
 
-seats-times : (w : ℕ) (ss : List WorkerSeat) (more : List Known) → seats_of w ss ≤ times (Worker w) (roles_of ss ++ more)
+seats-times : (w : ℕ) (ss : List WorkerSeat) (more : List RoleKnowledge) → seats_of w ss ≤ role_count (Worker w) (roles_of ss ++ more)
 seats-times w [] more = omega arith
 seats-times w (s ∷ ss) more =
     let e = seats-times w ss more in
@@ -82,32 +86,32 @@ some-seat P Q w (s ∷ ss) each has give = elim (or_cases (s.worker == w) (has_s
 -- ---- what fits all roles
 
 module _ (l : Ledger) where
-  abbrev FitAll : List Known → Type 0
-  FitAll = AllFit (λ (s : Ledger). s.ring) Fits l
+  abbrev FitAll : List RoleKnowledge → Type 0
+  FitAll = AllFit l
 
-  behind : (ss : List WorkerSeat) (more : List Known) → FitAll (roles_of ss ++ more) → FitAll more
+  behind : (ss : List WorkerSeat) (more : List RoleKnowledge) → FitAll (roles_of ss ++ more) → FitAll more
   behind [] more fit = fit
   behind (s ∷ ss) more fit = behind ss more fit.1
 
-  pub accounts : (ss : List WorkerSeat) (more : List Known) → IsRing l.ring → FitAll (roles_of ss ++ more) → All IsTied ss → All (Accounts (book_of l.ring)) ss
+  pub accounts : (ss : List WorkerSeat) (more : List RoleKnowledge) → IsRing l.ring → FitAll (roles_of ss ++ more) → All HasOwnCounts ss → All (Accounts (book_of l.ring)) ss
   accounts [] more is_ring fit tied = All-nil _
   accounts (s ∷ ss) more is_ring fit tied =
-      let ties = ties-goes s.worker s.tally s.seen (book_of l.ring) fit.0.goes_on is_ring.legal (All-head IsTied s ss tied) in
+      let ties = ties-goes s.worker s.tally s.seen (book_of l.ring) fit.0.goes_on is_ring.legal (All-head HasOwnCounts s ss tied) in
       All-cons (Accounts (book_of l.ring)) s ss
       (record {
         goes_on = fit.0.goes_on;
         ties = ties;
         in_order = serials-ordered l.ring.setup s.worker l.ring.history is_ring.legal ∙ ap numbers_below (ap (λ (t : Tally). t.made) (sym ties.counted));
       })
-      (accounts ss more is_ring fit.1 (All-tail IsTied s ss tied))
+      (accounts ss more is_ring fit.1 (All-tail HasOwnCounts s ss tied))
 
   -- each seat has sent what was sent of its records
-  all-sent : (ss : List WorkerSeat) (more : List Known) → FitAll (roles_of ss ++ more) → All (λ s. IsAllSentBy s.worker l.ring.history l.sent s.sent) ss
+  all-sent : (ss : List WorkerSeat) (more : List RoleKnowledge) → FitAll (roles_of ss ++ more) → All (λ s. IsAllSentBy s.worker l.ring.history l.sent s.sent) ss
   all-sent [] more fit = All-nil _
   all-sent (s ∷ ss) more fit = All-cons (λ (x : WorkerSeat). IsAllSentBy x.worker l.ring.history l.sent x.sent) s ss fit.0.bytes_fit (all-sent ss more fit.1)
 
   -- what was sent was sent by the seat of the record's worker
-  sent-by : (ss : List WorkerSeat) (more : List Known) (k : Known) → Fits l k → FitAll (roles_of ss ++ more) → HasAll l.ring.setup.workers ss → AreSent ss (book_of l.ring) l.sent
+  sent-by : (ss : List WorkerSeat) (more : List RoleKnowledge) (k : RoleKnowledge) → FitsLedger l k → FitAll (roles_of ss ++ more) → HasAll l.ring.setup.workers ss → AreSent ss (book_of l.ring) l.sent
   sent-by ss more k sound fit has p bytes is =
       let h = l.ring.history in
       let legal = sound.sound.is_ring.legal in
@@ -117,16 +121,16 @@ module _ (l : Ledger) where
       some-seat (λ s. IsAllSentBy s.worker h l.sent s.sent) (λ s. (is_record_of s.worker h p ≡ true) × (get s.sent p ≡ Some bytes)) w ss (all-sent ss more fit) (has w (worker-in l.ring.setup w g.1.0 g.1.1.0 p h legal g.1.1.1))
       (λ s all same. let his : is_record_of s.worker h p ≡ true = subst (λ v. is_record_of v h p ≡ true) (sym same) mine in (his, all p bytes is his))
 
-  pub closed : (ss : List WorkerSeat) (c : TakerSeat) → FitAll (roles_of ss ++ known Consumer c.seen c.got ∷ []) → ((role : Role) → times role (roles_of ss ++ known Consumer c.seen c.got ∷ []) ≤ 1)
-      → All IsTied ss → TakerTies c.consumed c.skipped c.position c.seen → HasAll c.seen.setup.workers ss → IsClosed l.ring ss c
+  pub closed : (ss : List WorkerSeat) (c : ConsumerSeatValue) → FitAll (roles_of ss ++ role_knowledge Consumer c.seen c.got ∷ []) → ((role : Role) → role_count role (roles_of ss ++ role_knowledge Consumer c.seen c.got ∷ []) ≤ 1)
+      → All HasOwnCounts ss → ConsumerTies c.consumed c.skipped c.position c.seen → HasAll c.seen.setup.workers ss → IsClosed l.ring ss c
   closed ss c fit once tied taker has =
-      let more = known Consumer c.seen c.got ∷ [] in
+      let more = role_knowledge Consumer c.seen c.got ∷ [] in
       let mine = (behind ss more fit).0 in
       let is_ring = mine.sound.is_ring in
       let has_all : HasAll l.ring.setup.workers ss = subst (λ (x : Setup). HasAll x.workers ss) (sym mine.goes_on.setup_same) has in
       let each : (w : ℕ) → w < l.ring.setup.workers → seats_of w ss ≡ 1 = λ w low. let least = has-one w ss (has_all w low) in let most = once (Worker w) in omega (arith, seats-times w ss more) in
       let tie = accounts ss more is_ring fit tied in
-      let sent = sent-by ss more (known Consumer c.seen c.got) mine fit has_all in
+      let sent = sent-by ss more (role_knowledge Consumer c.seen c.got) mine fit has_all in
       let all = made-is (book_of l.ring) is_ring.legal ss each tie in
       let parts = made-split l.ring.history in
       record {
@@ -141,12 +145,12 @@ module _ (l : Ledger) where
       }
 
 -- what the state that the gathering pass took out tells
-pub collected : (ss : List WorkerSeat) (c : TakerSeat) (own gathered after : View) (r : Ring) → own ≡ view_of (known Consumer c.seen c.got ∷ []) None → gathered ≡ view_of (roles_of ss ++ own.knows) own.out → TakesState gathered r after
-    → All IsTied ss → TakerTies c.consumed c.skipped c.position c.seen → HasAll c.seen.setup.workers ss → IsClosed r ss c
+pub collected : (ss : List WorkerSeat) (c : ConsumerSeatValue) (own gathered after : PassView) (r : Ring) → own ≡ pass_view (role_knowledge Consumer c.seen c.got ∷ []) None → gathered ≡ pass_view (roles_of ss ++ own.knows) own.out → TakesState gathered r after
+    → All HasOwnCounts ss → ConsumerTies c.consumed c.skipped c.position c.seen → HasAll c.seen.setup.workers ss → IsClosed r ss c
 collected ss c own gathered after r is_own knows took tied taker has =
-    let more = known Consumer c.seen c.got ∷ [] in
-    let all : gathered.knows ≡ roles_of ss ++ more = ap (λ (y : View). y.knows) knows ∙ ap (λ (y : View). roles_of ss ++ y.knows) is_own in
+    let more = role_knowledge Consumer c.seen c.got ∷ [] in
+    let all : gathered.knows ≡ roles_of ss ++ more = ap (λ (y : PassView). y.knows) knows ∙ ap (λ (y : PassView). roles_of ss ++ y.knows) is_own in
     let l = took.1.0 in
-    let fit = subst (λ ks. AllFit (λ (s : Ledger). s.ring) Fits l ks) all took.1.2 in
-    let once : (role : Role) → times role (roles_of ss ++ more) ≤ 1 = λ role. subst (λ ks. times role ks ≤ 1) all (took.2 role) in
+    let fit = subst (λ ks. AllFit l ks) all took.1.2 in
+    let once : (role : Role) → role_count role (roles_of ss ++ more) ≤ 1 = λ role. subst (λ ks. role_count role ks ≤ 1) all (took.2 role) in
     subst (λ x. IsClosed x ss c) took.1.1 (closed l ss c fit once tied taker has)

@@ -3,11 +3,12 @@ use Rattle.std.proofs.Common.{◌≡◌, ℕ, ◌==◌, true, false, List, [], �
 use Rattle.std.proofs.lemmas.Bool.{true≢false, eqb-true, eq-eqb, false_from_ne_true}
 use Rattle.rb_history.specs.declared.entries.Entry.{Entry}
 use Rattle.rb_history.specs.declared.entries.Entry.TheVariants.{Res, Full, Sub, Dis, Take}
-use Rattle.rb_history.specs.Legal.{Setup, IsLegal}
+use Rattle.rb_history.specs.RoomRule.{Setup}
+use Rattle.rb_history.specs.Legal.{IsLegal}
 use Rattle.rb_history.proofs.Laws.{legal-front}
-use Rattle.rb_ledger.specs.Own.{Role, is_record_of, is_own, NoneOwn, Book, GoesOn}
-use Rattle.rb_ledger.specs.Own.Role.{Consumer, Worker}
-use Rattle.rb_ledger.specs.Rule.{same_role}
+use Rattle.rb_ledger.specs.Roles.{Role, is_record_of, is_own, NoneOwn, Book, ExtendsSeen}
+use Rattle.rb_ledger.specs.Roles.Role.{Consumer, Worker}
+use Rattle.rb_ledger.specs.RoleKnowledge.{same_role}
 use Rattle.rb_ledger.proofs.Records.{record-unique}
 
 -- all of the entries that stand behind `before` are the role's own
@@ -49,11 +50,11 @@ module _ (r : Setup) where
       (own-apart mine role h e (legal-front r h (e ∷ es) l) apart own.0, others mine role (h ++ e ∷ []) es l' apart own.1)
 
 -- a role has seen all
-pub all-seen : (role : Role) (b : Book) → GoesOn role b b
+pub all-seen : (role : Role) (b : Book) → ExtendsSeen role b b
 all-seen role b = record { setup_same = refl; behind = []; history_is = sym (append-nil b.history); none_own = tt }
 
 -- a book that goes on for a role goes on by entries that are not its own
-pub goes-further : (role : Role) (seen b new : Book) (added : List Entry) → GoesOn role seen b → new.setup ≡ b.setup → new.history ≡ b.history ++ added → NoneOwn role b.history added → GoesOn role seen new
+pub goes-further : (role : Role) (seen b new : Book) (added : List Entry) → ExtendsSeen role seen b → new.setup ≡ b.setup → new.history ≡ b.history ++ added → NoneOwn role b.history added → ExtendsSeen role seen new
 goes-further role seen b new added goes setup history none = record {
   setup_same = setup ∙ goes.setup_same;
   behind = goes.behind ++ added;
@@ -62,5 +63,5 @@ goes-further role seen b new added goes setup history none = record {
 }
 
 -- what was seen of a legal history is legal
-pub seen-legal : (role : Role) (seen b : Book) → GoesOn role seen b → IsLegal b.setup b.history → IsLegal seen.setup seen.history
+pub seen-legal : (role : Role) (seen b : Book) → ExtendsSeen role seen b → IsLegal b.setup b.history → IsLegal seen.setup seen.history
 seen-legal role seen b goes l = legal-front seen.setup seen.history goes.behind (subst (λ s. IsLegal s (seen.history ++ goes.behind)) goes.setup_same (subst (IsLegal b.setup) goes.history_is l))

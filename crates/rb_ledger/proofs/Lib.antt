@@ -1,5 +1,5 @@
 pub mod Views
-pub mod General
+pub mod LockRule
 pub mod Records
 pub mod Tallies
 pub mod Histories

@@ -6,11 +6,11 @@ use Rattle.rb_history.specs.declared.answers.Notice.TheVariants.{Due}
 use Rattle.rb_history.specs.declared.answers.Stray.{Stray}
 use Rattle.rb_history.specs.declared.answers.ReserveFault.{ReserveFault}
 use Rattle.rb_history.specs.declared.answers.ReserveFault.TheVariants.{Flags}
-use Rattle.rb_history.specs.Granted.{Granted}
-use Rattle.rb_history.specs.View.{Ring}
-use Rattle.rb_history.specs.Answers.{IsDue}
+use Rattle.rb_history.specs.ReservationModel.{Granted}
+use Rattle.rb_history.specs.RingModel.{Ring}
+use Rattle.rb_history.specs.NoticesAndQueries.{IsDue}
 use Rattle.rb_history.specs.Calls.{Grants, Refuses, Outputs, Submits, Discards, Strays, producer_now, consumer_now}
-use Rattle.rb_ledger.specs.Turns.{Reserves, SubmitsAt, DiscardsAt, OutputsAt}
+use Rattle.rb_ledger.specs.LockedCalls.{Reserves, SubmitsAt, DiscardsAt, OutputsAt}
 
 module _ (old new : Ring) where
   pub meets-reserve : (w n : ℕ) (a : Result Granted (ReserveFault × List ℕ)) → IfOk a (λ r. Grants old new w n r.pos r.serial) → IfOk a (λ r. r.worker ≡ w) → IfOk a (λ r. r.bytes ≡ replicate n 0) → IfErr a (λ e. Refuses old new w n e.0) → IfErr a (λ e. e.0 ≢ Flags) → Reserves w n a old new

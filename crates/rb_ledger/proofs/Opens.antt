@@ -5,25 +5,29 @@ use Rattle.std.proofs.lemmas.List.Elements.{All-nil, All-cons}
 use Rattle.std.specs.FinMap.{get, empty, get-empty}
 use Rattle.crossbeam_queue.specs.Fifo.{Pushes, Learns}
 use Rattle.atomic_table.specs.Seated.{TableId}
-use Rattle.rb_history.specs.View.{Ring, Contents}
-use Rattle.rb_ledger.specs.Own.{Role, Book, book_of}
-use Rattle.rb_ledger.specs.Own.Role.{Consumer, Worker}
-use Rattle.rb_ledger.specs.Bytes.{IsWithin}
-use Rattle.rb_ledger.specs.Rule.{IsRoleIn, BytesFit, Known, View, known, view_of, times, Ledger, IsRing, Fits, AllFit, IsKept, MayPut, PutsState, OpensState, unopened, crew, first_of, rest_of, known_after}
-use Rattle.rb_ledger.specs.Seats.{WorkerSeat, fresh_seat, fresh_seats, seen_in, bytes_in}
-use Rattle.rb_ledger.proofs.General.{puts, away, opens}
+use Rattle.rb_history.specs.RingModel.{Ring, Contents}
+use Rattle.rb_ledger.specs.Roles.{Role, Book, book_of}
+use Rattle.rb_ledger.specs.Roles.Role.{Consumer, Worker}
+use Rattle.rb_ledger.specs.SentBytes.{IsWithin}
+use Rattle.rb_ledger.specs.RoleKnowledge.{RoleKnowledge, PassView, role_knowledge, pass_view, role_count}
+use Rattle.rb_ledger.specs.Ledger.{IsRoleIn, BytesFit, Ledger, IsRing, FitsLedger}
+use Rattle.rb_ledger.specs.LockRule.{AllFit, KeepsLockRule}
+use Rattle.rb_ledger.specs.inner.LockSteps.{MayPut, PutsState, OpensState, unopened_ring, worker_roles, first_role, other_roles, knowledge_after}
+use Rattle.rb_ledger.specs.Seats.{WorkerSeat, fresh_seat, fresh_seats}
+use Rattle.rb_ledger.specs.inner.SeatPasses.{seen_in, pass_bytes}
+use Rattle.rb_ledger.proofs.LockRule.{puts, away, opens}
 use Rattle.rb_ledger.proofs.Histories.{all-seen}
 
-pub put-step : (n pass : ℕ) (v : View) (new : Ring) → MayPut v new → Pushes IsKept n pass v new (PutsState v new) × Learns IsKept pass v (λ items. items ≡ [])
+pub put-step : (n pass : ℕ) (v : PassView) (new : Ring) → MayPut v new → Pushes KeepsLockRule n pass v new (PutsState v new) × Learns KeepsLockRule pass v (λ items. items ≡ [])
 put-step n pass v new m =
-    let one = puts (λ (s : Ledger). s.ring) Fits n pass m.0 (known_after m.1 new m.0) m.1 new refl m.3 in
-    let P : View → Type 0 = λ y. Pushes IsKept n pass y new (PutsState y new) in
-    (subst P (sym m.2) one, away (λ (s : Ledger). s.ring) Fits pass v m.1 (ap (λ (y : View). y.out) m.2))
+    let one = puts n pass m.0 (knowledge_after m.1 new m.0) m.1 new refl m.3 in
+    let P : PassView → Type 0 = λ y. Pushes KeepsLockRule n pass y new (PutsState y new) in
+    (subst P (sym m.2) one, away pass v m.1 (ap (λ (y : PassView). y.out) m.2))
 
 nothing : (all : Contents) → IsWithin empty all
 nothing all p bytes is = let none : None ≡ Some bytes = sym (get-empty nat_cmp p) ∙ is in absurd (cc)
 
-nobody : (s : Ledger) → s.ring ≡ unopened → (k : Known) → Fits s k → ⊥
+nobody : (s : Ledger) → s.ring ≡ unopened_ring → (k : RoleKnowledge) → FitsLedger s k → ⊥
 nobody s e k fit = let size = fit.sound.is_ring.bounded.size.1 in let none = ap (λ (r : Ring). r.setup.size) e in omega arith
 
 module _ (r : Ring) (is_ring : IsRing r) (none : r.contents ≡ empty) where
@@ -34,7 +38,7 @@ module _ (r : Ring) (is_ring : IsRing r) (none : r.contents ≡ empty) where
   bytes-fit Consumer = nothing empty
   bytes-fit (Worker w) = λ p bytes is his. is
 
-  first-fits : (role : Role) → IsRoleIn r.setup role → Fits (record { ring = r; sent = empty }) (known role (book_of r) empty)
+  first-fits : (role : Role) → IsRoleIn r.setup role → FitsLedger (record { ring = r; sent = empty }) (role_knowledge role (book_of r) empty)
   first-fits role is_role = record {
     sound = record {
       is_ring = is_ring;
@@ -46,44 +50,44 @@ module _ (r : Ring) (is_ring : IsRing r) (none : r.contents ≡ empty) where
     bytes_fit = bytes-fit role;
   }
 
-  crew-fits : (from n : ℕ) → from + n ≤ r.setup.workers → AllFit (λ (s : Ledger). s.ring) Fits (record { ring = r; sent = empty }) (crew (book_of r) from n)
+  crew-fits : (from n : ℕ) → from + n ≤ r.setup.workers → AllFit (record { ring = r; sent = empty }) (worker_roles (book_of r) from n)
   crew-fits from zero short = tt
   crew-fits from (suc n) short = (first-fits (Worker from) (omega arith), crew-fits (from + 1) n (omega arith))
 
-crew-workers : (b : Book) (w from n : ℕ) → (times (Worker w) (crew b from n) ≤ 1) × (w < from → times (Worker w) (crew b from n) ≡ 0)
+crew-workers : (b : Book) (w from n : ℕ) → (role_count (Worker w) (worker_roles b from n) ≤ 1) × (w < from → role_count (Worker w) (worker_roles b from n) ≡ 0)
 crew-workers b w from zero = (omega arith, λ _. refl)
 crew-workers b w from (suc n) = let more = crew-workers b w (from + 1) n in (grind arith, grind arith)
 
-crew-consumer : (b : Book) (from n : ℕ) → times Consumer (crew b from n) ≡ 0
+crew-consumer : (b : Book) (from n : ℕ) → role_count Consumer (worker_roles b from n) ≡ 0
 crew-consumer b from zero = refl
 crew-consumer b from (suc n) = let e = crew-consumer b (from + 1) n in omega arith
 
-once : (b : Book) (n : ℕ) (role : Role) → times role (known Consumer b empty ∷ crew b 0 n) ≤ 1
+once : (b : Book) (n : ℕ) (role : Role) → role_count role (role_knowledge Consumer b empty ∷ worker_roles b 0 n) ≤ 1
 once b n Consumer = let e = crew-consumer b 0 n in omega arith
 once b n (Worker w) = let e = (crew-workers b w 0 n).0 in omega arith
 
-pub open-step : (n pass : ℕ) (v : View) (r : Ring) → v ≡ view_of [] (Some unopened) → IsRing r → r.contents ≡ empty → Pushes IsKept n pass v r (OpensState v r) × Learns IsKept pass v (λ items. items ≡ [])
+pub open-step : (n pass : ℕ) (v : PassView) (r : Ring) → v ≡ pass_view [] (Some unopened_ring) → IsRing r → r.contents ≡ empty → Pushes KeepsLockRule n pass v r (OpensState v r) × Learns KeepsLockRule pass v (λ items. items ≡ [])
 open-step n pass v r e is_ring none =
-    let ks = known Consumer (book_of r) empty ∷ crew (book_of r) 0 r.setup.workers in
-    let one = opens (λ (s : Ledger). s.ring) Fits n pass unopened r (record { ring = r; sent = empty }) ks nobody refl (first-fits r is_ring none Consumer tt, crew-fits r is_ring none 0 r.setup.workers (omega arith)) (once (book_of r) r.setup.workers) in
-    let P : View → Type 0 = λ y. Pushes IsKept n pass y r (OpensState y r) in
-    (subst P (sym e) one, away (λ (s : Ledger). s.ring) Fits pass v unopened (ap (λ (y : View). y.out) e))
+    let ks = role_knowledge Consumer (book_of r) empty ∷ worker_roles (book_of r) 0 r.setup.workers in
+    let one = opens n pass unopened_ring r (record { ring = r; sent = empty }) ks nobody refl (first-fits r is_ring none Consumer tt, crew-fits r is_ring none 0 r.setup.workers (omega arith)) (once (book_of r) r.setup.workers) in
+    let P : PassView → Type 0 = λ y. Pushes KeepsLockRule n pass y r (OpensState y r) in
+    (subst P (sym e) one, away pass v unopened_ring (ap (λ (y : PassView). y.out) e))
 
 -- ---- the seats that are cut off
 
-crew-step : (b : Book) (i n : ℕ) → i < n → crew b i (n - i) ≡ known (Worker i) b empty ∷ crew b (i + 1) (n - (i + 1))
-crew-step b i n h = let e : n - i ≡ suc (n - (i + 1)) = omega arith in ap (crew b i) e
+crew-step : (b : Book) (i n : ℕ) → i < n → worker_roles b i (n - i) ≡ role_knowledge (Worker i) b empty ∷ worker_roles b (i + 1) (n - (i + 1))
+crew-step b i n h = let e : n - i ≡ suc (n - (i + 1)) = omega arith in ap (worker_roles b i) e
 
 -- what the pass of `open` knows when the seat of worker i is next
-pub record Next (b : Book) (i n : ℕ) (v : View) : Type 0 where
-  pub first_is : first_of v.knows ≡ known (Worker i) b empty ∷ []
+pub record Next (b : Book) (i n : ℕ) (v : PassView) : Type 0 where
+  pub first_is : first_role v.knows ≡ role_knowledge (Worker i) b empty ∷ []
   pub seen_is : seen_in v ≡ b
-  pub bytes_are : bytes_in v ≡ empty
-  pub rest_is : view_of (rest_of v.knows) v.out ≡ view_of (crew b (i + 1) (n - (i + 1))) None
+  pub bytes_are : pass_bytes v ≡ empty
+  pub rest_is : pass_view (other_roles v.knows) v.out ≡ pass_view (worker_roles b (i + 1) (n - (i + 1))) None
 
-pub next-seat : (b : Book) (i n : ℕ) (v : View) → i < n → v ≡ view_of (crew b i (n - i)) None → Next b i n v
+pub next-seat : (b : Book) (i n : ℕ) (v : PassView) → i < n → v ≡ pass_view (worker_roles b i (n - i)) None → Next b i n v
 next-seat b i n v h is =
-    let e : v ≡ view_of (known (Worker i) b empty ∷ crew b (i + 1) (n - (i + 1))) None = is ∙ ap (λ ks. view_of ks None) (crew-step b i n h) in
+    let e : v ≡ pass_view (role_knowledge (Worker i) b empty ∷ worker_roles b (i + 1) (n - (i + 1))) None = is ∙ ap (λ ks. pass_view ks None) (crew-step b i n h) in
     subst (Next b i n) (sym e) (record { first_is = refl; seen_is = refl; bytes_are = refl; rest_is = refl })
 
 seats-step : (tag : ℕ) (ring : TableId) (b : Book) (i n : ℕ) → i < n → fresh_seats tag ring b i (n - i) ≡ fresh_seat tag ring i b ∷ fresh_seats tag ring b (i + 1) (n - (i + 1))

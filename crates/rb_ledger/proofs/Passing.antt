@@ -9,60 +9,63 @@ use Rattle.rb_history.specs.declared.answers.Taken.{Taken}
 use Rattle.rb_history.specs.declared.answers.Taken.TheVariants.{Event, Skipped, BusyFront, Empty}
 use Rattle.rb_history.specs.declared.answers.ReserveFault.{ReserveFault}
 use Rattle.rb_history.specs.declared.answers.ReserveFault.TheVariants.{Full as FaultFull, Memory, Flags, Foreign}
-use Rattle.rb_history.specs.Granted.{Granted}
-use Rattle.rb_history.specs.View.{Ring, Contents}
+use Rattle.rb_history.specs.ReservationModel.{Granted}
+use Rattle.rb_history.specs.RingModel.{Ring, Contents}
 use Rattle.rb_history.specs.Calls.{Refuses, producer_now}
-use Rattle.rb_ledger.specs.Own.{Role, Book, book_of, GoesOn}
-use Rattle.rb_ledger.specs.Own.Role.{Consumer, Worker}
-use Rattle.rb_ledger.specs.Bytes.{bytes_after, put_at}
-use Rattle.rb_ledger.specs.Rule.{View, known, view_of, Ledger, IsRing, IsRoleIn, Fits, AllFit, known_after, TakesState, PutsState, MayPut, puts_back}
-use Rattle.rb_ledger.specs.Seats.{seen_in, bytes_in, IsIdle}
-use Rattle.rb_ledger.specs.Turns.{Turn, Reserves, SubmitsAt, DiscardsAt, OutputsAt, TakesAt, sent_by_submit, sent_by_output, got_by}
+use Rattle.rb_ledger.specs.Roles.{Role, Book, book_of, ExtendsSeen}
+use Rattle.rb_ledger.specs.Roles.Role.{Consumer, Worker}
+use Rattle.rb_ledger.specs.inner.AddedBytes.{bytes_after, put_at}
+use Rattle.rb_ledger.specs.RoleKnowledge.{PassView, role_knowledge, pass_view}
+use Rattle.rb_ledger.specs.Ledger.{IsRing, IsRoleIn, FitsLedger}
+use Rattle.rb_ledger.specs.LockRule.{AllFit}
+use Rattle.rb_ledger.specs.inner.LockSteps.{knowledge_after, TakesState, PutsState, MayPut, view_after_put}
+use Rattle.rb_ledger.specs.inner.SeatPasses.{seen_in, pass_bytes, IsIdle}
+use Rattle.rb_ledger.specs.LockedCalls.{LockedCall, Reserves, SubmitsAt, DiscardsAt, OutputsAt, TakesAt, sent_by_submit, sent_by_output, got_by}
 use Rattle.rb_ledger.proofs.Calls.{StepIn, no-bytes, sent-there, skipped-none}
 
 -- what one role's pass knows once it has the state out
-pub record Held (role : Role) (v : View) (r : Ring) (w : View) : Type 0 where
-  pub now : w ≡ view_of (known role (seen_in v) (bytes_in v) ∷ []) (Some r)
-  pub goes_on : GoesOn role (seen_in v) (book_of r)
+pub record Held (role : Role) (v : PassView) (r : Ring) (w : PassView) : Type 0 where
+  pub now : w ≡ pass_view (role_knowledge role (seen_in v) (pass_bytes v) ∷ []) (Some r)
+  pub goes_on : ExtendsSeen role (seen_in v) (book_of r)
   pub is_ring : IsRing r
   pub is_role : IsRoleIn r.setup role
 
-pub held : (role : Role) (v : View) (r : Ring) (w : View) → IsIdle role v → TakesState v r w → Held role v r w
+pub held : (role : Role) (v : PassView) (r : Ring) (w : PassView) → IsIdle role v → TakesState v r w → Held role v r w
 held role v r w idle took =
-    let me = known role (seen_in v) (bytes_in v) in
+    let me = role_knowledge role (seen_in v) (pass_bytes v) in
     let s = took.1.0 in
-    let fit : Fits s me = (subst (λ (x : View). AllFit (λ (l : Ledger). l.ring) Fits s x.knows) idle took.1.2).0 in
+    let fit : FitsLedger s me = (subst (λ (x : PassView). AllFit s x.knows) idle took.1.2).0 in
     record {
-      now = took.0 ∙ ap (λ (x : View). view_of x.knows (Some r)) idle;
-      goes_on = subst (λ x. GoesOn role (seen_in v) (book_of x)) took.1.1 fit.goes_on;
+      now = took.0 ∙ ap (λ (x : PassView). pass_view x.knows (Some r)) idle;
+      goes_on = subst (λ x. ExtendsSeen role (seen_in v) (book_of x)) took.1.1 fit.goes_on;
       is_ring = subst IsRing took.1.1 fit.sound.is_ring;
       is_role = subst (λ (x : Ring). IsRoleIn x.setup role) took.1.1 fit.is_role;
     }
 
--- the same of the ring where it stands
-pub held-at : (role : Role) (v : View) (r x : Ring) (w : View) → IsIdle role v → TakesState v x w → r ≡ x → Held role v r w
-held-at role v r x w idle took same = held role v r w idle (subst (λ y. TakesState v y w) (sym same) took)
+-- what a call does from the ring that it was shown to the one that it left
+pub called-at : (Call : Ring → Ring → Type 0) (shown old left new : Ring) → shown ≡ old → left ≡ new → Call shown left → Call old new
+called-at Call shown old left new is_old is_new call = subst (λ r. Call r new) is_old (subst (Call shown) is_new call)
 
-pub may-put : (role : Role) (v : View) (r new : Ring) (w : View) → Held role v r w → StepIn (known role (seen_in v) (bytes_in v)) r new (known_after r new (known role (seen_in v) (bytes_in v))) → MayPut w new
-may-put role v r new w h step = (known role (seen_in v) (bytes_in v), r, h.now, step)
+pub may-put : (role : Role) (v : PassView) (r new : Ring) (w : PassView) → Held role v r w → StepIn (role_knowledge role (seen_in v) (pass_bytes v)) r new (knowledge_after r new (role_knowledge role (seen_in v) (pass_bytes v))) → MayPut w new
+may-put role v r new w h step = (role_knowledge role (seen_in v) (pass_bytes v), r, h.now, step)
 
 -- the pass once the state is back
-pub back : (role : Role) (v : View) (r new : Ring) (w after : View) → Held role v r w → PutsState w new after → after ≡ view_of (known_after r new (known role (seen_in v) (bytes_in v)) ∷ []) None
-back role v r new w after h put = put ∙ ap (λ (x : View). puts_back x new x.out) h.now
+pub back : (role : Role) (v : PassView) (r new : Ring) (w after : PassView) → Held role v r w → PutsState w new after → after ≡ pass_view (knowledge_after r new (role_knowledge role (seen_in v) (pass_bytes v)) ∷ []) None
+back role v r new w after h put = put ∙ ap (λ (x : PassView). view_after_put x new x.out) h.now
 
-pub idle-after : (role : Role) (v : View) (r new : Ring) (w after : View) → Held role v r w → PutsState w new after → IsIdle role after
+pub idle-after : (role : Role) (v : PassView) (r new : Ring) (w after : PassView) → Held role v r w → PutsState w new after → IsIdle role after
 idle-after role v r new w after h put =
-    let k = known_after r new (known role (seen_in v) (bytes_in v)) in
+    let k = knowledge_after r new (role_knowledge role (seen_in v) (pass_bytes v)) in
     subst (IsIdle role) (sym (back role v r new w after h put)) refl
 
-pub seen-after : (role : Role) (v : View) (r new : Ring) (w after : View) → Held role v r w → PutsState w new after → seen_in after ≡ book_of new
+pub seen-after : (role : Role) (v : PassView) (r new : Ring) (w after : PassView) → Held role v r w → PutsState w new after → seen_in after ≡ book_of new
 seen-after role v r new w after h put = ap seen_in (back role v r new w after h put)
 
-pub bytes-after : (role : Role) (v : View) (r new : Ring) (w after : View) → Held role v r w → PutsState w new after → bytes_in after ≡ (known_after r new (known role (seen_in v) (bytes_in v))).bytes
-bytes-after role v r new w after h put = ap bytes_in (back role v r new w after h put)
+pub bytes-after : (role : Role) (v : PassView) (r new : Ring) (w after : PassView) → Held role v r w → PutsState w new after → pass_bytes after ≡ (knowledge_after r new (role_knowledge role (seen_in v) (pass_bytes v))).bytes
+bytes-after role v r new w after h put = ap pass_bytes (back role v r new w after h put)
 
-pub turn : (role : Role) (v : View) (r new : Ring) (w after : View) (Call : Ring → Ring → Type 0) → Held role v r w → PutsState w new after → Call r new → IsRing new → Turn role (seen_in v) (seen_in after) Call
-turn role v r new w after Call h put call is_ring = record {
+pub is-locked-call : (role : Role) (v : PassView) (r new : Ring) (w after : PassView) (Call : Ring → Ring → Type 0) → Held role v r w → PutsState w new after → Call r new → IsRing new → LockedCall role (seen_in v) (seen_in after) Call
+is-locked-call role v r new w after Call h put call is_ring = record {
   point = r;
   left = new;
   goes_on = h.goes_on;

@@ -6,11 +6,12 @@ use Rattle.std.proofs.lemmas.List.Folds.{list_any-append, list_any_at}
 use Rattle.std.proofs.lemmas.List.Sums.{sum_by-append}
 use Rattle.rb_history.specs.declared.entries.Entry.{Entry}
 use Rattle.rb_history.specs.declared.entries.Entry.TheVariants.{Res, Full, Sub, Dis, Take}
-use Rattle.rb_history.specs.History.{is_grant_at, is_submit, is_discard, is_take, granted, submitted, discarded, taken}
-use Rattle.rb_history.specs.Legal.{Setup, IsLegal}
+use Rattle.rb_history.specs.History.{is_grant_at, is_submit, is_discard, is_take, is_granted_at, is_submitted_at, is_discarded_at, is_taken_at}
+use Rattle.rb_history.specs.RoomRule.{Setup}
+use Rattle.rb_history.specs.Legal.{IsLegal}
 use Rattle.rb_history.proofs.Laws.{kept-from-legal, legal-front}
 use Rattle.rb_history.proofs.Lists.{sum_by-cons}
-use Rattle.rb_ledger.specs.Own.{is_grant_to, is_record_of}
+use Rattle.rb_ledger.specs.Roles.{is_grant_to, is_record_of}
 
 abbrev pub bit : Bool → ℕ
 bit b = cond b 1 0
@@ -43,14 +44,14 @@ to-grant w p (Dis q) is = is
 to-grant w p (Take q) is = is
 
 -- a worker's record was granted
-pub record-granted : (w p : ℕ) (h : List Entry) → is_record_of w h p ≡ true → granted h p ≡ true
+pub record-granted : (w p : ℕ) (h : List Entry) → is_record_of w h p ≡ true → is_granted_at h p ≡ true
 record-granted w p [] is = is
 record-granted w p (e ∷ h) is = elim (or_cases (is_grant_to w p e) (is_record_of w h p) is) [
   | inl here ↦ or_left _ _ (to-grant w p e here)
-  | inr there ↦ or_right (is_grant_at p e) (granted h p) (record-granted w p h there)
+  | inr there ↦ or_right (is_grant_at p e) (is_granted_at h p) (record-granted w p h there)
 ]
 
-not-record : (w p : ℕ) (h : List Entry) → granted h p ≡ false → is_record_of w h p ≡ false
+not-record : (w p : ℕ) (h : List Entry) → is_granted_at h p ≡ false → is_record_of w h p ≡ false
 not-record w p h off = false_from_ne_true (is_record_of w h p) (λ is. true≢false (sym (record-granted w p h is) ∙ off))
 
 two-workers : (v w p : ℕ) (e : Entry) → is_grant_to v p e ≡ true → is_grant_to w p e ≡ true → v ≡ w
@@ -66,14 +67,14 @@ once-unique v w p (e ∷ h) one a b =
     elim (cases_Bool (is_grant_at p e)) [
       | inl here ↦
           let head : bit (is_grant_at p e) ≡ 1 = ap bit here in
-          let rest : granted h p ≡ false = any-none (is_grant_at p) h (omega (arith, sum_by-cons (λ y. bit (is_grant_at p y)) e h, head)) in
+          let rest : is_granted_at h p ≡ false = any-none (is_grant_at p) h (omega (arith, sum_by-cons (λ y. bit (is_grant_at p y)) e h, head)) in
           two-workers v w p e (only v rest a) (only w rest b)
       | inr off ↦
           let head : bit (is_grant_at p e) ≡ 0 = ap bit off in
           once-unique v w p h (omega (arith, sum_by-cons (λ y. bit (is_grant_at p y)) e h, head)) (past v off a) (past w off b)
     ]
   where
-    only : (x : ℕ) → granted h p ≡ false → (is_grant_to x p e || is_record_of x h p) ≡ true → is_grant_to x p e ≡ true
+    only : (x : ℕ) → is_granted_at h p ≡ false → (is_grant_to x p e || is_record_of x h p) ≡ true → is_grant_to x p e ≡ true
     only x rest is = elim (or_cases (is_grant_to x p e) (is_record_of x h p) is) [
       | inl here ↦ here
       | inr there ↦ absurd (true≢false (sym there ∙ not-record x p h rest))
@@ -87,15 +88,15 @@ once-unique v w p (e ∷ h) one a b =
 
 module _ (r : Setup) where
   pub granted-once : (h : List Entry) (p : ℕ) → IsLegal r h → count_by (is_grant_at p) h ≤ 1
-  granted-once h p l = elim (cases_Bool (granted h p)) [
+  granted-once h p l = elim (cases_Bool (is_granted_at h p)) [
     | inl hit ↦ omega (arith, (kept-from-legal r h l).single p hit)
     | inr off ↦ omega (arith, count-none h off)
   ]
     where
-      count-none : (es : List Entry) → granted es p ≡ false → count_by (is_grant_at p) es ≡ 0
+      count-none : (es : List Entry) → is_granted_at es p ≡ false → count_by (is_grant_at p) es ≡ 0
       count-none [] e = refl
       count-none (x ∷ es) e =
-          let parts = or_parts (is_grant_at p x) (granted es p) e in
+          let parts = or_parts (is_grant_at p x) (is_granted_at es p) e in
           let none : bit (is_grant_at p x) ≡ 0 = ap bit parts.0 in
           omega (arith, sum_by-cons (λ y. bit (is_grant_at p y)) x es, none, count-none es parts.1)
 
@@ -104,11 +105,11 @@ module _ (r : Setup) where
   record-unique v w p h l a b = once-unique v w p h (granted-once h p l) a b
 
   -- a record that was granted keeps its worker
-  pub record-stays : (w p : ℕ) (h es : List Entry) → IsLegal r (h ++ es) → granted h p ≡ true → is_record_of w (h ++ es) p ≡ is_record_of w h p
+  pub record-stays : (w p : ℕ) (h es : List Entry) → IsLegal r (h ++ es) → is_granted_at h p ≡ true → is_record_of w (h ++ es) p ≡ is_record_of w h p
   record-stays w p h es l g =
       let before = (kept-from-legal r h (legal-front r h es l)).single p g in
       let after = (kept-from-legal r (h ++ es) l).single p (front-any (is_grant_at p) h es g) in
-      let none : granted es p ≡ false = any-none (is_grant_at p) es (omega (arith, sum_by-append (λ y. bit (is_grant_at p y)) h es, before, after)) in
+      let none : is_granted_at es p ≡ false = any-none (is_grant_at p) es (omega (arith, sum_by-append (λ y. bit (is_grant_at p y)) h es, before, after)) in
       list_any-append (is_grant_to w p) h es ∙ ap (λ b. is_record_of w h p || b) (not-record w p es none) ∙ or-none (is_record_of w h p)
     where
       or-none : (b : Bool) → (b || false) ≡ b
@@ -117,13 +118,13 @@ module _ (r : Setup) where
 
 -- ---- entries that stand in a history
 
-pub submitted-from : (h : List Entry) (p : ℕ) → Contains h (Sub p) → submitted h p ≡ true
+pub submitted-from : (h : List Entry) (p : ℕ) → Contains h (Sub p) → is_submitted_at h p ≡ true
 submitted-from h p is = list_any_at (is_submit p) h is.0 (Sub p) is.1 (ap (is_submit p) is.2 ∙ eq-eqb p p refl)
 
-pub discarded-from : (h : List Entry) (p : ℕ) → Contains h (Dis p) → discarded h p ≡ true
+pub discarded-from : (h : List Entry) (p : ℕ) → Contains h (Dis p) → is_discarded_at h p ≡ true
 discarded-from h p is = list_any_at (is_discard p) h is.0 (Dis p) is.1 (ap (is_discard p) is.2 ∙ eq-eqb p p refl)
 
-pub taken-from : (h : List Entry) (p : ℕ) → Contains h (Take p) → taken h p ≡ true
+pub taken-from : (h : List Entry) (p : ℕ) → Contains h (Take p) → is_taken_at h p ≡ true
 taken-from h p is = list_any_at (is_take p) h is.0 (Take p) is.1 (ap (is_take p) is.2 ∙ eq-eqb p p refl)
 
 pub record-from : (h : List Entry) (w k n p : ℕ) → Contains h (Res w k n p) → is_record_of w h p ≡ true

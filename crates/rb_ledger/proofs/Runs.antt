@@ -6,14 +6,17 @@ use Rattle.std.specs.FinMap.{get, get-empty}
 use Rattle.rb_history.specs.declared.entries.Entry.{Entry}
 use Rattle.rb_history.specs.declared.entries.Entry.TheVariants.{Res, Full, Sub, Dis, Take}
 use Rattle.rb_history.specs.History.Status.{Busy, Waiting}
-use Rattle.rb_history.specs.Legal.{Setup, IsLegal}
-use Rattle.rb_history.specs.Steps.{IsStepOf}
-use Rattle.rb_history.specs.View.{Ring, StandsFor, fresh}
+use Rattle.rb_history.specs.RoomRule.{Setup}
+use Rattle.rb_history.specs.Legal.{IsLegal}
+use Rattle.rb_history.specs.OneCall.{IsStepOf}
+use Rattle.rb_history.specs.RingModel.{Ring, StandsFor, fresh}
 use Rattle.rb_history.proofs.Laws.{legal-front}
 use Rattle.rb_history.proofs.OneCall.{each-entry}
-use Rattle.rb_ledger.specs.Own.{Book, book_of}
-use Rattle.rb_ledger.specs.Numbers.{serials_of, numbers_below}
-use Rattle.rb_ledger.specs.Rule.{Known, Ledger, IsRing, Fits, AllFit, outs}
+use Rattle.rb_ledger.specs.Roles.{Book, book_of}
+use Rattle.rb_ledger.specs.WorkerCounts.{serials_of, numbers_below}
+use Rattle.rb_ledger.specs.RoleKnowledge.{RoleKnowledge, states_out}
+use Rattle.rb_ledger.specs.Ledger.{Ledger, IsRing}
+use Rattle.rb_ledger.specs.LockRule.{AllFit}
 use Rattle.rb_ledger.specs.Seats.{WorkerSeat}
 use Rattle.rb_ledger.specs.Headline.{Accounts, IsRunFrom, IsOneRun, IsSequential, WheneverFree, OnceGathered}
 
@@ -55,14 +58,14 @@ one-run setup h l = run-from (fresh setup.size setup.start setup.workers) h (fre
 pub sequential : (r : Ring) → IsRing r → IsSequential r
 sequential r i = record { legal = i.legal; one_run = one-run r.setup r.history i.legal; stands_for = i.stands }
 
-some-fits : (l : Ledger) (ks : List Known) → ks ≢ [] → AllFit (λ (s : Ledger). s.ring) Fits l ks → IsRing l.ring
+some-fits : (l : Ledger) (ks : List RoleKnowledge) → ks ≢ [] → AllFit l ks → IsRing l.ring
 some-fits l [] known fit = absurd (known refl)
 some-fits l (k ∷ ks) known fit = fit.0.sound.is_ring
 
 pub whenever-free : WheneverFree
 whenever-free r views kept pass v at known =
-    let same : r ≡ kept.0.ring = first r (outs views) kept.0.ring kept.1 in
-    sequential r (subst IsRing (sym same) (some-fits kept.0 v.knows known (kept.3 pass v at)))
+    let same : r ≡ kept.ledger.ring = first r (states_out views) kept.ledger.ring kept.one_state in
+    sequential r (subst IsRing (sym same) (some-fits kept.ledger v.knows known (kept.each_saw_a_beginning pass v at)))
   where
     first : (x : Ring) (xs : List Ring) (y : Ring) → x ∷ xs ≡ y ∷ [] → x ≡ y
     first x xs y e = cc

@@ -13,20 +13,22 @@ use Rattle.rb_history.specs.declared.answers.Taken.{Taken}
 use Rattle.rb_history.specs.declared.answers.Taken.TheVariants.{Event, Skipped, BusyFront, Empty}
 use Rattle.rb_history.specs.declared.answers.ReserveFault.{ReserveFault}
 use Rattle.rb_history.specs.declared.answers.ReserveFault.TheVariants.{Full as FaultFull, Memory, Flags, Foreign}
-use Rattle.rb_history.specs.Granted.{Granted}
-use Rattle.rb_history.specs.History.{grants, submitted, discarded, taken, consumer_of}
-use Rattle.rb_history.specs.Legal.{Setup, IsLegal}
-use Rattle.rb_history.specs.View.{Ring}
+use Rattle.rb_history.specs.ReservationModel.{Granted}
+use Rattle.rb_history.specs.History.{grants, is_submitted_at, is_discarded_at, is_taken_at, consumer_of}
+use Rattle.rb_history.specs.RoomRule.{Setup}
+use Rattle.rb_history.specs.Legal.{IsLegal}
+use Rattle.rb_history.specs.RingModel.{Ring}
 use Rattle.rb_history.specs.Calls.{Refuses, Takes, producer_now}
 use Rattle.rb_history.proofs.Laws.{legal-front}
 use Rattle.rb_ledger.specs.declared.audit.Audit.{Audit}
 use Rattle.rb_ledger.specs.declared.tally.Tally.{Tally}
-use Rattle.rb_ledger.specs.Own.{Role, is_record_of, Book, book_of, GoesOn}
-use Rattle.rb_ledger.specs.Own.Role.{Consumer, Worker}
-use Rattle.rb_ledger.specs.Numbers.{tally_of, IsCountable, is_take_where, events_of, skips_of}
-use Rattle.rb_ledger.specs.Rule.{IsRing}
-use Rattle.rb_ledger.specs.Seats.{IsBook, Ties, TakerTies}
-use Rattle.rb_ledger.specs.Turns.{Turn, Reserves, SubmitsAt, DiscardsAt, OutputsAt, TakesAt, Asks, Audits, refused_by, reserved_by, output_by, submitted_by, discarded_by, events_in, skips_in, span_in, IsTakenAt}
+use Rattle.rb_ledger.specs.Roles.{Role, is_record_of, Book, book_of, ExtendsSeen}
+use Rattle.rb_ledger.specs.Roles.Role.{Consumer, Worker}
+use Rattle.rb_ledger.specs.WorkerCounts.{tally_of, is_take_where, events_of, skips_of}
+use Rattle.rb_ledger.specs.inner.TallySteps.{IsCountable}
+use Rattle.rb_ledger.specs.Ledger.{IsRing}
+use Rattle.rb_ledger.specs.Seats.{IsBook, Ties, ConsumerTies}
+use Rattle.rb_ledger.specs.LockedCalls.{LockedCall, Reserves, SubmitsAt, DiscardsAt, OutputsAt, TakesAt, Queries, Audits, refused_by, reserved_by, output_by, submitted_by, discarded_by, events_in, skips_in, span_in, IsTakenAt}
 use Rattle.rb_ledger.proofs.Records.{bit, granted-once, record-from}
 use Rattle.rb_ledger.proofs.Tallies.{tally-goes, tally-res, tally-full, tally-sub, tally-dis, countable, events-next, skips-next, taker-goes}
 use Rattle.rb_ledger.proofs.Taking.{position-taken, never-both, waiting-submitted, discarded-is}
@@ -35,11 +37,11 @@ use Rattle.rb_ledger.proofs.Taking.{position-taken, never-both, waiting-submitte
 pub ring-book : (r : Ring) → IsRing r → IsBook (book_of r)
 ring-book r i = record { size = i.bounded.size; start = i.bounded.start; workers = i.bounded.workers; legal = i.legal }
 
-pub book-after : (role : Role) (b a : Book) (Call : Ring → Ring → Type 0) → Turn role b a Call → IsBook a
+pub book-after : (role : Role) (b a : Book) (Call : Ring → Ring → Type 0) → LockedCall role b a Call → IsBook a
 book-after role b a Call t = subst IsBook (sym t.seen) (ring-book t.left t.is_ring)
 
 -- where others go on, a worker's numbers tie to what comes of it
-pub ties-goes : (w : ℕ) (t : Tally) (b p : Book) → GoesOn (Worker w) b p → IsLegal p.setup p.history → Ties w t b → Ties w t p
+pub ties-goes : (w : ℕ) (t : Tally) (b p : Book) → ExtendsSeen (Worker w) b p → IsLegal p.setup p.history → Ties w t b → Ties w t p
 ties-goes w t b p goes legal ties = record {
   in_ring = subst (λ (x : Setup). w < x.workers) (sym goes.setup_same) ties.in_ring;
   counted =
@@ -100,28 +102,28 @@ module _ (w : ℕ) (t : Tally) (old new : Ring) (is_ring : IsRing new) (ties : T
 -- ---- for a seat, from what it had seen to what it has seen
 
 module _ (w : ℕ) (t : Tally) (b a : Book) where
-  at-point : (Call : Ring → Ring → Type 0) → Turn (Worker w) b a Call → Ties w t b → (u : Tally) → ((old new : Ring) → IsRing new → Ties w t (book_of old) → Call old new → Ties w u (book_of new)) → Ties w u a
+  at-point : (Call : Ring → Ring → Type 0) → LockedCall (Worker w) b a Call → Ties w t b → (u : Tally) → ((old new : Ring) → IsRing new → Ties w t (book_of old) → Call old new → Ties w u (book_of new)) → Ties w u a
   at-point Call turn ties u call = subst (Ties w u) (sym turn.seen) (call turn.point turn.left turn.is_ring (ties-goes w t b (book_of turn.point) turn.goes_on turn.was_ring.legal ties) turn.called)
 
-  pub reserve-ties : (n : ℕ) (r : Result Granted (ReserveFault × List ℕ)) → Turn (Worker w) b a (Reserves w n r) → Ties w t b → Ties w (reserved_by t r) a
+  pub reserve-ties : (n : ℕ) (r : Result Granted (ReserveFault × List ℕ)) → LockedCall (Worker w) b a (Reserves w n r) → Ties w t b → Ties w (reserved_by t r) a
   reserve-ties n r turn ties = at-point (Reserves w n r) turn ties (reserved_by t r) (λ old new i k c. ties-reserved w t old new i k n r c)
 
-  pub submit-ties : (g : Granted) (flags : ℕ) (r : Result Notice Stray) → g.worker ≡ w → Turn (Worker w) b a (SubmitsAt g flags r) → Ties w t b → Ties w (submitted_by t r) a
+  pub submit-ties : (g : Granted) (flags : ℕ) (r : Result Notice Stray) → g.worker ≡ w → LockedCall (Worker w) b a (SubmitsAt g flags r) → Ties w t b → Ties w (submitted_by t r) a
   submit-ties g flags r mine turn ties = at-point (SubmitsAt g flags r) turn ties (submitted_by t r) (λ old new i k c. ties-submitted w t old new i k g flags r mine c)
 
-  pub discard-ties : (g : Granted) (flags : ℕ) (r : Result Notice Stray) → g.worker ≡ w → Turn (Worker w) b a (DiscardsAt g flags r) → Ties w t b → Ties w (discarded_by t r) a
+  pub discard-ties : (g : Granted) (flags : ℕ) (r : Result Notice Stray) → g.worker ≡ w → LockedCall (Worker w) b a (DiscardsAt g flags r) → Ties w t b → Ties w (discarded_by t r) a
   discard-ties g flags r mine turn ties = at-point (DiscardsAt g flags r) turn ties (discarded_by t r) (λ old new i k c. ties-discarded w t old new i k g flags r mine c)
 
-  pub output-ties : (bytes : List ℕ) (flags : ℕ) (r : Result Notice (ReserveFault × List ℕ)) (More : Ring → Type 0) → Turn (Worker w) b a (λ old new. OutputsAt w bytes flags r old new × More old) → Ties w t b → Ties w (output_by t r) a
+  pub output-ties : (bytes : List ℕ) (flags : ℕ) (r : Result Notice (ReserveFault × List ℕ)) (More : Ring → Type 0) → LockedCall (Worker w) b a (λ old new. OutputsAt w bytes flags r old new × More old) → Ties w t b → Ties w (output_by t r) a
   output-ties bytes flags r More turn ties = at-point (λ old new. OutputsAt w bytes flags r old new × More old) turn ties (output_by t r) (λ old new i k c. ties-output w t old new i k bytes flags r c.0)
 
-  pub query-ties : (what n : ℕ) → Turn (Worker w) b a (Asks what n) → Ties w t b → Ties w t a
-  query-ties what n turn ties = at-point (Asks what n) turn ties t (λ old new i k c. ties-same w t old new i k c.0)
+  pub query-ties : (what n : ℕ) → LockedCall (Worker w) b a (Queries what n) → Ties w t b → Ties w t a
+  query-ties what n turn ties = at-point (Queries what n) turn ties t (λ old new i k c. ties-same w t old new i k c.0)
 
-  pub audit-ties : (x : Audit) → Turn (Worker w) b a (Audits w x) → Ties w t b → Ties w t a
+  pub audit-ties : (x : Audit) → LockedCall (Worker w) b a (Audits w x) → Ties w t b → Ties w t a
   audit-ties x turn ties = at-point (Audits w x) turn ties t (λ old new i k c. ties-same w t old new i k c.same)
 
-  pub audit-own : (x : Audit) → Turn (Worker w) b a (Audits w x) → Ties w t b → x.own ≡ t
+  pub audit-own : (x : Audit) → LockedCall (Worker w) b a (Audits w x) → Ties w t b → x.own ≡ t
   audit-own x turn ties = turn.called.own_is ∙ sym (ties-goes w t b (book_of turn.point) turn.goes_on turn.was_ring.legal ties).counted
 
   -- the serial of a new reservation is how many the seat had made
@@ -129,7 +131,7 @@ module _ (w : ℕ) (t : Tally) (b a : Book) where
   serial-at n (Ok g) old new ties c = c.0.serial ∙ ap (λ (u : Tally). u.made) (sym ties.counted)
   serial-at n (Err e) old new ties c = tt
 
-  pub serial-is : (n : ℕ) (r : Result Granted (ReserveFault × List ℕ)) → Turn (Worker w) b a (Reserves w n r) → Ties w t b → IfOk r (λ g. g.serial ≡ t.made)
+  pub serial-is : (n : ℕ) (r : Result Granted (ReserveFault × List ℕ)) → LockedCall (Worker w) b a (Reserves w n r) → Ties w t b → IfOk r (λ g. g.serial ≡ t.made)
   serial-is n r turn ties = serial-at n r turn.point turn.left (ties-goes w t b (book_of turn.point) turn.goes_on turn.was_ring.legal ties) turn.called
 
 -- numbers that tie to a history which fits memory fit
@@ -138,7 +140,7 @@ ties-fit w t b ties short = subst IsCountable (sym ties.counted) (countable w b.
 
 -- ---- the consumer's
 
-pub taker-goes-on : (c s p : ℕ) (b k : Book) → GoesOn Consumer b k → IsLegal k.setup k.history → TakerTies c s p b → TakerTies c s p k
+pub taker-goes-on : (c s p : ℕ) (b k : Book) → ExtendsSeen Consumer b k → IsLegal k.setup k.history → ConsumerTies c s p b → ConsumerTies c s p k
 taker-goes-on c s p b k goes legal ties =
     let l : IsLegal k.setup (b.history ++ goes.behind) = subst (IsLegal k.setup) goes.history_is legal in
     let same = taker-goes k.setup b.history goes.behind l goes.none_own in
@@ -148,14 +150,14 @@ taker-goes-on c s p b k goes legal ties =
       position_is = ties.position_is ∙ ap (λ (x : Setup). consumer_of x.start b.history) (sym goes.setup_same) ∙ sym (ap (consumer_of k.setup.start) goes.history_is ∙ same.position_same);
     }
 
-module _ (c s p : ℕ) (old new : Ring) (was_ring : IsRing old) (is_ring : IsRing new) (ties : TakerTies c s p (book_of old)) where
-  taker-same : new ≡ old → TakerTies (c + 0) (s + 0) (p + 0) (book_of new)
+module _ (c s p : ℕ) (old new : Ring) (was_ring : IsRing old) (is_ring : IsRing new) (ties : ConsumerTies c s p (book_of old)) where
+  taker-same : new ≡ old → ConsumerTies (c + 0) (s + 0) (p + 0) (book_of new)
   taker-same e =
-      let k = subst (λ r. TakerTies c s p (book_of r)) (sym e) ties in
+      let k = subst (λ r. ConsumerTies c s p (book_of r)) (sym e) ties in
       record { consumed_is = add-zero c ∙ k.consumed_is; skipped_is = add-zero s ∙ k.skipped_is; position_is = add-zero p ∙ k.position_is }
 
-  taker-take : (w k n q : ℕ) (event skip : ℕ) → new.setup ≡ old.setup → new.history ≡ old.history ++ Take q ∷ [] → Contains old.history (Res w k n q) → bit (submitted old.history q) ≡ event → bit (discarded old.history q) ≡ skip →
-      TakerTies (c + event) (s + skip) (p + span n) (book_of new)
+  taker-take : (w k n q : ℕ) (event skip : ℕ) → new.setup ≡ old.setup → new.history ≡ old.history ++ Take q ∷ [] → Contains old.history (Res w k n q) → bit (is_submitted_at old.history q) ≡ event → bit (is_discarded_at old.history q) ≡ skip →
+      ConsumerTies (c + event) (s + skip) (p + span n) (book_of new)
   taker-take w k n q event skip setup history is e d =
       let h = old.history in
       let l : IsLegal old.setup (h ++ Take q ∷ []) = subst (IsLegal old.setup) history (subst (λ x. IsLegal x new.history) setup is_ring.legal) in
@@ -168,13 +170,13 @@ module _ (c s p : ℕ) (old new : Ring) (was_ring : IsRing old) (is_ring : IsRin
         position_is = ap (λ x. x + span n) t₂ ∙ sym (position-taken old.setup.start w k n q h (granted-once old.setup h q was_ring.legal) is) ∙ ap (consumer_of old.setup.start) (sym history) ∙ ap (λ (x : Setup). consumer_of x.start new.history) (sym setup);
       }
 
-  taker-taken : (t : Taken) → Takes old new t → TakerTies (c + events_in t) (s + skips_in t) (p + span_in t) (book_of new)
+  taker-taken : (t : Taken) → Takes old new t → ConsumerTies (c + events_in t) (s + skips_in t) (p + span_in t) (book_of new)
   taker-taken (Event q w k bytes) call =
-      let parts = waiting-submitted (submitted old.history q) (discarded old.history q) (taken old.history q) call.waiting in
+      let parts = waiting-submitted (is_submitted_at old.history q) (is_discarded_at old.history q) (is_taken_at old.history q) call.waiting in
       taker-take w k (length bytes) q 1 0 call.logged.setup_same call.logged.history_is call.granted_is (ap bit parts.0) (ap bit parts.1)
   taker-taken (Skipped q n) call =
-      let gone = discarded-is (submitted old.history q) (discarded old.history q) (taken old.history q) call.discarded in
-      let kept : submitted old.history q ≡ false = false_from_ne_true (submitted old.history q) (λ is. true≢false (sym gone ∙ never-both old.setup old.history was_ring.legal q is)) in
+      let gone = discarded-is (is_submitted_at old.history q) (is_discarded_at old.history q) (is_taken_at old.history q) call.discarded in
+      let kept : is_submitted_at old.history q ≡ false = false_from_ne_true (is_submitted_at old.history q) (λ is. true≢false (sym gone ∙ never-both old.setup old.history was_ring.legal q is)) in
       taker-take call.granted_is.0 call.granted_is.1.0 n q 0 1 call.logged.setup_same call.logged.history_is call.granted_is.1.1 (ap bit kept) (ap bit gone)
   taker-taken BusyFront call = taker-same call.same
   taker-taken Empty call = taker-same call.same
@@ -185,12 +187,12 @@ module _ (c s p : ℕ) (old new : Ring) (was_ring : IsRing old) (is_ring : IsRin
   taken-place BusyFront call = tt
   taken-place Empty call = tt
 
-module _ (c s p : ℕ) (b a : Book) (t : Taken) (turn : Turn Consumer b a (TakesAt t)) (ties : TakerTies c s p b) where
-  point-ties : TakerTies c s p (book_of turn.point)
+module _ (c s p : ℕ) (b a : Book) (t : Taken) (turn : LockedCall Consumer b a (TakesAt t)) (ties : ConsumerTies c s p b) where
+  point-ties : ConsumerTies c s p (book_of turn.point)
   point-ties = taker-goes-on c s p b (book_of turn.point) turn.goes_on turn.was_ring.legal ties
 
-  pub take-ties : TakerTies (c + events_in t) (s + skips_in t) (p + span_in t) a
-  take-ties = subst (TakerTies (c + events_in t) (s + skips_in t) (p + span_in t)) (sym turn.seen) (taker-taken c s p turn.point turn.left turn.was_ring turn.is_ring point-ties t turn.called.0)
+  pub take-ties : ConsumerTies (c + events_in t) (s + skips_in t) (p + span_in t) a
+  take-ties = subst (ConsumerTies (c + events_in t) (s + skips_in t) (p + span_in t)) (sym turn.seen) (taker-taken c s p turn.point turn.left turn.was_ring turn.is_ring point-ties t turn.called.0)
 
   pub take-place : IsTakenAt p t
   take-place = taken-place c s p turn.point turn.left turn.was_ring turn.is_ring point-ties t turn.called.0
@@ -201,7 +203,7 @@ module _ (c s p : ℕ) (b a : Book) (t : Taken) (turn : Turn Consumer b a (Takes
       let k = take-ties in
       let left = turn.left in
       let low : consumer_of a.setup.start a.history ≤ 2 ^ 62 = subst (λ (x : Book). consumer_of x.setup.start x.history ≤ 2 ^ 62) (sym turn.seen) (omega (arith, turn.is_ring.stands.consumer_is, turn.is_ring.bounded.consumer, turn.is_ring.bounded.producer)) in
-      (omega (arith, k.consumed_is, count_by-le-length (is_take_where (submitted a.history)) a.history), omega (arith, k.skipped_is, count_by-le-length (is_take_where (discarded a.history)) a.history), omega (arith, k.position_is, low))
+      (omega (arith, k.consumed_is, count_by-le-length (is_take_where (is_submitted_at a.history)) a.history), omega (arith, k.skipped_is, count_by-le-length (is_take_where (is_discarded_at a.history)) a.history), omega (arith, k.position_is, low))
 
   taken-setup : (old new : Ring) (x : Taken) → Takes old new x → new.setup ≡ old.setup
   taken-setup old new (Event q w k bytes) call = call.logged.setup_same
@@ -214,5 +216,5 @@ module _ (c s p : ℕ) (b a : Book) (t : Taken) (turn : Turn Consumer b a (Takes
   take-setup = ap (λ (x : Book). x.setup) turn.seen ∙ taken-setup turn.point turn.left t turn.called.0 ∙ turn.goes_on.setup_same
 
   -- the numbers as a call counts them
-  pub take-counted : (events skips moved : ℕ) → events ≡ events_in t → skips ≡ skips_in t → moved ≡ span_in t → TakerTies (c + events) (s + skips) (p + moved) a
-  take-counted events skips moved e d m = subst (λ (x : ℕ × ℕ × ℕ). TakerTies (c + x.0) (s + x.1) (p + x.2) a) (λ i. (sym e i, sym d i, sym m i)) take-ties
+  pub take-counted : (events skips moved : ℕ) → events ≡ events_in t → skips ≡ skips_in t → moved ≡ span_in t → ConsumerTies (c + events) (s + skips) (p + moved) a
+  take-counted events skips moved e d m = subst (λ (x : ℕ × ℕ × ℕ). ConsumerTies (c + x.0) (s + x.1) (p + x.2) a) (λ i. (sym e i, sym d i, sym m i)) take-ties

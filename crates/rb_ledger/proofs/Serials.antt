@@ -6,10 +6,11 @@ use Rattle.std.proofs.lemmas.List.Elements.{filter_map-append, Contains-append_c
 use Rattle.rb_history.specs.declared.entries.Entry.{Entry}
 use Rattle.rb_history.specs.declared.entries.Entry.TheVariants.{Res, Full, Sub, Dis, Take}
 use Rattle.rb_history.specs.History.{grants, is_grant_of}
-use Rattle.rb_history.specs.Legal.{Setup, IsLegal, MayFollow}
+use Rattle.rb_history.specs.RoomRule.{Setup}
+use Rattle.rb_history.specs.Legal.{IsLegal, MayFollow}
 use Rattle.rb_history.proofs.Laws.{legal-next}
 use Rattle.rb_history.proofs.Lists.{sum_by-snoc}
-use Rattle.rb_ledger.specs.Numbers.{serial_to, serials_of, numbers_below}
+use Rattle.rb_ledger.specs.WorkerCounts.{serial_to, serials_of, numbers_below}
 use Rattle.rb_ledger.proofs.Records.{bit}
 
 serials-snoc : (w : ℕ) (h : List Entry) (e : Entry) → serials_of w (h ++ e ∷ []) ≡ serials_of w h ++ filter_map (serial_to w) (e ∷ [])

@@ -5,15 +5,16 @@ use Rattle.std.proofs.lemmas.Bool.{cases_Bool, cases_eq, eq-eqb, ne_eqb, or_from
 use Rattle.std.proofs.lemmas.List.Elements.{Contains-append_right}
 use Rattle.rb_history.specs.declared.entries.Entry.{Entry}
 use Rattle.rb_history.specs.declared.entries.Entry.TheVariants.{Res, Full, Sub, Dis, Take}
-use Rattle.rb_history.specs.History.{is_grant_at, is_grant_of, is_submit, is_discard, submitted, discarded, granted}
-use Rattle.rb_history.specs.Legal.{Setup, IsLegal, MayFollow}
+use Rattle.rb_history.specs.History.{is_grant_at, is_grant_of, is_submit, is_discard, is_submitted_at, is_discarded_at, is_granted_at}
+use Rattle.rb_history.specs.RoomRule.{Setup}
+use Rattle.rb_history.specs.Legal.{IsLegal, MayFollow}
 use Rattle.rb_history.proofs.Laws.{kept-from-legal, legal-front, legal-next}
 use Rattle.rb_history.proofs.Lists.{list_any-snoc, or-false, sum_by-cons, sum_by-snoc, sum_by-add, sum_by-agree}
-use Rattle.rb_ledger.specs.Own.{is_record_of}
-use Rattle.rb_ledger.specs.Numbers.{is_submit_of, is_discard_of, tally_of}
+use Rattle.rb_ledger.specs.Roles.{is_record_of}
+use Rattle.rb_ledger.specs.WorkerCounts.{is_submit_of, is_discard_of, tally_of}
 use Rattle.rb_ledger.specs.Seats.{Ties, IsBook}
 use Rattle.rb_ledger.specs.declared.tally.Tally.{Tally}
-use Rattle.rb_ledger.specs.Own.{Book}
+use Rattle.rb_ledger.specs.Roles.{Book}
 use Rattle.rb_ledger.proofs.Records.{bit, grant-tells, granted-once}
 
 -- the entry submits or discards a record whose position passes the test
@@ -32,7 +33,7 @@ settles_at p e = is_submit p e || is_discard p e
 
 -- the record at p was submitted or discarded
 abbrev pub settled : List Entry → ℕ → Bool
-settled h p = submitted h p || discarded h p
+settled h p = is_submitted_at h p || is_discarded_at h p
 
 abbrev pub settled_where : (ℕ → Bool) → List Entry → ℕ → Bool
 settled_where f h p = f p && settled h p
@@ -48,7 +49,7 @@ and-no true = refl
 and-no false = refl
 
 settled-snoc : (h : List Entry) (e : Entry) (q : ℕ) → settled (h ++ e ∷ []) q ≡ (settled h q || settles_at q e)
-settled-snoc h e q = (λ i. list_any-snoc (is_submit q) h e i || list_any-snoc (is_discard q) h e i) ∙ swap (submitted h q) (discarded h q) (is_submit q e) (is_discard q e)
+settled-snoc h e q = (λ i. list_any-snoc (is_submit q) h e i || list_any-snoc (is_discard q) h e i) ∙ swap (is_submitted_at h q) (is_discarded_at h q) (is_submit q e) (is_discard q e)
 
 -- the entry does not count in the one history what counted not in the other
 module _ (f : ℕ → Bool) (h k : List Entry) where
@@ -107,7 +108,7 @@ module _ (r : Setup) (f : ℕ → Bool) (h : List Entry) (l : IsLegal r h) (old 
         sum_by-agree (λ y. bit (grants_where (settled_where f h) y)) (λ y. bit (grants_where (settled_where f k) y)) same h,
       )
 
-  even-settle : (e : Entry) (x : ℕ) → ((q : ℕ) → settles_at q e ≡ (x == q)) → settles_where f e ≡ f x → grants_where (settled_where f (h ++ e ∷ [])) e ≡ false → granted h x ≡ true → settled h x ≡ false → IsEven f (h ++ e ∷ [])
+  even-settle : (e : Entry) (x : ℕ) → ((q : ℕ) → settles_at q e ≡ (x == q)) → settles_where f e ≡ f x → grants_where (settled_where f (h ++ e ∷ [])) e ≡ false → is_granted_at h x ≡ true → settled h x ≡ false → IsEven f (h ++ e ∷ [])
   even-settle e x at is none g off =
       let k = h ++ e ∷ [] in
       let more : (q : ℕ) → settled k q ≡ (settled h q || (x == q)) = λ q. settled-snoc h e q ∙ ap (λ b. settled h q || b) (at q) in
@@ -153,8 +154,8 @@ module _ (r : Setup) (f : ℕ → Bool) (h : List Entry) (l : IsLegal r h) (old 
   even-next (Res w k n p) l' m =
       let free : settled (h ++ Res w k n p ∷ []) p ≡ false = settled-snoc h (Res w k n p) p ∙ or-false (settled h p) ∙ fresh-free w k n p l' in
       even-quiet (Res w k n p) (λ q. refl) refl (ap (λ b. f p && b) free ∙ and-no (f p))
-  even-next (Sub p) l' m = even-settle (Sub p) p (λ q. or-false (p == q)) refl refl m.0 (or_from (submitted h p) (discarded h p) m.1 m.2)
-  even-next (Dis p) l' m = even-settle (Dis p) p (λ q. refl) refl refl m.0 (or_from (submitted h p) (discarded h p) m.1 m.2)
+  even-next (Sub p) l' m = even-settle (Sub p) p (λ q. or-false (p == q)) refl refl m.0 (or_from (is_submitted_at h p) (is_discarded_at h p) m.1 m.2)
+  even-next (Dis p) l' m = even-settle (Dis p) p (λ q. refl) refl refl m.0 (or_from (is_submitted_at h p) (is_discarded_at h p) m.1 m.2)
 
 even-rest : (r : Setup) (f : ℕ → Bool) (h t : List Entry) → IsEven f h → IsLegal r (h ++ t) → IsEven f (h ++ t)
 even-rest r f h [] old l = subst (IsEven f) (sym (append-nil h)) old

@@ -5,14 +5,18 @@ use Rattle.std.specs.FinMap.{get, insert, remove, get-insert, get-remove}
 use Rattle.std.proofs.lemmas.Bool.{true≢false, eq-eqb, cases_eq}
 use Rattle.std.proofs.lemmas.List.Prefix.{front_rest}
 use Rattle.rb_history.specs.declared.entries.Entry.{Entry}
-use Rattle.rb_history.specs.History.{granted, submitted, is_submit}
-use Rattle.rb_history.specs.Legal.{Setup, IsLegal}
-use Rattle.rb_history.specs.View.{Ring, Contents}
+use Rattle.rb_history.specs.History.{is_granted_at, is_submitted_at, is_submit}
+use Rattle.rb_history.specs.RoomRule.{Setup}
+use Rattle.rb_history.specs.Legal.{IsLegal}
+use Rattle.rb_history.specs.RingModel.{Ring, Contents}
 use Rattle.rb_history.proofs.Contents.{hit-yes, hit-no}
-use Rattle.rb_ledger.specs.Own.{Role, is_record_of, book_of}
-use Rattle.rb_ledger.specs.Own.Role.{Consumer, Worker}
-use Rattle.rb_ledger.specs.Bytes.{IsWithin, IsAllSentBy, bytes_after}
-use Rattle.rb_ledger.specs.Rule.{Known, known, same_role, Ledger, IsRing, IsSound, IsRoleIn, BytesFit, Fits, Step, known_after}
+use Rattle.rb_ledger.specs.Roles.{Role, is_record_of, book_of}
+use Rattle.rb_ledger.specs.Roles.Role.{Consumer, Worker}
+use Rattle.rb_ledger.specs.SentBytes.{IsWithin, IsAllSentBy}
+use Rattle.rb_ledger.specs.inner.AddedBytes.{bytes_after}
+use Rattle.rb_ledger.specs.RoleKnowledge.{RoleKnowledge, role_knowledge, same_role}
+use Rattle.rb_ledger.specs.Ledger.{Ledger, IsRing, IsSoundLedger, IsRoleIn, BytesFit, FitsLedger}
+use Rattle.rb_ledger.specs.inner.LockSteps.{RoleStep, knowledge_after}
 use Rattle.rb_ledger.proofs.Records.{front-any, record-unique, record-stays}
 use Rattle.rb_ledger.proofs.Tallies.{submitted-granted}
 use Rattle.rb_ledger.proofs.Histories.{AllOwn, others, all-seen, goes-further}
@@ -45,7 +49,7 @@ left-out m p q c is = elim (cases_eq q p) [
 -- ---- from one ledger to the next, by entries of one role
 
 pub record Carries (s t : Ledger) (mine : Role) (added : List Entry) : Type 0 where
-  pub sound : IsSound t
+  pub sound : IsSoundLedger t
   pub setup_same : t.ring.setup ≡ s.ring.setup
   pub history_is : t.ring.history ≡ s.ring.history ++ added
   pub own : AllOwn mine s.ring.history added
@@ -61,7 +65,7 @@ carried-bytes s t mine Consumer added bytes c apart fit = λ p b is. c.within p 
 carried-bytes s t mine (Worker v) added bytes c apart fit = c.of_others v bytes apart fit
 
 -- the other roles still fit
-carried : (s t : Ledger) (mine : Role) (added : List Entry) → Carries s t mine added → (k : Known) → same_role mine k.role ≡ false → Fits s k → Fits t k
+carried : (s t : Ledger) (mine : Role) (added : List Entry) → Carries s t mine added → (k : RoleKnowledge) → same_role mine k.role ≡ false → FitsLedger s k → FitsLedger t k
 carried s t mine added c k apart fit =
     let legal : IsLegal s.ring.setup (s.ring.history ++ added) = subst (IsLegal s.ring.setup) c.history_is (subst (λ x. IsLegal x t.ring.history) c.setup_same c.sound.is_ring.legal) in
     record {
@@ -72,17 +76,17 @@ carried s t mine added c k apart fit =
     }
 
 -- what the call of `me` left, where the ledger was s
-abbrev pub Done : Ledger → Ring → Known → Type 0
+abbrev pub Done : Ledger → Ring → RoleKnowledge → Type 0
 Done s new me =
-    (t : Ledger) × (t.ring ≡ new) × Fits t (known_after s.ring new me) × ((k : Known) → same_role me.role k.role ≡ false → Fits s k → Fits t k)
+    (t : Ledger) × (t.ring ≡ new) × FitsLedger t (knowledge_after s.ring new me) × ((k : RoleKnowledge) → same_role me.role k.role ≡ false → FitsLedger s k → FitsLedger t k)
 
-pub done : (s t : Ledger) (me : Known) (bytes : Contents) (added : List Entry) → Carries s t me.role added → Fits s me → bytes_after me.role s.ring t.ring added me.bytes ≡ bytes → BytesFit t me.role bytes → Done s t.ring me
+pub done : (s t : Ledger) (me : RoleKnowledge) (bytes : Contents) (added : List Entry) → Carries s t me.role added → FitsLedger s me → bytes_after me.role s.ring t.ring added me.bytes ≡ bytes → BytesFit t me.role bytes → Done s t.ring me
 done s t me bytes added c fit is bytes_fit =
     let cut : drop (length s.ring.history) t.ring.history ≡ added = front_rest t.ring.history s.ring.history added c.history_is in
-    let after : known_after s.ring t.ring me ≡ known me.role (book_of t.ring) bytes = ap (λ b. known me.role (book_of t.ring) b) (ap (λ es. bytes_after me.role s.ring t.ring es me.bytes) cut ∙ is) in (
+    let after : knowledge_after s.ring t.ring me ≡ role_knowledge me.role (book_of t.ring) bytes = ap (λ b. role_knowledge me.role (book_of t.ring) b) (ap (λ es. bytes_after me.role s.ring t.ring es me.bytes) cut ∙ is) in (
       t,
       refl,
-      subst (Fits t) (sym after) (record {
+      subst (FitsLedger t) (sym after) (record {
         sound = c.sound;
         is_role = role-in s.ring.setup t.ring.setup me.role c.setup_same fit.is_role;
         goes_on = all-seen me.role (book_of t.ring);
@@ -92,25 +96,25 @@ done s t me bytes added c fit is bytes_fit =
     )
 
 -- a step from what holds between the ring that is out and the one that is put back
-pub step-from : (me : Known) (r new : Ring) (Call : Ring → Type 0) → Call r → ((s : Ledger) → Call s.ring → Fits s me → Done s new me) → Step (λ (s : Ledger). s.ring) Fits me r new (known_after r new me)
+pub step-from : (me : RoleKnowledge) (r new : Ring) (Call : Ring → Type 0) → Call r → ((s : Ledger) → Call s.ring → FitsLedger s me → Done s new me) → RoleStep me r new (knowledge_after r new me)
 step-from me r new Call call does s e fit =
     let d = does s (subst Call (sym e) call) fit in
-    (d.0, d.1, subst (λ x. Fits d.0 (known_after x new me)) e d.2, d.3)
+    (d.0, d.1, subst (λ x. FitsLedger d.0 (knowledge_after x new me)) e d.2, d.3)
 
-module _ (s : Ledger) (new : Ring) (added : List Entry) (setup_same : new.setup ≡ s.ring.setup) (history_is : new.history ≡ s.ring.history ++ added) (sound : IsSound s) (is_ring : IsRing new) where
+module _ (s : Ledger) (new : Ring) (added : List Entry) (setup_same : new.setup ≡ s.ring.setup) (history_is : new.history ≡ s.ring.history ++ added) (sound : IsSoundLedger s) (is_ring : IsRing new) where
   h : List Entry
   h = s.ring.history
 
   longer-legal : IsLegal s.ring.setup (s.ring.history ++ added)
   longer-legal = subst (IsLegal s.ring.setup) history_is (subst (λ x. IsLegal x new.history) setup_same is_ring.legal)
 
-  still-submitted : (p : ℕ) → submitted s.ring.history p ≡ true → submitted new.history p ≡ true
-  still-submitted p is = subst (λ x. submitted x p ≡ true) (sym history_is) (front-any (is_submit p) s.ring.history added is)
+  still-submitted : (p : ℕ) → is_submitted_at s.ring.history p ≡ true → is_submitted_at new.history p ≡ true
+  still-submitted p is = subst (λ x. is_submitted_at x p ≡ true) (sym history_is) (front-any (is_submit p) s.ring.history added is)
 
   -- a record that was submitted before was the worker's before
   was-record : (v p : ℕ) (b : List ℕ) → get s.sent p ≡ Some b → is_record_of v new.history p ≡ true → is_record_of v s.ring.history p ≡ true
   was-record v p b found his =
-      let g : granted s.ring.history p ≡ true = submitted-granted s.ring.setup s.ring.history p sound.is_ring.legal (sound.submitted p b found) in
+      let g : is_granted_at s.ring.history p ≡ true = submitted-granted s.ring.setup s.ring.history p sound.is_ring.legal (sound.submitted p b found) in
       sym (record-stays s.ring.setup v p s.ring.history added longer-legal g) ∙ subst (λ x. is_record_of v x p ≡ true) history_is his
 
   all-sent-still : (v : ℕ) (bytes : Contents) → IsAllSentBy v s.ring.history s.sent bytes → IsAllSentBy v new.history s.sent bytes
@@ -132,9 +136,9 @@ module _ (s : Ledger) (new : Ring) (added : List Entry) (setup_same : new.setup 
   quiet-bytes (Worker v) bytes fit = all-sent-still v bytes fit
 
   -- worker w's record at p is submitted with the bytes b
-  module _ (w p : ℕ) (b : List ℕ) (own : AllOwn (Worker w) s.ring.history added) (contents : new.contents ≡ insert s.ring.contents p b) (mine : is_record_of w new.history p ≡ true) (was_not : submitted s.ring.history p ≡ false) (is_now : submitted new.history p ≡ true) where
+  module _ (w p : ℕ) (b : List ℕ) (own : AllOwn (Worker w) s.ring.history added) (contents : new.contents ≡ insert s.ring.contents p b) (mine : is_record_of w new.history p ≡ true) (was_not : is_submitted_at s.ring.history p ≡ false) (is_now : is_submitted_at new.history p ≡ true) where
     other-place : (q : ℕ) (c : List ℕ) → get s.sent q ≡ Some c → q ≢ p
-    other-place q c found same = true≢false (sym (sound.submitted q c found) ∙ ap (submitted s.ring.history) same ∙ was_not)
+    other-place q c found same = true≢false (sym (sound.submitted q c found) ∙ ap (is_submitted_at s.ring.history) same ∙ was_not)
 
     kept-sent : IsWithin s.sent (insert s.sent p b)
     kept-sent q c found = get-other s.sent p q b (other-place q c found) ∙ found
@@ -148,7 +152,7 @@ module _ (s : Ledger) (new : Ring) (added : List Entry) (setup_same : new.setup 
           | inr there ↦ kept-sent q c (sound.within q c there.1)
         ];
         submitted = λ q c is. elim (get-cases s.sent p q b c is) [
-          | inl here ↦ ap (submitted new.history) here.0 ∙ is_now
+          | inl here ↦ ap (is_submitted_at new.history) here.0 ∙ is_now
           | inr there ↦ still-submitted q (sound.submitted q c there.1)
         ];
       };

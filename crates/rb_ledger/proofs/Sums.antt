@@ -4,17 +4,18 @@ use Rattle.std.specs.List.{All, count_by, sum_by, Contains}
 use Rattle.std.proofs.lemmas.List.Elements.{Contains-append_right, All-nil, All-cons, All-head, All-tail, All-weaker}
 use Rattle.rb_history.specs.declared.entries.Entry.{Entry}
 use Rattle.rb_history.specs.declared.entries.Entry.TheVariants.{Res, Full, Sub, Dis, Take}
-use Rattle.rb_history.specs.History.{status_by, is_grant_of, granted, submitted, discarded, taken}
+use Rattle.rb_history.specs.History.{status_by, is_grant_of, is_granted_at, is_submitted_at, is_discarded_at, is_taken_at}
 use Rattle.rb_history.specs.History.Status.{Busy}
-use Rattle.rb_history.specs.Counting.{is_grant, is_discarding, is_same, has_status, number_of}
-use Rattle.rb_history.specs.Legal.{Setup, IsLegal}
+use Rattle.rb_history.specs.Counting.{is_grant_entry, is_discard_entry, is_same, has_status, status_count}
+use Rattle.rb_history.specs.RoomRule.{Setup}
+use Rattle.rb_history.specs.Legal.{IsLegal}
 use Rattle.rb_history.proofs.Counting.{made-split}
 use Rattle.rb_history.proofs.Laws.{kept-from-legal}
 use Rattle.rb_history.proofs.Lists.{sum_by-cons, sum_by-add, sum_by-agree}
 use Rattle.rb_history.proofs.Standing.{grant-stands}
 use Rattle.rb_ledger.specs.declared.tally.Tally.{Tally}
-use Rattle.rb_ledger.specs.Own.{is_record_of, Book, book_of}
-use Rattle.rb_ledger.specs.Numbers.{is_submit_of, is_discard_of, tally_of}
+use Rattle.rb_ledger.specs.Roles.{is_record_of, Book, book_of}
+use Rattle.rb_ledger.specs.WorkerCounts.{is_submit_of, is_discard_of, tally_of}
 use Rattle.rb_ledger.specs.Seats.{WorkerSeat, SettlesWithin, HasSettledAll, seats_of, all_made, all_submitted, all_discarded}
 use Rattle.rb_ledger.specs.Headline.{Accounts, OnceClosed}
 use Rattle.rb_ledger.proofs.Records.{bit, granted-once, grant-tells, submitted-from, discarded-from}
@@ -57,7 +58,7 @@ anywhere : ℕ → Bool
 anywhere p = true
 
 -- an entry that submits or discards a record is one or the other
-one-way : (e : Entry) → bit (settles_where anywhere e) ≡ bit (is_submitting e) + bit (is_discarding e)
+one-way : (e : Entry) → bit (settles_where anywhere e) ≡ bit (is_submitting e) + bit (is_discard_entry e)
 unfolding anywhere
 one-way (Res w k n p) = refl
 one-way (Full w n) = refl
@@ -72,24 +73,24 @@ settled-or-busy true false false = refl
 settled-or-busy false true t = refl
 settled-or-busy false false t = refl
 
-either-status : (h : List Entry) (e : Entry) → bit (is_grant e) ≡ bit (grants_where (settled_where anywhere h) e) + bit (has_status Busy h e)
+either-status : (h : List Entry) (e : Entry) → bit (is_grant_entry e) ≡ bit (grants_where (settled_where anywhere h) e) + bit (has_status Busy h e)
 unfolding anywhere
-either-status h (Res w k n p) = settled-or-busy (submitted h p) (discarded h p) (taken h p)
+either-status h (Res w k n p) = settled-or-busy (is_submitted_at h p) (is_discarded_at h p) (is_taken_at h p)
 either-status h (Full w n) = refl
 either-status h (Sub p) = refl
 either-status h (Dis p) = refl
 either-status h (Take p) = refl
 
 -- a record that was granted is submitted or discarded by one entry, or busy
-made-settled : (r : Setup) (h : List Entry) → IsLegal r h → count_by is_grant h ≡ count_by is_submitting h + count_by is_discarding h + number_of Busy h
+made-settled : (r : Setup) (h : List Entry) → IsLegal r h → count_by is_grant_entry h ≡ count_by is_submitting h + count_by is_discard_entry h + status_count Busy h
 made-settled r h l =
-    let ways = sum_by-add (λ e. bit (is_submitting e)) (λ e. bit (is_discarding e)) (λ e. bit (settles_where anywhere e)) one-way h in
-    let rest = sum_by-add (λ e. bit (grants_where (settled_where anywhere h) e)) (λ e. bit (has_status Busy h e)) (λ e. bit (is_grant e)) (either-status h) h in
+    let ways = sum_by-add (λ e. bit (is_submitting e)) (λ e. bit (is_discard_entry e)) (λ e. bit (settles_where anywhere e)) one-way h in
+    let rest = sum_by-add (λ e. bit (grants_where (settled_where anywhere h) e)) (λ e. bit (has_status Busy h e)) (λ e. bit (is_grant_entry e)) (either-status h) h in
     omega (arith, ways, rest, even r anywhere h l)
 
 module _ (b : Book) (l : IsLegal b.setup b.history) (ss : List WorkerSeat) (once : (w : ℕ) → w < b.setup.workers → seats_of w ss ≡ 1) where
   -- a record that was granted is one seat's
-  record-once : (p : ℕ) → granted b.history p ≡ true → sum_by (λ s. bit (is_record_of s.worker b.history p)) ss ≡ 1
+  record-once : (p : ℕ) → is_granted_at b.history p ≡ true → sum_by (λ s. bit (is_record_of s.worker b.history p)) ss ≡ 1
   record-once p g =
       let st = grant-stands b.history p g in
       let is = st.1.1.1 in
@@ -98,7 +99,7 @@ module _ (b : Book) (l : IsLegal b.setup b.history) (ss : List WorkerSeat) (once
       ∙ sum-of st.0 ss
       ∙ once st.0 (worker-in b.setup st.0 st.1.0 st.1.1.0 p b.history l is)
 
-  grant-once : (x : Entry) → Contains b.history x → sum_by (λ s. bit (is_grant_of s.worker x)) ss ≡ bit (is_grant x)
+  grant-once : (x : Entry) → Contains b.history x → sum_by (λ s. bit (is_grant_of s.worker x)) ss ≡ bit (is_grant_entry x)
   grant-once (Res w k n p) is = sum-of w ss ∙ once w (worker-in b.setup w k n p b.history l is)
   grant-once (Full w n) is = sum-none ss
   grant-once (Sub p) is = sum-none ss
@@ -112,7 +113,7 @@ module _ (b : Book) (l : IsLegal b.setup b.history) (ss : List WorkerSeat) (once
   submit-once (Dis p) is = sum-none ss
   submit-once (Take p) is = sum-none ss
 
-  discard-once : (x : Entry) → Contains b.history x → sum_by (λ s. bit (is_discard_of s.worker b.history x)) ss ≡ bit (is_discarding x)
+  discard-once : (x : Entry) → Contains b.history x → sum_by (λ s. bit (is_discard_of s.worker b.history x)) ss ≡ bit (is_discard_entry x)
   discard-once (Dis p) is = record-once p (discarded-granted b.setup b.history p l (discarded-from b.history p is))
   discard-once (Res w k n p) is = sum-none ss
   discard-once (Full w n) is = sum-none ss
@@ -120,14 +121,14 @@ module _ (b : Book) (l : IsLegal b.setup b.history) (ss : List WorkerSeat) (once
   discard-once (Take p) is = sum-none ss
 
   module _ (ties : All (Accounts b) ss) where
-    pub made-is : all_made ss ≡ count_by is_grant b.history
-    made-is = tally-sum (λ t. t.made) b ss ties ∙ count-once is_grant_of is_grant ss b.history grant-once
+    pub made-is : all_made ss ≡ count_by is_grant_entry b.history
+    made-is = tally-sum (λ t. t.made) b ss ties ∙ count-once is_grant_of is_grant_entry ss b.history grant-once
 
     submitted-is : all_submitted ss ≡ count_by is_submitting b.history
     submitted-is = tally-sum (λ t. t.submitted) b ss ties ∙ count-once (λ w. is_submit_of w b.history) is_submitting ss b.history submit-once
 
-    discarded-is : all_discarded ss ≡ count_by is_discarding b.history
-    discarded-is = tally-sum (λ t. t.discarded) b ss ties ∙ count-once (λ w. is_discard_of w b.history) is_discarding ss b.history discard-once
+    discarded-is : all_discarded ss ≡ count_by is_discard_entry b.history
+    discarded-is = tally-sum (λ t. t.discarded) b ss ties ∙ count-once (λ w. is_discard_of w b.history) is_discard_entry ss b.history discard-once
 
     settles-within : All SettlesWithin ss
     settles-within = All-weaker (Accounts b) SettlesWithin (λ s a. settled-sub s a) ss ties
@@ -184,7 +185,7 @@ once-closed r ss consumer c =
     let ways = made-settled r.setup r.history l in
     let gone = (kept-from-legal r.setup r.history l).given_up in
     let within = settles-within b l ss c.each_once c.seats_tie in
-    let rest : all_made ss ≡ all_submitted ss + all_discarded ss + number_of Busy r.history = omega arith in
+    let rest : all_made ss ≡ all_submitted ss + all_discarded ss + status_count Busy r.history = omega arith in
     record {
       within = within;
       submitted_are = omega arith;

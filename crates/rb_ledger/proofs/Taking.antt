@@ -6,9 +6,10 @@ use Rattle.std.proofs.lemmas.List.Elements.{Contains-append_cases}
 use Rattle.rb_header.specs.Span.{span}
 use Rattle.rb_history.specs.declared.entries.Entry.{Entry}
 use Rattle.rb_history.specs.declared.entries.Entry.TheVariants.{Res, Full, Sub, Dis, Take}
-use Rattle.rb_history.specs.History.{status_by, is_grant_at, is_submit, is_discard, granted, submitted, discarded, granted_span_at, span_of_record, taken_span, consumer_of}
+use Rattle.rb_history.specs.History.{status_by, is_grant_at, is_submit, is_discard, is_granted_at, is_submitted_at, is_discarded_at, granted_span_at, span_of_record, taken_span, consumer_of}
 use Rattle.rb_history.specs.History.Status.{Waiting, Discarded}
-use Rattle.rb_history.specs.Legal.{Setup, IsLegal, MayFollow}
+use Rattle.rb_history.specs.RoomRule.{Setup}
+use Rattle.rb_history.specs.Legal.{IsLegal, MayFollow}
 use Rattle.rb_history.proofs.Laws.{legal-next}
 use Rattle.rb_history.proofs.Lists.{list_any-snoc, or-false, sum_by-cons, sum_by-snoc, sum_by-agree}
 use Rattle.rb_history.proofs.Exact.{granted-from}
@@ -35,26 +36,26 @@ no-span p (Sub q) off = refl
 no-span p (Dis q) off = refl
 no-span p (Take q) off = refl
 
-no-spans : (p : ℕ) (h : List Entry) → granted h p ≡ false → span_of_record h p ≡ 0
+no-spans : (p : ℕ) (h : List Entry) → is_granted_at h p ≡ false → span_of_record h p ≡ 0
 no-spans p [] off = refl
 no-spans p (x ∷ h) off =
-    let parts = or_parts (is_grant_at p x) (granted h p) off in
+    let parts = or_parts (is_grant_at p x) (is_granted_at h p) off in
     omega (arith, sum_by-cons (granted_span_at p) x h, no-span p x parts.0, no-spans p h parts.1)
 
-none-granted : (p : ℕ) (h : List Entry) → count_by (is_grant_at p) h ≡ 0 → granted h p ≡ false
+none-granted : (p : ℕ) (h : List Entry) → count_by (is_grant_at p) h ≡ 0 → is_granted_at h p ≡ false
 none-granted p [] e = refl
 none-granted p (x ∷ h) e = elim (cases_Bool (is_grant_at p x)) [
   | inl hit ↦ let one : bit (is_grant_at p x) ≡ 1 = ap bit hit in absurd (omega (arith, sum_by-cons (λ y. bit (is_grant_at p y)) x h, one))
-  | inr off ↦ let none : bit (is_grant_at p x) ≡ 0 = ap bit off in ap (λ b. b || granted h p) off ∙ none-granted p h (omega (arith, sum_by-cons (λ y. bit (is_grant_at p y)) x h, none))
+  | inr off ↦ let none : bit (is_grant_at p x) ≡ 0 = ap bit off in ap (λ b. b || is_granted_at h p) off ∙ none-granted p h (omega (arith, sum_by-cons (λ y. bit (is_grant_at p y)) x h, none))
 ]
 
-some-granted : (p : ℕ) (h : List Entry) → granted h p ≡ true → 1 ≤ count_by (is_grant_at p) h
+some-granted : (p : ℕ) (h : List Entry) → is_granted_at h p ≡ true → 1 ≤ count_by (is_grant_at p) h
 some-granted p [] e = absurd (true≢false (sym e))
 some-granted p (x ∷ h) e = elim (cases_Bool (is_grant_at p x)) [
   | inl hit ↦ let one : bit (is_grant_at p x) ≡ 1 = ap bit hit in omega (arith, sum_by-cons (λ y. bit (is_grant_at p y)) x h, one)
   | inr off ↦
       let none : bit (is_grant_at p x) ≡ 0 = ap bit off in
-      let more = some-granted p h (sym (ap (λ b. b || granted h p) off) ∙ e) in
+      let more = some-granted p h (sym (ap (λ b. b || is_granted_at h p) off) ∙ e) in
       omega (arith, sum_by-cons (λ y. bit (is_grant_at p y)) x h, none, more)
 ]
 
@@ -67,7 +68,7 @@ span-of w k n p (x ∷ h) one is =
           let same : x ≡ Res w k n p = only x here in
           let hit : is_grant_at p x ≡ true = ap (is_grant_at p) same ∙ eq-eqb p p refl in
           let one_here : bit (is_grant_at p x) ≡ 1 = ap bit hit in
-          let rest : granted h p ≡ false = none-granted p h (omega (arith, sum_by-cons (λ y. bit (is_grant_at p y)) x h, one_here)) in
+          let rest : is_granted_at h p ≡ false = none-granted p h (omega (arith, sum_by-cons (λ y. bit (is_grant_at p y)) x h, one_here)) in
           let mine : granted_span_at p x ≡ span n = ap (granted_span_at p) same ∙ ap (λ b. cond b (span n) 0) (eq-eqb p p refl) in
           omega (arith, sum_by-cons (granted_span_at p) x h, mine, no-spans p h rest)
       | inr there ↦
@@ -94,22 +95,22 @@ position-taken start w k n p h one is = consumer-moves start h p ∙ ap (λ x. c
 -- ---- no record is both submitted and discarded
 
 abbrev pub NeverBoth : List Entry → Type 0
-NeverBoth h = (p : ℕ) → submitted h p ≡ true → discarded h p ≡ false
+NeverBoth h = (p : ℕ) → is_submitted_at h p ≡ true → is_discarded_at h p ≡ false
 
 both-next : (r : Setup) (h : List Entry) (e : Entry) → MayFollow r h e → NeverBoth h → NeverBoth (h ++ e ∷ [])
 both-next r h (Res w k n q) m never p is = list_any-snoc (is_discard p) h (Res w k n q) ∙ or-false _ ∙ never p (sym (list_any-snoc (is_submit p) h (Res w k n q) ∙ or-false _) ∙ is)
 both-next r h (Full w n) m never p is = list_any-snoc (is_discard p) h (Full w n) ∙ or-false _ ∙ never p (sym (list_any-snoc (is_submit p) h (Full w n) ∙ or-false _) ∙ is)
 both-next r h (Take q) m never p is = list_any-snoc (is_discard p) h (Take q) ∙ or-false _ ∙ never p (sym (list_any-snoc (is_submit p) h (Take q) ∙ or-false _) ∙ is)
 both-next r h (Sub q) m never p is = list_any-snoc (is_discard p) h (Sub q) ∙ or-false _ ∙ elim (cases_eq q p) [
-  | inl same ↦ ap (discarded h) (sym same) ∙ m.2
-  | inr other ↦ never p (sym (list_any-snoc (is_submit p) h (Sub q) ∙ ap (λ b. submitted h p || b) (ne_eqb q p other) ∙ or-false _) ∙ is)
+  | inl same ↦ ap (is_discarded_at h) (sym same) ∙ m.2
+  | inr other ↦ never p (sym (list_any-snoc (is_submit p) h (Sub q) ∙ ap (λ b. is_submitted_at h p || b) (ne_eqb q p other) ∙ or-false _) ∙ is)
 ]
 both-next r h (Dis q) m never p is = elim (cases_eq q p) [
   | inl same ↦
-      let was : submitted h p ≡ true = sym (list_any-snoc (is_submit p) h (Dis q) ∙ or-false _) ∙ is in
-      absurd (true≢false (sym was ∙ ap (submitted h) (sym same) ∙ m.1))
+      let was : is_submitted_at h p ≡ true = sym (list_any-snoc (is_submit p) h (Dis q) ∙ or-false _) ∙ is in
+      absurd (true≢false (sym was ∙ ap (is_submitted_at h) (sym same) ∙ m.1))
   | inr other ↦
-      list_any-snoc (is_discard p) h (Dis q) ∙ ap (λ b. discarded h p || b) (ne_eqb q p other) ∙ or-false _
+      list_any-snoc (is_discard p) h (Dis q) ∙ ap (λ b. is_discarded_at h p || b) (ne_eqb q p other) ∙ or-false _
       ∙ never p (sym (list_any-snoc (is_submit p) h (Dis q) ∙ or-false _) ∙ is)
 ]
 

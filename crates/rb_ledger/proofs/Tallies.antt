@@ -7,16 +7,18 @@ use Rattle.std.proofs.lemmas.List.{take_more, take-append-drop}
 use Rattle.std.proofs.lemmas.List.Sums.{count_by-le-length}
 use Rattle.rb_history.specs.declared.entries.Entry.{Entry}
 use Rattle.rb_history.specs.declared.entries.Entry.TheVariants.{Res, Full, Sub, Dis, Take}
-use Rattle.rb_history.specs.History.{is_grant_of, is_grant_at, is_submit, is_discard, granted, submitted, discarded, taken, grants, consumer_of, producer_of}
-use Rattle.rb_history.specs.Legal.{Setup, IsLegal, MayFollow}
+use Rattle.rb_history.specs.History.{is_grant_of, is_grant_at, is_submit, is_discard, is_granted_at, is_submitted_at, is_discarded_at, is_taken_at, grants, consumer_of, producer_of}
+use Rattle.rb_history.specs.RoomRule.{Setup}
+use Rattle.rb_history.specs.Legal.{IsLegal, MayFollow}
 use Rattle.rb_history.proofs.Laws.{kept-from-legal, legal-front, legal-next}
 use Rattle.rb_history.proofs.Lists.{list_any-snoc, or-false, sum_by-cons, sum_by-snoc}
 use Rattle.rb_history.proofs.Row.{InRow-le}
 use Rattle.rb_history.proofs.Steps.{consumer-full, consumer-sub, consumer-dis, consumer-res}
 use Rattle.rb_ledger.specs.declared.tally.Tally.{Tally}
-use Rattle.rb_ledger.specs.Own.{is_record_of, is_own, NoneOwn}
-use Rattle.rb_ledger.specs.Own.Role.{Consumer, Worker}
-use Rattle.rb_ledger.specs.Numbers.{is_refusal_of, is_submit_of, is_discard_of, tally_of, with_entry, IsCountable, is_take_where, events_of, skips_of}
+use Rattle.rb_ledger.specs.Roles.{is_record_of, is_own, NoneOwn}
+use Rattle.rb_ledger.specs.Roles.Role.{Consumer, Worker}
+use Rattle.rb_ledger.specs.WorkerCounts.{is_refusal_of, is_submit_of, is_discard_of, tally_of, is_take_where, events_of, skips_of}
+use Rattle.rb_ledger.specs.inner.TallySteps.{with_entry, IsCountable}
 use Rattle.rb_ledger.proofs.Records.{bit, granted-once, record-stays, submitted-from, discarded-from, taken-from}
 
 -- two tests that agree on each entry of a history count alike
@@ -29,10 +31,10 @@ count-agree f g (x ∷ es) same =
 
 module _ (r : Setup) where
   -- a record that was submitted or discarded was granted
-  pub submitted-granted : (h : List Entry) (p : ℕ) → IsLegal r h → submitted h p ≡ true → granted h p ≡ true
+  pub submitted-granted : (h : List Entry) (p : ℕ) → IsLegal r h → is_submitted_at h p ≡ true → is_granted_at h p ≡ true
   submitted-granted h p l is = (kept-from-legal r h l).named p (or_left _ _ is)
 
-  pub discarded-granted : (h : List Entry) (p : ℕ) → IsLegal r h → discarded h p ≡ true → granted h p ≡ true
+  pub discarded-granted : (h : List Entry) (p : ℕ) → IsLegal r h → is_discarded_at h p ≡ true → is_granted_at h p ≡ true
   discarded-granted h p l is = (kept-from-legal r h l).named p (or_right _ _ is)
 
   submits-agree : (w : ℕ) (h es : List Entry) → IsLegal r (h ++ es) → (x : Entry) → Contains h x → is_submit_of w (h ++ es) x ≡ is_submit_of w h x
@@ -137,7 +139,7 @@ module _ (r : Setup) where
   -- ---- the consumer's numbers
 
   -- a record that was taken was settled before
-  taken-settled : (h : List Entry) (p : ℕ) → IsLegal r h → taken h p ≡ true → (submitted h p || discarded h p) ≡ true
+  taken-settled : (h : List Entry) (p : ℕ) → IsLegal r h → is_taken_at h p ≡ true → (is_submitted_at h p || is_discarded_at h p) ≡ true
   taken-settled h p l t = (kept-from-legal r h l).closed p t
 
   unsettled : (s d : Bool) → s ≡ false → d ≡ false → (s || d) ≡ true → ⊥
@@ -146,66 +148,66 @@ module _ (r : Setup) where
   unsettled false false s_off d_off is = true≢false (sym is)
 
   -- where p is settled, no entry submits it again
-  submit-off : (h : List Entry) (e : Entry) (p : ℕ) → MayFollow r h e → (submitted h p || discarded h p) ≡ true → is_submit p e ≡ false
-  submit-off h (Sub q) p m settled = ne_eqb q p (λ same. unsettled (submitted h p) (discarded h p) (ap (submitted h) (sym same) ∙ m.1) (ap (discarded h) (sym same) ∙ m.2) settled)
+  submit-off : (h : List Entry) (e : Entry) (p : ℕ) → MayFollow r h e → (is_submitted_at h p || is_discarded_at h p) ≡ true → is_submit p e ≡ false
+  submit-off h (Sub q) p m settled = ne_eqb q p (λ same. unsettled (is_submitted_at h p) (is_discarded_at h p) (ap (is_submitted_at h) (sym same) ∙ m.1) (ap (is_discarded_at h) (sym same) ∙ m.2) settled)
   submit-off h (Res v k n q) p m settled = refl
   submit-off h (Full v n) p m settled = refl
   submit-off h (Dis q) p m settled = refl
   submit-off h (Take q) p m settled = refl
 
-  discard-off : (h : List Entry) (e : Entry) (p : ℕ) → MayFollow r h e → (submitted h p || discarded h p) ≡ true → is_discard p e ≡ false
-  discard-off h (Dis q) p m settled = ne_eqb q p (λ same. unsettled (submitted h p) (discarded h p) (ap (submitted h) (sym same) ∙ m.1) (ap (discarded h) (sym same) ∙ m.2) settled)
+  discard-off : (h : List Entry) (e : Entry) (p : ℕ) → MayFollow r h e → (is_submitted_at h p || is_discarded_at h p) ≡ true → is_discard p e ≡ false
+  discard-off h (Dis q) p m settled = ne_eqb q p (λ same. unsettled (is_submitted_at h p) (is_discarded_at h p) (ap (is_submitted_at h) (sym same) ∙ m.1) (ap (is_discarded_at h) (sym same) ∙ m.2) settled)
   discard-off h (Res v k n q) p m settled = refl
   discard-off h (Full v n) p m settled = refl
   discard-off h (Sub q) p m settled = refl
   discard-off h (Take q) p m settled = refl
 
   -- a settled record stays as it is
-  pub submitted-stays : (h : List Entry) (e : Entry) (p : ℕ) → MayFollow r h e → (submitted h p || discarded h p) ≡ true → submitted (h ++ e ∷ []) p ≡ submitted h p
-  submitted-stays h e p m settled = list_any-snoc (is_submit p) h e ∙ ap (λ b. submitted h p || b) (submit-off h e p m settled) ∙ or-false (submitted h p)
+  pub submitted-stays : (h : List Entry) (e : Entry) (p : ℕ) → MayFollow r h e → (is_submitted_at h p || is_discarded_at h p) ≡ true → is_submitted_at (h ++ e ∷ []) p ≡ is_submitted_at h p
+  submitted-stays h e p m settled = list_any-snoc (is_submit p) h e ∙ ap (λ b. is_submitted_at h p || b) (submit-off h e p m settled) ∙ or-false (is_submitted_at h p)
 
-  pub discarded-stays : (h : List Entry) (e : Entry) (p : ℕ) → MayFollow r h e → (submitted h p || discarded h p) ≡ true → discarded (h ++ e ∷ []) p ≡ discarded h p
-  discarded-stays h e p m settled = list_any-snoc (is_discard p) h e ∙ ap (λ b. discarded h p || b) (discard-off h e p m settled) ∙ or-false (discarded h p)
+  pub discarded-stays : (h : List Entry) (e : Entry) (p : ℕ) → MayFollow r h e → (is_submitted_at h p || is_discarded_at h p) ≡ true → is_discarded_at (h ++ e ∷ []) p ≡ is_discarded_at h p
+  discarded-stays h e p m settled = list_any-snoc (is_discard p) h e ∙ ap (λ b. is_discarded_at h p || b) (discard-off h e p m settled) ∙ or-false (is_discarded_at h p)
 
-  events-agree : (h : List Entry) (e : Entry) → IsLegal r h → MayFollow r h e → (x : Entry) → Contains h x → is_take_where (submitted (h ++ e ∷ [])) x ≡ is_take_where (submitted h) x
+  events-agree : (h : List Entry) (e : Entry) → IsLegal r h → MayFollow r h e → (x : Entry) → Contains h x → is_take_where (is_submitted_at (h ++ e ∷ [])) x ≡ is_take_where (is_submitted_at h) x
   events-agree h e l m (Take p) is = submitted-stays h e p m (taken-settled h p l (taken-from h p is))
   events-agree h e l m (Res v k n p) is = refl
   events-agree h e l m (Full v n) is = refl
   events-agree h e l m (Sub p) is = refl
   events-agree h e l m (Dis p) is = refl
 
-  skips-agree : (h : List Entry) (e : Entry) → IsLegal r h → MayFollow r h e → (x : Entry) → Contains h x → is_take_where (discarded (h ++ e ∷ [])) x ≡ is_take_where (discarded h) x
+  skips-agree : (h : List Entry) (e : Entry) → IsLegal r h → MayFollow r h e → (x : Entry) → Contains h x → is_take_where (is_discarded_at (h ++ e ∷ [])) x ≡ is_take_where (is_discarded_at h) x
   skips-agree h e l m (Take p) is = discarded-stays h e p m (taken-settled h p l (taken-from h p is))
   skips-agree h e l m (Res v k n p) is = refl
   skips-agree h e l m (Full v n) is = refl
   skips-agree h e l m (Sub p) is = refl
   skips-agree h e l m (Dis p) is = refl
 
-  event-here : (h : List Entry) (e : Entry) → MayFollow r h e → is_take_where (submitted (h ++ e ∷ [])) e ≡ is_take_where (submitted h) e
+  event-here : (h : List Entry) (e : Entry) → MayFollow r h e → is_take_where (is_submitted_at (h ++ e ∷ [])) e ≡ is_take_where (is_submitted_at h) e
   event-here h (Take p) m = submitted-stays h (Take p) p m m.1
   event-here h (Res v k n p) m = refl
   event-here h (Full v n) m = refl
   event-here h (Sub p) m = refl
   event-here h (Dis p) m = refl
 
-  skip-here : (h : List Entry) (e : Entry) → MayFollow r h e → is_take_where (discarded (h ++ e ∷ [])) e ≡ is_take_where (discarded h) e
+  skip-here : (h : List Entry) (e : Entry) → MayFollow r h e → is_take_where (is_discarded_at (h ++ e ∷ [])) e ≡ is_take_where (is_discarded_at h) e
   skip-here h (Take p) m = discarded-stays h (Take p) p m m.1
   skip-here h (Res v k n p) m = refl
   skip-here h (Full v n) m = refl
   skip-here h (Sub p) m = refl
   skip-here h (Dis p) m = refl
 
-  pub events-next : (h : List Entry) (e : Entry) → IsLegal r (h ++ e ∷ []) → events_of (h ++ e ∷ []) ≡ events_of h + bit (is_take_where (submitted h) e)
+  pub events-next : (h : List Entry) (e : Entry) → IsLegal r (h ++ e ∷ []) → events_of (h ++ e ∷ []) ≡ events_of h + bit (is_take_where (is_submitted_at h) e)
   events-next h e l =
       let k = h ++ e ∷ [] in
       let m = legal-next r h e [] l in
-      sum_by-snoc (λ y. bit (is_take_where (submitted k) y)) h e ∙ (λ i. count-agree (is_take_where (submitted k)) (is_take_where (submitted h)) h (events-agree h e (legal-front r h (e ∷ []) l) m) i + bit (event-here h e m i))
+      sum_by-snoc (λ y. bit (is_take_where (is_submitted_at k) y)) h e ∙ (λ i. count-agree (is_take_where (is_submitted_at k)) (is_take_where (is_submitted_at h)) h (events-agree h e (legal-front r h (e ∷ []) l) m) i + bit (event-here h e m i))
 
-  pub skips-next : (h : List Entry) (e : Entry) → IsLegal r (h ++ e ∷ []) → skips_of (h ++ e ∷ []) ≡ skips_of h + bit (is_take_where (discarded h) e)
+  pub skips-next : (h : List Entry) (e : Entry) → IsLegal r (h ++ e ∷ []) → skips_of (h ++ e ∷ []) ≡ skips_of h + bit (is_take_where (is_discarded_at h) e)
   skips-next h e l =
       let k = h ++ e ∷ [] in
       let m = legal-next r h e [] l in
-      sum_by-snoc (λ y. bit (is_take_where (discarded k) y)) h e ∙ (λ i. count-agree (is_take_where (discarded k)) (is_take_where (discarded h)) h (skips-agree h e (legal-front r h (e ∷ []) l) m) i + bit (skip-here h e m i))
+      sum_by-snoc (λ y. bit (is_take_where (is_discarded_at k) y)) h e ∙ (λ i. count-agree (is_take_where (is_discarded_at k)) (is_take_where (is_discarded_at h)) h (skips-agree h e (legal-front r h (e ∷ []) l) m) i + bit (skip-here h e m i))
 
   -- no take: the consumer's numbers stand
   pub record TakerSame (h k : List Entry) : Type 0 where
@@ -232,7 +234,7 @@ module _ (r : Setup) where
       let kept = kept-from-legal r h (legal-front r h (Res v k n p ∷ []) l) in
       let m = legal-next r h (Res v k n p) [] l in
       let low : consumer_of r.start h ≤ producer_of r.start h = InRow-le _ _ _ kept.in_row in
-      let free : taken h p ≡ false = false_from_ne_true (taken h p) (λ t. omega (arith, kept.passed p t, m.1, low)) in
+      let free : is_taken_at h p ≡ false = false_from_ne_true (is_taken_at h p) (λ t. omega (arith, kept.passed p t, m.1, low)) in
       consumer-res r.start h v k n p free
 
   pub taker-goes : (h es : List Entry) → IsLegal r (h ++ es) → NoneOwn Consumer h es → TakerSame h (h ++ es)
@@ -243,8 +245,8 @@ module _ (r : Setup) where
       let one : IsLegal r (h ++ e ∷ []) = legal-front r (h ++ e ∷ []) es l' in
       let rest = taker-goes (h ++ e ∷ []) es l' none.1 in
       record {
-        events_same = ap events_of (sym cut) ∙ rest.events_same ∙ events-next h e one ∙ plus _ _ (ap bit (not-taking (submitted h) h e none.0));
-        skips_same = ap skips_of (sym cut) ∙ rest.skips_same ∙ skips-next h e one ∙ plus _ _ (ap bit (not-taking (discarded h) h e none.0));
+        events_same = ap events_of (sym cut) ∙ rest.events_same ∙ events-next h e one ∙ plus _ _ (ap bit (not-taking (is_submitted_at h) h e none.0));
+        skips_same = ap skips_of (sym cut) ∙ rest.skips_same ∙ skips-next h e one ∙ plus _ _ (ap bit (not-taking (is_discarded_at h) h e none.0));
         position_same = ap (consumer_of r.start) (sym cut) ∙ rest.position_same ∙ position-next h e one none.0;
       }
 

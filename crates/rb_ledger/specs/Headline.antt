@@ -10,30 +10,24 @@ use lib.ListN.{get_elem?}
 use Rattle.rb_history.specs.declared.entries.Entry.{Entry}
 use Rattle.rb_history.specs.declared.answers.Counts.{Counts}
 use Rattle.rb_history.specs.Counting.{counts_of}
-use Rattle.rb_history.specs.Legal.{Setup, IsLegal}
-use Rattle.rb_history.specs.Steps.{IsOneCall}
-use Rattle.rb_history.specs.View.{Ring, Contents, StandsFor, IsWorkerCount, fresh}
-use Rattle.rb_ledger.specs.Own.{is_record_of, Book, book_of, GoesOn}
-use Rattle.rb_ledger.specs.Own.Role.{Consumer, Worker}
-use Rattle.rb_ledger.specs.Numbers.{serials_of, numbers_below}
-use Rattle.rb_ledger.specs.Rule.{Known, View, known, IsRing, IsKept}
-use Rattle.rb_ledger.specs.Seats.{WorkerSeat, TakerSeat, Ties, TakerTies, SettlesWithin, HasSettledAll, seats_of, all_made, all_submitted, all_discarded}
+use Rattle.rb_history.specs.RoomRule.{Setup}
+use Rattle.rb_history.specs.Legal.{IsLegal}
+use Rattle.rb_history.specs.OneCall.{IsOneCall}
+use Rattle.rb_history.specs.RingModel.{Ring, Contents, StandsFor, IsWorkerCount, fresh}
+use Rattle.rb_ledger.specs.Roles.{is_record_of, Book, book_of, ExtendsSeen}
+use Rattle.rb_ledger.specs.Roles.Role.{Consumer, Worker}
+use Rattle.rb_ledger.specs.WorkerCounts.{serials_of, numbers_below}
+use Rattle.rb_ledger.specs.RoleKnowledge.{PassView}
+use Rattle.rb_ledger.specs.Ledger.{IsRing}
+use Rattle.rb_ledger.specs.LockRule.{KeepsLockRule}
+use Rattle.rb_ledger.specs.Seats.{WorkerSeat, ConsumerSeatValue, Ties, ConsumerTies, SettlesWithin, HasSettledAll, seats_of, all_made, all_submitted, all_discarded}
 
 -- ---- a ring that was closed
-
--- the roles of the seats, with what each has seen and sent
-abbrev pub roles_of : List WorkerSeat → List Known
-roles_of [] = []
-roles_of (s ∷ ss) = known (Worker s.worker) s.seen s.sent ∷ roles_of ss
-
--- the seat's numbers are those of its worker's entries in what it has seen
-abbrev pub IsTied : WorkerSeat → Type 0
-IsTied s = Ties s.worker s.tally s.seen
 
 -- the history begins with what the seat has seen and has no entry of the seat's own behind that; the seat's numbers are those of its
 -- worker's entries; and its records' serials are 0 to made - 1, in this order
 pub record Accounts (b : Book) (s : WorkerSeat) : Type 0 where
-  pub goes_on : GoesOn (Worker s.worker) s.seen b
+  pub goes_on : ExtendsSeen (Worker s.worker) s.seen b
   pub ties : Ties s.worker s.tally b
   pub in_order : serials_of s.worker b.history ≡ numbers_below s.tally.made
 
@@ -46,19 +40,19 @@ abbrev pub AreSent : List WorkerSeat → Book → Contents → Type 0
 AreSent seats b bytes_at = (p : ℕ) (bytes : List ℕ) → get bytes_at p ≡ Some bytes → IsSentBy seats b p bytes
 
 -- all records that were made are consumed, discarded, waiting or busy
-abbrev pub IsBalanced : List WorkerSeat → Counts → Type 0
-IsBalanced seats n = all_made seats ≡ n.consumed + n.discarded + n.waiting + n.busy
+abbrev pub ReservationsBalance : List WorkerSeat → Counts → Type 0
+ReservationsBalance seats n = all_made seats ≡ n.consumed + n.discarded + n.waiting + n.busy
 
 -- the ring, once all seats and the consumer are gathered: what `close` promises where it is Ok
-pub record IsClosed (r : Ring) (seats : List WorkerSeat) (consumer : TakerSeat) : Type 0 where
+pub record IsClosed (r : Ring) (seats : List WorkerSeat) (consumer : ConsumerSeatValue) : Type 0 where
   pub is_ring : IsRing r
   pub each_once : (w : ℕ) → w < r.setup.workers → seats_of w seats ≡ 1
   pub seats_tie : All (Accounts (book_of r)) seats
-  pub consumer_goes_on : GoesOn Consumer consumer.seen (book_of r)
-  pub consumer_ties : TakerTies consumer.consumed consumer.skipped consumer.position (book_of r)
+  pub consumer_goes_on : ExtendsSeen Consumer consumer.seen (book_of r)
+  pub consumer_ties : ConsumerTies consumer.consumed consumer.skipped consumer.position (book_of r)
   pub got_is_sent : AreSent seats (book_of r) consumer.got
   pub waiting_is_sent : AreSent seats (book_of r) r.contents
-  pub balanced : IsBalanced seats (counts_of r.history)
+  pub balanced : ReservationsBalance seats (counts_of r.history)
 
 -- ---- the seats' numbers and the counts
 
@@ -71,7 +65,7 @@ pub record NumbersAgree (seats : List WorkerSeat) (n : Counts) : Type 0 where
   pub none_busy : All HasSettledAll seats ↔ (n.busy ≡ 0)
 
 abbrev pub OnceClosed : Type 0
-OnceClosed = (r : Ring) (seats : List WorkerSeat) (consumer : TakerSeat) → IsClosed r seats consumer → NumbersAgree seats (counts_of r.history)
+OnceClosed = (r : Ring) (seats : List WorkerSeat) (consumer : ConsumerSeatValue) → IsClosed r seats consumer → NumbersAgree seats (counts_of r.history)
 
 -- ---- the headline
 
@@ -93,7 +87,7 @@ pub record IsSequential (r : Ring) : Type 0 where
 -- "Whenever a ring's lock is free": the state lies in the queue, and somebody has a seat
 abbrev pub WheneverFree : Type 0
 WheneverFree =
-    (r : Ring) (views : List View) → IsKept (r ∷ []) views → (pass : ℕ) (v : View) → get_elem? views pass ≡ some v → v.knows ≢ []
+    (r : Ring) (views : List PassView) → KeepsLockRule (r ∷ []) views → (pass : ℕ) (v : PassView) → get_elem? views pass ≡ some v → v.knows ≢ []
     → IsSequential r
 
 -- each worker has one seat, whose serials in the history are 0 to made - 1, in order
@@ -102,12 +96,12 @@ pub record HoldsOnceEach (r : Ring) (seats : List WorkerSeat) : Type 0 where
   pub in_order : All (λ s. serials_of s.worker r.history ≡ numbers_below s.tally.made) seats
 
 -- "and once all seats and the consumer are gathered"
-pub record IsGathered (r : Ring) (seats : List WorkerSeat) (consumer : TakerSeat) : Type 0 where
+pub record IsGathered (r : Ring) (seats : List WorkerSeat) (consumer : ConsumerSeatValue) : Type 0 where
   pub sequential : IsSequential r
   pub once_each_in_order : HoldsOnceEach r seats
   pub taken_is_submitted : AreSent seats (book_of r) consumer.got
-  pub reservations_equal : IsBalanced seats (counts_of r.history)
+  pub reservations_equal : ReservationsBalance seats (counts_of r.history)
   pub any_number : IsWorkerCount r.setup.workers
 
 abbrev pub OnceGathered : Type 0
-OnceGathered = (r : Ring) (seats : List WorkerSeat) (consumer : TakerSeat) → IsClosed r seats consumer → IsGathered r seats consumer
+OnceGathered = (r : Ring) (seats : List WorkerSeat) (consumer : ConsumerSeatValue) → IsClosed r seats consumer → IsGathered r seats consumer

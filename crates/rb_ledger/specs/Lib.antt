@@ -1,7 +1,10 @@
-pub mod Own
-pub mod Numbers
-pub mod Bytes
-pub mod Rule
-pub mod Turns
+pub mod Roles
+pub mod WorkerCounts
+pub mod SentBytes
+pub mod RoleKnowledge
+pub mod Ledger
+pub mod LockRule
+pub mod LockedCalls
 pub mod Seats
 pub mod Headline
+pub mod inner

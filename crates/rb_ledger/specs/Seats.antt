@@ -1,15 +1,14 @@
 -- What contracts see of a shared ring and of its seats (own).
-use Rattle.std.specs.Prelude.{◌≡◌, ℕ, zero, suc, ◌+◌, ◌<◌, ◌≤◌, ◌==◌, Bool, true, List, [], ◌∷◌, None}
+use Rattle.std.specs.Prelude.{◌≡◌, ℕ, zero, suc, ◌+◌, ◌<◌, ◌≤◌, ◌==◌, Bool, true, List, [], ◌∷◌}
 use Rattle.std.specs.List.{list_any, list_all, count_by, sum_by}
 use Rattle.std.specs.FinMap.{empty}
 use Rattle.atomic_table.specs.Seated.{TableId}
 use Rattle.rb_history.specs.History.{consumer_of}
 use Rattle.rb_history.specs.Legal.{IsLegal}
-use Rattle.rb_history.specs.View.{Contents, IsSize, IsStart, IsWorkerCount}
+use Rattle.rb_history.specs.RingModel.{Contents, IsRingSize, IsStartPosition, IsWorkerCount}
 use Rattle.rb_ledger.specs.declared.tally.Tally.{Tally}
-use Rattle.rb_ledger.specs.Own.{Role, Book}
-use Rattle.rb_ledger.specs.Numbers.{tally_of, events_of, skips_of}
-use Rattle.rb_ledger.specs.Rule.{Known, View, known, view_of}
+use Rattle.rb_ledger.specs.Roles.{Book}
+use Rattle.rb_ledger.specs.WorkerCounts.{tally_of, events_of, skips_of}
 
 -- a shared ring: the caller's number for it, and which ring it is
 pub record Shared : Type 0 where
@@ -27,7 +26,7 @@ pub record WorkerSeat : Type 0 where
   pub sent : Contents
 
 -- the consumer's seat, with the bytes that it took as events, by position
-pub record TakerSeat : Type 0 where
+pub record ConsumerSeatValue : Type 0 where
   pub tag : ℕ
   pub ring : TableId
   pub consumed : ℕ
@@ -40,8 +39,8 @@ pub record TakerSeat : Type 0 where
 
 -- the book is one of a ring that was opened: its bounds, and a legal history
 pub record IsBook (b : Book) : Type 0 where
-  pub size : IsSize b.setup.size
-  pub start : IsStart b.setup.start
+  pub size : IsRingSize b.setup.size
+  pub start : IsStartPosition b.setup.start
   pub workers : IsWorkerCount b.setup.workers
   pub legal : IsLegal b.setup b.history
 
@@ -51,7 +50,7 @@ pub record Ties (w : ℕ) (t : Tally) (b : Book) : Type 0 where
   pub counted : t ≡ tally_of w b.history
 
 -- the consumer's numbers tie to a book: they are those of the takes there, and its position is the consumer position
-pub record TakerTies (consumed skipped position : ℕ) (b : Book) : Type 0 where
+pub record ConsumerTies (consumed skipped position : ℕ) (b : Book) : Type 0 where
   pub consumed_is : consumed ≡ events_of b.history
   pub skipped_is : skipped ≡ skips_of b.history
   pub position_is : position ≡ consumer_of b.setup.start b.history
@@ -62,7 +61,7 @@ pub record IsSameSeat (old new : WorkerSeat) : Type 0 where
   pub ring_same : new.ring ≡ old.ring
   pub worker_same : new.worker ≡ old.worker
 
-pub record IsSameTaker (old new : TakerSeat) : Type 0 where
+pub record IsSameConsumerSeat (old new : ConsumerSeatValue) : Type 0 where
   pub tag_same : new.tag ≡ old.tag
   pub ring_same : new.ring ≡ old.ring
 
@@ -75,8 +74,8 @@ abbrev pub fresh_seat : ℕ → TableId → ℕ → Book → WorkerSeat
 fresh_seat tag ring worker seen =
     record { tag = tag; ring = ring; worker = worker; tally = record { made = 0; refused = 0; submitted = 0; discarded = 0 }; seen = seen; sent = empty }
 
-abbrev pub fresh_taker : ℕ → TableId → Book → TakerSeat
-fresh_taker tag ring seen = record { tag = tag; ring = ring; consumed = 0; skipped = 0; position = seen.setup.start; seen = seen; got = empty }
+abbrev pub fresh_consumer : ℕ → TableId → Book → ConsumerSeatValue
+fresh_consumer tag ring seen = record { tag = tag; ring = ring; consumed = 0; skipped = 0; position = seen.setup.start; seen = seen; got = empty }
 
 -- seats of the workers from `first` on
 abbrev pub fresh_seats : ℕ → TableId → Book → ℕ → ℕ → List WorkerSeat
@@ -119,27 +118,3 @@ SettlesWithin s = s.tally.submitted + s.tally.discarded ≤ s.tally.made
 -- the seat submitted or discarded each record that it was granted
 abbrev pub HasSettledAll : WorkerSeat → Type 0
 HasSettledAll s = s.tally.made ≡ s.tally.submitted + s.tally.discarded
-
--- ---- a seat's pass between calls
-
-abbrev pub unseen : Book
-unseen = fresh_book 0 0 0
-
--- what the first role of a pass has seen, and its bytes
-abbrev pub first_seen : List Known → Book
-first_seen [] = unseen
-first_seen (k ∷ ks) = k.seen
-
-abbrev pub first_bytes : List Known → Contents
-first_bytes [] = empty
-first_bytes (k ∷ ks) = k.bytes
-
-abbrev pub seen_in : View → Book
-seen_in v = first_seen v.knows
-
-abbrev pub bytes_in : View → Contents
-bytes_in v = first_bytes v.knows
-
--- the pass has this one role, and the state is not out with it
-abbrev pub IsIdle : Role → View → Type 0
-IsIdle role v = v ≡ view_of (known role (seen_in v) (bytes_in v) ∷ []) None

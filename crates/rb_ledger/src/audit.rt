@@ -1,9 +1,9 @@
-//! What an audit tells.
+//! An audit: a ring's positions and counts at one moment.
 
-ghost use Rattle.rb_ledger.specs.Turns.{Audits};
+ghost use Rattle.rb_ledger.specs.LockedCalls.{Audits};
 
-use crate::counting::tally_in;
 use crate::tally::Tally;
+use crate::tally_count::tally_in;
 use rb_history::Counts;
 use rb_ring::RingState;
 
@@ -22,7 +22,7 @@ pub struct Audit {
 
 /// The ring's positions and counts, and the numbers of a worker's entries. Linear in the history where the worker ends its records
 /// soon after it is granted them.
-pub fn audit_of(state: &RingState, worker: u32) -> Audit
+pub(crate) fn audit_of(state: &RingState, worker: u32) -> Audit
     ensures audit { Audits worker result state.now state.now }
 {
     Audit {

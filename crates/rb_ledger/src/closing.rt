@@ -1,27 +1,29 @@
-//! A shared ring is closed, once all its seats are back.
+//! A shared ring is closed once all its seats are handed in.
 
 ghost use Rattle.std.specs.Prelude.{◌≡◌, ◌↔◌, ◌++◌, IfOk, IfErr, IsOk, IsTrue, All, true};
 ghost use Rattle.std.specs.FinMap.{get};
 ghost use Rattle.crossbeam_queue.specs.Passes.{view, IsPassOf, IsSamePass};
 ghost use Rattle.rb_history.specs.Counting.{counts_of};
 ghost use Rattle.rb_history.specs.Calls.{producer_now, consumer_now};
-ghost use Rattle.rb_ledger.specs.Own.Role.{Consumer, Worker};
-ghost use Rattle.rb_ledger.specs.Own.{GoesOn, book_of};
-ghost use Rattle.rb_ledger.specs.Rule.{IsRing, view_of};
+ghost use Rattle.rb_ledger.specs.Roles.Role.{Consumer, Worker};
+ghost use Rattle.rb_ledger.specs.Roles.{ExtendsSeen, book_of};
+ghost use Rattle.rb_ledger.specs.RoleKnowledge.{pass_view};
+ghost use Rattle.rb_ledger.specs.Ledger.{IsRing};
 ghost use Rattle.rb_ledger.specs.Seats.{are_tagged, has_seat, HasAll};
-ghost use Rattle.rb_ledger.specs.Headline.{IsClosed, roles_of, IsTied};
+ghost use Rattle.rb_ledger.specs.Headline.{IsClosed};
+ghost use Rattle.rb_ledger.specs.inner.SeatRoles.{roles_of, HasOwnCounts};
 
-use crate::consumers::ConsumerSeat;
-use crate::lock::{Both, Lock, RingPass, take_out};
-use crate::seats::Seat;
+use crate::consumer_seat::ConsumerSeat;
+use crate::lock::{JoinRoles, Lock, RingPass, take_out};
+use crate::locked_calls::facts_of;
 use crate::shared::SharedRing;
-use crate::turns::facts_of;
+use crate::worker_seat::Seat;
 use rb_history::{Counts, Entry};
 use rb_ring::RingState;
 use std::marker::Model;
 use std::sync::Wait;
 
-/// What a closed ring holds: the whole history, the counts and both positions. Contracts see the ring.
+/// A closed ring, from which the whole history, the counts and both positions are read. Contracts see it as the ring of one thread.
 #[derive(Drop)]
 pub struct Closing {
     state: Box<RingState>,
@@ -29,7 +31,7 @@ pub struct Closing {
 
 impl Model for Closing {
     ghost use Rattle.std.specs.Coded.{codes};
-    ghost use Rattle.rb_history.specs.View.{Ring, contents_code};
+    ghost use Rattle.rb_history.specs.RingModel.{Ring, contents_code};
     ghost use Rattle.rb_history.specs.contracts.entries.Entry as entry;
 
     ghost Value = { Ring };
@@ -76,7 +78,7 @@ impl Closing {
     }
 }
 
-/// A seat is missing, or one is another ring's. All that was handed in is handed back, as it was.
+/// The ring was not closed, since a seat is missing or is another ring's. All that was handed in is handed back unchanged.
 #[derive(Drop)]
 pub struct NotAll {
     /// The ring, which goes on.
@@ -128,12 +130,12 @@ fn gather(lock: &Lock, pass: &mut RingPass, mut seats: Vec<Seat>)
     requires pass { IsPassOf lock.now pass.old }
     requires seats { All (λ s. s.ring ≡ pass.old.table_id) seats.items }
     ensures same { IsSamePass pass.old pass.new }
-    ensures knows { view pass.new ≡ view_of (roles_of seats.items ++ (view pass.old).knows) (view pass.old).out }
-    ensures ties { All IsTied seats.items }
+    ensures knows { view pass.new ≡ pass_view (roles_of seats.items ++ (view pass.old).knows) (view pass.old).out }
+    ensures ties { All HasOwnCounts seats.items }
 {
     while let Some(seat) = seats.pop() {
         let own = seat.into_pass();
-        lock.absorb::<Both>(pass, own);
+        lock.absorb::<JoinRoles>(pass, own);
     }
 }
 
@@ -150,8 +152,8 @@ fn collect<R: Wait>(rt: &R, lock: &Lock, seats: Vec<Seat>, consumer: ConsumerSea
 }
 
 impl SharedRing {
-    /// Ends the ring, once all its seats and its consumer are handed in, and tells its whole history. Where a seat is missing, or a
-    /// seat or the consumer is foreign, all of them are handed back.
+    /// Closes the ring, given all its seats and its consumer, and returns it with its whole history. If a seat is missing, or a seat or
+    /// the consumer is foreign, all of them are handed back.
     pub fn close<R: Wait>(
         self,
         rt: &R,

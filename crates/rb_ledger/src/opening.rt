@@ -1,21 +1,21 @@
-//! A shared ring is opened.
+//! A shared ring is opened, with a seat for each worker and one for the consumer.
 
 ghost use Rattle.std.specs.Prelude.{◌≡◌, ◌↔◌, IfOk, IsErrOf};
-ghost use Rattle.rb_history.specs.View.{IsSize, IsStart, IsWorkerCount};
-ghost use Rattle.rb_ledger.specs.Seats.{fresh_book, fresh_seats, fresh_taker};
+ghost use Rattle.rb_history.specs.RingModel.{IsRingSize, IsStartPosition, IsWorkerCount};
+ghost use Rattle.rb_ledger.specs.Seats.{fresh_book, fresh_seats, fresh_consumer};
 
-use crate::consumers::{ConsumerSeat, new_consumer};
+use crate::consumer_seat::{ConsumerSeat, new_consumer};
 use crate::lock::{new_lock, put_first};
-use crate::seats::{Seat, new_seat};
+use crate::locked_calls::facts_of;
 use crate::shared::SharedRing;
-use crate::turns::facts_of;
+use crate::worker_seat::{Seat, new_seat};
 use rb_history::OpenFault;
 use rb_ring::RingState;
 use std::alloc::Global;
 use std::sync::Wait;
 
 /// A shared ring for 1 to 256 workers, with a seat for each, in the order of their numbers, and the consumer's. The tag is the caller's
-/// number for the ring; it stands in all seats. The first of `OpenFault`'s refusals that stands is told; `Memory` is the last.
+/// number for the ring, and all seats have it. Of the `OpenFault`s that apply the first is returned; `Memory` is the last.
 pub fn open<R: Wait>(
     rt: &R,
     alloc: Global,
@@ -26,10 +26,10 @@ pub fn open<R: Wait>(
 ) -> Result<(SharedRing, Vec<Seat>, ConsumerSeat), OpenFault>
     ensures tag { IfOk result (λ o. o.0.tag ≡ tag) }
     ensures seats { IfOk result (λ o. o.1.items ≡ fresh_seats tag o.0.ring (fresh_book size start workers) 0 workers) }
-    ensures consumer { IfOk result (λ o. o.2 ≡ fresh_taker tag o.0.ring (fresh_book size start workers)) }
-    ensures size { IsErrOf result OpenFault.Size ↔ ¬ IsSize size }
-    ensures start { IsErrOf result OpenFault.Start ↔ (IsSize size × ¬ IsStart start) }
-    ensures workers { IsErrOf result OpenFault.Workers ↔ (IsSize size × IsStart start × ¬ IsWorkerCount workers) }
+    ensures consumer { IfOk result (λ o. o.2 ≡ fresh_consumer tag o.0.ring (fresh_book size start workers)) }
+    ensures size { IsErrOf result OpenFault.Size ↔ ¬ IsRingSize size }
+    ensures start { IsErrOf result OpenFault.Start ↔ (IsRingSize size × ¬ IsStartPosition start) }
+    ensures workers { IsErrOf result OpenFault.Workers ↔ (IsRingSize size × IsStartPosition start × ¬ IsWorkerCount workers) }
 {
     let state = RingState::new(alloc, size, start, workers)?;
     facts_of(&state);

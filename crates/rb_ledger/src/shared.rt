@@ -3,17 +3,17 @@
 ghost use Rattle.std.specs.Prelude.{◌≡◌, ◌≢◌, ◌+◌, ◌<◌, ◌^◌, ◌↔◌, ◌⊎◌, IfOk, IfErr, IsOk, IsErr, length};
 ghost use Rattle.rb_history.specs.declared.answers.ReserveFault.TheVariants.{Foreign as FaultForeign};
 ghost use Rattle.rb_history.specs.Calls.{producer_now};
-ghost use Rattle.rb_ledger.specs.Own.Role.{Consumer, Worker};
-ghost use Rattle.rb_ledger.specs.Seats.{IsSameSeat, IsSameTaker};
-ghost use Rattle.rb_ledger.specs.Turns.{Turn, Reserves, SubmitsAt, DiscardsAt, OutputsAt, TakesAt, Asks, Audits, IsRefusedAs, reserved_by, output_by, submitted_by, discarded_by, sent_by_submit, sent_by_output, got_by, events_in, skips_in, span_in, IsTakenAt};
+ghost use Rattle.rb_ledger.specs.Roles.Role.{Consumer, Worker};
+ghost use Rattle.rb_ledger.specs.Seats.{IsSameSeat, IsSameConsumerSeat};
+ghost use Rattle.rb_ledger.specs.LockedCalls.{LockedCall, Reserves, SubmitsAt, DiscardsAt, OutputsAt, TakesAt, Queries, Audits, IsRefusedAs, reserved_by, output_by, submitted_by, discarded_by, sent_by_submit, sent_by_output, got_by, events_in, skips_in, span_in, IsTakenAt};
 
 use crate::audit::Audit;
-use crate::consumers::ConsumerSeat;
+use crate::consumer_seat::ConsumerSeat;
 use crate::lock::Lock;
-use crate::seats::Seat;
-use crate::turns::{
+use crate::locked_calls::{
     audit_with, discard_with, output_with, query_with, reserve_with, submit_with, take_with,
 };
+use crate::worker_seat::Seat;
 use rb_header::span;
 use rb_history::{Notice, Reservation, ReserveFault, Stray, Taken};
 use rb_lend::Sheet;
@@ -26,13 +26,13 @@ use thiserror::Error;
 #[error("the seat is another ring's")]
 pub struct Foreign;
 
-/// A ring that threads share by `&`. Its state lies in a lock, which each call holds for one call of the ring of one thread, and for
-/// nothing else.
+/// A ring that threads share by `&`. Its state is under a lock, which a call holds while it makes one call of the ring of one thread, and
+/// no longer.
 ///
-/// Each call takes the caller's seat. Its contract says: there is a point of the ring's one history that begins with all that the seat
-/// had seen and has no entry of the seat's own behind that; the call of the ring of one thread answers so at that point, for the
-/// seat's worker; and the seat has then seen the history that this call left. A seat that was opened with another tag is `Foreign`.
-/// Rings that share a tag are not told apart: that a seat with the ring's tag was opened with it is each call's condition.
+/// Each call takes the caller's seat. The ring has one history. Up to the moment of the call it begins with all that the seat has seen,
+/// and what was added since is other roles'; there the ring of one thread answers as this call does, for the seat's worker; and the
+/// seat has then seen the history with this call in it. A seat that was opened with another tag is `Foreign`. Rings with the same tag
+/// are not told apart: each call requires that a seat with the ring's tag was opened with this ring.
 ///
 /// Each call may wait for other threads. No proof says that a call returns, that threads get their turns in any order, or how long
 /// one takes.
@@ -66,7 +66,7 @@ impl SharedRing {
         self.tag
     }
 
-    /// Grants the seat's worker a record of `n` bytes, in a sheet of as many, which become zeros. `Foreign` is told first; `Full` is
+    /// Grants the seat's worker a record of `n` bytes, in a sheet of as many, which become zeros. `Foreign` comes first; `Full` is
     /// logged, and raises the refused count; `Memory` changes nothing. A refusal hands the sheet back.
     pub fn reserve<R: Wait>(
         &self,
@@ -80,7 +80,7 @@ impl SharedRing {
         ensures foreign { IsRefusedAs FaultForeign result ↔ (me.old.tag ≢ self.now.tag) }
         ensures unchanged { me.old.tag ≢ self.now.tag → me.new ≡ me.old }
         ensures seat { IsSameSeat me.old me.new }
-        ensures call { me.old.tag ≡ self.now.tag → Turn (Worker me.old.worker) me.old.seen me.new.seen (Reserves me.old.worker n result) }
+        ensures call { me.old.tag ≡ self.now.tag → LockedCall (Worker me.old.worker) me.old.seen me.new.seen (Reserves me.old.worker n result) }
         ensures tally { me.new.tally ≡ reserved_by me.old.tally result }
         ensures serial { IfOk result (λ r. r.serial ≡ me.old.tally.made) }
         ensures sent { me.new.sent ≡ me.old.sent }
@@ -107,7 +107,7 @@ impl SharedRing {
         requires ring { me.old.tag ≡ self.now.tag → me.old.ring ≡ self.now.ring }
         ensures foreign { (me.old.tag ≢ self.now.tag) ⊎ (reservation.worker ≢ me.old.worker) → IsErr result × (me.new ≡ me.old) }
         ensures seat { IsSameSeat me.old me.new }
-        ensures call { me.old.tag ≡ self.now.tag → reservation.worker ≡ me.old.worker → Turn (Worker me.old.worker) me.old.seen me.new.seen (SubmitsAt reservation flags result) }
+        ensures call { me.old.tag ≡ self.now.tag → reservation.worker ≡ me.old.worker → LockedCall (Worker me.old.worker) me.old.seen me.new.seen (SubmitsAt reservation flags result) }
         ensures tally { me.new.tally ≡ submitted_by me.old.tally result }
         ensures sent { me.new.sent ≡ sent_by_submit me.old.sent reservation result }
         ensures handed_back { IfErr result (λ s. s.reservation ≡ reservation) }
@@ -132,7 +132,7 @@ impl SharedRing {
         requires ring { me.old.tag ≡ self.now.tag → me.old.ring ≡ self.now.ring }
         ensures foreign { (me.old.tag ≢ self.now.tag) ⊎ (reservation.worker ≢ me.old.worker) → IsErr result × (me.new ≡ me.old) }
         ensures seat { IsSameSeat me.old me.new }
-        ensures call { me.old.tag ≡ self.now.tag → reservation.worker ≡ me.old.worker → Turn (Worker me.old.worker) me.old.seen me.new.seen (DiscardsAt reservation flags result) }
+        ensures call { me.old.tag ≡ self.now.tag → reservation.worker ≡ me.old.worker → LockedCall (Worker me.old.worker) me.old.seen me.new.seen (DiscardsAt reservation flags result) }
         ensures tally { me.new.tally ≡ discarded_by me.old.tally result }
         ensures sent { me.new.sent ≡ me.old.sent }
         ensures handed_back { IfErr result (λ s. s.reservation ≡ reservation) }
@@ -146,7 +146,7 @@ impl SharedRing {
         answer
     }
 
-    /// Grants the seat's worker a record and submits it at once, with the sheet's bytes. `Foreign` is told first, then `Flags` for flags
+    /// Grants the seat's worker a record and submits it at once, with the sheet's bytes. `Foreign` comes first, then `Flags` for flags
     /// above 3, which logs nothing; else it refuses as `reserve` does. A refusal hands the sheet back.
     pub fn output<R: Wait>(
         &self,
@@ -159,7 +159,7 @@ impl SharedRing {
         ensures foreign { IsRefusedAs FaultForeign result ↔ (me.old.tag ≢ self.now.tag) }
         ensures unchanged { me.old.tag ≢ self.now.tag → me.new ≡ me.old }
         ensures seat { IsSameSeat me.old me.new }
-        ensures call { me.old.tag ≡ self.now.tag → Turn (Worker me.old.worker) me.old.seen me.new.seen (λ old new. OutputsAt me.old.worker sheet flags result old new × (me.new.sent ≡ sent_by_output me.old.sent (producer_now old) sheet result)) }
+        ensures call { me.old.tag ≡ self.now.tag → LockedCall (Worker me.old.worker) me.old.seen me.new.seen (λ old new. OutputsAt me.old.worker sheet flags result old new × (me.new.sent ≡ sent_by_output me.old.sent (producer_now old) sheet result)) }
         ensures tally { me.new.tally ≡ output_by me.old.tally result }
         ensures handed_back { IfErr result (λ e. e.1 ≡ sheet) }
     {
@@ -179,7 +179,7 @@ impl SharedRing {
         ensures foreign { IsErr result ↔ (me.old.tag ≢ self.now.tag) }
         ensures unchanged { me.old.tag ≢ self.now.tag → me.new ≡ me.old }
         ensures seat { IsSameSeat me.old me.new }
-        ensures call { IfOk result (λ n. Turn (Worker me.old.worker) me.old.seen me.new.seen (Asks what n)) }
+        ensures call { IfOk result (λ n. LockedCall (Worker me.old.worker) me.old.seen me.new.seen (Queries what n)) }
         ensures tally { me.new.tally ≡ me.old.tally }
         ensures sent { me.new.sent ≡ me.old.sent }
     {
@@ -197,7 +197,7 @@ impl SharedRing {
         ensures foreign { IsErr result ↔ (me.old.tag ≢ self.now.tag) }
         ensures unchanged { me.old.tag ≢ self.now.tag → me.new ≡ me.old }
         ensures seat { IsSameSeat me.old me.new }
-        ensures call { IfOk result (λ a. Turn (Worker me.old.worker) me.old.seen me.new.seen (Audits me.old.worker a)) }
+        ensures call { IfOk result (λ a. LockedCall (Worker me.old.worker) me.old.seen me.new.seen (Audits me.old.worker a)) }
         ensures own { IfOk result (λ a. a.own ≡ me.old.tally) }
         ensures tally { me.new.tally ≡ me.old.tally }
         ensures sent { me.new.sent ≡ me.old.sent }
@@ -209,14 +209,14 @@ impl SharedRing {
         Ok(audit_with(rt, &self.lock, &mut me.pass, worker))
     }
 
-    /// Takes the record at the consumer position: hands out a submitted one and passes over a discarded one, which raises the seat's
-    /// count and moves its position. A busy one stops it, whatever stands behind.
+    /// Takes the record at the consumer position: returns a submitted one with its bytes, and skips a discarded one; both raise a count of
+    /// the seat and move its position. A busy record stops it, whatever is behind.
     pub fn take<R: Wait>(&self, rt: &R, me: &mut ConsumerSeat) -> Result<Taken, Foreign>
         requires ring { me.old.tag ≡ self.now.tag → me.old.ring ≡ self.now.ring }
         ensures foreign { IsErr result ↔ (me.old.tag ≢ self.now.tag) }
         ensures unchanged { me.old.tag ≢ self.now.tag → me.new ≡ me.old }
-        ensures seat { IsSameTaker me.old me.new }
-        ensures call { IfOk result (λ t. Turn Consumer me.old.seen me.new.seen (TakesAt t)) }
+        ensures seat { IsSameConsumerSeat me.old me.new }
+        ensures call { IfOk result (λ t. LockedCall Consumer me.old.seen me.new.seen (TakesAt t)) }
         ensures place { IfOk result (λ t. IsTakenAt me.old.position t) }
         ensures position { IfOk result (λ t. me.new.position ≡ me.old.position + span_in t) }
         ensures consumed { IfOk result (λ t. me.new.consumed ≡ me.old.consumed + events_in t) }

@@ -1,8 +1,8 @@
 //! A worker's numbers.
 
 ghost use Rattle.std.specs.Prelude.{◌≡◌};
-ghost use Rattle.rb_ledger.specs.Numbers.{IsCountable};
-ghost use Rattle.rb_ledger.specs.Turns.{refused_by, reserved_by, output_by, submitted_by, discarded_by};
+ghost use Rattle.rb_ledger.specs.inner.TallySteps.{IsCountable};
+ghost use Rattle.rb_ledger.specs.LockedCalls.{refused_by, reserved_by, output_by, submitted_by, discarded_by};
 
 use rb_history::{Notice, Reservation, ReserveFault, Stray};
 use rb_lend::Sheet;

@@ -1,11 +1,8 @@
-pub mod Block
 pub mod Lending
-pub mod Memory
+pub mod PartsMemory
 pub mod MemoryLaws
 pub mod Ranges
-pub mod Records
+pub mod RecordSlots
 pub mod Rewritten
-pub mod Sheet
-pub mod Short
-pub mod SomeOf
 pub mod Stack
+pub mod inner

@@ -9,7 +9,7 @@ pub trait Lent {
     /// The bytes of a value.
     ghost bytes_of: { Self → List ℕ };
 
-    /// The value after a loan at whose end these bytes stand.
+    /// The value after a loan that leaves these bytes.
     ghost with_bytes: { Self → List ℕ → Self };
 
     /// Lends the bytes for reading.

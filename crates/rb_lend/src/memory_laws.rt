@@ -5,7 +5,7 @@ ghost use Rattle.rb_lend.specs.MemoryLaws.{RangesAreAlone, WritesRange, LeavesOt
 use crate::context::Context;
 use crate::lent::Lent;
 
-/// Bytes that are written in the place of as many others stand there, and leave what stands before and behind them.
+/// Bytes that are written in the place of as many others show there, and leave what is before and behind them.
 pub fn a_range_is_written_alone()
     ensures { RangesAreAlone }
 {}

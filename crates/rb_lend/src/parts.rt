@@ -6,8 +6,8 @@ ghost use Rattle.std.specs.Borrow.{sem};
 use crate::context::Context;
 use crate::lent::Lent;
 use crate::records::{Records, Slot};
-use crate::spot::Spot;
 use crate::stack::Stack;
+use crate::writable_range::WritableRange;
 use thiserror::Error;
 
 /// Why a range can't be read or written: it does not lie inside the part, the slot is empty, or it is the context, which is
@@ -42,7 +42,7 @@ pub struct Parts<C, R> {
 }
 
 impl<C, R> Parts<C, R> {
-    ghost use Rattle.rb_lend.specs.Records.{in_slot, with_slot, lowest_empty};
+    ghost use Rattle.rb_lend.specs.RecordSlots.{in_slot, with_slot, lowest_empty};
 
     /// A stack of 512 zero bytes, this context, and four empty slots.
     pub fn new(context: C) -> Parts<C, R>
@@ -89,17 +89,18 @@ impl<C, R> Parts<C, R> {
 }
 
 impl<C: Context, R: Lent> Parts<C, R> {
-    ghost use Rattle.rb_lend.specs.Records.{in_slot};
-    ghost use Rattle.rb_lend.specs.Memory.{memory_of, range_of, may_write, record_has};
-    ghost use Rattle.rb_lend.specs.Lending.{LendsRangeOfStack, LendsRangeOfRecord, LendsPart, RestsIfOutside, IsSpotOf};
+    ghost use Rattle.rb_lend.specs.RecordSlots.{in_slot};
+    ghost use Rattle.rb_lend.specs.PartsMemory.{memory_of, part_range, may_write, record_has};
+    ghost use Rattle.rb_lend.specs.inner.Lending.{LendsRangeOfStack, LendsRangeOfRecord};
+    ghost use Rattle.rb_lend.specs.Lending.{LendsPart, RestsIfOutside, IsWritableRangeOf};
 
     /// Lends `len` bytes from place `off` of a part for reading, `Outside` exactly where they do not lie inside it. `off`
     /// counts from the part's first byte. A range of no bytes lies inside at each place from the first byte to one past the
     /// last. No range lies inside an empty slot.
     pub fn read(&self, part: Part, off: usize, len: usize) -> Result<&[u8], Outside>
         ensures value { MatchResult result
-            (λ bytes. range_of off len (memory_of R.bytes_of C.shown self.now part) ≡ Some bytes.now)
-            (λ _. range_of off len (memory_of R.bytes_of C.shown self.now part) ≡ None) }
+            (λ bytes. part_range off len (memory_of R.bytes_of C.shown self.now part) ≡ Some bytes.now)
+            (λ _. part_range off len (memory_of R.bytes_of C.shown self.now part) ≡ None) }
     {
         let bytes = match part {
             Part::Stack => self.stack.bytes(),
@@ -119,8 +120,8 @@ impl<C: Context, R: Lent> Parts<C, R> {
     /// Lends `len` bytes from place `off` of a part for reading, for callers that know that they lie inside it. `off` counts as
     /// in `read`.
     pub fn range(&self, part: Part, off: usize, len: usize) -> &[u8]
-        requires { range_of off len (memory_of R.bytes_of C.shown self.now part) ≢ None }
-        ensures value { range_of off len (memory_of R.bytes_of C.shown self.now part) ≡ Some result.now }
+        requires { part_range off len (memory_of R.bytes_of C.shown self.now part) ≢ None }
+        ensures value { part_range off len (memory_of R.bytes_of C.shown self.now part) ≡ Some result.now }
         ensures length { length result.now ≡ len }
     {
         match part {
@@ -175,7 +176,7 @@ impl<C: Context, R: Lent> Parts<C, R> {
     pub fn range_mut(&mut self, part: Part, off: usize, len: usize) -> &mut [u8]
         requires { may_write R.bytes_of self.old part off len ≡ true }
         ensures* writes_back { sem 𝓛 (LendsPart C.row R.row R.with_bytes R.bytes_of self.entry part off result) }
-        ensures value { range_of off len (memory_of R.bytes_of C.shown self.old part) ≡ Some result.now }
+        ensures value { part_range off len (memory_of R.bytes_of C.shown self.old part) ≡ Some result.now }
         ensures length { length result.now ≡ len }
     {
         match part {
@@ -185,17 +186,22 @@ impl<C: Context, R: Lent> Parts<C, R> {
         }
     }
 
-    /// The `len` bytes from place `off` of a part, to be lent for writing by `Spot::into_bytes`, or `Outside` exactly where they
+    /// The `len` bytes from place `off` of a part, to be lent for writing by `WritableRange::into_bytes`, or `Outside` exactly where they
     /// may not be written; then nothing is changed.
-    pub fn write(&mut self, part: Part, off: usize, len: usize) -> Result<Spot<'_, C, R>, Outside>
+    pub fn write(
+        &mut self,
+        part: Part,
+        off: usize,
+        len: usize,
+    ) -> Result<WritableRange<'_, C, R>, Outside>
         ensures* refused { sem 𝓛 (RestsIfOutside C.row R.row self.entry result) }
         ensures cases { MatchResult result
-            (λ s. IsSpotOf self.old part off len s × (may_write R.bytes_of self.old part off len ≡ true))
+            (λ s. IsWritableRangeOf self.old part off len s × (may_write R.bytes_of self.old part off len ≡ true))
             (λ _. may_write R.bytes_of self.old part off len ≡ false) }
         ensures same_parts { IfOk result (λ s. s.parts.ghost_name ≡ self.entry.ghost_name) }
     {
         if self.can_write(part, off, len) {
-            return Ok(Spot {
+            return Ok(WritableRange {
                 parts: self,
                 part,
                 off,

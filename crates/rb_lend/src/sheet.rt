@@ -1,21 +1,43 @@
 //! The bytes of one record.
 
-ghost use Rattle.std.specs.Prelude.{◌≡◌, ◌<◌, ◌^◌, ℕ, List, IfOk, IfErr, replicate, length, vec_len};
+ghost use Rattle.std.specs.Prelude.{◌≡◌, ◌<◌, ◌^◌, ℕ, List, IfOk, IfErr, replicate, length, vec_len, false};
 
 use crate::lent::Lent;
 use crate::short::{CAPACITY, Short};
 use std::alloc::{AllocError, Global};
 use std::marker::Model;
+use std::mem;
 
 // Where the bytes lie.
 #[derive(Drop)]
 enum Bytes {
     InPlace(Short),
     OnHeap(Vec<u8>),
+    // On the heap, made zero and not lent for writing since.
+    Zeros(Vec<u8>),
+}
+
+impl Bytes {
+    ghost use Rattle.rb_lend.specs.inner.Sheet.{sheet_bytes, is_known_zero};
+
+    #[inline]
+    // The bytes are going to be written, and so are no longer known to be zeros.
+    fn expect_writes(&mut self)
+        ensures same { sheet_bytes self.new ≡ sheet_bytes self.old }
+        ensures unknown { is_known_zero self.new ≡ false }
+    {
+        if let Bytes::Zeros(_) = self {
+            let bytes = mem::replace(self, Bytes::InPlace(Short::zeros(0)));
+            if let Bytes::Zeros(heap) = bytes {
+                *self = Bytes::OnHeap(heap);
+            }
+        }
+    }
 }
 
 /// The bytes of one record: at most 4,294,967,295. Up to 16 lie in the sheet itself, and more on the heap. Contracts see it as the
-/// list of its bytes. Only `new` and `renew` take memory, and only for more than 16 bytes.
+/// list of its bytes. Only `new` and `renew` take memory, and only for more than 16 bytes. A sheet on the heap knows that it is all
+/// zeros until its bytes are first lent for writing, and `clear` leaves it alone until then.
 #[derive(Drop)]
 pub struct Sheet {
     bytes: Bytes,
@@ -24,13 +46,13 @@ pub struct Sheet {
 
 impl Model for Sheet {
     ghost use Rattle.std.specs.Prelude.{ℕ, List, ◌<◌, ◌^◌, length};
-    ghost use Rattle.rb_lend.specs.Sheet.{bytes_in};
+    ghost use Rattle.rb_lend.specs.inner.Sheet.{sheet_bytes, IsSheet};
 
     ghost Value = { List ℕ };
 
-    ghost view = { λ s. bytes_in s.bytes };
+    ghost view = { λ s. sheet_bytes s.bytes };
 
-    ghost invariant = { λ s. length (bytes_in s.bytes) < 2 ^ 32 };
+    ghost invariant = { λ s. IsSheet s.bytes };
 }
 
 impl Sheet {
@@ -43,7 +65,7 @@ impl Sheet {
         let bytes = if n <= CAPACITY {
             Bytes::InPlace(Short::zeros(n))
         } else {
-            Bytes::OnHeap(vec![in alloc; 0; n]?)
+            Bytes::Zeros(vec![in alloc; 0; n]?)
         };
         Ok(Sheet { bytes, alloc })
     }
@@ -66,9 +88,9 @@ impl Sheet {
                     },
                 )),
             },
-            Bytes::OnHeap(heap) => match cleared(heap, n as usize) {
+            Bytes::OnHeap(heap) | Bytes::Zeros(heap) => match cleared(heap, n as usize) {
                 Ok(heap) => Ok(Sheet {
-                    bytes: Bytes::OnHeap(heap),
+                    bytes: Bytes::Zeros(heap),
                     alloc,
                 }),
                 Err((refused, heap)) => Err((
@@ -83,13 +105,26 @@ impl Sheet {
     }
 
     #[inline]
+    /// Makes each byte zero. A sheet on the heap that was not lent for writing since `new`, `renew` or `clear` is left as it is:
+    /// in constant time then, else in time linear in the bytes.
+    pub fn clear(&mut self)
+        ensures zeros { self.new ≡ replicate (length self.old) 0 }
+    {
+        match &mut self.bytes {
+            Bytes::InPlace(short) => short.clear(),
+            Bytes::OnHeap(heap) => heap.as_mut_slice().fill(0),
+            Bytes::Zeros(_) => {}
+        }
+    }
+
+    #[inline]
     /// How many bytes the sheet has.
     pub fn len(&self) -> u32
         ensures { result ≡ length self.now }
     {
         match &self.bytes {
             Bytes::InPlace(short) => short.len() as u32,
-            Bytes::OnHeap(heap) => heap.len() as u32,
+            Bytes::OnHeap(heap) | Bytes::Zeros(heap) => heap.len() as u32,
         }
     }
 }
@@ -125,23 +160,27 @@ impl Lent for Sheet {
     fn bytes(&self) -> &[u8] {
         match &self.bytes {
             Bytes::InPlace(short) => short.bytes(),
-            Bytes::OnHeap(heap) => heap.as_slice(),
+            Bytes::OnHeap(heap) | Bytes::Zeros(heap) => heap.as_slice(),
         }
     }
 
     #[inline]
     fn bytes_mut(&mut self) -> &mut [u8] {
+        self.bytes.expect_writes();
         match &mut self.bytes {
             Bytes::InPlace(short) => return short.bytes_mut(),
             Bytes::OnHeap(heap) => return heap.as_mut_slice(),
+            Bytes::Zeros(_) => unreachable!(),
         }
     }
 
     #[inline]
     fn range_mut(&mut self, at: usize, len: usize) -> &mut [u8] {
+        self.bytes.expect_writes();
         match &mut self.bytes {
             Bytes::InPlace(short) => return short.range_mut(at, len),
             Bytes::OnHeap(heap) => return heap.slice_mut(at..at + len),
+            Bytes::Zeros(_) => unreachable!(),
         }
     }
 

@@ -27,7 +27,7 @@ impl Model for Short {
 }
 
 impl Short {
-    ghost use Rattle.rb_lend.specs.Short.{LendsShort, LendsShortRange};
+    ghost use Rattle.rb_lend.specs.inner.Short.{LendsShort, LendsShortRange};
 
     #[inline]
     /// So many zero bytes.
@@ -41,6 +41,14 @@ impl Short {
             },
             len,
         }
+    }
+
+    #[inline]
+    /// Makes each byte zero. In constant time.
+    pub fn clear(&mut self)
+        ensures { self.new ≡ replicate (length self.old) 0 }
+    {
+        self.block.bytes = [0; CAPACITY];
     }
 
     #[inline]

@@ -2,7 +2,7 @@
 use Rattle.std.proofs.Common.{◌≡◌, ℕ, ◌+◌, ◌<◌, Bool, true, false, cond, refl, sym, subst, List, [], ◌∷◌, ◌++◌, filter, map, arith}
 use Rattle.std.specs.List.{AllByRecursion}
 use Rattle.std.specs.Prelude.{◌==◌, if◌then◌else◌}
-use Rattle.rb_refs.specs.declared.held.Reference.{Reference}
+use Rattle.rb_refs.specs.declared.references.Reference.{Reference}
 use Rattle.rb_refs.specs.References.{IsAscending, AreEarlier, tested_in}
 
 -- a test keeps the id

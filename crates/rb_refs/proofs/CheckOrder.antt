@@ -2,18 +2,18 @@
 use Rattle.std.proofs.Common.{◌≡◌, ℕ, ℤ, refl, List, Result, Ok, Err, Option, Some, None}
 use Rattle.rb_insn.specs.declared.insn.Insn.{Insn}
 use Rattle.rb_refs.specs.declared.arithmetic.Direction.{Direction}
-use Rattle.rb_refs.specs.declared.environment.Environment.{Environment}
-use Rattle.rb_refs.specs.declared.held.Reference.{Reference}
+use Rattle.rb_refs.specs.declared.limits.Limits.{Limits}
+use Rattle.rb_refs.specs.declared.references.Reference.{Reference}
 use Rattle.rb_refs.specs.declared.rule.Rule.{Rule}
 use Rattle.rb_refs.specs.declared.rule.Rule.TheVariants as rule
 use Rattle.rb_refs.specs.declared.value.Abs.{Abs}
 use Rattle.rb_refs.specs.declared.value.Abs.TheVariants.{Unreadable, Number, Known, Ctx, Stack, Ring, Perhaps, Record}
-use Rattle.rb_refs.specs.declared.changes.Change.{Change}
-use Rattle.rb_refs.specs.declared.changes.Change.TheVariants.{IsNull, IsThere, GivenBack}
-use Rattle.rb_refs.specs.Values.{IsNumber, BelowValue}
-use Rattle.rb_refs.specs.Changes.{changed}
-use Rattle.rb_refs.specs.Checks.{◌>>=◌, Check, readable, number, tested, not_context, inside, ring_of, in_part, known_size, record_size, record_start}
-use Rattle.rb_refs.specs.Arithmetic.{computed, on_numbers, combined}
+use Rattle.rb_refs.specs.declared.reference_changes.Change.{Change}
+use Rattle.rb_refs.specs.declared.reference_changes.Change.TheVariants.{IsNull, IsThere, GivenBack}
+use Rattle.rb_refs.specs.AbstractValues.{IsNumber, BelowValue}
+use Rattle.rb_refs.specs.ReferenceChanges.{after_change}
+use Rattle.rb_refs.specs.ValueChecks.{◌>>=◌, Check, check_readable, check_number, check_tested, check_not_context, check_inside, check_ring, check_part_pointer, check_known_size, check_record_size, check_record_start}
+use Rattle.rb_refs.specs.AbstractArithmetic.{abstract_result, check_numbers, check_arithmetic}
 use Rattle.rb_refs.specs.StepOrder.{ResultBelow}
 use Rattle.rb_refs.proofs.Order.{below_value_refl, below_cases, number_cases}
 
@@ -37,52 +37,52 @@ check_refl = result_refl (λ _ _. Unit {0}) (λ _. tt)
 
 -- checks of one value
 
-pub readable_below : (v w : Abs) → BelowValue v w → CheckBelow (readable v) (readable w)
+pub readable_below : (v w : Abs) → BelowValue v w → CheckBelow (check_readable v) (check_readable w)
 readable_below =
-    below_cases (λ v w. CheckBelow (readable v) (readable w)) (λ v. tt)
-    (number_cases (λ v. CheckBelow (readable v) (readable Number)) tt (λ n. tt)) (λ v. check_refl (readable v))
+    below_cases (λ v w. CheckBelow (check_readable v) (check_readable w)) (λ v. tt)
+    (number_cases (λ v. CheckBelow (check_readable v) (check_readable Number)) tt (λ n. tt)) (λ v. check_refl (check_readable v))
 
-pub number_below : (r : Rule) (v w : Abs) → BelowValue v w → CheckBelow (number r v) (number r w)
+pub number_below : (r : Rule) (v w : Abs) → BelowValue v w → CheckBelow (check_number r v) (check_number r w)
 number_below r =
-    below_cases (λ v w. CheckBelow (number r v) (number r w)) (λ v. tt)
-    (number_cases (λ v. CheckBelow (number r v) (number r Number)) tt (λ n. tt)) (λ v. check_refl (number r v))
+    below_cases (λ v w. CheckBelow (check_number r v) (check_number r w)) (λ v. tt)
+    (number_cases (λ v. CheckBelow (check_number r v) (check_number r Number)) tt (λ n. tt)) (λ v. check_refl (check_number r v))
 
-pub tested_below : (v w : Abs) → BelowValue v w → CheckBelow (tested v) (tested w)
+pub tested_below : (v w : Abs) → BelowValue v w → CheckBelow (check_tested v) (check_tested w)
 tested_below =
-    below_cases (λ v w. CheckBelow (tested v) (tested w)) (λ v. tt)
-    (number_cases (λ v. CheckBelow (tested v) (tested Number)) tt (λ n. tt)) (λ v. check_refl (tested v))
+    below_cases (λ v w. CheckBelow (check_tested v) (check_tested w)) (λ v. tt)
+    (number_cases (λ v. CheckBelow (check_tested v) (check_tested Number)) tt (λ n. tt)) (λ v. check_refl (check_tested v))
 
-pub not_context_below : (v w : Abs) → BelowValue v w → CheckBelow (not_context v) (not_context w)
+pub not_context_below : (v w : Abs) → BelowValue v w → CheckBelow (check_not_context v) (check_not_context w)
 not_context_below =
-    below_cases (λ v w. CheckBelow (not_context v) (not_context w)) (λ v. tt)
-    (number_cases (λ v. CheckBelow (not_context v) (not_context Number)) tt (λ n. tt)) (λ v. check_refl (not_context v))
+    below_cases (λ v w. CheckBelow (check_not_context v) (check_not_context w)) (λ v. tt)
+    (number_cases (λ v. CheckBelow (check_not_context v) (check_not_context Number)) tt (λ n. tt)) (λ v. check_refl (check_not_context v))
 
-pub in_part_below : (v w : Abs) → BelowValue v w → CheckBelow (in_part v) (in_part w)
-in_part_below = below_cases (λ v w. CheckBelow (in_part v) (in_part w)) (λ v. tt) (λ v h. tt) (λ v. check_refl (in_part v))
+pub in_part_below : (v w : Abs) → BelowValue v w → CheckBelow (check_part_pointer v) (check_part_pointer w)
+in_part_below = below_cases (λ v w. CheckBelow (check_part_pointer v) (check_part_pointer w)) (λ v. tt) (λ v h. tt) (λ v. check_refl (check_part_pointer v))
 
-pub inside_below : (env : Environment) (held : List Reference) (by : ℤ) (len : ℕ) (v w : Abs) → BelowValue v w → CheckBelow (inside env held v by len) (inside env held w by len)
-inside_below env held by len =
-    below_cases (λ v w. CheckBelow (inside env held v by len) (inside env held w by len)) (λ v. tt) (λ v h. tt)
-    (λ v. check_refl (inside env held v by len))
+pub inside_below : (limits : Limits) (held : List Reference) (by : ℤ) (len : ℕ) (v w : Abs) → BelowValue v w → CheckBelow (check_inside limits held v by len) (check_inside limits held w by len)
+inside_below limits held by len =
+    below_cases (λ v w. CheckBelow (check_inside limits held v by len) (check_inside limits held w by len)) (λ v. tt) (λ v h. tt)
+    (λ v. check_refl (check_inside limits held v by len))
 
 abbrev pub Same : Result ℕ Rule → Result ℕ Rule → Type 0
 Same = ResultBelow ◌≡◌
 
-pub ring_of_below : (v w : Abs) → BelowValue v w → Same (ring_of v) (ring_of w)
-ring_of_below = below_cases (λ v w. Same (ring_of v) (ring_of w)) (λ v. tt) (λ v h. tt) (λ v. result_refl ◌≡◌ (λ x. refl) (ring_of v))
+pub ring_of_below : (v w : Abs) → BelowValue v w → Same (check_ring v) (check_ring w)
+ring_of_below = below_cases (λ v w. Same (check_ring v) (check_ring w)) (λ v. tt) (λ v h. tt) (λ v. result_refl ◌≡◌ (λ x. refl) (check_ring v))
 
-pub known_size_below : (v w : Abs) → BelowValue v w → Same (known_size v) (known_size w)
-known_size_below = below_cases (λ v w. Same (known_size v) (known_size w)) (λ v. tt) (λ v h. tt) (λ v. result_refl ◌≡◌ (λ x. refl) (known_size v))
+pub known_size_below : (v w : Abs) → BelowValue v w → Same (check_known_size v) (check_known_size w)
+known_size_below = below_cases (λ v w. Same (check_known_size v) (check_known_size w)) (λ v. tt) (λ v h. tt) (λ v. result_refl ◌≡◌ (λ x. refl) (check_known_size v))
 
-pub record_size_below : (v w : Abs) → BelowValue v w → Same (record_size v) (record_size w)
-record_size_below = below_cases (λ v w. Same (record_size v) (record_size w)) (λ v. tt) (λ v h. tt) (λ v. result_refl ◌≡◌ (λ x. refl) (record_size v))
+pub record_size_below : (v w : Abs) → BelowValue v w → Same (check_record_size v) (check_record_size w)
+record_size_below = below_cases (λ v w. Same (check_record_size v) (check_record_size w)) (λ v. tt) (λ v h. tt) (λ v. result_refl ◌≡◌ (λ x. refl) (check_record_size v))
 
-pub record_start_below : (v w : Abs) → BelowValue v w → Same (record_start v) (record_start w)
-record_start_below = below_cases (λ v w. Same (record_start v) (record_start w)) (λ v. tt) (λ v h. tt) (λ v. result_refl ◌≡◌ (λ x. refl) (record_start v))
+pub record_start_below : (v w : Abs) → BelowValue v w → Same (check_record_start v) (check_record_start w)
+record_start_below = below_cases (λ v w. Same (check_record_start v) (check_record_start w)) (λ v. tt) (λ v h. tt) (λ v. result_refl ◌≡◌ (λ x. refl) (check_record_start v))
 
 -- arithmetic
 
-computed_number : (insn : Insn) (v w : Abs) → IsNumber (computed insn v w)
+computed_number : (insn : Insn) (v w : Abs) → IsNumber (abstract_result insn v w)
 computed_number insn Unreadable w = tt
 computed_number insn Number w = tt
 computed_number insn (Ctx o) w = tt
@@ -99,7 +99,7 @@ computed_number insn (Known m) (Ring n) = tt
 computed_number insn (Known m) (Perhaps n) = tt
 computed_number insn (Known m) (Record n o) = tt
 
-computed_right : (insn : Insn) (v w w' : Abs) → BelowValue w w' → BelowValue (computed insn v w) (computed insn v w')
+computed_right : (insn : Insn) (v w w' : Abs) → BelowValue w w' → BelowValue (abstract_result insn v w) (abstract_result insn v w')
 computed_right insn Unreadable w w' h = tt
 computed_right insn Number w w' h = tt
 computed_right insn (Ctx o) w w' h = tt
@@ -108,31 +108,31 @@ computed_right insn (Ring n) w w' h = tt
 computed_right insn (Perhaps n) w w' h = tt
 computed_right insn (Record n o) w w' h = tt
 computed_right insn (Known m) w w' h =
-    below_cases (λ w w'. BelowValue (computed insn (Known m) w) (computed insn (Known m) w')) (λ w. computed_number insn (Known m) w)
-    (λ w n. computed_number insn (Known m) w) (λ w. below_value_refl (computed insn (Known m) w)) w w' h
+    below_cases (λ w w'. BelowValue (abstract_result insn (Known m) w) (abstract_result insn (Known m) w')) (λ w. computed_number insn (Known m) w)
+    (λ w n. computed_number insn (Known m) w) (λ w. below_value_refl (abstract_result insn (Known m) w)) w w' h
 
-pub computed_below : (insn : Insn) (v v' w w' : Abs) → BelowValue v v' → BelowValue w w' → BelowValue (computed insn v w) (computed insn v' w')
+pub computed_below : (insn : Insn) (v v' w w' : Abs) → BelowValue v v' → BelowValue w w' → BelowValue (abstract_result insn v w) (abstract_result insn v' w')
 computed_below insn v v' w w' g h =
-    below_cases (λ v v'. BelowValue (computed insn v w) (computed insn v' w')) (λ v. computed_number insn v w)
+    below_cases (λ v v'. BelowValue (abstract_result insn v w) (abstract_result insn v' w')) (λ v. computed_number insn v w)
     (λ v n. computed_number insn v w) (λ v. computed_right insn v w w' h) v v' g
 
 abbrev ValueBelow : Result Abs Rule → Result Abs Rule → Type 0
 ValueBelow = ResultBelow BelowValue
 
-on_numbers_below : (insn : Insn) (v v' w w' : Abs) → BelowValue v v' → BelowValue w w' → ValueBelow (on_numbers insn v w) (on_numbers insn v' w')
+on_numbers_below : (insn : Insn) (v v' w w' : Abs) → BelowValue v v' → BelowValue w w' → ValueBelow (check_numbers insn v w) (check_numbers insn v' w')
 on_numbers_below insn v v' w w' g h =
-    result_bind (λ _ _. Unit {0}) BelowValue (number rule.PointerArithmetic v) (number rule.PointerArithmetic v') _ _ (number_below rule.PointerArithmetic v v' g) (λ _ _ _.
-    result_bind (λ _ _. Unit {0}) BelowValue (number rule.PointerArithmetic w) (number rule.PointerArithmetic w') _ _ (number_below rule.PointerArithmetic w w' h) (λ _ _ _.
+    result_bind (λ _ _. Unit {0}) BelowValue (check_number rule.PointerArithmetic v) (check_number rule.PointerArithmetic v') _ _ (number_below rule.PointerArithmetic v v' g) (λ _ _ _.
+    result_bind (λ _ _. Unit {0}) BelowValue (check_number rule.PointerArithmetic w) (check_number rule.PointerArithmetic w') _ _ (number_below rule.PointerArithmetic w w' h) (λ _ _ _.
     computed_below insn v v' w w' g h))
 
 module _ (direction : Direction) (insn : Insn) where
   abbrev Sum : Abs → Abs → Result Abs Rule
-  Sum = combined (Some direction) insn
+  Sum = check_arithmetic (Some direction) insn
 
   -- a pointer into a part, moved by what is known of an operand
-  moved_pointer : (v : Abs) → (top : (w : Abs) → ValueBelow (Sum v w) (Sum v Unreadable)) → (number : (w : Abs) → ValueBelow (Sum v w) (Sum v Number)) → (w w' : Abs) → BelowValue w w' → ValueBelow (Sum v w) (Sum v w')
-  moved_pointer v top number =
-      below_cases (λ w w'. ValueBelow (Sum v w) (Sum v w')) top (λ w n. number w) (λ w. result_refl BelowValue below_value_refl (Sum v w))
+  moved_pointer : (v : Abs) → (top : (w : Abs) → ValueBelow (Sum v w) (Sum v Unreadable)) → (check_number : (w : Abs) → ValueBelow (Sum v w) (Sum v Number)) → (w w' : Abs) → BelowValue w w' → ValueBelow (Sum v w) (Sum v w')
+  moved_pointer v top check_number =
+      below_cases (λ w w'. ValueBelow (Sum v w) (Sum v w')) top (λ w n. check_number w) (λ w. result_refl BelowValue below_value_refl (Sum v w))
 
   combined_same : (v w w' : Abs) → BelowValue w w' → ValueBelow (Sum v w) (Sum v w')
   combined_same Unreadable w w' h = on_numbers_below insn Unreadable Unreadable w w' tt h
@@ -152,19 +152,19 @@ module _ (direction : Direction) (insn : Insn) where
   combined_moving v v' w w' g h =
       below_cases (λ v v'. ValueBelow (Sum v w) (Sum v' w')) (λ v. tt) (combined_number w w' h) (λ v. combined_same v w w' h) v v' g
 
-pub combined_below : (direction : Option Direction) (insn : Insn) (v v' w w' : Abs) → BelowValue v v' → BelowValue w w' → ResultBelow BelowValue (combined direction insn v w) (combined direction insn v' w')
+pub combined_below : (direction : Option Direction) (insn : Insn) (v v' w w' : Abs) → BelowValue v v' → BelowValue w w' → ResultBelow BelowValue (check_arithmetic direction insn v w) (check_arithmetic direction insn v' w')
 combined_below None insn v v' w w' g h = on_numbers_below insn v v' w w' g h
 combined_below (Some direction) insn v v' w w' g h = combined_moving direction insn v v' w w' g h
 
 -- changes of values
 
-pub changed_below : (change : Change) (v w : Abs) → BelowValue v w → BelowValue (changed change v) (changed change w)
+pub changed_below : (change : Change) (v w : Abs) → BelowValue v w → BelowValue (after_change change v) (after_change change w)
 changed_below (IsNull id) =
-    below_cases (λ v w. BelowValue (changed (IsNull id) v) (changed (IsNull id) w)) (λ v. tt)
-    (number_cases (λ v. BelowValue (changed (IsNull id) v) Number) tt (λ n. tt)) (λ v. below_value_refl (changed (IsNull id) v))
+    below_cases (λ v w. BelowValue (after_change (IsNull id) v) (after_change (IsNull id) w)) (λ v. tt)
+    (number_cases (λ v. BelowValue (after_change (IsNull id) v) Number) tt (λ n. tt)) (λ v. below_value_refl (after_change (IsNull id) v))
 changed_below (IsThere id) =
-    below_cases (λ v w. BelowValue (changed (IsThere id) v) (changed (IsThere id) w)) (λ v. tt)
-    (number_cases (λ v. BelowValue (changed (IsThere id) v) Number) tt (λ n. tt)) (λ v. below_value_refl (changed (IsThere id) v))
+    below_cases (λ v w. BelowValue (after_change (IsThere id) v) (after_change (IsThere id) w)) (λ v. tt)
+    (number_cases (λ v. BelowValue (after_change (IsThere id) v) Number) tt (λ n. tt)) (λ v. below_value_refl (after_change (IsThere id) v))
 changed_below (GivenBack id) =
-    below_cases (λ v w. BelowValue (changed (GivenBack id) v) (changed (GivenBack id) w)) (λ v. tt)
-    (number_cases (λ v. BelowValue (changed (GivenBack id) v) Number) tt (λ n. tt)) (λ v. below_value_refl (changed (GivenBack id) v))
+    below_cases (λ v w. BelowValue (after_change (GivenBack id) v) (after_change (GivenBack id) w)) (λ v. tt)
+    (number_cases (λ v. BelowValue (after_change (GivenBack id) v) Number) tt (λ n. tt)) (λ v. below_value_refl (after_change (GivenBack id) v))

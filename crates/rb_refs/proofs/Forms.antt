@@ -12,26 +12,26 @@ use Rattle.rb_insn.specs.declared.reg.Reg.{Reg}
 use Rattle.rb_refs.specs.declared.arithmetic.Direction.{Direction}
 use Rattle.rb_refs.specs.declared.branches.NullTest.{NullTest}
 use Rattle.rb_refs.specs.declared.branches.NullTest.TheVariants.{JumpsIfNull, JumpsIfThere}
-use Rattle.rb_refs.specs.declared.environment.Environment.{Environment}
+use Rattle.rb_refs.specs.declared.limits.Limits.{Limits}
 use Rattle.rb_refs.specs.declared.helper.Helper.{Helper}
 use Rattle.rb_refs.specs.declared.helper.Helper.TheVariants.{Output, Reserve, Submit, Discard, Query}
-use Rattle.rb_refs.specs.declared.held.Reference.{Reference}
+use Rattle.rb_refs.specs.declared.references.Reference.{Reference}
 use Rattle.rb_refs.specs.declared.rule.Rule.{Rule}
 use Rattle.rb_refs.specs.declared.rule.Rule.TheVariants as rule
 use Rattle.rb_refs.specs.declared.state.AbsState.{AbsState}
 use Rattle.rb_refs.specs.declared.state.Effect.{Effect}
 use Rattle.rb_refs.specs.declared.value.Abs.{Abs}
 use Rattle.rb_refs.specs.declared.value.Abs.TheVariants.{Unreadable, Number, Known, Ctx, Stack, Ring, Perhaps, Record}
-use Rattle.rb_refs.specs.Arithmetic.{operand_value, direction_of, combined}
-use Rattle.rb_refs.specs.Branches.{null_test_of, branch}
-use Rattle.rb_refs.specs.Changes.{given_back_state, null_state, there_state}
-use Rattle.rb_refs.specs.Checks.{◌>>=◌, refused_if, writable, readable, number, tested, not_context, inside, ring_of, in_part, known_size, record_size, record_start}
+use Rattle.rb_refs.specs.AbstractArithmetic.{operand_value, direction_of, check_arithmetic}
+use Rattle.rb_refs.specs.Branches.{null_test_of, check_branch}
+use Rattle.rb_refs.specs.ReferenceChanges.{given_back_state, null_state, there_state}
+use Rattle.rb_refs.specs.ValueChecks.{◌>>=◌, refused_if, check_writable, check_readable, check_number, check_tested, check_not_context, check_inside, check_ring, check_part_pointer, check_known_size, check_record_size, check_record_start}
 use Rattle.rb_refs.specs.Forms.{IsFormed, StepKeepsForm}
-use Rattle.rb_refs.specs.Helpers.{helper_of, call, reserved, answered}
+use Rattle.rb_refs.specs.HelperChecks.{helper_of, check_call, after_reserve, after_answer}
 use Rattle.rb_refs.specs.References.{IsAscending, AreEarlier, is_empty, is_full, other_than, tested_in}
-use Rattle.rb_refs.specs.States.{Below, value_in, put, both, entry_state}
-use Rattle.rb_refs.specs.Step.{step_of, assigned, given, copied, converted, altered, operated, ring_given, loaded, stored, ended}
-use Rattle.rb_refs.specs.Parts.{byte_count, signed_byte_count}
+use Rattle.rb_refs.specs.AbstractStates.{Below, value_in, put, effect_on_both, entry_state}
+use Rattle.rb_refs.specs.VerifierChecks.{abstract_step, assignment_effect, check_assign, check_copy, check_convert, check_unary, check_binary, check_ring_load, check_load, check_store, check_exit}
+use Rattle.rb_insn.specs.Sizes.{byte_count, signed_byte_count}
 use Rattle.rb_refs.proofs.Ascending.{ids_weaker, ids_tested, ids_filtered, ids_added, ascending_tested, ascending_filtered, ascending_added}
 
 -- at entry no reference is held
@@ -64,7 +64,7 @@ length-filter_le p (r ∷ rs) =
 form_put : {unit : ℕ} (s : AbsState) (r : ℕ) (v : Abs) → IsFormed unit s → IsFormed unit (put s r v)
 form_put s r v h = record { count = length-set s.values r v ∙ h.count; few = h.few; ascending = h.ascending; earlier = h.earlier }
 
-form_answered : {unit : ℕ} (v : Abs) (s : AbsState) → IsFormed unit s → IsFormed unit (answered v s)
+form_answered : {unit : ℕ} (v : Abs) (s : AbsState) → IsFormed unit s → IsFormed unit (after_answer v s)
 form_answered v s h = form_put _ 5 Unreadable (form_put _ 4 Unreadable (form_put _ 3 Unreadable (form_put _ 2 Unreadable (form_put _ 1 Unreadable (form_put s 0 v h)))))
 
 -- each value is changed, and a reference goes
@@ -86,7 +86,7 @@ form_tested {unit} f id s h = record {
 }
 
 -- a reference to a record that was reserved at the unit
-form_reserved : (unit ring size : ℕ) (s : AbsState) → is_full s.held ≡ false → IsFormed unit s → IsFormed (unit + 1) (reserved unit ring size s)
+form_reserved : (unit ring size : ℕ) (s : AbsState) → is_full s.held ≡ false → IsFormed unit s → IsFormed (unit + 1) (after_reserve unit ring size s)
 form_reserved unit ring size s room h =
     form_answered (Perhaps unit) _ (record {
       count = h.count;
@@ -119,7 +119,7 @@ BothFormed unit e = IsFormed unit e.next × IsFormed unit e.jump
 abbrev GivesFormed : ℕ → Result Effect Rule → Type 0
 GivesFormed unit = Gives (BothFormed unit)
 
-module _ (env : Environment) (unit : ℕ) (s : AbsState) (h : IsFormed unit s) where
+module _ (limits : Limits) (unit : ℕ) (s : AbsState) (h : IsFormed unit s) where
   abbrev Next : Result Effect Rule → Type 0
   Next = GivesFormed (unit + 1)
 
@@ -129,38 +129,38 @@ module _ (env : Environment) (unit : ℕ) (s : AbsState) (h : IsFormed unit s) w
   kept : IsFormed (unit + 1) s
   kept = form_later (unit + 1) (omega arith) h
 
-  both_kept : BothFormed (unit + 1) (both s)
+  both_kept : BothFormed (unit + 1) (effect_on_both s)
   both_kept = (kept, kept)
 
-  both_put : (dst : Reg) (v : Abs) → BothFormed (unit + 1) (assigned dst v s)
+  both_put : (dst : Reg) (v : Abs) → BothFormed (unit + 1) (assignment_effect dst v s)
   both_put dst v = let k : IsFormed (unit + 1) (put s dst.number v) = form_put s dst.number v kept in (k, k)
 
-  both_answered : (v : Abs) → BothFormed (unit + 1) (both (answered v s))
-  both_answered v = let k : IsFormed (unit + 1) (answered v s) = form_answered v s kept in (k, k)
+  both_answered : (v : Abs) → BothFormed (unit + 1) (effect_on_both (after_answer v s))
+  both_answered v = let k : IsFormed (unit + 1) (after_answer v s) = form_answered v s kept in (k, k)
 
-  both_given_back : (id : ℕ) → BothFormed (unit + 1) (both (answered Unreadable (given_back_state id s)))
-  both_given_back id = let k : IsFormed (unit + 1) (answered Unreadable (given_back_state id s)) = form_answered Unreadable (given_back_state id s) (form_without _ id s kept) in (k, k)
+  both_given_back : (id : ℕ) → BothFormed (unit + 1) (effect_on_both (after_answer Unreadable (given_back_state id s)))
+  both_given_back id = let k : IsFormed (unit + 1) (after_answer Unreadable (given_back_state id s)) = form_answered Unreadable (given_back_state id s) (form_without _ id s kept) in (k, k)
 
   -- what is known of an argument
   abbrev arg : ℕ → Abs
   arg r = value_in s r
 
-  call_formed : (helper : Option Helper) → Next (call env unit helper s)
+  call_formed : (helper : Option Helper) → Next (check_call limits unit helper s)
   call_formed None = tt
   call_formed (Some Output) =
-      go (ring_of (arg 1)) _ (λ _. go (tested (arg 2)) _ (λ _. go (in_part (arg 2)) _ (λ _. go (known_size (arg 3)) _ (λ size.
-      go (inside env s.held (arg 2) (pos 0) size) _ (λ _. go (number rule.HelperArgument (arg 4)) _ (λ _. both_answered Number))))))
+      go (check_ring (arg 1)) _ (λ _. go (check_tested (arg 2)) _ (λ _. go (check_part_pointer (arg 2)) _ (λ _. go (check_known_size (arg 3)) _ (λ size.
+      go (check_inside limits s.held (arg 2) (pos 0) size) _ (λ _. go (check_number rule.HelperArgument (arg 4)) _ (λ _. both_answered Number))))))
   call_formed (Some Reserve) =
-      go (ring_of (arg 1)) _ (λ ring. go (record_size (arg 2)) _ (λ size. go (number rule.HelperArgument (arg 3)) _ (λ _.
+      go (check_ring (arg 1)) _ (λ ring. go (check_record_size (arg 2)) _ (λ size. go (check_number rule.HelperArgument (arg 3)) _ (λ _.
       past_test (BothFormed (unit + 1)) (is_full s.held) rule.TooManyReferences _ (λ room.
-      let k : IsFormed (unit + 1) (reserved unit ring size s) = form_reserved unit ring size s room h in (k, k)))))
-  call_formed (Some Submit) = go (record_start (arg 1)) _ (λ id. go (number rule.HelperArgument (arg 2)) _ (λ _. both_given_back id))
-  call_formed (Some Discard) = go (record_start (arg 1)) _ (λ id. go (number rule.HelperArgument (arg 2)) _ (λ _. both_given_back id))
-  call_formed (Some Query) = go (ring_of (arg 1)) _ (λ _. go (number rule.HelperArgument (arg 2)) _ (λ _. both_answered Number))
+      let k : IsFormed (unit + 1) (after_reserve unit ring size s) = form_reserved unit ring size s room h in (k, k)))))
+  call_formed (Some Submit) = go (check_record_start (arg 1)) _ (λ id. go (check_number rule.HelperArgument (arg 2)) _ (λ _. both_given_back id))
+  call_formed (Some Discard) = go (check_record_start (arg 1)) _ (λ id. go (check_number rule.HelperArgument (arg 2)) _ (λ _. both_given_back id))
+  call_formed (Some Query) = go (check_ring (arg 1)) _ (λ _. go (check_number rule.HelperArgument (arg 2)) _ (λ _. both_answered Number))
 
-  compared_formed : (v w : Abs) → Next (branch None v w s)
+  compared_formed : (v w : Abs) → Next (check_branch None v w s)
   compared_formed v w =
-      go (readable v) _ (λ _. go (readable w) _ (λ _. go (number rule.PointerCompared v) _ (λ _. go (number rule.PointerCompared w) _ (λ _. both_kept))))
+      go (check_readable v) _ (λ _. go (check_readable w) _ (λ _. go (check_number rule.PointerCompared v) _ (λ _. go (check_number rule.PointerCompared w) _ (λ _. both_kept))))
 
   null_formed : (id : ℕ) → IsFormed (unit + 1) (null_state id s)
   null_formed id = form_without _ id s kept
@@ -168,7 +168,7 @@ module _ (env : Environment) (unit : ℕ) (s : AbsState) (h : IsFormed unit s) w
   there_formed : (id : ℕ) → IsFormed (unit + 1) (there_state id s)
   there_formed id = form_tested _ id s kept
 
-  branch_formed : (test : Option NullTest) (v w : Abs) → Next (branch test v w s)
+  branch_formed : (test : Option NullTest) (v w : Abs) → Next (check_branch test v w s)
   branch_formed None v w = compared_formed v w
   branch_formed (Some JumpsIfNull) (Perhaps id) w = (there_formed id, null_formed id)
   branch_formed (Some JumpsIfNull) Unreadable w = tt
@@ -187,40 +187,40 @@ module _ (env : Environment) (unit : ℕ) (s : AbsState) (h : IsFormed unit s) w
   branch_formed (Some JumpsIfThere) (Ring n) w = compared_formed (Ring n) w
   branch_formed (Some JumpsIfThere) (Record n o) w = compared_formed (Record n o) w
 
-  given_formed : (dst : Reg) (v : Abs) → Next (given dst v s)
-  given_formed dst v = go (writable dst) _ (λ _. both_put dst v)
+  given_formed : (dst : Reg) (v : Abs) → Next (check_assign dst v s)
+  given_formed dst v = go (check_writable dst) _ (λ _. both_put dst v)
 
-  copied_formed : (dst src : Reg) → Next (copied dst src s)
-  copied_formed dst src = go (writable dst) _ (λ _. go (readable (arg src.number)) _ (λ _. both_put dst _))
+  copied_formed : (dst src : Reg) → Next (check_copy dst src s)
+  copied_formed dst src = go (check_writable dst) _ (λ _. go (check_readable (arg src.number)) _ (λ _. both_put dst _))
 
-  converted_formed : (insn : Insn) (dst src : Reg) → Next (converted insn dst src s)
-  converted_formed insn dst src = go (writable dst) _ (λ _. go (number rule.PointerArithmetic (arg src.number)) _ (λ _. both_put dst _))
+  converted_formed : (insn : Insn) (dst src : Reg) → Next (check_convert insn dst src s)
+  converted_formed insn dst src = go (check_writable dst) _ (λ _. go (check_number rule.PointerArithmetic (arg src.number)) _ (λ _. both_put dst _))
 
-  altered_formed : (insn : Insn) (dst : Reg) → Next (altered insn dst s)
-  altered_formed insn dst = go (writable dst) _ (λ _. go (number rule.PointerArithmetic (arg dst.number)) _ (λ _. both_put dst _))
+  altered_formed : (insn : Insn) (dst : Reg) → Next (check_unary insn dst s)
+  altered_formed insn dst = go (check_writable dst) _ (λ _. go (check_number rule.PointerArithmetic (arg dst.number)) _ (λ _. both_put dst _))
 
-  operated_formed : (direction : Option Direction) (insn : Insn) (dst : Reg) (operand : Operand) → Next (operated direction insn dst operand s)
+  operated_formed : (direction : Option Direction) (insn : Insn) (dst : Reg) (operand : Operand) → Next (check_binary direction insn dst operand s)
   operated_formed direction insn dst operand =
-      go (writable dst) _ (λ _. go (readable (arg dst.number)) _ (λ _. go (readable (operand_value operand s)) _ (λ _.
-      go (combined direction insn (arg dst.number) (operand_value operand s)) _ (λ v. both_put dst v))))
+      go (check_writable dst) _ (λ _. go (check_readable (arg dst.number)) _ (λ _. go (check_readable (operand_value operand s)) _ (λ _.
+      go (check_arithmetic direction insn (arg dst.number) (operand_value operand s)) _ (λ v. both_put dst v))))
 
-  ring_formed : (dst : Reg) (ring : ℕ) → Next (ring_given env dst ring s)
-  ring_formed dst ring = go (writable dst) _ (λ _. go (refused_if (nat_le env.rings ring) rule.HelperArgument) _ (λ _. both_put dst (Ring ring)))
+  ring_formed : (dst : Reg) (ring : ℕ) → Next (check_ring_load limits dst ring s)
+  ring_formed dst ring = go (check_writable dst) _ (λ _. go (refused_if (nat_le limits.rings ring) rule.HelperArgument) _ (λ _. both_put dst (Ring ring)))
 
-  loaded_formed : (dst base : Reg) (by : ℤ) (len : ℕ) → Next (loaded env dst base by len s)
+  loaded_formed : (dst base : Reg) (by : ℤ) (len : ℕ) → Next (check_load limits dst base by len s)
   loaded_formed dst base by len =
-      go (writable dst) _ (λ _. go (tested (arg base.number)) _ (λ _. go (inside env s.held (arg base.number) by len) _ (λ _. both_put dst Number)))
+      go (check_writable dst) _ (λ _. go (check_tested (arg base.number)) _ (λ _. go (check_inside limits s.held (arg base.number) by len) _ (λ _. both_put dst Number)))
 
-  stored_formed : (base : Reg) (by : ℤ) (len : ℕ) (v : Abs) → Next (stored env base by len v s)
+  stored_formed : (base : Reg) (by : ℤ) (len : ℕ) (v : Abs) → Next (check_store limits base by len v s)
   stored_formed base by len v =
-      go (tested (arg base.number)) _ (λ _. go (not_context (arg base.number)) _ (λ _. go (inside env s.held (arg base.number) by len) _ (λ _.
-      go (number rule.PointerStored v) _ (λ _. both_kept))))
+      go (check_tested (arg base.number)) _ (λ _. go (check_not_context (arg base.number)) _ (λ _. go (check_inside limits s.held (arg base.number) by len) _ (λ _.
+      go (check_number rule.PointerStored v) _ (λ _. both_kept))))
 
-  ended_formed : Next (ended s)
-  ended_formed = go (refused_if (not (is_empty s.held)) rule.ReferenceLeft) _ (λ _. go (number rule.ResultNotNumber (arg 0)) _ (λ _. both_kept))
+  ended_formed : Next (check_exit s)
+  ended_formed = go (refused_if (not (is_empty s.held)) rule.ReferenceLeft) _ (λ _. go (check_number rule.ResultNotNumber (arg 0)) _ (λ _. both_kept))
 
-  step_formed : (insn : Insn) → Next (step_of env unit insn s)
-  unfolding step_of
+  step_formed : (insn : Insn) → Next (abstract_step limits unit insn s)
+  unfolding abstract_step
   step_formed (Move width dst (Immediate k)) = given_formed dst _
   step_formed (Move W64 dst (Register src)) = copied_formed dst src
   step_formed (Move W32 dst (Register src)) = converted_formed _ dst src
@@ -243,6 +243,6 @@ module _ (env : Environment) (unit : ℕ) (s : AbsState) (h : IsFormed unit s) w
   step_formed Exit = ended_formed
 
 pub step_forms : StepKeepsForm
-step_forms env unit insn s e h ok later le =
-    let formed : BothFormed (unit + 1) e = subst (GivesFormed (unit + 1)) ok (step_formed env unit s h insn) in
+step_forms limits unit insn s e h ok later le =
+    let formed : BothFormed (unit + 1) e = subst (GivesFormed (unit + 1)) ok (step_formed limits unit s h insn) in
     (form_later later le formed.0, form_later later le formed.1)

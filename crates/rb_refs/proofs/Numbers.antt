@@ -2,7 +2,7 @@
 use Rattle.std.proofs.Common.{◌≡◌, ℕ, ◌^◌, ◌<◌, Bool, true, false, refl, sym, ◌∙◌, ap, arith}
 use Rattle.std.specs.Prelude.{Option, Some, None, Result, Ok, Err, MatchOption, if◌then◌else◌, ℤ, pos, negsuc, ◌-ℤ◌, ◌+ℤ◌, ◌≤ℤ◌, ◌&&◌, int_le, nat_le, nat_abs, FitsSigned}
 use Rattle.std.specs.Option.{SomeIff}
-use Rattle.rb_refs.specs.Arithmetic.{is_near, near}
+use Rattle.rb_refs.specs.AbstractArithmetic.{is_near, check_near}
 use Rattle.rb_refs.specs.declared.rule.Rule.{Rule}
 use Rattle.rb_refs.specs.declared.rule.Rule.TheVariants as rule
 use Rattle.std.specs.Int.{cast_signed, cast_unsigned}
@@ -10,7 +10,7 @@ use Rattle.std.proofs.lemmas.Int.{ints, to_z-of_z}
 use Rattle.std.proofs.lemmas.Bool.Decides.{nat_tests}
 use mir.Syntax.{w32, w64}
 use mir.Val.{SFits}
-use Rattle.rb_alu.specs.Numbers.{wrapped}
+use Rattle.rb_alu.specs.WholeNumbers.{wrapped}
 
 -- an immediate, sign-extended to 64 bits
 pub wrapped-immediate : (k : ℤ) → SFits w32 k → cast_unsigned w64 k ≡ wrapped 64 k
@@ -34,7 +34,7 @@ contains-from first end from len h k = grind (arith, ints, nat_tests)
 fits_near : (z : ℤ) → is_near z ≡ true → FitsSigned w64 z
 fits_near z e = grind (arith, ints, nat_tests)
 
-far : (z : ℤ) → (FitsSigned w64 z → ⊥) → near z ≡ Err rule.PointerArithmetic
+far : (z : ℤ) → (FitsSigned w64 z → ⊥) → check_near z ≡ Err rule.PointerArithmetic
 far z outside = decided (is_near z) refl
   where
     decided : (b : Bool) → is_near z ≡ b → (if b then Ok z else Err rule.PointerArithmetic) ≡ Err rule.PointerArithmetic
@@ -42,6 +42,6 @@ far z outside = decided (is_near z) refl
     decided false e = refl
 
 -- a checked sum that is tested against the bounds
-pub near_checked : (o : Option ℤ) (z : ℤ) (r : Result ℤ Rule) → SomeIff o (FitsSigned w64 z) z → MatchOption o (r ≡ Err rule.PointerArithmetic) (λ offset. r ≡ near offset) → r ≡ near z
+pub near_checked : (o : Option ℤ) (z : ℤ) (r : Result ℤ Rule) → SomeIff o (FitsSigned w64 z) z → MatchOption o (r ≡ Err rule.PointerArithmetic) (λ offset. r ≡ check_near offset) → r ≡ check_near z
 near_checked None z r h k = k ∙ sym (far z h)
-near_checked (Some x) z r h k = k ∙ ap near h.1
+near_checked (Some x) z r h k = k ∙ ap check_near h.1

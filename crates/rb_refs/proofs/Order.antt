@@ -3,8 +3,8 @@ use Rattle.std.proofs.Common.{ℕ, refl, sym, ◌∙◌, subst}
 use Rattle.rb_refs.specs.declared.value.Abs.{Abs}
 use Rattle.rb_refs.specs.declared.value.Abs.TheVariants.{Unreadable, Number, Known, Ctx, Stack, Ring, Perhaps, Record}
 use Rattle.rb_refs.specs.declared.state.AbsState.{AbsState}
-use Rattle.rb_refs.specs.Values.{IsNumber, BelowValue}
-use Rattle.rb_refs.specs.States.{Below, value_in}
+use Rattle.rb_refs.specs.AbstractValues.{IsNumber, BelowValue}
+use Rattle.rb_refs.specs.AbstractStates.{Below, value_in}
 
 pub below_value_refl : (v : Abs) → BelowValue v v
 below_value_refl Unreadable = tt

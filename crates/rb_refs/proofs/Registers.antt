@@ -6,7 +6,7 @@ use Rattle.std.proofs.lemmas.List.Edits.{map_over_more}
 use Rattle.rb_refs.specs.declared.value.Abs.{Abs}
 use Rattle.rb_refs.specs.declared.value.Abs.TheVariants.{Unreadable}
 use Rattle.rb_refs.specs.declared.state.AbsState.{AbsState}
-use Rattle.rb_refs.specs.States.{value_in}
+use Rattle.rb_refs.specs.AbstractStates.{value_in}
 use Rattle.rb_refs.specs.Joins.{IsJoin, IsJoinValue}
 
 -- a loop that changes each value by a function

@@ -1,15 +1,15 @@
 -- The effects on states keep the order.
 use Rattle.std.proofs.Common.{◌≡◌, ℕ, zero, suc, sym, ◌∙◌, ap, List, [], ◌∷◌, length, map, get_or, set, length-set}
 use Rattle.std.proofs.lemmas.List.{length-map}
-use Rattle.rb_refs.specs.declared.changes.Change.{Change}
-use Rattle.rb_refs.specs.declared.held.Reference.{Reference}
+use Rattle.rb_refs.specs.declared.reference_changes.Change.{Change}
+use Rattle.rb_refs.specs.declared.references.Reference.{Reference}
 use Rattle.rb_refs.specs.declared.state.AbsState.{AbsState}
 use Rattle.rb_refs.specs.declared.value.Abs.{Abs}
 use Rattle.rb_refs.specs.declared.value.Abs.TheVariants.{Unreadable}
-use Rattle.rb_refs.specs.Values.{BelowValue}
-use Rattle.rb_refs.specs.States.{Below, EffectBelow, put, both}
-use Rattle.rb_refs.specs.Changes.{changed}
-use Rattle.rb_refs.specs.Helpers.{answered}
+use Rattle.rb_refs.specs.AbstractValues.{BelowValue}
+use Rattle.rb_refs.specs.AbstractStates.{Below, EffectBelow, put, effect_on_both}
+use Rattle.rb_refs.specs.ReferenceChanges.{after_change}
+use Rattle.rb_refs.specs.HelperChecks.{after_answer}
 use Rattle.rb_refs.proofs.CheckOrder.{changed_below}
 
 abbrev ValuesBelow : List Abs → List Abs → Type 0
@@ -39,20 +39,20 @@ put_below s t r v w h k = record {
 }
 
 -- each value changed, and the references by some function
-pub changes_below : (change : Change) (f : List Reference → List Reference) (s t : AbsState) → Below s t → Below (record { values = map (changed change) s.values; held = f s.held }) (record { values = map (changed change) t.values; held = f t.held })
+pub changes_below : (change : Change) (f : List Reference → List Reference) (s t : AbsState) → Below s t → Below (record { values = map (after_change change) s.values; held = f s.held }) (record { values = map (after_change change) t.values; held = f t.held })
 changes_below change f s t h = record {
   held = ap f h.held;
-  count = length-map s.values (changed change) ∙ h.count ∙ sym (length-map t.values (changed change));
-  values = map_below (changed change) (changed_below change) s.values t.values h.count h.values;
+  count = length-map s.values (after_change change) ∙ h.count ∙ sym (length-map t.values (after_change change));
+  values = map_below (after_change change) (changed_below change) s.values t.values h.count h.values;
 }
 
 pub held_below : (f : List Reference → List Reference) (s t : AbsState) → Below s t → Below (record s { held = f s.held }) (record t { held = f t.held })
 held_below f s t h = record { held = ap f h.held; count = h.count; values = h.values }
 
-pub answered_below : (s t : AbsState) (v w : Abs) → Below s t → BelowValue v w → Below (answered v s) (answered w t)
+pub answered_below : (s t : AbsState) (v w : Abs) → Below s t → BelowValue v w → Below (after_answer v s) (after_answer w t)
 answered_below s t v w h k =
     put_below _ _ 5 Unreadable Unreadable (put_below _ _ 4 Unreadable Unreadable (put_below _ _ 3 Unreadable Unreadable
     (put_below _ _ 2 Unreadable Unreadable (put_below _ _ 1 Unreadable Unreadable (put_below s t 0 v w h k) tt) tt) tt) tt) tt
 
-pub both_below : (s t : AbsState) → Below s t → EffectBelow (both s) (both t)
+pub both_below : (s t : AbsState) → Below s t → EffectBelow (effect_on_both s) (effect_on_both t)
 both_below s t h = record { next = h; jump = h }

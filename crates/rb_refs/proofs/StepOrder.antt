@@ -1,7 +1,7 @@
 -- Each row of the table keeps the order, and so does the table.
 use Rattle.std.proofs.Common.{◌≡◌, ℕ, ℤ, pos, refl, subst, List, [], ◌∷◌, ◌++◌, filter, map, Result, false, Option, Some, None}
 use Rattle.std.specs.Prelude.{nat_le, not}
-use Rattle.rb_alu.specs.Meaning.{value_of}
+use Rattle.rb_alu.specs.ArithmeticAndJumps.{value_of}
 use Rattle.rb_insn.specs.declared.insn.Insn.{Insn}
 use Rattle.rb_insn.specs.declared.insn.Insn.TheVariants.{Binary, Division, Negate, Move, MoveExtended32, MoveExtended64, Reorder, Jump, JumpFar, Branch, Call, Exit, LoadNumber, LoadRing, Load, LoadSigned, StoreImmediate, StoreRegister}
 use Rattle.rb_insn.specs.declared.insn.Operand.{Operand}
@@ -11,28 +11,28 @@ use Rattle.rb_insn.specs.declared.reg.Reg.{Reg}
 use Rattle.rb_refs.specs.declared.arithmetic.Direction.{Direction}
 use Rattle.rb_refs.specs.declared.branches.NullTest.{NullTest}
 use Rattle.rb_refs.specs.declared.branches.NullTest.TheVariants.{JumpsIfNull, JumpsIfThere}
-use Rattle.rb_refs.specs.declared.changes.Change.TheVariants.{IsNull, IsThere, GivenBack}
-use Rattle.rb_refs.specs.declared.environment.Environment.{Environment}
+use Rattle.rb_refs.specs.declared.reference_changes.Change.TheVariants.{IsNull, IsThere, GivenBack}
+use Rattle.rb_refs.specs.declared.limits.Limits.{Limits}
 use Rattle.rb_refs.specs.declared.helper.Helper.{Helper}
 use Rattle.rb_refs.specs.declared.helper.Helper.TheVariants.{Output, Reserve, Submit, Discard, Query}
-use Rattle.rb_refs.specs.declared.held.Reference.{Reference}
+use Rattle.rb_refs.specs.declared.references.Reference.{Reference}
 use Rattle.rb_refs.specs.declared.rule.Rule.{Rule}
 use Rattle.rb_refs.specs.declared.rule.Rule.TheVariants as rule
 use Rattle.rb_refs.specs.declared.state.AbsState.{AbsState}
 use Rattle.rb_refs.specs.declared.state.Effect.{Effect}
 use Rattle.rb_refs.specs.declared.value.Abs.{Abs}
 use Rattle.rb_refs.specs.declared.value.Abs.TheVariants.{Unreadable, Number, Known, Ctx, Stack, Ring, Perhaps, Record}
-use Rattle.rb_refs.specs.Arithmetic.{operand_value, direction_of}
-use Rattle.rb_refs.specs.Branches.{null_test_of, branch}
-use Rattle.rb_refs.specs.Checks.{◌>>=◌, Check, refused_if, writable, readable, number, tested, not_context, inside, in_part}
-use Rattle.rb_refs.specs.Helpers.{helper_of, call, output, reserve, give_back, query, reserved}
-use Rattle.rb_refs.specs.Changes.{given_back_state, null_state, there_state}
+use Rattle.rb_refs.specs.AbstractArithmetic.{operand_value, direction_of}
+use Rattle.rb_refs.specs.Branches.{null_test_of, check_branch}
+use Rattle.rb_refs.specs.ValueChecks.{◌>>=◌, Check, refused_if, check_writable, check_readable, check_number, check_tested, check_not_context, check_inside, check_part_pointer}
+use Rattle.rb_refs.specs.HelperChecks.{helper_of, check_call, check_output, check_reserve, check_give_back, check_query, after_reserve}
+use Rattle.rb_refs.specs.ReferenceChanges.{given_back_state, null_state, there_state}
 use Rattle.rb_refs.specs.References.{is_empty, is_full, other_than, tested_in}
-use Rattle.rb_refs.specs.States.{Below, EffectBelow, value_in}
-use Rattle.rb_refs.specs.Step.{step_of, assigned, given, copied, converted, altered, operated, ring_given, loaded, stored, ended}
+use Rattle.rb_refs.specs.AbstractStates.{Below, EffectBelow, value_in}
+use Rattle.rb_refs.specs.VerifierChecks.{abstract_step, assignment_effect, check_assign, check_copy, check_convert, check_unary, check_binary, check_ring_load, check_load, check_store, check_exit}
 use Rattle.rb_refs.specs.StepOrder.{ResultBelow, StepKeepsOrder}
-use Rattle.rb_refs.specs.Values.{IsNumber, BelowValue}
-use Rattle.rb_refs.specs.Parts.{byte_count, signed_byte_count}
+use Rattle.rb_refs.specs.AbstractValues.{IsNumber, BelowValue}
+use Rattle.rb_insn.specs.Sizes.{byte_count, signed_byte_count}
 use Rattle.rb_refs.proofs.Order.{below_value_refl, below_cases, number_cases}
 use Rattle.rb_refs.proofs.CheckOrder.{result_bind, CheckBelow, check_refl, readable_below, number_below, tested_below, not_context_below, in_part_below, inside_below, ring_of_below, known_size_below, record_size_below, record_start_below, computed_below, combined_below}
 use Rattle.rb_refs.proofs.StateOrder.{put_below, changes_below, held_below, answered_below, both_below}
@@ -48,81 +48,81 @@ operand_below : (operand : Operand) (s t : AbsState) → Below s t → BelowValu
 operand_below (Immediate k) s t h = refl
 operand_below (Register r) s t h = h.values r.number
 
-module _ (env : Environment) (s t : AbsState) (h : Below s t) where
+module _ (limits : Limits) (s t : AbsState) (h : Below s t) where
   abbrev At : ℕ → Type 0
   At r = BelowValue (value_in s r) (value_in t r)
 
-  assigned_below : (dst : Reg) (v w : Abs) → BelowValue v w → EffectBelow (assigned dst v s) (assigned dst w t)
+  assigned_below : (dst : Reg) (v w : Abs) → BelowValue v w → EffectBelow (assignment_effect dst v s) (assignment_effect dst w t)
   assigned_below dst v w b = both_below _ _ (put_below s t dst.number v w h b)
 
-  inside_here : (v w : Abs) (by : ℤ) (len : ℕ) → BelowValue v w → CheckBelow (inside env s.held v by len) (inside env t.held w by len)
-  inside_here v w by len b = subst (λ held. CheckBelow (inside env s.held v by len) (inside env held w by len)) h.held (inside_below env s.held by len v w b)
+  inside_here : (v w : Abs) (by : ℤ) (len : ℕ) → BelowValue v w → CheckBelow (check_inside limits s.held v by len) (check_inside limits t.held w by len)
+  inside_here v w by len b = subst (λ held. CheckBelow (check_inside limits s.held v by len) (check_inside limits held w by len)) h.held (inside_below limits s.held by len v w b)
 
   -- a check of the references alone
   held_check : (f : List Reference → Check) → CheckBelow (f s.held) (f t.held)
   held_check f = subst (λ held. CheckBelow (f s.held) (f held)) h.held (check_refl (f s.held))
 
-  given_below : (dst : Reg) (v : Abs) → StepBelow (given dst v s) (given dst v t)
-  given_below dst v = checked (writable dst) (writable dst) _ _ (check_refl (writable dst)) (assigned_below dst v v (below_value_refl v))
+  given_below : (dst : Reg) (v : Abs) → StepBelow (check_assign dst v s) (check_assign dst v t)
+  given_below dst v = checked (check_writable dst) (check_writable dst) _ _ (check_refl (check_writable dst)) (assigned_below dst v v (below_value_refl v))
 
-  copied_below : (dst src : Reg) → StepBelow (copied dst src s) (copied dst src t)
+  copied_below : (dst src : Reg) → StepBelow (check_copy dst src s) (check_copy dst src t)
   copied_below dst src =
-      checked (writable dst) (writable dst) _ _ (check_refl (writable dst))
-      (checked (readable (value_in s src.number)) (readable (value_in t src.number)) _ _ (readable_below _ _ (h.values src.number)) (assigned_below dst _ _ (h.values src.number)))
+      checked (check_writable dst) (check_writable dst) _ _ (check_refl (check_writable dst))
+      (checked (check_readable (value_in s src.number)) (check_readable (value_in t src.number)) _ _ (readable_below _ _ (h.values src.number)) (assigned_below dst _ _ (h.values src.number)))
 
-  converted_below : (insn : Insn) (dst src : Reg) → StepBelow (converted insn dst src s) (converted insn dst src t)
+  converted_below : (insn : Insn) (dst src : Reg) → StepBelow (check_convert insn dst src s) (check_convert insn dst src t)
   converted_below insn dst src =
-      checked (writable dst) (writable dst) _ _ (check_refl (writable dst))
-      (checked (number rule.PointerArithmetic (value_in s src.number)) (number rule.PointerArithmetic (value_in t src.number)) _ _ (number_below rule.PointerArithmetic _ _ (h.values src.number))
+      checked (check_writable dst) (check_writable dst) _ _ (check_refl (check_writable dst))
+      (checked (check_number rule.PointerArithmetic (value_in s src.number)) (check_number rule.PointerArithmetic (value_in t src.number)) _ _ (number_below rule.PointerArithmetic _ _ (h.values src.number))
       (assigned_below dst _ _ (computed_below insn (Known 0) (Known 0) _ _ refl (h.values src.number))))
 
-  altered_below : (insn : Insn) (dst : Reg) → StepBelow (altered insn dst s) (altered insn dst t)
+  altered_below : (insn : Insn) (dst : Reg) → StepBelow (check_unary insn dst s) (check_unary insn dst t)
   altered_below insn dst =
-      checked (writable dst) (writable dst) _ _ (check_refl (writable dst))
-      (checked (number rule.PointerArithmetic (value_in s dst.number)) (number rule.PointerArithmetic (value_in t dst.number)) _ _ (number_below rule.PointerArithmetic _ _ (h.values dst.number))
+      checked (check_writable dst) (check_writable dst) _ _ (check_refl (check_writable dst))
+      (checked (check_number rule.PointerArithmetic (value_in s dst.number)) (check_number rule.PointerArithmetic (value_in t dst.number)) _ _ (number_below rule.PointerArithmetic _ _ (h.values dst.number))
       (assigned_below dst _ _ (computed_below insn _ _ (Known 0) (Known 0) (h.values dst.number) refl)))
 
-  operated_below : (direction : Option Direction) (insn : Insn) (dst : Reg) (operand : Operand) → StepBelow (operated direction insn dst operand s) (operated direction insn dst operand t)
+  operated_below : (direction : Option Direction) (insn : Insn) (dst : Reg) (operand : Operand) → StepBelow (check_binary direction insn dst operand s) (check_binary direction insn dst operand t)
   operated_below direction insn dst operand =
       let left : At dst.number = h.values dst.number in
       let right : BelowValue (operand_value operand s) (operand_value operand t) = operand_below operand s t h in
-      checked (writable dst) (writable dst) _ _ (check_refl (writable dst))
-      (checked (readable (value_in s dst.number)) (readable (value_in t dst.number)) _ _ (readable_below _ _ left)
-      (checked (readable (operand_value operand s)) (readable (operand_value operand t)) _ _ (readable_below _ _ right)
+      checked (check_writable dst) (check_writable dst) _ _ (check_refl (check_writable dst))
+      (checked (check_readable (value_in s dst.number)) (check_readable (value_in t dst.number)) _ _ (readable_below _ _ left)
+      (checked (check_readable (operand_value operand s)) (check_readable (operand_value operand t)) _ _ (readable_below _ _ right)
       (result_bind BelowValue EffectBelow _ _ _ _ (combined_below direction insn _ _ _ _ left right) (λ v w b. assigned_below dst v w b))))
 
-  ring_given_below : (dst : Reg) (ring : ℕ) → StepBelow (ring_given env dst ring s) (ring_given env dst ring t)
+  ring_given_below : (dst : Reg) (ring : ℕ) → StepBelow (check_ring_load limits dst ring s) (check_ring_load limits dst ring t)
   ring_given_below dst ring =
-      checked (writable dst) (writable dst) _ _ (check_refl (writable dst))
-      (checked (refused_if (nat_le env.rings ring) rule.HelperArgument) _ _ _ (check_refl (refused_if (nat_le env.rings ring) rule.HelperArgument)) (assigned_below dst (Ring ring) (Ring ring) refl))
+      checked (check_writable dst) (check_writable dst) _ _ (check_refl (check_writable dst))
+      (checked (refused_if (nat_le limits.rings ring) rule.HelperArgument) _ _ _ (check_refl (refused_if (nat_le limits.rings ring) rule.HelperArgument)) (assigned_below dst (Ring ring) (Ring ring) refl))
 
-  loaded_below : (dst base : Reg) (by : ℤ) (len : ℕ) → StepBelow (loaded env dst base by len s) (loaded env dst base by len t)
+  loaded_below : (dst base : Reg) (by : ℤ) (len : ℕ) → StepBelow (check_load limits dst base by len s) (check_load limits dst base by len t)
   loaded_below dst base by len =
-      checked (writable dst) (writable dst) _ _ (check_refl (writable dst))
-      (checked (tested (value_in s base.number)) (tested (value_in t base.number)) _ _ (tested_below _ _ (h.values base.number))
-      (checked (inside env s.held (value_in s base.number) by len) (inside env t.held (value_in t base.number) by len) _ _ (inside_here _ _ by len (h.values base.number))
+      checked (check_writable dst) (check_writable dst) _ _ (check_refl (check_writable dst))
+      (checked (check_tested (value_in s base.number)) (check_tested (value_in t base.number)) _ _ (tested_below _ _ (h.values base.number))
+      (checked (check_inside limits s.held (value_in s base.number) by len) (check_inside limits t.held (value_in t base.number) by len) _ _ (inside_here _ _ by len (h.values base.number))
       (assigned_below dst Number Number tt)))
 
-  stored_below : (base : Reg) (by : ℤ) (len : ℕ) (v w : Abs) → BelowValue v w → StepBelow (stored env base by len v s) (stored env base by len w t)
+  stored_below : (base : Reg) (by : ℤ) (len : ℕ) (v w : Abs) → BelowValue v w → StepBelow (check_store limits base by len v s) (check_store limits base by len w t)
   stored_below base by len v w b =
-      checked (tested (value_in s base.number)) (tested (value_in t base.number)) _ _ (tested_below _ _ (h.values base.number))
-      (checked (not_context (value_in s base.number)) (not_context (value_in t base.number)) _ _ (not_context_below _ _ (h.values base.number))
-      (checked (inside env s.held (value_in s base.number) by len) (inside env t.held (value_in t base.number) by len) _ _ (inside_here _ _ by len (h.values base.number))
-      (checked (number rule.PointerStored v) (number rule.PointerStored w) _ _ (number_below rule.PointerStored v w b) (both_below s t h))))
+      checked (check_tested (value_in s base.number)) (check_tested (value_in t base.number)) _ _ (tested_below _ _ (h.values base.number))
+      (checked (check_not_context (value_in s base.number)) (check_not_context (value_in t base.number)) _ _ (not_context_below _ _ (h.values base.number))
+      (checked (check_inside limits s.held (value_in s base.number) by len) (check_inside limits t.held (value_in t base.number) by len) _ _ (inside_here _ _ by len (h.values base.number))
+      (checked (check_number rule.PointerStored v) (check_number rule.PointerStored w) _ _ (number_below rule.PointerStored v w b) (both_below s t h))))
 
-  ended_below : StepBelow (ended s) (ended t)
+  ended_below : StepBelow (check_exit s) (check_exit t)
   ended_below =
       checked (refused_if (not (is_empty s.held)) rule.ReferenceLeft) (refused_if (not (is_empty t.held)) rule.ReferenceLeft) _ _ (held_check (λ held. refused_if (not (is_empty held)) rule.ReferenceLeft))
-      (checked (number rule.ResultNotNumber (value_in s 0)) (number rule.ResultNotNumber (value_in t 0)) _ _ (number_below rule.ResultNotNumber _ _ (h.values 0)) (both_below s t h))
+      (checked (check_number rule.ResultNotNumber (value_in s 0)) (check_number rule.ResultNotNumber (value_in t 0)) _ _ (number_below rule.ResultNotNumber _ _ (h.values 0)) (both_below s t h))
 
   -- conditional jumps
 
-  compared_below : (v v' w w' : Abs) → BelowValue v v' → BelowValue w w' → StepBelow (branch None v w s) (branch None v' w' t)
+  compared_below : (v v' w w' : Abs) → BelowValue v v' → BelowValue w w' → StepBelow (check_branch None v w s) (check_branch None v' w' t)
   compared_below v v' w w' g k =
-      checked (readable v) (readable v') _ _ (readable_below v v' g)
-      (checked (readable w) (readable w') _ _ (readable_below w w' k)
-      (checked (number rule.PointerCompared v) (number rule.PointerCompared v') _ _ (number_below rule.PointerCompared v v' g)
-      (checked (number rule.PointerCompared w) (number rule.PointerCompared w') _ _ (number_below rule.PointerCompared w w' k) (both_below s t h))))
+      checked (check_readable v) (check_readable v') _ _ (readable_below v v' g)
+      (checked (check_readable w) (check_readable w') _ _ (readable_below w w' k)
+      (checked (check_number rule.PointerCompared v) (check_number rule.PointerCompared v') _ _ (number_below rule.PointerCompared v v' g)
+      (checked (check_number rule.PointerCompared w) (check_number rule.PointerCompared w') _ _ (number_below rule.PointerCompared w w' k) (both_below s t h))))
 
   null_below : (id : ℕ) → Below (null_state id s) (null_state id t)
   null_below id = changes_below (IsNull id) (filter (other_than id)) s t h
@@ -130,7 +130,7 @@ module _ (env : Environment) (s t : AbsState) (h : Below s t) where
   there_below : (id : ℕ) → Below (there_state id s) (there_state id t)
   there_below id = changes_below (IsThere id) (map (tested_in id)) s t h
 
-  null_test_same : (test : NullTest) (w w' : Abs) → BelowValue w w' → (v : Abs) → StepBelow (branch (Some test) v w s) (branch (Some test) v w' t)
+  null_test_same : (test : NullTest) (w w' : Abs) → BelowValue w w' → (v : Abs) → StepBelow (check_branch (Some test) v w s) (check_branch (Some test) v w' t)
   null_test_same JumpsIfNull w w' k (Perhaps id) = record { next = there_below id; jump = null_below id }
   null_test_same JumpsIfNull w w' k Unreadable = tt
   null_test_same JumpsIfNull w w' k Number = compared_below Number Number w w' tt k
@@ -148,57 +148,57 @@ module _ (env : Environment) (s t : AbsState) (h : Below s t) where
   null_test_same JumpsIfThere w w' k (Ring n) = compared_below (Ring n) (Ring n) w w' refl k
   null_test_same JumpsIfThere w w' k (Record n o) = compared_below (Record n o) (Record n o) w w' refl k
 
-  null_test_number : (test : NullTest) (w w' : Abs) → BelowValue w w' → (v : Abs) → IsNumber v → StepBelow (branch (Some test) v w s) (branch (Some test) Number w' t)
-  null_test_number JumpsIfNull w w' k = number_cases (λ v. StepBelow (branch (Some JumpsIfNull) v w s) (branch (Some JumpsIfNull) Number w' t)) (compared_below Number Number w w' tt k) (λ n. compared_below (Known n) Number w w' tt k)
-  null_test_number JumpsIfThere w w' k = number_cases (λ v. StepBelow (branch (Some JumpsIfThere) v w s) (branch (Some JumpsIfThere) Number w' t)) (compared_below Number Number w w' tt k) (λ n. compared_below (Known n) Number w w' tt k)
+  null_test_number : (test : NullTest) (w w' : Abs) → BelowValue w w' → (v : Abs) → IsNumber v → StepBelow (check_branch (Some test) v w s) (check_branch (Some test) Number w' t)
+  null_test_number JumpsIfNull w w' k = number_cases (λ v. StepBelow (check_branch (Some JumpsIfNull) v w s) (check_branch (Some JumpsIfNull) Number w' t)) (compared_below Number Number w w' tt k) (λ n. compared_below (Known n) Number w w' tt k)
+  null_test_number JumpsIfThere w w' k = number_cases (λ v. StepBelow (check_branch (Some JumpsIfThere) v w s) (check_branch (Some JumpsIfThere) Number w' t)) (compared_below Number Number w w' tt k) (λ n. compared_below (Known n) Number w w' tt k)
 
-  null_test_top : (test : NullTest) (w w' : Abs) → (v : Abs) → StepBelow (branch (Some test) v w s) (branch (Some test) Unreadable w' t)
+  null_test_top : (test : NullTest) (w w' : Abs) → (v : Abs) → StepBelow (check_branch (Some test) v w s) (check_branch (Some test) Unreadable w' t)
   null_test_top JumpsIfNull w w' v = tt
   null_test_top JumpsIfThere w w' v = tt
 
-  branch_below : (test : Option NullTest) (v v' w w' : Abs) → BelowValue v v' → BelowValue w w' → StepBelow (branch test v w s) (branch test v' w' t)
+  branch_below : (test : Option NullTest) (v v' w w' : Abs) → BelowValue v v' → BelowValue w w' → StepBelow (check_branch test v w s) (check_branch test v' w' t)
   branch_below None v v' w w' g k = compared_below v v' w w' g k
   branch_below (Some test) v v' w w' g k =
-      below_cases (λ v v'. StepBelow (branch (Some test) v w s) (branch (Some test) v' w' t)) (null_test_top test w w') (null_test_number test w w' k) (null_test_same test w w' k) v v' g
+      below_cases (λ v v'. StepBelow (check_branch (Some test) v w s) (check_branch (Some test) v' w' t)) (null_test_top test w w') (null_test_number test w w' k) (null_test_same test w w' k) v v' g
 
   -- calls
 
-  output_below : StepBelow (output env s) (output env t)
+  output_below : StepBelow (check_output limits s) (check_output limits t)
   output_below =
       result_bind ◌≡◌ EffectBelow _ _ _ _ (ring_of_below _ _ (h.values 1)) (λ r r' _.
-      checked (tested (value_in s 2)) (tested (value_in t 2)) _ _ (tested_below _ _ (h.values 2))
-      (checked (in_part (value_in s 2)) (in_part (value_in t 2)) _ _ (in_part_below _ _ (h.values 2))
+      checked (check_tested (value_in s 2)) (check_tested (value_in t 2)) _ _ (tested_below _ _ (h.values 2))
+      (checked (check_part_pointer (value_in s 2)) (check_part_pointer (value_in t 2)) _ _ (in_part_below _ _ (h.values 2))
       (result_bind ◌≡◌ EffectBelow _ _ _ _ (known_size_below _ _ (h.values 3)) (λ n n' e.
-      checked (inside env s.held (value_in s 2) (pos 0) n) (inside env t.held (value_in t 2) (pos 0) n') _ _
-      (subst (λ len. CheckBelow (inside env s.held (value_in s 2) (pos 0) n) (inside env t.held (value_in t 2) (pos 0) len)) e (inside_here _ _ (pos 0) n (h.values 2)))
-      (checked (number rule.HelperArgument (value_in s 4)) (number rule.HelperArgument (value_in t 4)) _ _ (number_below rule.HelperArgument _ _ (h.values 4))
+      checked (check_inside limits s.held (value_in s 2) (pos 0) n) (check_inside limits t.held (value_in t 2) (pos 0) n') _ _
+      (subst (λ len. CheckBelow (check_inside limits s.held (value_in s 2) (pos 0) n) (check_inside limits t.held (value_in t 2) (pos 0) len)) e (inside_here _ _ (pos 0) n (h.values 2)))
+      (checked (check_number rule.HelperArgument (value_in s 4)) (check_number rule.HelperArgument (value_in t 4)) _ _ (number_below rule.HelperArgument _ _ (h.values 4))
       (both_below _ _ (answered_below s t Number Number h tt)))))))
 
-  reserved_below : (unit ring size : ℕ) → Below (reserved unit ring size s) (reserved unit ring size t)
+  reserved_below : (unit ring size : ℕ) → Below (after_reserve unit ring size s) (after_reserve unit ring size t)
   reserved_below unit ring size =
       answered_below _ _ (Perhaps unit) (Perhaps unit) (held_below (λ held. held ++ (record { id = unit; ring = ring; size = size; sure = false }) ∷ []) s t h) refl
 
-  reserve_below : (unit : ℕ) → StepBelow (reserve unit s) (reserve unit t)
+  reserve_below : (unit : ℕ) → StepBelow (check_reserve unit s) (check_reserve unit t)
   reserve_below unit =
       result_bind ◌≡◌ EffectBelow _ _ _ _ (ring_of_below _ _ (h.values 1)) (λ r r' d.
       result_bind ◌≡◌ EffectBelow _ _ _ _ (record_size_below _ _ (h.values 2)) (λ n n' e.
-      checked (number rule.HelperArgument (value_in s 3)) (number rule.HelperArgument (value_in t 3)) _ _ (number_below rule.HelperArgument _ _ (h.values 3))
+      checked (check_number rule.HelperArgument (value_in s 3)) (check_number rule.HelperArgument (value_in t 3)) _ _ (number_below rule.HelperArgument _ _ (h.values 3))
       (checked (refused_if (is_full s.held) rule.TooManyReferences) (refused_if (is_full t.held) rule.TooManyReferences) _ _ (held_check (λ held. refused_if (is_full held) rule.TooManyReferences))
-      (both_below _ _ (subst (λ ring. Below (reserved unit r n s) (reserved unit ring n' t)) d (subst (λ size. Below (reserved unit r n s) (reserved unit r size t)) e (reserved_below unit r n)))))))
+      (both_below _ _ (subst (λ ring. Below (after_reserve unit r n s) (after_reserve unit ring n' t)) d (subst (λ size. Below (after_reserve unit r n s) (after_reserve unit r size t)) e (reserved_below unit r n)))))))
 
-  give_back_below : StepBelow (give_back s) (give_back t)
+  give_back_below : StepBelow (check_give_back s) (check_give_back t)
   give_back_below =
       result_bind ◌≡◌ EffectBelow _ _ _ _ (record_start_below _ _ (h.values 1)) (λ n n' e.
-      checked (number rule.HelperArgument (value_in s 2)) (number rule.HelperArgument (value_in t 2)) _ _ (number_below rule.HelperArgument _ _ (h.values 2))
+      checked (check_number rule.HelperArgument (value_in s 2)) (check_number rule.HelperArgument (value_in t 2)) _ _ (number_below rule.HelperArgument _ _ (h.values 2))
       (both_below _ _ (answered_below _ _ Unreadable Unreadable (subst (λ id. Below (given_back_state n s) (given_back_state id t)) e (changes_below (GivenBack n) (filter (other_than n)) s t h)) tt)))
 
-  query_below : StepBelow (query s) (query t)
+  query_below : StepBelow (check_query s) (check_query t)
   query_below =
       result_bind ◌≡◌ EffectBelow _ _ _ _ (ring_of_below _ _ (h.values 1)) (λ r r' _.
-      checked (number rule.HelperArgument (value_in s 2)) (number rule.HelperArgument (value_in t 2)) _ _ (number_below rule.HelperArgument _ _ (h.values 2))
+      checked (check_number rule.HelperArgument (value_in s 2)) (check_number rule.HelperArgument (value_in t 2)) _ _ (number_below rule.HelperArgument _ _ (h.values 2))
       (both_below _ _ (answered_below s t Number Number h tt)))
 
-  call_below : (unit : ℕ) (helper : Option Helper) → StepBelow (call env unit helper s) (call env unit helper t)
+  call_below : (unit : ℕ) (helper : Option Helper) → StepBelow (check_call limits unit helper s) (check_call limits unit helper t)
   call_below unit None = tt
   call_below unit (Some Output) = output_below
   call_below unit (Some Reserve) = reserve_below unit
@@ -208,24 +208,24 @@ module _ (env : Environment) (s t : AbsState) (h : Below s t) where
 
 -- checks that hold at a state hold at each state below it, and effects keep the order
 pub step_below : StepKeepsOrder
-unfolding step_of
-step_below env unit (Move width dst (Immediate k)) s t h = given_below env s t h dst (Known (value_of (Move width dst (Immediate k)) 0 0))
-step_below env unit (Move W64 dst (Register src)) s t h = copied_below env s t h dst src
-step_below env unit (Move W32 dst (Register src)) s t h = converted_below env s t h (Move W32 dst (Register src)) dst src
-step_below env unit (MoveExtended32 low dst src) s t h = converted_below env s t h (MoveExtended32 low dst src) dst src
-step_below env unit (MoveExtended64 low dst src) s t h = converted_below env s t h (MoveExtended64 low dst src) dst src
-step_below env unit (Negate width dst) s t h = altered_below env s t h (Negate width dst) dst
-step_below env unit (Reorder order width dst) s t h = altered_below env s t h (Reorder order width dst) dst
-step_below env unit (Division width op sign dst operand) s t h = operated_below env s t h None (Division width op sign dst operand) dst operand
-step_below env unit (Binary width op dst operand) s t h = operated_below env s t h (direction_of width op) (Binary width op dst operand) dst operand
-step_below env unit (LoadNumber dst n) s t h = given_below env s t h dst (Known n)
-step_below env unit (LoadRing dst ring) s t h = ring_given_below env s t h dst ring
-step_below env unit (Load size dst base by) s t h = loaded_below env s t h dst base by (byte_count size)
-step_below env unit (LoadSigned size dst base by) s t h = loaded_below env s t h dst base by (signed_byte_count size)
-step_below env unit (StoreImmediate size base by k) s t h = stored_below env s t h base by (byte_count size) Number Number tt
-step_below env unit (StoreRegister size base by src) s t h = stored_below env s t h base by (byte_count size) _ _ (h.values src.number)
-step_below env unit (Branch width condition dst operand distance) s t h = branch_below env s t h (null_test_of width condition operand) _ _ _ _ (h.values dst.number) (operand_below operand s t h)
-step_below env unit (Jump distance) s t h = both_below s t h
-step_below env unit (JumpFar distance) s t h = both_below s t h
-step_below env unit (Call helper) s t h = call_below env s t h unit (helper_of helper)
-step_below env unit Exit s t h = ended_below env s t h
+unfolding abstract_step
+step_below limits unit (Move width dst (Immediate k)) s t h = given_below limits s t h dst (Known (value_of (Move width dst (Immediate k)) 0 0))
+step_below limits unit (Move W64 dst (Register src)) s t h = copied_below limits s t h dst src
+step_below limits unit (Move W32 dst (Register src)) s t h = converted_below limits s t h (Move W32 dst (Register src)) dst src
+step_below limits unit (MoveExtended32 low dst src) s t h = converted_below limits s t h (MoveExtended32 low dst src) dst src
+step_below limits unit (MoveExtended64 low dst src) s t h = converted_below limits s t h (MoveExtended64 low dst src) dst src
+step_below limits unit (Negate width dst) s t h = altered_below limits s t h (Negate width dst) dst
+step_below limits unit (Reorder order width dst) s t h = altered_below limits s t h (Reorder order width dst) dst
+step_below limits unit (Division width op sign dst operand) s t h = operated_below limits s t h None (Division width op sign dst operand) dst operand
+step_below limits unit (Binary width op dst operand) s t h = operated_below limits s t h (direction_of width op) (Binary width op dst operand) dst operand
+step_below limits unit (LoadNumber dst n) s t h = given_below limits s t h dst (Known n)
+step_below limits unit (LoadRing dst ring) s t h = ring_given_below limits s t h dst ring
+step_below limits unit (Load size dst base by) s t h = loaded_below limits s t h dst base by (byte_count size)
+step_below limits unit (LoadSigned size dst base by) s t h = loaded_below limits s t h dst base by (signed_byte_count size)
+step_below limits unit (StoreImmediate size base by k) s t h = stored_below limits s t h base by (byte_count size) Number Number tt
+step_below limits unit (StoreRegister size base by src) s t h = stored_below limits s t h base by (byte_count size) _ _ (h.values src.number)
+step_below limits unit (Branch width condition dst operand distance) s t h = branch_below limits s t h (null_test_of width condition operand) _ _ _ _ (h.values dst.number) (operand_below operand s t h)
+step_below limits unit (Jump distance) s t h = both_below s t h
+step_below limits unit (JumpFar distance) s t h = both_below s t h
+step_below limits unit (Call helper) s t h = call_below limits s t h unit (helper_of helper)
+step_below limits unit Exit s t h = ended_below limits s t h

@@ -14,9 +14,9 @@ use Rattle.rb_refs.specs.declared.state.AbsState.{AbsState}
 use Rattle.rb_refs.specs.declared.state.Effect.{Effect}
 use Rattle.rb_refs.specs.declared.value.Abs.{Abs}
 use Rattle.rb_refs.specs.declared.value.Abs.TheVariants.{Perhaps}
-use Rattle.rb_refs.specs.Changes.{null_state, there_state}
-use Rattle.rb_refs.specs.Checks.{◌>>=◌, readable, number}
-use Rattle.rb_refs.specs.States.{both}
+use Rattle.rb_refs.specs.ReferenceChanges.{null_state, there_state}
+use Rattle.rb_refs.specs.ValueChecks.{◌>>=◌, check_readable, check_number}
+use Rattle.rb_refs.specs.AbstractStates.{effect_on_both}
 
 -- a test against null: the 64-bit JEQ and JNE against the immediate 0
 abbrev pub null_test_of : Width → Condition → Operand → Option NullTest
@@ -25,12 +25,12 @@ null_test_of W64 NotEqual (Immediate (pos ℕ.zero)) = Some JumpsIfThere
 null_test_of _ _ _ = None
 
 -- the test of a reservation tells each edge what it found; else both operands are numbers
-abbrev pub branch : Option NullTest → Abs → Abs → AbsState → Result Effect Rule
-branch (Some JumpsIfNull) (Perhaps id) operand s = Ok (record { next = there_state id s; jump = null_state id s })
-branch (Some JumpsIfThere) (Perhaps id) operand s = Ok (record { next = null_state id s; jump = there_state id s })
-branch test dst operand s = do
-  _ ← readable dst
-  _ ← readable operand
-  _ ← number rule.PointerCompared dst
-  _ ← number rule.PointerCompared operand
-  Ok (both s)
+abbrev pub check_branch : Option NullTest → Abs → Abs → AbsState → Result Effect Rule
+check_branch (Some JumpsIfNull) (Perhaps id) operand s = Ok (record { next = there_state id s; jump = null_state id s })
+check_branch (Some JumpsIfThere) (Perhaps id) operand s = Ok (record { next = null_state id s; jump = there_state id s })
+check_branch test dst operand s = do
+  _ ← check_readable dst
+  _ ← check_readable operand
+  _ ← check_number rule.PointerCompared dst
+  _ ← check_number rule.PointerCompared operand
+  Ok (effect_on_both s)

@@ -1,11 +1,11 @@
 -- What every state before a unit has, and the law that the table keeps it.
 use Rattle.std.specs.Prelude.{◌≡◌, ◌≤◌, ◌+◌, ℕ, length, Ok}
 use Rattle.rb_insn.specs.declared.insn.Insn.{Insn}
-use Rattle.rb_refs.specs.declared.environment.Environment.{Environment}
+use Rattle.rb_refs.specs.declared.limits.Limits.{Limits}
 use Rattle.rb_refs.specs.declared.state.AbsState.{AbsState}
 use Rattle.rb_refs.specs.declared.state.Effect.{Effect}
 use Rattle.rb_refs.specs.References.{IsAscending, AreEarlier}
-use Rattle.rb_refs.specs.Step.{step_of}
+use Rattle.rb_refs.specs.VerifierChecks.{abstract_step}
 
 -- eleven values, and at most four references, in ascending order of their ids, which are earlier units
 pub record IsFormed (unit : ℕ) (s : AbsState) : Type 0 where
@@ -16,5 +16,5 @@ pub record IsFormed (unit : ℕ) (s : AbsState) : Type 0 where
 
 -- along both edges the effect of an instruction has it too, before every later unit
 abbrev pub StepKeepsForm : Type 0
-StepKeepsForm = (env : Environment) (unit : ℕ) (insn : Insn) (s : AbsState) (e : Effect) → IsFormed unit s → step_of env unit insn s ≡ Ok e
+StepKeepsForm = (limits : Limits) (unit : ℕ) (insn : Insn) (s : AbsState) (e : Effect) → IsFormed unit s → abstract_step limits unit insn s ≡ Ok e
     → (later : ℕ) → unit + 1 ≤ later → IsFormed later e.next × IsFormed later e.jump

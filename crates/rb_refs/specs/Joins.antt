@@ -1,8 +1,8 @@
 -- The join of what is known: the least that is above both.
 use Rattle.rb_refs.specs.declared.value.Abs.{Abs}
 use Rattle.rb_refs.specs.declared.state.AbsState.{AbsState}
-use Rattle.rb_refs.specs.Values.{BelowValue}
-use Rattle.rb_refs.specs.States.{Below}
+use Rattle.rb_refs.specs.AbstractValues.{BelowValue}
+use Rattle.rb_refs.specs.AbstractStates.{Below}
 
 -- the least value above both
 pub record IsJoinValue (v w join : Abs) : Type 0 where

@@ -2,7 +2,7 @@
 -- (Linux Documentation/bpf, "verifier", on acquired references; the bound of four and their order by id are own).
 use Rattle.std.specs.Prelude.{ℕ, ◌<◌, Bool, true, ◌==◌, nat_le, not, if◌then◌else◌, List, [], ◌∷◌, length}
 use Rattle.std.specs.List.{AllByRecursion}
-use Rattle.rb_refs.specs.declared.held.Reference.{Reference}
+use Rattle.rb_refs.specs.declared.references.Reference.{Reference}
 
 -- the ids ascend, so no id stands twice
 abbrev pub IsAscending : List Reference → Type 0

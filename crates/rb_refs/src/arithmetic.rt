@@ -1,13 +1,13 @@
-//! What arithmetic tells of its result.
+//! What is known of the result of arithmetic.
 
 ghost use Rattle.std.specs.Prelude.{◌≡◌, MatchOption};
-ghost use Rattle.rb_alu.specs.Meaning.{IsArithmetic};
-ghost use Rattle.rb_refs.specs.Arithmetic.{operand_value, computed, on_numbers, direction_of, moved, near, combined};
+ghost use Rattle.rb_alu.specs.ArithmeticAndJumps.{IsArithmetic};
+ghost use Rattle.rb_refs.specs.AbstractArithmetic.{operand_value, abstract_result, check_numbers, direction_of, moved_offset, check_near, check_arithmetic};
 
-use crate::checks::number;
 use crate::rule::Rule;
 use crate::state::AbsState;
 use crate::value::Abs;
+use crate::value_checks::check_number;
 use rb_insn::{BinaryOp, Insn, Operand, Width};
 
 /// How far a pointer's offset may lie from its part's first byte, or from the stack's end.
@@ -33,9 +33,9 @@ pub(crate) fn operand_value(operand: Operand, state: &AbsState) -> Abs
 }
 
 /// The number that an instruction leaves, where both operands are known.
-pub(crate) fn computed(insn: &Insn, dst: Abs, src: Abs) -> Abs
+pub(crate) fn abstract_result(insn: &Insn, dst: Abs, src: Abs) -> Abs
     requires { IsArithmetic insn.now }
-    ensures { result ≡ computed insn.now dst src }
+    ensures { result ≡ abstract_result insn.now dst src }
 {
     match (dst, src) {
         (Abs::Known(dst), Abs::Known(src)) => Abs::Known(rb_alu::value(insn, dst, src)),
@@ -44,13 +44,13 @@ pub(crate) fn computed(insn: &Insn, dst: Abs, src: Abs) -> Abs
 }
 
 /// Arithmetic on numbers.
-pub(crate) fn on_numbers(insn: &Insn, dst: Abs, src: Abs) -> Result<Abs, Rule>
+pub(crate) fn check_numbers(insn: &Insn, dst: Abs, src: Abs) -> Result<Abs, Rule>
     requires { IsArithmetic insn.now }
-    ensures { result ≡ on_numbers insn.now dst src }
+    ensures { result ≡ check_numbers insn.now dst src }
 {
-    number(Rule::PointerArithmetic, dst)?;
-    number(Rule::PointerArithmetic, src)?;
-    Ok(computed(insn, dst, src))
+    check_number(Rule::PointerArithmetic, dst)?;
+    check_number(Rule::PointerArithmetic, src)?;
+    Ok(abstract_result(insn, dst, src))
 }
 
 /// Which way the instruction moves a pointer's offset, where it does.
@@ -65,8 +65,8 @@ pub(crate) fn direction_of(width: Width, op: BinaryOp) -> Option<Direction>
 }
 
 /// An offset, where it is within the bounds; none lies outside of them.
-fn near(offset: Option<i64>) -> Result<i64, Rule>
-    ensures { MatchOption offset (result ≡ Err Rule.PointerArithmetic) (λ offset. result ≡ near offset) }
+fn check_near(offset: Option<i64>) -> Result<i64, Rule>
+    ensures { MatchOption offset (result ≡ Err Rule.PointerArithmetic) (λ offset. result ≡ check_near offset) }
 {
     match offset {
         Some(offset) if -NEAR <= offset && offset <= NEAR => Ok(offset),
@@ -75,36 +75,36 @@ fn near(offset: Option<i64>) -> Result<i64, Rule>
 }
 
 /// A pointer's offset once it was moved by a number, read as signed.
-fn moved(direction: Direction, offset: i64, by: u64) -> Result<i64, Rule>
-    ensures { result ≡ near (moved direction offset by) }
+fn moved_offset(direction: Direction, offset: i64, by: u64) -> Result<i64, Rule>
+    ensures { result ≡ check_near (moved_offset direction offset by) }
 {
     let by = by.cast_signed();
     match direction {
-        Direction::Forward => near(offset.checked_add(by)),
-        Direction::Back => near(offset.checked_sub(by)),
+        Direction::Forward => check_near(offset.checked_add(by)),
+        Direction::Back => check_near(offset.checked_sub(by)),
     }
 }
 
 /// A pointer into a part is moved by a known number; all else is arithmetic on numbers.
-pub(crate) fn combined(
+pub(crate) fn check_arithmetic(
     direction: Option<Direction>,
     insn: &Insn,
     dst: Abs,
     src: Abs,
 ) -> Result<Abs, Rule>
     requires { IsArithmetic insn.now }
-    ensures { result ≡ combined direction insn.now dst src }
+    ensures { result ≡ check_arithmetic direction insn.now dst src }
 {
     match (direction, dst, src) {
         (Some(direction), Abs::Ctx(offset), Abs::Known(by)) => {
-            Ok(Abs::Ctx(moved(direction, offset, by)?))
+            Ok(Abs::Ctx(moved_offset(direction, offset, by)?))
         }
         (Some(direction), Abs::Stack(offset), Abs::Known(by)) => {
-            Ok(Abs::Stack(moved(direction, offset, by)?))
+            Ok(Abs::Stack(moved_offset(direction, offset, by)?))
         }
         (Some(direction), Abs::Record(id, offset), Abs::Known(by)) => {
-            Ok(Abs::Record(id, moved(direction, offset, by)?))
+            Ok(Abs::Record(id, moved_offset(direction, offset, by)?))
         }
-        _ => on_numbers(insn, dst, src),
+        _ => check_numbers(insn, dst, src),
     }
 }

@@ -1,13 +1,13 @@
 //! What is known along both edges of a conditional jump.
 
 ghost use Rattle.std.specs.Prelude.{◌≡◌, IfErr};
-ghost use Rattle.rb_refs.specs.Branches.{null_test_of, branch};
-ghost use Rattle.rb_refs.specs.States.{effect_left};
+ghost use Rattle.rb_refs.specs.Branches.{null_test_of, check_branch};
+ghost use Rattle.rb_refs.specs.AbstractStates.{effect_left};
 
-use crate::checks::{number, readable};
 use crate::rule::Rule;
 use crate::state::AbsState;
 use crate::value::Abs;
+use crate::value_checks::{check_number, check_readable};
 use rb_insn::{Condition, Operand, Width};
 
 /// A test of a value against null.
@@ -31,13 +31,13 @@ pub(crate) fn null_test_of(width: Width, condition: Condition, operand: Operand)
 }
 
 /// The test of a reservation tells each edge what it found; else both operands are numbers.
-pub(crate) fn branch(
+pub(crate) fn check_branch(
     test: Option<NullTest>,
     dst: Abs,
     operand: Abs,
     state: &mut AbsState,
 ) -> Result<Option<AbsState>, Rule>
-    ensures effect { effect_left result state.new ≡ branch test dst operand state.old }
+    ensures effect { effect_left result state.new ≡ check_branch test dst operand state.old }
     ensures unchanged { IfErr result (λ _. state.new ≡ state.old) }
 {
     if let (Some(test), Abs::Perhaps(id)) = (test, dst) {
@@ -54,9 +54,9 @@ pub(crate) fn branch(
             }
         };
     }
-    readable(dst)?;
-    readable(operand)?;
-    number(Rule::PointerCompared, dst)?;
-    number(Rule::PointerCompared, operand)?;
+    check_readable(dst)?;
+    check_readable(operand)?;
+    check_number(Rule::PointerCompared, dst)?;
+    check_number(Rule::PointerCompared, operand)?;
     Ok(None)
 }

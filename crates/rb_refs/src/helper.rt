@@ -1,7 +1,7 @@
 //! The helpers that a program may call.
 
 ghost use Rattle.std.specs.Prelude.{◌≡◌};
-ghost use Rattle.rb_refs.specs.Helpers.{helper_of, helper_number};
+ghost use Rattle.rb_refs.specs.HelperChecks.{helper_of, helper_number};
 
 /// A helper that a program may call (bpf-helpers(7); the numbers are the kernel's).
 #[derive(Clone, Copy, Debug, PartialEq, Eq)]

@@ -1,7 +1,7 @@
 //! The rules of verification.
 
 ghost use Rattle.std.specs.Prelude.{◌≡◌};
-ghost use Rattle.rb_refs.specs.Rules.{number_of};
+ghost use Rattle.rb_refs.specs.Rules.{rule_number};
 
 use thiserror::Error;
 
@@ -58,7 +58,7 @@ pub enum Rule {
 impl Rule {
     /// The rule's number, 1 to 15.
     pub fn number(self) -> u8
-        ensures { result ≡ number_of self }
+        ensures { result ≡ rule_number self }
     {
         match self {
             Rule::Unreadable => 1,

@@ -1,9 +1,9 @@
 //! What is known before an instruction.
 
 ghost use Rattle.std.specs.Prelude.{◌≡◌};
-ghost use Rattle.rb_refs.specs.States.{value_in, put, entry_state, both};
+ghost use Rattle.rb_refs.specs.AbstractStates.{value_in, put, entry_state, effect_on_both};
 
-use crate::held::Held;
+use crate::references::Held;
 use crate::value::Abs;
 use rb_insn::Reg;
 use std::alloc::Global;
@@ -68,7 +68,7 @@ impl AbsState {
 
     /// The same along both edges.
     pub(crate) fn along_both(self) -> Effect
-        ensures { result ≡ both self }
+        ensures { result ≡ effect_on_both self }
     {
         Effect {
             next: self.copy(),

@@ -3,16 +3,16 @@ use Rattle.std.proofs.Common.{◌≡◌, ◌≢◌, ℕ, zero, suc, ◌+◌, ◌
 use Rattle.std.specs.List.{count_by}
 use Rattle.std.proofs.lemmas.Bool.{false≢true}
 use Rattle.rb_header.specs.Span.{span}
-use Rattle.rb_history.specs.declared.stored.StoredRecord.{StoredRecord}
-use Rattle.rb_history.specs.Rows.{InRow}
-use Rattle.rb_history.specs.Stored.{shown_record}
-use Rattle.rb_ring.specs.Table.{Parts, at, place}
-use Rattle.rb_history.specs.View.{IsSize}
-use Rattle.rb_ring.specs.Body.{Placed, record_or, walk, Holding, IsKept, rows}
+use Rattle.rb_history.specs.declared.stored_records.StoredRecord.{StoredRecord}
+use Rattle.rb_history.specs.inner.RecordRows.{InRow}
+use Rattle.rb_history.specs.StoredRecords.{shown_record}
+use Rattle.rb_ring.specs.inner.HeaderTable.{TableContents, record_at, place}
+use Rattle.rb_history.specs.RingModel.{IsRingSize}
+use Rattle.rb_ring.specs.inner.RingBody.{Placed, record_or, walk, Holding, RingInvariant, stored_rows}
 use Rattle.rb_ring.specs.declared.ring.RingState.TheInside.{Inside}
-use Rattle.rb_history.specs.declared.stored.RecordState.TheVariants.{Reserved, Discarded as DiscardedState}
-use Rattle.rb_history.specs.Rows.{IsBusyAt}
-use Rattle.rb_history.specs.Stored.{is_reserved_state}
+use Rattle.rb_history.specs.declared.stored_records.RecordState.TheVariants.{Reserved, Discarded as DiscardedState}
+use Rattle.rb_history.specs.inner.RecordRows.{IsBusyAt}
+use Rattle.rb_history.specs.StoredRecords.{is_reserved_state}
 use Rattle.rb_ring.proofs.Tallying.{bit, count-set, count-most}
 use Rattle.rb_history.proofs.Row.{get_or-default}
 use Rattle.rb_history.proofs.Contents.{length-map}
@@ -41,11 +41,11 @@ settled t u c ss p i s n pos len row b e w names a =
     holding-set t u c ss p i s n row b.within b.there e (subst (λ q. Writes t u q (Some n)) (sym b.at) w) names a
 
 -- a place for the next record is no other's
-pub room-apart : (t : Parts) (c : ℕ) (ss : List StoredRecord) (p : ℕ) → InRow c (map shown_record ss) p → c % 8 ≡ 0 → IsSize t.size → p < c + t.size → Holding (at t) ss →
-    (q : ℕ) → is_some (at t q) ≡ true → Names (at t) → place t.size q ≢ place t.size p
-room-apart t c ss p row a z near h q there names = go (at t q) refl there
+pub room-apart : (t : TableContents) (c : ℕ) (ss : List StoredRecord) (p : ℕ) → InRow c (map shown_record ss) p → c % 8 ≡ 0 → IsRingSize t.size → p < c + t.size → Holding (record_at t) ss →
+    (q : ℕ) → is_some (record_at t q) ≡ true → Names (record_at t) → place t.size q ≢ place t.size p
+room-apart t c ss p row a z near h q there names = go (record_at t q) refl there
   where
-    go : (o : Option StoredRecord) → at t q ≡ o → is_some o ≡ true → place t.size q ≢ place t.size p
+    go : (o : Option StoredRecord) → record_at t q ≡ o → is_some o ≡ true → place t.size q ≢ place t.size p
     go None e on = absurd (false≢true on)
     go (Some s) e on =
         let w = row-within c ss p row a s (h.only q s e) in
@@ -79,8 +79,8 @@ holding-same t u e ss a = subst (λ f. Holding f ss) (λ i q. sym (e q) i) a
 
 -- ---- the ring as it is
 
-pub few : (a : Inside) → IsKept a → a.consumer + 8 * a.table.live ≤ a.producer
-few a i = omega (arith, row-many a.consumer (rows a) a.producer i.kept.in_row, length-walk (at a.table) a.table.live a.consumer)
+pub few : (a : Inside) → RingInvariant a → a.consumer + 8 * a.table.live ≤ a.producer
+few a i = omega (arith, row-many a.consumer (stored_rows a) a.producer i.kept.in_row, length-walk (record_at a.table) a.table.live a.consumer)
 
 -- a busy record is counted
 pub busy-counts : (ss : List StoredRecord) (i : ℕ) (s : StoredRecord) (pos n : ℕ) → BusyRecord ss i s pos n → 0 < count_by (λ x. is_reserved_state x.state) ss
@@ -89,5 +89,5 @@ busy-counts ss i s pos n b =
     omega (arith, on, count-set (λ (x : StoredRecord). is_reserved_state x.state) ss i s (record s { state = DiscardedState }) b.within b.there)
 
 -- few records are there, so that what counts them fits
-pub few-counted : (a : Inside) → IsKept a → (f : StoredRecord → Bool) → 8 * count_by f (rows a) ≤ a.producer
-few-counted a i f = omega (arith, few a i, count-most f (rows a), length-walk (at a.table) a.table.live a.consumer)
+pub few-counted : (a : Inside) → RingInvariant a → (f : StoredRecord → Bool) → 8 * count_by f (stored_rows a) ≤ a.producer
+few-counted a i f = omega (arith, few a i, count-most f (stored_rows a), length-walk (record_at a.table) a.table.live a.consumer)

@@ -3,19 +3,19 @@ use Rattle.std.proofs.Common.{◌≡◌, ℕ, true, List, Option, Some, None, ma
 use Rattle.std.specs.List.{Contains}
 use Rattle.std.proofs.lemmas.Bool.{false≢true}
 use Rattle.rb_history.specs.declared.entries.Entry.{Entry}
-use Rattle.rb_history.specs.declared.stored.StoredRecord.{StoredRecord}
-use Rattle.rb_history.specs.Granted.{Granted}
-use Rattle.rb_history.specs.Legal.{Setup}
-use Rattle.rb_history.specs.Rows.{Kept}
-use Rattle.rb_history.specs.Stored.{shown_record}
-use Rattle.rb_history.specs.Stored.{is_reserved_by}
-use Rattle.rb_ring.specs.Table.{is_reserved_in}
+use Rattle.rb_history.specs.declared.stored_records.StoredRecord.{StoredRecord}
+use Rattle.rb_history.specs.ReservationModel.{Granted}
+use Rattle.rb_history.specs.RoomRule.{Setup}
+use Rattle.rb_history.specs.inner.RecordRows.{HistoryFacts}
+use Rattle.rb_history.specs.StoredRecords.{shown_record}
+use Rattle.rb_history.specs.StoredRecords.{is_reserved_by}
+use Rattle.rb_ring.specs.inner.HeaderTable.{is_reserved_in}
 use Rattle.rb_history.specs.Calls.{IsBusy}
-use Rattle.rb_history.specs.Rows.{IsBusyAt}
-use Rattle.rb_ring.specs.Body.{Placed, Holding}
+use Rattle.rb_history.specs.inner.RecordRows.{IsBusyAt}
+use Rattle.rb_ring.specs.inner.RingBody.{Placed, Holding}
 use Rattle.rb_history.proofs.Finding.{found-at, found-busy, busy-there}
 
-module _ (r : Setup) (h : List Entry) (numbers : List StoredRecord) (p c : ℕ) (k : Kept r h (map shown_record numbers) p c) (v : Granted) where
+module _ (r : Setup) (h : List Entry) (numbers : List StoredRecord) (p c : ℕ) (k : HistoryFacts r h (map shown_record numbers) p c) (v : Granted) where
   -- ---- a table that holds the list
 
   at-hand : (t : Placed) → Holding t numbers → (o : Option StoredRecord) → t v.pos ≡ o → is_reserved_in o v ≡ true → (s : StoredRecord) × (Contains numbers s × (is_reserved_by v s ≡ true))

@@ -2,56 +2,56 @@
 use Rattle.std.proofs.Common.{◌≡◌, ◌≢◌, ℕ, ◌+◌, ◌<◌, ◌&&◌, Bool, true, false, cond, List, [], ◌∷◌, ◌++◌, length, get_or, set, Option, Some, None, is_some, refl, sym, ap, ◌∙◌, inl, inr, arith, eqb, subst, zero, suc, ◌/◌, ◌%◌, IfSome}
 use Rattle.std.proofs.lemmas.Bool.{cases_Bool, cases_eq, cases_lt, ne_eqb, eq-eqb, eqb-true, and_parts, true≢false, false≢true}
 use Rattle.std.proofs.lemmas.List.{get_or-set_same, get_or-set_other, get_or_past, set-get_or, get_or_append_left, get_or_push}
-use Rattle.rb_ring.specs.declared.table.Word.{Word}
-use Rattle.rb_ring.specs.declared.table.Slot.{Slot}
-use Rattle.rb_history.specs.declared.stored.StoredRecord.{StoredRecord}
-use Rattle.rb_history.specs.declared.stored.RecordState.TheVariants.{Reserved, Submitted, Discarded as DiscardedState}
-use Rattle.rb_ring.specs.Table.{place, no_word, no_slot, record_of, slot_of, standing_in, written}
+use Rattle.rb_ring.specs.declared.header_table.HeaderWord.{HeaderWord}
+use Rattle.rb_ring.specs.declared.header_table.RecordSlot.{RecordSlot}
+use Rattle.rb_history.specs.declared.stored_records.StoredRecord.{StoredRecord}
+use Rattle.rb_history.specs.declared.stored_records.RecordState.TheVariants.{Reserved, Submitted, Discarded as DiscardedState}
+use Rattle.rb_ring.specs.inner.HeaderTable.{place, no_word, no_slot, record_of, slot_of, standing_in, with_record}
 
 -- the slot is no record's at q
-abbrev pub Off : ℕ → Slot → Type 0
+abbrev pub Off : ℕ → RecordSlot → Type 0
 Off q s = s.used ≡ true → s.pos ≡ q → ⊥
 
-pub off-none : (q : ℕ) (w : Word) (s : Slot) → Off q s → standing_in q w s ≡ None
+pub off-none : (q : ℕ) (w : HeaderWord) (s : RecordSlot) → Off q s → standing_in q w s ≡ None
 off-none q w s o = elim (cases_Bool s.used) [
   | inl t ↦ rw (t, ne_eqb s.pos q (o t)) refl
   | inr f ↦ rw f refl
 ]
 
-pub on-some : (q : ℕ) (w : Word) (s : Slot) → s.used ≡ true → s.pos ≡ q → standing_in q w s ≡ Some (record_of w s)
+pub on-some : (q : ℕ) (w : HeaderWord) (s : RecordSlot) → s.used ≡ true → s.pos ≡ q → standing_in q w s ≡ Some (record_of w s)
 on-some q w s u e = rw (u, eq-eqb s.pos q e) refl
 
 some-if : (b : Bool) (x : StoredRecord) → is_some (cond b (Some x) None) ≡ true → b ≡ true
 some-if true x e = refl
 some-if false x e = e
 
-pub standing_in-parts : (q : ℕ) (w : Word) (s : Slot) → is_some (standing_in q w s) ≡ true → (s.used ≡ true) × (s.pos ≡ q)
+pub standing_in-parts : (q : ℕ) (w : HeaderWord) (s : RecordSlot) → is_some (standing_in q w s) ≡ true → (s.used ≡ true) × (s.pos ≡ q)
 standing_in-parts q w s e =
     let b = and_parts s.used (eqb s.pos q) (some-if (s.used && eqb s.pos q) (record_of w s) e) in
     (b.0, eqb-true s.pos q b.1)
 
-pub written-here : (o n : Option StoredRecord) (p : ℕ) → written o p n p ≡ n
+pub written-here : (o n : Option StoredRecord) (p : ℕ) → with_record o p n p ≡ n
 written-here o n p = rw (eq-eqb p p refl) refl
 
-pub written-else : (o n : Option StoredRecord) (p q : ℕ) → q ≢ p → written o p n q ≡ o
+pub written-else : (o n : Option StoredRecord) (p q : ℕ) → q ≢ p → with_record o p n q ≡ o
 written-else o n p q e = rw (ne_eqb q p e) refl
 
 -- a slot that is in use is within the list
-pub used-within : (ss : List Slot) (k : ℕ) → (get_or ss k no_slot).used ≡ true → k < length ss
+pub used-within : (ss : List RecordSlot) (k : ℕ) → (get_or ss k no_slot).used ≡ true → k < length ss
 used-within ss k u = elim (cases_lt k (length ss)) [
   | inl lt ↦ lt
   | inr le ↦ absurd (false≢true (sym (ap (λ s. s.used) (get_or_past ss k no_slot le)) ∙ u))
 ]
 
-off-used : (q : ℕ) (s : Slot) → s.used ≡ false → Off q s
+off-used : (q : ℕ) (s : RecordSlot) → s.used ≡ false → Off q s
 off-used q s f u e = false≢true (sym f ∙ u)
 
-off-pos : (p q : ℕ) (s : Slot) → q ≢ p → s.pos ≡ p → Off q s
+off-pos : (p q : ℕ) (s : RecordSlot) → q ≢ p → s.pos ≡ p → Off q s
 off-pos p q s n e u same = n (sym same ∙ e)
 
 -- ---- a record is written where none stands
 
-pub record Puts (ws : List Word) (ks : List ℕ) (ss : List Slot) (p i k : ℕ) (s : Slot) : Type 0 where
+pub record Puts (ws : List HeaderWord) (ks : List ℕ) (ss : List RecordSlot) (p i k : ℕ) (s : RecordSlot) : Type 0 where
   pub in_words : i < length ws
   pub in_slots : i < length ks
   pub in_seats : k < length ss
@@ -59,10 +59,10 @@ pub record Puts (ws : List Word) (ks : List ℕ) (ss : List Slot) (p i k : ℕ) 
   pub used : s.used ≡ true
   pub names : s.pos ≡ p
 
-pub puts-at : (size : ℕ) (ws : List Word) (ks : List ℕ) (ss : List Slot) (p k : ℕ) (w : Word) (s : Slot) → Puts ws ks ss p (place size p) k s →
+pub puts-at : (size : ℕ) (ws : List HeaderWord) (ks : List ℕ) (ss : List RecordSlot) (p k : ℕ) (w : HeaderWord) (s : RecordSlot) → Puts ws ks ss p (place size p) k s →
     (q : ℕ) → (is_some (standing_in q (get_or ws (place size q) no_word) (slot_of ks ss (place size q))) ≡ true → place size q ≢ place size p) →
     standing_in q (get_or (set ws (place size p) w) (place size q) no_word) (slot_of (set ks (place size p) k) (set ss k s) (place size q))
-    ≡ written (standing_in q (get_or ws (place size q) no_word) (slot_of ks ss (place size q))) p (Some (record_of w s)) q
+    ≡ with_record (standing_in q (get_or ws (place size q) no_word) (slot_of ks ss (place size q))) p (Some (record_of w s)) q
 puts-at size ws ks ss p k w s u q apart = elim (cases_eq q p) [
   | inl same ↦
       let here : place size q ≡ place size p = ap (place size) same in
@@ -87,19 +87,19 @@ puts-at size ws ks ss p k w s u q apart = elim (cases_eq q p) [
         is-none None f = refl
         is-none (Some x) f = absurd (true≢false f)
 
-    ow : Word
+    ow : HeaderWord
     ow = get_or ws (place size q) no_word
 
-    os : Slot
+    os : RecordSlot
     os = slot_of ks ss (place size q)
 
-    nw : Word
+    nw : HeaderWord
     nw = get_or (set ws (place size p) w) (place size q) no_word
 
-    ns : Slot
+    ns : RecordSlot
     ns = slot_of (set ks (place size p) k) (set ss k s) (place size q)
 
-    moved : q ≢ p → standing_in q nw ns ≡ written old p (Some (record_of w s)) q
+    moved : q ≢ p → standing_in q nw ns ≡ with_record old p (Some (record_of w s)) q
     moved other = elim (cases_eq (place size q) (place size p)) [
       | inl same ↦
           let new-slot : ns ≡ s =
@@ -124,28 +124,28 @@ puts-at size ws ks ss p k w s u q apart = elim (cases_eq q p) [
 -- ---- the word and the slot of a record are changed
 
 -- the new slot is the record's still, or none's
-pub data Stays (p : ℕ) (w : Word) (s : Slot) : Option StoredRecord → Type 0 where
+pub data Stays (p : ℕ) (w : HeaderWord) (s : RecordSlot) : Option StoredRecord → Type 0 where
   Same : s.used ≡ true → s.pos ≡ p → Stays p w s (Some (record_of w s))
   Gone : s.used ≡ false → Stays p w s None
 
-stays-here : (p : ℕ) (w : Word) (s : Slot) (n : Option StoredRecord) → Stays p w s n → standing_in p w s ≡ n
+stays-here : (p : ℕ) (w : HeaderWord) (s : RecordSlot) (n : Option StoredRecord) → Stays p w s n → standing_in p w s ≡ n
 stays-here p w s n (Same u e) = on-some p w s u e
 stays-here p w s n (Gone f) = off-none p w s (off-used p s f)
 
-stays-off : (p q : ℕ) (w : Word) (s : Slot) (n : Option StoredRecord) → q ≢ p → Stays p w s n → Off q s
+stays-off : (p q : ℕ) (w : HeaderWord) (s : RecordSlot) (n : Option StoredRecord) → q ≢ p → Stays p w s n → Off q s
 stays-off p q w s n other (Same u e) = off-pos p q s other e
 stays-off p q w s n other (Gone f) = off-used q s f
 
-pub record Changes (ws : List Word) (ks : List ℕ) (ss : List Slot) (p i k : ℕ) (w : Word) (s : Slot) (n : Option StoredRecord) : Type 0 where
+pub record Changes (ws : List HeaderWord) (ks : List ℕ) (ss : List RecordSlot) (p i k : ℕ) (w : HeaderWord) (s : RecordSlot) (n : Option StoredRecord) : Type 0 where
   pub in_words : i < length ws
   pub slot_is : k ≡ get_or ks i 0
   pub there : is_some (standing_in p (get_or ws i no_word) (slot_of ks ss i)) ≡ true
   pub stays : Stays p w s n
 
-pub changes-at : (size : ℕ) (ws : List Word) (ks : List ℕ) (ss : List Slot) (p k : ℕ) (w : Word) (s : Slot) (n : Option StoredRecord) → Changes ws ks ss p (place size p) k w s n →
+pub changes-at : (size : ℕ) (ws : List HeaderWord) (ks : List ℕ) (ss : List RecordSlot) (p k : ℕ) (w : HeaderWord) (s : RecordSlot) (n : Option StoredRecord) → Changes ws ks ss p (place size p) k w s n →
     (q : ℕ) →
     standing_in q (get_or (set ws (place size p) w) (place size q) no_word) (slot_of ks (set ss k s) (place size q))
-    ≡ written (standing_in q (get_or ws (place size q) no_word) (slot_of ks ss (place size q))) p n q
+    ≡ with_record (standing_in q (get_or ws (place size q) no_word) (slot_of ks ss (place size q))) p n q
 changes-at size ws ks ss p k w s n u q =
     elim (cases_eq q p) [
       | inl same ↦
@@ -161,19 +161,19 @@ changes-at size ws ks ss p k w s n u q =
     within : k < length ss
     within = used-within ss k (ap (λ x. (get_or ss x no_slot).used) u.slot_is ∙ parts.0)
 
-    ow : Word
+    ow : HeaderWord
     ow = get_or ws (place size q) no_word
 
-    os : Slot
+    os : RecordSlot
     os = slot_of ks ss (place size q)
 
-    nw : Word
+    nw : HeaderWord
     nw = get_or (set ws (place size p) w) (place size q) no_word
 
-    ns : Slot
+    ns : RecordSlot
     ns = slot_of ks (set ss k s) (place size q)
 
-    moved : q ≢ p → standing_in q nw ns ≡ written (standing_in q ow os) p n q
+    moved : q ≢ p → standing_in q nw ns ≡ with_record (standing_in q ow os) p n q
     moved other = elim (cases_eq (get_or ks (place size q) 0) k) [
       | inl mine ↦
           let new-slot : ns ≡ s = rw mine (get_or-set_same ss k s no_slot within) in
@@ -188,29 +188,29 @@ changes-at size ws ks ss p k w s n u q =
     ]
 
 -- the word alone is changed
-pub word-at : (size : ℕ) (ws : List Word) (ks : List ℕ) (ss : List Slot) (p : ℕ) (w : Word) → place size p < length ws →
+pub word-at : (size : ℕ) (ws : List HeaderWord) (ks : List ℕ) (ss : List RecordSlot) (p : ℕ) (w : HeaderWord) → place size p < length ws →
     is_some (standing_in p (get_or ws (place size p) no_word) (slot_of ks ss (place size p))) ≡ true →
     (q : ℕ) →
     standing_in q (get_or (set ws (place size p) w) (place size q) no_word) (slot_of ks ss (place size q))
-    ≡ written (standing_in q (get_or ws (place size q) no_word) (slot_of ks ss (place size q))) p (Some (record_of w (slot_of ks ss (place size p)))) q
+    ≡ with_record (standing_in q (get_or ws (place size q) no_word) (slot_of ks ss (place size q))) p (Some (record_of w (slot_of ks ss (place size p)))) q
 word-at size ws ks ss p w l there q =
     let s = slot_of ks ss (place size p) in
     let k = get_or ks (place size p) 0 in
     let parts = standing_in-parts p (get_or ws (place size p) no_word) s there in
     subst (λ ts. standing_in q (get_or (set ws (place size p) w) (place size q) no_word) (slot_of ks ts (place size q))
-    ≡ written (standing_in q (get_or ws (place size q) no_word) (slot_of ks ss (place size q))) p (Some (record_of w s)) q) (set-get_or ss k no_slot)
+    ≡ with_record (standing_in q (get_or ws (place size q) no_word) (slot_of ks ss (place size q))) p (Some (record_of w s)) q) (set-get_or ss k no_slot)
     (changes-at size ws ks ss p k w s (Some (record_of w s)) (record { in_words = l; slot_is = refl; there = there; stays = Same parts.0 parts.1 }) q)
 
 -- the slot alone is changed
-pub slot-at : (size : ℕ) (ws : List Word) (ks : List ℕ) (ss : List Slot) (p k : ℕ) (s : Slot) → place size p < length ws → k ≡ get_or ks (place size p) 0 →
+pub slot-at : (size : ℕ) (ws : List HeaderWord) (ks : List ℕ) (ss : List RecordSlot) (p k : ℕ) (s : RecordSlot) → place size p < length ws → k ≡ get_or ks (place size p) 0 →
     is_some (standing_in p (get_or ws (place size p) no_word) (slot_of ks ss (place size p))) ≡ true → s.used ≡ false →
     (q : ℕ) →
     standing_in q (get_or ws (place size q) no_word) (slot_of ks (set ss k s) (place size q))
-    ≡ written (standing_in q (get_or ws (place size q) no_word) (slot_of ks ss (place size q))) p None q
+    ≡ with_record (standing_in q (get_or ws (place size q) no_word) (slot_of ks ss (place size q))) p None q
 slot-at size ws ks ss p k s l is there off q =
     let w = get_or ws (place size p) no_word in
     subst (λ xs. standing_in q (get_or xs (place size q) no_word) (slot_of ks (set ss k s) (place size q))
-    ≡ written (standing_in q (get_or ws (place size q) no_word) (slot_of ks ss (place size q))) p None q) (set-get_or ws (place size p) no_word)
+    ≡ with_record (standing_in q (get_or ws (place size q) no_word) (slot_of ks ss (place size q))) p None q) (set-get_or ws (place size p) no_word)
     (changes-at size ws ks ss p k w s None (record { in_words = l; slot_is = is; there = there; stays = Gone off }) q)
 
 -- ---- the words that are written
@@ -223,7 +223,7 @@ busy-word len page pos worker serial sheet l =
     let rest : (2147483648 + len) % 1073741824 ≡ len = omega arith in
     rw (bits, rest) refl
 
-pub sent-word : (w : Word) (s : Slot) (page : ℕ) (b : List ℕ) →
+pub sent-word : (w : HeaderWord) (s : RecordSlot) (page : ℕ) (b : List ℕ) →
     record_of (record { length = w.length % 1073741824; page = page }) (record s { sheet = Some b }) ≡ record (record_of w s) { state = Submitted b }
 sent-word w s page b =
     let busy : w.length % 1073741824 / 2147483648 ≡ 0 = omega arith in
@@ -231,7 +231,7 @@ sent-word w s page b =
     let rest : w.length % 1073741824 % 1073741824 ≡ w.length % 1073741824 = omega arith in
     rw (busy, dropped, rest) refl
 
-pub dropped-word : (w : Word) (s : Slot) (page : ℕ) →
+pub dropped-word : (w : HeaderWord) (s : RecordSlot) (page : ℕ) →
     record_of (record { length = w.length % 1073741824 + 1073741824; page = page }) s ≡ record (record_of w s) { state = DiscardedState }
 dropped-word w s page =
     let busy : (w.length % 1073741824 + 1073741824) / 2147483648 ≡ 0 = omega arith in
@@ -244,14 +244,14 @@ if-some None x P e p = cc
 if-some (Some y) x P e p = let same : y ≡ x = cc in subst P (sym same) p
 
 -- the word and the slot of a record that is there
-pub record-there : (p : ℕ) (w : Word) (s : Slot) → is_some (standing_in p w s) ≡ true → standing_in p w s ≡ Some (record_of w s)
+pub record-there : (p : ℕ) (w : HeaderWord) (s : RecordSlot) → is_some (standing_in p w s) ≡ true → standing_in p w s ≡ Some (record_of w s)
 record-there p w s t = let parts = standing_in-parts p w s t in on-some p w s parts.0 parts.1
 
 -- a slot without a record at the end
-pub grown : (p : ℕ) (w : Word) (ks : List ℕ) (ss : List Slot) (i : ℕ) (s : Slot) → s.used ≡ false → standing_in p w (slot_of ks (ss ++ s ∷ []) i) ≡ standing_in p w (slot_of ks ss i)
+pub grown : (p : ℕ) (w : HeaderWord) (ks : List ℕ) (ss : List RecordSlot) (i : ℕ) (s : RecordSlot) → s.used ≡ false → standing_in p w (slot_of ks (ss ++ s ∷ []) i) ≡ standing_in p w (slot_of ks ss i)
 grown p w ks ss i s free = grown-at (get_or ks i 0) ss
   where
-    grown-at : (k : ℕ) (ts : List Slot) → standing_in p w (get_or (ts ++ s ∷ []) k no_slot) ≡ standing_in p w (get_or ts k no_slot)
+    grown-at : (k : ℕ) (ts : List RecordSlot) → standing_in p w (get_or (ts ++ s ∷ []) k no_slot) ≡ standing_in p w (get_or ts k no_slot)
     grown-at zero [] = off-none p w s (off-used p s free) ∙ sym (off-none p w no_slot (off-used p no_slot refl))
     grown-at (suc k) [] = refl
     grown-at zero (t ∷ ts) = refl
@@ -259,7 +259,7 @@ grown p w ks ss i s free = grown-at (get_or ks i 0) ss
 
 -- ---- a slot is freed
 
-module _ (fs : List ℕ) (ss : List Slot) (k n m : ℕ) (s : Slot) (long : length fs ≡ n) where
+module _ (fs : List ℕ) (ss : List RecordSlot) (k n m : ℕ) (s : RecordSlot) (long : length fs ≡ n) where
   at-old : (i : ℕ) → i < n → get_or (fs ++ k ∷ []) i 0 ≡ get_or fs i 0
   at-old i l = get_or_append_left fs (k ∷ []) 0 i (omega arith)
 

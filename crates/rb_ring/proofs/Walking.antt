@@ -5,12 +5,12 @@ use Rattle.std.proofs.lemmas.Bool.{cases_eq}
 use Rattle.std.proofs.lemmas.List.{get_or-set_same, get_or-set_other, length-set}
 use Rattle.std.proofs.lemmas.List.Elements.{All-nil, All-cons, All-head, All-tail, All-push, Contains-append_left, Contains-append_right}
 use Rattle.rb_header.specs.Span.{span}
-use Rattle.rb_history.specs.declared.stored.StoredRecord.{StoredRecord}
-use Rattle.rb_history.specs.Rows.{InRow}
-use Rattle.rb_history.specs.Stored.{shown_record}
-use Rattle.rb_ring.specs.Table.{place, Parts, at, written, no_word, slot_of}
-use Rattle.rb_ring.specs.Body.{Placed, record_or, walk, Stands, Holding}
-use Rattle.rb_history.specs.View.{IsSize}
+use Rattle.rb_history.specs.declared.stored_records.StoredRecord.{StoredRecord}
+use Rattle.rb_history.specs.inner.RecordRows.{InRow}
+use Rattle.rb_history.specs.StoredRecords.{shown_record}
+use Rattle.rb_ring.specs.inner.HeaderTable.{place, TableContents, record_at, with_record, no_word, slot_of}
+use Rattle.rb_ring.specs.inner.RingBody.{Placed, record_or, walk, IsPlaced, Holding}
+use Rattle.rb_history.specs.RingModel.{IsRingSize}
 use Rattle.rb_history.proofs.Row.{InRow-le, get_or-default}
 use Rattle.rb_ring.proofs.Places.{places-apart}
 use Rattle.rb_ring.proofs.Sizes.{eights-in}
@@ -27,7 +27,7 @@ whole size m p e a =
     omega (arith, product)
 
 -- two positions less than a size apart have two places
-pub place-apart : (size p q : ℕ) → IsSize size → p % 8 ≡ 0 → q % 8 ≡ 0 → p < q → q < p + size → place size p ≢ place size q
+pub place-apart : (size p q : ℕ) → IsRingSize size → p % 8 ≡ 0 → q % 8 ≡ 0 → p < q → q < p + size → place size p ≢ place size q
 place-apart size p q z a b lt near same =
     let e = eights-in size z in
     let same_rest : p % size ≡ q % size = omega (arith, same, whole size e.0 p e.1 a, whole size e.0 q e.1 b) in
@@ -39,11 +39,11 @@ pub length-walk : (t : Placed) (n c : ℕ) → length (walk t n c) ≡ n
 length-walk t zero c = refl
 length-walk t (suc n) c = ap suc (length-walk t n (c + span (record_or (t c)).len))
 
-pub walk-is : (t : Placed) (c : ℕ) (ss : List StoredRecord) (p : ℕ) → InRow c (map shown_record ss) p → All (Stands t) ss → walk t (length ss) c ≡ ss
+pub walk-is : (t : Placed) (c : ℕ) (ss : List StoredRecord) (p : ℕ) → InRow c (map shown_record ss) p → All (IsPlaced t) ss → walk t (length ss) c ≡ ss
 walk-is t c [] p row a = refl
 walk-is t c (s ∷ ss) p row a =
-    let here : t c ≡ Some s = ap t (sym row.0) ∙ All-head (Stands t) s ss a in
-    rw here (ap (λ l. s ∷ l) (walk-is t (c + span s.len) ss p row.1 (All-tail (Stands t) s ss a)))
+    let here : t c ≡ Some s = ap t (sym row.0) ∙ All-head (IsPlaced t) s ss a in
+    rw here (ap (λ l. s ∷ l) (walk-is t (c + span s.len) ss p row.1 (All-tail (IsPlaced t) s ss a)))
 
 pub row-many : (c : ℕ) (ss : List StoredRecord) (p : ℕ) → InRow c (map shown_record ss) p → c + 8 * length ss ≤ p
 row-many c [] p row = omega (arith, row)
@@ -68,7 +68,7 @@ row-end c (s ∷ ss) p row a = row-end (c + span s.len) ss p row.1 (omega arith)
 
 -- the one table is the other but for the record at x
 abbrev pub Writes : Placed → Placed → ℕ → Option StoredRecord → Type 0
-Writes t u x n = (q : ℕ) → u q ≡ written (t q) x n q
+Writes t u x n = (q : ℕ) → u q ≡ with_record (t q) x n q
 
 pub here-is : (t u : Placed) (x : ℕ) (n : Option StoredRecord) → Writes t u x n → u x ≡ n
 here-is t u x n w = w x ∙ written-here (t x) n x
@@ -76,13 +76,13 @@ here-is t u x n w = w x ∙ written-here (t x) n x
 pub else-is : (t u : Placed) (x : ℕ) (n : Option StoredRecord) → Writes t u x n → (q : ℕ) → q ≢ x → u q ≡ t q
 else-is t u x n w q other = w q ∙ written-else (t q) n x q other
 
-pub stands-past : (t u : Placed) (x : ℕ) (n : Option StoredRecord) → Writes t u x n → (c : ℕ) (ss : List StoredRecord) (p : ℕ) → InRow c (map shown_record ss) p → ((x < c) ⊎ (p ≤ x)) → All (Stands t) ss → All (Stands u) ss
+pub stands-past : (t u : Placed) (x : ℕ) (n : Option StoredRecord) → Writes t u x n → (c : ℕ) (ss : List StoredRecord) (p : ℕ) → InRow c (map shown_record ss) p → ((x < c) ⊎ (p ≤ x)) → All (IsPlaced t) ss → All (IsPlaced u) ss
 stands-past t u x n w c [] p row off a = All-nil _
 stands-past t u x n w c (s ∷ ss) p row off a =
     let low : c + span s.len ≤ p = InRow-le (c + span s.len) (map shown_record ss) p row.1 in
     let far : s.pos ≢ x = λ e. elim off [ inl lt ↦ omega (arith, row.0, e) | inr le ↦ omega (arith, row.0, e, low) ] in
     let next : (x < c + span s.len) ⊎ (p ≤ x) = elim off [ inl lt ↦ inl (omega arith) | inr le ↦ inr le ] in
-    All-cons (Stands u) s ss (else-is t u x n w s.pos far ∙ All-head (Stands t) s ss a) (stands-past t u x n w (c + span s.len) ss p row.1 next (All-tail (Stands t) s ss a))
+    All-cons (IsPlaced u) s ss (else-is t u x n w s.pos far ∙ All-head (IsPlaced t) s ss a) (stands-past t u x n w (c + span s.len) ss p row.1 next (All-tail (IsPlaced t) s ss a))
 
 -- each record names its position
 abbrev pub Names : Placed → Type 0
@@ -98,7 +98,7 @@ none-some x e = cc
 
 pub holding-push : (t u : Placed) (c : ℕ) (ss : List StoredRecord) (p : ℕ) (s : StoredRecord) → InRow c (map shown_record ss) p → s.pos ≡ p → Writes t u p (Some s) → Holding t ss → Holding u (ss ++ s ∷ [])
 holding-push t u c ss p s row e w h = record {
-  each = All-push (Stands u) ss s (stands-past t u p (Some s) w c ss p row (inr (omega arith)) h.each) (ap u e ∙ here-is t u p (Some s) w);
+  each = All-push (IsPlaced u) ss s (stands-past t u p (Some s) w c ss p row (inr (omega arith)) h.each) (ap u e ∙ here-is t u p (Some s) w);
   only = λ q x is. elim (cases_eq q p) [
     | inl same ↦ subst (Contains (ss ++ s ∷ [])) (some-is s x (sym (here-is t u p (Some s) w) ∙ ap u (sym same) ∙ is)) (Contains-append_right ss (s ∷ []) s (0, omega arith, refl))
     | inr other ↦ Contains-append_left ss (s ∷ []) x (h.only q x (sym (else-is t u p (Some s) w q other) ∙ is))
@@ -107,15 +107,15 @@ holding-push t u c ss p s row e w h = record {
 
 -- ---- a record is settled
 
-pub set-stands : (t u : Placed) (c : ℕ) (ss : List StoredRecord) (p i : ℕ) (s n : StoredRecord) → InRow c (map shown_record ss) p → i < length ss → s ≡ get_or ss i s → n.pos ≡ s.pos → Writes t u s.pos (Some n) → All (Stands t) ss → All (Stands u) (set ss i n)
+pub set-stands : (t u : Placed) (c : ℕ) (ss : List StoredRecord) (p i : ℕ) (s n : StoredRecord) → InRow c (map shown_record ss) p → i < length ss → s ≡ get_or ss i s → n.pos ≡ s.pos → Writes t u s.pos (Some n) → All (IsPlaced t) ss → All (IsPlaced u) (set ss i n)
 set-stands t u c [] p i s n row l is e w a = absurd (omega arith)
 set-stands t u c (x ∷ ss) p zero s n row l is e w a =
-    All-cons (Stands u) n ss (ap u e ∙ here-is t u s.pos (Some n) w)
-    (stands-past t u s.pos (Some n) w (c + span x.len) ss p row.1 (inl (omega (arith, row.0, ap (λ y. y.pos) is))) (All-tail (Stands t) x ss a))
+    All-cons (IsPlaced u) n ss (ap u e ∙ here-is t u s.pos (Some n) w)
+    (stands-past t u s.pos (Some n) w (c + span x.len) ss p row.1 (inl (omega (arith, row.0, ap (λ y. y.pos) is))) (All-tail (IsPlaced t) x ss a))
 set-stands t u c (x ∷ ss) p (suc i) s n row l is e w a =
     let after : (c + span x.len ≤ s.pos) = above (c + span x.len) ss p i s row.1 (omega arith) is in
-    All-cons (Stands u) x (set ss i n) (else-is t u s.pos (Some n) w x.pos (λ f. omega (arith, row.0, f, after)) ∙ All-head (Stands t) x ss a)
-    (set-stands t u (c + span x.len) ss p i s n row.1 (omega arith) is e w (All-tail (Stands t) x ss a))
+    All-cons (IsPlaced u) x (set ss i n) (else-is t u s.pos (Some n) w x.pos (λ f. omega (arith, row.0, f, after)) ∙ All-head (IsPlaced t) x ss a)
+    (set-stands t u (c + span x.len) ss p i s n row.1 (omega arith) is e w (All-tail (IsPlaced t) x ss a))
   where
     above : (c : ℕ) (ss : List StoredRecord) (p i : ℕ) (s : StoredRecord) → InRow c (map shown_record ss) p → i < length ss → s ≡ get_or ss i s → c ≤ s.pos
     above c [] p i s row l is = absurd (omega arith)
@@ -143,7 +143,7 @@ holding-set t u c ss p i s n row l is e w names h = record {
 
 pub holding-tail : (t u : Placed) (c : ℕ) (s : StoredRecord) (ss : List StoredRecord) (p : ℕ) → InRow c (map shown_record (s ∷ ss)) p → Writes t u c None → Names t → Holding t (s ∷ ss) → Holding u ss
 holding-tail t u c s ss p row w names h = record {
-  each = stands-past t u c None w (c + span s.len) ss p row.1 (inl (omega arith)) (All-tail (Stands t) s ss h.each);
+  each = stands-past t u c None w (c + span s.len) ss p row.1 (inl (omega arith)) (All-tail (IsPlaced t) s ss h.each);
   only = λ q x there. elim (cases_eq q c) [
     | inl same ↦ absurd (none-some x (sym (here-is t u c None w) ∙ ap u (sym same) ∙ there))
     | inr other ↦
@@ -158,7 +158,7 @@ holding-tail t u c s ss p row w names h = record {
 
 -- ---- of a table
 
-pub at-names : (t : Parts) → Names (at t)
+pub at-names : (t : TableContents) → Names (record_at t)
 at-names t q s is =
     let there = standing_in-parts q (get_or t.words (place t.size q) no_word) (slot_of t.numbers t.slots (place t.size q)) (ap is_some is) in
     let same = sym (on-some q (get_or t.words (place t.size q) no_word) (slot_of t.numbers t.slots (place t.size q)) there.0 there.1) ∙ is in

@@ -1,23 +1,42 @@
 //! One ring, for one thread.
+//!
+//! Positions count bytes from the ring's first one on and never go back; the record at position `p` has its header at
+//! `p mod size` of the ring. Between the two positions are the records that were not taken, in the order of their grants:
+//!
+//! ```text
+//!  start        consumer                               producer       consumer + size - 1
+//!    |              |                                      |                   |
+//!    v              v                                      v                   v
+//!    +--------------+---------+------+-----------+---------+-------------------+
+//!    | taken before | waiting | busy | discarded | waiting | room for records  |
+//!    +--------------+---------+------+-----------+---------+-------------------+
+//!                   ^                                      ^
+//!                   `take` looks at this record alone      `reserve` grants the next one here
+//! ```
+//!
+//! A granted record is busy. `submit` makes it wait for `take`, `discard` has it passed over, both in any order. `take` hands out
+//! a waiting record or passes over a discarded one, and moves the consumer position behind it; a busy one stops it, whatever waits
+//! behind. `has_room` is the room rule (`rb_history`, `specs/RoomRule.antt`): the producer position never comes to
+//! `consumer + size`, where the next record would be written over one that was not taken.
 
 ghost use Rattle.std.specs.Prelude.{ℕ, true, ◌≡◌, ◌≢◌, ◌+◌, ◌<◌, ◌≤◌, ◌↔◌, ◌∷◌, [], ◌++◌, IsErrOf, IsTrue, IfOk, OnOk, OnErr, IfErr, IfSome, IfNone, OnSome, length, replicate};
 ghost use Rattle.std.specs.FinMap.{insert};
 ghost use Rattle.rb_history.specs.History.Status.{Busy};
 ghost use Rattle.rb_history.specs.Legal.{IsLegal};
-ghost use Rattle.rb_history.specs.View.{StandsFor, IsBounded, IsSize, IsStart, IsWorkerCount, fresh};
+ghost use Rattle.rb_history.specs.RingModel.{StandsFor, IsWithinBounds, IsRingSize, IsStartPosition, IsWorkerCount, fresh};
 ghost use Rattle.rb_history.specs.Counting.{counts_of};
-ghost use Rattle.rb_history.specs.Answers.{IsDue, ask};
-ghost use Rattle.rb_history.specs.Rows.{IsBusyAt};
-ghost use Rattle.rb_history.specs.Calls.{Logs, HasRoom, HasBusyFront, AllTaken, Takes, Grants, FindsFull, Outputs, Refuses, Holds, Submits, Discards, Strays, producer_now, consumer_now};
+ghost use Rattle.rb_history.specs.NoticesAndQueries.{IsDue, query_answer};
+ghost use Rattle.rb_history.specs.inner.RecordRows.{IsBusyAt};
+ghost use Rattle.rb_history.specs.Calls.{Logs, RingHasRoom, HasBusyFront, AllTaken, Takes, Grants, FindsFull, Outputs, Refuses, HoldsReservation, Submits, Discards, Strays, producer_now, consumer_now};
 
-use crate::running::Running;
-use crate::table::Table;
+use crate::header_table::HeaderTable;
+use crate::running_counts::RunningCounts;
 use rb_header::span;
 use rb_history::{
-    Counts, Entry, LIMIT, Notice, OpenFault, Reservation, ReserveFault, Stray, Taken, is_size,
-    is_start, is_worker_count, notice_for,
+    AVAIL_DATA, CONS_POS, Counts, Entry, KNOWN_FLAGS, Notice, OpenFault, POSITION_LIMIT, PROD_POS,
+    RING_SIZE, Reservation, ReserveFault, Stray, Taken, check_setup, notice_for,
 };
-use rb_lend::{Lent, Sheet};
+use rb_lend::Sheet;
 use std::alloc::Global;
 use std::marker::Model;
 
@@ -36,15 +55,15 @@ pub struct RingState {
     consumer: u64,
     history: Vec<Entry>,
     // The counts of the history, of which no call walks the whole.
-    running: Running,
+    running: RunningCounts,
     // How many records each worker was granted.
     serials: Vec<u64>,
     // The records that are there, with their header words.
-    table: Table,
+    table: HeaderTable,
 }
 
 impl Model for RingState {
-    ghost use Rattle.rb_history.specs.View.{Ring, contents_code};
+    ghost use Rattle.rb_history.specs.RingModel.{Ring, contents_code};
     ghost use Rattle.rb_history.specs.contracts.entries.Entry as entry;
     ghost use Rattle.std.specs.Coded.{codes};
 
@@ -52,35 +71,27 @@ impl Model for RingState {
 
     ghost coded = { Prim.hlevel (codes, contents_code, entry.the_row.coded) };
 
-    ghost use Rattle.rb_ring.specs.Body.{ring_of, IsKept};
+    ghost use Rattle.rb_ring.specs.inner.RingBody.{ring_shown, RingInvariant};
 
-    ghost view = { ring_of };
+    ghost view = { ring_shown };
 
-    ghost invariant = { IsKept };
+    ghost invariant = { RingInvariant };
 }
 
 impl RingState {
-    /// A ring without records, for `workers` workers, or the first of `OpenFault`'s refusals that stands.
+    /// A ring without records, for `workers` workers, or the first of `OpenFault`'s refusals that applies.
     pub fn new(alloc: Global, size: u64, start: u64, workers: u32) -> Result<RingState, OpenFault>
         ensures opened { IfOk result (λ ring. ring ≡ fresh size start workers) }
-        ensures size { IsErrOf result OpenFault.Size ↔ ¬ IsSize size }
-        ensures start { IsErrOf result OpenFault.Start ↔ (IsSize size × ¬ IsStart start) }
-        ensures workers { IsErrOf result OpenFault.Workers ↔ (IsSize size × IsStart start × ¬ IsWorkerCount workers) }
+        ensures size { IsErrOf result OpenFault.Size ↔ ¬ IsRingSize size }
+        ensures start { IsErrOf result OpenFault.Start ↔ (IsRingSize size × ¬ IsStartPosition start) }
+        ensures workers { IsErrOf result OpenFault.Workers ↔ (IsRingSize size × IsStartPosition start × ¬ IsWorkerCount workers) }
     {
-        if !is_size(size) {
-            return Err(OpenFault::Size);
-        }
-        if !is_start(start) {
-            return Err(OpenFault::Start);
-        }
-        if !is_worker_count(workers) {
-            return Err(OpenFault::Workers);
-        }
+        check_setup(size, start, workers)?;
         let serials = match vec![in alloc; 0; workers as usize] {
             Ok(serials) => serials,
             Err(_) => return Err(OpenFault::Memory),
         };
-        let Ok(table) = Table::new(alloc, size) else {
+        let Ok(table) = HeaderTable::new(alloc, size) else {
             return Err(OpenFault::Memory);
         };
         Ok(RingState {
@@ -90,7 +101,7 @@ impl RingState {
             producer: start,
             consumer: start,
             history: Vec::new(alloc),
-            running: Running::new(),
+            running: RunningCounts::new(),
             serials,
             table,
         })
@@ -100,7 +111,7 @@ impl RingState {
     pub fn facts(&self)
         ensures legal { IsLegal self.now.setup self.now.history }
         ensures stands { StandsFor self.now }
-        ensures bounded { IsBounded self.now }
+        ensures bounded { IsWithinBounds self.now }
     {
         let _ = &self.history;
     }
@@ -112,16 +123,16 @@ impl RingState {
         self.history.as_slice()
     }
 
-    /// The answers to a query (bpf-helpers(7), bpf_ringbuf_query): 0 asks for the bytes between the two positions, 1 for the
-    /// size, 2 for the consumer position and 3 for the producer position; any other number gives 0.
+    /// The answers to a query (bpf-helpers(7), bpf_ringbuf_query): `AVAIL_DATA` asks for the bytes between the two
+    /// positions, `RING_SIZE`, `CONS_POS` and `PROD_POS` for what they name; any other number gives 0.
     pub fn query(&self, what: u64) -> u64
-        ensures answer { result ≡ ask self.now.setup self.now.history what }
+        ensures answer { result ≡ query_answer self.now.setup self.now.history what }
     {
         match what {
-            0 => self.producer - self.consumer,
-            1 => self.size,
-            2 => self.consumer,
-            3 => self.producer,
+            AVAIL_DATA => self.producer - self.consumer,
+            RING_SIZE => self.size,
+            CONS_POS => self.consumer,
+            PROD_POS => self.producer,
             _ => 0,
         }
     }
@@ -130,7 +141,7 @@ impl RingState {
     pub fn counts(&self) -> Counts
         ensures counts { result ≡ counts_of self.now.history }
     {
-        let Running {
+        let RunningCounts {
             made,
             refused,
             discarded,
@@ -169,7 +180,7 @@ impl RingState {
         match self.grant(worker, n) {
             Err(fault) => Err((fault, sheet)),
             Ok((pos, serial)) => {
-                sheet.bytes_mut().fill(0);
+                sheet.clear();
                 Ok(Reservation::new(pos, worker, serial, sheet))
             }
         }
@@ -212,7 +223,7 @@ impl RingState {
     }
 
     #[inline(always)]
-    /// Grants worker `worker` a record and submits it at once, with the sheet's bytes. Flags above 3 are told first, and
+    /// Grants worker `worker` a record and submits it at once, with the sheet's bytes. Unknown flags are refused first, and
     /// nothing is logged then; otherwise it refuses as `reserve` does. A refusal hands the sheet back.
     pub fn output(
         &mut self,
@@ -224,12 +235,12 @@ impl RingState {
         ensures same_ring { self.new.setup ≡ self.old.setup }
         ensures granted { OnOk result (Outputs self.old self.new worker sheet) }
         ensures notice { IfOk result (λ n. (n ≡ Notice.Due) ↔ IsDue (consumer_now self.old) (producer_now self.old) flags) }
-        ensures known_flags { OnOk result (flags ≤ 3) }
-        ensures flags { IfErr result (λ e. (e.0 ≡ ReserveFault.Flags) ↔ (3 < flags)) }
+        ensures known_flags { OnOk result (flags ≤ KNOWN_FLAGS) }
+        ensures flags { IfErr result (λ e. (e.0 ≡ ReserveFault.Flags) ↔ (KNOWN_FLAGS < flags)) }
         ensures refused { IfErr result (λ e. Refuses self.old self.new worker (length sheet) e.0) }
         ensures handed_back { IfErr result (λ e. e.1 ≡ sheet) }
     {
-        if flags > 3 {
+        if flags > KNOWN_FLAGS {
             return Err((ReserveFault::Flags, sheet));
         }
         let notice = self.notice(self.producer(), flags);
@@ -244,7 +255,7 @@ impl RingState {
 
     #[inline(always)]
     /// Takes the record at the consumer position: hands out a submitted one and passes over a discarded one. A busy one
-    /// stops it, whatever stands behind.
+    /// stops it, whatever waits behind.
     pub fn take(&mut self) -> Taken
         ensures same_ring { self.new.setup ≡ self.old.setup }
         ensures takes { Takes self.old self.new result }
@@ -269,10 +280,10 @@ impl RingState {
     #[inline(always)]
     // Whether the room rule holds for a record of `n` bytes.
     fn has_room(&self, n: u32) -> bool
-        ensures test { IsTrue result ↔ HasRoom self.now n }
+        ensures test { IsTrue result ↔ RingHasRoom self.now n }
     {
         let end = self.producer + span(n);
-        end <= self.consumer + (self.size - 1) && end <= LIMIT
+        end <= self.consumer + (self.size - 1) && end <= POSITION_LIMIT
     }
 
     #[cold]
@@ -280,7 +291,7 @@ impl RingState {
     // Logs that there is no room. It takes room for that one entry.
     fn refuse(&mut self, worker: u32, n: u32) -> ReserveFault
         requires worker { worker < self.old.setup.workers }
-        requires full { ¬ HasRoom self.old n }
+        requires full { ¬ RingHasRoom self.old n }
         ensures same_ring { self.new.setup ≡ self.old.setup }
         ensures refused { Refuses self.old self.new worker n result }
         ensures known_flags { result ≢ ReserveFault.Flags }
@@ -371,7 +382,7 @@ impl RingState {
     // Whether the record of the reservation is busy.
     fn holds(&self, reservation: &Reservation) -> bool
         ensures found { result ≡ true → (i : ℕ) × IsBusyAt self.now.shown i reservation.now.pos (length reservation.now.bytes) }
-        ensures busy { IsTrue result ↔ Holds self.now reservation.now }
+        ensures busy { IsTrue result ↔ HoldsReservation self.now reservation.now }
     {
         self.table.is_reserved(reservation)
     }

@@ -6,12 +6,12 @@ use Rattle.std.proofs.lemmas.Bool.{cases_lt, lt-ltb, true≢false}
 use Rattle.std.proofs.lemmas.List.Quantifiers.{position-Some}
 use Rattle.std.proofs.lemmas.List.Sums.{fails_before_first}
 use Rattle.rb_history.specs.declared.entries.Entry.{Entry}
-use Rattle.rb_history.specs.declared.stored.StoredRecord.{StoredRecord}
-use Rattle.rb_history.specs.declared.stored.RecordState.TheVariants.{Reserved}
-use Rattle.rb_history.specs.Granted.{Granted}
-use Rattle.rb_history.specs.Legal.{Setup}
-use Rattle.rb_history.specs.Rows.{Kept, IsBusyAt}
-use Rattle.rb_history.specs.Stored.{shown_record, is_reserved_by}
+use Rattle.rb_history.specs.declared.stored_records.StoredRecord.{StoredRecord}
+use Rattle.rb_history.specs.declared.stored_records.RecordState.TheVariants.{Reserved}
+use Rattle.rb_history.specs.ReservationModel.{Granted}
+use Rattle.rb_history.specs.RoomRule.{Setup}
+use Rattle.rb_history.specs.inner.RecordRows.{HistoryFacts, IsBusyAt}
+use Rattle.rb_history.specs.StoredRecords.{shown_record, is_reserved_by}
 use Rattle.rb_history.specs.Calls.{IsBusy}
 use Rattle.rb_history.proofs.Row.{get_or-default}
 use Rattle.rb_history.proofs.Finding.{found-at, found-busy, busy-there}
@@ -25,7 +25,7 @@ position-None p xs k d none l = elim (cases_lt (position_or_len p xs) (length xs
 blank : StoredRecord
 blank = record { pos = 0; len = 0; worker = 0; serial = 0; state = Reserved }
 
-module _ (r : Setup) (h : List Entry) (stored : List StoredRecord) (p c : ℕ) (k : Kept r h (map shown_record stored) p c) (v : Granted) where
+module _ (r : Setup) (h : List Entry) (stored : List StoredRecord) (p c : ℕ) (k : HistoryFacts r h (map shown_record stored) p c) (v : Granted) where
   here : ℕ → StoredRecord
   here i = get_or stored i blank
 

@@ -1,5 +1,6 @@
-//! The plain twin of `rb_ring`: the same ring of records for one thread, with the same contracts, over a plain list of records.
-//! No other library uses it; tests give both the same calls and compare the answers.
+//! The plain twin of `rb_ring`: a BPF ring buffer for one thread (Linux Documentation/bpf/ringbuf.rst) whose records are a plain
+//! list. The contracts of its calls are those of `rb_ring`, word for word, and so are the lines of its example. It is for tests and
+//! for readers: tests give both the same calls and compare the answers, and its body is short. No other library uses it.
 #![tactic(auto)]
 
 mod counting;

@@ -5,19 +5,20 @@ ghost use Rattle.std.specs.VecDeque.{deque_len, deque_capacity};
 ghost use Rattle.std.specs.FinMap.{insert};
 ghost use Rattle.rb_history.specs.History.Status.{Busy};
 ghost use Rattle.rb_history.specs.Legal.{IsLegal};
-ghost use Rattle.rb_history.specs.View.{StandsFor, IsBounded, IsSize, IsStart, IsWorkerCount, fresh};
+ghost use Rattle.rb_history.specs.RingModel.{StandsFor, IsWithinBounds, IsRingSize, IsStartPosition, IsWorkerCount, fresh};
 ghost use Rattle.rb_history.specs.Counting.{counts_of};
-ghost use Rattle.rb_history.specs.Answers.{IsDue, ask};
-ghost use Rattle.rb_history.specs.Rows.{IsBusyAt};
-ghost use Rattle.rb_history.specs.Calls.{Logs, HasRoom, HasBusyFront, AllTaken, Takes, Grants, FindsFull, Outputs, Refuses, Holds, Submits, Discards, Strays, producer_now, consumer_now};
+ghost use Rattle.rb_history.specs.NoticesAndQueries.{IsDue, query_answer};
+ghost use Rattle.rb_history.specs.inner.RecordRows.{IsBusyAt};
+ghost use Rattle.rb_history.specs.Calls.{Logs, RingHasRoom, HasBusyFront, AllTaken, Takes, Grants, FindsFull, Outputs, Refuses, HoldsReservation, Submits, Discards, Strays, producer_now, consumer_now};
 
 use crate::counting::{busy_index, discards_in, grants_in, refusals_in, reserved_in, submitted_in};
 use rb_header::span;
 use rb_history::{
-    Counts, Entry, LIMIT, Notice, OpenFault, RecordState, Reservation, ReserveFault, StoredRecord,
-    Stray, Taken, is_size, is_start, is_worker_count, notice_for,
+    AVAIL_DATA, CONS_POS, Counts, Entry, KNOWN_FLAGS, Notice, OpenFault, POSITION_LIMIT, PROD_POS,
+    RING_SIZE, RecordState, Reservation, ReserveFault, StoredRecord, Stray, Taken, check_setup,
+    notice_for,
 };
-use rb_lend::{Lent, Sheet};
+use rb_lend::Sheet;
 use std::alloc::Global;
 use std::collections::VecDeque;
 use std::marker::Model;
@@ -42,7 +43,7 @@ pub struct RingState {
 }
 
 impl Model for RingState {
-    ghost use Rattle.rb_history.specs.View.{Ring, contents_code};
+    ghost use Rattle.rb_history.specs.RingModel.{Ring, contents_code};
     ghost use Rattle.rb_history.specs.contracts.entries.Entry as entry;
     ghost use Rattle.std.specs.Coded.{codes};
 
@@ -50,31 +51,23 @@ impl Model for RingState {
 
     ghost coded = { Prim.hlevel (codes, contents_code, entry.the_row.coded) };
 
-    ghost use Rattle.rb_ring_list.specs.Body.{ring_of, IsKept};
+    ghost use Rattle.rb_ring_list.specs.inner.ListRingBody.{list_ring_shown, ListRingInvariant};
 
-    ghost view = { ring_of };
+    ghost view = { list_ring_shown };
 
-    ghost invariant = { IsKept };
+    ghost invariant = { ListRingInvariant };
 }
 
 impl RingState {
     /// A ring without records, of `size` bytes, whose positions begin at `start`, for `workers` workers, or the first of
-    /// `OpenFault`'s refusals that stands. In time linear in the workers.
+    /// `OpenFault`'s refusals that applies. In time linear in the workers.
     pub fn new(alloc: Global, size: u64, start: u64, workers: u32) -> Result<RingState, OpenFault>
         ensures opened { IfOk result (λ ring. ring ≡ fresh size start workers) }
-        ensures size { IsErrOf result OpenFault.Size ↔ ¬ IsSize size }
-        ensures start { IsErrOf result OpenFault.Start ↔ (IsSize size × ¬ IsStart start) }
-        ensures workers { IsErrOf result OpenFault.Workers ↔ (IsSize size × IsStart start × ¬ IsWorkerCount workers) }
+        ensures size { IsErrOf result OpenFault.Size ↔ ¬ IsRingSize size }
+        ensures start { IsErrOf result OpenFault.Start ↔ (IsRingSize size × ¬ IsStartPosition start) }
+        ensures workers { IsErrOf result OpenFault.Workers ↔ (IsRingSize size × IsStartPosition start × ¬ IsWorkerCount workers) }
     {
-        if !is_size(size) {
-            return Err(OpenFault::Size);
-        }
-        if !is_start(start) {
-            return Err(OpenFault::Start);
-        }
-        if !is_worker_count(workers) {
-            return Err(OpenFault::Workers);
-        }
+        check_setup(size, start, workers)?;
         let serials = match vec![in alloc; 0; workers as usize] {
             Ok(serials) => serials,
             Err(_) => return Err(OpenFault::Memory),
@@ -97,7 +90,7 @@ impl RingState {
     pub fn facts(&self)
         ensures legal { IsLegal self.now.setup self.now.history }
         ensures stands { StandsFor self.now }
-        ensures bounded { IsBounded self.now }
+        ensures bounded { IsWithinBounds self.now }
     {
         let _ = &self.history;
     }
@@ -109,16 +102,16 @@ impl RingState {
         self.history.as_slice()
     }
 
-    /// The answers to a query (bpf-helpers(7), bpf_ringbuf_query): 0 asks for the bytes between the two positions, 1 for the
-    /// size, 2 for the consumer position and 3 for the producer position; any other number gives 0.
+    /// The answers to a query (bpf-helpers(7), bpf_ringbuf_query): `AVAIL_DATA` asks for the bytes between the two
+    /// positions, `RING_SIZE`, `CONS_POS` and `PROD_POS` for what they name; any other number gives 0.
     pub fn query(&self, what: u64) -> u64
-        ensures answer { result ≡ ask self.now.setup self.now.history what }
+        ensures answer { result ≡ query_answer self.now.setup self.now.history what }
     {
         match what {
-            0 => self.producer - self.consumer,
-            1 => self.size,
-            2 => self.consumer,
-            3 => self.producer,
+            AVAIL_DATA => self.producer - self.consumer,
+            RING_SIZE => self.size,
+            CONS_POS => self.consumer,
+            PROD_POS => self.producer,
             _ => 0,
         }
     }
@@ -165,7 +158,7 @@ impl RingState {
         match self.grant(worker, n) {
             Err(fault) => Err((fault, sheet)),
             Ok((pos, serial)) => {
-                sheet.bytes_mut().fill(0);
+                sheet.clear();
                 Ok(Reservation::new(pos, worker, serial, sheet))
             }
         }
@@ -212,7 +205,7 @@ impl RingState {
         }
     }
 
-    /// Grants worker `worker` a record and submits it at once, with the sheet's bytes. Flags above 3 are told first, and
+    /// Grants worker `worker` a record and submits it at once, with the sheet's bytes. Unknown flags are refused first, and
     /// nothing is logged then; otherwise it refuses as `reserve` does. A refusal hands the sheet back. (bpf-helpers(7),
     /// bpf_ringbuf_output.)
     pub fn output(
@@ -225,12 +218,12 @@ impl RingState {
         ensures same_ring { self.new.setup ≡ self.old.setup }
         ensures granted { OnOk result (Outputs self.old self.new worker sheet) }
         ensures notice { IfOk result (λ n. (n ≡ Notice.Due) ↔ IsDue (consumer_now self.old) (producer_now self.old) flags) }
-        ensures known_flags { OnOk result (flags ≤ 3) }
-        ensures flags { IfErr result (λ e. (e.0 ≡ ReserveFault.Flags) ↔ (3 < flags)) }
+        ensures known_flags { OnOk result (flags ≤ KNOWN_FLAGS) }
+        ensures flags { IfErr result (λ e. (e.0 ≡ ReserveFault.Flags) ↔ (KNOWN_FLAGS < flags)) }
         ensures refused { IfErr result (λ e. Refuses self.old self.new worker (length sheet) e.0) }
         ensures handed_back { IfErr result (λ e. e.1 ≡ sheet) }
     {
-        if flags > 3 {
+        if flags > KNOWN_FLAGS {
             return Err((ReserveFault::Flags, sheet));
         }
         let index = self.records.len();
@@ -245,7 +238,7 @@ impl RingState {
     }
 
     /// Takes the record at the consumer position: hands out a submitted one and passes over a discarded one. A busy one
-    /// stops it, whatever stands behind. It takes no memory. (Linux Documentation/bpf/ringbuf.rst: records are consumed in the
+    /// stops it, whatever waits behind. It takes no memory. (Linux Documentation/bpf/ringbuf.rst: records are consumed in the
     /// order of their reservation.)
     pub fn take(&mut self) -> Taken
         ensures same_ring { self.new.setup ≡ self.old.setup }
@@ -270,16 +263,16 @@ impl RingState {
 
     // Whether the room rule holds for a record of `n` bytes.
     fn has_room(&self, n: u32) -> bool
-        ensures test { IsTrue result ↔ HasRoom self.now n }
+        ensures test { IsTrue result ↔ RingHasRoom self.now n }
     {
         let end = self.producer + span(n);
-        end <= self.consumer + (self.size - 1) && end <= LIMIT
+        end <= self.consumer + (self.size - 1) && end <= POSITION_LIMIT
     }
 
     // Logs that there is no room. It takes room for that one entry.
     fn refuse(&mut self, worker: u32, n: u32) -> ReserveFault
         requires worker { worker < self.old.setup.workers }
-        requires full { ¬ HasRoom self.old n }
+        requires full { ¬ RingHasRoom self.old n }
         ensures same_ring { self.new.setup ≡ self.old.setup }
         ensures refused { Refuses self.old self.new worker n result }
         ensures known_flags { result ≢ ReserveFault.Flags }
@@ -360,11 +353,11 @@ impl RingState {
         self.producer
     }
 
-    // Where the record of a reservation stands, if it is busy.
+    // The place of the reservation's record in the list, if it is busy.
     fn find_busy(&self, reservation: &Reservation) -> Option<usize>
         ensures found { IfSome result (λ i. IsBusyAt self.now.shown i reservation.now.pos (length reservation.now.bytes)) }
-        ensures busy { OnSome result (Holds self.now reservation.now) }
-        ensures none { IfNone result (¬ Holds self.now reservation.now) }
+        ensures busy { OnSome result (HoldsReservation self.now reservation.now) }
+        ensures none { IfNone result (¬ HoldsReservation self.now reservation.now) }
     {
         busy_index(&self.records, reservation)
     }

@@ -1,5 +1,5 @@
 -- How the numbers of seats rise together.
-use Rattle.std.proofs.Common.{◌≡◌, ℕ, zero, suc, ◌+◌, ◌<◌, List, [], ◌∷◌, ◌++◌, length, get_or, set, Option, Some, refl, ap, sym, ◌∙◌, subst, arith, rules, append_assoc}
+use Rattle.std.proofs.Common.{◌≡◌, ℕ, zero, suc, ◌+◌, ◌<◌, List, [], ◌∷◌, ◌++◌, length, get_or, set, Option, Some, Result, Ok, Err, MatchResult, IfOk, refl, ap, sym, ◌∙◌, subst, arith, rules, append_assoc}
 use Rattle.std.proofs.lemmas.Grind.{common_steps}
 use Rattle.std.proofs.lemmas.Option.{none-some}
 use Rattle.std.proofs.lemmas.List.Sums.{sum_by-cons}
@@ -11,12 +11,14 @@ use Rattle.rb_history.specs.declared.answers.ReserveFault.{ReserveFault}
 use Rattle.rb_history.specs.declared.answers.ReserveFault.TheVariants.{Full, Memory, Flags, Foreign}
 use Rattle.rb_ledger.specs.declared.tally.Tally.{Tally}
 use Rattle.rb_ledger.specs.Seats.{Shared, WorkerSeat, IsSameSeat}
-use Rattle.rb_ledger.specs.Turns.{refused_by}
+use Rattle.rb_ledger.specs.LockedCalls.{refused_by}
 use Rattle.rb_helpers.specs.declared.done.Done.{Done}
-use Rattle.rb_helpers.specs.Answers.{given_by, given_calls}
-use Rattle.rb_seats.specs.Failed.{refusals_of}
-use Rattle.rb_seats.specs.Seated.{AtSeats, AtRings, IsAt, Rose, SentAt, Leads, makes, submits, discards, fails, times}
-use Rattle.rb_seats.proofs.Lists.{zip_set, get_set_here}
+use Rattle.rb_helpers.specs.ListedAnswers.{given_by, given_calls}
+use Rattle.rb_seats.specs.inner.CallFailures.{logged_in, refusals_of}
+use Rattle.rb_seats.specs.declared.call_failures.CallFailure.{CallFailure}
+use Rattle.rb_seats.specs.SeatHelpers.{AtSeats, AtRings, IsAt, OthersStay, SentAt, Leads, makes, submits, discards, fails, call_total}
+use Rattle.rb_seats.specs.inner.OneCall.{TotalsRise}
+use Rattle.rb_seats.proofs.Lists.{zip_at, zip_length, zip_set, get_set_here, get_set_other}
 
 same_seat : (s : WorkerSeat) → IsSameSeat s s
 same_seat s = record { tag_same = refl; ring_same = refl; worker_same = refl }
@@ -85,7 +87,7 @@ adds_fault old new fault n e count = subst (λ r. Adds 0 r 0 0 old new) (sym cou
 
 -- where one seat's numbers rose, those of all seats together rose so
 pub rose_at : (seats : List WorkerSeat) (i : ℕ) (before after : WorkerSeat) (m r s d : ℕ) → i < length seats → before ≡ get_or seats i before
-    → IsSameSeat before after → Adds m r s d before.tally after.tally → Rose m r s d seats (set seats i after)
+    → IsSameSeat before after → Adds m r s d before.tally after.tally → TotalsRise m r s d seats (set seats i after)
 rose_at seats i before after m r s d below here same adds = let at = slice_get_read seats (length seats) i before refl below here in record {
   same = same_set seats i before after at same;
   made_is = one_rises (λ x. x.tally.made) seats i before after m at adds.0;
@@ -112,7 +114,7 @@ sent_at seats i pos bytes before after below here sent b a at_b at_a =
     ap (λ (s : WorkerSeat). s.sent) is ∙ sent ∙ ap (λ (s : WorkerSeat). insert s.sent pos bytes) (sym was)
 
 -- nothing rose
-pub rose_nothing : (seats : List WorkerSeat) → Rose 0 0 0 0 seats seats
+pub rose_nothing : (seats : List WorkerSeat) → TotalsRise 0 0 0 0 seats seats
 rose_nothing seats = record { same = same_seats seats; made_is = omega arith; refused_is = omega arith; submitted_is = omega arith; discarded_is = omega arith }
 
 one_more : (a b c d : ℕ) → a ≡ b + c → d + a ≡ (d + b) + c
@@ -121,9 +123,9 @@ one_more a b c d e = omega (arith, e)
 last_one : (n : ℕ) → n + 0 ≡ 0 + n
 last_one n = omega arith
 
-times_last : (what : Done → ℕ) (calls : List Done) (last : Done) → times what (calls ++ last ∷ []) ≡ times what calls + what last
+times_last : (what : Done → ℕ) (calls : List Done) (last : Done) → call_total what (calls ++ last ∷ []) ≡ call_total what calls + what last
 times_last what [] last = last_one (what last)
-times_last what (call ∷ more) last = one_more (times what (more ++ last ∷ [])) (times what more) (what last) (what call) (times_last what more last)
+times_last what (call ∷ more) last = one_more (call_total what (more ++ last ∷ [])) (call_total what more) (what last) (what call) (times_last what more last)
 
 given_last : (calls : List Done) (last : Done) → given_calls (calls ++ last ∷ []) ≡ given_calls calls + given_by last
 given_last [] last = last_one (given_by last)
@@ -131,7 +133,7 @@ given_last (call ∷ more) last = one_more (given_calls (more ++ last ∷ [])) (
 
 -- one call more
 pub leads_on : (start now next : AtSeats) (given longer : List (List ℕ)) (done : Done) (m r s d u : ℕ)
-    → Leads start given now → next.rings ≡ now.rings → Rose m r s d now.seats next.seats → next.trace ≡ now.trace ++ done ∷ []
+    → Leads start given now → next.rings ≡ now.rings → TotalsRise m r s d now.seats next.seats → next.trace ≡ now.trace ++ done ∷ []
     → next.unlogged ≡ now.unlogged + u → makes done ≡ m → fails done ≡ r + u → submits done ≡ s → discards done ≡ d
     → length longer ≡ length given + given_by done → Leads start longer next
 leads_on start now next given longer done m r s d u l rings rose trace more makes_is fails_is submits_is discards_is longer_is =
@@ -165,3 +167,49 @@ leads_nowhere start = record {
   discarded_is = omega arith;
   failed_is = omega arith;
 }
+
+-- ---- a call at one of the seats of the helpers
+
+-- there is a seat for each ring
+pub is_seat : (rings : List Shared) (seats : List WorkerSeat) (i : ℕ) → AtRings rings seats → i < length rings → i < length seats
+is_seat rings seats i all below = omega (arith, zip_length IsAt rings seats all, below)
+
+-- the seat there is at the ring there
+pub seat_there : (rings : List Shared) (seats : List WorkerSeat) (i : ℕ) (ring : Shared) (seat : WorkerSeat) → AtRings rings seats → i < length rings
+    → seat ≡ get_or seats i seat → IsAt (get_or rings i ring) seat
+seat_there rings seats i ring seat all below here = subst (λ s. IsAt (get_or rings i ring) s) (sym here) (zip_at IsAt rings seats i ring seat all below)
+
+-- what the totals rose by, seen from the helpers
+pub rose_in : (now : AtSeats) (rings : List Shared) (seats : List WorkerSeat) (i : ℕ) (before after : WorkerSeat) (m r s d : ℕ) → seats ≡ now.seats → AtRings rings seats
+    → i < length rings → before ≡ get_or seats i before → IsSameSeat before after → Adds m r s d before.tally after.tally → TotalsRise m r s d now.seats (set seats i after)
+rose_in now rings seats i before after m r s d are all below here same adds =
+    subst (λ old. TotalsRise m r s d old (set seats i after)) are (rose_at seats i before after m r s d (is_seat rings seats i all below) here same adds)
+
+pub others_in : (now : AtSeats) (seats : List WorkerSeat) (i : ℕ) (after : WorkerSeat) → seats ≡ now.seats → OthersStay i now.seats (set seats i after)
+others_in now seats i after are = subst (λ old. OthersStay i old (set seats i after)) are (λ j other. get_set_other seats i j after other)
+
+pub sent_in : (now : AtSeats) (rings : List Shared) (seats : List WorkerSeat) (i pos : ℕ) (bytes : List ℕ) (before after : WorkerSeat) → seats ≡ now.seats → AtRings rings seats
+    → i < length rings → before ≡ get_or seats i before → after.sent ≡ insert before.sent pos bytes → SentAt i pos bytes now.seats (set seats i after)
+sent_in now rings seats i pos bytes before after are all below here sent =
+    subst (λ old. SentAt i pos bytes old (set seats i after)) are (sent_at seats i pos bytes before after (is_seat rings seats i all below) here sent)
+
+-- by the answer
+pub rose_ok : {T E : Type 0} (answer : Result T E) (x : T) (Made Refused : Type 0) → answer ≡ Ok x → Made → MatchResult answer (λ _. Made) (λ _. Refused)
+rose_ok answer x Made Refused is made = subst (λ r. MatchResult r (λ _. Made) (λ _. Refused)) (sym is) made
+
+pub rose_err : {T E : Type 0} (answer : Result T E) (e : E) (Made Refused : Type 0) → answer ≡ Err e → Refused → MatchResult answer (λ _. Made) (λ _. Refused)
+rose_err answer e Made Refused is refused = subst (λ r. MatchResult r (λ _. Made) (λ _. Refused)) (sym is) refused
+
+pub failed_err : {T : Type 0} (answer : Result T CallFailure) (e : CallFailure) (Made : Type 0) (old new : List WorkerSeat) → answer ≡ Err e → TotalsRise 0 (logged_in e) 0 0 old new
+    → MatchResult answer (λ _. Made) (λ e. TotalsRise 0 (logged_in e) 0 0 old new)
+failed_err answer e Made old new is rose = subst (λ r. MatchResult r (λ _. Made) (λ e. TotalsRise 0 (logged_in e) 0 0 old new)) (sym is) rose
+
+pub failed_ok : {T : Type 0} (answer : Result T CallFailure) (x : T) (Made : Type 0) (old new : List WorkerSeat) → answer ≡ Ok x → Made
+    → MatchResult answer (λ _. Made) (λ e. TotalsRise 0 (logged_in e) 0 0 old new)
+failed_ok answer x Made old new is made = subst (λ r. MatchResult r (λ _. Made) (λ e. TotalsRise 0 (logged_in e) 0 0 old new)) (sym is) made
+
+pub sent_ok : {T E : Type 0} (answer : Result T E) (x : T) (Sent : Type 0) → answer ≡ Ok x → Sent → IfOk answer (λ _. Sent)
+sent_ok answer x Sent is sent = subst (λ r. IfOk r (λ _. Sent)) (sym is) sent
+
+pub sent_err : {T E : Type 0} (answer : Result T E) (e : E) (Sent : Type 0) → answer ≡ Err e → IfOk answer (λ _. Sent)
+sent_err answer e Sent is = subst (λ r. IfOk r (λ _. Sent)) (sym is) tt

@@ -1,2 +1,2 @@
-pub mod Failed
-pub mod Seated
+pub mod SeatHelpers
+pub mod inner

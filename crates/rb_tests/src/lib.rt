@@ -1,8 +1,9 @@
-//! Tests of the other crates' public calls, together: worked rows, drawn commands beside plain programs of the definitions, and
-//! whole programs.
+//! Tests of the other crates' public calls where the chains meet: whole programs, helpers over seats, and jobs.
 #![tactic(auto)]
 
 #[cfg(test)]
+mod jobs;
+#[cfg(test)]
 mod programs;
 #[cfg(test)]
-mod ring;
+mod seats;

@@ -1,7 +1,7 @@
 //! Programs that call helpers, one instruction at a time and to their ends.
 
 ghost use Rattle.std.specs.Prelude.{◌≡◌, IfSome, replicate};
-ghost use Rattle.rb_meaning.specs.declared.asked.Asked.TheVariants.{Reserve, GiveBack};
+ghost use Rattle.rb_semantics.specs.declared.pending_call.PendingCall.TheVariants.{Reserve, GiveBack};
 ghost use Rattle.rb_interp.specs.declared.step.Phase.TheVariants.{Ready, Waiting};
 
 use rb_cfg::shape;
@@ -26,10 +26,10 @@ fn verified(alloc: Global, text: &str) -> Result<Verified, Fail> {
     Ok(verify(alloc, shape(alloc, program)?, 16, 1)?)
 }
 
-type Running<'p> = Machine<'p, &'static [u8], Sheet>;
+type RunningMachine<'p> = Machine<'p, &'static [u8], Sheet>;
 
 // Answers a reservation: with a record, or with null.
-fn answer_reserve(machine: &mut Running<'_>, len: u32, granted: Option<Sheet>)
+fn answer_reserve(machine: &mut RunningMachine<'_>, len: u32, granted: Option<Sheet>)
     requires waits { machine.old.phase ≡ Waiting (Reserve len) }
     requires zeros { IfSome granted (λ r. r ≡ replicate len 0) }
     ensures ready { machine.new.phase ≡ Ready }
@@ -41,7 +41,7 @@ fn answer_reserve(machine: &mut Running<'_>, len: u32, granted: Option<Sheet>)
 }
 
 // Takes the record that was submitted.
-fn answer_submit(machine: &mut Running<'_>)
+fn answer_submit(machine: &mut RunningMachine<'_>)
     requires waits { machine.old.phase ≡ Waiting GiveBack }
     ensures ready { machine.new.phase ≡ Ready }
 {

@@ -3,14 +3,14 @@ use Rattle.std.proofs.Common.{◌≡◌, ◌≢◌, ◌⊎◌, inl, inr, ⊎_eli
 use Rattle.std.proofs.lemmas.Bool.{cases_eq}
 use Rattle.rb_refs.specs.declared.state.AbsState.{AbsState}
 use Rattle.rb_refs.specs.Forms.{IsFormed}
-use Rattle.rb_refs.specs.States.{Below}
+use Rattle.rb_refs.specs.AbstractStates.{Below}
 use Rattle.rb_refs.proofs.Laws.{below_refl, below_trans, form_below}
 use Rattle.rb_verifier.specs.declared.arrivals.Arrival.{Arrival}
 use Rattle.rb_verifier.specs.declared.arrivals.Arrival.TheVariants.{Nothing, Least, Differ}
-use Rattle.rb_verifier.specs.Pass.{noted_at, IsNoted, IsFormedAt, IsMerged, Flows}
+use Rattle.rb_verifier.specs.inner.Sweep.{noted_at, IsArrivalOf, IsFormedAt, IsMerged, Flows}
 
 -- what is noted tells of the states alone
-pub noted_iff : {A B : AbsState → Type 0} → ((x : AbsState) → A x → B x) → ((x : AbsState) → B x → A x) → (arrival : Arrival) → IsNoted A arrival → IsNoted B arrival
+pub noted_iff : {A B : AbsState → Type 0} → ((x : AbsState) → A x → B x) → ((x : AbsState) → B x → A x) → (arrival : Arrival) → IsArrivalOf A arrival → IsArrivalOf B arrival
 noted_iff f g Nothing h = λ s b. h s (g s b)
 noted_iff f g (Least s) h = record {
   least = record { above = λ x b. h.least.above x (g x b); least = λ t k. h.least.least t (λ x a. k x (f x a)) };
@@ -23,8 +23,8 @@ noted_iff f g Differ h = record { one = h.one; other = h.other; one_is = f h.one
 abbrev And : (AbsState → Type 0) → AbsState → AbsState → Type 0
 And A s x = A x ⊎ (x ≡ s)
 
-noted_merged : (A : AbsState → Type 0) (s : AbsState) (old new : Arrival) → IsNoted A old → IsMerged old s new → IsNoted (And A s) new
-noted_merged A s Nothing new h m = subst (IsNoted (And A s)) (sym m) (record {
+noted_merged : (A : AbsState → Type 0) (s : AbsState) (old new : Arrival) → IsArrivalOf A old → IsMerged old s new → IsArrivalOf (And A s) new
+noted_merged A s Nothing new h m = subst (IsArrivalOf (And A s)) (sym m) (record {
   least = record {
     above = λ x. ⊎_elim (λ a. absurd (h x a)) (λ e. subst (λ y. Below y s) (sym e) (below_refl s));
     least = λ t k. k s (inr refl);
@@ -48,7 +48,7 @@ noted_merged A s (Least t) Differ h m = record {
   other_is = inr refl;
   differ = λ e. m (sym (h.least.above h.one h.one_is).held ∙ e);
 }
-noted_merged A s Differ new h m = subst (IsNoted (And A s)) (sym m) (record { one = h.one; other = h.other; one_is = inl h.one_is; other_is = inl h.other_is; differ = h.differ })
+noted_merged A s Differ new h m = subst (IsArrivalOf (And A s)) (sym m) (record { one = h.one; other = h.other; one_is = inl h.one_is; other_is = inl h.other_is; differ = h.differ })
 
 formed_merged : (unit : ℕ) (s : AbsState) (old new : Arrival) → IsFormed unit s → IsFormedAt unit old → IsMerged old s new → IsFormedAt unit new
 formed_merged unit s Nothing new f h m = subst (IsFormedAt unit) (sym m) f
@@ -65,14 +65,14 @@ option_cases (Some u) t = ⊎_elim (λ e. inl (ap Some e)) (λ ne. inr (λ e. ne
 abbrev pub AndIf : (AbsState → Type 0) → Option ℕ → ℕ → AbsState → AbsState → Type 0
 AndIf A target t s x = A x ⊎ ((target ≡ Some t) × (x ≡ s))
 
-pub noted_flows : (A : AbsState → Type 0) {s : AbsState} {target : Option ℕ} {old new : List Arrival} (t : ℕ) → Flows target s old new → IsNoted A (noted_at old t) → IsNoted (AndIf A target t s) (noted_at new t)
+pub noted_flows : (A : AbsState → Type 0) {s : AbsState} {target : Option ℕ} {old new : List Arrival} (t : ℕ) → Flows target s old new → IsArrivalOf A (noted_at old t) → IsArrivalOf (AndIf A target t s) (noted_at new t)
 noted_flows A {s} {target} {old} {new} t f h = ⊎_elim there elsewhere (option_cases target t)
   where
-    there : target ≡ Some t → IsNoted (AndIf A target t s) (noted_at new t)
+    there : target ≡ Some t → IsArrivalOf (AndIf A target t s) (noted_at new t)
     there e = noted_iff {A = And A s} {B = AndIf A target t s} (λ x. ⊎_elim (λ a. inl a) (λ k. inr (e, k))) (λ x. ⊎_elim (λ a. inl a) (λ k. inr k.1)) (noted_at new t) (noted_merged A s (noted_at old t) (noted_at new t) h (f.there t e))
 
-    elsewhere : target ≢ Some t → IsNoted (AndIf A target t s) (noted_at new t)
-    elsewhere ne = subst (IsNoted (AndIf A target t s)) (sym (f.elsewhere t ne)) (noted_iff {A = A} {B = AndIf A target t s} (λ x a. inl a) (λ x. ⊎_elim (λ a. a) (λ k. absurd (ne k.0))) (noted_at old t) h)
+    elsewhere : target ≢ Some t → IsArrivalOf (AndIf A target t s) (noted_at new t)
+    elsewhere ne = subst (IsArrivalOf (AndIf A target t s)) (sym (f.elsewhere t ne)) (noted_iff {A = A} {B = AndIf A target t s} (λ x a. inl a) (λ x. ⊎_elim (λ a. a) (λ k. absurd (ne k.0))) (noted_at old t) h)
 
 pub formed_flows : {s : AbsState} {target : Option ℕ} {old new : List Arrival} (t : ℕ) → Flows target s old new → (target ≡ Some t → IsFormed t s) → IsFormedAt t (noted_at old t) → IsFormedAt t (noted_at new t)
 formed_flows {s} {target} {old} {new} t f formed h =

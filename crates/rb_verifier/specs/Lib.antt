@@ -1,5 +1,5 @@
 pub mod Annotation
 pub mod Refusals
 pub mod Subject
-pub mod Pass
-pub mod Kept
+pub mod VerifiedProgram
+pub mod inner

@@ -2,7 +2,7 @@
 use Rattle.std.specs.Prelude.{ℕ, Bool, true, false, List, count_by, Option, Some, None}
 use Rattle.rb_insn.specs.declared.insn.Insn.{Insn}
 use Rattle.rb_insn.specs.declared.insn.Insn.TheVariants.{Call}
-use Rattle.rb_refs.specs.declared.environment.Environment.{Environment}
+use Rattle.rb_refs.specs.declared.limits.Limits.{Limits}
 
 -- a program, the length of its context in bytes, and the number of rings that it knows
 pub record Subject : Type 0 where
@@ -10,14 +10,14 @@ pub record Subject : Type 0 where
   pub ctx_len : ℕ
   pub rings : ℕ
 
-abbrev pub environment_of : Subject → Environment
-environment_of subject = record { ctx_len = subject.ctx_len; rings = subject.rings }
+abbrev pub limits_of : Subject → Limits
+limits_of subject = record { ctx_len = subject.ctx_len; rings = subject.rings }
 
 abbrev pub is_call : Insn → Bool
 is_call (Call helper) = true
 is_call insn = false
 
--- a CALL stands in a slot of a unit
+-- the slot of a unit has a CALL
 abbrev pub calls : Option Insn → Bool
 calls None = false
 calls (Some insn) = is_call insn

@@ -1,8 +1,8 @@
 //! What is noted of the states that arrive at the units.
 
 ghost use Rattle.std.specs.Prelude.{◌≡◌, ◌≢◌, ◌<◌, ◌≤◌, ℕ, Some, IfOk, vec_len};
-ghost use Rattle.rb_refs.specs.States.{along_jump};
-ghost use Rattle.rb_verifier.specs.Pass.{IsMerged, IsTaken, Flows, IsStart, noted_at};
+ghost use Rattle.rb_refs.specs.AbstractStates.{along_jump};
+ghost use Rattle.rb_verifier.specs.inner.Sweep.{IsMerged, TakesArrival, Flows, AreFirstArrivals, noted_at};
 
 use rb_refs::{AbsState, join};
 use std::alloc::{AllocError, Global};
@@ -47,7 +47,7 @@ pub(crate) fn flow(arrivals: &mut Vec<Arrival>, target: Option<u32>, state: AbsS
     }
 }
 
-/// Notes the state along a jump's edge at the unit to which it leads, where there is one: the one that is told, else a copy of
+/// Notes the state along a jump's edge at the unit to which it leads, where there is one: the one that is given, else a copy of
 /// the state along the other edge.
 #[inline(always)]
 pub(crate) fn flow_jump(
@@ -71,14 +71,14 @@ pub(crate) fn flow_jump(
 pub(crate) fn take(arrivals: &mut Vec<Arrival>, unit: u32) -> Arrival
     requires { unit < vec_len arrivals.old }
     ensures noted { result ≡ noted_at arrivals.old.items unit }
-    ensures rest { IsTaken unit arrivals.old.items arrivals.new.items }
+    ensures rest { TakesArrival unit arrivals.old.items arrivals.new.items }
 {
     mem::replace(&mut arrivals[unit as usize], Arrival::Nothing)
 }
 
 /// What is noted at the start: the entry state at the first unit, and nothing at the others.
 pub(crate) fn first_arrivals(alloc: Global, units: u32) -> Result<Vec<Arrival>, AllocError>
-    ensures { IfOk result (λ arrivals. IsStart units arrivals.items) }
+    ensures { IfOk result (λ arrivals. AreFirstArrivals units arrivals.items) }
 {
     let mut arrivals = Vec::with_capacity(alloc, units as usize)?;
     for unit in 0..units {

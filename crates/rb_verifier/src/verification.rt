@@ -4,15 +4,15 @@ ghost use Rattle.std.specs.Prelude.{◌≡◌, ◌≤◌, IfOk, IfErr, OnOk};
 ghost use Rattle.rb_verifier.specs.Annotation.{HasValid};
 ghost use Rattle.rb_verifier.specs.Refusals.{IsRightRefusal};
 
-use crate::pass::annotate;
 use crate::refusal::Refusal;
+use crate::sweep::annotate;
 use crate::verified::Verified;
 use rb_cfg::Shape;
-use rb_refs::Environment;
+use rb_refs::Limits;
 use std::alloc::Global;
 
-/// Verifies a program for a context of so many bytes and so many rings. It answers the verified program exactly where the
-/// program has a valid annotation, else the first rule that it breaks; want of memory may be answered in place of either.
+/// Verifies a program for a context of so many bytes and so many rings. It returns the verified program exactly where the
+/// program has a valid annotation, else the first rule that it breaks; out of memory may be returned in place of either.
 ///
 /// One pass in unit order: an abstract step for each instruction, and at most one join for each edge. Time and memory are
 /// linear in the units; a state is kept for each.
@@ -23,7 +23,7 @@ pub fn verify(alloc: Global, shape: Shape, ctx_len: u32, rings: u32) -> Result<V
     ensures valid { OnOk result (HasValid (record { ctx_len = ctx_len; rings = rings }) shape) }
     ensures refused { IfErr result (IsRightRefusal (record { ctx_len = ctx_len; rings = rings }) shape) }
 {
-    let environment = Environment { ctx_len, rings };
-    let annotation = annotate(alloc, environment, &shape)?;
-    Ok(Verified::new(shape, environment, annotation))
+    let limits = Limits { ctx_len, rings };
+    let annotation = annotate(alloc, limits, &shape)?;
+    Ok(Verified::new(shape, limits, annotation))
 }

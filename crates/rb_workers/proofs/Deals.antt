@@ -4,7 +4,7 @@ use Rattle.std.proofs.lemmas.List.{get_or-set_same, get_or-set_other, get_or-tak
 use Rattle.std.proofs.lemmas.Bool.{cases_eq}
 use Rattle.rb_ledger.specs.Seats.{WorkerSeat}
 use Rattle.rb_workers.specs.declared.workers.Worker.{Worker}
-use Rattle.rb_workers.specs.Workers.{IsOneMore}
+use Rattle.rb_workers.specs.inner.WorkerRuns.{IsOneMore}
 
 one_more_at : (a a' b b' : Worker) (s s' : WorkerSeat) → a' ≡ a → b' ≡ b → s' ≡ s → IsOneMore a b s → IsOneMore a' b' s'
 one_more_at a a' b b' s s' ea eb es h = subst (λ x. IsOneMore x b' s') (sym ea) (subst (λ x. IsOneMore a x s') (sym eb) (subst (λ x. IsOneMore a b x) (sym es) h))

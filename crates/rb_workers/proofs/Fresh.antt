@@ -3,10 +3,10 @@ use Rattle.std.proofs.Common.{List, ◌≡◌, ℕ, zero, suc, ◌+◌, [], ◌�
 use Rattle.std.specs.Prelude.{All}
 use Rattle.std.proofs.lemmas.List.Elements.{All-cons}
 use Rattle.atomic_table.specs.Seated.{TableId}
-use Rattle.rb_ledger.specs.Own.{Book}
-use Rattle.rb_ledger.specs.Numbers.{numbers_below}
-use Rattle.rb_ledger.specs.Seats.{Shared, HasSettledAll, WorkerSeat, TakerSeat, fresh_book, fresh_seat, fresh_seats, fresh_taker}
-use Rattle.rb_seats.specs.Seated.{IsAt}
+use Rattle.rb_ledger.specs.Roles.{Book}
+use Rattle.rb_ledger.specs.WorkerCounts.{numbers_below}
+use Rattle.rb_ledger.specs.Seats.{Shared, HasSettledAll, WorkerSeat, ConsumerSeatValue, fresh_book, fresh_seat, fresh_seats, fresh_consumer}
+use Rattle.rb_seats.specs.SeatHelpers.{IsAt}
 use Rattle.rb_workers.specs.declared.opened.Opened.{Opened}
 use Rattle.rb_workers.specs.Opened.{AreOpened, IsOpened}
 use Rattle.rb_workers.proofs.Numbered.{seats_length}
@@ -32,16 +32,16 @@ fresh_at shared seen first zero = λ k d below. absurd (omega arith)
 fresh_at shared seen first (suc n) = All-cons (IsAt shared) (fresh_seat shared.tag shared.ring first seen) (fresh_seats shared.tag shared.ring seen (first + 1) n) (refl, refl) (fresh_at shared seen (first + 1) n)
 
 pub fresh_opened : {S : Type 0} (position : S → ℕ) (tag size start workers : ℕ) (o : Opened S) → o.ring.tag ≡ tag → o.seats.items ≡ fresh_seats tag o.ring.ring (fresh_book size start workers) 0 workers
-    → o.consumer ≡ fresh_taker tag o.ring.ring (fresh_book size start workers) → position o.sink ≡ start → IsOpened position workers o
+    → o.consumer ≡ fresh_consumer tag o.ring.ring (fresh_book size start workers) → position o.sink ≡ start → IsOpened position workers o
 fresh_opened position tag size start workers o tagged seats consumer begins =
     let book = fresh_book size start workers in
     record {
       numbered = ap (map (λ (s : WorkerSeat). s.worker)) seats ∙ fresh_numbers tag o.ring.ring book workers;
       seats_at = subst (All (IsAt o.ring)) (sym seats) (subst (λ t. All (IsAt o.ring) (fresh_seats t o.ring.ring book 0 workers)) tagged (fresh_at o.ring book 0 workers));
-      as_many = ap (λ (c : TakerSeat). c.seen.setup.workers) consumer;
-      consumer_tag = ap (λ (c : TakerSeat). c.tag) consumer ∙ sym tagged;
-      consumer_at = ap (λ (c : TakerSeat). c.ring) consumer;
-      sink_follows = begins ∙ sym (ap (λ (c : TakerSeat). c.position) consumer);
+      as_many = ap (λ (c : ConsumerSeatValue). c.seen.setup.workers) consumer;
+      consumer_tag = ap (λ (c : ConsumerSeatValue). c.tag) consumer ∙ sym tagged;
+      consumer_at = ap (λ (c : ConsumerSeatValue). c.ring) consumer;
+      sink_follows = begins ∙ sym (ap (λ (c : ConsumerSeatValue). c.position) consumer);
     }
 
 -- rings for the same workers may be run together

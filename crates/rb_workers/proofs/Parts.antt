@@ -6,18 +6,18 @@ use Rattle.std.specs.Prelude.{slice_get, All}
 use Rattle.std.specs.List.{AllZip, cons_option}
 use Rattle.rb_ledger.specs.Seats.{WorkerSeat}
 use Rattle.rb_workers.specs.declared.opened.Opened.{Opened}
-use Rattle.rb_workers.specs.Rows.{column, rows}
+use Rattle.rb_workers.specs.SeatRows.{worker_column, seat_rows}
 
 cons_length : {A : Type 0} (o : Option A) (xs : List A) → length (cons_option o xs) ≤ length xs + 1
 cons_length None xs = omega arith
 cons_length (Some x) xs = omega arith
 
-pub column_length : (k : ℕ) (seats : List (List WorkerSeat)) → length (column k seats) ≤ length seats
+pub column_length : (k : ℕ) (seats : List (List WorkerSeat)) → length (worker_column k seats) ≤ length seats
 column_length k [] = omega arith
-column_length k (row ∷ seats) = let h = column_length k seats in let c = cons_length (slice_get row k) (column k seats) in omega arith
+column_length k (row ∷ seats) = let h = column_length k seats in let c = cons_length (slice_get row k) (worker_column k seats) in omega arith
 
-pub column_more : (k : ℕ) (seats : List (List WorkerSeat)) (row : List WorkerSeat) (s : WorkerSeat) → slice_get row k ≡ Some s → column k (seats ++ row ∷ []) ≡ column k seats ++ s ∷ []
-column_more k seats row s e = filter_map-append (λ (r : List WorkerSeat). slice_get r k) seats (row ∷ []) ∙ ap (λ (o : Option WorkerSeat). column k seats ++ cons_option o []) e
+pub column_more : (k : ℕ) (seats : List (List WorkerSeat)) (row : List WorkerSeat) (s : WorkerSeat) → slice_get row k ≡ Some s → worker_column k (seats ++ row ∷ []) ≡ worker_column k seats ++ s ∷ []
+column_more k seats row s e = filter_map-append (λ (r : List WorkerSeat). slice_get r k) seats (row ∷ []) ∙ ap (λ (o : Option WorkerSeat). worker_column k seats ++ cons_option o []) e
 
 pub some_of : (row : List WorkerSeat) (k : ℕ) → k < length row → WorkerSeat
 some_of [] k below = absurd (omega arith)
@@ -44,7 +44,7 @@ all_first P rest more x e all = (subst (All P) e all) 0 x (omega arith)
 pub all_rest : {A : Type 0} (P : A → Type 0) (rest more : List A) (x : A) → rest ≡ x ∷ more → All P rest → All P more
 all_rest P rest more x e all = λ k d below. (subst (All P) e all) (suc k) d (omega arith)
 
-pub rows_length : {S : Type 0} (xs : List (Opened S)) → length (rows xs) ≡ length xs
+pub rows_length : {S : Type 0} (xs : List (Opened S)) → length (seat_rows xs) ≡ length xs
 rows_length xs = length-map xs (λ o. o.seats.items)
 
 pub nothing : {A : Type 0} (done rest all : List A) → done ++ rest ≡ all → length rest ≡ 0 → done ≡ all
@@ -60,8 +60,8 @@ all_front P front back x e all = λ k d below. subst P (get_or_append_left front
 pub all_last : {A : Type 0} (P : A → Type 0) (front back : List A) (x : A) → back ≡ front ++ x ∷ [] → All P back → P x
 all_last P front back x e all = subst P (get_or_push front x x (length front) refl) ((subst (All P) e all) (length front) x (let n = length-append front (x ∷ []) in omega arith))
 
-pub column_cons : (k : ℕ) (row : List WorkerSeat) (seats : List (List WorkerSeat)) (s : WorkerSeat) → slice_get row k ≡ Some s → column k (row ∷ seats) ≡ s ∷ column k seats
-column_cons k row seats s e = ap (λ (o : Option WorkerSeat). cons_option o (column k seats)) e
+pub column_cons : (k : ℕ) (row : List WorkerSeat) (seats : List (List WorkerSeat)) (s : WorkerSeat) → slice_get row k ≡ Some s → worker_column k (row ∷ seats) ≡ s ∷ worker_column k seats
+column_cons k row seats s e = ap (λ (o : Option WorkerSeat). cons_option o (worker_column k seats)) e
 
 pub empty_front : {A : Type 0} (xs ys all : List A) → xs ++ ys ≡ all → length xs ≡ 0 → ys ≡ all
 empty_front [] ys all e z = e

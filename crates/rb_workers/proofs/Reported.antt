@@ -5,19 +5,20 @@ use Rattle.std.proofs.lemmas.Bool.Decides.{leb_tells}
 use Rattle.std.specs.Prelude.{All, nat_lt, not}
 use Rattle.std.specs.List.{AllZip, count_by, list_any, sum_by}
 use Rattle.std.proofs.lemmas.List.Elements.{All-cons}
-use Rattle.rb_ledger.specs.Seats.{WorkerSeat, IsSameSeat, IsSameTaker}
+use Rattle.rb_ledger.specs.Seats.{WorkerSeat, IsSameSeat, IsSameConsumerSeat}
 use Rattle.rb_jobs.specs.declared.job.Job.{Job}
 use Rattle.rb_jobs.specs.declared.job.JobAnswer.{JobAnswer}
 use Rattle.rb_workers.specs.declared.opened.Opened.{Opened}
 use Rattle.rb_workers.specs.declared.opened.Ended.{Ended}
 use Rattle.rb_workers.specs.declared.opened.Report.{Report}
 use Rattle.rb_workers.specs.declared.workers.Worker.{Worker}
-use Rattle.rb_workers.specs.Ends.{Closes}
-use Rattle.rb_workers.specs.Jobs.{Ran, Worked, own, own_answers, is_stray}
+use Rattle.rb_workers.specs.inner.RingEnds.{Closes}
+use Rattle.rb_workers.specs.JobRuns.{RunsJobs, own_jobs, is_stray}
+use Rattle.rb_workers.specs.inner.WorkerRuns.{RunsOwnJobs, own_answers}
 use Rattle.rb_workers.specs.Opened.{AreOpened, IsOpened, workers_of}
-use Rattle.rb_workers.specs.Reports.{AreRuns, RingsEnd, IsHandedBack, IsReport, RanFirst, has_unknown_worker}
-use Rattle.rb_workers.specs.Rows.{rows, column}
-use Rattle.rb_workers.specs.Workers.{HasRun}
+use Rattle.rb_workers.specs.Reports.{AreRuns, RingsEnd, IsHandedBack, IsReport, RunsFirst, has_unknown_worker}
+use Rattle.rb_workers.specs.SeatRows.{seat_rows, worker_column}
+use Rattle.rb_workers.specs.inner.WorkerRuns.{HasRun}
 use Rattle.rb_workers.proofs.Same.{opened_long}
 use Rattle.rb_workers.proofs.Totals.{report_of_runs}
 use Rattle.rb_workers.proofs.Parts.{all_first, all_rest}
@@ -26,25 +27,25 @@ use Rattle.rb_workers.proofs.Parts.{all_first, all_rest}
 
 -- each ring that was closed with what came back is one that was opened
 pub rings_end : {S : Type 0} (position : S → ℕ) (opened back : List (Opened S)) (ended : List (Ended S)) (count : ℕ) → All (IsOpened position count) back
-    → AllZip (AllZip IsSameSeat) (rows opened) (rows back) → AllZip (λ o b. IsSameTaker o.consumer b.consumer) opened back → AllZip Closes back ended
-    → RingsEnd position opened ended (rows back)
-rings_end position [] [] [] count all seats takers closes = tt
-rings_end position [] [] (e ∷ es) count all seats takers closes = absurd closes
-rings_end position [] (b ∷ bs) ended count all seats takers closes = absurd takers
-rings_end position (o ∷ os) [] ended count all seats takers closes = absurd takers
-rings_end position (o ∷ os) (b ∷ bs) [] count all seats takers closes = absurd closes
-rings_end position (o ∷ os) (b ∷ bs) (e ∷ es) count all seats takers closes =
+    → AllZip (AllZip IsSameSeat) (seat_rows opened) (seat_rows back) → AllZip (λ o b. IsSameConsumerSeat o.consumer b.consumer) opened back → AllZip Closes back ended
+    → RingsEnd position opened ended (seat_rows back)
+rings_end position [] [] [] count all seats consumers closes = tt
+rings_end position [] [] (e ∷ es) count all seats consumers closes = absurd closes
+rings_end position [] (b ∷ bs) ended count all seats consumers closes = absurd consumers
+rings_end position (o ∷ os) [] ended count all seats consumers closes = absurd consumers
+rings_end position (o ∷ os) (b ∷ bs) [] count all seats consumers closes = absurd closes
+rings_end position (o ∷ os) (b ∷ bs) (e ∷ es) count all seats consumers closes =
     let is = all_first (IsOpened position count) (b ∷ bs) bs b refl all in
     let c = closes.0 in (
       record {
         consumer = b.consumer;
         closed = c.closed;
         same_seats = seats.0;
-        same_consumer = takers.0;
+        same_consumer = consumers.0;
         sink_follows = ap position c.same_sink ∙ (is.sink_follows ∙ c.closed.consumer_ties.position_is);
         tallies_are = c.tallies_are;
       },
-      rings_end position os bs es count (all_rest (IsOpened position count) (b ∷ bs) bs b refl all) seats.1 takers.1 closes.1,
+      rings_end position os bs es count (all_rest (IsOpened position count) (b ∷ bs) bs b refl all) seats.1 consumers.1 closes.1,
     )
 
 -- ---- workers
@@ -71,14 +72,14 @@ none_short (w ∷ ws) e =
     All-cons (λ (x : Worker). x.short ≡ false) w ws parts.0 (none_short ws parts.1)
 
 -- a worker that was not short ran all its jobs
-ran_all : (jobs : List Job) (short : Bool) (answers : List JobAnswer) (old new : List WorkerSeat) → Worked jobs short answers old new → short ≡ false → Ran jobs answers old new
+ran_all : (jobs : List Job) (short : Bool) (answers : List JobAnswer) (old new : List WorkerSeat) → RunsOwnJobs jobs short answers old new → short ≡ false → RunsJobs jobs answers old new
 ran_all jobs short answers old new w e =
-    subst (λ l. Ran l answers old new) (sym (w.2 ∙ (ap (λ l. w.0 ++ l) (w.3 e) ∙ append-nil w.0))) w.4
+    subst (λ l. RunsJobs l answers old new) (sym (w.2 ∙ (ap (λ l. w.0 ++ l) (w.3 e) ∙ append-nil w.0))) w.4
 
-pub ran_first : (jobs : List Job) (short : Bool) (answers : List JobAnswer) (old new : List WorkerSeat) → Worked jobs short answers old new → RanFirst jobs old new
+pub ran_first : (jobs : List Job) (short : Bool) (answers : List JobAnswer) (old new : List WorkerSeat) → RunsOwnJobs jobs short answers old new → RunsFirst jobs old new
 ran_first jobs short answers old new w = (w.0, w.1, answers, w.2, w.4)
 
-pub ran_length : (js : List Job) (answers : List JobAnswer) (old new : List WorkerSeat) → Ran js answers old new → length answers ≡ length js
+pub ran_length : (js : List Job) (answers : List JobAnswer) (old new : List WorkerSeat) → RunsJobs js answers old new → length answers ≡ length js
 ran_length [] [] old new ran = refl
 ran_length [] (a ∷ answers) old new ran = absurd ran
 ran_length (j ∷ js) [] old new ran = absurd ran
@@ -90,46 +91,46 @@ element_of (x ∷ xs) k below = x
 
 -- each worker ran the first of its own jobs
 pub each_ran : (count : ℕ) (jobs : List Job) (old new : List (List WorkerSeat)) (workers : List Worker) → length workers ≡ count
-    → ((k : ℕ) (d : Worker) → k < count → HasRun k jobs (column k old) (column k new) (get_or workers k d))
-    → (k : ℕ) → k < count → RanFirst (own k jobs) (column k old) (column k new)
+    → ((k : ℕ) (d : Worker) → k < count → HasRun k jobs (worker_column k old) (worker_column k new) (get_or workers k d))
+    → (k : ℕ) → k < count → RunsFirst (own_jobs k jobs) (worker_column k old) (worker_column k new)
 each_ran count jobs old new workers len run k below =
     let d = element_of workers k (omega (arith, len, below)) in
-    ran_first (own k jobs) (get_or workers k d).short (get_or workers k d).answers.items (column k old) (column k new) (run k d below).1
+    ran_first (own_jobs k jobs) (get_or workers k d).short (get_or workers k d).answers.items (worker_column k old) (worker_column k new) (run k d below).1
 
 -- where none was short, each worker has an answer to each of its own jobs
 pub each_answered : (count : ℕ) (jobs : List Job) (old new : List (List WorkerSeat)) (workers : List Worker) → length workers ≡ count → list_any (λ w. w.short) workers ≡ false
-    → ((k : ℕ) (d : Worker) → k < count → HasRun k jobs (column k old) (column k new) (get_or workers k d))
-    → (k : ℕ) (d : Worker) → k < count → Ran (own k jobs) (get_or workers k d).answers.items (column k old) (column k new)
+    → ((k : ℕ) (d : Worker) → k < count → HasRun k jobs (worker_column k old) (worker_column k new) (get_or workers k d))
+    → (k : ℕ) (d : Worker) → k < count → RunsJobs (own_jobs k jobs) (get_or workers k d).answers.items (worker_column k old) (worker_column k new)
 each_answered count jobs old new workers len short run k d below =
-    ran_all (own k jobs) (get_or workers k d).short (get_or workers k d).answers.items (column k old) (column k new) (run k d below).1 (none_short workers short k d (omega (arith, len, below)))
+    ran_all (own_jobs k jobs) (get_or workers k d).short (get_or workers k d).answers.items (worker_column k old) (worker_column k new) (run k d below).1 (none_short workers short k d (omega (arith, len, below)))
 
 -- so with the answers put together
 pub each_told : (count : ℕ) (jobs : List Job) (answers : List JobAnswer) (old new : List (List WorkerSeat)) (workers : List Worker) → length workers ≡ count
-    → ((k : ℕ) (d : Worker) → k < count → Ran (own k jobs) (get_or workers k d).answers.items (column k old) (column k new))
+    → ((k : ℕ) (d : Worker) → k < count → RunsJobs (own_jobs k jobs) (get_or workers k d).answers.items (worker_column k old) (worker_column k new))
     → ((k : ℕ) (d : Worker) → k < count → own_answers k jobs answers ≡ (get_or workers k d).answers.items)
-    → (k : ℕ) → k < count → Ran (own k jobs) (own_answers k jobs answers) (column k old) (column k new)
+    → (k : ℕ) → k < count → RunsJobs (own_jobs k jobs) (own_answers k jobs answers) (worker_column k old) (worker_column k new)
 each_told count jobs answers old new workers len ran merged k below =
     let d = element_of workers k (omega (arith, len, below)) in
-    subst (λ l. Ran (own k jobs) l (column k old) (column k new)) (sym (merged k d below)) (ran k d below)
+    subst (λ l. RunsJobs (own_jobs k jobs) l (worker_column k old) (worker_column k new)) (sym (merged k d below)) (ran k d below)
 
 -- ---- the whole
 
 pub reported : {S : Type 0} (position : S → ℕ) (opened back : List (Opened S)) (jobs : List Job) (answers : List JobAnswer) (report : Report S) → AreOpened position opened → IsHandedBack position opened jobs back
     → length answers ≡ length jobs → All (λ j. j.worker < workers_of opened) jobs
-    → ((k : ℕ) → k < workers_of opened → Ran (own k jobs) (own_answers k jobs answers) (column k (rows opened)) (column k (rows back)))
+    → ((k : ℕ) → k < workers_of opened → RunsJobs (own_jobs k jobs) (own_answers k jobs answers) (worker_column k (seat_rows opened)) (worker_column k (seat_rows back)))
     → AllZip Closes back report.rings.items → report.answers.items ≡ map (λ a. a.result) answers → report.strays ≡ count_by is_stray report.answers.items → report.unlogged ≡ sum_by (λ a. a.unlogged) answers
     → IsReport position opened jobs report
 reported position opened back jobs answers report all handed len known ran closes results strays unlogged =
     let count = workers_of opened in
     let again : All (IsOpened position count) back = subst (λ n. All (IsOpened position n) back) handed.workers_same handed.runs_again in
-    let told = report_of_runs count jobs answers (rows opened) (rows back) (opened_long position count opened all) (opened_long position count back again) len known ran in
-    let failed = told.failures_told in
+    let told = report_of_runs count jobs answers (seat_rows opened) (seat_rows back) (opened_long position count opened all) (opened_long position count back again) len known ran in
+    let failed = told.failures_add_up in
     record {
-      seats = rows back;
+      seats = seat_rows back;
       calls = told.calls;
       rings_end = rings_end position opened back report.rings.items count again handed.seats_same handed.consumers_same closes;
-      answers_shown = subst (λ l. AreRuns jobs l told.calls) (sym results) told.answers_shown;
+      answers_are_runs = subst (λ l. AreRuns jobs l told.calls) (sym results) told.answers_are_runs;
       numbers_rose = told.numbers_rose;
-      failures_told = omega (arith, failed, unlogged);
+      failures_add_up = omega (arith, failed, unlogged);
       strays_are = strays;
     }

@@ -3,29 +3,29 @@ use Rattle.std.proofs.Common.{◌≡◌, ℕ, ◌<◌, List, [], ◌∷◌, leng
 use Rattle.std.specs.Prelude.{All}
 use Rattle.std.specs.List.{AllZip}
 use Rattle.std.proofs.lemmas.List.Elements.{AllZip-get_or, All-cons}
-use Rattle.rb_history.specs.Legal.{Setup}
-use Rattle.rb_ledger.specs.Seats.{Shared, WorkerSeat, IsSameSeat, IsSameTaker}
+use Rattle.rb_history.specs.RoomRule.{Setup}
+use Rattle.rb_ledger.specs.Seats.{Shared, WorkerSeat, IsSameSeat, IsSameConsumerSeat}
 use Rattle.rb_jobs.specs.declared.job.Job.{Job}
 use Rattle.rb_workers.specs.declared.opened.Opened.{Opened}
-use Rattle.rb_workers.specs.Consumers.{IsConsumed}
-use Rattle.rb_workers.specs.Jobs.{own}
+use Rattle.rb_workers.specs.inner.ConsumerTasks.{IsConsumed}
+use Rattle.rb_workers.specs.JobRuns.{own_jobs}
 use Rattle.rb_workers.specs.Opened.{IsOpened, AreOpened, workers_of}
-use Rattle.rb_workers.specs.Reports.{IsHandedBack, RanFirst}
-use Rattle.rb_workers.specs.Rows.{rows, column}
+use Rattle.rb_workers.specs.Reports.{IsHandedBack, RunsFirst}
+use Rattle.rb_workers.specs.SeatRows.{seat_rows, worker_column}
 use Rattle.rb_workers.proofs.Lists.{zip_length}
 use Rattle.rb_workers.proofs.Numbered.{seats_length}
 use Rattle.rb_workers.proofs.Parts.{all_first, all_rest, rows_length}
 use Rattle.rb_workers.proofs.SameSeats.{same_seats, seats_same_of_runs, rows_of_columns}
 
-pub long_rows : {S : Type 0} (count : ℕ) (opened : List (Opened S)) → All (λ o. length o.seats.items ≡ count) opened → All (λ row. length row ≡ count) (rows opened)
+pub long_rows : {S : Type 0} (count : ℕ) (opened : List (Opened S)) → All (λ o. length o.seats.items ≡ count) opened → All (λ row. length row ≡ count) (seat_rows opened)
 long_rows count [] all = λ k d below. absurd (omega arith)
 long_rows {S} count (o ∷ more) all =
-    All-cons (λ (row : List WorkerSeat). length row ≡ count) o.seats.items (rows more)
+    All-cons (λ (row : List WorkerSeat). length row ≡ count) o.seats.items (seat_rows more)
     (all_first (λ (x : Opened S). length x.seats.items ≡ count) (o ∷ more) more o refl all)
     (long_rows count more (all_rest (λ (x : Opened S). length x.seats.items ≡ count) (o ∷ more) more o refl all))
 
 -- as many seats at each ring
-pub opened_long : {S : Type 0} (position : S → ℕ) (count : ℕ) (opened : List (Opened S)) → All (IsOpened position count) opened → All (λ row. length row ≡ count) (rows opened)
+pub opened_long : {S : Type 0} (position : S → ℕ) (count : ℕ) (opened : List (Opened S)) → All (IsOpened position count) opened → All (λ row. length row ≡ count) (seat_rows opened)
 opened_long position count opened all = long_rows count opened (λ k d below. seats_length position count (get_or opened k d) (all k d below))
 
 -- ---- rings that may be run again
@@ -57,7 +57,7 @@ list_tail : {A : Type 0} (x y : A) (xs ys : List A) → x ∷ xs ≡ y ∷ ys �
 list_tail x y xs ys e = ap (λ l. drop 1 l) e
 
 all_again : {S : Type 0} (position : S → ℕ) (count : ℕ) (opened back : List (Opened S)) → All (IsOpened position count) opened → map (λ o. o.ring) back ≡ map (λ o. o.ring) opened
-    → AllZip (IsConsumed position) opened back → AllZip (AllZip IsSameSeat) (rows opened) (rows back) → All (IsOpened position count) back
+    → AllZip (IsConsumed position) opened back → AllZip (AllZip IsSameSeat) (seat_rows opened) (seat_rows back) → All (IsOpened position count) back
 all_again position count [] [] all rings consumed same = λ k d below. absurd (omega arith)
 all_again position count [] (b ∷ bs) all rings consumed same = absurd consumed
 all_again position count (o ∷ os) [] all rings consumed same = absurd consumed
@@ -66,13 +66,13 @@ all_again position count (o ∷ os) (b ∷ bs) all rings consumed same =
     (again position count o b (all_first (IsOpened position count) (o ∷ os) os o refl all) (list_head b.ring o.ring (map (λ x. x.ring) bs) (map (λ x. x.ring) os) rings) consumed.0 same.0)
     (all_again position count os bs (all_rest (IsOpened position count) (o ∷ os) os o refl all) (list_tail b.ring o.ring (map (λ x. x.ring) bs) (map (λ x. x.ring) os) rings) consumed.1 same.1)
 
-count_same : {S : Type 0} (opened back : List (Opened S)) → AllZip (AllZip IsSameSeat) (rows opened) (rows back) → workers_of back ≡ workers_of opened
+count_same : {S : Type 0} (opened back : List (Opened S)) → AllZip (AllZip IsSameSeat) (seat_rows opened) (seat_rows back) → workers_of back ≡ workers_of opened
 count_same [] [] same = refl
 count_same [] (b ∷ bs) same = absurd same
 count_same (o ∷ os) [] same = absurd same
 count_same (o ∷ os) (b ∷ bs) same = sym (zip_length IsSameSeat o.seats.items b.seats.items same.0)
 
-takers_same : {S : Type 0} (position : S → ℕ) (opened back : List (Opened S)) → AllZip (IsConsumed position) opened back → AllZip (λ o b. IsSameTaker o.consumer b.consumer) opened back
+takers_same : {S : Type 0} (position : S → ℕ) (opened back : List (Opened S)) → AllZip (IsConsumed position) opened back → AllZip (λ o b. IsSameConsumerSeat o.consumer b.consumer) opened back
 takers_same position [] [] consumed = tt
 takers_same position [] (b ∷ bs) consumed = absurd consumed
 takers_same position (o ∷ os) [] consumed = absurd consumed
@@ -81,13 +81,13 @@ takers_same position (o ∷ os) (b ∷ bs) consumed = (record { tag_same = consu
 -- what came back of a run may be run again
 pub handed_back : {S : Type 0} (position : S → ℕ) (opened back : List (Opened S)) (jobs : List Job) → AreOpened position opened → map (λ o. o.ring) back ≡ map (λ o. o.ring) opened
     → AllZip (IsConsumed position) opened back → All (λ o. length o.seats.items ≡ workers_of opened) back
-    → ((k : ℕ) → k < workers_of opened → RanFirst (own k jobs) (column k (rows opened)) (column k (rows back)))
+    → ((k : ℕ) → k < workers_of opened → RunsFirst (own_jobs k jobs) (worker_column k (seat_rows opened)) (worker_column k (seat_rows back)))
     → IsHandedBack position opened jobs back
 handed_back {S} position opened back jobs all rings consumed long ran =
     let count = workers_of opened in
-    let len : length (rows opened) ≡ length (rows back) = rows_length opened ∙ (zip_length (IsConsumed position) opened back consumed ∙ sym (rows_length back)) in
-    let same = rows_of_columns IsSameSeat count (rows opened) (rows back) (opened_long position count opened all) (long_rows count back long) len
-    (λ k below. let r = ran k below in seats_same_of_runs r.0 r.2 (column k (rows opened)) (column k (rows back)) r.4) in
+    let len : length (seat_rows opened) ≡ length (seat_rows back) = rows_length opened ∙ (zip_length (IsConsumed position) opened back consumed ∙ sym (rows_length back)) in
+    let same = rows_of_columns IsSameSeat count (seat_rows opened) (seat_rows back) (opened_long position count opened all) (long_rows count back long) len
+    (λ k below. let r = ran k below in seats_same_of_runs r.0 r.2 (worker_column k (seat_rows opened)) (worker_column k (seat_rows back)) r.4) in
     let many = count_same opened back same in
     record {
       rings_same = rings;
@@ -103,17 +103,17 @@ pub unchanged : {S : Type 0} (position : S → ℕ) (opened : List (Opened S)) (
 unchanged {S} position opened jobs all =
     record {
       rings_same = refl;
-      seats_same = each (rows opened);
-      consumers_same = takers opened;
+      seats_same = each (seat_rows opened);
+      consumers_same = consumers opened;
       runs_again = all;
       workers_same = refl;
-      worked = λ k below. ([], own k jobs, [], refl, refl);
+      worked = λ k below. ([], own_jobs k jobs, [], refl, refl);
     }
   where
     each : (xs : List (List WorkerSeat)) → AllZip (AllZip IsSameSeat) xs xs
     each [] = tt
     each (x ∷ xs) = (same_seats x, each xs)
 
-    takers : (xs : List (Opened S)) → AllZip (λ o b. IsSameTaker o.consumer b.consumer) xs xs
-    takers [] = tt
-    takers (x ∷ xs) = (record { tag_same = refl; ring_same = refl }, takers xs)
+    consumers : (xs : List (Opened S)) → AllZip (λ o b. IsSameConsumerSeat o.consumer b.consumer) xs xs
+    consumers [] = tt
+    consumers (x ∷ xs) = (record { tag_same = refl; ring_same = refl }, consumers xs)

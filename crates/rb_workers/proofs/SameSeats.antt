@@ -6,8 +6,8 @@ use Rattle.std.specs.List.{All, AllZip, cons_option}
 use Rattle.rb_ledger.specs.Seats.{WorkerSeat, IsSameSeat}
 use Rattle.rb_jobs.specs.declared.job.Job.{Job}
 use Rattle.rb_jobs.specs.declared.job.JobAnswer.{JobAnswer}
-use Rattle.rb_workers.specs.Jobs.{Ran}
-use Rattle.rb_workers.specs.Rows.{column}
+use Rattle.rb_workers.specs.JobRuns.{RunsJobs}
+use Rattle.rb_workers.specs.SeatRows.{worker_column}
 
 -- ---- a worker's seats
 
@@ -29,7 +29,7 @@ then_same (x ∷ xs) (y ∷ ys) (z ∷ zs) one two =
       then_same xs ys zs one.1 two.1,
     )
 
-pub seats_same_of_runs : (jobs : List Job) (answers : List JobAnswer) (old new : List WorkerSeat) → Ran jobs answers old new → AllZip IsSameSeat old new
+pub seats_same_of_runs : (jobs : List Job) (answers : List JobAnswer) (old new : List WorkerSeat) → RunsJobs jobs answers old new → AllZip IsSameSeat old new
 seats_same_of_runs [] [] old new same = subst (AllZip IsSameSeat old) (sym same) (same_seats old)
 seats_same_of_runs [] (a ∷ rest) old new ran = absurd ran
 seats_same_of_runs (j ∷ js) [] old new ran = absurd ran
@@ -53,10 +53,10 @@ row_zip R (suc n) (x ∷ xs) (y ∷ ys) aboves belows lx ly each =
 
 -- what holds between all columns holds between all rows
 pub rows_of_columns : (R : WorkerSeat → WorkerSeat → Type 0) (count : ℕ) (old new : List (List WorkerSeat)) → All (λ row. length row ≡ count) old → All (λ row. length row ≡ count) new → length old ≡ length new
-    → ((k : ℕ) → k < count → AllZip R (column k old) (column k new)) → AllZip (AllZip R) old new
+    → ((k : ℕ) → k < count → AllZip R (worker_column k old) (worker_column k new)) → AllZip (AllZip R) old new
 rows_of_columns R count [] [] old_rows new_rows len columns = tt
 rows_of_columns R count [] (row ∷ new) old_rows new_rows len columns = absurd (omega arith)
 rows_of_columns R count (row ∷ old) [] old_rows new_rows len columns = absurd (omega arith)
 rows_of_columns R count (row ∷ old) (now ∷ new) old_rows new_rows len columns =
-    let first = row_zip R count row now (λ k. column k old) (λ k. column k new) (All-head (λ (r : List WorkerSeat). length r ≡ count) row old old_rows) (All-head (λ (r : List WorkerSeat). length r ≡ count) now new new_rows) columns in
+    let first = row_zip R count row now (λ k. worker_column k old) (λ k. worker_column k new) (All-head (λ (r : List WorkerSeat). length r ≡ count) row old old_rows) (All-head (λ (r : List WorkerSeat). length r ≡ count) now new new_rows) columns in
     (first.0, rows_of_columns R count old new (All-tail (λ (r : List WorkerSeat). length r ≡ count) row old old_rows) (All-tail (λ (r : List WorkerSeat). length r ≡ count) now new new_rows) (omega arith) first.1)

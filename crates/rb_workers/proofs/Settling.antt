@@ -6,14 +6,14 @@ use Rattle.std.specs.Prelude.{slice_get}
 use Rattle.std.specs.List.{All}
 use Rattle.rb_ledger.specs.Seats.{WorkerSeat, IsSameSeat, SettlesWithin, HasSettledAll}
 use Rattle.rb_ledger.proofs.Laws.{once-closed}
-use Rattle.rb_seats.specs.Seated.{made_in, submitted_in, discarded_in}
+use Rattle.rb_seats.specs.SeatHelpers.{made_in, submitted_in, discarded_in}
 use Rattle.rb_jobs.specs.declared.job.Job.{Job}
 use Rattle.rb_workers.specs.declared.opened.Opened.{Opened}
 use Rattle.rb_workers.specs.declared.opened.Ended.{Ended}
 use Rattle.rb_workers.specs.declared.opened.Report.{Report}
 use Rattle.rb_workers.specs.Opened.{AreOpened, IsOpened, workers_of}
 use Rattle.rb_workers.specs.Reports.{IsReport, RingsEnd}
-use Rattle.rb_workers.specs.Rows.{column, rows}
+use Rattle.rb_workers.specs.SeatRows.{worker_column, seat_rows}
 use Rattle.rb_workers.specs.Settled.{AreSettled, EachSettled, IsEven, EndsSettled}
 use Rattle.rb_workers.proofs.Sums.{number_at, cons_sum}
 use Rattle.rb_workers.proofs.Numbered.{seats_length}
@@ -41,33 +41,33 @@ row_settled (s ∷ row) each = All-cons HasSettledAll s row (each 0 (omega arith
 
 -- ---- all rows
 
-column_within : (k : ℕ) (seats : List (List WorkerSeat)) → All (All SettlesWithin) seats → submitted_in (column k seats) + discarded_in (column k seats) ≤ made_in (column k seats)
+column_within : (k : ℕ) (seats : List (List WorkerSeat)) → All (All SettlesWithin) seats → submitted_in (worker_column k seats) + discarded_in (worker_column k seats) ≤ made_in (worker_column k seats)
 column_within k [] all = omega arith
 column_within k (row ∷ seats) all =
     let here = within_at row k (All-head (All SettlesWithin) row seats all) in
     let rest = column_within k seats (All-tail (All SettlesWithin) row seats all) in
-    let made = cons_sum (λ (s : WorkerSeat). s.tally.made) (slice_get row k) (column k seats) in
-    let submitted = cons_sum (λ (s : WorkerSeat). s.tally.submitted) (slice_get row k) (column k seats) in
-    let discarded = cons_sum (λ (s : WorkerSeat). s.tally.discarded) (slice_get row k) (column k seats) in
+    let made = cons_sum (λ (s : WorkerSeat). s.tally.made) (slice_get row k) (worker_column k seats) in
+    let submitted = cons_sum (λ (s : WorkerSeat). s.tally.submitted) (slice_get row k) (worker_column k seats) in
+    let discarded = cons_sum (λ (s : WorkerSeat). s.tally.discarded) (slice_get row k) (worker_column k seats) in
     omega (arith, here, rest, made, submitted, discarded)
 
-column_settled : (k : ℕ) (row : List WorkerSeat) (seats : List (List WorkerSeat)) → All (All SettlesWithin) (row ∷ seats) → AreSettled (column k (row ∷ seats))
-    → (made_at row k ≡ submitted_at row k + discarded_at row k) × AreSettled (column k seats)
+column_settled : (k : ℕ) (row : List WorkerSeat) (seats : List (List WorkerSeat)) → All (All SettlesWithin) (row ∷ seats) → AreSettled (worker_column k (row ∷ seats))
+    → (made_at row k ≡ submitted_at row k + discarded_at row k) × AreSettled (worker_column k seats)
 column_settled k row seats all settled =
     let here = within_at row k (All-head (All SettlesWithin) row seats all) in
     let rest = column_within k seats (All-tail (All SettlesWithin) row seats all) in
-    let made = cons_sum (λ (s : WorkerSeat). s.tally.made) (slice_get row k) (column k seats) in
-    let submitted = cons_sum (λ (s : WorkerSeat). s.tally.submitted) (slice_get row k) (column k seats) in
-    let discarded = cons_sum (λ (s : WorkerSeat). s.tally.discarded) (slice_get row k) (column k seats) in
+    let made = cons_sum (λ (s : WorkerSeat). s.tally.made) (slice_get row k) (worker_column k seats) in
+    let submitted = cons_sum (λ (s : WorkerSeat). s.tally.submitted) (slice_get row k) (worker_column k seats) in
+    let discarded = cons_sum (λ (s : WorkerSeat). s.tally.discarded) (slice_get row k) (worker_column k seats) in
     (omega (arith, here, rest, made, submitted, discarded, settled), omega (arith, here, rest, made, submitted, discarded, settled))
 
 -- no seat settles more than it made, so where each worker's seats together settled all, each seat did
 each_settled : (count : ℕ) (seats : List (List WorkerSeat)) → All (λ row. length row ≡ count) seats → All (All SettlesWithin) seats → EachSettled count seats → All (All HasSettledAll) seats
-each_settled count [] rows within settled = All-nil (All HasSettledAll)
-each_settled count (row ∷ seats) rows within settled =
-    let len : length row ≡ count = All-head (λ (r : List WorkerSeat). length r ≡ count) row seats rows in
+each_settled count [] seat_rows within settled = All-nil (All HasSettledAll)
+each_settled count (row ∷ seats) seat_rows within settled =
+    let len : length row ≡ count = All-head (λ (r : List WorkerSeat). length r ≡ count) row seats seat_rows in
     All-cons (All HasSettledAll) row seats (row_settled row (λ k below. (column_settled k row seats within (settled k (omega (arith, len, below)))).0))
-    (each_settled count seats (All-tail (λ (r : List WorkerSeat). length r ≡ count) row seats rows) (All-tail (All SettlesWithin) row seats within) (λ k below. (column_settled k row seats within (settled k below)).1))
+    (each_settled count seats (All-tail (λ (r : List WorkerSeat). length r ≡ count) row seats seat_rows) (All-tail (All SettlesWithin) row seats within) (λ k below. (column_settled k row seats within (settled k below)).1))
 
 -- what is settled seat by seat is settled together
 settled_within : (row : List WorkerSeat) (k : ℕ) → All HasSettledAll row → made_at row k ≡ submitted_at row k + discarded_at row k
@@ -80,9 +80,9 @@ settled_together count [] all k below = refl
 settled_together count (row ∷ seats) all k below =
     let here = settled_within row k (All-head (All HasSettledAll) row seats all) in
     let rest = settled_together count seats (All-tail (All HasSettledAll) row seats all) k below in
-    let made = cons_sum (λ (s : WorkerSeat). s.tally.made) (slice_get row k) (column k seats) in
-    let submitted = cons_sum (λ (s : WorkerSeat). s.tally.submitted) (slice_get row k) (column k seats) in
-    let discarded = cons_sum (λ (s : WorkerSeat). s.tally.discarded) (slice_get row k) (column k seats) in
+    let made = cons_sum (λ (s : WorkerSeat). s.tally.made) (slice_get row k) (worker_column k seats) in
+    let submitted = cons_sum (λ (s : WorkerSeat). s.tally.submitted) (slice_get row k) (worker_column k seats) in
+    let discarded = cons_sum (λ (s : WorkerSeat). s.tally.discarded) (slice_get row k) (worker_column k seats) in
     omega (arith, here, rest, made, submitted, discarded)
 
 -- ---- closed rings
@@ -135,11 +135,11 @@ rows_at_end position count (o ∷ os) (e ∷ es) (row ∷ more) each ends =
 
 -- where no run ended with a stray record, and each worker's seats were settled before, each ring ends settled
 pub no_strays : {S : Type 0} (position : S → ℕ) (opened : List (Opened S)) (jobs : List Job) (report : Report S) → AreOpened position opened → IsReport position opened jobs report
-    → report.strays ≡ 0 → EachSettled (workers_of opened) (rows opened) → All EndsSettled report.rings.items
+    → report.strays ≡ 0 → EachSettled (workers_of opened) (seat_rows opened) → All EndsSettled report.rings.items
 no_strays position opened jobs report each told none settled =
     let count = workers_of opened in
     let still : EachSettled count told.seats =
-    λ k below. stays_settled k jobs report.answers.items told.calls (column k (rows opened)) (column k told.seats) told.answers_shown (sym told.strays_are ∙ none) (told.numbers_rose k below) (settled k below)
+    λ k below. stays_settled k jobs report.answers.items told.calls (worker_column k (seat_rows opened)) (worker_column k told.seats) told.answers_are_runs (sym told.strays_are ∙ none) (told.numbers_rose k below) (settled k below)
     in
     let all = each_settled count told.seats (rows_at_end position count opened report.rings.items told.seats each told.rings_end) (rings_within position opened report.rings.items told.seats told.rings_end) still in
     rings_settled position opened report.rings.items told.seats told.rings_end all

@@ -7,11 +7,11 @@ use Rattle.rb_helpers.specs.declared.done.Done.{Done}
 use Rattle.rb_interp.specs.declared.fault.RunFault.{RunFault}
 use Rattle.rb_interp.specs.declared.fault.RunFault.TheVariants.{Stray}
 use Rattle.rb_ledger.specs.Seats.{WorkerSeat}
-use Rattle.rb_seats.specs.Seated.{makes, submits, discards, times, made_in, submitted_in, discarded_in}
+use Rattle.rb_seats.specs.SeatHelpers.{makes, submits, discards, call_total, made_in, submitted_in, discarded_in}
 use Rattle.rb_jobs.specs.declared.job.Job.{Job}
 use Rattle.rb_jobs.specs.Jobs.{task_of}
 use Rattle.rb_jobs.proofs.Returned.{calls_give_back}
-use Rattle.rb_workers.specs.Jobs.{is_stray}
+use Rattle.rb_workers.specs.JobRuns.{is_stray}
 use Rattle.rb_workers.specs.Reports.{IsRun, AreRuns, HasRisen, times_by}
 use Rattle.rb_workers.specs.Settled.{AreSettled}
 
@@ -27,8 +27,8 @@ either : (b : Bool) (m s d : ℕ) → m ≡ s + d → cond b m 0 ≡ cond b s 0 
 either true m s d e = e
 either false m s d e = refl
 
-run_gives_back : (j : Job) (result : Result ℕ RunFault) (calls : List Done) → IsRun (task_of j) result calls → is_stray result ≡ false → times makes calls ≡ times submits calls + times discards calls
-run_gives_back j result calls run none = calls_give_back (task_of j).program (task_of j).context (λ bytes. Unit {0}) result calls run.shows run.balanced (not_stray result none)
+run_gives_back : (j : Job) (result : Result ℕ RunFault) (calls : List Done) → IsRun (task_of j) result calls → is_stray result ≡ false → call_total makes calls ≡ call_total submits calls + call_total discards calls
+run_gives_back j result calls run none = calls_give_back (task_of j).program (task_of j).context run.given result calls run.shows run.balanced (not_stray result none)
 
 runs_give_back : (worker : ℕ) (jobs : List Job) (results : List (Result ℕ RunFault)) (calls : List (List Done)) → AreRuns jobs results calls → count_by is_stray results ≡ 0
     → times_by makes worker jobs calls ≡ times_by submits worker jobs calls + times_by discards worker jobs calls
@@ -41,7 +41,7 @@ runs_give_back worker (j ∷ js) [] (c ∷ more) runs none = absurd runs
 runs_give_back worker (j ∷ js) (r ∷ rs) [] runs none = absurd runs
 runs_give_back worker (j ∷ js) (r ∷ rs) (c ∷ more) runs none =
     let counted = none_counted (is_stray r) (count_by is_stray rs) (sym (sum_by-cons (λ (r : Result ℕ RunFault). cond (is_stray r) 1 0) r rs) ∙ none) in
-    let one = either (j.worker == worker) (times makes c) (times submits c) (times discards c) (run_gives_back j r c runs.0 counted.0) in
+    let one = either (j.worker == worker) (call_total makes c) (call_total submits c) (call_total discards c) (run_gives_back j r c runs.0 counted.0) in
     let rest = runs_give_back worker js rs more runs.1 counted.1 in
     omega (arith, one, rest)
 

@@ -5,7 +5,7 @@ use Rattle.std.proofs.lemmas.List.Sums.{sum_by-cons}
 use Rattle.std.specs.Prelude.{slice_get}
 use Rattle.std.specs.List.{All, cons_option, sum_by}
 use Rattle.rb_ledger.specs.Seats.{WorkerSeat}
-use Rattle.rb_workers.specs.Rows.{column}
+use Rattle.rb_workers.specs.SeatRows.{worker_column}
 
 -- ---- sums over the numbers below n
 
@@ -59,12 +59,12 @@ cons_sum f (Some x) xs = sum_by-cons f x xs
 
 -- the sum by rows is the sum by columns
 pub sum_of_columns : (f : WorkerSeat → ℕ) (count : ℕ) (seats : List (List WorkerSeat)) → All (λ row. length row ≡ count) seats
-    → sum_by (λ row. sum_by f row) seats ≡ sum_to count (λ k. sum_by f (column k seats))
+    → sum_by (λ row. sum_by f row) seats ≡ sum_to count (λ k. sum_by f (worker_column k seats))
 sum_of_columns f count [] each = sym (sum_to_none count)
 sum_of_columns f count (row ∷ seats) each =
     let rest = sum_of_columns f count seats (All-tail (λ (r : List WorkerSeat). length r ≡ count) row seats each) in
     let first = row_sum f count row (All-head (λ (r : List WorkerSeat). length r ≡ count) row seats each) in
     let all = sum_by-cons (λ (r : List WorkerSeat). sum_by f r) row seats in
-    let parts = sum_to_add count (λ k. number_at f (slice_get row k)) (λ k. sum_by f (column k seats)) in
-    let columns = sum_to_same count (λ k. sum_by f (column k (row ∷ seats))) (λ k. number_at f (slice_get row k) + sum_by f (column k seats)) (λ k below. cons_sum f (slice_get row k) (column k seats)) in
+    let parts = sum_to_add count (λ k. number_at f (slice_get row k)) (λ k. sum_by f (worker_column k seats)) in
+    let columns = sum_to_same count (λ k. sum_by f (worker_column k (row ∷ seats))) (λ k. number_at f (slice_get row k) + sum_by f (worker_column k seats)) (λ k below. cons_sum f (slice_get row k) (worker_column k seats)) in
     omega (arith, rest, first, all, parts, columns)

@@ -6,42 +6,43 @@ use Rattle.std.specs.Prelude.{Bool, All, vec_capacity}
 use Rattle.std.specs.List.{AllZip}
 use Rattle.std.proofs.lemmas.Option.{slice_get-get_or}
 use Rattle.std.proofs.lemmas.List.Elements.{All-cons}
-use Rattle.rb_ledger.specs.Seats.{WorkerSeat, TakerSeat}
-use Rattle.rb_workers.specs.declared.consuming.Taker.{Taker}
+use Rattle.rb_ledger.specs.Seats.{WorkerSeat, ConsumerSeatValue}
+use Rattle.rb_workers.specs.declared.consumer_task.ConsumerTask.{ConsumerTask}
 use Rattle.rb_workers.specs.declared.opened.Opened.{Opened}
 use Rattle.rb_jobs.specs.declared.job.Job.{Job}
 use Rattle.rb_jobs.specs.declared.job.JobAnswer.{JobAnswer}
-use Rattle.rb_seats.specs.Seated.{IsAt, AtRings}
-use Rattle.rb_workers.specs.Consumers.{IsSameConsumer, IsTakerOf, IsPart, Consumed, IsFrom, IsConsumed}
-use Rattle.rb_workers.specs.Jobs.{Worked, own}
-use Rattle.rb_workers.specs.Rows.{column, rows}
+use Rattle.rb_seats.specs.SeatHelpers.{IsAt, AtRings}
+use Rattle.rb_workers.specs.inner.ConsumerTasks.{IsSameConsumer, IsConsumerTaskOf, IsSplitOff, Consumed, IsMergedInto, IsConsumed}
+use Rattle.rb_workers.specs.JobRuns.{own_jobs}
+use Rattle.rb_workers.specs.inner.WorkerRuns.{RunsOwnJobs}
+use Rattle.rb_workers.specs.SeatRows.{worker_column, seat_rows}
 use Rattle.rb_workers.specs.Opened.{IsOpened}
 use Rattle.rb_workers.proofs.Numbered.{seats_length}
 use Rattle.rb_workers.proofs.Parts.{some_of, column_cons, all_first, all_rest}
 
-pub column_at : {S : Type 0} (position : S → ℕ) (count k : ℕ) (opened : List (Opened S)) → All (IsOpened position count) opened → k < count → AtRings (map (λ o. o.ring) opened) (column k (rows opened))
+pub column_at : {S : Type 0} (position : S → ℕ) (count k : ℕ) (opened : List (Opened S)) → All (IsOpened position count) opened → k < count → AtRings (map (λ o. o.ring) opened) (worker_column k (seat_rows opened))
 column_at position count k [] all below = tt
 column_at position count k (o ∷ os) all below =
     let first = all_first (IsOpened position count) (o ∷ os) os o refl all in
     let row = o.seats.items in
     let inside : k < length row = omega (arith, seats_length position count o first) in
     let s = some_of row k inside in
-    subst (λ (l : List WorkerSeat). AllZip IsAt (o.ring ∷ map (λ x. x.ring) os) l) (sym (column_cons k row (rows os) (get_or row k s) (slice_get-get_or row k s inside)))
+    subst (λ (l : List WorkerSeat). AllZip IsAt (o.ring ∷ map (λ x. x.ring) os) l) (sym (column_cons k row (seat_rows os) (get_or row k s) (slice_get-get_or row k s inside)))
     (first.seats_at k s inside, column_at position count k os (all_rest (IsOpened position count) (o ∷ os) os o refl all) below)
 
-pub takers_at : {S : Type 0} (position : S → ℕ) (count : ℕ) (opened : List (Opened S)) (takers : List (Taker S)) → AllZip IsPart opened takers → All (IsOpened position count) opened → AllZip (IsTakerOf position) (map (λ o. o.ring) opened) takers
+pub takers_at : {S : Type 0} (position : S → ℕ) (count : ℕ) (opened : List (Opened S)) (consumers : List (ConsumerTask S)) → AllZip IsSplitOff opened consumers → All (IsOpened position count) opened → AllZip (IsConsumerTaskOf position) (map (λ o. o.ring) opened) consumers
 takers_at position count [] [] parts all = tt
 takers_at position count [] (t ∷ ts) parts all = absurd parts
 takers_at position count (o ∷ os) [] parts all = absurd parts
 takers_at position count (o ∷ os) (t ∷ ts) parts all =
     let first = all_first (IsOpened position count) (o ∷ os) os o refl all in
     let p = parts.0 in (
-      (ap (λ (c : TakerSeat). c.tag) p.0 ∙ first.consumer_tag, ap (λ (c : TakerSeat). c.ring) p.0 ∙ first.consumer_at, ap position p.1 ∙ (first.sink_follows ∙ sym (ap (λ (c : TakerSeat). c.position) p.0))),
+      (ap (λ (c : ConsumerSeatValue). c.tag) p.0 ∙ first.consumer_tag, ap (λ (c : ConsumerSeatValue). c.ring) p.0 ∙ first.consumer_at, ap position p.1 ∙ (first.sink_follows ∙ sym (ap (λ (c : ConsumerSeatValue). c.position) p.0))),
       takers_at position count os ts parts.1 (all_rest (IsOpened position count) (o ∷ os) os o refl all),
     )
 
-pub homes_at : {S : Type 0} (position : S → ℕ) (count : ℕ) (opened : List (Opened S)) (takers ended : List (Taker S)) → AllZip IsPart opened takers → AllZip (Consumed position) takers ended → All (IsOpened position count) opened
-    → All (λ t. (t.home.items ≡ []) × (count ≤ vec_capacity t.home)) ended
+pub homes_at : {S : Type 0} (position : S → ℕ) (count : ℕ) (opened : List (Opened S)) (consumers ended : List (ConsumerTask S)) → AllZip IsSplitOff opened consumers → AllZip (Consumed position) consumers ended → All (IsOpened position count) opened
+    → All (λ t. (t.returned_seats.items ≡ []) × (count ≤ vec_capacity t.returned_seats)) ended
 homes_at {S} position count [] [] [] parts ends all = λ k d below. absurd (omega arith)
 homes_at {S} position count [] [] (u ∷ us) parts ends all = absurd ends
 homes_at {S} position count [] (t ∷ ts) ended parts ends all = absurd parts
@@ -50,8 +51,8 @@ homes_at {S} position count (o ∷ os) (t ∷ ts) [] parts ends all = absurd end
 homes_at {S} position count (o ∷ os) (t ∷ ts) (u ∷ us) parts ends all =
     let first = all_first (IsOpened position count) (o ∷ os) os o refl all in
     let p = parts.0 in
-    let room : count ≤ vec_capacity t.home = omega (arith, seats_length position count o first, p.3) in
-    All-cons (λ (t : Taker S). (t.home.items ≡ []) × (count ≤ vec_capacity t.home)) u us (subst (λ h. (h.items ≡ []) × (count ≤ vec_capacity h)) (sym ends.0.2) (p.2, room))
+    let room : count ≤ vec_capacity t.returned_seats = omega (arith, seats_length position count o first, p.3) in
+    All-cons (λ (t : ConsumerTask S). (t.returned_seats.items ≡ []) × (count ≤ vec_capacity t.returned_seats)) u us (subst (λ h. (h.items ≡ []) × (count ≤ vec_capacity h)) (sym ends.0.2) (p.2, room))
     (homes_at position count os ts us parts.1 ends.1 (all_rest (IsOpened position count) (o ∷ os) os o refl all))
 
 zip_through : {A B C : Type 0} (R : A → B → Type 0) (Q : B → C → Type 0) (P : A → C → Type 0) → ((x : A) (y : B) (z : C) → R x y → Q y z → P x z)
@@ -69,19 +70,19 @@ lent_whole len new items e = subst (λ n. take n (new ++ drop (length new) items
 pub rings_length : {S : Type 0} (xs : List (Opened S)) → length (map (λ (o : Opened S). o.ring) xs) ≡ length xs
 rings_length xs = length-map xs (λ o. o.ring)
 
-abbrev HasEnded : {S : Type 0} → (S → ℕ) → Opened S → Taker S → Type 0
+abbrev HasEnded : {S : Type 0} → (S → ℕ) → Opened S → ConsumerTask S → Type 0
 HasEnded position o u = IsSameConsumer o.consumer u.consumer × (position u.sink ≡ u.consumer.position)
 
-pub ends_at : {S : Type 0} (position : S → ℕ) (opened back : List (Opened S)) (takers ended : List (Taker S)) → AllZip IsPart opened takers → AllZip (Consumed position) takers ended → AllZip IsFrom ended back → AllZip (IsConsumed position) opened back
-ends_at {S} position opened back takers ended parts ends from =
-    zip_through (HasEnded position) IsFrom (IsConsumed position)
-    (λ o u n h f. (subst (λ c. IsSameConsumer o.consumer c) (sym f.0) h.0, ap position f.1 ∙ (h.1 ∙ sym (ap (λ (c : TakerSeat). c.position) f.0))))
+pub ends_at : {S : Type 0} (position : S → ℕ) (opened back : List (Opened S)) (consumers ended : List (ConsumerTask S)) → AllZip IsSplitOff opened consumers → AllZip (Consumed position) consumers ended → AllZip IsMergedInto ended back → AllZip (IsConsumed position) opened back
+ends_at {S} position opened back consumers ended parts ends from =
+    zip_through (HasEnded position) IsMergedInto (IsConsumed position)
+    (λ o u n h f. (subst (λ c. IsSameConsumer o.consumer c) (sym f.0) h.0, ap position f.1 ∙ (h.1 ∙ sym (ap (λ (c : ConsumerSeatValue). c.position) f.0))))
     opened ended back
-    (zip_through IsPart (Consumed position) (HasEnded position)
+    (zip_through IsSplitOff (Consumed position) (HasEnded position)
     (λ o t u p e. (subst (λ c. IsSameConsumer c u.consumer) p.0 e.0, e.1))
-    opened takers ended parts ends)
+    opened consumers ended parts ends)
     from
 
-pub worked_at : (js : List Job) (w w' : ℕ) (s s' : Bool) (a a' : List JobAnswer) (o o' n n' : List WorkerSeat) → w ≡ w' → s ≡ s' → a ≡ a' → o ≡ o' → n ≡ n' → Worked (own w js) s a o n → Worked (own w' js) s' a' o' n'
+pub worked_at : (js : List Job) (w w' : ℕ) (s s' : Bool) (a a' : List JobAnswer) (o o' n n' : List WorkerSeat) → w ≡ w' → s ≡ s' → a ≡ a' → o ≡ o' → n ≡ n' → RunsOwnJobs (own_jobs w js) s a o n → RunsOwnJobs (own_jobs w' js) s' a' o' n'
 worked_at js w w' s s' a a' o o' n n' ew es ea eo en h =
-    subst (λ x. Worked (own x js) s' a' o' n') ew (subst (λ x. Worked (own w js) x a' o' n') es (subst (λ x. Worked (own w js) s x o' n') ea (subst (λ x. Worked (own w js) s a x n') eo (subst (λ x. Worked (own w js) s a o x) en h))))
+    subst (λ x. RunsOwnJobs (own_jobs x js) s' a' o' n') ew (subst (λ x. RunsOwnJobs (own_jobs w js) x a' o' n') es (subst (λ x. RunsOwnJobs (own_jobs w js) s x o' n') ea (subst (λ x. RunsOwnJobs (own_jobs w js) s a x n') eo (subst (λ x. RunsOwnJobs (own_jobs w js) s a o x) en h))))

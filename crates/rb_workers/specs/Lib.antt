@@ -1,10 +1,6 @@
-pub mod Rows
+pub mod SeatRows
 pub mod Opened
-pub mod Jobs
-pub mod Workers
-pub mod Consumers
-pub mod Rooms
-pub mod Ends
-pub mod Told
+pub mod JobRuns
 pub mod Settled
 pub mod Reports
+pub mod inner

@@ -1,7 +1,7 @@
 -- What rings have to be for a run: what a caller knows of each (own).
 use Rattle.std.specs.Prelude.{◌≡◌, ℕ, List, [], ◌∷◌, All, length, map}
-use Rattle.rb_ledger.specs.Numbers.{numbers_below}
-use Rattle.rb_seats.specs.Seated.{IsAt}
+use Rattle.rb_ledger.specs.WorkerCounts.{numbers_below}
+use Rattle.rb_seats.specs.SeatHelpers.{IsAt}
 use Rattle.rb_workers.specs.declared.opened.Opened.{Opened}
 
 -- the seats are one of each worker, in the order of their numbers; they and the consumer are the ring's; and the sink's position is the

@@ -4,10 +4,10 @@ use Rattle.std.specs.List.{AllZip, count_by, list_any, sum_by}
 use Rattle.rb_helpers.specs.declared.done.Done.{Done}
 use Rattle.rb_history.specs.Calls.{consumer_now}
 use Rattle.rb_interp.specs.declared.fault.RunFault.{RunFault}
-use Rattle.rb_interp.specs.Traces.{RunShows, TellsLength, IsBalanced}
+use Rattle.rb_interp.specs.RunTraces.{RunMatches, TellsLength, TraceBalances}
 use Rattle.rb_ledger.specs.Headline.{IsClosed}
-use Rattle.rb_ledger.specs.Seats.{WorkerSeat, TakerSeat, IsSameSeat, IsSameTaker}
-use Rattle.rb_seats.specs.Seated.{makes, submits, discards, fails, times, made_in, refused_in, submitted_in, discarded_in}
+use Rattle.rb_ledger.specs.Seats.{WorkerSeat, ConsumerSeatValue, IsSameSeat, IsSameConsumerSeat}
+use Rattle.rb_seats.specs.SeatHelpers.{makes, submits, discards, fails, call_total, made_in, refused_in, submitted_in, discarded_in}
 use Rattle.rb_jobs.specs.declared.job.Job.{Job}
 use Rattle.rb_jobs.specs.declared.job.JobAnswer.{JobAnswer}
 use Rattle.rb_jobs.specs.Jobs.{Task, task_of}
@@ -15,9 +15,9 @@ use Rattle.rb_workers.specs.declared.opened.Opened.{Opened}
 use Rattle.rb_workers.specs.declared.opened.Ended.{Ended}
 use Rattle.rb_workers.specs.declared.opened.Report.{Report}
 use Rattle.rb_workers.specs.declared.opened.JobFault.{JobFault}
-use Rattle.rb_workers.specs.Jobs.{Ran, own, is_stray}
+use Rattle.rb_workers.specs.JobRuns.{RunsJobs, own_jobs, is_stray}
 use Rattle.rb_workers.specs.Opened.{AreOpened, workers_of}
-use Rattle.rb_workers.specs.Rows.{rows, column}
+use Rattle.rb_workers.specs.SeatRows.{seat_rows, worker_column}
 
 -- ---- refusals
 
@@ -29,33 +29,33 @@ has_unknown_ring rings jobs = list_any (λ j. nat_lt rings j.program.now.rings) 
 abbrev pub has_unknown_worker : ℕ → List Job → Bool
 has_unknown_worker count jobs = list_any (λ j. not (nat_lt j.worker count)) jobs
 
--- this fault is told
-abbrev pub IsToldAs : {T B : Type 0} → JobFault → Result T (JobFault × B) → Type 0
-IsToldAs fault (Ok _) = ⊥
-IsToldAs fault (Err e) = e.0 ≡ fault
+-- it is refused for this fault
+abbrev pub IsRefusedFor : {T B : Type 0} → JobFault → Result T (JobFault × B) → Type 0
+IsRefusedFor fault (Ok _) = ⊥
+IsRefusedFor fault (Err e) = e.0 ≡ fault
 
 -- the worker ran the first of these jobs, which took its seats from the one state to the other
-abbrev pub RanFirst : List Job → List WorkerSeat → List WorkerSeat → Type 0
-RanFirst jobs old new = (done left : List Job) × (answers : List JobAnswer) × (jobs ≡ done ++ left) × Ran done answers old new
+abbrev pub RunsFirst : List Job → List WorkerSeat → List WorkerSeat → Type 0
+RunsFirst jobs old new = (done left : List Job) × (answers : List JobAnswer) × (jobs ≡ done ++ left) × RunsJobs done answers old new
 
 -- all came back, each at its place, and may be run again: the same rings, seats and consumers; each worker ran the first of its own jobs
 pub record IsHandedBack {S : Type 0} (position : S → ℕ) (opened : List (Opened S)) (jobs : List Job) (back : List (Opened S)) : Type 0 where
   pub rings_same : map (λ o. o.ring) back ≡ map (λ o. o.ring) opened
-  pub seats_same : AllZip (AllZip IsSameSeat) (rows opened) (rows back)
-  pub consumers_same : AllZip (λ o b. IsSameTaker o.consumer b.consumer) opened back
+  pub seats_same : AllZip (AllZip IsSameSeat) (seat_rows opened) (seat_rows back)
+  pub consumers_same : AllZip (λ o b. IsSameConsumerSeat o.consumer b.consumer) opened back
   pub runs_again : AreOpened position back
   pub workers_same : workers_of back ≡ workers_of opened
-  pub worked : (k : ℕ) → k < workers_of opened → RanFirst (own k jobs) (column k (rows opened)) (column k (rows back))
+  pub worked : (k : ℕ) → k < workers_of opened → RunsFirst (own_jobs k jobs) (worker_column k (seat_rows opened)) (worker_column k (seat_rows back))
 
 -- ---- reports
 
 -- the ring was closed with these seats and a consumer, which are those that were opened; the tallies are the seats'; and the sink's
 -- position is the consumer position of the closed ring
 pub record RingEnds {S : Type 0} (position : S → ℕ) (o : Opened S) (ended : Ended S) (seats : List WorkerSeat) : Type 0 where
-  pub consumer : TakerSeat
+  pub consumer : ConsumerSeatValue
   pub closed : IsClosed ended.closing seats consumer
   pub same_seats : AllZip IsSameSeat o.seats.items seats
-  pub same_consumer : IsSameTaker o.consumer consumer
+  pub same_consumer : IsSameConsumerSeat o.consumer consumer
   pub sink_follows : position ended.sink ≡ consumer_now ended.closing
   pub tallies_are : ended.tallies.items ≡ map (λ s. s.tally) seats
 
@@ -66,9 +66,10 @@ RingsEnd position _ _ _ = ⊥
 
 -- the run of a job, with these calls and answers, is that of the program's meaning, and ends so
 pub record IsRun (task : Task) (result : Result ℕ RunFault) (calls : List Done) : Type 0 where
-  pub length_told : TellsLength task.program task.context result
-  pub shows : RunShows task.program task.context [] calls (λ bytes. Unit {0}) result
-  pub balanced : OnOk result (IsBalanced [] calls)
+  pub length_is : TellsLength task.program task.context result
+  pub given : List (List ℕ)
+  pub shows : RunMatches task.program task.context [] calls given result
+  pub balanced : OnOk result (TraceBalances [] calls)
 
 -- so it is for each job, in the order of the jobs
 abbrev pub AreRuns : List Job → List (Result ℕ RunFault) → List (List Done) → Type 0
@@ -84,11 +85,11 @@ sum_own amount worker (j ∷ js) (x ∷ more) = cond (j.worker == worker) (amoun
 
 -- how often the calls of the worker's own jobs did so
 abbrev pub times_by : (Done → ℕ) → ℕ → List Job → List (List Done) → ℕ
-times_by what worker jobs calls = sum_own (times what) worker jobs calls
+times_by what worker jobs calls = sum_own (call_total what) worker jobs calls
 
 -- how often the calls of all jobs did so
 abbrev pub times_in : (Done → ℕ) → List (List Done) → ℕ
-times_in what calls = sum_by (times what) calls
+times_in what calls = sum_by (call_total what) calls
 
 -- the numbers of the worker's seats together rose by what the calls of its own jobs say
 pub record HasRisen (worker : ℕ) (jobs : List Job) (calls : List (List Done)) (old new : List WorkerSeat) : Type 0 where
@@ -102,12 +103,12 @@ refused_by_all seats = sum_by refused_in seats
 
 -- There are the seats as they were at the end, a row for each ring, and each job's calls with their answers, in the order of the jobs:
 -- each ring was closed with its row; each report of a run is the meaning's under its calls; each worker's seats rose by the calls of
--- its own jobs; and each null for flags 0 and each answer -11 is refused in a ring's history, or unlogged.
+-- its own jobs; and each null for flags 0 and each answer -EAGAIN is refused in a ring's history, or unlogged.
 pub record IsReport {S : Type 0} (position : S → ℕ) (opened : List (Opened S)) (jobs : List Job) (report : Report S) : Type 0 where
   pub seats : List (List WorkerSeat)
   pub calls : List (List Done)
   pub rings_end : RingsEnd position opened report.rings.items seats
-  pub answers_shown : AreRuns jobs report.answers.items calls
-  pub numbers_rose : (worker : ℕ) → worker < workers_of opened → HasRisen worker jobs calls (column worker (rows opened)) (column worker seats)
-  pub failures_told : refused_by_all seats + report.unlogged ≡ refused_by_all (rows opened) + times_in fails calls
+  pub answers_are_runs : AreRuns jobs report.answers.items calls
+  pub numbers_rose : (worker : ℕ) → worker < workers_of opened → HasRisen worker jobs calls (worker_column worker (seat_rows opened)) (worker_column worker seats)
+  pub failures_add_up : refused_by_all seats + report.unlogged ≡ refused_by_all (seat_rows opened) + times_in fails calls
   pub strays_are : report.strays ≡ count_by is_stray report.answers.items

@@ -3,9 +3,9 @@ use Rattle.std.specs.Prelude.{◌≡◌, ℕ, ◌+◌, ◌<◌, List, All}
 use Rattle.rb_history.specs.Counting.{counts_of}
 use Rattle.rb_ledger.specs.declared.tally.Tally.{Tally}
 use Rattle.rb_ledger.specs.Seats.{WorkerSeat}
-use Rattle.rb_seats.specs.Seated.{made_in, submitted_in, discarded_in}
+use Rattle.rb_seats.specs.SeatHelpers.{made_in, submitted_in, discarded_in}
 use Rattle.rb_workers.specs.declared.opened.Ended.{Ended}
-use Rattle.rb_workers.specs.Rows.{column}
+use Rattle.rb_workers.specs.SeatRows.{worker_column}
 
 -- these seats together submitted or discarded all that they made
 abbrev pub AreSettled : List WorkerSeat → Type 0
@@ -13,7 +13,7 @@ AreSettled seats = made_in seats ≡ submitted_in seats + discarded_in seats
 
 -- so did each worker's seats
 abbrev pub EachSettled : ℕ → List (List WorkerSeat) → Type 0
-EachSettled count seats = (worker : ℕ) → worker < count → AreSettled (column worker seats)
+EachSettled count seats = (worker : ℕ) → worker < count → AreSettled (worker_column worker seats)
 
 -- all that was made is submitted or discarded
 abbrev pub IsEven : Tally → Type 0

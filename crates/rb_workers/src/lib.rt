@@ -1,24 +1,29 @@
-//! Jobs on threads over shared rings: a thread for each worker, which runs its jobs in their order, and one for each ring, which
-//! consumes.
+//! Jobs on threads over shared BPF ring buffers: a thread for each worker, which runs its jobs in their order, and one for each
+//! ring, which consumes its records.
+//!
+//! `run_jobs` is for whoever has many verified programs run at once. What is promised: each result is one that the program's
+//! meaning gives (RFC 9669); each worker's seats counted just what the calls of its own jobs say; each ring was closed with all its
+//! seats, so the law of closed rings holds of it (rb_ledger); each sink got the records in the order of their positions; and where
+//! there is an error, all comes back and may be run again.
 //!
 //! No proof speaks of waiting, fairness or time: that a run comes to its end, that work is done in threads of its own, when a record
 //! reaches its sink, or what a gate does.
 #![tactic(auto)]
 
-mod answers;
-mod consuming;
-mod dealing;
-mod ending;
+mod consumer_task;
+mod distribution;
+mod job_answers;
+mod jobs_run;
 mod opened;
-mod rooms;
-mod running;
+mod ring_close;
+mod run_buffers;
 mod sink;
 mod threads;
 mod workers;
 
+pub use jobs_run::run_jobs;
 pub use opened::{Ended, JobFault, Opened, Report};
 pub use rb_jobs::{Gate, Job};
-pub use running::run_jobs;
 pub use sink::Sink;
 
 #[cfg(test)]

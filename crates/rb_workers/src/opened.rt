@@ -1,7 +1,7 @@
 //! What jobs run over, and what comes of them.
 
 ghost use Rattle.std.specs.Prelude.{◌≡◌, ◌↔◌, All, IfOk, IsErrOf};
-ghost use Rattle.rb_history.specs.View.{IsSize, IsStart, IsWorkerCount};
+ghost use Rattle.rb_history.specs.RingModel.{IsRingSize, IsStartPosition, IsWorkerCount};
 ghost use Rattle.rb_ledger.specs.Seats.{HasSettledAll, fresh_book};
 ghost use Rattle.rb_workers.specs.Opened.{IsOpened};
 
@@ -43,9 +43,9 @@ impl<S: Sink + Drop> Opened<S> {
         ensures book { IfOk result (λ o. o.consumer.seen ≡ fresh_book size start workers) }
         ensures sink { IfOk result (λ o. o.sink ≡ sink) }
         ensures nothing_made { IfOk result (λ o. All HasSettledAll o.seats.items) }
-        ensures size { IsErrOf result OpenFault.Size ↔ ¬ IsSize size }
-        ensures start { IsErrOf result OpenFault.Start ↔ (IsSize size × ¬ IsStart start) }
-        ensures workers { IsErrOf result OpenFault.Workers ↔ (IsSize size × IsStart start × ¬ IsWorkerCount workers) }
+        ensures size { IsErrOf result OpenFault.Size ↔ ¬ IsRingSize size }
+        ensures start { IsErrOf result OpenFault.Start ↔ (IsRingSize size × ¬ IsStartPosition start) }
+        ensures workers { IsErrOf result OpenFault.Workers ↔ (IsRingSize size × IsStartPosition start × ¬ IsWorkerCount workers) }
     {
         match open(rt, alloc, tag, size, start, workers) {
             Ok((ring, seats, consumer)) => Ok(Opened {
@@ -93,6 +93,6 @@ pub struct Report<S> {
     pub answers: Vec<Result<u64, RunFault>>,
     /// How many of the answers are `Stray`.
     pub strays: u64,
-    /// How many of the nulls for flags 0 and of the answers -11 of all calls no entry of a ring explains.
+    /// How many of the nulls for flags 0 and of the answers `-EAGAIN` of all calls no entry of a ring explains.
     pub unlogged: u128,
 }

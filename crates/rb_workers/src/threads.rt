@@ -3,10 +3,10 @@
 ghost use Rattle.std.specs.Prelude.{◌≡◌, ◌≤◌, All, Some, length, slice_get};
 ghost use Rattle.std.specs.List.{AllZip};
 ghost use Rattle.rb_ledger.specs.Seats.{Shared};
-ghost use Rattle.rb_workers.specs.Consumers.{IsTakerOf, Consumed};
-ghost use Rattle.rb_workers.specs.Workers.{IsReady, GivesBack};
+ghost use Rattle.rb_workers.specs.inner.ConsumerTasks.{IsConsumerTaskOf, Consumed};
+ghost use Rattle.rb_workers.specs.inner.WorkerRuns.{IsReady, GivesBack};
 
-use crate::consuming::{Taker, consume};
+use crate::consumer_task::{ConsumerTask, consume};
 use crate::sink::Sink;
 use crate::workers::Worker;
 use rb_jobs::{Gate, Job};
@@ -28,7 +28,7 @@ fn work_all<R: Threads + Wait + Sync, G: Gate + Sync>(
 )
     requires rings { All (λ j. j.program.now.rings ≤ length rings.now) jobs.now }
     requires ready { All (IsReady rings.now) workers.old }
-    ensures back { AllZip (GivesBack rings.now jobs.now) workers.old workers.new }
+    ensures returned { AllZip (GivesBack rings.now jobs.now) workers.old workers.new }
 {
     let threads = workers.len().max(1);
     let work = move |_: usize, worker: &mut Worker|
@@ -43,19 +43,19 @@ fn consume_all<R: Threads + Wait + Sync, S: Sink + Send>(
     rt: &R,
     rings: &[SharedRing],
     ended: &AtomicBool,
-    takers: &mut [Taker<S>],
+    consumers: &mut [ConsumerTask<S>],
 )
-    requires ready { AllZip (IsTakerOf S.position_of) rings.now takers.old }
-    ensures back { AllZip (Consumed S.position_of) takers.old takers.new }
+    requires ready { AllZip (IsConsumerTaskOf S.position_of) rings.now consumers.old }
+    ensures returned { AllZip (Consumed S.position_of) consumers.old consumers.new }
 {
-    let threads = takers.len().max(1);
-    let consume = move |i: usize, taker: &mut Taker<S>|
-        requires { (ring : Shared) × (slice_get rings.now i ≡ Some ring) × IsTakerOf S.position_of ring taker.now }
-        ensures { Consumed S.position_of taker.entry.now taker.exit.now }
+    let threads = consumers.len().max(1);
+    let consume = move |i: usize, task: &mut ConsumerTask<S>|
+        requires { (ring : Shared) × (slice_get rings.now i ≡ Some ring) × IsConsumerTaskOf S.position_of ring task.now }
+        ensures { Consumed S.position_of task.entry.now task.exit.now }
     {
-        consume(rt, &rings[i], ended, taker);
+        consume(rt, &rings[i], ended, task);
     };
-    thread::for_each_mut(rt, takers, threads, &consume);
+    thread::for_each_mut(rt, consumers, threads, &consume);
 }
 
 /// Runs the jobs and consumes the rings, until all workers have ended and what is there is taken. Where no threads can be made all of it
@@ -67,22 +67,22 @@ pub(crate) fn run_threads<R: Threads + Wait + Sync, G: Gate + Sync, S: Sink + Se
     jobs: &[Job<'_>],
     gate: &G,
     workers: &mut [Worker],
-    takers: &mut [Taker<S>],
+    consumers: &mut [ConsumerTask<S>],
 )
     requires rings { All (λ j. j.program.now.rings ≤ length rings.now) jobs.now }
     requires workers { All (IsReady rings.now) workers.old }
-    requires consumers { AllZip (IsTakerOf S.position_of) rings.now takers.old }
+    requires consumers { AllZip (IsConsumerTaskOf S.position_of) rings.now consumers.old }
     ensures workers { AllZip (GivesBack rings.now jobs.now) workers.old workers.new }
-    ensures consumers { AllZip (Consumed S.position_of) takers.old takers.new }
+    ensures consumers { AllZip (Consumed S.position_of) consumers.old consumers.new }
 {
     let ended = AtomicBool::new(false);
     let shared = &ended;
     join_mut(
         rt,
         &mut ||
-            requires { AllZip (IsTakerOf S.position_of) rings.now takers.now }
-            ensures { AllZip (Consumed S.position_of) takers.entry.now takers.exit.now }
-        { consume_all(rt, rings, shared, takers) },
+            requires { AllZip (IsConsumerTaskOf S.position_of) rings.now consumers.now }
+            ensures { AllZip (Consumed S.position_of) consumers.entry.now consumers.exit.now }
+        { consume_all(rt, rings, shared, consumers) },
         &mut ||
             requires { All (λ j. j.program.now.rings ≤ length rings.now) jobs.now × All (IsReady rings.now) workers.now }
             ensures { AllZip (GivesBack rings.entry.now jobs.entry.now) workers.entry.now workers.exit.now }

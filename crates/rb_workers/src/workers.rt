@@ -1,9 +1,9 @@
 //! Workers, each with its seats and the answers of its jobs.
 
 ghost use Rattle.std.specs.Prelude.{◌≡◌, ◌<◌, ◌≤◌, All, if◌then◌else◌, length, vec_len, vec_capacity};
-ghost use Rattle.rb_seats.specs.Seated.{AtRings};
-ghost use Rattle.rb_workers.specs.Jobs.{Ran, own};
-ghost use Rattle.rb_workers.specs.Workers.{HasRoom, IsOneMore, IsOneAnswerMore, IsReady, GivesBack, RanOne};
+ghost use Rattle.rb_seats.specs.SeatHelpers.{AtRings};
+ghost use Rattle.rb_workers.specs.JobRuns.{RunsJobs, own_jobs};
+ghost use Rattle.rb_workers.specs.inner.WorkerRuns.{HasSpareSeat, IsOneMore, IsOneAnswerMore, IsReady, GivesBack, RunsOne};
 
 use rb_jobs::{Gate, Job, JobAnswer, run_job};
 use rb_ledger::{Seat, SharedRing};
@@ -12,7 +12,7 @@ use std::mem;
 use std::sync::Wait;
 
 /// A worker: its number, how many helper calls it has finished, its seats in the order of the rings, the answers of its jobs in their
-/// order, and whether it found no memory for a job.
+/// order, and whether it was short of memory for a job.
 #[derive(Drop)]
 pub(crate) struct Worker {
     pub(crate) number: u32,
@@ -23,18 +23,18 @@ pub(crate) struct Worker {
 }
 
 impl Worker {
-    /// Deals the worker one seat more.
-    pub(crate) fn deal(&mut self, seat: Seat)
-        requires room { HasRoom self.old }
-        ensures dealt { IsOneMore self.old self.new seat }
+    /// Gives the worker a seat at one ring more.
+    pub(crate) fn add_seat(&mut self, seat: Seat)
+        requires room { HasSpareSeat self.old }
+        ensures one_more { IsOneMore self.old self.new seat }
     {
         self.seats.push_reserved(seat);
     }
 
     /// Takes the worker's last seat back.
-    pub(crate) fn give_back(&mut self) -> Seat
+    pub(crate) fn remove_seat(&mut self) -> Seat
         requires some { 0 < vec_len self.old.seats }
-        ensures back { IsOneMore self.new self.old result }
+        ensures one_less { IsOneMore self.new self.old result }
     {
         match self.seats.pop() {
             Some(seat) => seat,
@@ -45,7 +45,7 @@ impl Worker {
     /// Takes the worker's last answer.
     pub(crate) fn take_answer(&mut self) -> JobAnswer
         requires some { 0 < vec_len self.old.answers }
-        ensures taken { IsOneAnswerMore self.new self.old result }
+        ensures one_less { IsOneAnswerMore self.new self.old result }
     {
         match self.answers.pop() {
             Some(answer) => answer,
@@ -65,7 +65,7 @@ impl Worker {
         requires rings { job.now.program.now.rings ≤ length rings.now }
         requires seats { AtRings rings.now self.old.seats.items }
         ensures same { (self.new.number ≡ self.old.number) × (self.new.short ≡ self.old.short) }
-        ensures ran { RanOne job.now result self.old self.new }
+        ensures ran { RunsOne job.now result self.old self.new }
         ensures seats { AtRings rings.now self.new.seats.items }
     {
         if self.answers.reserve(1).is_err() {
@@ -83,30 +83,6 @@ impl Worker {
         }
     }
 
-    // Runs the worker's jobs in their order, up to the first that finds no memory.
-    fn run_own<R: Wait, G: Gate>(
-        &mut self,
-        rt: &R,
-        alloc: Global,
-        rings: &[SharedRing],
-        jobs: &[Job<'_>],
-        gate: &G,
-    )
-        requires rings { All (λ j. j.program.now.rings ≤ length rings.now) jobs.now }
-        requires ready { IsReady rings.now self.old }
-        ensures back { GivesBack rings.now jobs.now self.old self.new }
-    {
-        for job in jobs {
-            if job.worker != self.number {
-                continue;
-            }
-            if !self.run_one(rt, alloc, rings, job, gate) {
-                self.short = true;
-                return;
-            }
-        }
-    }
-
     /// Runs the worker's jobs in their order, up to the first that finds no memory, and comes to the gate once more at the end.
     pub(crate) fn work<R: Wait, G: Gate>(
         &mut self,
@@ -118,9 +94,17 @@ impl Worker {
     )
         requires rings { All (λ j. j.program.now.rings ≤ length rings.now) jobs.now }
         requires ready { IsReady rings.now self.old }
-        ensures back { GivesBack rings.now jobs.now self.old self.new }
+        ensures returned { GivesBack rings.now jobs.now self.old self.new }
     {
-        self.run_own(rt, alloc, rings, jobs, gate);
+        for job in jobs {
+            if job.worker != self.number {
+                continue;
+            }
+            if !self.run_one(rt, alloc, rings, job, gate) {
+                self.short = true;
+                break;
+            }
+        }
         gate.at(self.number, self.calls);
     }
 }

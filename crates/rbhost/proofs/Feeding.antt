@@ -6,15 +6,16 @@ use Rattle.std.specs.Int.{w32, to_le_bytes}
 use Rattle.std.specs.Io.KnownBytes.{Appends, Consumes, Keeps, IsAtEnd}
 use Rattle.std.proofs.KnownBytes.{Appends-nil, Appends-trans, Appends-kept, Consumes-nil, Consumes-trans}
 use Rattle.rb_header.specs.Span.{span}
-use Rattle.rb_header.specs.Tape.{Item, IsItemAt, AreItemsFrom, item_bytes, tape, end_of}
-use Rattle.rb_header.specs.Tape.Item.{Event}
+use Rattle.rb_header.specs.TapeBytes.{Item, IsItemAt, AreItemsFrom, item_bytes, tape, end_of}
+use Rattle.rb_header.specs.TapeBytes.Item.{Event}
 use Rattle.rb_header.proofs.Laws.{tape-append, end_of-nil, end_of-cons, end_of-append, AreItemsFrom-push}
 use Rattle.rbhost.specs.Input.{framed, framed_all, events_from}
 use Rattle.rbhost.specs.Input.Ending.{Whole, Unfit, Cut}
-use Rattle.rbhost.specs.Reading.{FindsPayload, FindsEnd, FindsNext}
-use Rattle.rbhost.specs.Fed.{Passes, Fed, FeedsOne, ends_of}
-use Rattle.rbhost.specs.declared.faults.FeedFault.{FeedFault}
-use Rattle.rbhost.specs.declared.faults.FeedFault.TheVariants.{Size, Start, Fit, Ends, Memory, Device}
+use Rattle.rbhost.specs.PayloadReads.{FindsPayload, FindsEnd, FindsNext}
+use Rattle.rbhost.specs.inner.FeedRuns.{feed_run}
+use Rattle.rbhost.specs.Feed.{FeedsAll, FeedResult, FeedsOne, ends_of}
+use Rattle.rbhost.specs.declared.feed_fault.FeedFault.{FeedFault}
+use Rattle.rbhost.specs.declared.feed_fault.FeedFault.TheVariants.{Size, Start, Fit, Ends, Memory, Device}
 
 -- ---- one payload more
 
@@ -33,19 +34,19 @@ tape-push size items item = tape-append size items (item ∷ []) ∙ ap (λ xs. 
 
 -- ---- before the first, and one more
 
-pub passes_none : (size start : ℕ) (u h : Option (List ℕ)) → Passes size start u u h h [] []
+pub passes_none : (size start : ℕ) (u h : Option (List ℕ)) → FeedsAll (feed_run size start u u h h) [] []
 passes_none size start u h = record { stand = tt; read = Consumes-nil u; wrote = Appends-nil h }
 
-module _ (size start : ℕ) (u v h g : Option (List ℕ)) (ps : List (List ℕ)) (so_far : Passes size start u v h g ps []) where
+module _ (size start : ℕ) (u v h g : Option (List ℕ)) (ps : List (List ℕ)) (so_far : FeedsAll (feed_run size start u v h g) ps []) where
   whole_read : Consumes u v (framed_all ps)
   whole_read = subst (Consumes u v) (append-nil (framed_all ps)) so_far.read
 
   -- then some bytes were read
-  pub passes_and : (w : Option (List ℕ)) (more : List ℕ) → Consumes v w more → Passes size start u w h g ps more
+  pub passes_and : (w : Option (List ℕ)) (more : List ℕ) → Consumes v w more → FeedsAll (feed_run size start u w h g) ps more
   passes_and w more read = record { stand = so_far.stand; read = Consumes-trans u v w (framed_all ps) more whole_read read; wrote = so_far.wrote }
 
   -- then a payload was read, and its record was written
-  pub passes_more : (w f : Option (List ℕ)) (p : List ℕ) → Consumes v w (framed p) → IsItemAt size (end_of start (events_from start ps)) (Event (end_of start (events_from start ps)) p) → Appends g f (item_bytes size (Event (end_of start (events_from start ps)) p)) → Passes size start u w h f (ps ++ p ∷ []) []
+  pub passes_more : (w f : Option (List ℕ)) (p : List ℕ) → Consumes v w (framed p) → IsItemAt size (end_of start (events_from start ps)) (Event (end_of start (events_from start ps)) p) → Appends g f (item_bytes size (Event (end_of start (events_from start ps)) p)) → FeedsAll (feed_run size start u w h f) (ps ++ p ∷ []) []
   passes_more w f p read item wrote = record {
     stand = rw (events_from-push start ps p) (AreItemsFrom-push size start (events_from start ps) (Event (end_of start (events_from start ps)) p) so_far.stand item);
     read = subst (Consumes u w) (sym (framed_all-push ps p) ∙ sym (append-nil (framed_all (ps ++ p ∷ [])))) (Consumes-trans u v w (framed_all ps) (framed p) whole_read read);
@@ -53,18 +54,18 @@ module _ (size start : ℕ) (u v h g : Option (List ℕ)) (ps : List (List ℕ))
   }
 
   -- nothing more came
-  pub fed_whole : (w : Option (List ℕ)) (ends : ℕ × ℕ) → FindsEnd v w → ends ≡ ends_of start ps → Fed size start u w h g (Ok ends)
-  fed_whole w ends end same = (ps, record { more = []; passes = passes_and w [] end.read; goes_on = refl; read_to = end.at_end }, same)
+  pub fed_whole : (w : Option (List ℕ)) (ends : ℕ × ℕ) → FindsEnd v w → ends ≡ ends_of start ps → FeedResult (feed_run size start u w h g) (Ok ends)
+  fed_whole w ends end same = record { payloads = ps; fed = record { more = []; passes = passes_and w [] end.read; goes_on = refl; read_to = end.at_end }; ends_are = same }
 
   -- no payload was read
-  pub fed_next : (w : Option (List ℕ)) (number : ℕ) → number ≡ length ps → (e : FeedFault) → FindsNext size number v w (Err e) → Fed size start u w h g (Err e)
+  pub fed_next : (w : Option (List ℕ)) (number : ℕ) → number ≡ length ps → (e : FeedFault) → FindsNext size number v w (Err e) → FeedResult (feed_run size start u w h g) (Err e)
   fed_next w number count Size f = absurd f
   fed_next w number count Start f = absurd f
   fed_next w number count (Fit k) f =
       let n = f.1.len in
-      (ps, record { more = to_le_bytes w32 n; passes = passes_and w (to_le_bytes w32 n) f.1.read; goes_on = inl (record { len = n; rest = []; text_is = refl; has_field = f.1.has_field; no_room = f.1.no_room }); read_to = tt }, f.0 ∙ count)
-  fed_next w number count (Ends k) f = (ps, record { more = f.1.part; passes = passes_and w f.1.part f.1.read; goes_on = f.1.cut; read_to = f.1.at_end }, f.0 ∙ count)
-  fed_next w number count Memory f = (ps, f.part, passes_and w f.part f.read)
+      record { payloads = ps; fed = record { more = to_le_bytes w32 n; passes = passes_and w (to_le_bytes w32 n) f.1.read; goes_on = inl (record { len = n; rest = []; text_is = refl; has_field = f.1.has_field; no_room = f.1.no_room }); read_to = tt }; number_is = f.0 ∙ count }
+  fed_next w number count (Ends k) f = record { payloads = ps; fed = record { more = f.1.part; passes = passes_and w f.1.part f.1.read; goes_on = f.1.cut; read_to = f.1.at_end }; number_is = f.0 ∙ count }
+  fed_next w number count Memory f = record { payloads = ps; more = f.part; fed = passes_and w f.part f.read }
   fed_next w number count Device f = record {
     payloads = ps;
     more = f.part;
@@ -77,22 +78,22 @@ module _ (size start : ℕ) (u v h g : Option (List ℕ)) (ps : List (List ℕ))
   }
 
   -- a payload was read, and did not come onto the tape whole
-  pub fed_one : (w f : Option (List ℕ)) (number position : ℕ) (p : List ℕ) → number ≡ length ps → position ≡ end_of start (events_from start ps) → size < 2 ^ 32 → FindsPayload size v w p → (e : FeedFault) → FeedsOne size position number p g f (Err e) → Fed size start u w h f (Err e)
+  pub fed_one : (w f : Option (List ℕ)) (number position : ℕ) (p : List ℕ) → number ≡ length ps → position ≡ end_of start (events_from start ps) → size < 2 ^ 32 → FindsPayload size v w p → (e : FeedFault) → FeedsOne size position number p g f (Err e) → FeedResult (feed_run size start u w h f) (Err e)
   fed_one w f number position p count at small read Size o = absurd o
   fed_one w f number position p count at small read Start o = absurd o
   fed_one w f number position p count at small read (Fit k) o =
-      let room = read.room in (
-        ps,
-        record {
+      let room = read.room in record {
+        payloads = ps;
+        fed = record {
           more = framed p;
           passes = record { stand = so_far.stand; read = (passes_and w (framed p) read.read).read; wrote = Appends-kept h g f _ so_far.wrote o.2 };
           goes_on = inr (record { payload = p; rest = []; text_is = sym (append-nil (framed p)); has_field = omega arith; room = room; past = subst (λ q. 2 ^ 62 < q + span (length p)) at o.1 });
           read_to = tt;
-        },
-        o.0 ∙ count,
-      )
+        };
+        number_is = o.0 ∙ count;
+      }
   fed_one w f number position p count at small read (Ends k) o = absurd o
-  fed_one w f number position p count at small read Memory o = (ps, framed p, record { stand = so_far.stand; read = (passes_and w (framed p) read.read).read; wrote = Appends-kept h g f _ so_far.wrote o })
+  fed_one w f number position p count at small read Memory o = record { payloads = ps; more = framed p; fed = record { stand = so_far.stand; read = (passes_and w (framed p) read.read).read; wrote = Appends-kept h g f _ so_far.wrote o } }
   fed_one w f number position p count at small read Device o =
       let item = item_bytes size (Event position p) in
       record {

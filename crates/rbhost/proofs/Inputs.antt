@@ -3,10 +3,10 @@ use Rattle.std.proofs.Common.{◌≡◌, ℕ, ◌+◌, ◌<◌, ◌≤◌, ◌^�
 use Rattle.std.proofs.lemmas.List.{length-append}
 use Rattle.std.specs.Int.{w32, to_le_bytes}
 use Rattle.rb_header.specs.Span.{span}
-use Rattle.rb_header.specs.Tape.{Item, IsItemAt, AreItemsFrom, end_of, item_span}
-use Rattle.rb_header.specs.Tape.Item.{Event}
+use Rattle.rb_header.specs.TapeBytes.{Item, IsItemAt, AreItemsFrom, end_of, item_span}
+use Rattle.rb_header.specs.TapeBytes.Item.{Event}
 use Rattle.rb_header.proofs.Laws.{same_first_word, end_of-nil, end_of-cons}
-use Rattle.rbhost.specs.Input.{framed, framed_all, events_from, IsTooLong, IsTooFar, IsCutLength, IsCutPayload, Ending, Follows, Says}
+use Rattle.rbhost.specs.Input.{framed, framed_all, events_from, IsTooLongPayload, IsTooFarPayload, IsCutLength, IsCutPayload, Ending, Follows, InputIs}
 use Rattle.rbhost.specs.Input.Ending.{Whole, Unfit, Cut}
 
 -- ---- one payload in front
@@ -113,5 +113,5 @@ one_reading size position (p ∷ ps) (q ∷ qs) e f r s same a b x y =
     let tails = rest.0 in
     (cc, rest.1)
 
-pub says_one_thing : (size start : ℕ) (input : List ℕ) (ps qs : List (List ℕ)) (e f : Ending) → Says size start input ps e → Says size start input qs f → (ps ≡ qs) × (e ≡ f)
+pub says_one_thing : (size start : ℕ) (input : List ℕ) (ps qs : List (List ℕ)) (e f : Ending) → InputIs size start input ps e → InputIs size start input qs f → (ps ≡ qs) × (e ≡ f)
 says_one_thing size start input ps qs e f a b = one_reading size start ps qs e f a.rest b.rest (sym a.input_is ∙ b.input_is) a.stand b.stand a.goes_on b.goes_on

@@ -5,7 +5,7 @@ use Rattle.std.specs.Int.{w32, to_le_bytes}
 use Rattle.std.specs.Io.KnownBytes.{Consumes, IsAtEnd}
 use Rattle.std.proofs.KnownBytes.{Consumes-trans}
 use Rattle.rb_header.specs.Span.{span}
-use Rattle.rbhost.specs.Reading.{FindsSome, FindsCut}
+use Rattle.rbhost.specs.PayloadReads.{FindsSome, FindsCut}
 
 -- the four bytes that were read are those of the number that they spell
 pub length_read : (a b : Option (List ℕ)) (field : List ℕ) (n len : ℕ) → length field ≡ 4 → n ≡ 4 → to_le_bytes w32 len ≡ field → Consumes a b (take n field) → Consumes a b (to_le_bytes w32 len)

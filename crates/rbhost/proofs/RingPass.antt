@@ -10,17 +10,18 @@ use Rattle.rb_history.specs.declared.entries.Entry.{Entry}
 use Rattle.rb_history.specs.declared.entries.Entry.TheVariants.{Res, Sub, Take}
 use Rattle.rb_history.specs.declared.answers.Taken.{Taken}
 use Rattle.rb_history.specs.declared.answers.Taken.TheVariants.{Event, Skipped, BusyFront, Empty}
-use Rattle.rb_history.specs.History.{Shown, Status, status_of, submitted, discarded, taken, producer_of, consumer_of, grants, records, is_submit, is_discard, is_take}
+use Rattle.rb_history.specs.History.{Shown, Status, status_of, is_submitted_at, is_discarded_at, is_taken_at, producer_of, consumer_of, grants, records, is_submit, is_discard, is_take}
 use Rattle.rb_history.specs.History.Status.{Busy, Waiting, Discarded}
-use Rattle.rb_history.specs.Legal.{Setup, IsLegal}
-use Rattle.rb_history.specs.Rows.{InRow}
-use Rattle.rb_history.specs.View.{Ring}
-use Rattle.rb_history.specs.Calls.{Takes, TakesEvent, Outputs, AllTaken, HasRoom, producer_now, consumer_now}
+use Rattle.rb_history.specs.RoomRule.{Setup}
+use Rattle.rb_history.specs.Legal.{IsLegal}
+use Rattle.rb_history.specs.inner.RecordRows.{InRow}
+use Rattle.rb_history.specs.RingModel.{Ring}
+use Rattle.rb_history.specs.Calls.{Takes, TakesEvent, Outputs, AllTaken, RingHasRoom, producer_now, consumer_now}
 use Rattle.rb_history.proofs.Lists.{list_any-snoc, or-false}
 use Rattle.rb_history.proofs.Steps.{mark, elsewhere, producer-res, producer-sub, producer-take, consumer-res, consumer-sub, records-res, records-sub, records-take}
 use Rattle.rb_history.proofs.Laws.{legal-front, legal-next, kept-from-legal}
 use Rattle.rb_history.proofs.Contents.{hit-yes}
-use Rattle.rbhost.specs.Passing.{MovesOn}
+use Rattle.rbhost.specs.Transfer.{MovesOn}
 
 -- a row of records from a position to itself is empty
 empty_row : (p : ℕ) (ss : List Shown) → InRow p ss p → ss ≡ []
@@ -44,28 +45,28 @@ module _ (r : Setup) (h : List Entry) (k n : ℕ) (at : producer_of r.start h �
   two = (h ++ Res 0 k n (producer_of r.start h) ∷ []) ++ Sub (producer_of r.start h) ∷ []
 
   module _ (legal : IsLegal r ((h ++ Res 0 k n (producer_of r.start h) ∷ []) ++ Sub (producer_of r.start h) ∷ [])) where
-    may_submit : (submitted (h ++ Res 0 k n (producer_of r.start h) ∷ []) (producer_of r.start h) ≡ false) × (discarded (h ++ Res 0 k n (producer_of r.start h) ∷ []) (producer_of r.start h) ≡ false)
+    may_submit : (is_submitted_at (h ++ Res 0 k n (producer_of r.start h) ∷ []) (producer_of r.start h) ≡ false) × (is_discarded_at (h ++ Res 0 k n (producer_of r.start h) ∷ []) (producer_of r.start h) ≡ false)
     may_submit = let m = legal-next r (h ++ Res 0 k n (producer_of r.start h) ∷ []) (Sub (producer_of r.start h)) [] legal in (m.1, m.2)
 
     legal_h : IsLegal r h
     legal_h = legal-front r h _ (legal-front r (h ++ Res 0 k n (producer_of r.start h) ∷ []) _ legal)
 
-    untaken : taken h (producer_of r.start h) ≡ false
+    untaken : is_taken_at h (producer_of r.start h) ≡ false
     untaken = let kept = kept-from-legal r h legal_h in false_from_ne_true _ (λ t. omega (arith, kept.passed (producer_of r.start h) t, at))
 
-    not_submitted : submitted h (producer_of r.start h) ≡ false
+    not_submitted : is_submitted_at h (producer_of r.start h) ≡ false
     not_submitted = sym (or-false _) ∙ sym (list_any-snoc (is_submit (producer_of r.start h)) h (Res 0 k n (producer_of r.start h))) ∙ may_submit.0
 
-    not_discarded : discarded h (producer_of r.start h) ≡ false
+    not_discarded : is_discarded_at h (producer_of r.start h) ≡ false
     not_discarded = sym (or-false _) ∙ sym (list_any-snoc (is_discard (producer_of r.start h)) h (Res 0 k n (producer_of r.start h))) ∙ may_submit.1
 
     pub waits : status_of ((h ++ Res 0 k n (producer_of r.start h) ∷ []) ++ Sub (producer_of r.start h) ∷ []) (producer_of r.start h) ≡ Waiting
     waits =
         let x = producer_of r.start h in
         let b = h ++ Res 0 k n x ∷ [] in
-        let s : submitted (b ++ Sub x ∷ []) x ≡ true = list_any-snoc (is_submit x) b (Sub x) ∙ rw (may_submit.0, eq-eqb x x refl) refl in
-        let d : discarded (b ++ Sub x ∷ []) x ≡ false = list_any-snoc (is_discard x) b (Sub x) ∙ rw may_submit.1 refl in
-        let t : taken (b ++ Sub x ∷ []) x ≡ false = list_any-snoc (is_take x) b (Sub x) ∙ or-false _ ∙ list_any-snoc (is_take x) h (Res 0 k n x) ∙ or-false _ ∙ untaken in
+        let s : is_submitted_at (b ++ Sub x ∷ []) x ≡ true = list_any-snoc (is_submit x) b (Sub x) ∙ rw (may_submit.0, eq-eqb x x refl) refl in
+        let d : is_discarded_at (b ++ Sub x ∷ []) x ≡ false = list_any-snoc (is_discard x) b (Sub x) ∙ rw may_submit.1 refl in
+        let t : is_taken_at (b ++ Sub x ∷ []) x ≡ false = list_any-snoc (is_take x) b (Sub x) ∙ or-false _ ∙ list_any-snoc (is_take x) h (Res 0 k n x) ∙ or-false _ ∙ untaken in
         rw (s, d, t) refl
 
     pub front_here : consumer_of r.start ((h ++ Res 0 k n (producer_of r.start h) ∷ []) ++ Sub (producer_of r.start h) ∷ []) ≡ producer_of r.start h
@@ -171,7 +172,7 @@ passes_on old mid new bytes t at o l a = record {
 }
 
 -- a payload that the ring has room for when it is empty is refused only past the last position
-pub too_far : (old : Ring) (n : ℕ) → AllTaken old → span n < old.setup.size → ¬ HasRoom old n → 2 ^ 62 < producer_now old + span n
+pub too_far : (old : Ring) (n : ℕ) → AllTaken old → span n < old.setup.size → ¬ RingHasRoom old n → 2 ^ 62 < producer_now old + span n
 too_far old n at room none = elim (cases_lt (2 ^ 62) (producer_now old + span n)) [
   | inl past ↦ past
   | inr within ↦ absurd (none (record { space = omega (arith, at); limit = within }))

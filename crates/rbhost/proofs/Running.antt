@@ -10,7 +10,7 @@ use Rattle.rb_workers.specs.declared.opened.Opened.{Opened}
 use Rattle.rb_workers.specs.Opened.{IsOpened, AreOpened, workers_of}
 use Rattle.rb_workers.specs.Reports.{has_unknown_ring, has_unknown_worker}
 use Rattle.rb_workers.proofs.Numbered.{seats_length}
-use Rattle.rbhost.specs.Jobs.{IsJobFor}
+use Rattle.rbhost.specs.inner.RunCommand.{IsJobFor}
 
 module _ {S : Type 0} (position : S → ℕ) (workers : ℕ) (one : Opened S) (opened : List (Opened S)) (is : opened ≡ one ∷ []) (is_opened : IsOpened position workers one) where
   -- one ring may be run

@@ -4,7 +4,7 @@ use Rattle.std.proofs.lemmas.List.{take-append-le, take_all, take-replicate, rep
 use Rattle.std.specs.Prelude.{Option, replicate}
 use Rattle.std.specs.Io.KnownBytes.{Appends}
 use Rattle.std.proofs.KnownBytes.{Appends-nil, Appends-trans}
-use Rattle.rb_header.specs.Tape.{zeros}
+use Rattle.rb_header.specs.TapeBytes.{zeros}
 
 -- the front of a text that has whole parts in front, and a front of the next part
 pub take_parts : (done part rest : List ℕ) (n : ℕ) → n ≤ length part → take (length done + n) (done ++ (part ++ rest)) ≡ done ++ take n part

@@ -1,13 +1,13 @@
 -- Bounds of a ring that are met.
 use Rattle.std.proofs.Common.{◌≡◌, ℕ, refl, sym, subst, arith}
-use Rattle.rb_history.specs.View.{IsSize, IsStart, IsWorkerCount}
+use Rattle.rb_history.specs.RingModel.{IsRingSize, IsStartPosition, IsWorkerCount}
 
 -- the least size is one
-pub least_size : {size : ℕ} → size ≡ 4096 → IsSize size
+pub least_size : {size : ℕ} → size ≡ 4096 → IsRingSize size
 least_size refl = ((12, refl), omega arith, omega arith)
 
-pub first_start : {start : ℕ} → start ≡ 0 → IsStart start
-first_start e = subst IsStart (sym e) (refl, omega arith)
+pub first_start : {start : ℕ} → start ≡ 0 → IsStartPosition start
+first_start e = subst IsStartPosition (sym e) (refl, omega arith)
 
 pub one_worker : {workers : ℕ} → workers ≡ 1 → IsWorkerCount workers
 one_worker e = (omega arith, omega arith)

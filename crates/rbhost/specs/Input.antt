@@ -3,8 +3,8 @@ use Rattle.std.specs.Prelude.{ℕ, ◌≡◌, ◌+◌, ◌<◌, ◌≤◌, ◌^�
 use Rattle.std.specs.Int.{w32, to_le_bytes}
 use Rattle.std.specs.List.{flat_map}
 use Rattle.rb_header.specs.Span.{span}
-use Rattle.rb_header.specs.Tape.{Item, AreItemsFrom, end_of}
-use Rattle.rb_header.specs.Tape.Item.{Event}
+use Rattle.rb_header.specs.TapeBytes.{Item, AreItemsFrom, end_of}
+use Rattle.rb_header.specs.TapeBytes.Item.{Event}
 
 -- ---- payloads, as bytes and as records
 
@@ -24,7 +24,7 @@ events_from position (payload ∷ payloads) = Event position payload ∷ events_
 -- ---- what may stand behind them
 
 -- a length whose record the ring can't hold, since it never fills wholly; whatever stands behind the length
-pub record IsTooLong (size : ℕ) (text : List ℕ) : Type 0 where
+pub record IsTooLongPayload (size : ℕ) (text : List ℕ) : Type 0 where
   pub len : ℕ
   pub rest : List ℕ
   pub text_is : text ≡ to_le_bytes w32 len ++ rest
@@ -32,7 +32,7 @@ pub record IsTooLong (size : ℕ) (text : List ℕ) : Type 0 where
   pub no_room : size ≤ span len
 
 -- a whole payload whose record would end past 2^62
-pub record IsTooFar (size position : ℕ) (text : List ℕ) : Type 0 where
+pub record IsTooFarPayload (size position : ℕ) (text : List ℕ) : Type 0 where
   pub payload : List ℕ
   pub rest : List ℕ
   pub text_is : text ≡ framed payload ++ rest
@@ -64,11 +64,11 @@ pub data Ending : Type 0 where
 -- what stands behind the payloads, where the next record would begin at this position of a ring of this size
 abbrev pub Follows : ℕ → ℕ → Ending → List ℕ → Type 0
 Follows size position Whole text = text ≡ []
-Follows size position Unfit text = IsTooLong size text ⊎ IsTooFar size position text
+Follows size position Unfit text = IsTooLongPayload size text ⊎ IsTooFarPayload size position text
 Follows size position Cut text = IsCutLength text ⊎ IsCutPayload size text
 
 -- the input is these payloads, whose records stand on a tape of a ring of this size from the start on, and then goes on so
-pub record Says (size start : ℕ) (input : List ℕ) (payloads : List (List ℕ)) (ending : Ending) : Type 0 where
+pub record InputIs (size start : ℕ) (input : List ℕ) (payloads : List (List ℕ)) (ending : Ending) : Type 0 where
   pub rest : List ℕ
   pub input_is : input ≡ framed_all payloads ++ rest
   pub stand : AreItemsFrom size start (events_from start payloads)

@@ -1,6 +1,6 @@
 -- What the writer of a tape is given, as items of the tape (which stand in rb_header).
-use Rattle.rb_header.specs.Tape.{Item}
-use Rattle.rb_header.specs.Tape.Item.{Event, Skip}
+use Rattle.rb_header.specs.TapeBytes.{Item}
+use Rattle.rb_header.specs.TapeBytes.Item.{Event, Skip}
 use Rattle.rbhost.specs.declared.tape.Item as given
 use Rattle.rbhost.specs.declared.tape.Item.TheVariants as kinds
 

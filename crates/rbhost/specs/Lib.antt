@@ -1,7 +1,7 @@
-pub mod Checked
-pub mod Fed
+pub mod Check
+pub mod Feed
 pub mod Input
-pub mod Jobs
 pub mod Items
-pub mod Passing
-pub mod Reading
+pub mod Transfer
+pub mod PayloadReads
+pub mod inner

@@ -1,11 +1,11 @@
 //! A program from its text: verified, run once over fresh rings, and what it left in them.
 
 ghost use Rattle.std.specs.Prelude.{◌≡◌, ◌≤◌, ℕ, IfOk, IfSome, OnOk, length};
-ghost use Rattle.rb_seats.specs.Seated.{AtRings, IsAt};
-ghost use Rattle.rbhost.specs.Checked.{EndsWith, Gives, AreConsumersOf};
+ghost use Rattle.rb_seats.specs.SeatHelpers.{AtRings, IsAt};
+ghost use Rattle.rbhost.specs.Check.{EndsWith, Gives, AreConsumersOf};
 
-use crate::lines::print_rings;
 use crate::program::{Bounds, ProgramFault, accept, read_all, text_of};
+use crate::record_lines::print_rings;
 use rb_history::OpenFault;
 use rb_interp::{RunFault, run};
 use rb_ledger::{ConsumerSeat, Seat, SharedRing, open};
@@ -19,26 +19,20 @@ use thiserror::Error;
 /// The size in bytes of each ring over which a program is checked.
 const RING_SIZE: u64 = 4096;
 
-/// Why a program was not accepted, or what it left could not be told.
+/// Why a program was not accepted, or what it left could not be printed.
 #[derive(Clone, Copy, Debug, PartialEq, Eq, Error)]
 pub enum CheckFault {
-    /// The program was not accepted.
+    /// The program was not accepted, memory ran out, or a read or a write failed.
     #[error(transparent)]
     Program(#[from] ProgramFault),
     /// A record that the program submitted or discarded was handed back.
     #[error("stray")]
     Stray,
-    /// A growth was refused.
-    #[error("memory")]
-    Memory,
-    /// A write failed.
-    #[error("device")]
-    Device,
 }
 
 impl From<AllocError> for CheckFault {
     fn from(_: AllocError) -> CheckFault {
-        CheckFault::Memory
+        CheckFault::Program(ProgramFault::Memory)
     }
 }
 
@@ -79,7 +73,7 @@ pub fn check<T: Wait, R: Read, W: Write>(
         mut consumers,
     } = check_text(rt, alloc, text, bounds)?;
     let Ok(()) = writeln!(out, "accepted\nresult {value}") else {
-        return Err(CheckFault::Device);
+        return Err(CheckFault::Program(ProgramFault::Device));
     };
     print_rings(rt, alloc, rings.as_slice(), consumers.as_mut_slice(), out)
 }
@@ -120,9 +114,15 @@ fn fresh_rings<T: Wait>(rt: &T, alloc: Global, number: u32) -> Result<Fresh, Che
     let mut consumers = Vec::new(alloc);
     for tag in 0..number {
         let (ring, seat, consumer) = fresh_ring(rt, alloc, u64::from(tag))?;
-        rings.push(ring).map_err(|_| CheckFault::Memory)?;
-        seats.push(seat).map_err(|_| CheckFault::Memory)?;
-        consumers.push(consumer).map_err(|_| CheckFault::Memory)?;
+        rings
+            .push(ring)
+            .map_err(|_| CheckFault::Program(ProgramFault::Memory))?;
+        seats
+            .push(seat)
+            .map_err(|_| CheckFault::Program(ProgramFault::Memory))?;
+        consumers
+            .push(consumer)
+            .map_err(|_| CheckFault::Program(ProgramFault::Memory))?;
     }
     Ok(Fresh {
         rings,
@@ -146,7 +146,7 @@ fn fresh_ring<T: Wait>(
             Some(seat) => Ok((ring, seat, consumer)),
             None => unreachable!(),
         },
-        Err(OpenFault::Memory) => Err(CheckFault::Memory),
+        Err(OpenFault::Memory) => Err(CheckFault::Program(ProgramFault::Memory)),
         Err(OpenFault::Size) => unreachable!(),
         Err(OpenFault::Start) => unreachable!(),
         Err(OpenFault::Workers) => unreachable!(),
@@ -168,7 +168,7 @@ fn run_once<T: Wait>(
     let context = vec![in alloc; 0; verified.ctx_len() as usize]?;
     let mut helpers = match SeatHelpers::new(rt, alloc, rings, seats, verified.calls(), &NoStock) {
         Ok(helpers) => helpers,
-        Err(_) => return Err(CheckFault::Memory),
+        Err(_) => return Err(CheckFault::Program(ProgramFault::Memory)),
     };
     match run(verified, context.as_slice(), &mut helpers) {
         Ok(value) => Ok(value),

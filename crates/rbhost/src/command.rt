@@ -2,14 +2,14 @@
 
 ghost use Rattle.std.specs.Prelude.{◌≡◌, ◌≤◌, OnOk};
 ghost use Rattle.std.specs.Io.KnownBytes.{Keeps};
-ghost use Rattle.rb_history.specs.View.{IsSize, IsStart};
-ghost use Rattle.rbhost.specs.Fed.{Tells, AnswersAlone, IsWholeInput};
+ghost use Rattle.rb_history.specs.RingModel.{IsRingSize, IsStartPosition};
+ghost use Rattle.rbhost.specs.Feed.{FeedAnswerMatches, AnswersAlone, IsWholeInput};
 
 use crate::check::check;
-use crate::faults::FeedFault;
 use crate::feed::feed;
-use crate::jobs::run;
+use crate::feed_fault::FeedFault;
 use crate::options::{Request, parse};
+use crate::run_command::run;
 use clap::Error;
 use clap::error::ErrorKind;
 use std::alloc::Global;
@@ -19,9 +19,9 @@ use std::io::{BufReader, BufWriter, Read, Write};
 use std::sync::Wait;
 use std::thread::Threads;
 
-/// Carries out the command that the words name, which stand behind the program's name on the command line, and answers the
-/// status that the program ends with: 0; 1 where it was refused, with a line on `err` that begins with `refused `; 2 for wrong
-/// usage, which is told on `err` before anything is read or written. Help that is asked for goes to `out`.
+/// Carries out the command that the words name, which follow the program's name on the command line, and returns the status that
+/// the program ends with: 0; 1 where it was refused, with a line on `err` that begins with `refused `; 2 for wrong usage, which
+/// goes to `err` before anything is read or written. Help and the version, where they are asked for, go to `out`.
 ///
 /// `feed` waits for nobody. `check` and `run` hold a ring's lock for each call, and `run` starts threads.
 pub fn command<T: Threads + Wait + Sync, S: AsStr, R: Read, W: Write, E: Write>(
@@ -37,22 +37,22 @@ pub fn command<T: Threads + Wait + Sync, S: AsStr, R: Read, W: Write, E: Write>(
 {
     match parse(alloc, words) {
         Ok(Request::Feed { size, start }) => feed_command(alloc, input, out, err, size, start),
-        Ok(Request::Check(bounds)) => end_of(check(rt, alloc, input, out, bounds), err),
-        Ok(Request::Run(wanted)) => end_of(run(rt, alloc, input, out, wanted), err),
-        Err(error) => tell(&error, out, err),
+        Ok(Request::Check(bounds)) => status_of(check(rt, alloc, input, out, bounds), err),
+        Ok(Request::Run(wanted)) => status_of(run(rt, alloc, input, out, wanted), err),
+        Err(error) => print_usage(&error, out, err),
     }
 }
 
-// Tells why the words name no command.
-fn tell<W: Write, E: Write>(error: &Error, out: &mut W, err: &mut E) -> u8
+// Prints the help or the version where that was asked for, and else why the words name no command.
+fn print_usage<W: Write, E: Write>(error: &Error, out: &mut W, err: &mut E) -> u8
     ensures status { result ≤ 2 }
     ensures usage { result ≡ 2 → Keeps (W.contents out.old) (W.contents out.new) }
 {
     match error.kind() {
-        ErrorKind::OutOfMemory => refuse(&FeedFault::Memory, err),
-        ErrorKind::DisplayHelp => match write!(out, "{error}") {
+        ErrorKind::OutOfMemory => print_refusal(&FeedFault::Memory, err),
+        ErrorKind::DisplayHelp | ErrorKind::DisplayVersion => match write!(out, "{error}") {
             Ok(()) => 0,
-            Err(_) => refuse(&FeedFault::Device, err),
+            Err(_) => print_refusal(&FeedFault::Device, err),
         },
         _ => {
             let _ = write!(err, "{error}");
@@ -61,7 +61,7 @@ fn tell<W: Write, E: Write>(error: &Error, out: &mut W, err: &mut E) -> u8
     }
 }
 
-// Writes the tape of the payloads, and tells where it ends.
+// Writes the tape of the payloads, and prints where it ends.
 fn feed_command<R: Read, W: Write, E: Write>(
     alloc: Global,
     input: &mut R,
@@ -71,18 +71,18 @@ fn feed_command<R: Read, W: Write, E: Write>(
     start: u64,
 ) -> u8
     ensures status { result ≤ 1 }
-    ensures whole { result ≡ 0 → IsSize size × IsStart start × IsWholeInput size start (R.remaining input.old) }
+    ensures whole { result ≡ 0 → IsRingSize size × IsStartPosition start × IsWholeInput size start (R.remaining input.old) }
 {
     match feed_buffered(alloc, input, out, size, start) {
         Ok((producer, consumer)) => match writeln!(err, "producer {producer} consumer {consumer}") {
             Ok(()) => 0,
             Err(_) => 1,
         },
-        Err(fault) => refuse(&fault, err),
+        Err(fault) => print_refusal(&fault, err),
     }
 }
 
-// The same, over buffers. The order of the answers is that of `feed`, behind want of memory for the buffers.
+// The same, over buffers. The order of the answers is that of `feed`, after out of memory for the buffers.
 fn feed_buffered<R: Read, W: Write>(
     alloc: Global,
     input: &mut R,
@@ -90,9 +90,9 @@ fn feed_buffered<R: Read, W: Write>(
     size: u64,
     start: u64,
 ) -> Result<(u64, u64), FeedFault>
-    ensures bounds { OnOk result (IsSize size × IsStart start) }
-    ensures told { Tells size start (R.remaining input.old) result }
-    ensures only { AnswersAlone size start (R.remaining input.old) result }
+    ensures bounds { OnOk result (IsRingSize size × IsStartPosition start) }
+    ensures answer { FeedAnswerMatches size start (R.remaining input.old) result }
+    ensures only_answer { AnswersAlone size start (R.remaining input.old) result }
 {
     let Ok(mut reader) = BufReader::new(alloc, input) else {
         return Err(FeedFault::Memory);
@@ -103,18 +103,18 @@ fn feed_buffered<R: Read, W: Write>(
     feed(alloc, &mut reader, &mut writer, size, start)
 }
 
-// The status of a command that told its answer itself, with the line of its refusal.
-fn end_of<F: Display + Drop, E: Write>(answer: Result<(), F>, err: &mut E) -> u8
+// The status of a command that printed its own output, with the line of its refusal.
+fn status_of<F: Display + Drop, E: Write>(answer: Result<(), F>, err: &mut E) -> u8
     ensures { result ≤ 1 }
 {
     match answer {
         Ok(()) => 0,
-        Err(fault) => refuse(&fault, err),
+        Err(fault) => print_refusal(&fault, err),
     }
 }
 
 // The line of a refusal.
-fn refuse<F: Display, E: Write>(fault: &F, err: &mut E) -> u8
+fn print_refusal<F: Display, E: Write>(fault: &F, err: &mut E) -> u8
     ensures { result ≡ 1 }
 {
     let _ = writeln!(err, "refused {fault}");

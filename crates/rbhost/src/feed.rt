@@ -3,14 +3,14 @@
 ghost use Rattle.std.specs.Prelude.{◌≡◌, ◌≢◌, ◌+◌, ◌<◌, ◌≤◌, ◌↔◌, List, ℕ, Err, IsErrOf, IfOk, IfErr, IfSome, OnOk, false, length};
 ghost use Rattle.rb_header.specs.Span.{span};
 ghost use Rattle.rb_history.specs.Calls.{AllTaken, producer_now};
-ghost use Rattle.rb_history.specs.View.{IsSize, IsStart, fresh};
-ghost use Rattle.rbhost.specs.Fed.{Fed, FeedsOne, IsOpeningFault, Tells, AnswersAlone};
-ghost use Rattle.rbhost.specs.Passing.{MovesOn};
+ghost use Rattle.rb_history.specs.RingModel.{IsRingSize, IsStartPosition, fresh};
+ghost use Rattle.rbhost.specs.Feed.{FeedResult, FeedsOne, IsOpeningFault, FeedAnswerMatches, AnswersAlone};
+ghost use Rattle.rbhost.specs.Transfer.{MovesOn};
 
-use crate::faults::FeedFault;
-use crate::passing::pass;
+use crate::feed_fault::FeedFault;
 use crate::payloads::next_payload;
 use crate::tape::{Item, TapeWriter};
+use crate::transfer::transfer_payload;
 use rb_history::OpenFault;
 use rb_lend::{Lent, Sheet};
 use rb_ring::RingState;
@@ -26,7 +26,7 @@ fn feed_one<W: Write>(
 ) -> Result<Sheet, FeedFault>
     requires all_taken { AllTaken ring.old }
     requires worker { 0 < ring.old.setup.workers }
-    requires size { IsSize ring.old.setup.size }
+    requires size { IsRingSize ring.old.setup.size }
     requires tape_size { tape.old.size ≡ ring.old.setup.size }
     requires position { tape.old.position ≡ producer_now ring.old }
     requires finished { tape.old.unfinished ≡ false }
@@ -38,7 +38,7 @@ fn feed_one<W: Write>(
     ensures position { OnOk result (tape.new.position ≡ tape.old.position + span (length payload)) }
     ensures finished { OnOk result (tape.new.unfinished ≡ false) }
 {
-    let (position, payload) = pass(ring, payload, number)?;
+    let (position, payload) = transfer_payload(ring, payload, number)?;
     let item = Item::Event {
         position,
         bytes: payload.bytes(),
@@ -58,14 +58,14 @@ fn feed_all<R: Read, W: Write>(
     size: u64,
     start: u64,
 ) -> Result<(u64, u64), FeedFault>
-    requires size { IsSize size }
-    requires start { IsStart start }
+    requires size { IsRingSize size }
+    requires start { IsStartPosition start }
     requires opened { ring.old ≡ fresh size start 1 }
     requires tape_size { tape.old.size ≡ size }
     requires position { tape.old.position ≡ start }
     requires finished { tape.old.unfinished ≡ false }
     ensures same_reference { tape.new.writer.ghost_name ≡ tape.old.writer.ghost_name }
-    ensures fed { Fed size start (R.remaining reader.old) (R.remaining reader.new) (W.contents tape.old.writer.now) (W.contents tape.new.writer.now) result }
+    ensures fed { FeedResult (record { size = size; start = start; input_before = R.remaining reader.old; input_after = R.remaining reader.new; output_before = W.contents tape.old.writer.now; output_after = W.contents tape.new.writer.now }) result }
     ensures no_bounds { (result ≢ Err FeedFault.Size) × (result ≢ Err FeedFault.Start) }
 {
     let mut number = 0;
@@ -77,13 +77,12 @@ fn feed_all<R: Read, W: Write>(
 }
 
 /// Reads payloads, each a length in four bytes, the lowest first, and that many bytes; puts each through a ring of `size`
-/// bytes that begins at `start`, and writes the tape of their records, from the start on. Answers where the producer and the
-/// consumer stand in the end.
+/// bytes that begins at `start`, and writes the tape of their records, from the start on. Returns the producer and the consumer
+/// position at the end.
 ///
-/// It tells `Size` and `Start` before it reads. A payload is told not to fit from its length alone where its record is too
-/// long for the ring. Whatever is told, the whole tape of the payloads before was written and flushed, unless the writer itself
-/// failed. Reader and writer are called a few times for each payload: buffer them. The ring keeps three entries for each
-/// payload.
+/// `Size` and `Start` come before anything is read. A payload whose record is too long for the ring is refused from its length
+/// alone. Whatever is returned, the whole tape of the payloads before was written and flushed, unless the writer itself
+/// failed. Reader and writer are called a few times for each payload: buffer them. The ring keeps three entries for each payload.
 pub fn feed<R: Read, W: Write>(
     alloc: Global,
     reader: &mut R,
@@ -92,14 +91,14 @@ pub fn feed<R: Read, W: Write>(
     start: u64,
 ) -> Result<(u64, u64), FeedFault>
     // What was read and written, by the answer.
-    ensures fed { Fed size start (R.remaining reader.old) (R.remaining reader.new) (W.contents writer.old) (W.contents writer.new) result }
+    ensures fed { FeedResult (record { size = size; start = start; input_before = R.remaining reader.old; input_after = R.remaining reader.new; output_before = W.contents writer.old; output_after = W.contents writer.new }) result }
 
     // Which answer it is.
-    ensures size { IsErrOf result FeedFault.Size ↔ ¬ IsSize size }
-    ensures start { IsErrOf result FeedFault.Start ↔ (IsSize size × ¬ IsStart start) }
-    ensures bounds { OnOk result (IsSize size × IsStart start) }
-    ensures told { Tells size start (R.remaining reader.old) result }
-    ensures only { AnswersAlone size start (R.remaining reader.old) result }
+    ensures size { IsErrOf result FeedFault.Size ↔ ¬ IsRingSize size }
+    ensures start { IsErrOf result FeedFault.Start ↔ (IsRingSize size × ¬ IsStartPosition start) }
+    ensures bounds { OnOk result (IsRingSize size × IsStartPosition start) }
+    ensures answer { FeedAnswerMatches size start (R.remaining reader.old) result }
+    ensures only_answer { AnswersAlone size start (R.remaining reader.old) result }
 {
     let mut ring = open(alloc, size, start)?;
     let Ok(spare) = Sheet::new(alloc, 0) else {
@@ -115,9 +114,9 @@ pub fn feed<R: Read, W: Write>(
 // The ring that the payloads go through.
 fn open(alloc: Global, size: u64, start: u64) -> Result<RingState, FeedFault>
     ensures opened { IfOk result (λ ring. ring ≡ fresh size start 1) }
-    ensures bounds { OnOk result (IsSize size × IsStart start) }
-    ensures size { IsErrOf result FeedFault.Size ↔ ¬ IsSize size }
-    ensures start { IsErrOf result FeedFault.Start ↔ (IsSize size × ¬ IsStart start) }
+    ensures bounds { OnOk result (IsRingSize size × IsStartPosition start) }
+    ensures size { IsErrOf result FeedFault.Size ↔ ¬ IsRingSize size }
+    ensures start { IsErrOf result FeedFault.Start ↔ (IsRingSize size × ¬ IsStartPosition start) }
     ensures memory { IfErr result IsOpeningFault }
 {
     match RingState::new(alloc, size, start, 1) {
@@ -138,10 +137,10 @@ fn feed_ring<R: Read, W: Write>(
     size: u64,
     start: u64,
 ) -> Result<(u64, u64), FeedFault>
-    requires size { IsSize size }
-    requires start { IsStart start }
+    requires size { IsRingSize size }
+    requires start { IsStartPosition start }
     requires opened { ring.old ≡ fresh size start 1 }
-    ensures fed { Fed size start (R.remaining reader.old) (R.remaining reader.new) (W.contents writer.old) (W.contents writer.new) result }
+    ensures fed { FeedResult (record { size = size; start = start; input_before = R.remaining reader.old; input_after = R.remaining reader.new; output_before = W.contents writer.old; output_after = W.contents writer.new }) result }
     ensures no_bounds { (result ≢ Err FeedFault.Size) × (result ≢ Err FeedFault.Start) }
 {
     let mut tape = TapeWriter::new(writer, size, start);

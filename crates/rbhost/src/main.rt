@@ -1,20 +1,27 @@
-//! A host for eBPF programs that write into BPF ring buffers, as a program.
+//! A host for eBPF programs that write into BPF ring buffers, as a program with three commands.
+//!
+//! `feed` puts payloads through a ring and writes the bytes that a reader of the kernel's ring buffer maps (ringbuf.rst). `check`
+//! decodes and verifies a program (RFC 9669), runs it once over fresh rings, and prints the records that it left. `run` has workers
+//! run a verified program on threads over one ring, and prints what each counted.
+//!
+//! What is promised is on `command`, `feed`, `check` and `run`: which statuses there are, what `feed` read and wrote by its answer,
+//! and that the result printed by `check` is one that the program's meaning gives.
 #![tactic(auto)]
 
 mod check;
 mod command;
 mod device;
-mod faults;
 mod feed;
-mod jobs;
-mod lines;
+mod feed_fault;
 mod options;
-mod passing;
 mod payloads;
 mod program;
+mod record_lines;
+mod run_command;
 mod tape;
 #[cfg(test)]
 mod tests;
+mod transfer;
 
 use command::command;
 use std::process::ExitCode;
@@ -23,7 +30,7 @@ use std::{env, io};
 fn main(rt: HostRuntime) -> ExitCode {
     let words = match words(&rt) {
         Ok(words) => words,
-        Err(error) => return untold(&rt, &error),
+        Err(error) => return print_unreadable(&rt, &error),
     };
     let (mut input, mut out, mut err) = (rt.stdin(), rt.stdout(), rt.stderr());
     ExitCode::from(command(
@@ -36,15 +43,15 @@ fn main(rt: HostRuntime) -> ExitCode {
     ))
 }
 
-// The words of the command line behind the program's name.
+// The words of the command line that follow the program's name.
 fn words(rt: &HostRuntime) -> io::Result<Vec<String>> {
     let mut words = env::args(rt)?;
     let _ = words.next();
     Ok(words.collect(rt.alloc())?)
 }
 
-// The words can't be read: there is no memory for them, or they are no text, which is wrong usage.
-fn untold(rt: &HostRuntime, error: &io::Error) -> ExitCode {
+// Prints why the words can't be read: out of memory, or they are no text, which is wrong usage.
+fn print_unreadable(rt: &HostRuntime, error: &io::Error) -> ExitCode {
     let (line, status) = match error.kind() {
         io::ErrorKind::OutOfMemory => ("refused memory", 1),
         _ => ("error: the arguments are no text", 2),

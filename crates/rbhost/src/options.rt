@@ -4,8 +4,8 @@ ghost use Rattle.std.specs.Prelude.{◌<◌, ◌≤◌, ◌^◌, IfOk};
 ghost use Rattle.std.specs.Option.{SomeIff};
 ghost use Rattle.std.specs.Str.Parse.{IsNumeral, digits_value};
 
-use crate::jobs::JobsWanted;
 use crate::program::Bounds;
+use crate::run_command::JobsRequest;
 use clap::error::ErrorKind;
 use clap::{Arg, ArgAction, ArgMatches, Command, Error};
 use std::alloc::{AllocError, Global};
@@ -19,11 +19,11 @@ pub enum Request {
     /// Verifies a program and runs it once.
     Check(Bounds),
     /// Verifies a program and runs it as jobs on threads.
-    Run(JobsWanted),
+    Run(JobsRequest),
 }
 
-/// The command that these words name, which stand behind the program's name on the command line. An error is help that was
-/// asked for, wrong usage, or want of memory.
+/// The command that these words name, which follow the program's name on the command line. An error is help or the version that was
+/// asked for, wrong usage, or out of memory.
 pub fn parse<S: AsStr>(alloc: Global, words: &[S]) -> Result<Request, Error> {
     let mut program = program(alloc)?;
     let matches = program.try_get_matches_from_mut(words)?;
@@ -36,7 +36,7 @@ pub fn parse<S: AsStr>(alloc: Global, words: &[S]) -> Result<Request, Error> {
             ctx_len: bounded(alloc, &mut program, options, "ctx", 0, 65_536)?,
             rings: bounded(alloc, &mut program, options, "rings", 0, 16)?,
         })),
-        Some(("run", options)) => Ok(Request::Run(JobsWanted {
+        Some(("run", options)) => Ok(Request::Run(JobsRequest {
             workers: number(alloc, &mut program, options, "workers")?,
             jobs: bounded(alloc, &mut program, options, "jobs", 1, 1_000_000)?,
             size: number(alloc, &mut program, options, "size")?,
@@ -49,6 +49,7 @@ pub fn parse<S: AsStr>(alloc: Global, words: &[S]) -> Result<Request, Error> {
 // What the command line may say.
 fn program<'a>(alloc: Global) -> Result<Command<'a>, AllocError> {
     Command::new(alloc, "rbhost")
+        .version("0.1.0")
         .bin_name("rbhost")?
         .about("A host for eBPF programs that write into BPF ring buffers")
         .no_binary_name(true)

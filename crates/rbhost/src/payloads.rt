@@ -2,10 +2,10 @@
 
 ghost use Rattle.std.specs.Prelude.{◌≡◌};
 ghost use Rattle.std.specs.Int.{w32, to_le_bytes};
-ghost use Rattle.rbhost.specs.Reading.{FindsLength, FindsNext};
+ghost use Rattle.rbhost.specs.PayloadReads.{FindsLength, FindsNext};
 
 use crate::device::read_full;
-use crate::faults::FeedFault;
+use crate::feed_fault::FeedFault;
 use rb_header::span;
 use rb_lend::{Lent, Sheet};
 use std::io::Read;

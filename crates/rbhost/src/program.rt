@@ -1,7 +1,7 @@
 //! A verified program from its text.
 
 ghost use Rattle.std.specs.Prelude.{◌≡◌, ◌≤◌, IfOk, IfSome};
-ghost use Rattle.rbhost.specs.Checked.{IsAccepted};
+ghost use Rattle.rbhost.specs.Check.{IsAccepted};
 
 use rb_cfg::{ShapeFault, ShapeFaultKind, shape};
 use rb_decode::{DecodeFault, DecodeKind, TextFault, from_text};
@@ -37,10 +37,10 @@ pub enum ProgramFault {
     /// The program breaks the rule of this number.
     #[error("verify V{rule} unit {unit}")]
     Verify { rule: u32, unit: u32 },
-    /// A growth was refused.
+    /// Out of memory.
     #[error("memory")]
     Memory,
-    /// A read failed.
+    /// A read or a write failed.
     #[error("device")]
     Device,
 }

@@ -3,9 +3,9 @@
 ghost use Rattle.std.specs.Prelude.{◌≡◌, ◌<◌, ◌≤◌, ◌+◌, ◌-◌, ◌^◌, ◌++◌, false, true, not, is_ok, if◌then◌else◌, length, take, OnOk};
 ghost use Rattle.std.specs.Io.KnownBytes.{Appends};
 ghost use Rattle.rb_header.specs.Header.{header_bytes};
-ghost use Rattle.rb_header.specs.Tape as tape;
-ghost use Rattle.rb_header.specs.Tape.{item_bytes, item_span, len_of, payload_of, header_of, zeros, IsItemAt};
-ghost use Rattle.rb_history.specs.View.{IsSize};
+ghost use Rattle.rb_header.specs.TapeBytes as tape;
+ghost use Rattle.rb_header.specs.TapeBytes.{item_bytes, item_span, item_len, payload_of, header_of, zeros, IsItemAt};
+ghost use Rattle.rb_history.specs.RingModel.{IsRingSize};
 ghost use Rattle.rbhost.specs.Items.{item_of};
 
 use crate::device::{DeviceFault, write_out};
@@ -27,8 +27,8 @@ pub enum Item<'a> {
 impl Item<'_> {
     // How many bytes the record has.
     fn len(&self) -> u32
-        requires { len_of (item_of self.now) < 2 ^ 30 }
-        ensures { result ≡ len_of (item_of self.now) }
+        requires { item_len (item_of self.now) < 2 ^ 30 }
+        ensures { result ≡ item_len (item_of self.now) }
     {
         match self {
             Item::Event { position: _, bytes } => bytes.len() as u32,
@@ -118,7 +118,7 @@ impl<'a, W: Write> TapeWriter<'a, W> {
     /// takes nothing; the record is then unfinished, and `sent` tells how many of its bytes went out.
     pub fn put(&mut self, item: &Item<'_>) -> Result<(), DeviceFault>
         requires finished { self.old.unfinished ≡ false }
-        requires size { IsSize self.old.size }
+        requires size { IsRingSize self.old.size }
         requires stands { IsItemAt self.old.size self.old.position (item_of item.now) }
         ensures same_reference { self.new.writer.ghost_name ≡ self.old.writer.ghost_name }
         ensures bytes { Appends (W.contents self.old.writer.now) (W.contents self.new.writer.now) (take self.new.sent (item_bytes self.old.size (item_of item.now))) }
@@ -139,7 +139,7 @@ impl<'a, W: Write> TapeWriter<'a, W> {
 
     // Writes the parts of a record.
     fn write_record(&mut self, item: &Item<'_>) -> Result<(), DeviceFault>
-        requires size { IsSize self.old.size }
+        requires size { IsRingSize self.old.size }
         requires sent { self.old.sent ≡ 0 }
         requires stands { IsItemAt self.old.size self.old.position (item_of item.now) }
         ensures same_reference { self.new.writer.ghost_name ≡ self.old.writer.ghost_name }
@@ -162,8 +162,8 @@ impl<'a, W: Write> TapeWriter<'a, W> {
         ensures same_reference { self.new.writer.ghost_name ≡ self.old.writer.ghost_name }
         ensures bytes { Appends (W.contents self.old.writer.now) (W.contents self.new.writer.now) (take (self.new.sent - self.old.sent) (payload_of (item_of item.now))) }
         ensures more { self.old.sent ≤ self.new.sent }
-        ensures bound { self.new.sent ≤ self.old.sent + len_of (item_of item.now) }
-        ensures ok { OnOk result (self.new.sent ≡ self.old.sent + len_of (item_of item.now)) }
+        ensures bound { self.new.sent ≤ self.old.sent + item_len (item_of item.now) }
+        ensures ok { OnOk result (self.new.sent ≡ self.old.sent + item_len (item_of item.now)) }
         ensures size { self.new.size ≡ self.old.size }
         ensures position { self.new.position ≡ self.old.position }
         ensures unfinished { self.new.unfinished ≡ self.old.unfinished }
@@ -176,7 +176,7 @@ impl<'a, W: Write> TapeWriter<'a, W> {
 
     // The header of the record that is written next.
     fn header(&self, item: &Item<'_>) -> [u8; 8]
-        requires size { IsSize self.now.size }
+        requires size { IsRingSize self.now.size }
         requires stands { IsItemAt self.now.size self.now.position (item_of item.now) }
         ensures { result ≡ header_bytes (header_of self.now.size (item_of item.now)) }
     {

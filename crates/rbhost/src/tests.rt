@@ -1,6 +1,6 @@
-mod checking;
+mod check_command;
 mod commands;
 mod fakes;
-mod feeding;
-mod running;
-mod taping;
+mod feed_command;
+mod run_command;
+mod tape_writer;

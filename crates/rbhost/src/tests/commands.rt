@@ -168,10 +168,25 @@ fn help(rt: HostRuntime) -> Result<(), Fail> {
         let mut told = Vec::new(rt.alloc());
         let ended = command(&rt, rt.alloc(), words, &mut reader, &mut text, &mut told);
         assert_eq!(rt; ended, 0, "of {words:?}");
-        assert!(rt; !text.is_empty(), "of {words:?}");
+        assert!(rt; text.as_slice().ends_with(b"\n"), "of {words:?}");
+        assert!(rt; !text.as_slice().ends_with(b"\n\n"), "of {words:?}");
         assert!(rt; told.is_empty(), "of {words:?}");
         assert_eq!(rt; reader.rest.len(), 1, "of {words:?}");
     }
+    Ok(())
+}
+
+#[test]
+fn version(rt: HostRuntime) -> Result<(), Fail> {
+    check(
+        &rt,
+        rt.alloc(),
+        &["--version"],
+        &[1],
+        0,
+        b"rbhost 0.1.0\n",
+        "",
+    );
     Ok(())
 }
 

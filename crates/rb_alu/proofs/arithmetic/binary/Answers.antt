@@ -1,6 +1,6 @@
 use Rattle.std.proofs.Common.{arith}
 use Rattle.std.proofs.lemmas.Int.{to_z-of_z}
-use Rattle.rb_alu.specs.Numbers.{binary_of}
+use Rattle.rb_alu.specs.WholeNumbers.{binary_of}
 use Rattle.rb_alu.proofs.Signed.{wrapped-difference, wrapped-shr}
 use Rattle.rb_alu.proofs.arithmetic.binary.Goals as goal
 

@@ -1,7 +1,7 @@
 use Rattle.std.proofs.Common.{arith}
 use Rattle.std.proofs.lemmas.Int.{to_z-of_z}
-use Rattle.rb_alu.specs.Meaning.{division_of}
-use Rattle.rb_alu.specs.Numbers.{signed_division}
+use Rattle.rb_alu.specs.ArithmeticAndJumps.{division_of}
+use Rattle.rb_alu.specs.WholeNumbers.{signed_division}
 use Rattle.rb_alu.proofs.Signed.{wrapped-div, wrapped-rem, signed_of-zero}
 use Rattle.rb_alu.proofs.arithmetic.division.Goals as goal
 

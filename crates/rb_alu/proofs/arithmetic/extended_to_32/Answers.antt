@@ -1,6 +1,6 @@
 use Rattle.std.proofs.Common.{arith}
 use Rattle.std.proofs.lemmas.Int.{to_z-of_z}
-use Rattle.rb_alu.specs.Meaning.{sign_extended}
+use Rattle.rb_alu.specs.ArithmeticAndJumps.{sign_extended}
 use Rattle.rb_alu.proofs.Signed.{signed_of-cast_8, signed_of-cast_16, wrapped-cast_32}
 use Rattle.rb_alu.proofs.arithmetic.extended_to_32.Goals as goal
 use Rattle.rb_alu.proofs.arithmetic.extended_to_32.Goals.{in-From8, in-From16}

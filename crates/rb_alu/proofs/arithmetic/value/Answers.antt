@@ -1,5 +1,5 @@
 use Rattle.std.proofs.Common.{arith}
-use Rattle.rb_alu.specs.Meaning.{value_of}
+use Rattle.rb_alu.specs.ArithmeticAndJumps.{value_of}
 use Rattle.rb_alu.proofs.Signed.{wrapped-neg}
 use Rattle.rb_alu.proofs.arithmetic.value.Goals as goal
 

@@ -1,6 +1,6 @@
 use Rattle.std.proofs.Common.{sym, ◌∙◌, ap, subst}
 use Rattle.std.specs.Option.{option_copied}
-use Rattle.rb_cfg.specs.Reach.{Marks}
+use Rattle.rb_cfg.specs.inner.Reach.{Marks}
 use Rattle.rb_cfg.proofs.Searching.{looked_at, nothing_there}
 use Rattle.rb_cfg.proofs.reach.look_at.Goals as goal
 

@@ -1,5 +1,5 @@
 use Rattle.std.proofs.Common.{◌≡◌, ◌<◌, Some, true, false, length, get_or, set, sym, subst, rules, arith}
-use Rattle.rb_cfg.specs.Reach.{Marks}
+use Rattle.rb_cfg.specs.inner.Reach.{Marks}
 use Rattle.rb_cfg.proofs.Searching.{marks_one}
 use Rattle.rb_cfg.proofs.reach.mark.Goals as goal
 

@@ -1,6 +1,6 @@
 use Rattle.std.proofs.Common.{◌≡◌, false, Some, length, replicate, ap, ◌∙◌, subst, rules}
 use Rattle.std.proofs.Math.ListN.{length-replicate}
-use Rattle.rb_cfg.specs.Reach.{Marks, IsMarked}
+use Rattle.rb_cfg.specs.inner.Reach.{Marks, IsMarked}
 use Rattle.rb_cfg.proofs.Searching.{started, finished, none_marked}
 use Rattle.rb_cfg.proofs.reach.reached_units.Goals as goal
 

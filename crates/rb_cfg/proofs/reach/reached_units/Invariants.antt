@@ -1,5 +1,5 @@
 use Rattle.std.proofs.Common.{◌+◌, ◌*◌, length}
-use Rattle.rb_cfg.specs.Reach.{Search, unmarked}
+use Rattle.rb_cfg.specs.inner.Reach.{Search, unmarked}
 use Rattle.rb_cfg.proofs.reach.reached_units.Given as goal
 
 abbrev pub invariant-loop-unit : goal.invariant-loop-unit

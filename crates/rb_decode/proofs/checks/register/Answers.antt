@@ -1,6 +1,6 @@
 use Rattle.std.proofs.Common.{arith}
 use Rattle.rb_insn.proofs.Registers.{reg-by_number}
-use Rattle.rb_decode.specs.Checks.{reg_at}
+use Rattle.rb_decode.specs.inner.FieldChecks.{reg_at}
 use Rattle.rb_decode.proofs.checks.register.Goals as goal
 
 pub returns : goal.returns

@@ -1,8 +1,19 @@
+use Rattle.std.proofs.Common.{rules, Ok}
 use Rattle.rb_decode.proofs.FirstFaults.{only_program, only_fault}
 use Rattle.rb_decode.proofs.decoding.decode.Goals as goal
 
+pub returns-in_err-units-clause-only_program : goal.returns-in_err-units-clause-only_program
+returns-in_err-units-clause-only_program c =
+    only_program c.args.bytes.now c.from_residual.result (record { bounds = search rules; spelled = search rules; fault = search rules })
+
+pub returns-in_err-units-clause-only_fault : goal.returns-in_err-units-clause-only_fault
+returns-in_err-units-clause-only_fault c =
+    only_fault c.args.bytes.now c.from_residual.result (record { bounds = search rules; spelled = search rules; fault = search rules })
+
 pub returns-clause-only_program : goal.returns-clause-only_program
-returns-clause-only_program c = only_program c.args.bytes.now c.decode_units.result (record { bounds = c.decode_units.ensures.bounds; spelled = c.decode_units.ensures.spelled; fault = c.decode_units.ensures.fault })
+returns-clause-only_program c =
+    only_program c.args.bytes.now (Ok c.from_units.result) (record { bounds = search rules; spelled = search rules; fault = tt })
 
 pub returns-clause-only_fault : goal.returns-clause-only_fault
-returns-clause-only_fault c = only_fault c.args.bytes.now c.decode_units.result (record { bounds = c.decode_units.ensures.bounds; spelled = c.decode_units.ensures.spelled; fault = c.decode_units.ensures.fault })
+returns-clause-only_fault c =
+    only_fault c.args.bytes.now (Ok c.from_units.result) (record { bounds = search rules; spelled = search rules; fault = tt })

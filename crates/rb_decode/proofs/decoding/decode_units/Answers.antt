@@ -2,9 +2,9 @@ use Rattle.std.proofs.Common.{◌≡◌, ◌≤◌, ◌<◌, ◌*◌, ◌%◌, �
 use Rattle.std.proofs.lemmas.Grind.{common_steps}
 use Rattle.rb_insn.specs.Units.{units_taken}
 use Rattle.rb_insn.specs.Spelling.{Spells}
-use Rattle.rb_decode.specs.Faults.{IsFirstKind}
-use Rattle.rb_decode.specs.FirstFault.{HasBadLength, IsTooLong, IsFirstFaultOf}
-use Rattle.rb_decode.specs.Decoded.{IsDecoded}
+use Rattle.rb_decode.specs.DecodeFaults.{IsFirstKind}
+use Rattle.rb_decode.specs.FirstDecodeFault.{HasBadLength, HasTooManyUnits, IsFirstFaultAt}
+use Rattle.rb_decode.specs.inner.Decoded.{IsDecoded}
 use Rattle.rb_decode.proofs.Kept.{counted}
 use Rattle.rb_decode.proofs.FirstFaults.{decoded_more, fault_here, rest_of}
 use Rattle.rb_decode.proofs.decoding.decode_units.Goals as goal
@@ -20,8 +20,8 @@ loop-units-preserved c =
     let spells = subst (λ (l : List ℕ). Spells insn (take (8 * units_taken insn) l)) rest c.in-Ok.ensures.ok in
     subst (IsDecoded bytes) (sym c.in_ok-push_insn-in-Ok.ensures) (decoded_more bytes units insn c.loop-units.invariant room spells)
 
-pub from_units-requires : goal.from_units-requires
-from_units-requires c =
+pub returns-clause-kept : goal.returns-clause-kept
+returns-clause-kept c =
     let units = c.loop-units.units.items in
     let count = counted units c.loop-units.invariant.laid_out in
     record {
@@ -44,6 +44,6 @@ returns-in-Err-clause-fault c =
       | inl empty ↦ let none : length bytes ≡ 0 = ap length empty in absurd (omega arith)
       | inr uneven ↦ uneven whole
     ] in
-    let not_long : IsTooLong bytes → ⊥ = λ long. absurd (omega arith) in
+    let not_long : HasTooManyUnits bytes → ⊥ = λ long. absurd (omega arith) in
     let fault = fault_here bytes units kind c.loop-units.invariant more length_fits not_long first in
-    inr (subst (λ (n : ℕ). IsFirstFaultOf bytes n kind) (sym at) fault)
+    inr (subst (λ (n : ℕ). IsFirstFaultAt bytes n kind) (sym at) fault)

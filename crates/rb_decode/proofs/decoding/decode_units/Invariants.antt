@@ -1,5 +1,5 @@
 use Rattle.std.proofs.Common.{◌-◌, length}
-use Rattle.rb_decode.specs.Decoded.{IsDecoded}
+use Rattle.rb_decode.specs.inner.Decoded.{IsDecoded}
 use Rattle.rb_decode.proofs.decoding.decode_units.Given as goal
 
 abbrev pub invariant-loop-units : goal.invariant-loop-units

@@ -4,7 +4,7 @@ use Rattle.std.specs.Option.{option_copied}
 use Rattle.rb_insn.specs.declared.insn.Insn.{Insn}
 use Rattle.rb_insn.specs.Spelling.{SpellsAll}
 use Rattle.rb_decode.specs.Program.{units_of, unit_count}
-use Rattle.rb_decode.specs.Units.{insns_in}
+use Rattle.rb_decode.specs.DecodedUnits.{insns_in}
 use Rattle.rb_decode.proofs.Kept.{insns_in-units_of}
 use Rattle.rb_decode.proofs.FirstFaults.{encoded_more, encoded_second}
 use Rattle.rb_decode.proofs.decoding.encode.Goals as goal

@@ -1,7 +1,7 @@
 use Rattle.std.proofs.Common.{take}
 use Rattle.rb_insn.specs.Spelling.{SpellsAll}
 use Rattle.rb_decode.specs.Program.{units_of}
-use Rattle.rb_decode.specs.Units.{insns_in}
+use Rattle.rb_decode.specs.DecodedUnits.{insns_in}
 use Rattle.rb_decode.proofs.decoding.encode.Given as goal
 
 abbrev pub invariant-loop-unit : goal.invariant-loop-unit

@@ -1,14 +1,14 @@
 use Rattle.std.proofs.Common.{◌*◌, take, None, true, false, sym, ap, subst, ◌∙◌, arith}
 use Rattle.std.proofs.lemmas.Result.{err_from_is_err_and}
 use Rattle.rb_decode.specs.declared.fields.Fields.{Fields}
-use Rattle.rb_decode.specs.Fields.{fields_at}
-use Rattle.rb_decode.specs.Faults.{is_left_out}
-use Rattle.rb_decode.specs.Operations.{operation_at}
-use Rattle.rb_decode.specs.SecondUnit.{IsSecondUnit, IsSecondFault}
+use Rattle.rb_decode.specs.UnitFields.{fields_at}
+use Rattle.rb_decode.specs.DecodeFaults.{is_left_out}
+use Rattle.rb_decode.specs.inner.Operations.{operation_at}
+use Rattle.rb_decode.specs.inner.SecondUnit.{IsSecondUnit, IsSecondFault}
 use Rattle.rb_insn.specs.declared.insn.Insn.{Insn}
 use Rattle.rb_insn.specs.Units.{units_taken}
 use Rattle.rb_insn.specs.Spelling.{Spells}
-use Rattle.rb_decode.specs.Checks.{is_named_by, row_for, registers_fit, numbers_fit, insn_from}
+use Rattle.rb_decode.specs.inner.FieldChecks.{is_named_by, row_for, registers_fit, numbers_fit, insn_from}
 use Rattle.rb_decode.proofs.Front.{no_operation, unnamed, register_above, number_unused, second_fault, wide_spelled, narrow_spelled, told, found, keeps}
 use Rattle.rb_decode.proofs.insn_at.insn_at.Goals as goal
 

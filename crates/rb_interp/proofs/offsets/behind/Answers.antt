@@ -3,7 +3,7 @@ use Rattle.std.specs.Prelude.{◌+ℤ◌, FitsSigned}
 use Rattle.std.specs.Int.{cast_signed, cast_unsigned}
 use Rattle.std.proofs.lemmas.Int.{ints, to_z-of_z}
 use mir.Syntax.{w64}
-use Rattle.rb_interp.specs.Stored.{IsNear}
+use Rattle.rb_interp.specs.inner.NearOffsets.{IsNear}
 use Rattle.rb_interp.proofs.Nearness.{near_sum, far_fits}
 use Rattle.rb_interp.proofs.offsets.behind.Goals as goal
 

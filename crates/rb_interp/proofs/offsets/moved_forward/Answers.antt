@@ -3,7 +3,7 @@ use Rattle.std.specs.Prelude.{◌+ℤ◌, FitsSigned}
 use Rattle.std.specs.Int.{cast_signed, cast_unsigned}
 use Rattle.std.proofs.lemmas.Int.{ints, to_z-of_z}
 use mir.Syntax.{w64}
-use Rattle.rb_alu.specs.Numbers.{signed_of}
+use Rattle.rb_alu.specs.WholeNumbers.{signed_of}
 use Rattle.rb_alu.proofs.Laws.{signed_of-cast}
 use Rattle.rb_interp.proofs.Nearness.{near_fits}
 use Rattle.rb_interp.proofs.offsets.moved_forward.Goals as goal

@@ -1,7 +1,7 @@
 use Rattle.std.specs.FinMap.{empty}
-use Rattle.rb_ledger.specs.Rule.{Ledger, Fits, unopened}
-use Rattle.rb_ledger.proofs.General.{begins}
+use Rattle.rb_ledger.specs.inner.LockSteps.{unopened_ring}
+use Rattle.rb_ledger.proofs.LockRule.{begins}
 use Rattle.rb_ledger.proofs.lock.new_lock.Goals as goal
 
 pub ruled-requires-clause-rule : goal.ruled-requires-clause-rule
-ruled-requires-clause-rule c = begins (λ (s : Ledger). s.ring) Fits (record { ring = unopened; sent = empty })
+ruled-requires-clause-rule c = begins (record { ring = unopened_ring; sent = empty })

@@ -1,13 +1,14 @@
 use Rattle.std.proofs.Common.{ap, sym, subst, ◌∙◌}
-use Rattle.rb_ledger.specs.Rule.{View, Ledger, Fits, TakesState}
+use Rattle.rb_ledger.specs.RoleKnowledge.{PassView}
+use Rattle.rb_ledger.specs.inner.LockSteps.{TakesState}
 use Rattle.crossbeam_queue.specs.Passes.{view}
-use Rattle.rb_ledger.proofs.General.{takes}
+use Rattle.rb_ledger.proofs.LockRule.{takes}
 use Rattle.rb_ledger.proofs.lock.take_out.Goals as goal
 
 pub pop_as-requires-clause-rule : goal.pop_as-requires-clause-rule
-pop_as-requires-clause-rule g c = (takes (λ (s : Ledger). s.ring) Fits _ _ (ap (λ (v : View). v.out) c.loop.invariant.1 ∙ c.requires.free), λ _ _ _ _. tt)
+pop_as-requires-clause-rule g c = (takes _ _ (ap (λ (v : PassView). v.out) c.loop.invariant.1 ∙ c.requires.free), λ _ _ _ _. tt)
 
 pub returns-in-Some-pop_as-clause-took : goal.returns-in-Some-pop_as-clause-took
 returns-in-Some-pop_as-clause-took g c =
-    let took = subst (λ (v : View). TakesState v c.in-Some-pop_as.state (view c.pop_as.new.pass)) c.loop.invariant.1 c.in-Some-pop_as.ensures.rule in
+    let took = subst (λ (v : PassView). TakesState v c.in-Some-pop_as.state (view c.pop_as.new.pass)) c.loop.invariant.1 c.in-Some-pop_as.ensures.rule in
     subst (λ r. TakesState (view c.args.pass.now) r (view c.pop_as.new.pass)) (sym c.state.view_is) took

@@ -1,8 +1,8 @@
 use Rattle.std.proofs.Common.{◌∙◌, ◌<◌, ap, sym, subst, [], ◌∷◌, refl}
 use Rattle.std.specs.FinMap.{empty}
-use Rattle.rb_ledger.specs.Own.{Book, book_of}
-use Rattle.rb_ledger.specs.Own.Role.{Worker}
-use Rattle.rb_ledger.specs.Rule.{known}
+use Rattle.rb_ledger.specs.Roles.{Book, book_of}
+use Rattle.rb_ledger.specs.Roles.Role.{Worker}
+use Rattle.rb_ledger.specs.RoleKnowledge.{role_knowledge}
 use Rattle.rb_ledger.specs.Seats.{IsBook, fresh_book, fresh_seat}
 use Rattle.rb_ledger.proofs.Opens.{next-seat, seats-more}
 use Rattle.rb_ledger.proofs.Seated.{ring-book}
@@ -11,7 +11,7 @@ use Rattle.rb_ledger.proofs.opening.open.Goals as goal
 pub new_seat-seat-requires-clause-role : goal.new_seat-seat-requires-clause-role
 new_seat-seat-requires-clause-role g c =
     let n = next-seat (fresh_book c.args.size c.args.start c.args.workers) _ _ _ c.loop-worker-test.true c.loop-worker.invariant.1 in
-    n.first_is ∙ ap (λ b. known (Worker c.loop-worker.worker) b empty ∷ []) (sym n.seen_is)
+    n.first_is ∙ ap (λ b. role_knowledge (Worker c.loop-worker.worker) b empty ∷ []) (sym n.seen_is)
 
 pub new_seat-seat-requires-clause-nothing : goal.new_seat-seat-requires-clause-nothing
 new_seat-seat-requires-clause-nothing g c =

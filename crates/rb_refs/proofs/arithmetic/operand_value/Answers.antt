@@ -3,7 +3,7 @@ use Rattle.std.specs.Prelude.{FitsSigned}
 use Rattle.std.specs.Int.{cast_unsigned}
 use Rattle.std.proofs.lemmas.Int.{ints}
 use mir.Syntax.{w32, w64}
-use Rattle.rb_refs.specs.Arithmetic.{operand_value}
+use Rattle.rb_refs.specs.AbstractArithmetic.{operand_value}
 use Rattle.rb_refs.specs.declared.value.Abs.TheVariants.{Known}
 use Rattle.rb_refs.proofs.Numbers.{wrapped-immediate}
 use Rattle.rb_refs.proofs.arithmetic.operand_value.Goals as goal

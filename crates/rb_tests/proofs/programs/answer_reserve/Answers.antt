@@ -1,4 +1,4 @@
-use Rattle.rb_meaning.specs.declared.asked.Asked.TheVariants.{Reserve}
+use Rattle.rb_semantics.specs.declared.pending_call.PendingCall.TheVariants.{Reserve}
 use Rattle.rb_tests.proofs.programs.answer_reserve.Goals as goal
 
 pub returns-in-Some : goal.returns-in-Some

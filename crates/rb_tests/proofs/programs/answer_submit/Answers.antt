@@ -1,4 +1,4 @@
-use Rattle.rb_meaning.specs.declared.asked.Asked.TheVariants.{GiveBack}
+use Rattle.rb_semantics.specs.declared.pending_call.PendingCall.TheVariants.{GiveBack}
 use Rattle.rb_tests.proofs.programs.answer_submit.Goals as goal
 
 pub returns : goal.returns

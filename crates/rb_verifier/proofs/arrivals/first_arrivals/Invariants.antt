@@ -1,5 +1,5 @@
-use Rattle.rb_verifier.specs.Pass.{IsStart}
+use Rattle.rb_verifier.specs.inner.Sweep.{AreFirstArrivals}
 use Rattle.rb_verifier.proofs.arrivals.first_arrivals.Given as goal
 
 abbrev pub invariant-loop-unit : goal.invariant-loop-unit
-invariant-loop-unit l = IsStart l.unit l.arrivals.items
+invariant-loop-unit l = AreFirstArrivals l.unit l.arrivals.items

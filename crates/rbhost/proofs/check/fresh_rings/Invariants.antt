@@ -1,6 +1,6 @@
 use Rattle.std.proofs.Common.{◌≡◌, length}
-use Rattle.rb_seats.specs.Seated.{AtRings}
-use Rattle.rbhost.specs.Checked.{AreConsumersOf}
+use Rattle.rb_seats.specs.SeatHelpers.{AtRings}
+use Rattle.rbhost.specs.Check.{AreConsumersOf}
 use Rattle.rbhost.proofs.check.fresh_rings.Given as goal
 
 abbrev pub invariant-loop-tag : goal.invariant-loop-tag

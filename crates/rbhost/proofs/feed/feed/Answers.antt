@@ -10,19 +10,19 @@ returns-in_err-ring-clause-fed g c =
     rw (p.1, p.2) (opening_fed c.args.size c.args.start _ _ c.in_err-ring.field-0.0 c.in_err-ring.ensures.memory)
 
 pub returns-in_default-clause-fed : goal.returns-in_default-clause-fed
-returns-in_default-clause-fed g c = ([], [], passes_none c.args.size c.args.start _ _)
+returns-in_default-clause-fed g c = record { payloads = []; more = []; fed = passes_none c.args.size c.args.start _ _ }
 
 pub returns-in_default-flush-clause-fed : goal.returns-in_default-flush-clause-fed
 returns-in_default-flush-clause-fed g c = breaks c.args.size c.args.start _ _ _ _ _ c.flush.ensures.bytes c.feed_ring-fed.result c.feed_ring-fed.ensures.no_bounds c.feed_ring-fed.ensures.fed
 
-pub returns-in_default-flush-clause-only : goal.returns-in_default-flush-clause-only
-returns-in_default-flush-clause-only g c = only_device c.args.size c.args.start _
+pub returns-in_default-flush-clause-only_answer : goal.returns-in_default-flush-clause-only_answer
+returns-in_default-flush-clause-only_answer g c = only_device c.args.size c.args.start _
 
 pub returns-clause-fed : goal.returns-clause-fed
 returns-clause-fed g c = flushed c.args.size c.args.start _ _ _ _ _ c.flush.ensures.bytes c.feed_ring-fed.result c.feed_ring-fed.ensures.fed
 
-pub returns-clause-only : goal.returns-clause-only
-returns-clause-only g c = only_known c.args.size c.args.start _ _ _ _ c.feed_ring-fed.result c.feed_ring-fed.ensures.no_bounds c.feed_ring-fed.ensures.fed
+pub returns-clause-only_answer : goal.returns-clause-only_answer
+returns-clause-only_answer g c = only_known c.args.size c.args.start _ _ _ _ c.feed_ring-fed.result c.feed_ring-fed.ensures.no_bounds c.feed_ring-fed.ensures.fed
 
-pub returns-clause-told : goal.returns-clause-told
-returns-clause-told g c = tells c.args.size c.args.start _ _ _ _ c.feed_ring-fed.result c.feed_ring-fed.ensures.no_bounds c.feed_ring-fed.ensures.fed
+pub returns-clause-answer : goal.returns-clause-answer
+returns-clause-answer g c = tells c.args.size c.args.start _ _ _ _ c.feed_ring-fed.result c.feed_ring-fed.ensures.no_bounds c.feed_ring-fed.ensures.fed

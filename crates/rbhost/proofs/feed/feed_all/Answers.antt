@@ -3,10 +3,10 @@ use Rattle.std.proofs.lemmas.Result.{err_from_is_err_and}
 use Rattle.std.proofs.lemmas.List.{length_push}
 use Rattle.std.specs.Io.KnownBytes.{Appends}
 use Rattle.rb_header.specs.Span.{span}
-use Rattle.rb_header.specs.Tape.{IsItemAt, item_bytes}
-use Rattle.rb_header.specs.Tape.Item.{Event}
+use Rattle.rb_header.specs.TapeBytes.{IsItemAt, item_bytes}
+use Rattle.rb_header.specs.TapeBytes.Item.{Event}
 use Rattle.rb_history.specs.Calls.{producer_now}
-use Rattle.rbhost.specs.Fed.{FeedsOne}
+use Rattle.rbhost.specs.Feed.{FeedsOne}
 use Rattle.rbhost.specs.Input.{events_from}
 use Rattle.rbhost.proofs.Feeding.{fed_next, fed_one, passes_more, end_of-push}
 use Rattle.rbhost.proofs.feed.feed_all.Goals as goal

@@ -1,7 +1,8 @@
 use Rattle.std.proofs.Common.{◌≡◌, ◌+◌, ◌-◌, ◌*◌, ◌≤◌, ◌^◌, false, List, ℕ, [], length}
-use Rattle.rb_header.specs.Tape.{end_of}
+use Rattle.rb_header.specs.TapeBytes.{end_of}
 use Rattle.rb_history.specs.Calls.{AllTaken, producer_now}
-use Rattle.rbhost.specs.Fed.{Passes}
+use Rattle.rbhost.specs.Feed.{FeedsAll}
+use Rattle.rbhost.specs.inner.FeedRuns.{feed_run}
 use Rattle.rbhost.specs.Input.{events_from}
 use Rattle.rbhost.proofs.feed.feed_all.Given as goal
 
@@ -16,7 +17,7 @@ invariant-loop-payload g l = record {
   position : l.tape.position ≡ producer_now l.ring;
   low : l.start + 8 * l.number ≤ l.tape.position;
   high : l.tape.position ≤ 2 ^ 62;
-  passed : (payloads : List (List ℕ)) × Passes l.size l.start (g.R.Read.remaining l.fn.reader) (g.R.Read.remaining l.reader) (g.W.Write.contents l.fn.tape.writer.now) (g.W.Write.contents l.tape.writer.now) payloads [] × (l.number ≡ length payloads) × (l.tape.position ≡ end_of l.start (events_from l.start payloads));
+  passed : (payloads : List (List ℕ)) × FeedsAll (feed_run l.size l.start (g.R.Read.remaining l.fn.reader) (g.R.Read.remaining l.reader) (g.W.Write.contents l.fn.tape.writer.now) (g.W.Write.contents l.tape.writer.now)) payloads [] × (l.number ≡ length payloads) × (l.tape.position ≡ end_of l.start (events_from l.start payloads));
 }
 
 abbrev pub decreases-loop-payload : goal.decreases-loop-payload

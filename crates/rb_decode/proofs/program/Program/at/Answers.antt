@@ -4,7 +4,7 @@ use Rattle.std.specs.Option.{option_copied, MatchOption}
 use Rattle.std.specs.List.{HoldsAt}
 use Rattle.rb_insn.specs.declared.insn.Insn.{Insn}
 use Rattle.rb_decode.specs.Program.{slot_at}
-use Rattle.rb_decode.specs.Units.{is_behind_wide}
+use Rattle.rb_decode.specs.inner.WideUnits.{is_behind_wide}
 use Rattle.rb_decode.proofs.Kept.{slot_second, slot_found}
 use Rattle.rb_decode.proofs.program.Program.at.Goals as goal
 

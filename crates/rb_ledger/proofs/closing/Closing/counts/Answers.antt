@@ -1,6 +1,6 @@
 use Rattle.std.proofs.Common.{◌∙◌, ap}
 use Rattle.rb_history.specs.Counting.{counts_of}
-use Rattle.rb_history.specs.View.{Ring}
+use Rattle.rb_history.specs.RingModel.{Ring}
 use Rattle.rb_ledger.proofs.closing.Closing.counts.Goals as goal
 
 pub returns : goal.returns

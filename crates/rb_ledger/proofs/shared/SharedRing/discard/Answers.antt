@@ -1,8 +1,9 @@
 use Rattle.std.proofs.Common.{◌∙◌, sym, subst}
 use Rattle.crossbeam_queue.specs.Passes.{view}
-use Rattle.rb_ledger.specs.Own.Role.{Worker}
-use Rattle.rb_ledger.specs.Seats.{WorkerSeat, Ties, seen_in}
-use Rattle.rb_ledger.specs.Turns.{Turn, DiscardsAt}
+use Rattle.rb_ledger.specs.Roles.Role.{Worker}
+use Rattle.rb_ledger.specs.Seats.{WorkerSeat, Ties}
+use Rattle.rb_ledger.specs.inner.SeatPasses.{seen_in}
+use Rattle.rb_ledger.specs.LockedCalls.{LockedCall, DiscardsAt}
 use Rattle.rb_ledger.proofs.Seated.{book-after, discard-ties}
 use Rattle.rb_ledger.proofs.shared.SharedRing.discard.Goals as goal
 
@@ -14,4 +15,4 @@ invariant_of-me g c =
     (e.same.2 ∙ i.0, e.idle, book-after _ _ _ _ e.call, subst (λ t. Ties c.me.inside.worker t (seen_in (view c.discard_with-answer.new.pass))) (sym c.after_discard-me-inside.ensures) ties)
 
 pub returns-clause-call : goal.returns-clause-call
-returns-clause-call g c = λ _ _. subst (λ (s : WorkerSeat). Turn (Worker s.worker) s.seen (seen_in (view c.discard_with-answer.new.pass)) (DiscardsAt c.args.reservation c.args.flags c.discard_with-answer.result)) c.me.view_is c.discard_with-answer.ensures.call
+returns-clause-call g c = λ _ _. subst (λ (s : WorkerSeat). LockedCall (Worker s.worker) s.seen (seen_in (view c.discard_with-answer.new.pass)) (DiscardsAt c.args.reservation c.args.flags c.discard_with-answer.result)) c.me.view_is c.discard_with-answer.ensures.call

@@ -1,7 +1,7 @@
 use Rattle.std.proofs.Common.{◌∙◌, ap, sym, subst, arith}
-use Rattle.rb_history.specs.Legal.{Setup}
-use Rattle.rb_ledger.specs.Seats.{TakerSeat}
-use Rattle.rb_ledger.specs.Turns.{IsTakenAt}
+use Rattle.rb_history.specs.RoomRule.{Setup}
+use Rattle.rb_ledger.specs.Seats.{ConsumerSeatValue}
+use Rattle.rb_ledger.specs.LockedCalls.{IsTakenAt}
 use Rattle.rb_ledger.proofs.Seated.{book-after, take-counted, take-place, take-fits, take-setup}
 use Rattle.rb_ledger.proofs.shared.SharedRing.take.Goals as goal
 
@@ -23,4 +23,4 @@ overflow_add-me-3 g c =
 pub returns-clause-place : goal.returns-clause-place
 returns-clause-place g c =
     let me = c.me.inside in
-    subst (λ (s : TakerSeat). IsTakenAt s.position c.take_with-answer.result) c.me.view_is (take-place me.consumed me.skipped me.position _ _ c.take_with-answer.result c.take_with-answer.ensures.call c.me.invariant.3)
+    subst (λ (s : ConsumerSeatValue). IsTakenAt s.position c.take_with-answer.result) c.me.view_is (take-place me.consumed me.skipped me.position _ _ c.take_with-answer.result c.take_with-answer.ensures.call c.me.invariant.3)

@@ -1,4 +1,4 @@
-use Rattle.rb_ring.specs.Body.{setup_of, rows}
+use Rattle.rb_ring.specs.inner.RingBody.{ring_setup, stored_rows}
 use Rattle.rb_history.proofs.Row.{InRow-le}
 use Rattle.rb_history.proofs.Standing.{contents-stand, contents-sized}
 use Rattle.rb_ring.proofs.ring.RingState.facts.Goals as goal
@@ -11,8 +11,8 @@ returns-clause-stands c =
       shown = k.shown;
       producer_is = k.producer_is;
       consumer_is = k.consumer_is;
-      contents = contents-stand (setup_of a) a.history.items (rows a) a.producer a.consumer k;
-      sized = contents-sized (setup_of a) a.history.items (rows a) a.producer a.consumer k c.self.invariant.sized;
+      contents = contents-stand (ring_setup a) a.history.items (stored_rows a) a.producer a.consumer k;
+      sized = contents-sized (ring_setup a) a.history.items (stored_rows a) a.producer a.consumer k c.self.invariant.sized;
     })
 
 pub returns-clause-bounded : goal.returns-clause-bounded

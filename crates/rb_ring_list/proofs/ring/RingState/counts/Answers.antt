@@ -1,17 +1,17 @@
 use Rattle.std.proofs.Common.{◌∙◌, ap, arith}
 use Rattle.std.specs.List.{count_by}
-use Rattle.rb_history.specs.Counting.{is_grant, is_refusal, is_discarding}
-use Rattle.rb_ring_list.specs.Body.{setup_of}
+use Rattle.rb_history.specs.Counting.{is_grant_entry, is_refusal_entry, is_discard_entry}
+use Rattle.rb_ring_list.specs.inner.ListRingBody.{list_ring_setup}
 use Rattle.rb_history.proofs.Counting.{Counted, counted-split, counted-same}
 use Rattle.rb_ring_list.proofs.ring.RingState.counts.Goals as goal
 
 counted : (c : goal.After-reserved_in-busy) →
-    Counted (setup_of c.self.inside) c.self.inside.history.items c.self.inside.records.items c.self.inside.producer c.self.inside.consumer c.self.invariant.kept
+    Counted (list_ring_setup c.self.inside) c.self.inside.history.items c.self.inside.records.items c.self.inside.producer c.self.inside.consumer c.self.invariant.kept
     c.grants_in-made.result c.refusals_in-refused.result c.discards_in-discarded.result c.submitted_in-waiting.result c.reserved_in-busy.result
 counted c = record {
-  made_is = c.grants_in-made.ensures.count ∙ ap (count_by is_grant) c.deref.ensures.value;
-  refused_is = c.refusals_in-refused.ensures.count ∙ ap (count_by is_refusal) c.deref-2.ensures.value;
-  discarded_is = c.discards_in-discarded.ensures.count ∙ ap (count_by is_discarding) c.deref-3.ensures.value;
+  made_is = c.grants_in-made.ensures.count ∙ ap (count_by is_grant_entry) c.deref.ensures.value;
+  refused_is = c.refusals_in-refused.ensures.count ∙ ap (count_by is_refusal_entry) c.deref-2.ensures.value;
+  discarded_is = c.discards_in-discarded.ensures.count ∙ ap (count_by is_discard_entry) c.deref-3.ensures.value;
   waiting_is = c.submitted_in-waiting.ensures.count;
   busy_is = c.reserved_in-busy.ensures.count;
 }

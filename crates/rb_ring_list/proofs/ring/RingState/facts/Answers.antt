@@ -1,4 +1,4 @@
-use Rattle.rb_ring_list.specs.Body.{setup_of}
+use Rattle.rb_ring_list.specs.inner.ListRingBody.{list_ring_setup}
 use Rattle.rb_history.proofs.Row.{InRow-le}
 use Rattle.rb_history.proofs.Standing.{contents-stand, contents-sized}
 use Rattle.rb_ring_list.proofs.ring.RingState.facts.Goals as goal
@@ -11,8 +11,8 @@ returns-clause-stands c =
       shown = k.shown;
       producer_is = k.producer_is;
       consumer_is = k.consumer_is;
-      contents = contents-stand (setup_of a) a.history.items a.records.items a.producer a.consumer k;
-      sized = contents-sized (setup_of a) a.history.items a.records.items a.producer a.consumer k c.self.invariant.sized;
+      contents = contents-stand (list_ring_setup a) a.history.items a.records.items a.producer a.consumer k;
+      sized = contents-sized (list_ring_setup a) a.history.items a.records.items a.producer a.consumer k c.self.invariant.sized;
     })
 
 pub returns-clause-bounded : goal.returns-clause-bounded

@@ -1,15 +1,15 @@
 use Rattle.std.proofs.Common.{◌≡◌, ◌<◌, arith, [], ◌∷◌, ◌++◌, sym, ◌∙◌, ap, refl}
 use Rattle.std.proofs.lemmas.List.Elements.{All-push}
 use Rattle.rb_history.specs.declared.entries.Entry.TheVariants.{Res}
-use Rattle.rb_history.specs.declared.stored.StoredRecord.{StoredRecord}
-use Rattle.rb_history.specs.declared.stored.RecordState.TheVariants.{Reserved}
+use Rattle.rb_history.specs.declared.stored_records.StoredRecord.{StoredRecord}
+use Rattle.rb_history.specs.declared.stored_records.RecordState.TheVariants.{Reserved}
 use Rattle.rb_history.specs.History.{grants}
-use Rattle.rb_history.specs.Legal.{Fits}
-use Rattle.rb_history.specs.Stored.{IsSized}
+use Rattle.rb_history.specs.RoomRule.{HasRoomFor}
+use Rattle.rb_history.specs.StoredRecords.{IsSized}
 use Rattle.rb_history.proofs.Settling.{kept-grant, owed-push, on-ok}
 use Rattle.rb_history.proofs.Contents.{contents-push}
 use Rattle.rb_history.proofs.Tallies.{tally-grant, grants-low, serial-is}
-use Rattle.rb_ring_list.specs.Body.{setup_of}
+use Rattle.rb_ring_list.specs.inner.ListRingBody.{list_ring_setup}
 use Rattle.rb_ring_list.proofs.ring.RingState.grant.Goals as goal
 
 pub overflow_add-serial : goal.overflow_add-serial
@@ -27,7 +27,7 @@ serial_is c =
     let a = c.self.inside in
     serial-is a.serials.items a.history.items a.workers c.args.worker c.index-serial.result.now c.self.invariant.tallied (known c) c.index-serial.ensures
 
-room_is : (c : goal.After-self-3-1) → Fits (setup_of c.self.inside) c.self.inside.history.items c.args.n
+room_is : (c : goal.After-self-3-1) → HasRoomFor (list_ring_setup c.self.inside) c.self.inside.history.items c.args.n
 room_is c = rw (← c.self.view_is) at (c.has_room.ensures.test.0 c.if-not-has_room.false)
 
 newest : goal.After-self-3-1 → StoredRecord
@@ -47,7 +47,7 @@ invariant_of-self-2 c =
       limit = omega (arith, room.limit, i.kept.producer_is, c.span.ensures.value);
       space = omega (arith, room.space, i.kept.producer_is, i.kept.consumer_is, c.span.ensures.value);
       kept = rw (c.push_reserved.ensures.items, c.reserve.ensures.items, c.push_last.ensures.items, c.reserve-else-is_err.ensures.items, c.span.ensures.value)
-          (kept-grant (setup_of a) a.history.items a.records.items a.producer a.consumer c.args.worker c.index-serial.result.now c.args.n i.kept (known c) (serial_is c) room);
+          (kept-grant (list_ring_setup a) a.history.items a.records.items a.producer a.consumer c.args.worker c.index-serial.result.now c.args.n i.kept (known c) (serial_is c) room);
       sized = rw (c.push_last.ensures.items, c.reserve-else-is_err.ensures.items) (All-push IsSized a.records.items (newest c) i.sized tt);
       tallied = rw (c.push_reserved.ensures.items, c.reserve.ensures.items)
           (tally-grant a.serials.items a.history.items a.workers c.args.worker c.index-serial.result.now c.args.n a.producer (known c) (serial_is c ∙ sym (i.tallied.each c.args.worker (known c))) i.tallied);

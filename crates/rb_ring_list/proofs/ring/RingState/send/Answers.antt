@@ -1,8 +1,8 @@
 use Rattle.std.proofs.Common.{arith, length, sym, refl}
 use Rattle.std.proofs.lemmas.List.Elements.{All-set}
-use Rattle.rb_history.specs.declared.stored.RecordState.TheVariants.{Submitted}
-use Rattle.rb_ring_list.specs.Body.{setup_of}
-use Rattle.rb_history.specs.Stored.{IsSized}
+use Rattle.rb_history.specs.declared.stored_records.RecordState.TheVariants.{Submitted}
+use Rattle.rb_ring_list.specs.inner.ListRingBody.{list_ring_setup}
+use Rattle.rb_history.specs.StoredRecords.{IsSized}
 use Rattle.rb_history.proofs.Tallies.{tally-quiet}
 use Rattle.rb_history.proofs.Settling.{busy-record, kept-send, contents-send, owed-set}
 use Rattle.rb_ring_list.proofs.ring.RingState.send.Goals as goal
@@ -19,7 +19,7 @@ invariant_of-self c =
       start = i.start;
       limit = i.limit;
       space = i.space;
-      kept = rw c.push_reserved.ensures.items (kept-send (setup_of a) a.history.items a.records.items c.args.index t c.args.pos (length c.args.sheet) a.producer a.consumer b i.kept c.args.sheet);
+      kept = rw c.push_reserved.ensures.items (kept-send (list_ring_setup a) a.history.items a.records.items c.args.index t c.args.pos (length c.args.sheet) a.producer a.consumer b i.kept c.args.sheet);
       sized = All-set IsSized a.records.items c.args.index (record t { state = Submitted c.args.sheet }) (sym b.sized) i.sized;
       workers = i.workers;
       tallied = rw c.push_reserved.ensures.items (tally-quiet a.serials.items a.history.items a.workers _ (λ w. refl) i.tallied);
@@ -32,4 +32,4 @@ returns-clause-contents c =
     let a = c.self.inside in
     let b = busy-record a.records.items c.args.index c.index_mut.result.now c.args.pos (length c.args.sheet) (rw (← c.self.view_is) at c.requires) c.index_mut.ensures.value in
     rw (← c.self.view_is)
-    (contents-send (setup_of a) a.history.items a.records.items c.args.index c.index_mut.result.now c.args.pos (length c.args.sheet) a.producer a.consumer b c.self.invariant.kept c.args.sheet)
+    (contents-send (list_ring_setup a) a.history.items a.records.items c.args.index c.index_mut.result.now c.args.pos (length c.args.sheet) a.producer a.consumer b c.self.invariant.kept c.args.sheet)

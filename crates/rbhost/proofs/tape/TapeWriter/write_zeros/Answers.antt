@@ -1,6 +1,6 @@
 use Rattle.std.proofs.Common.{◌≡◌, ◌+◌, ◌-◌, ◌≤◌, ap, arith, subst, ◌∙◌}
 use Rattle.std.specs.Io.KnownBytes.{Appends}
-use Rattle.rb_header.specs.Tape.{zeros}
+use Rattle.rb_header.specs.TapeBytes.{zeros}
 use Rattle.rbhost.proofs.Sending.{zeros_sent, front_of_zeros, piece_bound, piece_whole}
 use Rattle.rbhost.proofs.tape.TapeWriter.write_zeros.Goals as goal
 

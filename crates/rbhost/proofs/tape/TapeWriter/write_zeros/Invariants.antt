@@ -1,6 +1,6 @@
 use Rattle.std.proofs.Common.{◌≡◌, ◌+◌, ◌-◌, ◌≤◌}
 use Rattle.std.specs.Io.KnownBytes.{Appends}
-use Rattle.rb_header.specs.Tape.{zeros}
+use Rattle.rb_header.specs.TapeBytes.{zeros}
 use Rattle.rbhost.proofs.tape.TapeWriter.write_zeros.Given as goal
 
 -- the zeros that are no longer left went out, and are counted

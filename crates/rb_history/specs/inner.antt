@@ -1,0 +1,2 @@
+pub mod GrantCounts
+pub mod RecordRows

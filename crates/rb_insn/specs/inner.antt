@@ -1,0 +1,2 @@
+pub mod InsnGroups
+pub mod Operands

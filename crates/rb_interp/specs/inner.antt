@@ -1,0 +1,5 @@
+pub mod ExecutedInstruction
+pub mod Reaching
+pub mod SlotTable
+pub mod NearOffsets
+pub mod PendingRequests

@@ -1,0 +1,210 @@
+//! What each kind of instruction does, but for the calls.
+
+ghost use Rattle.std.specs.Prelude.{◌≡◌, ◌≢◌, ◌<◌, ◌^◌, length};
+ghost use Rattle.byteorder.specs.Endian.{little_number};
+ghost use Rattle.rb_alu.specs.ArithmeticAndJumps.{IsArithmetic, IsConditional};
+ghost use Rattle.rb_insn.specs.Sizes.{byte_count, signed_byte_count};
+ghost use Rattle.rb_semantics.specs.ProgramStates.{pointed, register};
+ghost use Rattle.rb_semantics.specs.Instructions.{Goes, Ends, Stuck, execute_copy, execute_compute, execute_arithmetic, execute_load, signed_number, execute_store, null_test, execute_compare, execute_exit};
+ghost use Rattle.rb_interp.specs.ShownState.{state_of};
+ghost use Rattle.rb_interp.specs.inner.NearOffsets.{IsNearValue, LeavesNear};
+ghost use Rattle.rb_interp.specs.StoredMemory.{Rewrites};
+
+use crate::byte_numbers::{number_in, signed_number_in};
+use crate::cpu::Cpu;
+use crate::offsets::{behind, moved_back, moved_forward};
+use rb_alu::{jumps, value};
+use rb_cfg::next_unit;
+use rb_insn::{BinaryOp, Condition, Insn, Operand, Reg, SignedSize, Size, Width};
+use rb_lend::{Context, Lent};
+use rb_semantics::{MemoryRegion, Value};
+
+impl<C: Context, R: Lent> Cpu<C, R> {
+    /// A move of a number, a pointer or a ring.
+    #[inline(always)]
+    pub(crate) fn execute_copy(&mut self, insn: &Insn, dst: Reg, from: Value)
+        requires unit { self.old.unit < 2 ^ 31 }
+        requires meant { execute_copy insn.now dst from (state_of R.bytes_of C.shown self.old) ≢ Stuck }
+        ensures goes { execute_copy insn.now dst from (state_of R.bytes_of C.shown self.old) ≡ Goes (state_of R.bytes_of C.shown self.new) }
+        ensures memory { self.new.memory ≡ self.old.memory }
+    {
+        match from {
+            Value::Nothing => unreachable!(),
+            from => self.gives(insn, dst, from),
+        }
+    }
+
+    /// Arithmetic on two numbers.
+    #[inline(always)]
+    pub(crate) fn execute_compute(&mut self, insn: &Insn, dst: Reg, a: Value, b: Value)
+        requires unit { self.old.unit < 2 ^ 31 }
+        requires arithmetic { IsArithmetic insn.now }
+        requires meant { execute_compute insn.now dst a b (state_of R.bytes_of C.shown self.old) ≢ Stuck }
+        ensures goes { execute_compute insn.now dst a b (state_of R.bytes_of C.shown self.old) ≡ Goes (state_of R.bytes_of C.shown self.new) }
+        ensures memory { self.new.memory ≡ self.old.memory }
+    {
+        match (a, b) {
+            (Value::Number(a), Value::Number(b)) => {
+                self.gives(insn, dst, Value::Number(value(insn, a, b)));
+            }
+            _ => unreachable!(),
+        }
+    }
+
+    /// A sum or a difference that moves a pointer's offset, or arithmetic on two numbers.
+    #[inline(always)]
+    pub(crate) fn execute_arithmetic(
+        &mut self,
+        insn: &Insn,
+        width: Width,
+        op: BinaryOp,
+        dst: Reg,
+        a: Value,
+        b: Value,
+    )
+        requires unit { self.old.unit < 2 ^ 31 }
+        requires arithmetic { IsArithmetic insn.now }
+        requires meant { LeavesNear dst (execute_arithmetic width op insn.now dst a b (state_of R.bytes_of C.shown self.old)) }
+        ensures goes { execute_arithmetic width op insn.now dst a b (state_of R.bytes_of C.shown self.old) ≡ Goes (state_of R.bytes_of C.shown self.new) }
+        ensures memory { self.new.memory ≡ self.old.memory }
+    {
+        let Value::Number(b) = b else { unreachable!() };
+        if let Value::Number(a) = a {
+            self.gives_number(insn, dst, value(insn, a, b));
+            return;
+        }
+        match (width, op) {
+            (Width::W64, BinaryOp::Add) => {
+                let Value::Pointer(place, offset) = a else {
+                    unreachable!()
+                };
+                let to = moved_forward(offset, b);
+                self.gives(insn, dst, Value::Pointer(place, to));
+            }
+            (Width::W64, BinaryOp::Sub) => {
+                let Value::Pointer(place, offset) = a else {
+                    unreachable!()
+                };
+                let to = moved_back(offset, b);
+                self.gives(insn, dst, Value::Pointer(place, to));
+            }
+            _ => unreachable!(),
+        }
+    }
+
+    /// A load that zero-extends.
+    pub(crate) fn execute_load(
+        &mut self,
+        insn: &Insn,
+        size: Size,
+        dst: Reg,
+        base: Value,
+        offset: i16,
+    )
+        requires unit { self.old.unit < 2 ^ 31 }
+        requires near { IsNearValue base }
+        requires meant { let s = state_of R.bytes_of C.shown self.old in execute_load insn.now dst (little_number (byte_count size)) (pointed s.memory base offset (byte_count size)) s ≢ Stuck }
+        ensures goes { let s = state_of R.bytes_of C.shown self.old in execute_load insn.now dst (little_number (byte_count size)) (pointed s.memory base offset (byte_count size)) s ≡ Goes (state_of R.bytes_of C.shown self.new) }
+        ensures memory { self.new.memory ≡ self.old.memory }
+    {
+        match base {
+            Value::Pointer(place, start) => {
+                let at = behind(start, offset);
+                let number = number_in(size, self.memory.read(place, at, size.bytes()));
+                self.gives(insn, dst, Value::Number(number));
+            }
+            _ => unreachable!(),
+        }
+    }
+
+    /// A load that sign-extends.
+    pub(crate) fn execute_load_signed(
+        &mut self,
+        insn: &Insn,
+        size: SignedSize,
+        dst: Reg,
+        base: Value,
+        offset: i16,
+    )
+        requires unit { self.old.unit < 2 ^ 31 }
+        requires near { IsNearValue base }
+        requires meant { let s = state_of R.bytes_of C.shown self.old in execute_load insn.now dst (signed_number (signed_byte_count size)) (pointed s.memory base offset (signed_byte_count size)) s ≢ Stuck }
+        ensures goes { let s = state_of R.bytes_of C.shown self.old in execute_load insn.now dst (signed_number (signed_byte_count size)) (pointed s.memory base offset (signed_byte_count size)) s ≡ Goes (state_of R.bytes_of C.shown self.new) }
+        ensures memory { self.new.memory ≡ self.old.memory }
+    {
+        match base {
+            Value::Pointer(place, start) => {
+                let at = behind(start, offset);
+                let bytes = self.memory.read(place, at, size.bytes());
+                let number = signed_number_in(size, bytes);
+                self.gives(insn, dst, Value::Number(number));
+            }
+            _ => unreachable!(),
+        }
+    }
+
+    /// A store.
+    pub(crate) fn store(&mut self, insn: &Insn, size: Size, base: Value, offset: i16, from: Value)
+        requires unit { self.old.unit < 2 ^ 31 }
+        requires near { IsNearValue base }
+        requires stack { length self.old.memory.stack ≡ 512 }
+        requires meant { execute_store insn.now base offset (byte_count size) from (state_of R.bytes_of C.shown self.old) ≢ Stuck }
+        ensures goes { execute_store insn.now base offset (byte_count size) from (state_of R.bytes_of C.shown self.old) ≡ Goes (state_of R.bytes_of C.shown self.new) }
+        ensures same { Rewrites R.with_bytes self.old.memory.records self.new.memory.records }
+    {
+        match (base, from) {
+            (Value::Pointer(place, start), Value::Number(number)) => {
+                let Some(next) = next_unit(self.unit, insn) else {
+                    unreachable!()
+                };
+                let at = behind(start, offset);
+                self.memory.store(place, at, size, number);
+                self.unit = next;
+            }
+            _ => unreachable!(),
+        }
+    }
+
+    /// A conditional jump on two numbers, or a test of a pointer to a record against null.
+    #[inline(always)]
+    pub(crate) fn execute_compare(
+        &mut self,
+        insn: &Insn,
+        width: Width,
+        condition: Condition,
+        operand: Operand,
+        a: Value,
+        b: Value,
+    )
+        requires unit { self.old.unit < 2 ^ 31 }
+        requires conditional { IsConditional insn.now }
+        requires meant { execute_compare insn.now (null_test width condition operand) a b (state_of R.bytes_of C.shown self.old) ≢ Stuck }
+        ensures goes { execute_compare insn.now (null_test width condition operand) a b (state_of R.bytes_of C.shown self.old) ≡ Goes (state_of R.bytes_of C.shown self.new) }
+        ensures memory { self.new.memory ≡ self.old.memory }
+    {
+        match (a, b) {
+            (Value::Pointer(place, _), _) => match place {
+                MemoryRegion::Record(_) => match condition {
+                    Condition::Equal => self.along(insn, false),
+                    Condition::NotEqual => self.along(insn, true),
+                    _ => unreachable!(),
+                },
+                MemoryRegion::Stack => unreachable!(),
+                MemoryRegion::Context => unreachable!(),
+            },
+            (Value::Number(a), Value::Number(b)) => self.along(insn, jumps(insn, a, b)),
+            _ => unreachable!(),
+        }
+    }
+
+    /// The result of the program.
+    pub(crate) fn result(&self) -> u64
+        requires { execute_exit (register (state_of R.bytes_of C.shown self.now) 0) ≢ Stuck }
+        ensures { execute_exit (register (state_of R.bytes_of C.shown self.now) 0) ≡ Ends result }
+    {
+        match self.register(Reg::R0) {
+            Value::Number(number) => number,
+            _ => unreachable!(),
+        }
+    }
+}

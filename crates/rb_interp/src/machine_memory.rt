@@ -1,0 +1,123 @@
+//! The memory that a program reaches: its parts, and the names of the records in them.
+
+ghost use Rattle.std.specs.Prelude.{◌≡◌, ◌≢◌, ℕ, ◌<◌, ◌≤◌, [], ◌∷◌, ◌++◌, None, Some, replicate, length};
+ghost use Rattle.byteorder.specs.Endian.{little_bytes};
+ghost use Rattle.rb_insn.specs.Sizes.{byte_count};
+ghost use Rattle.rb_semantics.specs.ProgramMemory.{byte_of, read, write};
+ghost use Rattle.rb_interp.specs.StoredMemory.{StoredMemory, program_memory_of, held_record, others, Rewrites};
+ghost use Rattle.rb_interp.specs.inner.NearOffsets.{IsNear};
+ghost use Rattle.rb_interp.specs.inner.SlotTable.{part_named};
+
+use crate::byte_numbers::put_number;
+use crate::slot_table::{SlotEntry, entry_of, without};
+use arrayvec::ArrayVec;
+use rb_insn::Size;
+use rb_lend::{Context, Lent, Part, Parts};
+use rb_semantics::MemoryRegion;
+use std::marker::Model;
+
+/// The memory that a program reaches. Contracts see the bytes of the stack, the context, and the records that are held, each with
+/// its name, in the order in which they were reserved.
+#[derive(Drop)]
+pub(crate) struct MachineMemory<C, R> {
+    parts: Parts<C, R>,
+    entries: ArrayVec<SlotEntry, 4>,
+}
+
+impl<C, R> Model for MachineMemory<C, R> {
+    ghost use Rattle.rb_interp.specs.StoredMemory.{StoredMemory};
+    ghost use Rattle.rb_interp.specs.inner.SlotTable.{named, IsTable};
+
+    ghost Value = { StoredMemory C R };
+
+    ghost view = { λ m. record { stack = m.parts.stack; context = m.parts.context; records = named m.entries.items m.parts.records } };
+
+    ghost invariant = { λ m. IsTable m.entries.items m.parts.records };
+}
+
+impl<C, R> MachineMemory<C, R> {
+    /// A stack of zero bytes, a context, and no records.
+    pub(crate) fn new(context: C) -> MachineMemory<C, R>
+        ensures { result ≡ record { stack = replicate 512 0; context = context; records = [] } }
+    {
+        MachineMemory {
+            parts: Parts::new(context),
+            entries: ArrayVec::new(),
+        }
+    }
+
+    /// Holds one more record.
+    pub(crate) fn hold(&mut self, id: u32, owned: R)
+    where
+        R: Drop,
+        requires few { length self.old.records < 4 }
+        requires fresh { held_record id self.old.records ≡ None }
+        ensures { self.new ≡ record self.old { records = self.old.records ++ (id, owned) ∷ [] } }
+    {
+        match self.parts.hold(owned) {
+            Ok(slot) => self.entries.push(SlotEntry { id, slot }),
+            Err(_) => unreachable!(),
+        }
+    }
+
+    /// Hands out a record.
+    pub(crate) fn give(&mut self, id: u32) -> R
+        requires { held_record id self.old.records ≢ None }
+        ensures given { held_record id self.old.records ≡ Some result }
+        ensures rest { self.new ≡ record self.old { records = others id self.old.records } }
+    {
+        let Some(entry) = entry_of(self.entries.as_slice(), id) else {
+            unreachable!()
+        };
+        let Some(owned) = self.parts.give(entry.slot) else {
+            unreachable!()
+        };
+        self.entries = without(&self.entries, id);
+        owned
+    }
+}
+
+#[inline(always)]
+/// The part that a place names, and the byte of it that an offset names, counted from the first.
+fn located(entries: &[SlotEntry], place: MemoryRegion, offset: i64) -> (Part, usize)
+    requires near { IsNear offset }
+    requires held { part_named entries.now place ≢ None }
+    requires counted { byte_of place offset ≢ None }
+    ensures part { part_named entries.now place ≡ Some result.0 }
+    ensures byte { byte_of place offset ≡ Some result.1 }
+{
+    match place {
+        MemoryRegion::Stack => (Part::Stack, (offset + 512) as usize),
+        MemoryRegion::Context => (Part::Ctx, offset as usize),
+        MemoryRegion::Record(id) => match entry_of(entries, id) {
+            Some(entry) => (Part::Record(entry.slot), offset as usize),
+            None => unreachable!(),
+        },
+    }
+}
+
+impl<C: Context, R: Lent> MachineMemory<C, R> {
+    /// Lends `len` bytes from an offset of a part on for reading.
+    pub(crate) fn read(&self, place: MemoryRegion, offset: i64, len: usize) -> &[u8]
+        requires near { IsNear offset }
+        requires inside { read (program_memory_of R.bytes_of C.shown self.now) place offset len ≢ None }
+        ensures bytes { read (program_memory_of R.bytes_of C.shown self.now) place offset len ≡ Some result.now }
+        ensures length { length result.now ≡ len }
+    {
+        let (part, at) = located(self.entries.as_slice(), place, offset);
+        self.parts.range(part, at, len)
+    }
+
+    /// Writes the low bytes of a number from an offset of a part on, the lowest first.
+    pub(crate) fn store(&mut self, place: MemoryRegion, offset: i64, size: Size, number: u64)
+        requires near { IsNear offset }
+        requires stack { length self.old.stack ≡ 512 }
+        requires inside { write (program_memory_of R.bytes_of C.shown self.old) place offset (little_bytes (byte_count size) number) ≢ None }
+        ensures written { write (program_memory_of R.bytes_of C.shown self.old) place offset (little_bytes (byte_count size) number) ≡ Some (program_memory_of R.bytes_of C.shown self.new) }
+        ensures same { Rewrites R.with_bytes self.old.records self.new.records }
+    {
+        let (part, at) = located(self.entries.as_slice(), place, offset);
+        let bytes = self.parts.range_mut(part, at, size.bytes());
+        put_number(size, bytes, number);
+    }
+}

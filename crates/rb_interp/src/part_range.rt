@@ -1,0 +1,15 @@
+//! Some bytes of a part.
+
+ghost use Rattle.std.specs.Prelude.{◌≡◌, true};
+ghost use Rattle.rb_refs.specs.AbstractArithmetic.{is_near};
+
+use rb_semantics::MemoryRegion;
+
+/// Some bytes of a part.
+#[derive(Clone, Copy, Debug)]
+pub(crate) struct Range {
+    pub(crate) place: MemoryRegion,
+    pub(crate) offset: i64,
+    pub(crate) len: usize,
+    ghost near: { is_near offset ≡ true },
+}

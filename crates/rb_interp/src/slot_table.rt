@@ -1,0 +1,48 @@
+//! Which record is in which slot.
+
+ghost use Rattle.std.specs.Prelude.{◌≡◌, find, filter};
+ghost use Rattle.rb_interp.specs.inner.SlotTable.{entry_has_id, other_entry_than};
+
+use arrayvec::ArrayVec;
+use rb_lend::Slot;
+
+/// A record that is held: its name, which is the unit of the CALL that reserved it, and its slot.
+#[derive(Clone, Copy, Debug)]
+pub struct SlotEntry {
+    pub id: u32,
+    pub slot: Slot,
+}
+
+impl Default for SlotEntry {
+    fn default() -> SlotEntry {
+        SlotEntry {
+            id: 0,
+            slot: Slot::First,
+        }
+    }
+}
+
+/// The entry of a name, where it is there.
+pub(crate) fn entry_of(entries: &[SlotEntry], id: u32) -> Option<SlotEntry>
+    ensures { result ≡ find (entry_has_id id) entries.now }
+{
+    for entry in entries {
+        if entry.id == id {
+            return Some(*entry);
+        }
+    }
+    None
+}
+
+/// The entries of other names, in their order.
+pub(crate) fn without(entries: &ArrayVec<SlotEntry, 4>, id: u32) -> ArrayVec<SlotEntry, 4>
+    ensures { result.items ≡ filter (other_entry_than id) entries.now.items }
+{
+    let mut rest = ArrayVec::new();
+    for entry in entries.as_slice() {
+        if entry.id != id {
+            rest.push(*entry);
+        }
+    }
+    rest
+}

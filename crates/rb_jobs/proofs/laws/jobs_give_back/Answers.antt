@@ -1,5 +1,0 @@
-use Rattle.rb_jobs.proofs.Returned.{jobs_balance}
-use Rattle.rb_jobs.proofs.laws.jobs_give_back.Goals as goal
-
-pub returns : goal.returns
-returns c = jobs_balance

@@ -1,0 +1,50 @@
+//! Runs of jobs.
+
+ghost use Rattle.std.specs.Prelude.{◌≡◌, ◌≤◌, length, IfOk, IfErr};
+ghost use Rattle.rb_seats.specs.SeatHelpers.{AtRings};
+ghost use Rattle.rb_jobs.specs.Jobs.{JobRan, JobRanCounted, task_of};
+
+use crate::gated_helpers::GatedHelpers;
+use crate::job::{Gate, Job, JobAnswer};
+use rb_interp::run;
+use rb_ledger::{Seat, SharedRing};
+use rb_seats::{NoStock, SeatHelpers};
+use std::alloc::{AllocError, Global};
+use std::sync::Wait;
+
+/// Runs a job to its end over the worker's seats, one at each of the rings and in their order, and hands the seats back. Before each
+/// helper call the gate is called, with the number of calls that the worker has finished, which is then raised.
+///
+/// `AllocError` is returned where there is no memory for the trace of the calls: nothing ran. It may wait for other threads at each call,
+/// and takes as many steps as the program has units at most.
+pub fn run_job<R: Wait, G: Gate>(
+    rt: &R,
+    alloc: Global,
+    rings: &[SharedRing],
+    seats: Vec<Seat>,
+    job: &Job<'_>,
+    gate: &G,
+    calls: &mut u64,
+) -> (Result<JobAnswer, AllocError>, Vec<Seat>)
+    requires rings { job.now.program.now.rings ≤ length rings.now }
+    requires seats { AtRings rings.now seats.items }
+    ensures ran { IfOk result.0 (λ answer. JobRan (task_of job.now) answer seats.items result.1.items) }
+    ensures counted { IfOk result.0 (λ answer. JobRanCounted (task_of job.now) answer seats.items result.1.items calls.old calls.new) }
+    ensures memory { IfErr result.0 (λ _. result.1 ≡ seats) }
+    ensures nothing_ran { IfErr result.0 (λ _. calls.new ≡ calls.old) }
+    ensures seats { AtRings rings.now result.1.items }
+{
+    let room = job.program.calls();
+    let finished = *calls;
+    match SeatHelpers::new(rt, alloc, rings, seats, room, &NoStock) {
+        Ok(helpers) => {
+            let mut gated = GatedHelpers::new(helpers, job.worker, gate, finished);
+            let result = run(job.program, job.ctx, &mut gated);
+            *calls = gated.calls();
+            let helpers = gated.into_inner();
+            let unlogged = helpers.unlogged();
+            (Ok(JobAnswer { result, unlogged }), helpers.into_seats())
+        }
+        Err((refused, seats)) => (Err(refused), seats),
+    }
+}

@@ -1,5 +1,0 @@
-use Rattle.rb_ledger.proofs.Sums.{once-closed}
-use Rattle.rb_ledger.proofs.numbers.numbers_agree.Goals as goal
-
-pub returns : goal.returns
-returns c = record { once_closed = once-closed }

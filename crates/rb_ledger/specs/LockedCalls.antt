@@ -1,0 +1,131 @@
+-- What each call on a shared ring does and answers, at one point of the ring's history (own).
+use Rattle.std.specs.Prelude.{◌≡◌, ◌≢◌, ℕ, ◌+◌, ◌<◌, ◌≤◌, ◌↔◌, List, length, replicate, Result, Ok, Err}
+use Rattle.std.specs.FinMap.{insert}
+use Rattle.rb_header.specs.Span.{span}
+use Rattle.rb_history.specs.declared.answers.Notice.{Notice}
+use Rattle.rb_history.specs.declared.answers.Notice.TheVariants.{Due}
+use Rattle.rb_history.specs.declared.answers.ReserveFault.{ReserveFault}
+use Rattle.rb_history.specs.declared.answers.ReserveFault.TheVariants.{Full, Memory, Flags, Foreign}
+use Rattle.rb_history.specs.declared.answers.Stray.{Stray}
+use Rattle.rb_history.specs.declared.answers.Taken.{Taken}
+use Rattle.rb_history.specs.declared.answers.Taken.TheVariants.{Event, Skipped, BusyFront, Empty}
+use Rattle.rb_history.specs.ReservationModel.{Granted}
+use Rattle.rb_history.specs.NoticesAndQueries.{IsDue, query_answer}
+use Rattle.rb_history.specs.Counting.{counts_of}
+use Rattle.rb_history.specs.RingModel.{Ring, Contents}
+use Rattle.rb_history.specs.Calls.{Grants, Refuses, Outputs, Submits, Discards, Strays, Takes, HasBusyFront, AllTaken, producer_now, consumer_now}
+use Rattle.rb_ledger.specs.declared.audit.Audit.{Audit}
+use Rattle.rb_ledger.specs.declared.tally.Tally.{Tally}
+use Rattle.rb_ledger.specs.Roles.{Role, Book, book_of, ExtendsSeen}
+use Rattle.rb_ledger.specs.Ledger.{IsRing}
+use Rattle.rb_ledger.specs.WorkerCounts.{tally_of}
+
+-- One call under the lock, by a role that had seen `before` and then has seen `after`. When the lock was taken the ring was at some point:
+-- its history began with `before`, and what others had added since has no entry of the role's own. There the ring of one thread made the
+-- call, which left the ring as the role then has seen it.
+pub record LockedCall (role : Role) (before after : Book) (call : Ring → Ring → Type 0) : Type 0 where
+  pub point : Ring
+  pub left : Ring
+  pub goes_on : ExtendsSeen role before (book_of point)
+  pub was_ring : IsRing point
+  pub called : call point left
+  pub is_ring : IsRing left
+  pub seen : after ≡ book_of left
+
+-- ---- the calls, as their worker, arguments and answer say
+
+abbrev pub Reserves : ℕ → ℕ → Result Granted (ReserveFault × List ℕ) → Ring → Ring → Type 0
+Reserves w n (Ok r) old new = Grants old new w n r.pos r.serial × (r.worker ≡ w) × (r.bytes ≡ replicate n 0)
+Reserves w n (Err e) old new = Refuses old new w n e.0 × (e.0 ≢ Flags)
+
+abbrev pub SubmitsAt : Granted → ℕ → Result Notice Stray → Ring → Ring → Type 0
+SubmitsAt r flags (Ok notice) old new = Submits old new r × ((notice ≡ Due) ↔ IsDue (consumer_now old) r.pos flags)
+SubmitsAt r flags (Err s) old new = Strays old new r
+
+abbrev pub DiscardsAt : Granted → ℕ → Result Notice Stray → Ring → Ring → Type 0
+DiscardsAt r flags (Ok notice) old new = Discards old new r × ((notice ≡ Due) ↔ IsDue (consumer_now old) r.pos flags)
+DiscardsAt r flags (Err s) old new = Strays old new r
+
+abbrev pub OutputsAt : ℕ → List ℕ → ℕ → Result Notice (ReserveFault × List ℕ) → Ring → Ring → Type 0
+OutputsAt w bytes flags (Ok notice) old new = Outputs old new w bytes × ((notice ≡ Due) ↔ IsDue (consumer_now old) (producer_now old) flags) × (flags ≤ 3)
+OutputsAt w bytes flags (Err e) old new = Refuses old new w (length bytes) e.0 × ((e.0 ≡ Flags) ↔ (3 < flags))
+
+abbrev pub TakesAt : Taken → Ring → Ring → Type 0
+TakesAt t old new = Takes old new t × ((t ≡ BusyFront) ↔ HasBusyFront old) × ((t ≡ Empty) ↔ AllTaken old)
+
+abbrev pub Queries : ℕ → ℕ → Ring → Ring → Type 0
+Queries what answer old new = (new ≡ old) × (answer ≡ query_answer old.setup old.history what)
+
+-- the positions, the counts, and the numbers of the worker's entries
+pub record Audits (w : ℕ) (a : Audit) (old new : Ring) : Type 0 where
+  pub producer_is : a.producer ≡ producer_now old
+  pub consumer_is : a.consumer ≡ consumer_now old
+  pub counts_are : a.counts ≡ counts_of old.history
+  pub own_is : a.own ≡ tally_of w old.history
+  pub same : new ≡ old
+
+-- the answer is this refusal
+abbrev pub IsRefusedAs : {T : Type 0} → ReserveFault → Result T (ReserveFault × List ℕ) → Type 0
+IsRefusedAs fault (Ok _) = ⊥
+IsRefusedAs fault (Err e) = e.0 ≡ fault
+
+-- ---- what an answer adds to a seat's numbers and bytes
+
+abbrev pub refused_by : Tally → ReserveFault → Tally
+refused_by t Full = record t { refused = t.refused + 1 }
+refused_by t Memory = t
+refused_by t Flags = t
+refused_by t Foreign = t
+
+abbrev pub reserved_by : Tally → Result Granted (ReserveFault × List ℕ) → Tally
+reserved_by t (Ok r) = record t { made = t.made + 1 }
+reserved_by t (Err e) = refused_by t e.0
+
+abbrev pub output_by : Tally → Result Notice (ReserveFault × List ℕ) → Tally
+output_by t (Ok _) = record t { made = t.made + 1; submitted = t.submitted + 1 }
+output_by t (Err e) = refused_by t e.0
+
+abbrev pub submitted_by : Tally → Result Notice Stray → Tally
+submitted_by t (Ok _) = record t { submitted = t.submitted + 1 }
+submitted_by t (Err s) = t
+
+abbrev pub discarded_by : Tally → Result Notice Stray → Tally
+discarded_by t (Ok _) = record t { discarded = t.discarded + 1 }
+discarded_by t (Err s) = t
+
+-- a submit adds its record's bytes to what was sent
+abbrev pub sent_by_submit : Contents → Granted → Result Notice Stray → Contents
+sent_by_submit sent r (Ok _) = insert sent r.pos r.bytes
+sent_by_submit sent r (Err s) = sent
+
+-- an output adds its bytes, at the position where its record stands
+abbrev pub sent_by_output : Contents → ℕ → List ℕ → Result Notice (ReserveFault × List ℕ) → Contents
+sent_by_output sent p bytes (Ok _) = insert sent p bytes
+sent_by_output sent p bytes (Err e) = sent
+
+-- an event adds its bytes to what was got
+abbrev pub got_by : Contents → Taken → Contents
+got_by got (Event p w k bytes) = insert got p bytes
+got_by got _ = got
+
+abbrev pub events_in : Taken → ℕ
+events_in (Event p w k bytes) = 1
+events_in _ = 0
+
+abbrev pub skips_in : Taken → ℕ
+skips_in (Skipped p n) = 1
+skips_in _ = 0
+
+-- how far a take moves the consumer position
+abbrev pub span_in : Taken → ℕ
+span_in (Event p w k bytes) = span (length bytes)
+span_in (Skipped p n) = span n
+span_in BusyFront = 0
+span_in Empty = 0
+
+-- what was taken stood at this position
+abbrev pub IsTakenAt : ℕ → Taken → Type 0
+IsTakenAt at (Event p w k bytes) = p ≡ at
+IsTakenAt at (Skipped p n) = p ≡ at
+IsTakenAt at BusyFront = Unit {0}
+IsTakenAt at Empty = Unit {0}

@@ -1,0 +1,51 @@
+-- Whose the entries of a history are, and how a history goes on from one that was seen (own).
+use Rattle.std.specs.Prelude.{◌≡◌, ℕ, ◌==◌, ◌&&◌, Bool, true, false, List, [], ◌∷◌, ◌++◌}
+use Rattle.std.specs.List.{list_any}
+use Rattle.rb_history.specs.declared.entries.Entry.{Entry}
+use Rattle.rb_history.specs.declared.entries.Entry.TheVariants.{Res, Full, Sub, Dis, Take}
+use Rattle.rb_history.specs.RoomRule.{Setup}
+use Rattle.rb_history.specs.RingModel.{Ring}
+
+-- who adds entries to a ring's history
+pub data Role : Type 0 where
+  Consumer : Role
+  Worker : ℕ → Role
+
+abbrev pub is_grant_to : ℕ → ℕ → Entry → Bool
+is_grant_to w p (Res v k n q) = (v == w) && (q == p)
+is_grant_to w p _ = false
+
+-- the record at p is one that was granted to worker w
+abbrev pub is_record_of : ℕ → List Entry → ℕ → Bool
+is_record_of w h p = list_any (is_grant_to w p) h
+
+-- the entry is the role's own, where h grants the record that it names: a worker's are its grants and refusals and the ends of its
+-- records, the consumer's are the takes
+abbrev pub is_own : Role → List Entry → Entry → Bool
+is_own Consumer h (Take p) = true
+is_own Consumer h _ = false
+is_own (Worker w) h (Res v k n p) = v == w
+is_own (Worker w) h (Full v n) = v == w
+is_own (Worker w) h (Sub p) = is_record_of w h p
+is_own (Worker w) h (Dis p) = is_record_of w h p
+is_own (Worker w) h (Take p) = false
+
+-- none of the entries that stand behind `before` is the role's own
+abbrev pub NoneOwn : Role → List Entry → List Entry → Type 0
+NoneOwn role before [] = Unit {0}
+NoneOwn role before (e ∷ es) = (is_own role before e ≡ false) × NoneOwn role (before ++ e ∷ []) es
+
+-- a ring's setup and its history, without what lies in it
+pub record Book : Type 0 where
+  pub setup : Setup
+  pub history : List Entry
+
+abbrev pub book_of : Ring → Book
+book_of r = record { setup = r.setup; history = r.history }
+
+-- the book `new` begins with what the role had seen, and has no entry of the role's own behind that
+pub record ExtendsSeen (role : Role) (seen new : Book) : Type 0 where
+  pub setup_same : new.setup ≡ seen.setup
+  pub behind : List Entry
+  pub history_is : new.history ≡ seen.history ++ behind
+  pub none_own : NoneOwn role seen.history behind

@@ -1,0 +1,19 @@
+-- Bytes by position: what a worker sent, what the consumer got, and what was sent in all (own).
+use Rattle.std.specs.Prelude.{◌≡◌, ℕ, true, List, Some}
+use Rattle.std.specs.FinMap.{get}
+use Rattle.rb_history.specs.declared.entries.Entry.{Entry}
+use Rattle.rb_history.specs.History.{is_submitted_at}
+use Rattle.rb_history.specs.RingModel.{Contents}
+use Rattle.rb_ledger.specs.Roles.{is_record_of}
+
+-- what stands in the one stands in the other
+abbrev pub IsWithin : Contents → Contents → Type 0
+IsWithin some all = (p : ℕ) (bytes : List ℕ) → get some p ≡ Some bytes → get all p ≡ Some bytes
+
+-- only records that were submitted have bytes there
+abbrev pub AreSubmitted : List Entry → Contents → Type 0
+AreSubmitted h all = (p : ℕ) (bytes : List ℕ) → get all p ≡ Some bytes → is_submitted_at h p ≡ true
+
+-- what all has of the worker's records is what the worker sent
+abbrev pub IsAllSentBy : ℕ → List Entry → Contents → Contents → Type 0
+IsAllSentBy w h all sent = (p : ℕ) (bytes : List ℕ) → get all p ≡ Some bytes → is_record_of w h p ≡ true → get sent p ≡ Some bytes

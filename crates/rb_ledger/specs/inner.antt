@@ -1,0 +1,6 @@
+pub mod AddedBytes
+pub mod LentState
+pub mod LockSteps
+pub mod SeatPasses
+pub mod SeatRoles
+pub mod TallySteps

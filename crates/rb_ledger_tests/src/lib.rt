@@ -1,0 +1,15 @@
+//! Tests of rb_ledger's public calls: worked rows, each through seats, and threads that share a ring.
+#![tactic(auto)]
+
+#[cfg(test)]
+mod closing;
+#[cfg(test)]
+mod example;
+#[cfg(test)]
+mod rows;
+#[cfg(test)]
+mod threads;
+#[cfg(test)]
+mod wait_backoff;
+#[cfg(test)]
+mod worker_seats;

@@ -1,0 +1,185 @@
+//! Real threads: four producers and a consumer. All loops end once the records are there.
+
+ghost use Rattle.std.specs.Prelude.{◌≡◌, ◌<◌, ◌^◌, ℕ, All, IfOk};
+ghost use Rattle.rb_ledger.specs.Seats.{IsSameSeat, IsSameConsumerSeat};
+
+use rb_history::Taken;
+use rb_ledger::{ConsumerSeat, Seat, SharedRing, open};
+use rb_lend::{Lent, Sheet};
+use std::alloc::Global;
+use std::process::Abort;
+use std::sync::Wait;
+use std::test::Fail;
+use std::thread;
+use std::thread::{Threads, join_mut};
+
+const WORKERS: u32 = 4;
+
+const RECORDS: u32 = 10_000;
+
+// What a consumer adds up: for each worker the events and the sum of their first bytes, and how often a serial was not the next.
+#[derive(Drop)]
+struct Sums {
+    events: [u64; 4],
+    bytes: [u64; 4],
+    out_of_order: u64,
+}
+
+fn sheet_with<R: Wait>(rt: &R, alloc: Global, byte: u8) -> Sheet {
+    for _ in rt.forever() {
+        if let Ok(mut sheet) = Sheet::new(alloc, 8) {
+            sheet.bytes_mut().fill(byte);
+            return sheet;
+        }
+    }
+    unreachable!()
+}
+
+// Outputs one record, however often it finds no room.
+fn put<R: Wait>(rt: &R, alloc: Global, ring: &SharedRing, seat: &mut Seat, byte: u8)
+    requires { seat.old.ring ≡ ring.now.ring }
+    ensures { IsSameSeat seat.old seat.new }
+{
+    for _ in rt.forever() {
+        let sheet = sheet_with(rt, alloc, byte);
+        if ring.output(rt, seat, sheet, 0).is_ok() {
+            return;
+        }
+        thread::yield_now();
+    }
+    unreachable!()
+}
+
+fn produce<R: Wait>(rt: &R, alloc: Global, ring: &SharedRing, seat: &mut Seat)
+    requires { seat.old.ring ≡ ring.now.ring }
+    ensures { IsSameSeat seat.old seat.new }
+{
+    for k in 0..RECORDS {
+        put(rt, alloc, ring, seat, (k % 256) as u8);
+    }
+}
+
+fn add(sums: &mut Sums, worker: u32, serial: u64, byte: u8) {
+    let w = (worker % WORKERS) as usize;
+    if serial != sums.events[w] {
+        sums.out_of_order = sums.out_of_order.saturating_add(1);
+    }
+    sums.events[w] = sums.events[w].saturating_add(1);
+    sums.bytes[w] = sums.bytes[w].saturating_add(u64::from(byte));
+}
+
+fn consume<R: Wait>(rt: &R, ring: &SharedRing, consumer: &mut ConsumerSeat, sums: &mut Sums)
+    requires { consumer.old.ring ≡ ring.now.ring }
+    ensures { IsSameConsumerSeat consumer.old consumer.new }
+{
+    for _ in rt.forever() {
+        match ring.take(rt, consumer) {
+            Ok(Taken::Event(_, worker, serial, sheet)) => {
+                add(
+                    sums,
+                    worker,
+                    serial,
+                    sheet.bytes().first().copied().unwrap_or(0),
+                );
+            }
+            _ => thread::yield_now(),
+        }
+        if consumer.consumed() >= u64::from(WORKERS * RECORDS) {
+            return;
+        }
+    }
+}
+
+// Each producer in a thread of its own.
+fn produce_all<R: Threads + Wait + Sync>(
+    rt: &R,
+    alloc: Global,
+    ring: &SharedRing,
+    seats: &mut [Seat],
+)
+    requires { All (λ s. s.ring ≡ ring.now.ring) seats.old }
+    ensures { All (λ s. s.ring ≡ ring.now.ring) seats.new }
+{
+    let work = move |_: usize, seat: &mut Seat|
+        requires { seat.now.ring ≡ ring.now.ring }
+        ensures { seat.exit.now.ring ≡ ring.entry.now.ring }
+    { produce(rt, alloc, ring, seat) };
+    thread::for_each_mut(rt, seats, 4, &work);
+}
+
+// The producers and the consumer, each in a thread of its own, to the last record.
+fn run<R: Threads + Wait + Sync>(
+    rt: &R,
+    alloc: Global,
+    ring: &SharedRing,
+    seats: &mut [Seat],
+    consumer: &mut ConsumerSeat,
+    sums: &mut Sums,
+)
+    requires seats { All (λ s. s.ring ≡ ring.now.ring) seats.old }
+    requires consumer { consumer.old.ring ≡ ring.now.ring }
+    ensures seats { All (λ s. s.ring ≡ ring.now.ring) seats.new }
+    ensures consumer { IsSameConsumerSeat consumer.old consumer.new }
+{
+    join_mut(
+        rt,
+        &mut ||
+            requires { consumer.now.ring ≡ ring.now.ring }
+            ensures { IsSameConsumerSeat consumer.entry.now consumer.exit.now }
+        { consume(rt, ring, consumer, sums) },
+        &mut ||
+            requires { All (λ s. s.ring ≡ ring.now.ring) seats.now }
+            ensures { All (λ s. s.ring ≡ ring.entry.now.ring) seats.exit.now }
+        { produce_all(rt, alloc, ring, seats) },
+    );
+}
+
+fn syncs<T: Sync>(_x: &T) -> bool {
+    true
+}
+
+fn sends<T: Send>(_x: &T) -> bool {
+    true
+}
+
+#[test]
+fn four_producers_and_a_consumer(rt: HostRuntime) -> Result<(), Fail> {
+    let alloc = rt.alloc();
+    let Ok((ring, mut seats, mut consumer)) = open(&rt, alloc, 3, 4096, 0, 4) else {
+        return Err(Fail::from("no ring"));
+    };
+    assert!(rt; syncs(&ring) && sends(&seats) && sends(&consumer));
+    let mut sums = Sums {
+        events: [0; 4],
+        bytes: [0; 4],
+        out_of_order: 0,
+    };
+    run(
+        &rt,
+        alloc,
+        &ring,
+        seats.as_mut_slice(),
+        &mut consumer,
+        &mut sums,
+    );
+    assert_eq!(rt; sums.events, [10_000; 4]);
+    assert_eq!(rt; sums.bytes, [1_273_080; 4]);
+    assert_eq!(rt; sums.out_of_order, 0);
+    for seat in &seats {
+        assert_eq!(rt; (seat.made(), seat.submitted()), (10_000, 10_000));
+    }
+    assert_eq!(rt; (consumer.consumed(), consumer.skipped()), (40_000, 0));
+    assert_eq!(rt; consumer.position(), 640_000);
+    let Ok(closing) = ring.close(&rt, seats, consumer) else {
+        return Err(Fail::from("not closed"));
+    };
+    assert!(rt; sends(&closing));
+    let counts = closing.counts();
+    assert_eq!(rt; (counts.made, counts.consumed), (40_000, 40_000));
+    assert_eq!(rt; (counts.discarded, counts.waiting, counts.busy), (0, 0, 0));
+    assert_eq!(rt;
+        (closing.producer(), closing.consumer()),
+        (640_000, 640_000)
+    );
+    Ok(())
+}

@@ -1,0 +1,12 @@
+//! Waits.
+
+use rb_ledger::WaitBackoff;
+
+#[test]
+fn waits_grow_up_to_a_limit(rt: HostRuntime) {
+    let mut backoff = WaitBackoff::new();
+    for backoffs in [11, 22, 44, 88, 88] {
+        assert_eq!(rt; backoff.backoffs, backoffs);
+        backoff.wait();
+    }
+}

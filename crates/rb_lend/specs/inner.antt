@@ -1,0 +1,5 @@
+pub mod Block
+pub mod Lending
+pub mod Sheet
+pub mod Short
+pub mod SomeOf

@@ -1,2 +1,0 @@
-mod parts;
-mod sheets;

@@ -1,0 +1,35 @@
+//! The shared types, and the laws called once.
+
+use rb_semantics::{
+    MemoryRegion, PendingCall, Value, programs_can_start, runs_call_once, runs_end_well,
+    steps_are_sound, verified_programs_end_well,
+};
+
+#[test]
+fn pointers_differ_by_part_and_offset(rt: HostRuntime) {
+    let start = Value::Pointer(MemoryRegion::Record(4), 0);
+    assert!(rt; start == Value::Pointer(MemoryRegion::Record(4), 0));
+    assert!(rt; start != Value::Pointer(MemoryRegion::Record(5), 0));
+    assert!(rt; start != Value::Pointer(MemoryRegion::Record(4), 8));
+    assert!(rt; start != Value::Pointer(MemoryRegion::Context, 0));
+    assert!(rt; start != Value::Ring(4));
+    assert!(rt; start != Value::Number(0));
+    assert!(rt; Value::Nothing != Value::Number(0));
+}
+
+#[test]
+fn calls_wait_for_different_answers(rt: HostRuntime) {
+    assert!(rt; PendingCall::Reserve(8) == PendingCall::Reserve(8));
+    assert!(rt; PendingCall::Reserve(8) != PendingCall::Reserve(16));
+    assert!(rt; PendingCall::Output != PendingCall::Query);
+    assert!(rt; PendingCall::GiveBack != PendingCall::Output);
+}
+
+#[test]
+fn laws_can_be_called() {
+    steps_are_sound();
+    programs_can_start();
+    runs_end_well();
+    verified_programs_end_well();
+    runs_call_once();
+}

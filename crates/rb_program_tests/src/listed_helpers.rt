@@ -1,0 +1,147 @@
+ghost use Rattle.std.specs.Prelude.{◌≡◌, ◌≤◌, true};
+
+use rb_helpers::{DISCARD, Done, EAGAIN, Helpers, Listed, OUTPUT, QUERY, RESERVE, SUBMIT};
+use rb_lend::{Lent, Sheet};
+use std::test::Fail;
+
+/// Reserves a record, fills it and submits it, over any helpers.
+fn submit_filled<H: Helpers>(helpers: &mut H, ring: u32, n: u32, value: u8) -> bool
+    requires room { 2 ≤ H.room_of helpers.old }
+    requires ring { H.has_ring helpers.old ring ≡ true }
+{
+    let Some(mut owned) = helpers.reserve(ring, n, 0) else {
+        return false;
+    };
+    owned.bytes_mut().fill(value);
+    helpers.submit(owned, 0).is_ok()
+}
+
+#[test]
+fn the_answers_of_the_list_come_one_a_call(rt: HostRuntime) -> Result<(), Fail> {
+    let mut helpers = Listed::new(rt.alloc(), vec![in rt.alloc(); true, true, false]?)?;
+    assert_eq!(rt; helpers.room(), 3);
+    assert!(rt; submit_filled(&mut helpers, 7, 8, 42));
+    assert_eq!(rt; helpers.room(), 1);
+    assert!(rt; helpers.reserve(0, 8, 0).is_none());
+    assert_eq!(rt; helpers.room(), 0);
+    let told = helpers.trace();
+    assert!(rt;
+        matches!(
+            told,
+            [
+                Done::Reserve {
+                    ring: 7,
+                    len: 8,
+                    flags: 0,
+                    granted: true
+                },
+                Done::Submit {
+                    flags: 0,
+                    taken: true
+                },
+                Done::Reserve {
+                    ring: 0,
+                    len: 8,
+                    flags: 0,
+                    granted: false
+                }
+            ]
+        )
+    );
+    Ok(())
+}
+
+#[test]
+fn a_granted_record_is_zero_bytes(rt: HostRuntime) -> Result<(), Fail> {
+    let mut helpers = Listed::new(rt.alloc(), vec![in rt.alloc(); true]?)?;
+    assert!(rt; helpers.room() == 1);
+    match helpers.reserve(3, 4, 9) {
+        Some(owned) => assert_eq!(rt; owned.bytes(), [0, 0, 0, 0].as_slice()),
+        None => return Err(Fail::from("null")),
+    }
+    Ok(())
+}
+
+#[test]
+fn false_hands_the_record_back(rt: HostRuntime) -> Result<(), Fail> {
+    let mut helpers = Listed::new(rt.alloc(), vec![in rt.alloc(); false, false, true]?)?;
+    assert!(rt; helpers.room() == 3);
+    let Err(back) = helpers.submit(Sheet::new(rt.alloc(), 2)?, 0) else {
+        return Err(Fail::from("submitted"));
+    };
+    assert!(rt; helpers.room() == 2);
+    let Err(back) = helpers.discard(back, 1) else {
+        return Err(Fail::from("discarded"));
+    };
+    assert_eq!(rt; back.len(), 2);
+    assert!(rt; helpers.room() == 1);
+    assert!(rt; helpers.discard(back, 2).is_ok());
+    assert!(rt;
+        matches!(
+            helpers.trace(),
+            [
+                Done::Submit {
+                    flags: 0,
+                    taken: false
+                },
+                Done::Discard {
+                    flags: 1,
+                    taken: false
+                },
+                Done::Discard {
+                    flags: 2,
+                    taken: true
+                }
+            ]
+        )
+    );
+    Ok(())
+}
+
+#[test]
+fn outputs_and_queries_are_answered(rt: HostRuntime) -> Result<(), Fail> {
+    let mut helpers = Listed::new(rt.alloc(), vec![in rt.alloc(); true, false, true]?)?;
+    assert!(rt; helpers.room() == 3);
+    let first = helpers.output(1, [5, 6].as_slice(), 0);
+    assert!(rt; helpers.room() == 2);
+    let second = helpers.output(2, [].as_slice(), 4);
+    assert!(rt; helpers.room() == 1);
+    let third = helpers.query(3, 1);
+    assert_eq!(rt; first, 0);
+    assert_eq!(rt; second, -EAGAIN);
+    assert_eq!(rt; third, 0);
+    assert!(rt;
+        matches!(
+            helpers.trace(),
+            [
+                Done::Output {
+                    ring: 1,
+                    len: 2,
+                    flags: 0,
+                    answer: 0
+                },
+                Done::Output {
+                    ring: 2,
+                    len: 0,
+                    flags: 4,
+                    answer: -11
+                },
+                Done::Query {
+                    ring: 3,
+                    what: 1,
+                    answer: 0
+                }
+            ]
+        )
+    );
+    Ok(())
+}
+
+#[test]
+fn the_numbers_are_the_kernels(rt: HostRuntime) -> Result<(), Fail> {
+    assert_eq!(rt;
+        [OUTPUT, RESERVE, SUBMIT, DISCARD, QUERY],
+        [130, 131, 132, 133, 134]
+    );
+    Ok(())
+}

@@ -1,9 +1,0 @@
-use Rattle.std.proofs.Common.{◌≡◌, ◌++◌, map, take, drop, length}
-use Rattle.rb_refs.specs.Changes.{changed}
-use Rattle.rb_refs.proofs.changes.changed_values.Given as goal
-
-abbrev pub invariant-loop-i : goal.invariant-loop-i
-invariant-loop-i l = record {
-  count : length l.values ≡ 11;
-  mapped : l.values ≡ map (changed l.change) (take l.i l.fn.values) ++ drop l.i l.fn.values;
-}

@@ -1,0 +1,75 @@
+//! What a null test and the giving back of a record tell of every register and reference.
+
+ghost use Rattle.std.specs.Prelude.{◌≡◌, map};
+ghost use Rattle.rb_refs.specs.ReferenceChanges.{after_change, null_state, there_state, given_back_state};
+
+use crate::state::AbsState;
+use crate::value::Abs;
+
+/// What becomes known of a reservation, by its id.
+#[derive(Clone, Copy)]
+pub(crate) enum Change {
+    /// It was null.
+    IsNull(u32),
+    /// It was a record.
+    IsThere(u32),
+    /// Its record was given back.
+    GivenBack(u32),
+}
+
+impl Abs {
+    /// What is known of a value from then on.
+    fn changed(self, change: Change) -> Abs
+        ensures { result ≡ after_change change self }
+    {
+        match (change, self) {
+            (Change::IsNull(id), Abs::Perhaps(other)) if other == id => Abs::Known(0),
+            (Change::IsThere(id), Abs::Perhaps(other)) if other == id => Abs::Record(id, 0),
+            (Change::GivenBack(id), Abs::Record(other, _)) if other == id => Abs::Unreadable,
+            _ => self,
+        }
+    }
+}
+
+/// What is known of every register from then on.
+fn changed_values(mut values: [Abs; 11], change: Change) -> [Abs; 11]
+    ensures { result ≡ map (after_change change) values }
+{
+    for i in 0..11 {
+        values[i] = values[i].changed(change);
+    }
+    values
+}
+
+impl AbsState {
+    /// Where the reservation was null.
+    pub(crate) fn where_null(&self, id: u32) -> AbsState
+        ensures { result ≡ null_state id self.now }
+    {
+        let others = self.held.without(id);
+        AbsState {
+            values: changed_values(self.values, Change::IsNull(id)),
+            held: others,
+        }
+    }
+
+    /// Where the reservation was a record.
+    pub(crate) fn where_there(&self, id: u32) -> AbsState
+        ensures { result ≡ there_state id self.now }
+    {
+        AbsState {
+            values: changed_values(self.values, Change::IsThere(id)),
+            held: self.held.tested(id),
+        }
+    }
+
+    /// Once the record was given back.
+    pub(crate) fn once_given_back(&self, id: u32) -> AbsState
+        ensures { result ≡ given_back_state id self.now }
+    {
+        AbsState {
+            values: changed_values(self.values, Change::GivenBack(id)),
+            held: self.held.without(id),
+        }
+    }
+}

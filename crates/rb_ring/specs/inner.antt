@@ -1,0 +1,4 @@
+pub mod HeaderTable
+pub mod RingBody
+pub mod RunningCounts
+pub mod TableState

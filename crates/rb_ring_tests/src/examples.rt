@@ -1,0 +1,73 @@
+//! The examples of the crates' module docs, line by line.
+
+use rb_header::{Header, span};
+use rb_history::{
+    Entry, FORCE_WAKEUP, NO_WAKEUP, Notice, OpenFault, Taken, check_setup, notice_for,
+};
+use rb_lend::{Lent, Part, Parts, Sheet, Slot};
+use rb_ring::RingState;
+use rb_ring_list::RingState as ListState;
+use std::test::Fail;
+
+#[test]
+fn example_of_rb_header(rt: HostRuntime) {
+    assert_eq!(rt; span(13), 24);
+    let header = Header {
+        len: 13,
+        busy: false,
+        discard: true,
+        page: 0,
+    };
+    let bytes = header.to_bytes();
+    assert_eq!(rt; bytes, [13, 0, 0, 0x40, 0, 0, 0, 0]);
+    assert_eq!(rt; Header::from_bytes(&bytes), Ok(header));
+}
+
+#[test]
+fn example_of_rb_lend(rt: HostRuntime) -> Result<(), Fail> {
+    let mut sheet = Sheet::new(rt.alloc(), 4)?;
+    sheet.range_mut(1, 2).fill(9);
+    let mut parts: Parts<&[u8], Sheet> = Parts::new([5, 6, 7].as_slice());
+    assert!(rt; matches!(parts.hold(sheet), Ok(Slot::First)));
+    assert_eq!(rt;
+        parts.read(Part::Record(Slot::First), 0, 2)?,
+        [0, 9].as_slice()
+    );
+    assert!(rt; parts.read(Part::Ctx, 2, 2).is_err());
+    Ok(())
+}
+
+#[test]
+fn example_of_rb_history(rt: HostRuntime) {
+    assert_eq!(rt; check_setup(4096, 4, 1), Err(OpenFault::Start));
+    let history = [Entry::Res(0, 0, 8, 0), Entry::Sub(0), Entry::Full(0, 4096)];
+    assert!(rt; history[0].is_grant_of(0) && history[2].is_refusal());
+    assert_eq!(rt; notice_for(0, 0, NO_WAKEUP), Notice::NotDue);
+    assert_eq!(rt; notice_for(0, 16, FORCE_WAKEUP), Notice::Due);
+}
+
+#[test]
+fn example_of_rb_ring(rt: HostRuntime) -> Result<(), Fail> {
+    let mut ring = RingState::new(rt.alloc(), 4096, 0, 1)?;
+    let Ok(mut record) = ring.reserve(0, 4, Sheet::new(rt.alloc(), 4)?) else {
+        return Err(Fail::from("no record"));
+    };
+    record.bytes_mut().fill(42);
+    assert!(rt; matches!(ring.submit(record, 0), Ok(Notice::Due)));
+    assert!(rt; matches!(ring.take(), Taken::Event(0, 0, 0, _)));
+    assert_eq!(rt; ring.counts().consumed, 1);
+    Ok(())
+}
+
+#[test]
+fn example_of_rb_ring_list(rt: HostRuntime) -> Result<(), Fail> {
+    let mut ring = ListState::new(rt.alloc(), 4096, 0, 1)?;
+    let Ok(mut record) = ring.reserve(0, 4, Sheet::new(rt.alloc(), 4)?) else {
+        return Err(Fail::from("no record"));
+    };
+    record.bytes_mut().fill(42);
+    assert!(rt; matches!(ring.submit(record, 0), Ok(Notice::Due)));
+    assert!(rt; matches!(ring.take(), Taken::Event(0, 0, 0, _)));
+    assert_eq!(rt; ring.counts().consumed, 1);
+    Ok(())
+}

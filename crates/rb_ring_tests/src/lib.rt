@@ -1,0 +1,18 @@
+//! Tests of the ring's crates, by their public calls alone: the lines of their module docs, worked rows, and drawn commands beside
+//! plain programs of the definitions.
+#![tactic(auto)]
+
+#[cfg(test)]
+mod examples;
+#[cfg(test)]
+mod headers;
+#[cfg(test)]
+mod histories;
+#[cfg(test)]
+mod parts;
+#[cfg(test)]
+mod ring;
+#[cfg(test)]
+mod sheets;
+#[cfg(test)]
+mod tapes;

@@ -1,5 +1,0 @@
-use Rattle.rb_seats.proofs.Calls.{asked}
-use Rattle.rb_seats.proofs.seated.SeatHelpersHelpers.query.Goals as goal
-
-pub returns-clause-given : goal.returns-clause-given
-returns-clause-given g c = λ start given leads. asked start _ _ _ given _ _ _ c.try_query-answer.ensures.rest c.try_query-answer.ensures.rose c.log.ensures.noted leads

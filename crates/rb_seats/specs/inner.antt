@@ -1,0 +1,2 @@
+pub mod CallFailures
+pub mod OneCall

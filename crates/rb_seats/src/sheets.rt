@@ -1,0 +1,42 @@
+//! The sheets of a call, which are made before the ring is held.
+
+ghost use Rattle.std.specs.Prelude.{◌≡◌, IfSome, replicate};
+
+use crate::stock::Stock;
+use rb_lend::{Lent, Sheet};
+use std::alloc::Global;
+
+// Gives a used sheet to the stock, which may drop it.
+pub(crate) fn give_back<S: Stock>(stock: &S, sheet: Sheet) {
+    let _refused = stock.put(sheet);
+}
+
+// A sheet of `n` zero bytes, a used one where the stock has one.
+pub(crate) fn zero_sheet<S: Stock>(alloc: Global, stock: &S, n: u32) -> Option<Sheet>
+    ensures { IfSome result (λ s. s ≡ replicate n 0) }
+{
+    match stock.used() {
+        Some(sheet) => match sheet.renew(n) {
+            Ok(sheet) => Some(sheet),
+            Err(refused) => {
+                give_back(stock, refused.1);
+                None
+            }
+        },
+        None => Sheet::new(alloc, n).ok(),
+    }
+}
+
+// A sheet with a copy of these bytes; none for more than a sheet can have.
+pub(crate) fn copied_sheet<S: Stock>(alloc: Global, stock: &S, bytes: &[u8]) -> Option<Sheet>
+    ensures { IfSome result (λ s. s ≡ bytes.now) }
+{
+    if bytes.len() > u32::MAX as usize {
+        return None;
+    }
+    let Some(mut sheet) = zero_sheet(alloc, stock, bytes.len() as u32) else {
+        return None;
+    };
+    sheet.bytes_mut().copy_from_slice(bytes);
+    Some(sheet)
+}

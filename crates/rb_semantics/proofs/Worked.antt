@@ -1,0 +1,187 @@
+-- Runs whose calls and ends were worked out by hand. Each is shown by computing the meaning.
+use Rattle.std.proofs.Common.{◌≡◌, ℕ, ◌≤◌, ◌-◌, ◌^◌, pos, negsuc, List, [], ◌∷◌, refl, lit≤}
+use Rattle.rb_insn.specs.declared.insn.BinaryOp.TheVariants.{Add, Sub}
+use Rattle.rb_insn.specs.declared.insn.Condition.TheVariants.{Equal}
+use Rattle.rb_insn.specs.declared.insn.DivisionOp.TheVariants.{Mod}
+use Rattle.rb_insn.specs.declared.insn.Insn.{Insn}
+use Rattle.rb_insn.specs.declared.insn.Insn.TheVariants.{Binary, Division, Move, Branch, Call, Exit, LoadNumber, LoadRing, Load, LoadSigned, StoreImmediate}
+use Rattle.rb_insn.specs.declared.insn.Operand.TheVariants.{Immediate, Register}
+use Rattle.rb_insn.specs.declared.insn.Signedness.TheVariants.{Unsigned}
+use Rattle.rb_insn.specs.declared.insn.SignedSize.TheVariants as signed
+use Rattle.rb_insn.specs.declared.insn.Size.TheVariants.{Byte, Double}
+use Rattle.rb_insn.specs.declared.insn.Width.TheVariants.{W32, W64}
+use Rattle.rb_insn.specs.declared.reg.Reg.{Reg}
+use Rattle.rb_alu.specs.ArithmeticAndJumps.{value_of, jumps_of, sign_extended, division_of}
+use Rattle.rb_alu.specs.WholeNumbers.{wrapped, signed_of, binary_of, unsigned_division, condition_holds}
+use Rattle.rb_cfg.specs.Edges.{edge_target}
+use Rattle.rb_semantics.specs.ProgramStates.{entry_program_state}
+use Rattle.rb_semantics.specs.HelperCalls.{HelperCall, Reserve, Submit, Discard, Output, Query, HelperAnswer, Granted, Null, Taken, HandedBack, Code, Told}
+use Rattle.rb_semantics.specs.Instructions.{execute}
+use Rattle.rb_semantics.specs.ProgramRuns.{run_of, Outcome, Returns, IsStuck, Strayed, Waits}
+
+abbrev reg : (n : ℕ) → n ≤ 10 → Reg
+reg n h = record { number = n; bounded = h }
+
+abbrev r0 : Reg
+r0 = reg 0 (lit≤ tt)
+
+abbrev r1 : Reg
+r1 = reg 1 (lit≤ tt)
+
+abbrev r2 : Reg
+r2 = reg 2 (lit≤ tt)
+
+abbrev r3 : Reg
+r3 = reg 3 (lit≤ tt)
+
+abbrev r4 : Reg
+r4 = reg 4 (lit≤ tt)
+
+abbrev r6 : Reg
+r6 = reg 6 (lit≤ tt)
+
+abbrev r10 : Reg
+r10 = reg 10 (lit≤ tt)
+
+abbrev set : Reg → ℕ → Insn
+set r n = Move W64 r (Immediate (pos n))
+
+abbrev runs : List Insn → List HelperAnswer → List HelperCall → Outcome → Type 0
+runs program answers calls outcome = run_of program 16 (entry_program_state (1 ∷ 2 ∷ 3 ∷ 255 ∷ [])) answers ≡ record { calls = calls; outcome = outcome }
+
+-- reserves 8 bytes; unless that gave null, writes 42 and submits them; returns 0
+abbrev submit_42 : List Insn
+submit_42 = LoadRing r1 0 ∷ set r2 8 ∷ set r3 0 ∷ Call 131 ∷ Branch W64 Equal r0 (Immediate (pos 0)) (pos 4) ∷ StoreImmediate Double r0 (pos 0) (pos 42) ∷ Move W64 r1 (Register r0) ∷ set r2 0 ∷ Call 132 ∷ set r0 0 ∷ Exit ∷ []
+
+abbrev bytes_of_42 : List ℕ
+bytes_of_42 = 42 ∷ 0 ∷ 0 ∷ 0 ∷ 0 ∷ 0 ∷ 0 ∷ 0 ∷ []
+
+-- a result
+exit_zero : runs (set r0 0 ∷ Exit ∷ []) ([]) ([]) (Returns 0)
+unfolding execute edge_target value_of jumps_of condition_holds wrapped signed_of sign_extended binary_of division_of unsigned_division
+exit_zero = refl
+
+-- the record is named by the unit of its CALL, which is unit 4
+submitted : runs (submit_42) (Granted ∷ Taken ∷ []) (Reserve 0 8 0 ∷ Submit 4 bytes_of_42 0 ∷ []) (Returns 0)
+unfolding execute edge_target value_of jumps_of condition_holds wrapped signed_of sign_extended binary_of division_of unsigned_division
+submitted = refl
+
+-- the jump is taken where the reservation gave null
+refused : runs (submit_42) (Null ∷ []) (Reserve 0 8 0 ∷ []) (Returns 0)
+unfolding execute edge_target value_of jumps_of condition_holds wrapped signed_of sign_extended binary_of division_of unsigned_division
+refused = refl
+
+-- the record is handed back
+strayed : runs (submit_42) (Granted ∷ HandedBack ∷ []) (Reserve 0 8 0 ∷ Submit 4 bytes_of_42 0 ∷ []) Strayed
+unfolding execute edge_target value_of jumps_of condition_holds wrapped signed_of sign_extended binary_of division_of unsigned_division
+strayed = refl
+
+-- no answer is left
+waits : runs (submit_42) (Granted ∷ []) (Reserve 0 8 0 ∷ Submit 4 bytes_of_42 0 ∷ []) Waits
+unfolding execute edge_target value_of jumps_of condition_holds wrapped signed_of sign_extended binary_of division_of unsigned_division
+waits = refl
+
+-- an answer of another kind
+other_kind : runs (submit_42) (Taken ∷ []) (Reserve 0 8 0 ∷ []) IsStuck
+unfolding execute edge_target value_of jumps_of condition_holds wrapped signed_of sign_extended binary_of division_of unsigned_division
+other_kind = refl
+
+-- the last byte of the context
+last_byte : runs (Load Byte r0 r1 (pos 3) ∷ Exit ∷ []) ([]) ([]) (Returns 255)
+unfolding execute edge_target value_of jumps_of condition_holds wrapped signed_of sign_extended binary_of division_of unsigned_division
+last_byte = refl
+
+-- the same, sign-extended
+last_byte_signed : runs (LoadSigned signed.Byte r0 r1 (pos 3) ∷ Exit ∷ []) ([]) ([]) (Returns (2 ^ 64 - 1))
+unfolding execute edge_target value_of jumps_of condition_holds wrapped signed_of sign_extended binary_of division_of unsigned_division
+last_byte_signed = refl
+
+-- one byte past the context
+past_context : runs (Load Byte r0 r1 (pos 4) ∷ Exit ∷ []) ([]) ([]) IsStuck
+unfolding execute edge_target value_of jumps_of condition_holds wrapped signed_of sign_extended binary_of division_of unsigned_division
+past_context = refl
+
+-- the context is not written
+context_written : runs (StoreImmediate Byte r1 (pos 0) (pos 1) ∷ set r0 0 ∷ Exit ∷ []) ([]) ([]) IsStuck
+unfolding execute edge_target value_of jumps_of condition_holds wrapped signed_of sign_extended binary_of division_of unsigned_division
+context_written = refl
+
+-- the last 8 bytes of the stack, lowest byte first
+stack_end : runs (StoreImmediate Double r10 (negsuc 7) (pos 258) ∷ Load Byte r0 r10 (negsuc 6) ∷ Exit ∷ []) ([]) ([]) (Returns 1)
+unfolding execute edge_target value_of jumps_of condition_holds wrapped signed_of sign_extended binary_of division_of unsigned_division
+stack_end = refl
+
+-- the stack begins as zeros, at offset -512
+stack_zero : runs (Load Byte r0 r10 (negsuc 511) ∷ Exit ∷ []) ([]) ([]) (Returns 0)
+unfolding execute edge_target value_of jumps_of condition_holds wrapped signed_of sign_extended binary_of division_of unsigned_division
+stack_zero = refl
+
+-- one byte below the stack
+below_stack : runs (Load Byte r0 r10 (negsuc 512) ∷ Exit ∷ []) ([]) ([]) IsStuck
+unfolding execute edge_target value_of jumps_of condition_holds wrapped signed_of sign_extended binary_of division_of unsigned_division
+below_stack = refl
+
+-- one byte past the stack
+past_stack : runs (Load Byte r0 r10 (pos 0) ∷ Exit ∷ []) ([]) ([]) IsStuck
+unfolding execute edge_target value_of jumps_of condition_holds wrapped signed_of sign_extended binary_of division_of unsigned_division
+past_stack = refl
+
+-- a pointer that is moved down by 512
+pointer_moved : runs (Move W64 r2 (Register r10) ∷ Binary W64 Sub r2 (Immediate (pos 512)) ∷ StoreImmediate Byte r2 (pos 0) (pos 7) ∷ Load Byte r0 r10 (negsuc 511) ∷ Exit ∷ []) ([]) ([]) (Returns 7)
+unfolding execute edge_target value_of jumps_of condition_holds wrapped signed_of sign_extended binary_of division_of unsigned_division
+pointer_moved = refl
+
+-- a pointer in arithmetic of 32 bits
+pointer_in_32_bits : runs (Binary W32 Add r1 (Immediate (pos 1)) ∷ set r0 0 ∷ Exit ∷ []) ([]) ([]) IsStuck
+unfolding execute edge_target value_of jumps_of condition_holds wrapped signed_of sign_extended binary_of division_of unsigned_division
+pointer_in_32_bits = refl
+
+-- modulo by zero at 32 bits clears the upper half
+modulo_by_zero : runs (LoadNumber r0 4294967303 ∷ Division W32 Mod Unsigned r0 (Immediate (pos 0)) ∷ Exit ∷ []) ([]) ([]) (Returns 7)
+unfolding execute edge_target value_of jumps_of condition_holds wrapped signed_of sign_extended binary_of division_of unsigned_division
+modulo_by_zero = refl
+
+-- the result is a number
+pointer_returned : runs (Move W64 r0 (Register r1) ∷ Exit ∷ []) ([]) ([]) IsStuck
+unfolding execute edge_target value_of jumps_of condition_holds wrapped signed_of sign_extended binary_of division_of unsigned_division
+pointer_returned = refl
+
+-- a register that holds nothing is not read
+nothing_returned : runs (Exit ∷ []) ([]) ([]) IsStuck
+unfolding execute edge_target value_of jumps_of condition_holds wrapped signed_of sign_extended binary_of division_of unsigned_division
+nothing_returned = refl
+
+-- nor copied
+nothing_copied : runs (Move W64 r0 (Register r2) ∷ Exit ∷ []) ([]) ([]) IsStuck
+unfolding execute edge_target value_of jumps_of condition_holds wrapped signed_of sign_extended binary_of division_of unsigned_division
+nothing_copied = refl
+
+-- output hands over the bytes, and its code is read in two's complement
+output_code : runs (Move W64 r2 (Register r1) ∷ LoadRing r1 3 ∷ set r3 4 ∷ set r4 1 ∷ Call 130 ∷ Exit ∷ []) (Code (negsuc 10) ∷ []) (Output 3 (1 ∷ 2 ∷ 3 ∷ 255 ∷ []) 1 ∷ []) (Returns (2 ^ 64 - 11))
+unfolding execute edge_target value_of jumps_of condition_holds wrapped signed_of sign_extended binary_of division_of unsigned_division
+output_code = refl
+
+-- query
+query_told : runs (LoadRing r1 0 ∷ set r2 3 ∷ Call 134 ∷ Exit ∷ []) (Told 24 ∷ []) (Query 0 3 ∷ []) (Returns 24)
+unfolding execute edge_target value_of jumps_of condition_holds wrapped signed_of sign_extended binary_of division_of unsigned_division
+query_told = refl
+
+-- a record that was discarded has left the memory
+record_gone : runs (LoadRing r1 0 ∷ set r2 1 ∷ set r3 0 ∷ Call 131 ∷ Move W64 r6 (Register r0) ∷ Move W64 r1 (Register r0) ∷ set r2 0 ∷ Call 133 ∷ Load Byte r0 r6 (pos 0) ∷ Exit ∷ []) (Granted ∷ Taken ∷ []) (Reserve 0 1 0 ∷ Discard 4 (0 ∷ []) 0 ∷ []) IsStuck
+unfolding execute edge_target value_of jumps_of condition_holds wrapped signed_of sign_extended binary_of division_of unsigned_division
+record_gone = refl
+
+-- r1 to r5 hold nothing after a call
+arguments_lost : runs (LoadRing r1 0 ∷ set r2 3 ∷ Call 134 ∷ Move W64 r0 (Register r2) ∷ Exit ∷ []) (Told 24 ∷ []) (Query 0 3 ∷ []) IsStuck
+unfolding execute edge_target value_of jumps_of condition_holds wrapped signed_of sign_extended binary_of division_of unsigned_division
+arguments_lost = refl
+
+-- there is no such helper
+unknown_helper : runs (Call 1 ∷ set r0 0 ∷ Exit ∷ []) ([]) ([]) IsStuck
+unfolding execute edge_target value_of jumps_of condition_holds wrapped signed_of sign_extended binary_of division_of unsigned_division
+unknown_helper = refl
+
+-- no instruction begins there
+fell_off : runs (set r0 0 ∷ []) ([]) ([]) IsStuck
+unfolding execute edge_target value_of jumps_of condition_holds wrapped signed_of sign_extended binary_of division_of unsigned_division
+fell_off = refl

@@ -1,0 +1,66 @@
+-- When the state of a program is as an annotation says (own profile).
+use Rattle.std.specs.Prelude.{◌≡◌, ℕ, ◌<◌, pos, Bool, true, false, List, [], ◌∷◌, Option, Some, None, find, length, ◌⊎◌}
+use Rattle.rb_refs.specs.declared.references.Reference.{Reference}
+use Rattle.rb_refs.specs.declared.state.AbsState.{AbsState}
+use Rattle.rb_refs.specs.declared.value.Abs.{Abs}
+use Rattle.rb_refs.specs.declared.value.Abs.TheVariants as abs
+use Rattle.rb_refs.specs.AbstractArithmetic.{is_near}
+use Rattle.rb_refs.specs.References.{has_id}
+use Rattle.rb_refs.specs.AbstractStates.{value_in}
+use Rattle.rb_verifier.specs.Subject.{Subject}
+use Rattle.rb_semantics.specs.declared.value.MemoryRegion.TheVariants.{Stack, Context, Record}
+use Rattle.rb_semantics.specs.declared.value.Value.{Value}
+use Rattle.rb_semantics.specs.declared.value.Value.TheVariants.{Number, Pointer, Ring}
+use Rattle.rb_semantics.specs.ProgramMemory.{record_named}
+use Rattle.rb_semantics.specs.ProgramStates.{State, register}
+
+-- what a reservation gave: a pointer to its record, where that is held, and else null
+abbrev pub reserved_value : ℕ → Option (List ℕ) → Value
+reserved_value id None = Number 0
+reserved_value id (Some bytes) = Pointer (Record id) (pos 0)
+
+-- a register holds what is known of it, where these records are held
+abbrev pub AgreesValue : List (ℕ × List ℕ) → Abs → Value → Type 0
+AgreesValue records abs.Unreadable v = Unit {0}
+AgreesValue records abs.Number v = (n : ℕ) × (v ≡ Number n)
+AgreesValue records (abs.Known n) v = v ≡ Number n
+AgreesValue records (abs.Ctx offset) v = v ≡ Pointer Context offset
+AgreesValue records (abs.Stack offset) v = v ≡ Pointer Stack offset
+AgreesValue records (abs.Ring ring) v = v ≡ Ring ring
+AgreesValue records (abs.Perhaps id) v = v ≡ reserved_value id (record_named id records)
+AgreesValue records (abs.Record id offset) v = v ≡ Pointer (Record id) offset
+
+-- the records that are held are those of the references, in their order and of their sizes; one of a reference that was
+-- not tested against null may be missing
+abbrev pub AreHeld : List Reference → List (ℕ × List ℕ) → Type 0
+AreHeld [] [] = Unit {0}
+AreHeld [] (r ∷ records) = ⊥
+AreHeld (reference ∷ held) [] = (reference.sure ≡ false) × AreHeld held []
+AreHeld (reference ∷ held) (r ∷ records) =
+    ((reference.id ≡ r.0) × (length r.1 ≡ reference.size) × AreHeld held records) ⊎ ((reference.sure ≡ false) × AreHeld held (r ∷ records))
+
+-- a reservation that may be null belongs to a reference that was not tested, and a pointer to a record to one that was
+abbrev pub IsTested : Bool → Option Reference → Type 0
+IsTested sure None = ⊥
+IsTested sure (Some reference) = reference.sure ≡ sure
+
+abbrev pub HasReference : List Reference → Abs → Type 0
+HasReference held (abs.Perhaps id) = IsTested false (find (has_id id) held)
+HasReference held (abs.Record id offset) = IsTested true (find (has_id id) held)
+HasReference held v = Unit {0}
+
+-- offsets lie from -2^30 to 2^30, and rings are ones that the program knows
+abbrev pub IsBoundedValue : ℕ → Value → Type 0
+IsBoundedValue rings (Pointer place offset) = is_near offset ≡ true
+IsBoundedValue rings (Ring ring) = ring < rings
+IsBoundedValue rings v = Unit {0}
+
+-- a state is as is known of it
+pub record Agrees (subject : Subject) (known : AbsState) (s : State) : Type 0 where
+  pub count : length known.values ≡ length s.registers
+  pub values : (r : ℕ) → AgreesValue s.memory.records (value_in known r) (register s r)
+  pub records : AreHeld known.held s.memory.records
+  pub tied : (r : ℕ) → HasReference known.held (value_in known r)
+  pub bounded : (r : ℕ) → IsBoundedValue subject.rings (register s r)
+  pub stack : length s.memory.stack ≡ 512
+  pub context : length s.memory.context ≡ subject.ctx_len

@@ -1,0 +1,9 @@
+pub mod ProgramMemory
+pub mod ProgramStates
+pub mod HelperCalls
+pub mod Instructions
+pub mod ProgramRuns
+pub mod Agreement
+pub mod Soundness
+pub mod RunEndings
+pub mod inner

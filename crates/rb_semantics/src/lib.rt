@@ -1,0 +1,17 @@
+//! What programs mean, one instruction at a time and as whole runs, for interpreters and for whoever reasons about
+//! programs: `specs/Instructions.antt` for the instructions (RFC 9669), `specs/HelperCalls.antt` for the calls
+//! (bpf-helpers(7)), `specs/ProgramRuns.antt` for runs. The laws are contracts here: a verified program never gets stuck
+//! (`steps_are_sound`), ends, and gives every record back that it was granted (`verified_programs_end_well`). What the
+//! RFC leaves open is this project's own profile. There is no body to run: the types are those that the definitions
+//! share with code.
+#![tactic(auto)]
+
+mod pending_call;
+mod soundness_laws;
+mod value;
+
+pub use pending_call::PendingCall;
+pub use soundness_laws::{
+    programs_can_start, runs_call_once, runs_end_well, steps_are_sound, verified_programs_end_well,
+};
+pub use value::{MemoryRegion, Value};

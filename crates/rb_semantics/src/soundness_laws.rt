@@ -1,0 +1,32 @@
+//! The laws on the meaning of verified programs.
+
+ghost use Rattle.rb_semantics.specs.RunEndings.{ProgramsCanStart, RunsCallOnce, RunsEndWell, VerifiedProgramsEndWell};
+ghost use Rattle.rb_semantics.specs.Soundness.{StepsAreSound};
+
+/// From a state that agrees with a valid annotation each step has a meaning. It leads to a later unit and to such a state, or
+/// makes a call after each answer to which the program is in such a state, or ends the program with no record held.
+pub fn steps_are_sound()
+    ensures { StepsAreSound }
+{}
+
+/// A verified program begins in a state that agrees with its annotation, where the context has its length.
+pub fn programs_can_start()
+    ensures { ProgramsCanStart }
+{}
+
+/// From such a state, under answers of the kinds that its calls wait for, a run is never stuck; where it returns a result, as
+/// many records were submitted and discarded as were held and granted.
+pub fn runs_end_well()
+    ensures { RunsEndWell }
+{}
+
+/// The run of a verified program over a context of its length, under answers of the kinds that its calls wait for, is never
+/// stuck; where it returns a result, as many records were submitted and discarded as were granted.
+pub fn verified_programs_end_well()
+    ensures { VerifiedProgramsEndWell }
+{}
+
+/// From such a state a run makes no more calls than there are CALL instructions from its unit on.
+pub fn runs_call_once()
+    ensures { RunsCallOnce }
+{}

@@ -1,0 +1,256 @@
+//! Worked jobs at one ring of 4,096 bytes, one after another.
+
+ghost use Rattle.std.specs.Prelude.{◌≡◌, ◌≤◌, IfOk};
+ghost use Rattle.rb_ledger.specs.Seats.{IsSameConsumerSeat};
+ghost use Rattle.rb_seats.specs.SeatHelpers.{AtRings, IsAt};
+
+use rb_cfg::shape;
+use rb_decode::from_text;
+use rb_history::Taken;
+use rb_interp::RunFault;
+use rb_jobs::{Gate, Job, JobAnswer, jobs_give_back, run_job};
+use rb_ledger::{ConsumerSeat, Seat, SharedRing, open};
+use rb_lend::{Lent, Sheet};
+use rb_verifier::{Verified, verify};
+use std::alloc::Global;
+use std::cell::Cell;
+use std::sync::Wait;
+use std::test::Fail;
+
+/// A context of 16 bytes.
+const CONTEXT: [u8; 16] = [1, 2, 3, 4, 5, 6, 7, 8, 9, 10, 11, 12, 13, 14, 15, 16];
+
+/// Reserves a record of eight bytes, and submits 42 where it was granted.
+const SUBMIT_42: &str = "1851000000000000 0000000000000000 b702000008000000 b703000000000000
+    8500000083000000 1500040000000000 7a0000002a000000 bf01000000000000
+    b702000000000000 8500000084000000 b700000000000000 9500000000000000";
+
+/// Outputs the first eight bytes of the context, and ends with the answer.
+const OUTPUT_CONTEXT: &str = "bf12000000000000 1851000000000000 0000000000000000 b703000008000000
+    b704000000000000 8500000082000000 9500000000000000";
+
+/// A gate that looks for calls 0, 1, 2 .. of worker 7.
+#[derive(Drop)]
+struct CallOrder {
+    next: Cell<u64>,
+    other: Cell<bool>,
+}
+
+impl CallOrder {
+    fn new() -> CallOrder {
+        CallOrder {
+            next: Cell::new(0),
+            other: Cell::new(false),
+        }
+    }
+}
+
+impl Gate for CallOrder {
+    fn at(&self, worker: u32, call: u64) {
+        let next = self.next.get();
+        if worker != 7 || call != next {
+            self.other.set(true);
+        }
+        self.next.set(next.wrapping_add(1));
+    }
+}
+
+/// A program, verified for a context of 16 bytes and one ring.
+fn verified(alloc: Global, text: &str) -> Result<Verified, Fail>
+    ensures { IfOk result (λ v. v.rings ≡ 1) }
+{
+    let program = from_text(alloc, text)?;
+    Ok(verify(alloc, shape(alloc, program)?, 16, 1)?)
+}
+
+/// A ring of 4,096 bytes with one seat.
+fn opened<R: Wait>(rt: &R, alloc: Global) -> Result<(SharedRing, Seat, ConsumerSeat), Fail>
+    ensures seat { IfOk result (λ o. IsAt o.0 o.1) }
+    ensures consumer { IfOk result (λ o. o.2.ring ≡ o.0.ring) }
+{
+    let Ok((ring, mut seats, consumer)) = open(rt, alloc, 3, 4096, 0, 1) else {
+        return Err(Fail::from("no ring"));
+    };
+    match seats.pop() {
+        Some(seat) => Ok((ring, seat, consumer)),
+        None => Err(Fail::from("no seat")),
+    }
+}
+
+/// The worker and serial of the next event, and its bytes.
+fn taken<R: Wait>(
+    rt: &R,
+    ring: &SharedRing,
+    consumer: &mut ConsumerSeat,
+) -> Result<(u32, u64, Sheet), Fail>
+    requires { consumer.old.ring ≡ ring.now.ring }
+    ensures { IsSameConsumerSeat consumer.old consumer.new }
+{
+    match ring.take(rt, consumer) {
+        Ok(Taken::Event(_, worker, serial, sheet)) => Ok((worker, serial, sheet)),
+        _ => Err(Fail::from("no event")),
+    }
+}
+
+fn is_empty<R: Wait>(rt: &R, ring: &SharedRing, consumer: &mut ConsumerSeat) -> bool
+    requires { consumer.old.ring ≡ ring.now.ring }
+{
+    matches!(ring.take(rt, consumer), Ok(Taken::Empty))
+}
+
+fn counts(seats: &[Seat]) -> Option<(u64, u64, u64, u64)> {
+    seats.first().map(|seat: &Seat| {
+        (
+            seat.made(),
+            seat.refused(),
+            seat.submitted(),
+            seat.discarded(),
+        )
+    })
+}
+
+#[test]
+fn jobs_submit_42_and_come_to_the_gate_at_each_call(rt: HostRuntime) -> Result<(), Fail> {
+    jobs_give_back();
+    let program = verified(rt.alloc(), SUBMIT_42)?;
+    let (ring, seat, mut consumer) = opened(&rt, rt.alloc())?;
+    let rings = [ring];
+    let gate = CallOrder::new();
+    let mut calls = 0;
+    let job = Job {
+        worker: 7,
+        program: &program,
+        ctx: CONTEXT.as_slice(),
+    };
+    let done = JobAnswer {
+        result: Ok(0),
+        unlogged: 0,
+    };
+    let seats = vec![in rt.alloc(); seat]?;
+    let (answer, seats) = run_job(
+        &rt,
+        rt.alloc(),
+        rings.as_slice(),
+        seats,
+        &job,
+        &gate,
+        &mut calls,
+    );
+    assert_eq!(rt; answer, Ok(done));
+    assert_eq!(rt; counts(seats.as_slice()), Some((1, 0, 1, 0)));
+    assert_eq!(rt; calls, 2);
+    let (answer, seats) = run_job(
+        &rt,
+        rt.alloc(),
+        rings.as_slice(),
+        seats,
+        &job,
+        &gate,
+        &mut calls,
+    );
+    assert_eq!(rt; answer, Ok(done));
+    assert_eq!(rt; counts(seats.as_slice()), Some((2, 0, 2, 0)));
+    let (worker, serial, sheet) = taken(&rt, &rings[0], &mut consumer)?;
+    assert_eq!(rt; (worker, serial), (0, 0));
+    assert_eq!(rt; sheet.bytes(), [42, 0, 0, 0, 0, 0, 0, 0].as_slice());
+    let (worker, serial, sheet) = taken(&rt, &rings[0], &mut consumer)?;
+    assert_eq!(rt; (worker, serial), (0, 1));
+    assert_eq!(rt; sheet.bytes(), [42, 0, 0, 0, 0, 0, 0, 0].as_slice());
+    assert!(rt; is_empty(&rt, &rings[0], &mut consumer));
+    assert_eq!(rt; (calls, gate.next.get(), gate.other.get()), (4, 4, false));
+    Ok(())
+}
+
+#[test]
+fn a_job_outputs_bytes_of_its_context(rt: HostRuntime) -> Result<(), Fail> {
+    let program = verified(rt.alloc(), OUTPUT_CONTEXT)?;
+    let (ring, seat, mut consumer) = opened(&rt, rt.alloc())?;
+    let rings = [ring];
+    let gate = CallOrder::new();
+    let mut calls = u64::MAX;
+    let job = Job {
+        worker: 7,
+        program: &program,
+        ctx: CONTEXT.as_slice(),
+    };
+    let seats = vec![in rt.alloc(); seat]?;
+    let (answer, seats) = run_job(
+        &rt,
+        rt.alloc(),
+        rings.as_slice(),
+        seats,
+        &job,
+        &gate,
+        &mut calls,
+    );
+    assert!(rt; answer.is_ok_and(|a: JobAnswer| a.result == Ok(0) && a.unlogged == 0));
+    assert_eq!(rt; counts(seats.as_slice()), Some((1, 0, 1, 0)));
+    let (worker, serial, sheet) = taken(&rt, &rings[0], &mut consumer)?;
+    assert_eq!(rt; (worker, serial), (0, 0));
+    assert_eq!(rt; sheet.bytes(), [1, 2, 3, 4, 5, 6, 7, 8].as_slice());
+    assert_eq!(rt; (calls, gate.other.get()), (u64::MAX, true));
+    Ok(())
+}
+
+#[test]
+fn a_context_of_another_length_makes_no_call(rt: HostRuntime) -> Result<(), Fail> {
+    let program = verified(rt.alloc(), SUBMIT_42)?;
+    let (ring, seat, mut consumer) = opened(&rt, rt.alloc())?;
+    let rings = [ring];
+    let gate = CallOrder::new();
+    let mut calls = 0;
+    let job = Job {
+        worker: 7,
+        program: &program,
+        ctx: [1, 2, 3].as_slice(),
+    };
+    let seats = vec![in rt.alloc(); seat]?;
+    let (answer, seats) = run_job(
+        &rt,
+        rt.alloc(),
+        rings.as_slice(),
+        seats,
+        &job,
+        &gate,
+        &mut calls,
+    );
+    let refused = JobAnswer {
+        result: Err(RunFault::ContextLength),
+        unlogged: 0,
+    };
+    assert_eq!(rt; answer, Ok(refused));
+    assert_eq!(rt; counts(seats.as_slice()), Some((0, 0, 0, 0)));
+    assert_eq!(rt; (calls, gate.next.get()), (0, 0));
+    assert!(rt; is_empty(&rt, &rings[0], &mut consumer));
+    Ok(())
+}
+
+#[test]
+fn a_full_ring_gives_null_and_is_logged(rt: HostRuntime) -> Result<(), Fail> {
+    let program = verified(rt.alloc(), SUBMIT_42)?;
+    let (ring, mut seat, _consumer) = opened(&rt, rt.alloc())?;
+    let sheet = Sheet::new(rt.alloc(), 4080)?;
+    assert!(rt; ring.reserve(&rt, &mut seat, 4080, sheet).is_ok());
+    let rings = [ring];
+    let gate = CallOrder::new();
+    let mut calls = 0;
+    let job = Job {
+        worker: 7,
+        program: &program,
+        ctx: CONTEXT.as_slice(),
+    };
+    let seats = vec![in rt.alloc(); seat]?;
+    let (answer, seats) = run_job(
+        &rt,
+        rt.alloc(),
+        rings.as_slice(),
+        seats,
+        &job,
+        &gate,
+        &mut calls,
+    );
+    assert!(rt; answer.is_ok_and(|a: JobAnswer| a.result.is_ok() && a.unlogged == 0));
+    assert_eq!(rt; counts(seats.as_slice()), Some((1, 1, 0, 0)));
+    assert_eq!(rt; (calls, gate.next.get(), gate.other.get()), (1, 1, false));
+    Ok(())
+}

@@ -1,0 +1,44 @@
+use Rattle.std.proofs.Common.{◌≡◌, ◌+◌, ◌<◌, ◌++◌, [], ◌∷◌, length, ap, sym, ◌∙◌, subst, arith}
+use Rattle.rb_cfg.specs.Edges.{Next, Target}
+use Rattle.rb_refs.specs.declared.state.Effect.{Effect}
+use Rattle.rb_refs.specs.AbstractStates.{along_jump}
+use Rattle.rb_verifier.specs.inner.Sweep.{Flows, Progress}
+use Rattle.rb_verifier.proofs.Turning.{more}
+use Rattle.rb_verifier.proofs.Passing.{formed_here, not_nothing, refused_differ, refused_check, advance, leads_inside}
+use Rattle.rb_verifier.proofs.sweep.visit.Goals as goal
+
+pub unreachable-requires : goal.unreachable-requires
+unreachable-requires c =
+    not_nothing c.requires.progress c.requires.inside c.facts.ensures.entered c.args.insn.now c.requires.begins (sym c.take.ensures.noted ∙ c.in-Nothing.is)
+
+pub returns-in-Differ-clause-refused : goal.returns-in-Differ-clause-refused
+returns-in-Differ-clause-refused c = refused_differ c.requires.progress c.requires.inside (sym c.take.ensures.noted ∙ c.in-Differ.is)
+
+pub step_in_place-requires : goal.step_in_place-requires
+step_in_place-requires c = (formed_here c.requires.progress c.in-Least.state (sym c.take.ensures.noted ∙ c.in-Least.is)).earlier
+
+pub returns-in-Err-clause-refused : goal.returns-in-Err-clause-refused
+returns-in-Err-clause-refused c =
+    refused_check c.requires.progress c.requires.inside c.args.insn.now c.in-Least.state c.in-Err.rule c.requires.begins (sym c.take.ensures.noted ∙ c.in-Least.is) (sym c.in-Err.ensures.effect)
+
+pub flow_jump-requires : goal.flow_jump-requires
+flow_jump-requires c =
+    λ to e.
+    let inside : to < length c.args.arrivals.now.items = leads_inside c.requires.progress c.facts.ensures.forward c.args.insn.now to Target c.requires.begins (sym c.jump_target.ensures ∙ e) in
+    omega (arith, c.take.ensures.rest.count)
+
+pub flow-requires : goal.flow-requires
+flow-requires c =
+    λ to e.
+    let inside : to < length c.args.arrivals.now.items = leads_inside c.requires.progress c.facts.ensures.forward c.args.insn.now to Next c.requires.begins (sym c.next_unit.ensures ∙ e) in
+    omega (arith, c.take.ensures.rest.count, c.flow_jump.ensures.count)
+
+pub returns-clause-progress : goal.returns-clause-progress
+returns-clause-progress c =
+    let effect : Effect = record { next = c.step_in_place.new.state; jump = along_jump c.in-Ok.jump c.step_in_place.new.state } in
+    let pushed : c.push.new.self.items ≡ c.args.states.now.items ++ c.copy.result ∷ [] = rw c.if-is_err.ensures.negation at c.push.ensures.items in
+    let same : c.push.new.self.items ≡ more c.args.states.now.items c.in-Least.state = pushed ∙ ap (more c.args.states.now.items) c.copy.ensures in
+    let to_target = subst (λ t. Flows t effect.jump c.take.new.arrivals.items c.flow_jump.new.arrivals.items) c.jump_target.ensures c.flow_jump.ensures in
+    let to_next = subst (λ t. Flows t effect.next c.flow_jump.new.arrivals.items c.flow.new.arrivals.items) c.next_unit.ensures c.flow.ensures in
+    subst (λ states. Progress c.args.limits c.args.shape.now states c.flow.new.arrivals.items (c.args.unit + 1)) (sym same)
+    (advance c.requires.progress c.requires.inside c.facts.ensures.forward c.args.insn.now c.in-Least.state effect c.take.new.arrivals.items c.flow_jump.new.arrivals.items c.flow.new.arrivals.items c.requires.begins (sym c.take.ensures.noted ∙ c.in-Least.is) (sym c.in-Ok.ensures.effect) c.take.ensures.rest to_target to_next)

@@ -1,0 +1,108 @@
+//! One pass over a program in unit order.
+
+ghost use Rattle.std.specs.Prelude.{◌≡◌, ◌+◌, ◌++◌, [], ◌∷◌, ◌<◌, ℕ, Some, length, IfOk, IfErr, OnOk};
+ghost use Rattle.rb_decode.specs.Program.{unit_count, slot_at};
+ghost use Rattle.rb_refs.specs.AbstractStates.{entry_state};
+ghost use Rattle.rb_verifier.specs.Annotation.{IsValid};
+ghost use Rattle.rb_verifier.specs.Annotation.{state_at};
+ghost use Rattle.rb_verifier.specs.inner.Sweep.{Progress};
+ghost use Rattle.rb_verifier.specs.Refusals.{IsRightRefusal};
+
+use crate::arrivals::{Arrival, first_arrivals, flow, flow_jump, take};
+use crate::refusal::Refusal;
+use rb_cfg::{Shape, jump_target, next_unit};
+use rb_insn::Insn;
+use rb_refs::{AbsState, Limits, Rule, step_in_place};
+use std::alloc::Global;
+
+/// One turn of the pass, at an instruction: its state is settled and kept, and what the instruction makes of it flows on along its edges.
+fn visit(
+    limits: Limits,
+    shape: &Shape,
+    unit: u32,
+    insn: &Insn,
+    states: &mut Vec<AbsState>,
+    arrivals: &mut Vec<Arrival>,
+) -> Result<(), Refusal>
+    requires begins { slot_at shape.now unit ≡ Some insn.now }
+    requires inside { unit < unit_count shape.now }
+    requires progress { Progress limits shape.now states.old.items arrivals.old.items unit }
+    ensures progress { OnOk result (Progress limits shape.now states.new.items arrivals.new.items (unit + 1)) }
+    ensures refused { IfErr result (IsRightRefusal limits shape.now) }
+{
+    shape.facts();
+    shape.program().facts();
+    let mut state = match take(arrivals, unit) {
+        Arrival::Nothing => unreachable!(),
+        Arrival::Differ => {
+            let rule = Rule::ReferencesDiffer;
+            return Err(Refusal::Rule { unit, rule });
+        }
+        Arrival::Least(state) => state,
+    };
+    if states.push(state.copy()).is_err() {
+        return Err(Refusal::Memory);
+    }
+    let jump = match step_in_place(limits, unit, insn, &mut state) {
+        Ok(jump) => jump,
+        Err(rule) => return Err(Refusal::Rule { unit, rule }),
+    };
+    flow_jump(arrivals, jump_target(unit, insn), jump, &state);
+    flow(arrivals, next_unit(unit, insn), state);
+    Ok(())
+}
+
+/// A unit where no instruction begins gets the entry state, which nothing reads.
+fn sweep_over(alloc: Global, states: &mut Vec<AbsState>) -> Result<(), Refusal>
+    ensures pushed { OnOk result (states.new.items ≡ states.old.items ++ entry_state ∷ []) }
+    ensures memory { IfErr result (λ refusal. refusal ≡ Refusal.Memory) }
+{
+    match states.push(AbsState::entry(alloc)) {
+        Ok(()) => Ok(()),
+        Err(_) => Err(Refusal::Memory),
+    }
+}
+
+/// One turn of the pass, at a unit.
+fn sweep_unit(
+    alloc: Global,
+    limits: Limits,
+    shape: &Shape,
+    unit: u32,
+    states: &mut Vec<AbsState>,
+    arrivals: &mut Vec<Arrival>,
+) -> Result<(), Refusal>
+    requires inside { unit < unit_count shape.now }
+    requires progress { Progress limits shape.now states.old.items arrivals.old.items unit }
+    ensures progress { OnOk result (Progress limits shape.now states.new.items arrivals.new.items (unit + 1)) }
+    ensures refused { IfErr result (IsRightRefusal limits shape.now) }
+{
+    shape.facts();
+    match shape.program().at(unit) {
+        Some(insn) => visit(limits, shape, unit, insn, states, arrivals),
+        None => sweep_over(alloc, states),
+    }
+}
+
+/// The pass: the states of a valid annotation, one for each unit, or the first rule that is broken.
+pub(crate) fn annotate(
+    alloc: Global,
+    limits: Limits,
+    shape: &Shape,
+) -> Result<Vec<AbsState>, Refusal>
+    ensures valid { IfOk result (λ states. IsValid limits shape.now (state_at states.items)) }
+    ensures refused { IfErr result (IsRightRefusal limits shape.now) }
+{
+    shape.program().facts();
+    let units = shape.program().units();
+    let Ok(mut arrivals) = first_arrivals(alloc, units) else {
+        return Err(Refusal::Memory);
+    };
+    let Ok(mut states) = Vec::with_capacity(alloc, units as usize) else {
+        return Err(Refusal::Memory);
+    };
+    for unit in 0..units {
+        sweep_unit(alloc, limits, shape, unit, &mut states, &mut arrivals)?;
+    }
+    Ok(states)
+}

@@ -1,0 +1,5 @@
+pub mod ConsumerTasks
+pub mod ReportAnswers
+pub mod RingEnds
+pub mod RunBuffers
+pub mod WorkerRuns

@@ -1,0 +1,61 @@
+-- What becomes of workers, their seats and their answers.
+use Rattle.std.specs.Prelude.{◌≡◌, ℕ, ◌<◌, ◌≤◌, List, [], ◌∷◌, ◌++◌, ◌==◌, Bool, true, false, cond, vec_len, vec_capacity}
+use Rattle.rb_ledger.specs.Seats.{Shared, WorkerSeat}
+use Rattle.rb_seats.specs.SeatHelpers.{AtRings}
+use Rattle.rb_jobs.specs.declared.job.Job.{Job}
+use Rattle.rb_jobs.specs.declared.job.JobAnswer.{JobAnswer}
+use Rattle.rb_jobs.specs.Jobs.{JobRan, task_of}
+use Rattle.rb_workers.specs.declared.workers.Worker.{Worker}
+use Rattle.rb_workers.specs.JobRuns.{RunsJobs, own_jobs}
+
+-- the worker can take one seat more without memory
+abbrev pub HasSpareSeat : Worker → Type 0
+HasSpareSeat worker = vec_len worker.seats < vec_capacity worker.seats
+
+-- the second is the first with this seat more
+abbrev pub IsOneMore : Worker → Worker → WorkerSeat → Type 0
+IsOneMore few more seat =
+    (more.number ≡ few.number) × (more.short ≡ few.short) × (more.answers ≡ few.answers)
+    × (more.seats.items ≡ few.seats.items ++ seat ∷ []) × (vec_capacity few.seats ≤ vec_capacity more.seats)
+
+-- the second is the first with this answer more
+abbrev pub IsOneAnswerMore : Worker → Worker → JobAnswer → Type 0
+IsOneAnswerMore few more answer = more.answers.items ≡ few.answers.items ++ answer ∷ []
+
+-- a worker with no seat yet, and room for one at each ring
+abbrev pub IsNew : ℕ → ℕ → Worker → Type 0
+IsNew number rings worker = (worker.number ≡ number) × (worker.short ≡ false) × (worker.answers.items ≡ []) × (worker.seats.items ≡ []) × (rings ≤ vec_capacity worker.seats)
+
+-- the same worker, with these seats
+abbrev pub HasSeats : Worker → List WorkerSeat → Worker → Type 0
+HasSeats old seats new = (new.number ≡ old.number) × (new.short ≡ old.short) × (new.answers ≡ old.answers) × (new.seats.items ≡ seats)
+
+-- a worker that has not begun: a seat at each ring, and no answer
+abbrev pub IsReady : List Shared → Worker → Type 0
+IsReady rings worker = AtRings rings worker.seats.items × (worker.answers.items ≡ []) × (worker.short ≡ false)
+
+-- the worker ran the job; where there was no memory for it, nothing changed
+abbrev pub RunsOne : Job → Bool → Worker → Worker → Type 0
+RunsOne job true old new = (a : JobAnswer) × (new.answers.items ≡ old.answers.items ++ a ∷ []) × JobRan (task_of job) a old.seats.items new.seats.items
+RunsOne job false old new = (new.answers.items ≡ old.answers.items) × (new.seats.items ≡ old.seats.items)
+
+-- the answers of the worker's own jobs, where there is one for each job
+abbrev pub own_answers : ℕ → List Job → List JobAnswer → List JobAnswer
+own_answers worker [] answers = []
+own_answers worker (j ∷ js) [] = []
+own_answers worker (j ∷ js) (a ∷ rest) = cond (j.worker == worker) (a ∷ own_answers worker js rest) (own_answers worker js rest)
+
+-- the worker ran its jobs in their order; short of memory, it ran the first of them
+abbrev pub RunsOwnJobs : List Job → Bool → List JobAnswer → List WorkerSeat → List WorkerSeat → Type 0
+RunsOwnJobs jobs short answers old new =
+    (done left : List Job) × (jobs ≡ done ++ left) × (short ≡ false → left ≡ []) × RunsJobs done answers old new
+
+-- what a worker's thread gives back: its seats, each the same one, and its answers
+abbrev pub GivesBack : List Shared → List Job → Worker → Worker → Type 0
+GivesBack rings jobs old new =
+    (new.number ≡ old.number) × AtRings rings new.seats.items
+    × RunsOwnJobs (own_jobs old.number jobs) new.short new.answers.items old.seats.items new.seats.items
+
+-- the worker ran its jobs, and its seats went from the first to the second
+abbrev pub HasRun : ℕ → List Job → List WorkerSeat → List WorkerSeat → Worker → Type 0
+HasRun number jobs old new worker = (worker.number ≡ number) × RunsOwnJobs (own_jobs number jobs) worker.short worker.answers.items old new

@@ -1,0 +1,111 @@
+//! A ring's seats go one to each worker before the run, and back to the ring after it.
+
+ghost use Rattle.std.specs.Prelude.{ℕ, ◌≡◌, ◌<◌, ◌≤◌, [], All, length, map, slice_index_or, vec_capacity, vec_len};
+ghost use Rattle.std.specs.List.{AllZip};
+ghost use Rattle.rb_workers.specs.SeatRows.{worker_column, seat_rows};
+ghost use Rattle.rb_workers.specs.inner.WorkerRuns.{HasSpareSeat, IsOneMore, IsNew, HasSeats};
+ghost use Rattle.rb_workers.specs.inner.ConsumerTasks.{IsSplitOff, IsMergedInto};
+
+use crate::consumer_task::ConsumerTask;
+use crate::opened::Opened;
+use crate::workers::Worker;
+use rb_ledger::{Seat, SharedRing};
+
+// Gives a ring's seats to the workers, one to each.
+fn distribute_ring(returned_seats: &mut Vec<Seat>, workers: &mut [Worker])
+    requires len { length returned_seats.old.items ≡ length workers.old }
+    requires room { (k : ℕ) (d : _) → k < length workers.old → HasSpareSeat (slice_index_or workers.old k d) }
+    ensures returned_seats { (returned_seats.new.items ≡ []) × (vec_capacity returned_seats.new ≡ vec_capacity returned_seats.old) }
+    ensures one_more { (k : ℕ) (d : _) (s : _) → k < length workers.old → IsOneMore (slice_index_or workers.old k d) (slice_index_or workers.new k d) (slice_index_or returned_seats.old.items k s) }
+{
+    let mut at = workers.len();
+    while let Some(seat) = returned_seats.pop() {
+        at -= 1;
+        workers[at].add_seat(seat);
+    }
+}
+
+// Takes a ring's seats back, one from each worker.
+fn return_ring(workers: &mut [Worker], returned_seats: &mut Vec<Seat>)
+    requires returned_seats { returned_seats.old.items ≡ [] }
+    requires room { length workers.old ≤ vec_capacity returned_seats.old }
+    requires some { (k : ℕ) (d : _) → k < length workers.old → 0 < vec_len (slice_index_or workers.old k d).seats }
+    ensures len { length returned_seats.new.items ≡ length workers.old }
+    ensures one_less { (k : ℕ) (d : _) (s : _) → k < length workers.old → IsOneMore (slice_index_or workers.new k d) (slice_index_or workers.old k d) (slice_index_or returned_seats.new.items k s) }
+{
+    for at in 0..workers.len() {
+        let seat = workers[at].remove_seat();
+        returned_seats.push_reserved(seat);
+    }
+}
+
+/// Takes the rings apart: what all threads share, what each ring's thread owns, and each worker's seats.
+pub(crate) fn split<S: Drop>(
+    opened: Vec<Opened<S>>,
+    rings: &mut Vec<SharedRing>,
+    consumers: &mut Vec<ConsumerTask<S>>,
+    workers: &mut [Worker],
+)
+    requires empty { (rings.old.items ≡ []) × (consumers.old.items ≡ []) }
+    requires room { (vec_len opened ≤ vec_capacity rings.old) × (vec_len opened ≤ vec_capacity consumers.old) }
+    requires seats { All (λ o. length o.seats.items ≡ length workers.old) opened.items }
+    requires workers { (k : ℕ) (d : _) → k < length workers.old → IsNew k (vec_len opened) (slice_index_or workers.old k d) }
+    ensures rings { rings.new.items ≡ map (λ o. o.ring) opened.items }
+    ensures consumers { AllZip IsSplitOff opened.items consumers.new.items }
+    ensures workers { (k : ℕ) (d : _) → k < length workers.old → HasSeats (slice_index_or workers.old k d) (worker_column k (seat_rows opened.items)) (slice_index_or workers.new k d) }
+{
+    for one in opened {
+        let Opened {
+            ring,
+            mut seats,
+            consumer,
+            sink,
+        } = one;
+        distribute_ring(&mut seats, workers);
+        rings.push_reserved(ring);
+        consumers.push_reserved(ConsumerTask {
+            consumer,
+            sink,
+            returned_seats: seats,
+        });
+    }
+}
+
+/// Puts the rings together again, each with its seats.
+pub(crate) fn merge<S: Drop>(
+    mut rings: Vec<SharedRing>,
+    mut consumers: Vec<ConsumerTask<S>>,
+    workers: &mut [Worker],
+    mut merged: Vec<Opened<S>>,
+) -> Vec<Opened<S>>
+    requires len { vec_len consumers ≡ vec_len rings }
+    requires returned_seats { All (λ t. (t.returned_seats.items ≡ []) × (length workers.old ≤ vec_capacity t.returned_seats)) consumers.items }
+    requires merged { (merged.items ≡ []) × (vec_len rings ≤ vec_capacity merged) }
+    requires workers { (k : ℕ) (d : _) → k < length workers.old → length (slice_index_or workers.old k d).seats.items ≡ vec_len rings }
+    ensures rings { map (λ o. o.ring) result.items ≡ rings.items }
+    ensures consumers { AllZip IsMergedInto consumers.items result.items }
+    ensures seats { All (λ o. length o.seats.items ≡ length workers.old) result.items }
+    ensures workers { (k : ℕ) (d : _) → k < length workers.old → HasSeats (slice_index_or workers.new k d) (worker_column k (seat_rows result.items)) (slice_index_or workers.old k d) }
+{
+    while let Some(task) = consumers.pop() {
+        let Some(ring) = rings.pop() else {
+            unreachable!()
+        };
+        let ConsumerTask {
+            consumer,
+            sink,
+            mut returned_seats,
+        } = task;
+        return_ring(workers, &mut returned_seats);
+        let one = Opened {
+            ring,
+            seats: returned_seats,
+            consumer,
+            sink,
+        };
+        if merged.insert(0, one).is_err() {
+            unreachable!()
+        }
+    }
+    merged
+}

@@ -1,0 +1,207 @@
+//! Runs of jobs over rings.
+
+ghost use Rattle.std.specs.Prelude.{ℕ, ◌≡◌, ◌≢◌, ◌<◌, ◌≤◌, ◌↔◌, [], All, IfErr, IfOk, false, length, map, slice_index_or, true, vec_capacity, vec_len};
+ghost use Rattle.std.specs.List.{AllZip};
+ghost use Rattle.rb_workers.specs.inner.ConsumerTasks.{IsConsumed};
+ghost use Rattle.rb_workers.specs.Opened.{AreOpened, IsOpened, workers_of};
+ghost use Rattle.rb_workers.specs.Reports.{IsHandedBack, IsReport, IsRefusedFor, has_unknown_ring, has_unknown_worker};
+ghost use Rattle.rb_workers.specs.JobRuns.{own_jobs};
+ghost use Rattle.rb_workers.specs.inner.RunBuffers.{IsEmptyFor, HasRoomForRun};
+ghost use Rattle.rb_workers.specs.SeatRows.{worker_column, seat_rows};
+ghost use Rattle.rb_workers.specs.Settled.{EachSettled, EndsSettled};
+ghost use Rattle.rb_workers.specs.inner.ReportAnswers.{ReportMatches};
+ghost use Rattle.rb_workers.specs.inner.WorkerRuns.{HasRun, IsNew};
+
+use crate::consumer_task::ConsumerTask;
+use crate::distribution::{merge, split};
+use crate::job_answers::{count_strays, in_list_order, is_any_short, results_of, sum_unlogged};
+use crate::opened::{Ended, JobFault, Opened, Report};
+use crate::ring_close::close_all;
+use crate::run_buffers::{RunBuffers, make_buffers};
+use crate::sink::Sink;
+use crate::threads::run_threads;
+use crate::workers::Worker;
+use rb_interp::RunFault;
+use rb_jobs::{Gate, Job, JobAnswer};
+use rb_ledger::SharedRing;
+use std::alloc::Global;
+use std::sync::Wait;
+use std::thread::Threads;
+
+// Whether some job's program knows more rings than these.
+fn is_ring_unknown(jobs: &[Job<'_>], rings: usize) -> bool
+    ensures { result ≡ has_unknown_ring rings jobs.now }
+{
+    for job in jobs {
+        if job.program.rings() as usize > rings {
+            return true;
+        }
+    }
+    false
+}
+
+// Whether some job's worker is none of these.
+fn is_worker_unknown(jobs: &[Job<'_>], count: u32) -> bool
+    ensures { result ≡ has_unknown_worker count jobs.now }
+{
+    for job in jobs {
+        if job.worker >= count {
+            return true;
+        }
+    }
+    false
+}
+
+// How many workers there are.
+fn count_workers<S: Sink>(opened: &[Opened<S>]) -> u32
+    requires opened { AreOpened S.position_of opened.now }
+    ensures { result ≡ workers_of opened.now }
+{
+    match opened.first() {
+        Some(one) => {
+            one.consumer.facts();
+            one.seats.len() as u32
+        }
+        None => 0,
+    }
+}
+
+// Takes the rings apart, runs the jobs in threads, and puts the rings together again.
+fn run_in<R: Threads + Wait + Sync, G: Gate + Sync, S: Sink + Send + Drop>(
+    rt: &R,
+    alloc: Global,
+    opened: Vec<Opened<S>>,
+    jobs: &[Job<'_>],
+    gate: &G,
+    mut rings: Vec<SharedRing>,
+    mut consumers: Vec<ConsumerTask<S>>,
+    merged: Vec<Opened<S>>,
+    workers: &mut [Worker],
+) -> Vec<Opened<S>>
+    requires jobs { All (λ j. j.program.now.rings ≤ vec_len opened) jobs.now }
+    requires opened { All (IsOpened S.position_of (length workers.old)) opened.items }
+    requires count { length workers.old ≡ workers_of opened.items }
+    requires empty { (rings.items ≡ []) × (consumers.items ≡ []) × (merged.items ≡ []) }
+    requires room { (vec_len opened ≤ vec_capacity rings) × (vec_len opened ≤ vec_capacity consumers) × (vec_len opened ≤ vec_capacity merged) }
+    requires workers { (k : ℕ) (d : _) → k < length workers.old → IsNew k (vec_len opened) (slice_index_or workers.old k d) }
+    ensures handed_back { IsHandedBack S.position_of opened.items jobs.now result.items }
+    ensures workers { (k : ℕ) (d : _) → k < workers_of opened.items → HasRun k jobs.now (worker_column k (seat_rows opened.items)) (worker_column k (seat_rows result.items)) (slice_index_or workers.new k d) }
+{
+    split(opened, &mut rings, &mut consumers, workers);
+    run_threads(rt, alloc, &rings, jobs, gate, workers, &mut consumers);
+    merge(rings, consumers, workers, merged)
+}
+
+// What jobs over these closed rings came to, where each worker ran all of its own.
+fn report_on<S: Drop>(
+    rings: Vec<Ended<S>>,
+    jobs: &[Job<'_>],
+    workers: &mut [Worker],
+    answers: Vec<JobAnswer>,
+    results: Vec<Result<u64, RunFault>>,
+) -> Report<S>
+    requires known { All (λ j. j.worker < length workers.old) jobs.now }
+    requires each { (k : ℕ) (d : _) → k < length workers.old → length (slice_index_or workers.old k d).answers.items ≡ length (own_jobs k jobs.now) }
+    requires room { IsEmptyFor (length jobs.now) answers × IsEmptyFor (length jobs.now) results }
+    ensures rings { result.rings ≡ rings }
+    ensures answers { ReportMatches jobs.now workers.old result }
+{
+    let answers = in_list_order(jobs, workers, answers);
+    let run_results = results_of(&answers, results);
+    let strays = count_strays(&run_results);
+    let unlogged = sum_unlogged(&answers);
+    Report {
+        rings,
+        answers: run_results,
+        strays,
+        unlogged,
+    }
+}
+
+// Runs the jobs, and closes the rings where each worker ran all of its own.
+fn run_known<R: Threads + Wait + Sync, S: Sink + Send + Drop, G: Gate + Sync>(
+    rt: &R,
+    alloc: Global,
+    opened: Vec<Opened<S>>,
+    jobs: &[Job<'_>],
+    gate: &G,
+    buffers: RunBuffers<S>,
+) -> Result<Report<S>, Vec<Opened<S>>>
+    requires opened { AreOpened S.position_of opened.items }
+    requires rings { has_unknown_ring (vec_len opened) jobs.now ≡ false }
+    requires workers { has_unknown_worker (workers_of opened.items) jobs.now ≡ false }
+    requires buffers { HasRoomForRun (workers_of opened.items) (vec_len opened) (length jobs.now) buffers }
+    ensures report { IfOk result (IsReport S.position_of opened.items jobs.now) }
+    ensures handed_back { IfErr result (λ b. IsHandedBack S.position_of opened.items jobs.now b.items) }
+{
+    let RunBuffers {
+        rings,
+        consumers,
+        merged,
+        mut workers,
+        tallies,
+        ended,
+        answers,
+        results,
+    } = buffers;
+    let merged = run_in(
+        rt,
+        alloc,
+        opened,
+        jobs,
+        gate,
+        rings,
+        consumers,
+        merged,
+        workers.as_mut_slice(),
+    );
+    if is_any_short(&workers) {
+        return Err(merged);
+    }
+    let rings = close_all(rt, merged, tallies, ended);
+    Ok(report_on(rings, jobs, workers.as_mut_slice(), answers, results))
+}
+
+/// Runs the jobs over the rings that were opened, a thread for each worker and for each ring, and closes the rings.
+///
+/// Each worker runs its own jobs in the order of the list, at its seats, one at each ring in their order: ring k of a program is the k-th.
+/// Each ring's consumer gives each record that it takes to the ring's sink. When all workers have ended, what is left is taken, up to the
+/// first record that is still busy. The gate is called before each helper call, and once more after a worker's last job, with the number
+/// of helper calls that the worker has finished; so a worker without jobs calls it once, with 0. Where no thread can be made its work is
+/// done on the calling thread, the workers' first.
+///
+/// `UnknownRing` comes before `UnknownWorker`, both before anything runs, and all is handed back as it was. `Memory` is returned where
+/// there is none to begin, or none for a worker's next job: that worker then runs no more, the others run on, and all is handed back as
+/// it then is, with no ring closed.
+///
+/// It takes memory for each job and each seat, and for each worker's trace and answers as it runs.
+pub fn run_jobs<R: Threads + Wait + Sync, S: Sink + Send + Drop, G: Gate + Sync>(
+    rt: &R,
+    alloc: Global,
+    opened: Vec<Opened<S>>,
+    jobs: &[Job<'_>],
+    gate: &G,
+) -> Result<Report<S>, (JobFault, Vec<Opened<S>>)>
+    requires opened { AreOpened S.position_of opened.items }
+    ensures unknown_ring { IsRefusedFor JobFault.UnknownRing result ↔ (has_unknown_ring (vec_len opened) jobs.now ≡ true) }
+    ensures unknown_worker { IsRefusedFor JobFault.UnknownWorker result ↔ ((has_unknown_ring (vec_len opened) jobs.now ≡ false) × (has_unknown_worker (workers_of opened.items) jobs.now ≡ true)) }
+    ensures nothing_ran { IfErr result (λ e. e.0 ≢ JobFault.Memory → e.1 ≡ opened) }
+    ensures handed_back { IfErr result (λ e. IsHandedBack S.position_of opened.items jobs.now e.1.items) }
+    ensures report { IfOk result (IsReport S.position_of opened.items jobs.now) }
+    ensures no_strays { IfOk result (λ r. r.strays ≡ 0 → EachSettled (workers_of opened.items) (seat_rows opened.items) → All EndsSettled r.rings.items) }
+{
+    if is_ring_unknown(jobs, opened.len()) {
+        return Err((JobFault::UnknownRing, opened));
+    }
+    let count = count_workers(&opened);
+    if is_worker_unknown(jobs, count) {
+        return Err((JobFault::UnknownWorker, opened));
+    }
+    let Ok(buffers) = make_buffers(alloc, count, opened.len(), jobs.len()) else {
+        return Err((JobFault::Memory, opened));
+    };
+    match run_known(rt, alloc, opened, jobs, gate, buffers) {
+        Ok(report) => Ok(report),
+        Err(merged) => Err((JobFault::Memory, merged)),
+    }
+}

@@ -1,0 +1,87 @@
+//! Memory for a whole run, taken before anything moves.
+
+ghost use Rattle.std.specs.Prelude.{ℕ, All, ◌≡◌, ◌<◌, ◌≤◌, [], IfOk, slice_index_or, vec_capacity, vec_len};
+ghost use Rattle.rb_workers.specs.inner.RunBuffers.{IsEmptyFor, HasRoomForRun};
+ghost use Rattle.rb_workers.specs.inner.WorkerRuns.{IsNew};
+
+use crate::consumer_task::ConsumerTask;
+use crate::opened::{Ended, Opened};
+use crate::workers::Worker;
+use rb_interp::RunFault;
+use rb_jobs::JobAnswer;
+use rb_ledger::{SharedRing, Tally};
+use std::alloc::{AllocError, Global};
+
+/// Empty places for all that a run moves and makes, and the workers, which have no seats yet.
+pub(crate) struct RunBuffers<S> {
+    pub(crate) rings: Vec<SharedRing>,
+    pub(crate) consumers: Vec<ConsumerTask<S>>,
+    pub(crate) merged: Vec<Opened<S>>,
+    pub(crate) workers: Vec<Worker>,
+    /// A row for each ring.
+    pub(crate) tallies: Vec<Vec<Tally>>,
+    pub(crate) ended: Vec<Ended<S>>,
+    pub(crate) answers: Vec<JobAnswer>,
+    pub(crate) results: Vec<Result<u64, RunFault>>,
+}
+
+// So many workers, each with room for a seat at each ring.
+fn new_workers(alloc: Global, count: u32, rings: usize) -> Result<Vec<Worker>, AllocError>
+    ensures len { IfOk result (λ v. vec_len v ≡ count) }
+    ensures each { IfOk result (λ v. (k : ℕ) (d : _) → k < count → IsNew k rings (slice_index_or v.items k d)) }
+{
+    let mut workers = Vec::with_capacity(alloc, count as usize)?;
+    for number in 0..count {
+        let seats = Vec::with_capacity(alloc, rings)?;
+        workers.push_reserved(Worker {
+            number,
+            calls: 0,
+            short: false,
+            seats,
+            answers: Vec::new(alloc),
+        });
+    }
+    Ok(workers)
+}
+
+// An empty row for each ring, with room for each worker's tally.
+fn new_tallies(alloc: Global, count: u32, rings: usize) -> Result<Vec<Vec<Tally>>, AllocError>
+    ensures len { IfOk result (λ v. vec_len v ≡ rings) }
+    ensures each { IfOk result (λ v. All (IsEmptyFor count) v.items) }
+{
+    let mut rows = Vec::with_capacity(alloc, rings)?;
+    for _ in 0..rings {
+        let row = Vec::with_capacity(alloc, count as usize)?;
+        rows.push_reserved(row);
+    }
+    Ok(rows)
+}
+
+/// All memory that a run over so many rings, workers and jobs needs before its first job.
+pub(crate) fn make_buffers<S: Drop>(
+    alloc: Global,
+    count: u32,
+    rings: usize,
+    jobs: usize,
+) -> Result<RunBuffers<S>, AllocError>
+    ensures roomy { IfOk result (HasRoomForRun count rings jobs) }
+{
+    let workers = new_workers(alloc, count, rings)?;
+    let tallies = new_tallies(alloc, count, rings)?;
+    let consumers = Vec::with_capacity(alloc, rings)?;
+    let merged = Vec::with_capacity(alloc, rings)?;
+    let ended = Vec::with_capacity(alloc, rings)?;
+    let rings = Vec::with_capacity(alloc, rings)?;
+    let answers = Vec::with_capacity(alloc, jobs)?;
+    let results = Vec::with_capacity(alloc, jobs)?;
+    Ok(RunBuffers {
+        rings,
+        consumers,
+        merged,
+        workers,
+        tallies,
+        ended,
+        answers,
+        results,
+    })
+}

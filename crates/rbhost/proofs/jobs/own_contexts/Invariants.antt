@@ -1,5 +1,0 @@
-use Rattle.std.proofs.Common.{◌+◌, ◌-◌, ◌≤◌, vec_len, vec_capacity}
-use Rattle.rbhost.proofs.jobs.own_contexts.Given as goal
-
-abbrev pub invariant-loop-job : goal.invariant-loop-job
-invariant-loop-job l = vec_len l.contexts + (l.jobs - l.job) ≤ vec_capacity l.contexts

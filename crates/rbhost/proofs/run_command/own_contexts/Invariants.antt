@@ -1,0 +1,5 @@
+use Rattle.std.proofs.Common.{◌+◌, ◌-◌, ◌≤◌, vec_len, vec_capacity}
+use Rattle.rbhost.proofs.run_command.own_contexts.Given as goal
+
+abbrev pub invariant-loop-job : goal.invariant-loop-job
+invariant-loop-job l = vec_len l.contexts + (l.jobs - l.job) ≤ vec_capacity l.contexts
