@@ -11,7 +11,7 @@ use Rattle.rb_refs.specs.declared.value.Abs.TheVariants.{Unreadable, Number, Kno
 use Rattle.rb_refs.specs.declared.reference_changes.Change.{Change}
 use Rattle.rb_refs.specs.declared.reference_changes.Change.TheVariants.{IsNull, IsThere, GivenBack}
 use Rattle.rb_refs.specs.AbstractValues.{IsNumber, BelowValue}
-use Rattle.rb_refs.specs.ReferenceChanges.{after_change}
+use Rattle.rb_refs.specs.inner.ChangedValues.{after_change}
 use Rattle.rb_refs.specs.ValueChecks.{◌>>=◌, Check, check_readable, check_number, check_tested, check_not_context, check_inside, check_ring, check_part_pointer, check_known_size, check_record_size, check_record_start}
 use Rattle.rb_refs.specs.AbstractArithmetic.{abstract_result, check_numbers, check_arithmetic}
 use Rattle.rb_refs.specs.StepOrder.{ResultBelow}

@@ -7,7 +7,8 @@ use Rattle.rb_refs.specs.declared.value.Abs.{Abs}
 use Rattle.rb_refs.specs.declared.value.Abs.TheVariants.{Unreadable}
 use Rattle.rb_refs.specs.declared.state.AbsState.{AbsState}
 use Rattle.rb_refs.specs.AbstractStates.{value_in}
-use Rattle.rb_refs.specs.Joins.{IsJoin, IsJoinValue}
+use Rattle.rb_refs.specs.Joins.{IsJoin}
+use Rattle.rb_refs.specs.inner.ValueJoins.{IsJoinValue}
 
 -- a loop that changes each value by a function
 pub changed_more : (f : Abs → Abs) (xs ys : List Abs) (i : ℕ) (x : Abs) → i < length xs → i < length ys → ys ≡ map f (take i xs) ++ drop i xs → x ≡ f (get_or ys i Unreadable) → set ys i x ≡ map f (take (i + 1) xs) ++ drop (i + 1) xs

@@ -8,7 +8,7 @@ use Rattle.rb_refs.specs.declared.value.Abs.{Abs}
 use Rattle.rb_refs.specs.declared.value.Abs.TheVariants.{Unreadable}
 use Rattle.rb_refs.specs.AbstractValues.{BelowValue}
 use Rattle.rb_refs.specs.AbstractStates.{Below, EffectBelow, put, effect_on_both}
-use Rattle.rb_refs.specs.ReferenceChanges.{after_change}
+use Rattle.rb_refs.specs.inner.ChangedValues.{after_change}
 use Rattle.rb_refs.specs.HelperChecks.{after_answer}
 use Rattle.rb_refs.proofs.CheckOrder.{changed_below}
 

@@ -12,3 +12,4 @@ pub mod VerifierChecks
 pub mod Joins
 pub mod StepOrder
 pub mod Forms
+pub mod inner

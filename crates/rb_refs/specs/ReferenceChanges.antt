@@ -2,8 +2,6 @@
 use Rattle.std.specs.Prelude.{ℕ, pos, ◌==◌, map, filter, if◌then◌else◌}
 use Rattle.rb_refs.specs.declared.value.Abs.{Abs}
 use Rattle.rb_refs.specs.declared.value.Abs.TheVariants.{Unreadable, Known, Perhaps, Record}
-use Rattle.rb_refs.specs.declared.reference_changes.Change.{Change}
-use Rattle.rb_refs.specs.declared.reference_changes.Change.TheVariants.{IsNull, IsThere, GivenBack}
 use Rattle.rb_refs.specs.declared.state.AbsState.{AbsState}
 use Rattle.rb_refs.specs.References.{other_than, tested_in}
 
@@ -21,11 +19,6 @@ if_there id v = v
 abbrev pub if_given_back : ℕ → Abs → Abs
 if_given_back id (Record other offset) = if other == id then Unreadable else Record other offset
 if_given_back id v = v
-
-abbrev pub after_change : Change → Abs → Abs
-after_change (IsNull id) = if_null id
-after_change (IsThere id) = if_there id
-after_change (GivenBack id) = if_given_back id
 
 -- where it was null the reference goes
 abbrev pub null_state : ℕ → AbsState → AbsState

@@ -3,7 +3,8 @@
 ghost use Rattle.std.specs.Prelude.{◌≡◌, ◌≢◌, ◌↔◌, IsTrue, MatchOption};
 ghost use Rattle.rb_refs.specs.AbstractValues.{IsNumber, BelowValue};
 ghost use Rattle.rb_refs.specs.AbstractStates.{Below};
-ghost use Rattle.rb_refs.specs.Joins.{IsJoin, IsJoinValue};
+ghost use Rattle.rb_refs.specs.Joins.{IsJoin};
+ghost use Rattle.rb_refs.specs.inner.ValueJoins.{IsJoinValue};
 
 use crate::state::AbsState;
 use crate::value::Abs;

@@ -1,7 +1,8 @@
 //! What a null test and the giving back of a record tell of every register and reference.
 
 ghost use Rattle.std.specs.Prelude.{◌≡◌, map};
-ghost use Rattle.rb_refs.specs.ReferenceChanges.{after_change, null_state, there_state, given_back_state};
+ghost use Rattle.rb_refs.specs.ReferenceChanges.{null_state, there_state, given_back_state};
+ghost use Rattle.rb_refs.specs.inner.ChangedValues.{after_change};
 
 use crate::state::AbsState;
 use crate::value::Abs;

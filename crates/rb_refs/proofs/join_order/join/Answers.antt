@@ -1,6 +1,6 @@
 use Rattle.std.proofs.Common.{◌≡◌, ◌≢◌, length, sym, ◌∙◌, arith, rules, length-set, get_or-set_other}
 use Rattle.rb_refs.specs.declared.value.Abs.TheVariants.{Unreadable}
-use Rattle.rb_refs.specs.Joins.{IsJoinValue}
+use Rattle.rb_refs.specs.inner.ValueJoins.{IsJoinValue}
 use Rattle.rb_refs.proofs.Registers.{join_by_values, joined_more, everywhere, unreadable_join}
 use Rattle.rb_refs.proofs.join_order.join.Goals as goal
 

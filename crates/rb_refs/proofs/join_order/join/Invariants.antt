@@ -1,6 +1,6 @@
 use Rattle.std.proofs.Common.{◌≡◌, ◌<◌, ◌≤◌, ℕ, length, get_or}
 use Rattle.rb_refs.specs.declared.value.Abs.TheVariants.{Unreadable}
-use Rattle.rb_refs.specs.Joins.{IsJoinValue}
+use Rattle.rb_refs.specs.inner.ValueJoins.{IsJoinValue}
 use Rattle.rb_refs.proofs.join_order.join.Given as goal
 
 abbrev pub invariant-loop-i : goal.invariant-loop-i

@@ -1,5 +1,5 @@
 use Rattle.std.proofs.Common.{◌∙◌, length-set, arith}
-use Rattle.rb_refs.specs.ReferenceChanges.{after_change}
+use Rattle.rb_refs.specs.inner.ChangedValues.{after_change}
 use Rattle.rb_refs.proofs.Registers.{changed_more}
 use Rattle.rb_refs.proofs.reference_changes.changed_values.Goals as goal
 

@@ -1,5 +1,5 @@
 use Rattle.std.proofs.Common.{◌≡◌, ◌++◌, map, take, drop, length}
-use Rattle.rb_refs.specs.ReferenceChanges.{after_change}
+use Rattle.rb_refs.specs.inner.ChangedValues.{after_change}
 use Rattle.rb_refs.proofs.reference_changes.changed_values.Given as goal
 
 abbrev pub invariant-loop-i : goal.invariant-loop-i

@@ -1,0 +1,2 @@
+pub mod ChangedValues
+pub mod ValueJoins
