@@ -1,4 +1,4 @@
-use Rattle.std.proofs.Common.{◌≡◌, ◌<◌, ◌∙◌, ap, sym, subst, [], arith}
+use Rattle.std.proofs.Common.{◌≡◌, ◌<◌, ◌∙◌, ap, sym, subst, arith}
 use Rattle.rb_decode.specs.Program.{unit_count}
 use Rattle.rb_verifier.specs.inner.Sweep.{Progress, AreFirstArrivals}
 use Rattle.rb_verifier.proofs.Passing.{progress_start}
