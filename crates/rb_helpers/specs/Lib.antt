@@ -1,2 +1,4 @@
+pub mod AnsweredCalls
 pub mod ErrorNumbers
 pub mod ListedAnswers
+pub mod inner

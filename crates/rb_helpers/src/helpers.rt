@@ -3,6 +3,7 @@
 ghost use Rattle.std.specs.Prelude.{◌≡◌, ℕ, ◌+◌, ◌<◌, List, [], ◌∷◌, ◌++◌, length, replicate, IfErr, IfSome, is_some, is_ok, Bool, true};
 ghost use Rattle.rb_helpers.specs.declared.done.Done.{Done};
 ghost use Rattle.rb_helpers.specs.declared.done.Done.TheVariants.{Reserve, Submit, Discard, Output, Query};
+ghost use Rattle.rb_helpers.specs.AnsweredCalls.{AnsweredCall, Reserved, Submitted, Discarded, SentOut, Queried};
 
 use crate::done::Done;
 use rb_lend::Lent;
@@ -23,9 +24,8 @@ pub trait Helpers {
     /// Whether there is a ring of this number.
     ghost has_ring: { Self → ℕ → Bool };
 
-    /// Whether calls lead from the first value to the second, and their submits and outputs were given these bytes: a list
-    /// of bytes for each such call, the oldest first, whatever its answer.
-    ghost leads: { Self → List (List ℕ) → Self → Type 0 };
+    /// Whether these calls, the oldest first, with these answers, lead from the first value to the second.
+    ghost leads: { Self → List (AnsweredCall Self.Record) → Self → Type 0 };
 
     /// A record of `n` zero bytes in the ring of this number, or null, which is `None` (bpf_ringbuf_reserve).
     fn reserve(&mut self, ring: u32, n: u32, flags: u64) -> Option<Self::Record>
@@ -34,7 +34,7 @@ pub trait Helpers {
         ensures trace { trace_of self.new ≡ trace_of self.old ++ Reserve ring n flags (is_some result) ∷ [] }
         ensures room { room_of self.new + 1 ≡ room_of self.old }
         ensures rings { has_ring self.new ≡ has_ring self.old }
-        ensures given { (start : Self) (given : List (List ℕ)) → leads start given self.old → leads start given self.new }
+        ensures called { leads self.old (Reserved ring n flags result ∷ []) self.new }
         ensures zeros { IfSome result (λ r. Self.Record.bytes_of r ≡ replicate n 0) };
 
     /// Takes the record, to be consumed, or refuses it and hands the very record back (bpf_ringbuf_submit).
@@ -43,7 +43,7 @@ pub trait Helpers {
         ensures trace { trace_of self.new ≡ trace_of self.old ++ Submit flags (is_ok result) ∷ [] }
         ensures room { room_of self.new + 1 ≡ room_of self.old }
         ensures rings { has_ring self.new ≡ has_ring self.old }
-        ensures given { (start : Self) (given : List (List ℕ)) → leads start given self.old → leads start (given ++ Self.Record.bytes_of owned ∷ []) self.new }
+        ensures called { leads self.old (Submitted owned flags (is_ok result) ∷ []) self.new }
         ensures handed_back { IfErr result (λ back. back ≡ owned) };
 
     /// Takes the record, to be passed over, or refuses it and hands the very record back (bpf_ringbuf_discard).
@@ -52,7 +52,7 @@ pub trait Helpers {
         ensures trace { trace_of self.new ≡ trace_of self.old ++ Discard flags (is_ok result) ∷ [] }
         ensures room { room_of self.new + 1 ≡ room_of self.old }
         ensures rings { has_ring self.new ≡ has_ring self.old }
-        ensures given { (start : Self) (given : List (List ℕ)) → leads start given self.old → leads start given self.new }
+        ensures called { leads self.old (Discarded owned flags (is_ok result) ∷ []) self.new }
         ensures handed_back { IfErr result (λ back. back ≡ owned) };
 
     /// Outputs a copy of the bytes to the ring. The answer is 0, or a failure below it, as `-EINVAL` or `-EAGAIN`
@@ -63,7 +63,7 @@ pub trait Helpers {
         ensures trace { trace_of self.new ≡ trace_of self.old ++ Output ring (length bytes.now) flags result ∷ [] }
         ensures room { room_of self.new + 1 ≡ room_of self.old }
         ensures rings { has_ring self.new ≡ has_ring self.old }
-        ensures given { (start : Self) (given : List (List ℕ)) → leads start given self.old → leads start (given ++ bytes.now ∷ []) self.new };
+        ensures called { leads self.old (SentOut ring bytes.now flags result ∷ []) self.new };
 
     /// Asks the ring for a number: 0 for the bytes that were not consumed yet, 1 for its size, 2 for the consumer position and
     /// 3 for the producer position (bpf_ringbuf_query).
@@ -73,7 +73,7 @@ pub trait Helpers {
         ensures trace { trace_of self.new ≡ trace_of self.old ++ Query ring what result ∷ [] }
         ensures room { room_of self.new + 1 ≡ room_of self.old }
         ensures rings { has_ring self.new ≡ has_ring self.old }
-        ensures given { (start : Self) (given : List (List ℕ)) → leads start given self.old → leads start given self.new };
+        ensures called { leads self.old (Queried ring what result ∷ []) self.new };
 
     /// The calls so far with their answers, the oldest first.
     fn trace(&self) -> &[Done]
@@ -82,4 +82,10 @@ pub trait Helpers {
     /// How many more calls there is room for.
     fn room(&self) -> usize
         ensures { result ≡ room_of self.now };
+
+    /// No calls lead from a value to itself.
+    ghost leads_by_none: { (h : Self) → leads h [] h };
+
+    /// Calls, and then calls from where those led, lead the whole way.
+    ghost leads_on: { (a b c : Self) (first more : List (AnsweredCall Self.Record)) → leads a first b → leads b more c → leads a (first ++ more) c };
 }

@@ -3,7 +3,9 @@
 ghost use Rattle.std.specs.Prelude.{◌≡◌, ℕ, ◌+◌, ◌<◌, ◌≤◌, List, [], ◌∷◌, ◌++◌, length, replicate, IfOk, IfErr, IfSome, is_some, is_ok, Bool, true, drop, ℤ, pos};
 ghost use Rattle.rb_helpers.specs.declared.done.Done.{Done};
 ghost use Rattle.rb_helpers.specs.declared.done.Done.TheVariants.{Reserve, Submit, Discard, Output, Query};
-ghost use Rattle.rb_helpers.specs.ListedAnswers.{Answers, next_of, output_answer, given_calls};
+ghost use Rattle.rb_helpers.specs.ListedAnswers.{Answers, ListLeads, next_of, output_answer};
+ghost use Rattle.rb_helpers.specs.AnsweredCalls.{Reserved, Submitted, Discarded, SentOut, Queried};
+ghost use Rattle.rb_helpers.specs.inner.ListCalls.{none_called, called_on};
 
 use crate::done::Done;
 use crate::helpers::Helpers;
@@ -83,7 +85,11 @@ impl Helpers for Listed {
 
     ghost has_ring = { λ h ring. true };
 
-    ghost leads = { λ start given h. given_calls start.trace + length given ≡ given_calls h.trace };
+    ghost leads = { ListLeads };
+
+    ghost leads_by_none = { none_called };
+
+    ghost leads_on = { called_on };
 
     /// A sheet of `n` zero bytes where the next answer is `true` and there is memory for it, else null.
     fn reserve(&mut self, ring: u32, n: u32, flags: u64) -> Option<Sheet>
@@ -91,7 +97,7 @@ impl Helpers for Listed {
         ensures trace { self.new.trace ≡ self.old.trace ++ Reserve ring n flags (is_some result) ∷ [] }
         ensures left { self.new.left ≡ drop 1 self.old.left }
         ensures room { length self.new.left + 1 ≡ length self.old.left }
-        ensures given { (start : Answers) (given : List (List ℕ)) → given_calls start.trace + length given ≡ given_calls self.old.trace → given_calls start.trace + length given ≡ given_calls self.new.trace }
+        ensures called { ListLeads self.old (Reserved ring n flags result ∷ []) self.new }
         ensures zeros { IfSome result (λ r. r ≡ replicate n 0) }
         ensures answer { IfSome result (λ _. next_of self.old.left ≡ true) }
     {
@@ -115,7 +121,7 @@ impl Helpers for Listed {
         ensures trace { self.new.trace ≡ self.old.trace ++ Submit flags (is_ok result) ∷ [] }
         ensures left { self.new.left ≡ drop 1 self.old.left }
         ensures room { length self.new.left + 1 ≡ length self.old.left }
-        ensures given { (start : Answers) (given : List (List ℕ)) → given_calls start.trace + length given ≡ given_calls self.old.trace → given_calls start.trace + length (given ++ owned ∷ []) ≡ given_calls self.new.trace }
+        ensures called { ListLeads self.old (Submitted owned flags (is_ok result) ∷ []) self.new }
         ensures handed_back { IfErr result (λ back. back ≡ owned) }
         ensures answer { is_ok result ≡ next_of self.old.left }
     {
@@ -130,7 +136,7 @@ impl Helpers for Listed {
         ensures trace { self.new.trace ≡ self.old.trace ++ Discard flags (is_ok result) ∷ [] }
         ensures left { self.new.left ≡ drop 1 self.old.left }
         ensures room { length self.new.left + 1 ≡ length self.old.left }
-        ensures given { (start : Answers) (given : List (List ℕ)) → given_calls start.trace + length given ≡ given_calls self.old.trace → given_calls start.trace + length given ≡ given_calls self.new.trace }
+        ensures called { ListLeads self.old (Discarded owned flags (is_ok result) ∷ []) self.new }
         ensures handed_back { IfErr result (λ back. back ≡ owned) }
         ensures answer { is_ok result ≡ next_of self.old.left }
     {
@@ -145,7 +151,7 @@ impl Helpers for Listed {
         ensures trace { self.new.trace ≡ self.old.trace ++ Output ring (length bytes.now) flags result ∷ [] }
         ensures left { self.new.left ≡ drop 1 self.old.left }
         ensures room { length self.new.left + 1 ≡ length self.old.left }
-        ensures given { (start : Answers) (given : List (List ℕ)) → given_calls start.trace + length given ≡ given_calls self.old.trace → given_calls start.trace + length (given ++ bytes.now ∷ []) ≡ given_calls self.new.trace }
+        ensures called { ListLeads self.old (SentOut ring bytes.now flags result ∷ []) self.new }
         ensures answer { result ≡ output_answer (next_of self.old.left) }
     {
         let answer = if self.next_answer() { 0 } else { -EAGAIN };
@@ -164,7 +170,7 @@ impl Helpers for Listed {
         ensures trace { self.new.trace ≡ self.old.trace ++ Query ring what result ∷ [] }
         ensures left { self.new.left ≡ drop 1 self.old.left }
         ensures room { length self.new.left + 1 ≡ length self.old.left }
-        ensures given { (start : Answers) (given : List (List ℕ)) → given_calls start.trace + length given ≡ given_calls self.old.trace → given_calls start.trace + length given ≡ given_calls self.new.trace }
+        ensures called { ListLeads self.old (Queried ring what result ∷ []) self.new }
         ensures answer { result ≡ 0 }
     {
         self.log(Done::Query {

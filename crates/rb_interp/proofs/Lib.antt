@@ -6,5 +6,6 @@ mod Giving
 mod Comparing
 mod Feasible
 mod Steady
+mod HeldRecords
 mod Reaching
 mod RunSteps

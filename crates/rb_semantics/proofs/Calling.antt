@@ -48,7 +48,7 @@ record_there held rs id None f t k = absurd t
 record_there held rs id (Some q) f t k = let b = held_found id held rs q f t k in (b.0, b.1)
 
 -- which values the registers hold that a call reads
-asks_reserve : (s : State) (v w x : Value) (ring len flags : ℕ) → v ≡ Ring ring → w ≡ Number len → x ≡ Number flags → call_reserve v w x s ≡ Some (Reserve ring len flags, waiting s)
+asks_reserve : (s : State) (v w x : Value) (ring len flags : ℕ) → v ≡ Ring ring → w ≡ Number len → x ≡ Number flags → call_reserve v w x s ≡ Some (Reserve s.unit ring len flags, waiting s)
 asks_reserve s v w x ring len flags e f g = rw (e, f, g) refl
 
 asks_query : (s : State) (v w : Value) (ring what : ℕ) → v ≡ Ring ring → w ≡ Number what → call_query v w s ≡ Some (Query ring what, waiting s)

@@ -62,27 +62,27 @@ unfolding execute edge_target value_of jumps_of condition_holds wrapped signed_o
 exit_zero = refl
 
 -- the record is named by the unit of its CALL, which is unit 4
-submitted : runs (submit_42) (Granted ∷ Taken ∷ []) (Reserve 0 8 0 ∷ Submit 4 bytes_of_42 0 ∷ []) (Returns 0)
+submitted : runs (submit_42) (Granted ∷ Taken ∷ []) (Reserve 4 0 8 0 ∷ Submit 4 bytes_of_42 0 ∷ []) (Returns 0)
 unfolding execute edge_target value_of jumps_of condition_holds wrapped signed_of sign_extended binary_of division_of unsigned_division
 submitted = refl
 
 -- the jump is taken where the reservation gave null
-refused : runs (submit_42) (Null ∷ []) (Reserve 0 8 0 ∷ []) (Returns 0)
+refused : runs (submit_42) (Null ∷ []) (Reserve 4 0 8 0 ∷ []) (Returns 0)
 unfolding execute edge_target value_of jumps_of condition_holds wrapped signed_of sign_extended binary_of division_of unsigned_division
 refused = refl
 
 -- the record is handed back
-strayed : runs (submit_42) (Granted ∷ HandedBack ∷ []) (Reserve 0 8 0 ∷ Submit 4 bytes_of_42 0 ∷ []) Strayed
+strayed : runs (submit_42) (Granted ∷ HandedBack ∷ []) (Reserve 4 0 8 0 ∷ Submit 4 bytes_of_42 0 ∷ []) Strayed
 unfolding execute edge_target value_of jumps_of condition_holds wrapped signed_of sign_extended binary_of division_of unsigned_division
 strayed = refl
 
 -- no answer is left
-waits : runs (submit_42) (Granted ∷ []) (Reserve 0 8 0 ∷ Submit 4 bytes_of_42 0 ∷ []) Waits
+waits : runs (submit_42) (Granted ∷ []) (Reserve 4 0 8 0 ∷ Submit 4 bytes_of_42 0 ∷ []) Waits
 unfolding execute edge_target value_of jumps_of condition_holds wrapped signed_of sign_extended binary_of division_of unsigned_division
 waits = refl
 
 -- an answer of another kind
-other_kind : runs (submit_42) (Taken ∷ []) (Reserve 0 8 0 ∷ []) IsStuck
+other_kind : runs (submit_42) (Taken ∷ []) (Reserve 4 0 8 0 ∷ []) IsStuck
 unfolding execute edge_target value_of jumps_of condition_holds wrapped signed_of sign_extended binary_of division_of unsigned_division
 other_kind = refl
 
@@ -167,7 +167,7 @@ unfolding execute edge_target value_of jumps_of condition_holds wrapped signed_o
 query_told = refl
 
 -- a record that was discarded has left the memory
-record_gone : runs (LoadRing r1 0 ∷ set r2 1 ∷ set r3 0 ∷ Call 131 ∷ Move W64 r6 (Register r0) ∷ Move W64 r1 (Register r0) ∷ set r2 0 ∷ Call 133 ∷ Load Byte r0 r6 (pos 0) ∷ Exit ∷ []) (Granted ∷ Taken ∷ []) (Reserve 0 1 0 ∷ Discard 4 (0 ∷ []) 0 ∷ []) IsStuck
+record_gone : runs (LoadRing r1 0 ∷ set r2 1 ∷ set r3 0 ∷ Call 131 ∷ Move W64 r6 (Register r0) ∷ Move W64 r1 (Register r0) ∷ set r2 0 ∷ Call 133 ∷ Load Byte r0 r6 (pos 0) ∷ Exit ∷ []) (Granted ∷ Taken ∷ []) (Reserve 4 0 1 0 ∷ Discard 4 (0 ∷ []) 0 ∷ []) IsStuck
 unfolding execute edge_target value_of jumps_of condition_holds wrapped signed_of sign_extended binary_of division_of unsigned_division
 record_gone = refl
 
