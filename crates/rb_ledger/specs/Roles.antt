@@ -49,3 +49,9 @@ pub record ExtendsSeen (role : Role) (seen new : Book) : Type 0 where
   pub behind : List Entry
   pub history_is : new.history ≡ seen.history ++ behind
   pub none_own : NoneOwn role seen.history behind
+
+-- the book `new` begins with all that was seen: it has the same setup, and its history goes on from the one that was seen
+pub record BeginsWith (new seen : Book) : Type 0 where
+  pub setup_same : new.setup ≡ seen.setup
+  pub behind : List Entry
+  pub history_is : new.history ≡ seen.history ++ behind

@@ -1,11 +1,11 @@
 -- What contracts see of a shared ring and of its seats (own).
-use Rattle.std.specs.Prelude.{◌≡◌, ℕ, zero, suc, ◌+◌, ◌<◌, ◌≤◌, ◌==◌, Bool, true, List, [], ◌∷◌}
+use Rattle.std.specs.Prelude.{◌≡◌, ℕ, zero, suc, ◌+◌, ◌<◌, ◌≤◌, ◌==◌, Bool, true, List, [], ◌∷◌, Option, None}
 use Rattle.std.specs.List.{list_any, list_all, count_by, sum_by}
 use Rattle.std.specs.FinMap.{empty}
 use Rattle.atomic_table.specs.Seated.{TableId}
 use Rattle.rb_history.specs.History.{consumer_of}
 use Rattle.rb_history.specs.Legal.{IsLegal}
-use Rattle.rb_history.specs.RingModel.{Contents, IsRingSize, IsStartPosition, IsWorkerCount}
+use Rattle.rb_history.specs.RingModel.{Ring, Contents, IsRingSize, IsStartPosition, IsWorkerCount}
 use Rattle.rb_ledger.specs.declared.tally.Tally.{Tally}
 use Rattle.rb_ledger.specs.Roles.{Book}
 use Rattle.rb_ledger.specs.WorkerCounts.{tally_of, events_of, skips_of}
@@ -15,8 +15,13 @@ pub record Shared : Type 0 where
   pub tag : ℕ
   pub ring : TableId
 
--- a worker's seat: the tag and the ring that it was opened with, its numbers, the book as it saw it last, and the bytes that it
--- submitted or output, by position
+-- a ring that was closed: which shared ring it was, and the ring as it ended
+pub record ClosedRing : Type 0 where
+  pub shared : Shared
+  pub at_end : Ring
+
+-- a worker's seat: the tag and the ring that it was opened with, its numbers, the book as it saw it last, the bytes that it submitted
+-- or output, by position, and the ring's state where the seat has it out of the lock
 pub record WorkerSeat : Type 0 where
   pub tag : ℕ
   pub ring : TableId
@@ -24,6 +29,7 @@ pub record WorkerSeat : Type 0 where
   pub tally : Tally
   pub seen : Book
   pub sent : Contents
+  pub out : Option Ring
 
 -- the consumer's seat, with the bytes that it took as events, by position
 pub record ConsumerSeatValue : Type 0 where
@@ -34,6 +40,7 @@ pub record ConsumerSeatValue : Type 0 where
   pub position : ℕ
   pub seen : Book
   pub got : Contents
+  pub out : Option Ring
 
 -- ---- a seat and a history
 
@@ -72,10 +79,10 @@ fresh_book size start workers = record { setup = record { size = size; start = s
 
 abbrev pub fresh_seat : ℕ → TableId → ℕ → Book → WorkerSeat
 fresh_seat tag ring worker seen =
-    record { tag = tag; ring = ring; worker = worker; tally = record { made = 0; refused = 0; submitted = 0; discarded = 0 }; seen = seen; sent = empty }
+    record { tag = tag; ring = ring; worker = worker; tally = record { made = 0; refused = 0; submitted = 0; discarded = 0 }; seen = seen; sent = empty; out = None }
 
 abbrev pub fresh_consumer : ℕ → TableId → Book → ConsumerSeatValue
-fresh_consumer tag ring seen = record { tag = tag; ring = ring; consumed = 0; skipped = 0; position = seen.setup.start; seen = seen; got = empty }
+fresh_consumer tag ring seen = record { tag = tag; ring = ring; consumed = 0; skipped = 0; position = seen.setup.start; seen = seen; got = empty; out = None }
 
 -- seats of the workers from `first` on
 abbrev pub fresh_seats : ℕ → TableId → Book → ℕ → ℕ → List WorkerSeat

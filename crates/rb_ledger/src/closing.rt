@@ -23,56 +23,67 @@ use rb_ring::RingState;
 use std::marker::Model;
 use std::sync::Wait;
 
-/// A closed ring, from which the whole history, the counts and both positions are read. Contracts see it as the ring of one thread.
+/// A closed ring, from which its tag, the whole history, the counts and both positions are read. Contracts see which shared ring it was,
+/// and the ring of one thread that it was at the end.
 #[derive(Drop)]
 pub struct Closing {
+    ring: SharedRing,
     state: Box<RingState>,
 }
 
 impl Model for Closing {
     ghost use Rattle.std.specs.Coded.{codes};
-    ghost use Rattle.rb_history.specs.RingModel.{Ring, contents_code};
+    ghost use Rattle.atomic_table.specs.Seated.{table_id_coded};
+    ghost use Rattle.rb_history.specs.RingModel.{contents_code};
     ghost use Rattle.rb_history.specs.contracts.entries.Entry as entry;
+    ghost use Rattle.rb_ledger.specs.Seats.{ClosedRing};
 
-    ghost Value = { Ring };
+    ghost Value = { ClosedRing };
 
-    ghost coded = { Prim.hlevel (codes, contents_code, entry.the_row.coded) };
+    ghost coded = { Prim.hlevel (codes, contents_code, table_id_coded, entry.the_row.coded) };
 
-    ghost view = { λ c. c.state.value };
+    ghost view = { λ c. record { shared = c.ring; at_end = c.state.value } };
 }
 
 impl Closing {
     /// What holds of each closed ring: its history is legal, it is what its state stands for, and its numbers are within bounds.
     pub fn facts(&self)
-        ensures ring { IsRing self.now }
+        ensures ring { IsRing self.now.at_end }
     {
         facts_of(&self.state);
     }
 
+    /// The number of the ring that was closed, as the caller of `open` gave it.
+    pub fn tag(&self) -> u64
+        ensures tag { result ≡ self.now.shared.tag }
+    {
+        self.ring.tag()
+    }
+
     /// The whole history, oldest entry first.
     pub fn history(&self) -> &[Entry]
-        ensures entries { result.now ≡ self.now.history }
+        ensures entries { result.now ≡ self.now.at_end.history }
     {
         self.state.history()
     }
 
     /// The counts of the whole history. Linear in the history.
     pub fn counts(&self) -> Counts
-        ensures counts { result ≡ counts_of self.now.history }
+        ensures counts { result ≡ counts_of self.now.at_end.history }
     {
         self.state.as_ref().counts()
     }
 
     /// The producer position.
     pub fn producer(&self) -> u64
-        ensures position { result ≡ producer_now self.now }
+        ensures position { result ≡ producer_now self.now.at_end }
     {
         self.state.query(3)
     }
 
     /// The consumer position.
     pub fn consumer(&self) -> u64
-        ensures position { result ≡ consumer_now self.now }
+        ensures position { result ≡ consumer_now self.now.at_end }
     {
         self.state.query(2)
     }
@@ -152,7 +163,7 @@ fn collect<R: Wait>(rt: &R, lock: &Lock, seats: Vec<Seat>, consumer: ConsumerSea
 }
 
 impl SharedRing {
-    /// Closes the ring, given all its seats and its consumer, and returns it with its whole history. If a seat is missing, or a seat or
+    /// Closes this ring, given all its seats and its consumer, and returns it with its whole history. If a seat is missing, or a seat or
     /// the consumer is foreign, all of them are handed back.
     pub fn close<R: Wait>(
         self,
@@ -164,7 +175,8 @@ impl SharedRing {
         requires consumer { consumer.tag ≡ self.tag → consumer.ring ≡ self.ring }
         ensures all { IsOk result ↔ ((consumer.tag ≡ self.tag) × (are_tagged self.tag seats.items ≡ true) × HasAll consumer.seen.setup.workers seats.items) }
         ensures back { IfErr result (λ e. (e.ring ≡ self) × (e.seats.items ≡ seats.items) × (e.consumer ≡ consumer)) }
-        ensures closed { IfOk result (λ c. IsClosed c seats.items consumer) }
+        ensures which { IfOk result (λ c. c.shared ≡ self) }
+        ensures closed { IfOk result (λ c. IsClosed c.at_end seats.items consumer) }
     {
         if consumer.tag() != self.tag
             || !are_all_tagged(&seats, self.tag)
@@ -177,6 +189,6 @@ impl SharedRing {
             });
         }
         let state = collect(rt, &self.lock, seats, consumer);
-        Ok(Closing { state })
+        Ok(Closing { ring: self, state })
     }
 }

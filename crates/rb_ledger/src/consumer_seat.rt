@@ -47,17 +47,19 @@ impl Model for ConsumerSeat {
       position = s.position;
       seen = seen_in (known_by s.pass);
       got = pass_bytes (known_by s.pass);
+      out = (known_by s.pass).out;
     } };
 
     ghost invariant = { λ s. (s.pass.me.1 ≡ []) × IsIdle Consumer (known_by s.pass) × IsBook (seen_in (known_by s.pass)) × ConsumerTies s.consumed s.skipped s.position (seen_in (known_by s.pass)) × (s.workers ≡ (seen_in (known_by s.pass)).setup.workers) };
 }
 
 impl ConsumerSeat {
-    /// What holds of each consumer's seat: what it has seen is legal, its numbers are those of the takes there, and its position is the
-    /// consumer position.
+    /// What holds of each consumer's seat: what it has seen is legal, its numbers are those of the takes there, its position is the
+    /// consumer position, and it does not have the ring's state out of the lock.
     pub fn facts(&self)
         ensures book { IsBook self.now.seen }
         ensures ties { ConsumerTies self.now.consumed self.now.skipped self.now.position self.now.seen }
+        ensures released { self.now.out ≡ None }
     {
         let _ = &self.tag;
     }

@@ -1,6 +1,6 @@
 //! A ring that threads share.
 
-ghost use Rattle.std.specs.Prelude.{◌≡◌, ◌≢◌, ◌+◌, ◌<◌, ◌^◌, ◌↔◌, ◌⊎◌, IfOk, IfErr, IsOk, IsErr, length};
+ghost use Rattle.std.specs.Prelude.{◌≡◌, ◌≢◌, ◌+◌, ◌<◌, ◌^◌, ◌↔◌, ◌⊎◌, IfOk, IfErr, IsOk, IsErr, None, length};
 ghost use Rattle.rb_history.specs.declared.answers.ReserveFault.TheVariants.{Foreign as FaultForeign};
 ghost use Rattle.rb_history.specs.Calls.{producer_now};
 ghost use Rattle.rb_ledger.specs.Roles.Role.{Consumer, Worker};
@@ -27,7 +27,7 @@ use thiserror::Error;
 pub struct Foreign;
 
 /// A ring that threads share by `&`. Its state is under a lock, which a call holds while it makes one call of the ring of one thread, and
-/// no longer.
+/// no longer: when a call returns, its seat has the state no more (`released`), so no record is written under the lock.
 ///
 /// Each call takes the caller's seat. The ring has one history. Up to the moment of the call it begins with all that the seat has seen,
 /// and what was added since is other roles'; there the ring of one thread answers as this call does, for the seat's worker; and the
@@ -80,6 +80,7 @@ impl SharedRing {
         ensures foreign { IsRefusedAs FaultForeign result ↔ (me.old.tag ≢ self.now.tag) }
         ensures unchanged { me.old.tag ≢ self.now.tag → me.new ≡ me.old }
         ensures seat { IsSameSeat me.old me.new }
+        ensures released { (me.old.out ≡ None) × (me.new.out ≡ None) }
         ensures call { me.old.tag ≡ self.now.tag → LockedCall (Worker me.old.worker) me.old.seen me.new.seen (Reserves me.old.worker n result) }
         ensures tally { me.new.tally ≡ reserved_by me.old.tally result }
         ensures serial { IfOk result (λ r. r.serial ≡ me.old.tally.made) }
@@ -107,6 +108,7 @@ impl SharedRing {
         requires ring { me.old.tag ≡ self.now.tag → me.old.ring ≡ self.now.ring }
         ensures foreign { (me.old.tag ≢ self.now.tag) ⊎ (reservation.worker ≢ me.old.worker) → IsErr result × (me.new ≡ me.old) }
         ensures seat { IsSameSeat me.old me.new }
+        ensures released { (me.old.out ≡ None) × (me.new.out ≡ None) }
         ensures call { me.old.tag ≡ self.now.tag → reservation.worker ≡ me.old.worker → LockedCall (Worker me.old.worker) me.old.seen me.new.seen (SubmitsAt reservation flags result) }
         ensures tally { me.new.tally ≡ submitted_by me.old.tally result }
         ensures sent { me.new.sent ≡ sent_by_submit me.old.sent reservation result }
@@ -132,6 +134,7 @@ impl SharedRing {
         requires ring { me.old.tag ≡ self.now.tag → me.old.ring ≡ self.now.ring }
         ensures foreign { (me.old.tag ≢ self.now.tag) ⊎ (reservation.worker ≢ me.old.worker) → IsErr result × (me.new ≡ me.old) }
         ensures seat { IsSameSeat me.old me.new }
+        ensures released { (me.old.out ≡ None) × (me.new.out ≡ None) }
         ensures call { me.old.tag ≡ self.now.tag → reservation.worker ≡ me.old.worker → LockedCall (Worker me.old.worker) me.old.seen me.new.seen (DiscardsAt reservation flags result) }
         ensures tally { me.new.tally ≡ discarded_by me.old.tally result }
         ensures sent { me.new.sent ≡ me.old.sent }
@@ -159,6 +162,7 @@ impl SharedRing {
         ensures foreign { IsRefusedAs FaultForeign result ↔ (me.old.tag ≢ self.now.tag) }
         ensures unchanged { me.old.tag ≢ self.now.tag → me.new ≡ me.old }
         ensures seat { IsSameSeat me.old me.new }
+        ensures released { (me.old.out ≡ None) × (me.new.out ≡ None) }
         ensures call { me.old.tag ≡ self.now.tag → LockedCall (Worker me.old.worker) me.old.seen me.new.seen (λ old new. OutputsAt me.old.worker sheet flags result old new × (me.new.sent ≡ sent_by_output me.old.sent (producer_now old) sheet result)) }
         ensures tally { me.new.tally ≡ output_by me.old.tally result }
         ensures handed_back { IfErr result (λ e. e.1 ≡ sheet) }
@@ -179,6 +183,7 @@ impl SharedRing {
         ensures foreign { IsErr result ↔ (me.old.tag ≢ self.now.tag) }
         ensures unchanged { me.old.tag ≢ self.now.tag → me.new ≡ me.old }
         ensures seat { IsSameSeat me.old me.new }
+        ensures released { (me.old.out ≡ None) × (me.new.out ≡ None) }
         ensures call { IfOk result (λ n. LockedCall (Worker me.old.worker) me.old.seen me.new.seen (Queries what n)) }
         ensures tally { me.new.tally ≡ me.old.tally }
         ensures sent { me.new.sent ≡ me.old.sent }
@@ -197,6 +202,7 @@ impl SharedRing {
         ensures foreign { IsErr result ↔ (me.old.tag ≢ self.now.tag) }
         ensures unchanged { me.old.tag ≢ self.now.tag → me.new ≡ me.old }
         ensures seat { IsSameSeat me.old me.new }
+        ensures released { (me.old.out ≡ None) × (me.new.out ≡ None) }
         ensures call { IfOk result (λ a. LockedCall (Worker me.old.worker) me.old.seen me.new.seen (Audits me.old.worker a)) }
         ensures own { IfOk result (λ a. a.own ≡ me.old.tally) }
         ensures tally { me.new.tally ≡ me.old.tally }
@@ -216,6 +222,7 @@ impl SharedRing {
         ensures foreign { IsErr result ↔ (me.old.tag ≢ self.now.tag) }
         ensures unchanged { me.old.tag ≢ self.now.tag → me.new ≡ me.old }
         ensures seat { IsSameConsumerSeat me.old me.new }
+        ensures released { (me.old.out ≡ None) × (me.new.out ≡ None) }
         ensures call { IfOk result (λ t. LockedCall Consumer me.old.seen me.new.seen (TakesAt t)) }
         ensures place { IfOk result (λ t. IsTakenAt me.old.position t) }
         ensures position { IfOk result (λ t. me.new.position ≡ me.old.position + span_in t) }

@@ -47,18 +47,20 @@ impl Model for Seat {
       tally = s.tally;
       seen = seen_in (known_by s.pass);
       sent = pass_bytes (known_by s.pass);
+      out = (known_by s.pass).out;
     } };
 
     ghost invariant = { λ s. (s.pass.me.1 ≡ []) × IsIdle (Worker s.worker) (known_by s.pass) × IsBook (seen_in (known_by s.pass)) × Ties s.worker s.tally (seen_in (known_by s.pass)) };
 }
 
 impl Seat {
-    /// What holds of each seat: what it has seen is legal, its numbers are those of its worker's entries there, and it submitted and
-    /// discarded no more records than it was granted.
+    /// What holds of each seat: what it has seen is legal, its numbers are those of its worker's entries there, it submitted and
+    /// discarded no more records than it was granted, and it does not have the ring's state out of the lock.
     pub fn facts(&self)
         ensures book { IsBook self.now.seen }
         ensures ties { Ties self.now.worker self.now.tally self.now.seen }
         ensures within { SettlesWithin self.now }
+        ensures released { self.now.out ≡ None }
     {
         let _ = &self.tag;
     }

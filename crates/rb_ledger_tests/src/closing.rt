@@ -41,7 +41,10 @@ fn a_ring_is_closed_with_all_seats_alone(rt: HostRuntime) -> Result<(), Fail> {
     let counts = closing.counts();
     assert_eq!(rt; (counts.made, counts.consumed, counts.discarded), (2, 1, 0));
     assert_eq!(rt; (counts.waiting, counts.busy, counts.refused), (1, 0, 0));
-    assert_eq!(rt; (closing.producer(), closing.consumer()), (32, 16));
+    assert_eq!(rt;
+        (closing.tag(), closing.producer(), closing.consumer()),
+        (5, 32, 16)
+    );
     let history = [
         Entry::Res(0, 0, 8, 0),
         Entry::Sub(0),
@@ -62,7 +65,7 @@ fn closed<R: Wait>(
 ) -> Result<Closing, Fail>
     requires seats { All (λ s. s.ring ≡ ring.ring) seats.items }
     requires consumer { consumer.ring ≡ ring.ring }
-    ensures none_busy { IfOk result (λ c. All HasSettledAll seats.items → (counts_of c.history).busy ≡ 0) }
+    ensures none_busy { IfOk result (λ c. All HasSettledAll seats.items → (counts_of c.at_end.history).busy ≡ 0) }
 {
     numbers_agree();
     match ring.close(rt, seats, consumer) {
