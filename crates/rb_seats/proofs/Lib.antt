@@ -1,3 +1,5 @@
-pub mod Calls
+pub mod Leading
 pub mod Lists
-pub mod Rises
+pub mod Noting
+pub mod OneSeat
+pub mod Totals

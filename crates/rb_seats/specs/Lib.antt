@@ -1,2 +1,4 @@
+pub mod SeatCalls
 pub mod SeatHelpers
+pub mod SeatLaws
 pub mod inner

@@ -1,22 +1,24 @@
--- Helpers over the seats of one worker: what contracts see of them, and how the seats' numbers rise with the trace (own).
+-- Helpers over the seats of one worker: what contracts see of them, and how calls lead from one value of them to another (own).
 use Rattle.std.specs.Ordering.{int_eq}
+use Rattle.std.specs.Prelude.{◌≡◌, ℕ, zero, ◌+◌, cond, ℤ, pos, neg_ℤ, Bool, true, false, List, [], ◌∷◌, ◌++◌, length, nat_lt}
+use Rattle.std.specs.List.{AllZip, sum_by}
+use Rattle.rb_ledger.specs.Seats.{Shared, WorkerSeat}
 use Rattle.rb_helpers.specs.ErrorNumbers.{EAGAIN}
-use Rattle.std.specs.Prelude.{◌≡◌, ◌≢◌, ℕ, zero, ◌+◌, cond, ℤ, pos, neg_ℤ, List, [], ◌∷◌, ◌++◌, length, nat_lt, Some, Bool, true, false}
-use Rattle.std.specs.List.{AllZip, sum_by, slice_get}
-use Rattle.std.specs.FinMap.{insert}
-use Rattle.rb_ledger.specs.Seats.{Shared, WorkerSeat, IsSameSeat}
 use Rattle.rb_helpers.specs.declared.done.Done.{Done}
 use Rattle.rb_helpers.specs.declared.done.Done.TheVariants.{Reserve, Submit, Discard, Output}
-use Rattle.rb_helpers.specs.ListedAnswers.{given_calls}
+use Rattle.rb_helpers.specs.AnsweredCalls.{AnsweredCall, note_of}
+use Rattle.rb_seats.specs.declared.seat_record.SeatRecord.{SeatRecord}
+use Rattle.rb_seats.specs.SeatCalls.{CallsSeats}
 
--- the rings, the worker's seat at each of them, the calls so far, the room for more, and how many of the nulls for flags 0 and of the
--- answers -EAGAIN no entry of a ring explains
+-- the rings, the worker's seat at each of them, the calls so far, the room for more, how many of the nulls for flags 0 and of the
+-- answers -EAGAIN no entry of a ring explains, and whether the last call made a notice due
 pub record AtSeats : Type 0 where
   pub rings : List Shared
   pub seats : List WorkerSeat
   pub trace : List Done
   pub room : ℕ
   pub unlogged : ℕ
+  pub due : Bool
 
 -- a ring of this number is among them
 abbrev pub has_number : AtSeats → ℕ → Bool
@@ -30,13 +32,25 @@ IsAt ring seat = (seat.tag ≡ ring.tag) × (seat.ring ≡ ring.ring)
 abbrev pub AtRings : List Shared → List WorkerSeat → Type 0
 AtRings rings seats = AllZip IsAt rings seats
 
--- the seats at the other rings are the same
-abbrev pub OthersStay : ℕ → List WorkerSeat → List WorkerSeat → Type 0
-OthersStay ring old new = (i : ℕ) → i ≢ ring → slice_get new i ≡ slice_get old i
+-- one call was made at one of the seats, and noted with its answer
+pub record CallsHelpers (call : AnsweredCall SeatRecord) (old new : AtSeats) : Type 0 where
+  pub rings_same : new.rings ≡ old.rings
+  pub trace_is : new.trace ≡ old.trace ++ note_of call ∷ []
+  pub room_is : new.room + 1 ≡ old.room
+  pub unlogged : ℕ
+  pub unlogged_is : new.unlogged ≡ old.unlogged + unlogged
+  pub seats : CallsSeats call new.due unlogged old.seats new.seats
 
--- the seat at this ring sent these bytes, as the record at this position
-abbrev pub SentAt : ℕ → ℕ → List ℕ → List WorkerSeat → List WorkerSeat → Type 0
-SentAt ring at bytes old new = (before after : WorkerSeat) → slice_get old ring ≡ Some before → slice_get new ring ≡ Some after → after.sent ≡ insert before.sent at bytes
+-- these calls, the oldest first, lead from the one value to the other
+abbrev pub Leads : AtSeats → List (AnsweredCall SeatRecord) → AtSeats → Type 0
+Leads start [] now = now ≡ start
+Leads start (call ∷ more) now = (mid : AtSeats) × CallsHelpers call start mid × Leads mid more now
+
+-- these calls lead from the one state of the seats to the other, and so many of their failures no history says
+abbrev pub SeatsLead : List WorkerSeat → List (AnsweredCall SeatRecord) → ℕ → List WorkerSeat → Type 0
+SeatsLead old [] unlogged new = (new ≡ old) × (unlogged ≡ 0)
+SeatsLead old (call ∷ more) unlogged new =
+    (due : Bool) × (mid : List WorkerSeat) × (first rest : ℕ) × CallsSeats call due first old mid × SeatsLead mid more rest new × (unlogged ≡ first + rest)
 
 -- ---- what a call adds to the seats' numbers, all seats together
 
@@ -82,16 +96,3 @@ submitted_in seats = sum_by (λ s. s.tally.submitted) seats
 
 abbrev pub discarded_in : List WorkerSeat → ℕ
 discarded_in seats = sum_by (λ s. s.tally.discarded) seats
-
--- the calls lead from the one value to the other: the same rings and seats; the seats' numbers rose by what the calls say; each call
--- that failed since there was no room or no memory is refused in a ring's history, or unlogged
-pub record Leads (start : AtSeats) (given : List (List ℕ)) (now : AtSeats) : Type 0 where
-  pub rings_same : now.rings ≡ start.rings
-  pub seats_same : AllZip IsSameSeat start.seats now.seats
-  pub calls : List Done
-  pub trace_is : now.trace ≡ start.trace ++ calls
-  pub given_is : length given ≡ given_calls calls
-  pub made_is : made_in now.seats ≡ made_in start.seats + call_total makes calls
-  pub submitted_is : submitted_in now.seats ≡ submitted_in start.seats + call_total submits calls
-  pub discarded_is : discarded_in now.seats ≡ discarded_in start.seats + call_total discards calls
-  pub failed_is : refused_in now.seats + now.unlogged ≡ refused_in start.seats + start.unlogged + call_total fails calls

@@ -1,2 +1,2 @@
-pub mod CallFailures
-pub mod OneCall
+pub mod CallAnswers
+pub mod Chains

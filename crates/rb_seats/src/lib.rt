@@ -4,17 +4,20 @@
 //! at the seat of the ring that it names, and keeps the trace of the calls. It is for whoever runs programs in several threads
 //! over the same rings: each worker has helpers of its own.
 //!
-//! What is promised: a call changes no seat but its ring's; the trace has each call with its answer; the seats' numbers rise by
-//! just what the calls say; and each null for flags 0 and each -EAGAIN is either refused in a ring's history or counted as
-//! unlogged, where memory ran out.
+//! What is promised: each call is one call of the shared ring that it names, on the very record, bytes and flags that it was given,
+//! and is answered as that ring answers; a call changes no seat but its ring's, and one with bad flags none; the trace has each call
+//! with its answer; each null for flags 0 and each -EAGAIN is either refused in a ring's history or counted as unlogged, where memory
+//! ran out; and a notice that is due is told (`due`). What follows for the seats' numbers is stated as laws (`seats_rise`).
 #![tactic(auto)]
 
-mod call_failures;
+mod call_answers;
 mod seat_helpers;
+mod seat_laws;
 mod seat_record;
 mod sheets;
 mod stock;
 
 pub use seat_helpers::SeatHelpers;
+pub use seat_laws::{helpers_lead, seats_may_answer, seats_rise};
 pub use seat_record::SeatRecord;
 pub use stock::{NoStock, Stock};

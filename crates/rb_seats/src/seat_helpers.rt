@@ -1,19 +1,20 @@
 //! Helpers over the seats of one worker.
 
-ghost use Rattle.std.specs.Prelude.{◌≡◌, ◌≢◌, ◌↔◌, ◌⊎◌, ℕ, ◌+◌, ◌<◌, ◌≤◌, ℤ, pos, neg_ℤ, Bool, true, List, [], ◌∷◌, ◌++◌, MatchResult, IfOk, IfErr, IfSome, IsErr, IsErrOf, is_ok, is_some, length, replicate};
+ghost use Rattle.std.specs.Prelude.{◌≡◌, ◌≢◌, ◌↔◌, ◌⊎◌, ◌+◌, ◌<◌, ◌≤◌, pos, neg_ℤ, true, false, [], ◌∷◌, ◌++◌, IfOk, IfErr, IfSome, IsErr, IsErrOf, is_ok, is_some, length, replicate};
+ghost use Rattle.rb_history.specs.declared.answers.ReserveFault.TheVariants.{Flags};
 ghost use Rattle.rb_helpers.specs.declared.done.Done.TheVariants.{Reserve, Submit, Discard, Output, Query};
+ghost use Rattle.rb_helpers.specs.AnsweredCalls.{Reserved, Submitted, Discarded, SentOut, Queried};
 ghost use Rattle.rb_helpers.specs.ErrorNumbers.{EAGAIN, EINVAL};
-ghost use Rattle.rb_seats.specs.declared.call_failures.CallFailure.TheVariants.{BadFlags};
-ghost use Rattle.rb_seats.specs.SeatHelpers.{AtSeats, AtRings, Leads, OthersStay, SentAt, has_number};
-ghost use Rattle.rb_seats.specs.inner.OneCall.{TotalsRise, with_call};
-ghost use Rattle.rb_seats.specs.inner.CallFailures.{logged_in};
+ghost use Rattle.rb_seats.specs.SeatCalls.{AtSeat, RecordAnswered, SeatDiscards, SeatQueries, SeatSubmits};
+ghost use Rattle.rb_seats.specs.SeatHelpers.{AtRings, CallsHelpers, Leads, has_number};
+ghost use Rattle.rb_seats.specs.inner.CallAnswers.{SeatReserves, SeatSends, due_in, with_call};
 
-use crate::call_failures::{CallFailure, answer_of, failure_of, is_unlogged};
+use crate::call_answers::{answer_of, is_due, is_unlogged};
 use crate::seat_record::SeatRecord;
 use crate::sheets::{copied_sheet, give_back, zero_sheet};
 use crate::stock::Stock;
 use rb_helpers::{Done, Helpers};
-use rb_history::Reservation;
+use rb_history::{Notice, Reservation, ReserveFault, Stray};
 use rb_ledger::{Foreign, Seat, SharedRing};
 use std::alloc::{AllocError, Global};
 use std::marker::Model;
@@ -30,6 +31,7 @@ pub struct SeatHelpers<'h, R, S> {
     trace: Vec<Done>,
     room: usize,
     unlogged: u64,
+    due: bool,
 }
 
 impl<'h, R, S> Model for SeatHelpers<'h, R, S> {
@@ -46,7 +48,7 @@ impl<'h, R, S> Model for SeatHelpers<'h, R, S> {
 
     ghost coded = { Prim.hlevel (codes, contents_code, table_id_coded, entry.the_row.coded, tally_row.the_row.coded, done_row.the_row.coded) };
 
-    ghost view = { λ h. record { rings = h.rings.now; seats = h.seats.items; trace = h.trace.items; room = h.room; unlogged = h.unlogged } };
+    ghost view = { λ h. record { rings = h.rings.now; seats = h.seats.items; trace = h.trace.items; room = h.room; unlogged = h.unlogged; due = h.due } };
 
     ghost invariant = { λ h. AtRings h.rings.now h.seats.items × (vec_len h.trace + h.room ≤ vec_capacity h.trace) × (h.unlogged ≤ vec_len h.trace) × (vec_capacity h.trace < 2 ^ 63) };
 }
@@ -63,8 +65,7 @@ impl<'h, R: Wait, S: Stock> SeatHelpers<'h, R, S> {
         stock: &'h S,
     ) -> Result<SeatHelpers<'h, R, S>, (AllocError, Vec<Seat>)>
         requires seats { AtRings rings.now seats.items }
-        ensures new { IfOk result (λ h. h ≡ record { rings = rings.now; seats = seats.items; trace = []; room = room; unlogged = 0 }) }
-        ensures no_call_yet { IfOk result (λ h. Leads h [] h) }
+        ensures new { IfOk result (λ h. h ≡ record { rings = rings.now; seats = seats.items; trace = []; room = room; unlogged = 0; due = false }) }
         ensures handed_back { IfErr result (λ e. e.1 ≡ seats) }
     {
         match Vec::with_capacity(alloc, room) {
@@ -77,6 +78,7 @@ impl<'h, R: Wait, S: Stock> SeatHelpers<'h, R, S> {
                 trace,
                 room,
                 unlogged: 0,
+                due: false,
             }),
             Err(refused) => Err((refused, seats)),
         }
@@ -96,102 +98,94 @@ impl<'h, R: Wait, S: Stock> SeatHelpers<'h, R, S> {
     {
         self.unlogged
     }
+
+    /// Whether the last call made a notice due: it was a submit, a discard or an output that its ring took, and the ring's consumer is to be
+    /// told (bpf-helpers(7), BPF_RB_NO_WAKEUP and BPF_RB_FORCE_WAKEUP).
+    pub fn due(&self) -> bool
+        ensures due { result ≡ self.now.due }
+    {
+        self.due
+    }
 }
 
 impl<'h, R: Wait, S: Stock> SeatHelpers<'h, R, S> {
-    #[tactic(auto, using(crate::proofs::Rises::rose_nothing))]
     // Reserves a record at the ring's seat, without noting the call. Its sheet is made before the ring is held.
-    fn try_reserve(&mut self, ring: u32, n: u32, flags: u64) -> Result<Reservation, CallFailure>
+    fn try_reserve(&mut self, ring: u32, n: u32, flags: u64) -> Result<Reservation, ReserveFault>
         requires ring { has_number self.old ring ≡ true }
         ensures rest { self.new ≡ record self.old { seats = self.new.seats } }
-        ensures others { OthersStay ring self.old.seats self.new.seats }
-        ensures rose { MatchResult result (λ _. TotalsRise 1 0 0 0 self.old.seats self.new.seats) (λ e. TotalsRise 0 (logged_in e) 0 0 self.old.seats self.new.seats) }
-        ensures flags { IsErrOf result BadFlags ↔ (flags ≢ 0) }
+        ensures flags { IsErrOf result Flags ↔ (flags ≢ 0) }
+        ensures no_step { flags ≢ 0 → self.new.seats ≡ self.old.seats }
+        ensures seat { flags ≡ 0 → AtSeat ring (SeatReserves n result) self.old.seats self.new.seats }
         ensures zeros { IfOk result (λ r. r.bytes ≡ replicate n 0) }
     {
         if flags != 0 {
-            return Err(CallFailure::BadFlags);
+            return Err(ReserveFault::Flags);
         }
-        let sheet = zero_sheet(self.alloc, self.stock, n).ok_or(CallFailure::Unlogged)?;
+        let sheet = zero_sheet(self.alloc, self.stock, n).ok_or(ReserveFault::Memory)?;
         let at = ring as usize;
         match self.rings[at].reserve(self.rt, &mut self.seats[at], n, sheet) {
             Ok(reservation) => Ok(reservation),
             Err(refused) => {
                 give_back(self.stock, refused.1);
-                Err(failure_of(refused.0))
+                Err(refused.0)
             }
         }
     }
 
-    #[tactic(auto, using(crate::proofs::Rises::rose_nothing))]
-    // Submits a record at the ring's seat, without noting the call.
+    // Submits a record at the ring's seat, without noting the call. One of no ring here is stray.
     fn try_submit(
         &mut self,
         ring: u32,
         reservation: Reservation,
         flags: u64,
-    ) -> Result<(), Reservation>
+    ) -> Result<Notice, Stray>
         ensures rest { self.new ≡ record self.old { seats = self.new.seats } }
-        ensures others { OthersStay ring self.old.seats self.new.seats }
-        ensures rose { MatchResult result (λ _. TotalsRise 0 0 1 0 self.old.seats self.new.seats) (λ _. TotalsRise 0 0 0 0 self.old.seats self.new.seats) }
-        ensures sent { IfOk result (λ _. SentAt ring reservation.pos reservation.bytes self.old.seats self.new.seats) }
-        ensures handed_back { IfErr result (λ back. back ≡ reservation) }
-        ensures no_ring { length self.old.rings ≤ ring → IsErr result }
+        ensures seat { RecordAnswered ring (is_ok result) (due_in result) (SeatSubmits reservation flags (is_ok result) (due_in result)) self.old.seats self.new.seats }
+        ensures handed_back { IfErr result (λ stray. stray.reservation ≡ reservation) }
     {
         let at = ring as usize;
         if at >= self.rings.len() {
-            return Err(reservation);
+            return Err(Stray { reservation });
         }
-        match self.rings[at].submit(self.rt, &mut self.seats[at], reservation, flags) {
-            Ok(_) => Ok(()),
-            Err(stray) => Err(stray.reservation),
-        }
+        self.rings[at].submit(self.rt, &mut self.seats[at], reservation, flags)
     }
 
-    #[tactic(auto, using(crate::proofs::Rises::rose_nothing))]
-    // Discards a record at the ring's seat, without noting the call.
+    // Discards a record at the ring's seat, without noting the call. One of no ring here is stray.
     fn try_discard(
         &mut self,
         ring: u32,
         reservation: Reservation,
         flags: u64,
-    ) -> Result<(), Reservation>
+    ) -> Result<Notice, Stray>
         ensures rest { self.new ≡ record self.old { seats = self.new.seats } }
-        ensures others { OthersStay ring self.old.seats self.new.seats }
-        ensures rose { MatchResult result (λ _. TotalsRise 0 0 0 1 self.old.seats self.new.seats) (λ _. TotalsRise 0 0 0 0 self.old.seats self.new.seats) }
-        ensures handed_back { IfErr result (λ back. back ≡ reservation) }
-        ensures no_ring { length self.old.rings ≤ ring → IsErr result }
+        ensures seat { RecordAnswered ring (is_ok result) (due_in result) (SeatDiscards reservation flags (is_ok result) (due_in result)) self.old.seats self.new.seats }
+        ensures handed_back { IfErr result (λ stray. stray.reservation ≡ reservation) }
     {
         let at = ring as usize;
         if at >= self.rings.len() {
-            return Err(reservation);
+            return Err(Stray { reservation });
         }
-        match self.rings[at].discard(self.rt, &mut self.seats[at], reservation, flags) {
-            Ok(_) => Ok(()),
-            Err(stray) => Err(stray.reservation),
-        }
+        self.rings[at].discard(self.rt, &mut self.seats[at], reservation, flags)
     }
 
-    #[tactic(auto, using(crate::proofs::Rises::rose_nothing))]
     // Outputs the bytes at the ring's seat, without noting the call. Its sheet is made before the ring is held.
-    fn try_output(&mut self, ring: u32, bytes: &[u8], flags: u64) -> Result<(), CallFailure>
+    fn try_output(&mut self, ring: u32, bytes: &[u8], flags: u64) -> Result<Notice, ReserveFault>
         requires ring { has_number self.old ring ≡ true }
         ensures rest { self.new ≡ record self.old { seats = self.new.seats } }
-        ensures others { OthersStay ring self.old.seats self.new.seats }
-        ensures rose { MatchResult result (λ _. TotalsRise 1 0 1 0 self.old.seats self.new.seats) (λ e. TotalsRise 0 (logged_in e) 0 0 self.old.seats self.new.seats) }
-        ensures flags { IsErrOf result BadFlags ↔ (3 < flags) }
-        ensures sent { IfOk result (λ _. (at : ℕ) × SentAt ring at bytes.now self.old.seats self.new.seats) }
+        ensures flags { IsErrOf result Flags ↔ (3 < flags) }
+        ensures no_step { 3 < flags → self.new.seats ≡ self.old.seats }
+        ensures seat { flags ≤ 3 → AtSeat ring (SeatSends bytes.now flags result) self.old.seats self.new.seats }
     {
         if flags > 3 {
-            return Err(CallFailure::BadFlags);
+            return Err(ReserveFault::Flags);
         }
-        let sheet = copied_sheet(self.alloc, self.stock, bytes).ok_or(CallFailure::Unlogged)?;
+        let sheet = copied_sheet(self.alloc, self.stock, bytes).ok_or(ReserveFault::Memory)?;
         let at = ring as usize;
         match self.rings[at].output(self.rt, &mut self.seats[at], sheet, flags) {
-            Ok(_) => Ok(()),
+            Ok(notice) => Ok(notice),
             Err(refused) => {
                 give_back(self.stock, refused.1);
-                Err(failure_of(refused.0))
+                Err(refused.0)
             }
         }
     }
@@ -200,8 +194,7 @@ impl<'h, R: Wait, S: Stock> SeatHelpers<'h, R, S> {
     fn try_query(&mut self, ring: u32, what: u64) -> u64
         requires ring { has_number self.old ring ≡ true }
         ensures rest { self.new ≡ record self.old { seats = self.new.seats } }
-        ensures others { OthersStay ring self.old.seats self.new.seats }
-        ensures rose { TotalsRise 0 0 0 0 self.old.seats self.new.seats }
+        ensures seat { AtSeat ring (SeatQueries what result) self.old.seats self.new.seats }
     {
         let at = ring as usize;
         match self.rings[at].query(self.rt, &mut self.seats[at], what) {
@@ -210,10 +203,10 @@ impl<'h, R: Wait, S: Stock> SeatHelpers<'h, R, S> {
         }
     }
 
-    // Notes a call and its answer, with one failure that no history says where `unlogged` says so.
-    fn log(&mut self, done: Done, unlogged: bool)
+    // Notes a call and its answer, with one failure that no history says where `unlogged` says so, and whether a notice is due.
+    fn log(&mut self, done: Done, unlogged: bool, due: bool)
         requires room { 0 < self.old.room }
-        ensures noted { self.new ≡ with_call self.old done unlogged }
+        ensures noted { self.new ≡ with_call self.old done unlogged due }
     {
         if self.trace.push(done).is_err() {
             unreachable!()
@@ -222,11 +215,13 @@ impl<'h, R: Wait, S: Stock> SeatHelpers<'h, R, S> {
         if unlogged {
             self.unlogged += 1;
         }
+        self.due = due;
     }
 }
 
 impl<'h, R: Wait, S: Stock> Helpers for SeatHelpers<'h, R, S> {
     ghost use Rattle.rb_seats.specs.SeatHelpers.{Leads, has_number};
+    ghost use Rattle.rb_seats.specs.inner.Chains.{none_called, called_on};
 
     type Record = SeatRecord;
 
@@ -238,6 +233,10 @@ impl<'h, R: Wait, S: Stock> Helpers for SeatHelpers<'h, R, S> {
 
     ghost leads = { Leads };
 
+    ghost leads_by_none = { none_called };
+
+    ghost leads_on = { called_on };
+
     /// Null where flags are not 0, without memory and without a step of the ring; where there is no room, which the ring's history says; and
     /// where memory is refused, which is unlogged.
     fn reserve(&mut self, ring: u32, n: u32, flags: u64) -> Option<SeatRecord>
@@ -246,12 +245,9 @@ impl<'h, R: Wait, S: Stock> Helpers for SeatHelpers<'h, R, S> {
         ensures trace { self.new.trace ≡ self.old.trace ++ Reserve ring n flags (is_some result) ∷ [] }
         ensures room { self.new.room + 1 ≡ self.old.room }
         ensures rings { has_number self.new ≡ has_number self.old }
-        ensures given { (start : AtSeats) (given : List (List ℕ)) → Leads start given self.old → Leads start given self.new }
         ensures zeros { IfSome result (λ r. r.reservation.bytes ≡ replicate n 0) }
-        ensures at_ring { IfSome result (λ r. r.ring ≡ ring) }
-        ensures no_flags { IfSome result (λ _. flags ≡ 0) }
-        ensures same_rings { self.new.rings ≡ self.old.rings }
-        ensures others { OthersStay ring self.old.seats self.new.seats }
+        ensures called { Leads self.old (Reserved ring n flags result ∷ []) self.new }
+        ensures call { CallsHelpers (Reserved ring n flags result) self.old self.new }
     {
         let answer = self.try_reserve(ring, n, flags);
         let unlogged = is_unlogged(&answer);
@@ -263,6 +259,7 @@ impl<'h, R: Wait, S: Stock> Helpers for SeatHelpers<'h, R, S> {
                 granted: answer.is_ok(),
             },
             unlogged,
+            false,
         );
         match answer {
             Ok(reservation) => Some(SeatRecord { ring, reservation }),
@@ -276,12 +273,9 @@ impl<'h, R: Wait, S: Stock> Helpers for SeatHelpers<'h, R, S> {
         ensures trace { self.new.trace ≡ self.old.trace ++ Submit flags (is_ok result) ∷ [] }
         ensures room { self.new.room + 1 ≡ self.old.room }
         ensures rings { has_number self.new ≡ has_number self.old }
-        ensures given { (start : AtSeats) (given : List (List ℕ)) → Leads start given self.old → Leads start (given ++ owned.reservation.bytes ∷ []) self.new }
-        ensures sent { IfOk result (λ _. SentAt owned.ring owned.reservation.pos owned.reservation.bytes self.old.seats self.new.seats) }
         ensures handed_back { IfErr result (λ back. back ≡ owned) }
-        ensures no_ring { length self.old.rings ≤ owned.ring → IsErr result }
-        ensures same_rings { self.new.rings ≡ self.old.rings }
-        ensures others { OthersStay owned.ring self.old.seats self.new.seats }
+        ensures called { Leads self.old (Submitted owned flags (is_ok result) ∷ []) self.new }
+        ensures call { CallsHelpers (Submitted owned flags (is_ok result)) self.old self.new }
     {
         let SeatRecord { ring, reservation } = owned;
         let answer = self.try_submit(ring, reservation, flags);
@@ -291,10 +285,11 @@ impl<'h, R: Wait, S: Stock> Helpers for SeatHelpers<'h, R, S> {
                 taken: answer.is_ok(),
             },
             false,
+            is_due(&answer),
         );
         match answer {
-            Ok(()) => Ok(()),
-            Err(reservation) => Err(SeatRecord { ring, reservation }),
+            Ok(_) => Ok(()),
+            Err(Stray { reservation }) => Err(SeatRecord { ring, reservation }),
         }
     }
 
@@ -304,11 +299,9 @@ impl<'h, R: Wait, S: Stock> Helpers for SeatHelpers<'h, R, S> {
         ensures trace { self.new.trace ≡ self.old.trace ++ Discard flags (is_ok result) ∷ [] }
         ensures room { self.new.room + 1 ≡ self.old.room }
         ensures rings { has_number self.new ≡ has_number self.old }
-        ensures given { (start : AtSeats) (given : List (List ℕ)) → Leads start given self.old → Leads start given self.new }
         ensures handed_back { IfErr result (λ back. back ≡ owned) }
-        ensures no_ring { length self.old.rings ≤ owned.ring → IsErr result }
-        ensures same_rings { self.new.rings ≡ self.old.rings }
-        ensures others { OthersStay owned.ring self.old.seats self.new.seats }
+        ensures called { Leads self.old (Discarded owned flags (is_ok result) ∷ []) self.new }
+        ensures call { CallsHelpers (Discarded owned flags (is_ok result)) self.old self.new }
     {
         let SeatRecord { ring, reservation } = owned;
         let answer = self.try_discard(ring, reservation, flags);
@@ -318,10 +311,11 @@ impl<'h, R: Wait, S: Stock> Helpers for SeatHelpers<'h, R, S> {
                 taken: answer.is_ok(),
             },
             false,
+            is_due(&answer),
         );
         match answer {
-            Ok(()) => Ok(()),
-            Err(reservation) => Err(SeatRecord { ring, reservation }),
+            Ok(_) => Ok(()),
+            Err(Stray { reservation }) => Err(SeatRecord { ring, reservation }),
         }
     }
 
@@ -333,12 +327,8 @@ impl<'h, R: Wait, S: Stock> Helpers for SeatHelpers<'h, R, S> {
         ensures trace { self.new.trace ≡ self.old.trace ++ Output ring (length bytes.now) flags result ∷ [] }
         ensures room { self.new.room + 1 ≡ self.old.room }
         ensures rings { has_number self.new ≡ has_number self.old }
-        ensures given { (start : AtSeats) (given : List (List ℕ)) → Leads start given self.old → Leads start (given ++ bytes.now ∷ []) self.new }
-        ensures answers { (result ≡ pos 0) ⊎ (result ≡ neg_ℤ EAGAIN) ⊎ (result ≡ neg_ℤ EINVAL) }
-        ensures bad_flags { (result ≡ neg_ℤ EINVAL) ↔ (3 < flags) }
-        ensures sent { result ≡ pos 0 → (at : ℕ) × SentAt ring at bytes.now self.old.seats self.new.seats }
-        ensures same_rings { self.new.rings ≡ self.old.rings }
-        ensures others { OthersStay ring self.old.seats self.new.seats }
+        ensures called { Leads self.old (SentOut ring bytes.now flags result ∷ []) self.new }
+        ensures call { CallsHelpers (SentOut ring bytes.now flags result) self.old self.new }
     {
         let answer = self.try_output(ring, bytes, flags);
         let unlogged = is_unlogged(&answer);
@@ -351,6 +341,7 @@ impl<'h, R: Wait, S: Stock> Helpers for SeatHelpers<'h, R, S> {
                 answer: number,
             },
             unlogged,
+            is_due(&answer),
         );
         number
     }
@@ -362,12 +353,11 @@ impl<'h, R: Wait, S: Stock> Helpers for SeatHelpers<'h, R, S> {
         ensures trace { self.new.trace ≡ self.old.trace ++ Query ring what result ∷ [] }
         ensures room { self.new.room + 1 ≡ self.old.room }
         ensures rings { has_number self.new ≡ has_number self.old }
-        ensures given { (start : AtSeats) (given : List (List ℕ)) → Leads start given self.old → Leads start given self.new }
-        ensures same_rings { self.new.rings ≡ self.old.rings }
-        ensures others { OthersStay ring self.old.seats self.new.seats }
+        ensures called { Leads self.old (Queried ring what result ∷ []) self.new }
+        ensures call { CallsHelpers (Queried ring what result) self.old self.new }
     {
         let answer = self.try_query(ring, what);
-        self.log(Done::Query { ring, what, answer }, false);
+        self.log(Done::Query { ring, what, answer }, false, false);
         answer
     }
 

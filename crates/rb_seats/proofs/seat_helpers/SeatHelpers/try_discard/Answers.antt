@@ -1,8 +1,10 @@
-use Rattle.std.proofs.Common.{◌≡◌, ap, arith}
+use Rattle.std.proofs.Common.{ap, arith, inr}
 use Rattle.rb_seats.specs.SeatHelpers.{AtSeats}
-use Rattle.rb_seats.proofs.Rises.{is_seat, seat_there, stays_at, others_in, rose_in, rose_ok, rose_err, adds_discarded, adds_nothing}
+use Rattle.rb_seats.proofs.OneSeat.{is_seat, seat_there, stays_at, at_seat, at_no_ring, at_own_ring, discarded_at}
 use Rattle.rb_seats.proofs.seat_helpers.SeatHelpers.try_discard.Goals as goal
-use Rattle.rb_seats.proofs.seat_helpers.SeatHelpers.try_discard.Goals.{in-Ok, in-Err}
+
+pub returns-then-at-self-clause-seat : goal.returns-then-at-self-clause-seat
+returns-then-at-self-clause-seat g c = at_no_ring _ c.args.self.now _ _ _ (ap (λ (h : AtSeats). h.seats) c.self.view_is) c.self.invariant.0 (omega (arith, c.if-at-self.true))
 
 pub index_mut-requires : goal.index_mut-requires
 index_mut-requires g c = let below = is_seat _ _ c.args.ring c.self.invariant.0 (omega (arith, c.if-at-self.false)) in omega (arith, below, c.self.inside.seats.ok.0)
@@ -13,13 +15,10 @@ discard-requires g c = record { ring = λ _. (seat_there _ _ _ _ _ c.self.invari
 pub invariant_of-self : goal.invariant_of-self
 invariant_of-self g c = (stays_at _ _ _ _ _ c.self.invariant.0 c.index_mut.ensures.value c.discard.ensures.seat, c.self.invariant.1, c.self.invariant.2, c.self.invariant.3)
 
-pub returns-clause-others : goal.returns-clause-others
-returns-clause-others g c = others_in c.args.self.now _ _ _ (ap (λ (h : AtSeats). h.seats) c.self.view_is)
-
-pub returns-clause-rose : goal.returns-clause-rose
-returns-clause-rose g c =
-    let are : c.self.inside.seats.items ≡ c.args.self.now.seats = ap (λ (h : AtSeats). h.seats) c.self.view_is in
-    elim c.match-discard.branch [
-      | in-Ok w ↦ rose_ok _ _ _ _ w.result-is (rose_in c.args.self.now _ _ _ _ _ _ _ _ _ are c.self.invariant.0 (omega (arith, c.if-at-self.false)) c.index_mut.ensures.value c.discard.ensures.seat (adds_discarded _ _ w.in-Ok.ensures.tally))
-      | in-Err w ↦ rose_err _ _ _ _ w.result-is (rose_in c.args.self.now _ _ _ _ _ _ _ _ _ are c.self.invariant.0 (omega (arith, c.if-at-self.false)) c.index_mut.ensures.value c.discard.ensures.seat (adds_nothing _ _ w.in-Err.ensures.tally))
-    ]
+pub returns-clause-seat : goal.returns-clause-seat
+returns-clause-seat g c =
+    let are = ap (λ (h : AtSeats). h.seats) c.self.view_is in
+    let tag = (seat_there _ _ _ _ _ c.self.invariant.0 (omega (arith, c.if-at-self.false)) c.index_mut.ensures.value).0 in
+    at_own_ring _ _ _ c.args.self.now _ _ _ _ are c.self.invariant.0 (omega (arith, c.if-at-self.false))
+    (at_seat _ c.args.self.now _ _ _ _ _ are c.self.invariant.0 (omega (arith, c.if-at-self.false)) c.index_mut.ensures.value
+    (discarded_at _ _ _ _ _ c.discard.ensures.seat (c.discard.ensures.call tag) (λ other. c.discard.ensures.foreign (inr other)) c.discard.ensures.tally c.discard.ensures.sent))

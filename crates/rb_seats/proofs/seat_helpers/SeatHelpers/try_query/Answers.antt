@@ -1,6 +1,6 @@
 use Rattle.std.proofs.Common.{◌<◌, ap, arith, rules, length, refl}
 use Rattle.rb_seats.specs.SeatHelpers.{AtSeats}
-use Rattle.rb_seats.proofs.Rises.{is_seat, seat_there, stays_at, others_in, rose_in, adds_nothing}
+use Rattle.rb_seats.proofs.OneSeat.{is_seat, seat_there, stays_at, at_seat, seat_is}
 use Rattle.rb_seats.proofs.seat_helpers.SeatHelpers.try_query.Goals as goal
 
 pub index_mut-requires : goal.index_mut-requires
@@ -21,10 +21,8 @@ unreachable-requires g c =
 pub invariant_of-self : goal.invariant_of-self
 invariant_of-self g c = (stays_at _ _ _ _ _ c.self.invariant.0 c.index_mut.ensures.value c.query.ensures.seat, c.self.invariant.1, c.self.invariant.2, c.self.invariant.3)
 
-pub returns-clause-others : goal.returns-clause-others
-returns-clause-others g c = others_in c.args.self.now _ _ _ (ap (λ (h : AtSeats). h.seats) c.self.view_is)
-
-pub returns-clause-rose : goal.returns-clause-rose
-returns-clause-rose g c =
+pub returns-clause-seat : goal.returns-clause-seat
+returns-clause-seat g c =
     let below : c.args.ring < length c.self.inside.rings.now = search rules in
-    rose_in c.args.self.now _ _ _ _ _ _ _ _ _ (ap (λ (h : AtSeats). h.seats) c.self.view_is) c.self.invariant.0 below c.index_mut.ensures.value c.query.ensures.seat (adds_nothing _ _ c.query.ensures.tally)
+    at_seat _ c.args.self.now _ _ _ _ _ (ap (λ (h : AtSeats). h.seats) c.self.view_is) c.self.invariant.0 below c.index_mut.ensures.value
+    (c.in-Ok.ensures.call, seat_is _ _ _ _ c.query.ensures.seat c.query.ensures.tally c.query.ensures.sent)

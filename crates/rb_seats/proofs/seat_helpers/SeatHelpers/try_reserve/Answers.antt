@@ -1,8 +1,15 @@
-use Rattle.std.proofs.Common.{◌≡◌, ◌<◌, ap, arith, rules, length}
+use Rattle.std.proofs.Common.{◌≡◌, ◌<◌, Err, ap, arith, rules, length}
+use Rattle.rb_history.specs.declared.answers.ReserveFault.TheVariants.{Memory}
 use Rattle.rb_seats.specs.SeatHelpers.{AtSeats}
-use Rattle.rb_seats.proofs.Rises.{is_seat, seat_there, stays_at, others_in, rose_in, failed_ok, failed_err, adds_made, adds_fault}
+use Rattle.rb_seats.proofs.OneSeat.{is_seat, seat_there, stays_at, at_seat, at_same, adds_nothing, granted_at, fails_at, granted_as, fails_as}
 use Rattle.rb_seats.proofs.seat_helpers.SeatHelpers.try_reserve.Goals as goal
 use Rattle.rb_seats.proofs.seat_helpers.SeatHelpers.try_reserve.Goals.{in-Ok, in-Err}
+
+pub returns-in_err-sheet-clause-seat : goal.returns-in_err-sheet-clause-seat
+returns-in_err-sheet-clause-seat g c =
+    let below : c.args.ring < length c.self.inside.rings.now = search rules in
+    let why : c.from_residual.result ≡ Err Memory = search rules in
+    λ none. fails_as _ _ _ _ _ _ why (at_same _ c.args.self.now _ _ _ (ap (λ (h : AtSeats). h.seats) c.self.view_is) c.self.invariant.0 below adds_nothing)
 
 pub index_mut-requires : goal.index_mut-requires
 index_mut-requires g c =
@@ -17,14 +24,14 @@ reserve-requires-clause-ring g c =
 pub invariant_of-self : goal.invariant_of-self
 invariant_of-self g c = (stays_at _ _ _ _ _ c.self.invariant.0 c.index_mut.ensures.value c.reserve.ensures.seat, c.self.invariant.1, c.self.invariant.2, c.self.invariant.3)
 
-pub returns-clause-others : goal.returns-clause-others
-returns-clause-others g c = others_in c.args.self.now _ _ _ (ap (λ (h : AtSeats). h.seats) c.self.view_is)
-
-pub returns-clause-rose : goal.returns-clause-rose
-returns-clause-rose g c =
+pub returns-clause-seat : goal.returns-clause-seat
+returns-clause-seat g c =
     let below : c.args.ring < length c.self.inside.rings.now = search rules in
-    let are : c.self.inside.seats.items ≡ c.args.self.now.seats = ap (λ (h : AtSeats). h.seats) c.self.view_is in
-    elim c.match-reserve.branch [
-      | in-Ok w ↦ failed_ok _ _ _ _ _ w.result-is (rose_in c.args.self.now _ _ _ _ _ _ _ _ _ are c.self.invariant.0 below c.index_mut.ensures.value c.reserve.ensures.seat (adds_made _ _ w.in-Ok.ensures.tally))
-      | in-Err w ↦ failed_err _ _ _ _ _ w.result-is (rose_in c.args.self.now _ _ _ _ _ _ _ _ _ are c.self.invariant.0 below c.index_mut.ensures.value c.reserve.ensures.seat (adds_fault _ _ _ _ w.in-Err.ensures.tally w.failure_of.ensures.logged))
+    let are = ap (λ (h : AtSeats). h.seats) c.self.view_is in
+    let tag = (seat_there _ _ _ _ _ c.self.invariant.0 below c.index_mut.ensures.value).0 in
+    λ none. elim c.match-reserve.branch [
+      | in-Ok w ↦ granted_as _ _ _ _ _ _ w.result-is (at_seat _ c.args.self.now _ _ _ _ _ are c.self.invariant.0 below c.index_mut.ensures.value
+          (granted_at _ _ _ _ c.reserve.ensures.seat w.in-Ok.ensures.tally c.reserve.ensures.sent w.in-Ok.ensures.serial (w.in-Ok.ensures.call tag)))
+      | in-Err w ↦ fails_as _ _ _ _ _ _ w.result-is (at_seat _ c.args.self.now _ _ _ _ _ are c.self.invariant.0 below c.index_mut.ensures.value
+          (fails_at _ _ _ _ c.reserve.ensures.seat w.in-Err.ensures.tally c.reserve.ensures.sent (w.in-Err.ensures.call tag)))
     ]

@@ -1,8 +1,10 @@
-use Rattle.rb_seats.proofs.Calls.{number_fits, output_noted, output_sent}
+use Rattle.rb_seats.proofs.Noting.{number_fits, one_call, output}
 use Rattle.rb_seats.proofs.seat_helpers.SeatHelpersHelpers.output.Goals as goal
 
-pub returns-clause-given : goal.returns-clause-given
-returns-clause-given g c = λ start given leads. output_noted start _ _ _ given _ _ _ _ _ _ _ c.try_output-answer.ensures.rest c.try_output-answer.ensures.rose (number_fits _ _ c.answer_of-number.ensures) c.is_unlogged-unlogged.ensures c.log.ensures.noted leads
+pub returns-clause-call : goal.returns-clause-call
+returns-clause-call g c =
+    output c.args.self.now c.try_output-answer.new.self _ _ _ _ _ _ _ _ (number_fits _ _ c.answer_of-number.ensures) c.is_unlogged-unlogged.ensures c.is_due.ensures
+    c.try_output-answer.ensures.rest c.try_output-answer.ensures.flags c.try_output-answer.ensures.no_step c.try_output-answer.ensures.seat c.requires.room c.log.ensures.noted
 
-pub returns-clause-sent : goal.returns-clause-sent
-returns-clause-sent g c = λ none. output_sent c.args.self.now c.try_output-answer.new.self _ _ _ _ _ _ _ (number_fits _ _ c.answer_of-number.ensures) c.try_output-answer.ensures.sent c.log.ensures.noted none
+pub returns-clause-called : goal.returns-clause-called
+returns-clause-called g c = one_call _ _ _ (returns-clause-call g c)

@@ -1,8 +1,19 @@
-use Rattle.rb_seats.proofs.Calls.{reserved}
+use Rattle.std.proofs.Common.{ap, sym}
+use Rattle.rb_seats.proofs.Noting.{one_call, record_in, reserved}
 use Rattle.rb_seats.proofs.seat_helpers.SeatHelpersHelpers.reserve.Goals as goal
 
-pub returns-in-Ok-clause-given : goal.returns-in-Ok-clause-given
-returns-in-Ok-clause-given g c = λ start given leads. reserved start _ _ _ given _ _ _ _ _ _ c.try_reserve-answer.ensures.rest c.try_reserve-answer.ensures.rose c.try_reserve-answer.ensures.flags c.is_ok.ensures.value c.is_unlogged-unlogged.ensures c.log.ensures.noted leads
+pub returns-in-Ok-clause-call : goal.returns-in-Ok-clause-call
+returns-in-Ok-clause-call g c =
+    reserved c.args.self.now c.try_reserve-answer.new.self _ c.args.ring _ _ _ _ _ _ (sym (ap (λ x. record_in c.args.ring x) c.in-Ok.is)) c.is_ok.ensures.value c.is_unlogged-unlogged.ensures
+    c.try_reserve-answer.ensures.rest c.try_reserve-answer.ensures.flags c.try_reserve-answer.ensures.no_step c.try_reserve-answer.ensures.seat c.requires.room c.log.ensures.noted
 
-pub returns-in-Err-clause-given : goal.returns-in-Err-clause-given
-returns-in-Err-clause-given g c = λ start given leads. reserved start _ _ _ given _ _ _ _ _ _ c.try_reserve-answer.ensures.rest c.try_reserve-answer.ensures.rose c.try_reserve-answer.ensures.flags c.is_ok.ensures.value c.is_unlogged-unlogged.ensures c.log.ensures.noted leads
+pub returns-in-Ok-clause-called : goal.returns-in-Ok-clause-called
+returns-in-Ok-clause-called g c = one_call _ _ _ (returns-in-Ok-clause-call g c)
+
+pub returns-in-Err-clause-call : goal.returns-in-Err-clause-call
+returns-in-Err-clause-call g c =
+    reserved c.args.self.now c.try_reserve-answer.new.self _ c.args.ring _ _ _ _ _ _ (sym (ap (λ x. record_in c.args.ring x) c.in-Err.is)) c.is_ok.ensures.value c.is_unlogged-unlogged.ensures
+    c.try_reserve-answer.ensures.rest c.try_reserve-answer.ensures.flags c.try_reserve-answer.ensures.no_step c.try_reserve-answer.ensures.seat c.requires.room c.log.ensures.noted
+
+pub returns-in-Err-clause-called : goal.returns-in-Err-clause-called
+returns-in-Err-clause-called g c = one_call _ _ _ (returns-in-Err-clause-call g c)

@@ -1,12 +1,19 @@
-use Rattle.std.proofs.Common.{false}
-use Rattle.rb_seats.proofs.Calls.{sent_on, submitted, where_ok}
+use Rattle.std.proofs.Common.{ap, sym, is_ok}
+use Rattle.rb_seats.proofs.Noting.{one_call, submitted}
 use Rattle.rb_seats.proofs.seat_helpers.SeatHelpersHelpers.submit.Goals as goal
 
-pub returns-in-Ok-clause-given : goal.returns-in-Ok-clause-given
-returns-in-Ok-clause-given g c = λ start given leads. submitted start _ _ _ given _ _ _ _ c.try_submit-answer.ensures.rest c.try_submit-answer.ensures.rose c.is_ok.ensures.value c.log.ensures.noted leads
+pub returns-in-Ok-clause-call : goal.returns-in-Ok-clause-call
+returns-in-Ok-clause-call g c =
+    submitted c.args.self.now c.try_submit-answer.new.self _ c.args.owned _ _ _ _ _ (sym (ap (λ x. is_ok x) c.in-Ok.is)) c.is_ok.ensures.value c.is_due.ensures c.try_submit-answer.ensures.rest
+    c.try_submit-answer.ensures.seat c.requires.room c.log.ensures.noted
 
-pub returns-in-Err-clause-given : goal.returns-in-Err-clause-given
-returns-in-Err-clause-given g c = λ start given leads. submitted start _ _ _ given _ _ _ _ c.try_submit-answer.ensures.rest c.try_submit-answer.ensures.rose c.is_ok.ensures.value c.log.ensures.noted leads
+pub returns-in-Ok-clause-called : goal.returns-in-Ok-clause-called
+returns-in-Ok-clause-called g c = one_call _ _ _ (returns-in-Ok-clause-call g c)
 
-pub returns-in-Ok-clause-sent : goal.returns-in-Ok-clause-sent
-returns-in-Ok-clause-sent g c = sent_on c.args.self.now c.try_submit-answer.new.self _ _ _ _ _ false c.log.ensures.noted (where_ok _ _ _ c.in-Ok.is c.try_submit-answer.ensures.sent)
+pub returns-in-Err-clause-call : goal.returns-in-Err-clause-call
+returns-in-Err-clause-call g c =
+    submitted c.args.self.now c.try_submit-answer.new.self _ c.args.owned _ _ _ _ _ (sym (ap (λ x. is_ok x) c.in-Err.is)) c.is_ok.ensures.value c.is_due.ensures c.try_submit-answer.ensures.rest
+    c.try_submit-answer.ensures.seat c.requires.room c.log.ensures.noted
+
+pub returns-in-Err-clause-called : goal.returns-in-Err-clause-called
+returns-in-Err-clause-called g c = one_call _ _ _ (returns-in-Err-clause-call g c)

@@ -1,0 +1,32 @@
+//! What the answer of a ring says.
+
+ghost use Rattle.std.specs.Prelude.{◌≡◌};
+ghost use Rattle.rb_seats.specs.inner.CallAnswers.{due_in, output_number, unlogged_in};
+
+use rb_helpers::{EAGAIN, EINVAL};
+use rb_history::{Notice, ReserveFault};
+
+// Whether a notice is due.
+pub(crate) fn is_due<E>(answer: &Result<Notice, E>) -> bool
+    ensures { result ≡ due_in answer.now }
+{
+    matches!(answer, Ok(Notice::Due))
+}
+
+// Whether the call failed and no history says so.
+pub(crate) fn is_unlogged<T>(answer: &Result<T, ReserveFault>) -> bool
+    ensures { result ≡ unlogged_in answer.now }
+{
+    matches!(answer, Err(ReserveFault::Memory))
+}
+
+// The answer of an output.
+pub(crate) fn answer_of(answer: &Result<Notice, ReserveFault>) -> i64
+    ensures { result ≡ output_number answer.now }
+{
+    match answer {
+        Ok(_) => 0,
+        Err(ReserveFault::Flags) => -EINVAL,
+        Err(_) => -EAGAIN,
+    }
+}
