@@ -5,6 +5,8 @@ use Rattle.std.proofs.lemmas.Bool.Decides.{leb_tells}
 use Rattle.std.specs.Prelude.{All, nat_lt, not}
 use Rattle.std.specs.List.{AllZip, count_by, list_any, sum_by}
 use Rattle.std.proofs.lemmas.List.Elements.{All-cons}
+use Rattle.rb_ledger.specs.Roles.{BeginsWith}
+use Rattle.rb_ledger.specs.Roles.Role.{Consumer}
 use Rattle.rb_ledger.specs.Seats.{WorkerSeat, IsSameSeat, IsSameConsumerSeat}
 use Rattle.rb_jobs.specs.declared.job.Job.{Job}
 use Rattle.rb_jobs.specs.declared.job.JobAnswer.{JobAnswer}
@@ -13,39 +15,42 @@ use Rattle.rb_workers.specs.declared.opened.Ended.{Ended}
 use Rattle.rb_workers.specs.declared.opened.Report.{Report}
 use Rattle.rb_workers.specs.declared.workers.Worker.{Worker}
 use Rattle.rb_workers.specs.inner.RingEnds.{Closes}
-use Rattle.rb_workers.specs.JobRuns.{RunsJobs, own_jobs, is_stray}
-use Rattle.rb_workers.specs.inner.WorkerRuns.{RunsOwnJobs, own_answers}
+use Rattle.rb_workers.specs.JobRuns.{RunsJobs, own_jobs, own_answers, is_stray}
+use Rattle.rb_workers.specs.inner.WorkerRuns.{RunsOwnJobs}
 use Rattle.rb_workers.specs.Opened.{AreOpened, IsOpened, workers_of}
 use Rattle.rb_workers.specs.Reports.{AreRuns, RingsEnd, IsHandedBack, IsReport, RunsFirst, has_unknown_worker}
 use Rattle.rb_workers.specs.SeatRows.{seat_rows, worker_column}
 use Rattle.rb_workers.specs.inner.WorkerRuns.{HasRun}
-use Rattle.rb_workers.proofs.Same.{opened_long}
+use Rattle.rb_workers.proofs.Same.{opened_long, list_head, list_tail}
+use Rattle.rb_workers.proofs.Takes.{begins_all}
 use Rattle.rb_workers.proofs.Totals.{report_of_runs}
 use Rattle.rb_workers.proofs.Parts.{all_first, all_rest}
 
 -- ---- rings
 
 -- each ring that was closed with what came back is one that was opened
-pub rings_end : {S : Type 0} (position : S → ℕ) (opened back : List (Opened S)) (ended : List (Ended S)) (count : ℕ) → All (IsOpened position count) back
-    → AllZip (AllZip IsSameSeat) (seat_rows opened) (seat_rows back) → AllZip (λ o b. IsSameConsumerSeat o.consumer b.consumer) opened back → AllZip Closes back ended
-    → RingsEnd position opened ended (seat_rows back)
-rings_end position [] [] [] count all seats consumers closes = tt
-rings_end position [] [] (e ∷ es) count all seats consumers closes = absurd closes
-rings_end position [] (b ∷ bs) ended count all seats consumers closes = absurd consumers
-rings_end position (o ∷ os) [] ended count all seats consumers closes = absurd consumers
-rings_end position (o ∷ os) (b ∷ bs) [] count all seats consumers closes = absurd closes
-rings_end position (o ∷ os) (b ∷ bs) (e ∷ es) count all seats consumers closes =
+pub rings_end : {S : Type 0} (position : S → ℕ) (opened back : List (Opened S)) (ended : List (Ended S)) (count : ℕ) → All (IsOpened position count) back → map (λ o. o.ring) back ≡ map (λ o. o.ring) opened
+    → AllZip (AllZip IsSameSeat) (seat_rows opened) (seat_rows back) → AllZip (λ o b. IsSameConsumerSeat o.consumer b.consumer) opened back → AllZip (λ o b. BeginsWith b.consumer.seen o.consumer.seen) opened back
+    → AllZip Closes back ended → RingsEnd position opened ended (seat_rows back)
+rings_end position [] [] [] count all rings seats consumers begins closes = tt
+rings_end position [] [] (e ∷ es) count all rings seats consumers begins closes = absurd closes
+rings_end position [] (b ∷ bs) ended count all rings seats consumers begins closes = absurd consumers
+rings_end position (o ∷ os) [] ended count all rings seats consumers begins closes = absurd consumers
+rings_end position (o ∷ os) (b ∷ bs) [] count all rings seats consumers begins closes = absurd closes
+rings_end position (o ∷ os) (b ∷ bs) (e ∷ es) count all rings seats consumers begins closes =
     let is = all_first (IsOpened position count) (b ∷ bs) bs b refl all in
     let c = closes.0 in (
       record {
         consumer = b.consumer;
+        which = c.which ∙ list_head b.ring o.ring (map (λ x. x.ring) bs) (map (λ x. x.ring) os) rings;
         closed = c.closed;
+        begins = begins_all Consumer _ _ _ c.closed.consumer_goes_on begins.0;
         same_seats = seats.0;
         same_consumer = consumers.0;
         sink_follows = ap position c.same_sink ∙ (is.sink_follows ∙ c.closed.consumer_ties.position_is);
         tallies_are = c.tallies_are;
       },
-      rings_end position os bs es count (all_rest (IsOpened position count) (b ∷ bs) bs b refl all) seats.1 consumers.1 closes.1,
+      rings_end position os bs es count (all_rest (IsOpened position count) (b ∷ bs) bs b refl all) (list_tail b.ring o.ring (map (λ x. x.ring) bs) (map (λ x. x.ring) os) rings) seats.1 consumers.1 begins.1 closes.1,
     )
 
 -- ---- workers
@@ -128,7 +133,11 @@ reported position opened back jobs answers report all handed len known ran close
     record {
       seats = seat_rows back;
       calls = told.calls;
-      rings_end = rings_end position opened back report.rings.items count again handed.seats_same handed.consumers_same closes;
+      rings_end = rings_end position opened back report.rings.items count again handed.rings_same handed.seats_same handed.consumers_same handed.consumers_begin closes;
+      job_answers = answers;
+      worked = ran;
+      results_are = results;
+      unlogged_is = unlogged;
       answers_are_runs = subst (λ l. AreRuns jobs l told.calls) (sym results) told.answers_are_runs;
       numbers_rose = told.numbers_rose;
       failures_add_up = omega (arith, failed, unlogged);

@@ -4,6 +4,7 @@ use Rattle.std.specs.Prelude.{All}
 use Rattle.std.specs.List.{AllZip}
 use Rattle.std.proofs.lemmas.List.Elements.{AllZip-get_or, All-cons}
 use Rattle.rb_history.specs.RoomRule.{Setup}
+use Rattle.rb_ledger.specs.Roles.{BeginsWith}
 use Rattle.rb_ledger.specs.Seats.{Shared, WorkerSeat, IsSameSeat, IsSameConsumerSeat}
 use Rattle.rb_jobs.specs.declared.job.Job.{Job}
 use Rattle.rb_workers.specs.declared.opened.Opened.{Opened}
@@ -15,6 +16,7 @@ use Rattle.rb_workers.specs.SeatRows.{seat_rows, worker_column}
 use Rattle.rb_workers.proofs.Lists.{zip_length}
 use Rattle.rb_workers.proofs.Numbered.{seats_length}
 use Rattle.rb_workers.proofs.Parts.{all_first, all_rest, rows_length}
+use Rattle.rb_workers.proofs.Takes.{begins_with_all}
 use Rattle.rb_workers.proofs.SameSeats.{same_seats, seats_same_of_runs, rows_of_columns}
 
 pub long_rows : {S : Type 0} (count : ℕ) (opened : List (Opened S)) → All (λ o. length o.seats.items ≡ count) opened → All (λ row. length row ≡ count) (seat_rows opened)
@@ -44,16 +46,16 @@ again position count o b is ring consumed same =
           let s = AllZip-get_or IsSameSeat o.seats.items b.seats.items k d d same (omega (arith, zip_length IsSameSeat o.seats.items b.seats.items same)) in
           let at = is.seats_at k d (omega (arith, zip_length IsSameSeat o.seats.items b.seats.items same)) in
           (s.tag_same ∙ (at.0 ∙ ap (λ (r : Shared). r.tag) (sym ring)), s.ring_same ∙ (at.1 ∙ ap (λ (r : Shared). r.ring) (sym ring)));
-      as_many = ap (λ (x : Setup). x.workers) consumed.0.setup_same ∙ is.as_many;
+      as_many = ap (λ (x : Setup). x.workers) consumed.0.begins.setup_same ∙ is.as_many;
       consumer_tag = consumed.0.tag_same ∙ (is.consumer_tag ∙ ap (λ (r : Shared). r.tag) (sym ring));
       consumer_at = consumed.0.ring_same ∙ (is.consumer_at ∙ ap (λ (r : Shared). r.ring) (sym ring));
       sink_follows = consumed.1;
     }
 
-list_head : {A : Type 0} (x y : A) (xs ys : List A) → x ∷ xs ≡ y ∷ ys → x ≡ y
+pub list_head : {A : Type 0} (x y : A) (xs ys : List A) → x ∷ xs ≡ y ∷ ys → x ≡ y
 list_head x y xs ys e = ap (λ l. get_or l 0 x) e
 
-list_tail : {A : Type 0} (x y : A) (xs ys : List A) → x ∷ xs ≡ y ∷ ys → xs ≡ ys
+pub list_tail : {A : Type 0} (x y : A) (xs ys : List A) → x ∷ xs ≡ y ∷ ys → xs ≡ ys
 list_tail x y xs ys e = ap (λ l. drop 1 l) e
 
 all_again : {S : Type 0} (position : S → ℕ) (count : ℕ) (opened back : List (Opened S)) → All (IsOpened position count) opened → map (λ o. o.ring) back ≡ map (λ o. o.ring) opened
@@ -78,6 +80,12 @@ takers_same position [] (b ∷ bs) consumed = absurd consumed
 takers_same position (o ∷ os) [] consumed = absurd consumed
 takers_same position (o ∷ os) (b ∷ bs) consumed = (record { tag_same = consumed.0.0.tag_same; ring_same = consumed.0.0.ring_same }, takers_same position os bs consumed.1)
 
+takers_begin : {S : Type 0} (position : S → ℕ) (opened back : List (Opened S)) → AllZip (IsConsumed position) opened back → AllZip (λ o b. BeginsWith b.consumer.seen o.consumer.seen) opened back
+takers_begin position [] [] consumed = tt
+takers_begin position [] (b ∷ bs) consumed = absurd consumed
+takers_begin position (o ∷ os) [] consumed = absurd consumed
+takers_begin position (o ∷ os) (b ∷ bs) consumed = (consumed.0.0.begins, takers_begin position os bs consumed.1)
+
 -- what came back of a run may be run again
 pub handed_back : {S : Type 0} (position : S → ℕ) (opened back : List (Opened S)) (jobs : List Job) → AreOpened position opened → map (λ o. o.ring) back ≡ map (λ o. o.ring) opened
     → AllZip (IsConsumed position) opened back → All (λ o. length o.seats.items ≡ workers_of opened) back
@@ -93,6 +101,7 @@ handed_back {S} position opened back jobs all rings consumed long ran =
       rings_same = rings;
       seats_same = same;
       consumers_same = takers_same position opened back consumed;
+      consumers_begin = takers_begin position opened back consumed;
       runs_again = subst (λ n. All (IsOpened position n) back) (sym many) (all_again position count opened back all rings consumed same);
       workers_same = many;
       worked = ran;
@@ -105,6 +114,7 @@ unchanged {S} position opened jobs all =
       rings_same = refl;
       seats_same = each (seat_rows opened);
       consumers_same = consumers opened;
+      consumers_begin = begins opened;
       runs_again = all;
       workers_same = refl;
       worked = λ k below. ([], own_jobs k jobs, [], refl, refl);
@@ -117,3 +127,7 @@ unchanged {S} position opened jobs all =
     consumers : (xs : List (Opened S)) → AllZip (λ o b. IsSameConsumerSeat o.consumer b.consumer) xs xs
     consumers [] = tt
     consumers (x ∷ xs) = (record { tag_same = refl; ring_same = refl }, consumers xs)
+
+    begins : (xs : List (Opened S)) → AllZip (λ o b. BeginsWith b.consumer.seen o.consumer.seen) xs xs
+    begins [] = tt
+    begins (x ∷ xs) = (begins_with_all x.consumer.seen, begins xs)

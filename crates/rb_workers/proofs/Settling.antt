@@ -97,7 +97,7 @@ rings_within position (o ∷ os) [] (row ∷ more) ends = absurd ends
 rings_within position (o ∷ os) (e ∷ es) [] ends = absurd ends
 rings_within position (o ∷ os) (e ∷ es) (row ∷ more) ends =
     let ring = ends.0 in
-    All-cons (All SettlesWithin) row more (once-closed e.closing row ring.consumer ring.closed).within (rings_within position os es more ends.1)
+    All-cons (All SettlesWithin) row more (once-closed e.closing.at_end row ring.consumer ring.closed).within (rings_within position os es more ends.1)
 
 rings_settled : {S : Type 0} (position : S → ℕ) (opened : List (Opened S)) (ended : List (Ended S)) (seats : List (List WorkerSeat)) → RingsEnd position opened ended seats → All (All HasSettledAll) seats → All EndsSettled ended
 rings_settled position [] [] [] ends settled = All-nil EndsSettled
@@ -112,7 +112,7 @@ rings_settled position (o ∷ os) (e ∷ es) (row ∷ more) ends settled =
     let here = All-head (All HasSettledAll) row more settled in
     let one : EndsSettled e = record {
       tallies_even = All-same IsEven e.tallies.items (map (λ (s : WorkerSeat). s.tally) row) ring.tallies_are (All-map IsEven (λ (s : WorkerSeat). s.tally) row here);
-      none_busy = (once-closed e.closing row ring.consumer ring.closed).none_busy.0 here;
+      none_busy = (once-closed e.closing.at_end row ring.consumer ring.closed).none_busy.0 here;
     } in
     All-cons EndsSettled e es one (rings_settled position os es more ends.1 (All-tail (All HasSettledAll) row more settled))
 

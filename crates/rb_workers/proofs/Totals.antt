@@ -10,8 +10,7 @@ use Rattle.rb_seats.specs.SeatHelpers.{makes, submits, discards, fails, call_tot
 use Rattle.rb_jobs.specs.declared.job.Job.{Job}
 use Rattle.rb_jobs.specs.declared.job.JobAnswer.{JobAnswer}
 use Rattle.rb_jobs.specs.Jobs.{JobRan, task_of}
-use Rattle.rb_workers.specs.JobRuns.{RunsJobs, own_jobs}
-use Rattle.rb_workers.specs.inner.WorkerRuns.{own_answers}
+use Rattle.rb_workers.specs.JobRuns.{RunsJobs, own_jobs, own_answers}
 use Rattle.rb_workers.specs.Reports.{AreRuns, HasRisen, times_in, refused_by_all}
 use Rattle.rb_workers.specs.SeatRows.{worker_column}
 use Rattle.rb_workers.proofs.Sums.{sum_to, sum_to_same, sum_to_but_one, sum_of_columns}

@@ -5,6 +5,7 @@ use Rattle.rb_helpers.specs.declared.done.Done.{Done}
 use Rattle.rb_history.specs.Calls.{consumer_now}
 use Rattle.rb_interp.specs.declared.fault.RunFault.{RunFault}
 use Rattle.rb_interp.specs.RunTraces.{RunMatches, TellsLength, TraceBalances}
+use Rattle.rb_ledger.specs.Roles.{BeginsWith, book_of}
 use Rattle.rb_ledger.specs.Headline.{IsClosed}
 use Rattle.rb_ledger.specs.Seats.{WorkerSeat, ConsumerSeatValue, IsSameSeat, IsSameConsumerSeat}
 use Rattle.rb_seats.specs.SeatHelpers.{makes, submits, discards, fails, call_total, made_in, refused_in, submitted_in, discarded_in}
@@ -15,7 +16,7 @@ use Rattle.rb_workers.specs.declared.opened.Opened.{Opened}
 use Rattle.rb_workers.specs.declared.opened.Ended.{Ended}
 use Rattle.rb_workers.specs.declared.opened.Report.{Report}
 use Rattle.rb_workers.specs.declared.opened.JobFault.{JobFault}
-use Rattle.rb_workers.specs.JobRuns.{RunsJobs, own_jobs, is_stray}
+use Rattle.rb_workers.specs.JobRuns.{RunsJobs, own_jobs, own_answers, is_stray}
 use Rattle.rb_workers.specs.Opened.{AreOpened, workers_of}
 use Rattle.rb_workers.specs.SeatRows.{seat_rows, worker_column}
 
@@ -38,25 +39,30 @@ IsRefusedFor fault (Err e) = e.0 ≡ fault
 abbrev pub RunsFirst : List Job → List WorkerSeat → List WorkerSeat → Type 0
 RunsFirst jobs old new = (done left : List Job) × (answers : List JobAnswer) × (jobs ≡ done ++ left) × RunsJobs done answers old new
 
--- all came back, each at its place, and may be run again: the same rings, seats and consumers; each worker ran the first of its own jobs
+-- all came back, each at its place, and may be run again: the same rings, seats and consumers; what each consumer sees begins with what it
+-- had seen; and each worker ran the first of its own jobs
 pub record IsHandedBack {S : Type 0} (position : S → ℕ) (opened : List (Opened S)) (jobs : List Job) (back : List (Opened S)) : Type 0 where
   pub rings_same : map (λ o. o.ring) back ≡ map (λ o. o.ring) opened
   pub seats_same : AllZip (AllZip IsSameSeat) (seat_rows opened) (seat_rows back)
   pub consumers_same : AllZip (λ o b. IsSameConsumerSeat o.consumer b.consumer) opened back
+  pub consumers_begin : AllZip (λ o b. BeginsWith b.consumer.seen o.consumer.seen) opened back
   pub runs_again : AreOpened position back
   pub workers_same : workers_of back ≡ workers_of opened
   pub worked : (k : ℕ) → k < workers_of opened → RunsFirst (own_jobs k jobs) (worker_column k (seat_rows opened)) (worker_column k (seat_rows back))
 
 -- ---- reports
 
--- the ring was closed with these seats and a consumer, which are those that were opened; the tallies are the seats'; and the sink's
--- position is the consumer position of the closed ring
+-- the ring that was opened was closed, with these seats and a consumer, which are those that were opened with it; its setup is the one that
+-- the consumer had seen, and its history begins with that of then; the tallies are the seats'; and the sink's position is the consumer
+-- position of the closed ring
 pub record RingEnds {S : Type 0} (position : S → ℕ) (o : Opened S) (ended : Ended S) (seats : List WorkerSeat) : Type 0 where
   pub consumer : ConsumerSeatValue
-  pub closed : IsClosed ended.closing seats consumer
+  pub which : ended.closing.shared ≡ o.ring
+  pub closed : IsClosed ended.closing.at_end seats consumer
+  pub begins : BeginsWith (book_of ended.closing.at_end) o.consumer.seen
   pub same_seats : AllZip IsSameSeat o.seats.items seats
   pub same_consumer : IsSameConsumerSeat o.consumer consumer
-  pub sink_follows : position ended.sink ≡ consumer_now ended.closing
+  pub sink_follows : position ended.sink ≡ consumer_now ended.closing.at_end
   pub tallies_are : ended.tallies.items ≡ map (λ s. s.tally) seats
 
 abbrev pub RingsEnd : {S : Type 0} → (S → ℕ) → List (Opened S) → List (Ended S) → List (List WorkerSeat) → Type 0
@@ -101,14 +107,19 @@ pub record HasRisen (worker : ℕ) (jobs : List Job) (calls : List (List Done)) 
 abbrev pub refused_by_all : List (List WorkerSeat) → ℕ
 refused_by_all seats = sum_by refused_in seats
 
--- There are the seats as they were at the end, a row for each ring, and each job's calls with their answers, in the order of the jobs:
--- each ring was closed with its row; each report of a run is the meaning's under its calls; each worker's seats rose by the calls of
--- its own jobs; and each null for flags 0 and each answer -EAGAIN is refused in a ring's history, or unlogged.
+-- There are the seats as they were at the end, a row for each ring, and each job's answer, and its calls with their answers, in the order
+-- of the jobs: each ring was closed with its row; each worker ran its own jobs, one after another in the order of the list, at its own
+-- seats; each report of a run is the meaning's under its calls; each worker's seats rose by the calls of its own jobs; and each null for
+-- flags 0 and each answer -EAGAIN is refused in a ring's history, or unlogged.
 pub record IsReport {S : Type 0} (position : S → ℕ) (opened : List (Opened S)) (jobs : List Job) (report : Report S) : Type 0 where
   pub seats : List (List WorkerSeat)
+  pub job_answers : List JobAnswer
   pub calls : List (List Done)
   pub rings_end : RingsEnd position opened report.rings.items seats
+  pub worked : (k : ℕ) → k < workers_of opened → RunsJobs (own_jobs k jobs) (own_answers k jobs job_answers) (worker_column k (seat_rows opened)) (worker_column k seats)
+  pub results_are : report.answers.items ≡ map (λ a. a.result) job_answers
   pub answers_are_runs : AreRuns jobs report.answers.items calls
   pub numbers_rose : (worker : ℕ) → worker < workers_of opened → HasRisen worker jobs calls (worker_column worker (seat_rows opened)) (worker_column worker seats)
   pub failures_add_up : refused_by_all seats + report.unlogged ≡ refused_by_all (seat_rows opened) + times_in fails calls
   pub strays_are : report.strays ≡ count_by is_stray report.answers.items
+  pub unlogged_is : report.unlogged ≡ sum_by (λ a. a.unlogged) job_answers

@@ -22,4 +22,4 @@ IsEven t = t.made ≡ t.submitted + t.discarded
 -- each of the ring's seats submitted or discarded all that it made, and no record is busy
 pub record EndsSettled {S : Type 0} (ended : Ended S) : Type 0 where
   pub tallies_even : All IsEven ended.tallies.items
-  pub none_busy : (counts_of ended.closing.history).busy ≡ 0
+  pub none_busy : (counts_of ended.closing.at_end.history).busy ≡ 0

@@ -1,14 +1,15 @@
 -- What becomes of consumers and sinks.
 use Rattle.std.specs.Prelude.{◌≡◌, ℕ, ◌≤◌, [], length, vec_capacity}
+use Rattle.rb_ledger.specs.Roles.{BeginsWith}
 use Rattle.rb_ledger.specs.Seats.{Shared, ConsumerSeatValue}
 use Rattle.rb_workers.specs.declared.opened.Opened.{Opened}
 use Rattle.rb_workers.specs.declared.consumer_task.ConsumerTask.{ConsumerTask}
 
--- it is the same consumer of a ring that was opened so
+-- it is the same consumer, and what it sees begins with what it had seen
 pub record IsSameConsumer (old new : ConsumerSeatValue) : Type 0 where
   pub tag_same : new.tag ≡ old.tag
   pub ring_same : new.ring ≡ old.ring
-  pub setup_same : new.seen.setup ≡ old.seen.setup
+  pub begins : BeginsWith new.seen old.seen
 
 -- the consumer is the ring's, and the sink's position is the consumer's
 abbrev pub IsConsumerTaskOf : {S : Type 0} → (S → ℕ) → Shared → ConsumerTask S → Type 0

@@ -1,5 +1,5 @@
 -- What becomes of workers, their seats and their answers.
-use Rattle.std.specs.Prelude.{◌≡◌, ℕ, ◌<◌, ◌≤◌, List, [], ◌∷◌, ◌++◌, ◌==◌, Bool, true, false, cond, vec_len, vec_capacity}
+use Rattle.std.specs.Prelude.{◌≡◌, ℕ, ◌<◌, ◌≤◌, List, [], ◌∷◌, ◌++◌, Bool, true, false, vec_len, vec_capacity}
 use Rattle.rb_ledger.specs.Seats.{Shared, WorkerSeat}
 use Rattle.rb_seats.specs.SeatHelpers.{AtRings}
 use Rattle.rb_jobs.specs.declared.job.Job.{Job}
@@ -38,12 +38,6 @@ IsReady rings worker = AtRings rings worker.seats.items × (worker.answers.items
 abbrev pub RunsOne : Job → Bool → Worker → Worker → Type 0
 RunsOne job true old new = (a : JobAnswer) × (new.answers.items ≡ old.answers.items ++ a ∷ []) × JobRan (task_of job) a old.seats.items new.seats.items
 RunsOne job false old new = (new.answers.items ≡ old.answers.items) × (new.seats.items ≡ old.seats.items)
-
--- the answers of the worker's own jobs, where there is one for each job
-abbrev pub own_answers : ℕ → List Job → List JobAnswer → List JobAnswer
-own_answers worker [] answers = []
-own_answers worker (j ∷ js) [] = []
-own_answers worker (j ∷ js) (a ∷ rest) = cond (j.worker == worker) (a ∷ own_answers worker js rest) (own_answers worker js rest)
 
 -- the worker ran its jobs in their order; short of memory, it ran the first of them
 abbrev pub RunsOwnJobs : List Job → Bool → List JobAnswer → List WorkerSeat → List WorkerSeat → Type 0

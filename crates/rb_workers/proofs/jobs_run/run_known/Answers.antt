@@ -4,8 +4,7 @@ use Rattle.std.specs.List.{AllZip, list_any}
 use Rattle.rb_ledger.specs.Seats.{IsSameSeat}
 use Rattle.rb_workers.specs.declared.workers.Worker.{Worker}
 use Rattle.rb_workers.specs.inner.RingEnds.{Closes}
-use Rattle.rb_workers.specs.JobRuns.{own_jobs}
-use Rattle.rb_workers.specs.inner.WorkerRuns.{own_answers}
+use Rattle.rb_workers.specs.JobRuns.{own_jobs, own_answers}
 use Rattle.rb_workers.specs.Opened.{workers_of}
 use Rattle.rb_workers.specs.inner.RunBuffers.{IsEmptyFor}
 use Rattle.rb_workers.specs.SeatRows.{seat_rows, worker_column}
