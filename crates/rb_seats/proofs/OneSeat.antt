@@ -1,5 +1,5 @@
 -- What the ring's answer to one call makes of the seat that made it.
-use Rattle.std.proofs.Common.{◌≡◌, ◌≢◌, ℕ, zero, suc, ◌+◌, ◌<◌, ◌≤◌, Bool, false, List, [], ◌∷◌, length, get_or, set, Some, Result, Ok, Err, IsErr, is_ok, refl, ap, sym, ◌∙◌, subst, arith, append-nil}
+use Rattle.std.proofs.Common.{◌≡◌, ◌≢◌, ℕ, zero, suc, ◌+◌, ◌<◌, ◌≤◌, Bool, false, List, [], ◌∷◌, length, get_or, set, Some, Result, Ok, Err, None, IsErr, is_ok, refl, ap, sym, ◌∙◌, subst, arith, append-nil}
 use Rattle.std.proofs.lemmas.Option.{slice_get_read}
 use Rattle.std.specs.Prelude.{slice_get}
 use Rattle.rb_history.specs.declared.answers.ReserveFault.{ReserveFault}
@@ -23,14 +23,15 @@ use Rattle.rb_seats.proofs.Lists.{zip_at, zip_length, zip_set}
 -- ---- the seat itself
 
 -- the seat is as before but for these
-pub seat_is : (b a : WorkerSeat) (tally : Tally) (sent : Contents) → IsSameSeat b a → a.tally ≡ tally → a.sent ≡ sent
+pub seat_is : (b a : WorkerSeat) (tally : Tally) (sent : Contents) → IsSameSeat b a → (b.out ≡ None) × (a.out ≡ None) → a.tally ≡ tally → a.sent ≡ sent
     → a ≡ record b { seen = a.seen; tally = tally; sent = sent }
-seat_is b a tally sent same tally_is sent_is =
+seat_is b a tally sent same released tally_is sent_is =
     ap (λ t. record a { tag = t }) same.tag_same
     ∙ ap (λ r. record a { tag = b.tag; ring = r }) same.ring_same
     ∙ ap (λ w. record a { tag = b.tag; ring = b.ring; worker = w }) same.worker_same
     ∙ ap (λ t. record a { tag = b.tag; ring = b.ring; worker = b.worker; tally = t }) tally_is
     ∙ ap (λ s. record a { tag = b.tag; ring = b.ring; worker = b.worker; tally = tally; sent = s }) sent_is
+    ∙ ap (λ o. record a { tag = b.tag; ring = b.ring; worker = b.worker; tally = tally; sent = sent; out = o }) (released.1 ∙ sym released.0)
 
 extends_nowhere : (role : Role) (b : Book) → ExtendsSeen role b b
 extends_nowhere role b = record { setup_same = refl; behind = []; history_is = sym (append-nil b.history); none_own = tt }
@@ -57,17 +58,17 @@ call_extends role before after call = subst (λ book. ExtendsSeen role before bo
 
 -- ---- reserve
 
-pub granted_at : (n : ℕ) (r : Granted) (b a : WorkerSeat) → IsSameSeat b a → a.tally ≡ record b.tally { made = b.tally.made + 1 } → a.sent ≡ b.sent → r.serial ≡ b.tally.made
+pub granted_at : (n : ℕ) (r : Granted) (b a : WorkerSeat) → IsSameSeat b a → (b.out ≡ None) × (a.out ≡ None) → a.tally ≡ record b.tally { made = b.tally.made + 1 } → a.sent ≡ b.sent → r.serial ≡ b.tally.made
     → LockedCall (Worker b.worker) b.seen a.seen (Reserves b.worker n (Ok r)) → SeatIsGranted n r b a
-granted_at n r b a same tally sent serial call = (call, serial, seat_is b a _ b.sent same tally sent)
+granted_at n r b a same released tally sent serial call = (call, serial, seat_is b a _ b.sent same released tally sent)
 
-pub fails_at : (n : ℕ) (fault : ReserveFault) (b a : WorkerSeat) → IsSameSeat b a → a.tally ≡ refused_by b.tally fault → a.sent ≡ b.sent
+pub fails_at : (n : ℕ) (fault : ReserveFault) (b a : WorkerSeat) → IsSameSeat b a → (b.out ≡ None) × (a.out ≡ None) → a.tally ≡ refused_by b.tally fault → a.sent ≡ b.sent
     → LockedCall (Worker b.worker) b.seen a.seen (λ old new. Refuses old new b.worker n fault × (fault ≢ Flags)) → SeatFails n fault b a
-fails_at n Full b a same tally sent call = (locked_as _ _ _ _ _ (λ old new called. called.0) call, seat_is b a _ b.sent same tally sent)
-fails_at n Memory b a same tally sent call =
-    (call_extends (Worker b.worker) b.seen a.seen (locked_as _ _ _ _ _ (λ old new called. called.0) call), seat_is b a b.tally b.sent same tally sent)
-fails_at n Flags b a same tally sent call = absurd (call.called.1 refl)
-fails_at n Foreign b a same tally sent call = absurd call.called.0
+fails_at n Full b a same released tally sent call = (locked_as _ _ _ _ _ (λ old new called. called.0) call, seat_is b a _ b.sent same released tally sent)
+fails_at n Memory b a same released tally sent call =
+    (call_extends (Worker b.worker) b.seen a.seen (locked_as _ _ _ _ _ (λ old new called. called.0) call), seat_is b a b.tally b.sent same released tally sent)
+fails_at n Flags b a same released tally sent call = absurd (call.called.1 refl)
+fails_at n Foreign b a same released tally sent call = absurd call.called.0
 
 -- ---- submit and discard
 
@@ -78,42 +79,42 @@ refused_is_err (Err e) err = refl
 abbrev ok_answer : Notice → Result Notice Stray
 ok_answer notice = Ok notice
 
-pub submitted_at : (r : Granted) (flags : ℕ) (answer : Result Notice Stray) (b a : WorkerSeat) → IsSameSeat b a
+pub submitted_at : (r : Granted) (flags : ℕ) (answer : Result Notice Stray) (b a : WorkerSeat) → IsSameSeat b a → (b.out ≡ None) × (a.out ≡ None)
     → (r.worker ≡ b.worker → LockedCall (Worker b.worker) b.seen a.seen (SubmitsAt r flags answer)) → (r.worker ≢ b.worker → IsErr answer × (a ≡ b))
     → a.tally ≡ submitted_by b.tally answer → a.sent ≡ sent_by_submit b.sent r answer → SeatSubmits r flags (is_ok answer) (due_in answer) b a
-submitted_at r flags (Ok Due) b a same call foreign tally sent =
-    (call, λ other. (refused_is_err (ok_answer Due) (foreign other).0, (foreign other).1), λ none. absurd (cc), seat_is b a _ _ same tally sent)
-submitted_at r flags (Ok NotDue) b a same call foreign tally sent =
-    (call, λ other. (refused_is_err (ok_answer NotDue) (foreign other).0, (foreign other).1), λ none. refl, seat_is b a _ _ same tally sent)
-submitted_at r flags (Err stray) b a same call foreign tally sent =
-    (call, λ other. (refl, (foreign other).1), λ none. refl, seat_is b a _ _ same tally sent)
+submitted_at r flags (Ok Due) b a same released call foreign tally sent =
+    (call, λ other. (refused_is_err (ok_answer Due) (foreign other).0, (foreign other).1), λ none. absurd (cc), seat_is b a _ _ same released tally sent)
+submitted_at r flags (Ok NotDue) b a same released call foreign tally sent =
+    (call, λ other. (refused_is_err (ok_answer NotDue) (foreign other).0, (foreign other).1), λ none. refl, seat_is b a _ _ same released tally sent)
+submitted_at r flags (Err stray) b a same released call foreign tally sent =
+    (call, λ other. (refl, (foreign other).1), λ none. refl, seat_is b a _ _ same released tally sent)
 
-pub discarded_at : (r : Granted) (flags : ℕ) (answer : Result Notice Stray) (b a : WorkerSeat) → IsSameSeat b a
+pub discarded_at : (r : Granted) (flags : ℕ) (answer : Result Notice Stray) (b a : WorkerSeat) → IsSameSeat b a → (b.out ≡ None) × (a.out ≡ None)
     → (r.worker ≡ b.worker → LockedCall (Worker b.worker) b.seen a.seen (DiscardsAt r flags answer)) → (r.worker ≢ b.worker → IsErr answer × (a ≡ b))
     → a.tally ≡ discarded_by b.tally answer → a.sent ≡ b.sent → SeatDiscards r flags (is_ok answer) (due_in answer) b a
-discarded_at r flags (Ok Due) b a same call foreign tally sent =
-    (call, λ other. (refused_is_err (ok_answer Due) (foreign other).0, (foreign other).1), λ none. absurd (cc), seat_is b a _ _ same tally sent)
-discarded_at r flags (Ok NotDue) b a same call foreign tally sent =
-    (call, λ other. (refused_is_err (ok_answer NotDue) (foreign other).0, (foreign other).1), λ none. refl, seat_is b a _ _ same tally sent)
-discarded_at r flags (Err stray) b a same call foreign tally sent =
-    (call, λ other. (refl, (foreign other).1), λ none. refl, seat_is b a _ _ same tally sent)
+discarded_at r flags (Ok Due) b a same released call foreign tally sent =
+    (call, λ other. (refused_is_err (ok_answer Due) (foreign other).0, (foreign other).1), λ none. absurd (cc), seat_is b a _ _ same released tally sent)
+discarded_at r flags (Ok NotDue) b a same released call foreign tally sent =
+    (call, λ other. (refused_is_err (ok_answer NotDue) (foreign other).0, (foreign other).1), λ none. refl, seat_is b a _ _ same released tally sent)
+discarded_at r flags (Err stray) b a same released call foreign tally sent =
+    (call, λ other. (refl, (foreign other).1), λ none. refl, seat_is b a _ _ same released tally sent)
 
 -- ---- output
 
-pub sent_at : (bytes : List ℕ) (flags : ℕ) (notice : Notice) (b a : WorkerSeat) → IsSameSeat b a → a.tally ≡ output_by b.tally (Ok notice)
+pub sent_at : (bytes : List ℕ) (flags : ℕ) (notice : Notice) (b a : WorkerSeat) → IsSameSeat b a → (b.out ≡ None) × (a.out ≡ None) → a.tally ≡ output_by b.tally (Ok notice)
     → LockedCall (Worker b.worker) b.seen a.seen (λ old new. OutputsAt b.worker bytes flags (Ok notice) old new × (a.sent ≡ sent_by_output b.sent (producer_now old) bytes (Ok notice)))
     → SeatSends bytes flags (Ok notice) b a
-sent_at bytes flags Due b a same tally call = locked_as _ _ _ _ _ (λ old new called. (called.0, seat_is b a _ _ same tally called.1)) call
-sent_at bytes flags NotDue b a same tally call = locked_as _ _ _ _ _ (λ old new called. (called.0, seat_is b a _ _ same tally called.1)) call
+sent_at bytes flags Due b a same released tally call = locked_as _ _ _ _ _ (λ old new called. (called.0, seat_is b a _ _ same released tally called.1)) call
+sent_at bytes flags NotDue b a same released tally call = locked_as _ _ _ _ _ (λ old new called. (called.0, seat_is b a _ _ same released tally called.1)) call
 
 not_bad_flags : (fault : ReserveFault) (flags : ℕ) → flags ≤ 3 → (fault ≡ Flags → 3 < flags) → fault ≢ Flags
 not_bad_flags fault flags few only is = absurd (let many : 3 < flags = only is in omega (arith, few, many))
 
-pub not_sent_at : (bytes : List ℕ) (flags : ℕ) (refused : ReserveFault × List ℕ) (b a : WorkerSeat) → flags ≤ 3 → IsSameSeat b a → a.tally ≡ refused_by b.tally refused.0
+pub not_sent_at : (bytes : List ℕ) (flags : ℕ) (refused : ReserveFault × List ℕ) (b a : WorkerSeat) → flags ≤ 3 → IsSameSeat b a → (b.out ≡ None) × (a.out ≡ None) → a.tally ≡ refused_by b.tally refused.0
     → LockedCall (Worker b.worker) b.seen a.seen (λ old new. OutputsAt b.worker bytes flags (Err refused) old new × (a.sent ≡ b.sent))
     → SeatFails (length bytes) refused.0 b a
-not_sent_at bytes flags refused b a few same tally call =
-    fails_at (length bytes) refused.0 b a same tally call.called.1
+not_sent_at bytes flags refused b a few same released tally call =
+    fails_at (length bytes) refused.0 b a same released tally call.called.1
     (locked_as _ _ _ _ _ (λ old new called. (called.0.0, not_bad_flags refused.0 flags few (λ is. called.0.1.0 is))) call)
 
 -- ---- the seat among the others

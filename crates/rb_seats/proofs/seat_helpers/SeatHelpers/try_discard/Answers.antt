@@ -21,4 +21,4 @@ returns-clause-seat g c =
     let tag = (seat_there _ _ _ _ _ c.self.invariant.0 (omega (arith, c.if-at-self.false)) c.index_mut.ensures.value).0 in
     at_own_ring _ _ _ c.args.self.now _ _ _ _ are c.self.invariant.0 (omega (arith, c.if-at-self.false))
     (at_seat _ c.args.self.now _ _ _ _ _ are c.self.invariant.0 (omega (arith, c.if-at-self.false)) c.index_mut.ensures.value
-    (discarded_at _ _ _ _ _ c.discard.ensures.seat (c.discard.ensures.call tag) (λ other. c.discard.ensures.foreign (inr other)) c.discard.ensures.tally c.discard.ensures.sent))
+    (discarded_at _ _ _ _ _ c.discard.ensures.seat c.discard.ensures.released (c.discard.ensures.call tag) (λ other. c.discard.ensures.foreign (inr other)) c.discard.ensures.tally c.discard.ensures.sent))

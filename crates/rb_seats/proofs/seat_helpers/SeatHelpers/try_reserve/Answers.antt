@@ -31,7 +31,7 @@ returns-clause-seat g c =
     let tag = (seat_there _ _ _ _ _ c.self.invariant.0 below c.index_mut.ensures.value).0 in
     λ none. elim c.match-reserve.branch [
       | in-Ok w ↦ granted_as _ _ _ _ _ _ w.result-is (at_seat _ c.args.self.now _ _ _ _ _ are c.self.invariant.0 below c.index_mut.ensures.value
-          (granted_at _ _ _ _ c.reserve.ensures.seat w.in-Ok.ensures.tally c.reserve.ensures.sent w.in-Ok.ensures.serial (w.in-Ok.ensures.call tag)))
+          (granted_at _ _ _ _ c.reserve.ensures.seat c.reserve.ensures.released w.in-Ok.ensures.tally c.reserve.ensures.sent w.in-Ok.ensures.serial (w.in-Ok.ensures.call tag)))
       | in-Err w ↦ fails_as _ _ _ _ _ _ w.result-is (at_seat _ c.args.self.now _ _ _ _ _ are c.self.invariant.0 below c.index_mut.ensures.value
-          (fails_at _ _ _ _ c.reserve.ensures.seat w.in-Err.ensures.tally c.reserve.ensures.sent (w.in-Err.ensures.call tag)))
+          (fails_at _ _ _ _ c.reserve.ensures.seat c.reserve.ensures.released w.in-Err.ensures.tally c.reserve.ensures.sent (w.in-Err.ensures.call tag)))
     ]

@@ -21,4 +21,4 @@ returns-clause-seat g c =
     let tag = (seat_there _ _ _ _ _ c.self.invariant.0 (omega (arith, c.if-at-self.false)) c.index_mut.ensures.value).0 in
     at_own_ring _ _ _ c.args.self.now _ _ _ _ are c.self.invariant.0 (omega (arith, c.if-at-self.false))
     (at_seat _ c.args.self.now _ _ _ _ _ are c.self.invariant.0 (omega (arith, c.if-at-self.false)) c.index_mut.ensures.value
-    (submitted_at _ _ _ _ _ c.submit.ensures.seat (c.submit.ensures.call tag) (λ other. c.submit.ensures.foreign (inr other)) c.submit.ensures.tally c.submit.ensures.sent))
+    (submitted_at _ _ _ _ _ c.submit.ensures.seat c.submit.ensures.released (c.submit.ensures.call tag) (λ other. c.submit.ensures.foreign (inr other)) c.submit.ensures.tally c.submit.ensures.sent))
