@@ -5,6 +5,7 @@ pub mod Tallies
 pub mod Histories
 pub mod Steps
 pub mod Calls
+pub mod Beginnings
 pub mod Passing
 pub mod Opens
 pub mod Meets

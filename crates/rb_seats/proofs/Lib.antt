@@ -1,3 +1,4 @@
+pub mod Beginnings
 pub mod Leading
 pub mod Lists
 pub mod Noting

@@ -1,6 +1,6 @@
 -- Laws of lists that stand beside each other.
 use Rattle.std.proofs.Common.{◌≡◌, ◌≢◌, ℕ, zero, suc, ◌<◌, List, [], ◌∷◌, length, get_or, set, Some, refl, ap, sym, subst, arith}
-use Rattle.std.specs.Prelude.{slice_get}
+use Rattle.std.specs.Prelude.{slice_get, unwrap_or}
 use Rattle.std.specs.List.{AllZip}
 
 pub zip_at : {A B : Type 0} (R : A → B → Type 0) (xs : List A) (ys : List B) (i : ℕ) (a : A) (b : B) → AllZip R xs ys → i < length xs → R (get_or xs i a) (get_or ys i b)
@@ -37,3 +37,22 @@ get_set_other (x ∷ xs) (suc i) (suc j) y other = get_set_other xs i j y (λ e.
 
 pub zip_here : {A B : Type 0} (R : A → B → Type 0) (xs : List A) (ys : List B) (i : ℕ) (a : A) (b : B) → AllZip R xs ys → i < length xs → a ≡ get_or xs i a → b ≡ get_or ys i b → R a b
 zip_here R xs ys i a b all below ea eb = subst (λ x. R x b) (sym ea) (subst (λ y. R (get_or xs i a) y) (sym eb) (zip_at R xs ys i a b all below))
+
+-- ---- a list beside itself, and beside one that follows
+
+pub zip_self : {A : Type 0} (R : A → A → Type 0) → ((x : A) → R x x) → (xs : List A) → AllZip R xs xs
+zip_self R same [] = tt
+zip_self R same (x ∷ xs) = (same x, zip_self R same xs)
+
+pub zip_through : {A : Type 0} (R : A → A → Type 0) → ((x y z : A) → R x y → R y z → R x z) → (xs ys zs : List A) → AllZip R xs ys → AllZip R ys zs → AllZip R xs zs
+zip_through R then [] [] zs first second = second
+zip_through R then [] (y ∷ ys) zs first second = absurd first
+zip_through R then (x ∷ xs) [] zs first second = absurd first
+zip_through R then (x ∷ xs) (y ∷ ys) [] first second = absurd second
+zip_through R then (x ∷ xs) (y ∷ ys) (z ∷ zs) first second = (then x y z first.0 second.0, zip_through R then xs ys zs first.1 second.1)
+
+-- one element is another
+pub zip_one : {A : Type 0} (R : A → A → Type 0) → ((x : A) → R x x) → (xs : List A) (i : ℕ) (before after : A) → slice_get xs i ≡ Some before → R before after → AllZip R xs (set xs i after)
+zip_one R same [] i before after at is = tt
+zip_one R same (x ∷ xs) zero before after at is = (subst (λ b. R b after) (sym (ap (λ o. unwrap_or o before) at)) is, zip_self R same xs)
+zip_one R same (x ∷ xs) (suc i) before after at is = (same x, zip_one R same xs i before after at is)

@@ -13,6 +13,7 @@ use Rattle.rb_seats.specs.declared.seat_record.SeatRecord.{SeatRecord}
 use Rattle.rb_seats.specs.SeatCalls.{AtSeat, CallsSeats, OutputAnswered, RecordAnswered, SeatDiscards, SeatIsRefused, SeatSubmits}
 use Rattle.rb_seats.specs.SeatHelpers.{makes, submits, discards, fails, made_in, refused_in, submitted_in, discarded_in}
 use Rattle.rb_seats.specs.SeatLaws.{SeatsRise, TotalsRise}
+use Rattle.rb_seats.proofs.Lists.{zip_self, zip_through, zip_one}
 
 -- ---- the seats are the same
 
@@ -20,27 +21,11 @@ same_seat : (s : WorkerSeat) → IsSameSeat s s
 same_seat s = record { tag_same = refl; ring_same = refl; worker_same = refl }
 
 same_seats : (xs : List WorkerSeat) → AllZip IsSameSeat xs xs
-same_seats [] = tt
-same_seats (x ∷ xs) = (same_seat x, same_seats xs)
+same_seats xs = zip_self IsSameSeat same_seat xs
 
-then_same : (xs ys zs : List WorkerSeat) → AllZip IsSameSeat xs ys → AllZip IsSameSeat ys zs → AllZip IsSameSeat xs zs
-then_same [] [] zs first second = second
-then_same [] (y ∷ ys) zs first second = absurd first
-then_same (x ∷ xs) [] zs first second = absurd first
-then_same (x ∷ xs) (y ∷ ys) [] first second = absurd second
-then_same (x ∷ xs) (y ∷ ys) (z ∷ zs) first second = (
-  record {
-    tag_same = second.0.tag_same ∙ first.0.tag_same;
-    ring_same = second.0.ring_same ∙ first.0.ring_same;
-    worker_same = second.0.worker_same ∙ first.0.worker_same;
-  },
-  then_same xs ys zs first.1 second.1,
-)
-
-same_set : (xs : List WorkerSeat) (i : ℕ) (before after : WorkerSeat) → slice_get xs i ≡ Some before → IsSameSeat before after → AllZip IsSameSeat xs (set xs i after)
-same_set [] i before after at same = tt
-same_set (x ∷ xs) zero before after at same = (subst (λ b. IsSameSeat b after) (sym (ap (λ (o : Option WorkerSeat). unwrap_or o before) at)) same, same_seats xs)
-same_set (x ∷ xs) (suc i) before after at same = (same_seat x, same_set xs i before after at same)
+same_through : (x y z : WorkerSeat) → IsSameSeat x y → IsSameSeat y z → IsSameSeat x z
+same_through x y z first second =
+    record { tag_same = second.tag_same ∙ first.tag_same; ring_same = second.ring_same ∙ first.ring_same; worker_same = second.worker_same ∙ first.worker_same }
 
 -- ---- one seat's numbers
 
@@ -85,7 +70,7 @@ rises_at d unlogged m r s c ring Did old new at adds makes_is fails_is submits_i
     let submitted = one_rises (λ x. x.tally.submitted) old ring at.before at.after s at.before_is adds.3 in
     let discarded = one_rises (λ x. x.tally.discarded) old ring at.before at.after c at.before_is adds.4 in
     subst (λ xs. CallRises d unlogged old xs) (sym at.new_is) (record {
-      same = same_set old ring at.before at.after at.before_is adds.0;
+      same = zip_one IsSameSeat same_seat old ring at.before at.after at.before_is adds.0;
       made_is = omega (arith, made, makes_is);
       submitted_is = omega (arith, submitted, submits_is);
       discarded_is = omega (arith, discarded, discards_is);
@@ -198,7 +183,7 @@ totals_rise old new (call ∷ more) unlogged (due, mid, first, rest, led, later,
     let a = one.made_is in let b = one.submitted_is in let c = one.discarded_is in let e = one.failed_is in
     let a2 = all.made_is in let b2 = all.submitted_is in let c2 = all.discarded_is in let e2 = all.failed_is in
     record {
-      same = then_same old mid new one.same all.same;
+      same = zip_through IsSameSeat same_through old mid new one.same all.same;
       made_is = omega (arith, a, a2);
       submitted_is = omega (arith, b, b2);
       discarded_is = omega (arith, c, c2);

@@ -1,6 +1,8 @@
--- What follows where calls lead from one state of a worker's seats to another: how the seats' numbers rise, and which answers there are (own).
+-- What follows where calls lead from one state of a worker's seats to another: how the seats' numbers rise, which
+-- answers there are, and that the seats have seen what they had seen before (own).
 use Rattle.std.specs.Prelude.{◌≡◌, ℕ, ◌+◌, List, ◌++◌, length}
 use Rattle.std.specs.List.{AllZip}
+use Rattle.rb_ledger.specs.Roles.{BeginsWith}
 use Rattle.rb_ledger.specs.Seats.{WorkerSeat, IsSameSeat}
 use Rattle.rb_helpers.specs.declared.done.Done.{Done}
 use Rattle.rb_helpers.specs.AnsweredCalls.{AnsweredCall, notes_of, AllMayAnswer}
@@ -25,6 +27,15 @@ SeatsRise =
 abbrev pub SeatsMayAnswer : Type 0
 SeatsMayAnswer =
     (old new : List WorkerSeat) (calls : List (AnsweredCall SeatRecord)) (unlogged : ℕ) → SeatsLead old calls unlogged new → AllMayAnswer (notes_of calls)
+
+-- what the seat sees begins with what it had seen before
+abbrev pub SeatBegins : WorkerSeat → WorkerSeat → Type 0
+SeatBegins before after = BeginsWith after.seen before.seen
+
+-- so it is for each of the seats
+abbrev pub SeatsGoOn : Type 0
+SeatsGoOn =
+    (old new : List WorkerSeat) (calls : List (AnsweredCall SeatRecord)) (unlogged : ℕ) → SeatsLead old calls unlogged new → AllZip SeatBegins old new
 
 -- what calls that lead from one value of the helpers to another leave of them
 pub record LeadsSeats (start : AtSeats) (calls : List (AnsweredCall SeatRecord)) (now : AtSeats) : Type 0 where

@@ -18,6 +18,6 @@ mod sheets;
 mod stock;
 
 pub use seat_helpers::SeatHelpers;
-pub use seat_laws::{helpers_lead, seats_may_answer, seats_rise};
+pub use seat_laws::{helpers_lead, seats_go_on, seats_may_answer, seats_rise};
 pub use seat_record::SeatRecord;
 pub use stock::{NoStock, Stock};
