@@ -5,13 +5,16 @@ use Rattle.rb_verifier.specs.Subject.{Subject}
 use Rattle.rb_verifier.proofs.Counting.{count_by-cons}
 use Rattle.rb_helpers.specs.declared.done.Done.{Done}
 use Rattle.rb_helpers.specs.declared.done.Done.TheVariants as done
+use Rattle.rb_helpers.specs.AnsweredCalls.{AnsweredCall, Reserved, Submitted, Discarded, SentOut, Queried, note_of, notes_of}
 use Rattle.rb_semantics.specs.ProgramStates.{State}
 use Rattle.rb_semantics.specs.HelperCalls.{HelperCall, Submit, Discard, pending_call_of, Resumption, Resumes, Strays, Unfit, resume}
 use Rattle.rb_semantics.specs.Instructions.{StepEffect, Goes, Ends, Asks, Stuck, next_step}
 use Rattle.rb_semantics.specs.ProgramRuns.{Returns, run_of, run_resumed, run_followed}
 use Rattle.rb_interp.specs.declared.fault.RunFault.{RunFault}
 use Rattle.rb_interp.specs.declared.fault.RunFault.TheVariants.{ContextLength, Stray}
-use Rattle.rb_interp.specs.RunTraces.{traced_answer, IsTraced, AreTraced, RunMatches, TraceBalances, grants_record, returns_record}
+use Rattle.rb_interp.specs.RunTraces.{traced_answer, held_once_made, IsMade, AreMade, RunMatches, TraceBalances, grants_record, returns_record}
+use Rattle.rb_seats.specs.declared.seat_record.SeatRecord.{SeatRecord}
+use Rattle.rb_seats.specs.SeatRecords.{record_bytes, with_record_bytes}
 use Rattle.rb_seats.specs.SeatHelpers.{makes, submits, discards, call_total}
 use Rattle.rb_jobs.specs.Jobs.{JobsGiveBack}
 
@@ -29,42 +32,55 @@ abbrev AreTaken : List Done → Type 0
 AreTaken [] = Unit {0}
 AreTaken (d ∷ notes) = IsTaken d × AreTaken notes
 
-taken_on : (call : HelperCall) (d : Done) (s t : State) → IsTraced call d → resume (pending_call_of call) (traced_answer d) s ≡ Resumes t → IsTaken d
-taken_on call (done.Reserve ring len flags granted) s t noted goes = tt
-taken_on call (done.Submit flags true) s t noted goes = refl
-taken_on call (done.Discard flags true) s t noted goes = refl
-taken_on call (done.Output ring len flags answer) s t noted goes = tt
-taken_on call (done.Query ring what answer) s t noted goes = tt
-taken_on (Submit id bytes f) (done.Submit flags false) s t noted goes = absurd (cc)
-taken_on (Discard id bytes f) (done.Discard flags false) s t noted goes = absurd (cc)
-taken_on _ _ s t noted goes = absurd noted
+-- the records that are held, each under its id
+abbrev Held : Type 0
+Held = List (ℕ × SeatRecord)
+
+abbrev Makes : Held → HelperCall → AnsweredCall SeatRecord → Type 0
+Makes held call made = IsMade record_bytes with_record_bytes held call made
+
+abbrev MakesAll : Held → List HelperCall → List (AnsweredCall SeatRecord) → Type 0
+MakesAll held calls made = AreMade record_bytes with_record_bytes held calls made
+
+taken_on : (held : Held) (call : HelperCall) (made : AnsweredCall SeatRecord) (s t : State) → Makes held call made
+    → resume (pending_call_of call) (traced_answer (note_of made)) s ≡ Resumes t → IsTaken (note_of made)
+taken_on held call (Reserved ring len flags answer) s t so goes = tt
+taken_on held call (Submitted owned flags true) s t so goes = refl
+taken_on held call (Discarded owned flags true) s t so goes = refl
+taken_on held call (SentOut ring bytes flags answer) s t so goes = tt
+taken_on held call (Queried ring what answer) s t so goes = tt
+taken_on held (Submit id bytes f) (Submitted owned flags false) s t so goes = absurd (cc)
+taken_on held (Discard id bytes f) (Discarded owned flags false) s t so goes = absurd (cc)
+taken_on held _ _ s t so goes = absurd so
 
 module _ (subject : Subject) (n : ℕ) where
   -- the runs with so many steps that return the result hand no record back
   abbrev AreSmooth : ℕ → Type 0
-  AreSmooth steps = (s : State) (notes : List Done) → AreTraced (run_of subject.program steps s (map traced_answer notes)).calls notes
-      → (run_of subject.program steps s (map traced_answer notes)).outcome ≡ Returns n → AreTaken notes
+  AreSmooth steps = (held : Held) (s : State) (made : List (AnsweredCall SeatRecord)) → MakesAll held (run_of subject.program steps s (map traced_answer (notes_of made))).calls made
+      → (run_of subject.program steps s (map traced_answer (notes_of made))).outcome ≡ Returns n → AreTaken (notes_of made)
 
-  resumption_smooth : (steps : ℕ) (call : HelperCall) (d : Done) (notes : List Done) (s : State) (r : Resumption) → AreSmooth steps → IsTraced call d
-      → resume (pending_call_of call) (traced_answer d) s ≡ r → AreTraced (run_resumed (run_of subject.program steps) r (map traced_answer notes)).calls notes
-      → (run_resumed (run_of subject.program steps) r (map traced_answer notes)).outcome ≡ Returns n → IsTaken d × AreTaken notes
-  resumption_smooth steps call d notes s (Resumes t) smooth noted is more ends = (taken_on call d s t noted is, smooth t notes more ends)
-  resumption_smooth steps call d notes s Strays smooth noted is more ends = absurd (cc)
-  resumption_smooth steps call d notes s Unfit smooth noted is more ends = absurd (cc)
+  resumption_smooth : (steps : ℕ) (held : Held) (call : HelperCall) (one : AnsweredCall SeatRecord) (made : List (AnsweredCall SeatRecord)) (s : State) (r : Resumption) → AreSmooth steps
+      → Makes held call one → resume (pending_call_of call) (traced_answer (note_of one)) s ≡ r
+      → MakesAll (held_once_made held call one) (run_resumed (run_of subject.program steps) r (map traced_answer (notes_of made))).calls made
+      → (run_resumed (run_of subject.program steps) r (map traced_answer (notes_of made))).outcome ≡ Returns n → IsTaken (note_of one) × AreTaken (notes_of made)
+  resumption_smooth steps held call one made s (Resumes t) smooth so is more ends = (taken_on held call one s t so is, smooth (held_once_made held call one) t made more ends)
+  resumption_smooth steps held call one made s Strays smooth so is more ends = absurd (cc)
+  resumption_smooth steps held call one made s Unfit smooth so is more ends = absurd (cc)
 
-  effect_smooth : (steps : ℕ) (effect : StepEffect) (notes : List Done) → AreSmooth steps → AreTraced (run_followed (run_of subject.program steps) effect (map traced_answer notes)).calls notes
-      → (run_followed (run_of subject.program steps) effect (map traced_answer notes)).outcome ≡ Returns n → AreTaken notes
-  effect_smooth steps (Goes s) notes smooth noted ends = smooth s notes noted ends
-  effect_smooth steps (Ends v) [] smooth noted ends = tt
-  effect_smooth steps (Ends v) (d ∷ notes) smooth noted ends = absurd noted
-  effect_smooth steps (Asks call s) [] smooth noted ends = tt
-  effect_smooth steps (Asks call s) (d ∷ notes) smooth noted ends =
-      resumption_smooth steps call d notes s (resume (pending_call_of call) (traced_answer d) s) smooth noted.0 refl noted.1 ends
-  effect_smooth steps Stuck notes smooth noted ends = absurd (cc)
+  effect_smooth : (steps : ℕ) (held : Held) (effect : StepEffect) (made : List (AnsweredCall SeatRecord)) → AreSmooth steps
+      → MakesAll held (run_followed (run_of subject.program steps) effect (map traced_answer (notes_of made))).calls made
+      → (run_followed (run_of subject.program steps) effect (map traced_answer (notes_of made))).outcome ≡ Returns n → AreTaken (notes_of made)
+  effect_smooth steps held (Goes s) made smooth so ends = smooth held s made so ends
+  effect_smooth steps held (Ends v) [] smooth so ends = tt
+  effect_smooth steps held (Ends v) (one ∷ made) smooth so ends = absurd so
+  effect_smooth steps held (Asks call s) [] smooth so ends = tt
+  effect_smooth steps held (Asks call s) (one ∷ made) smooth so ends =
+      resumption_smooth steps held call one made s (resume (pending_call_of call) (traced_answer (note_of one)) s) smooth so.0 refl so.1 ends
+  effect_smooth steps held Stuck made smooth so ends = absurd (cc)
 
   runs_smooth : (steps : ℕ) → AreSmooth steps
-  runs_smooth zero s notes noted ends = absurd (cc)
-  runs_smooth (suc steps) s notes noted ends = effect_smooth steps (next_step subject.program s) notes (runs_smooth steps) noted ends
+  runs_smooth zero held s made so ends = absurd (cc)
+  runs_smooth (suc steps) held s made so ends = effect_smooth steps held (next_step subject.program s) made (runs_smooth steps) so ends
 
 -- ---- the counts of a trace
 
@@ -105,22 +121,22 @@ given_back_in_trace (d ∷ notes) taken =
 
 -- ---- jobs
 
-pub calls_give_back : (subject : Subject) (context : List ℕ) (given : List (List ℕ)) (result : Result ℕ RunFault) (calls : List Done)
-    → RunMatches subject context [] calls given result → OnOk result (TraceBalances [] calls) → result ≢ Err Stray
-    → call_total makes calls ≡ call_total submits calls + call_total discards calls
-calls_give_back subject context given (Ok n) calls shows balanced ends =
-    let taken : AreTaken shows.notes = runs_smooth subject n _ _ shows.notes shows.noted shows.ends in
-    let trace : calls ≡ shows.notes = shows.trace in
-    let even : count_by grants_record calls ≡ count_by returns_record calls = subst (λ notes. count_by grants_record notes ≡ count_by returns_record notes) (sym balanced.1) balanced.2 in
-    let made = made_in_trace calls in
-    let back = given_back_in_trace calls (subst AreTaken (sym trace) taken) in
+pub calls_give_back : (subject : Subject) (context : List ℕ) (result : Result ℕ RunFault) (calls : List (AnsweredCall SeatRecord))
+    → RunMatches record_bytes with_record_bytes subject context calls result → OnOk result (TraceBalances [] (notes_of calls)) → result ≢ Err Stray
+    → call_total makes (notes_of calls) ≡ call_total submits (notes_of calls) + call_total discards (notes_of calls)
+calls_give_back subject context (Ok n) calls shows balanced ends =
+    let taken : AreTaken (notes_of calls) = runs_smooth subject n _ [] _ calls shows.made_so shows.ends in
+    let even : count_by grants_record (notes_of calls) ≡ count_by returns_record (notes_of calls) =
+    subst (λ notes. count_by grants_record notes ≡ count_by returns_record notes) (sym balanced.1) balanced.2 in
+    let made = made_in_trace (notes_of calls) in
+    let back = given_back_in_trace (notes_of calls) taken in
     omega (arith, even, made, back)
-calls_give_back subject context given (Err Stray) calls shows balanced ends = absurd (ends refl)
-calls_give_back subject context given (Err ContextLength) calls shows balanced ends =
-    subst (λ notes. call_total makes notes ≡ call_total submits notes + call_total discards notes) (sym shows.0) refl
+calls_give_back subject context (Err Stray) calls shows balanced ends = absurd (ends refl)
+calls_give_back subject context (Err ContextLength) calls shows balanced ends =
+    subst (λ made. call_total makes (notes_of made) ≡ call_total submits (notes_of made) + call_total discards (notes_of made)) (sym shows) refl
 
 pub jobs_balance : JobsGiveBack
 jobs_balance task answer old new did ends =
-    let even = calls_give_back task.program task.context did.given answer.result did.calls did.shows did.balanced ends in
+    let even = calls_give_back task.program task.context answer.result did.calls did.shows did.balanced ends in
     let made = did.made_is in let submitted = did.submitted_is in let discarded = did.discarded_is in
     omega (arith, even, made, submitted, discarded)

@@ -1,12 +1,14 @@
--- What contracts see of a job, and what running it does to the numbers of a worker's seats (own).
+-- What contracts see of a job, and what running it does to a worker's seats (own).
 use Rattle.std.specs.Prelude.{◌≡◌, ◌≢◌, ℕ, ◌+◌, ◌-◌, ◌^◌, List, [], length, min, Err, OnOk}
 use Rattle.std.specs.List.{AllZip}
 use Rattle.rb_verifier.specs.Subject.{Subject}
-use Rattle.rb_helpers.specs.declared.done.Done.{Done}
+use Rattle.rb_helpers.specs.AnsweredCalls.{AnsweredCall, AllMayAnswer, notes_of}
 use Rattle.rb_interp.specs.declared.fault.RunFault.TheVariants.{Stray}
 use Rattle.rb_interp.specs.RunTraces.{RunMatches, TellsLength, TraceBalances}
 use Rattle.rb_ledger.specs.Seats.{WorkerSeat, IsSameSeat}
-use Rattle.rb_seats.specs.SeatHelpers.{makes, submits, discards, fails, call_total, made_in, refused_in, submitted_in, discarded_in}
+use Rattle.rb_seats.specs.declared.seat_record.SeatRecord.{SeatRecord}
+use Rattle.rb_seats.specs.SeatRecords.{record_bytes, with_record_bytes}
+use Rattle.rb_seats.specs.SeatHelpers.{SeatsLead, makes, submits, discards, fails, call_total, made_in, refused_in, submitted_in, discarded_in}
 use Rattle.rb_jobs.specs.declared.job.Job.{Job}
 use Rattle.rb_jobs.specs.declared.job.JobAnswer.{JobAnswer}
 
@@ -19,19 +21,21 @@ pub record Task : Type 0 where
 abbrev pub task_of : Job → Task
 task_of job = record { worker = job.worker; program = job.program.now; context = job.ctx.now }
 
--- The job was run: there are calls with answers, and bytes handed over, under which its answer is the meaning's, and the numbers of the worker's seats
--- together rose by what these calls say. Each null for flags 0 and each answer -EAGAIN is refused in a ring's history, or unlogged.
+-- The job was run: it made these calls, with these answers. They are those of the program's meaning, which gives this answer; they lead from the
+-- one state of the worker's seats to the other; and the seats' numbers together rose by what they say. Each null for flags 0 and each answer
+-- -EAGAIN is refused in a ring's history, or unlogged.
 pub record JobRan (task : Task) (answer : JobAnswer) (old new : List WorkerSeat) : Type 0 where
-  pub calls : List Done
-  pub given : List (List ℕ)
-  pub same : AllZip IsSameSeat old new
+  pub calls : List (AnsweredCall SeatRecord)
   pub length_is : TellsLength task.program task.context answer.result
-  pub shows : RunMatches task.program task.context [] calls given answer.result
-  pub balanced : OnOk answer.result (TraceBalances [] calls)
-  pub made_is : made_in new ≡ made_in old + call_total makes calls
-  pub submitted_is : submitted_in new ≡ submitted_in old + call_total submits calls
-  pub discarded_is : discarded_in new ≡ discarded_in old + call_total discards calls
-  pub failed_is : refused_in new + answer.unlogged ≡ refused_in old + call_total fails calls
+  pub shows : RunMatches record_bytes with_record_bytes task.program task.context calls answer.result
+  pub led : SeatsLead old calls answer.unlogged new
+  pub may_answer : AllMayAnswer (notes_of calls)
+  pub balanced : OnOk answer.result (TraceBalances [] (notes_of calls))
+  pub same : AllZip IsSameSeat old new
+  pub made_is : made_in new ≡ made_in old + call_total makes (notes_of calls)
+  pub submitted_is : submitted_in new ≡ submitted_in old + call_total submits (notes_of calls)
+  pub discarded_is : discarded_in new ≡ discarded_in old + call_total discards (notes_of calls)
+  pub failed_is : refused_in new + answer.unlogged ≡ refused_in old + call_total fails (notes_of calls)
 
 -- a count of calls, once so many more were made: it stays at the greatest number of 64 bits
 abbrev pub counted_on : ℕ → ℕ → ℕ

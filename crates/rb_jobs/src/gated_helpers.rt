@@ -4,7 +4,7 @@ ghost use Rattle.std.specs.Prelude.{◌≡◌, ℕ, ◌+◌, ◌<◌, List, [], 
 ghost use Rattle.rb_helpers.specs.declared.done.Done.{Done};
 ghost use Rattle.rb_helpers.specs.declared.done.Done.TheVariants.{Reserve, Submit, Discard, Output, Query};
 ghost use Rattle.rb_jobs.specs.Jobs.{counted_on};
-ghost use Rattle.rb_jobs.specs.inner.CallCount.{CountsCalls};
+ghost use Rattle.rb_jobs.specs.inner.CallCount.{CountsCalls, both_counted, none_counted};
 
 use crate::job::Gate;
 use rb_helpers::{Done, Helpers};
@@ -68,7 +68,11 @@ impl<'g, H: Helpers + Drop, G: Gate> Helpers for GatedHelpers<'g, H, G> {
 
     ghost has_ring = { λ g. H.has_ring g.inner };
 
-    ghost leads = { λ start given g. H.leads start.inner given g.inner × CountsCalls (H.trace_of start.inner) start.calls (H.trace_of g.inner) g.calls };
+    ghost leads = { λ start made g. H.leads start.inner made g.inner × CountsCalls start.calls (length made) g.calls };
+
+    ghost leads_by_none = { λ g. (H.leads_by_none g.inner, none_counted g.calls) };
+
+    ghost leads_on = { λ a b c first more before after. (H.leads_on a.inner b.inner c.inner first more before.0 after.0, both_counted a.calls b.calls c.calls first more before.1 after.1) };
 
     fn reserve(&mut self, ring: u32, n: u32, flags: u64) -> Option<H::Record> {
         self.wait_at_gate();

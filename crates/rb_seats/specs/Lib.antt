@@ -1,4 +1,5 @@
 pub mod SeatCalls
 pub mod SeatHelpers
 pub mod SeatLaws
+pub mod SeatRecords
 pub mod inner

@@ -13,12 +13,12 @@ pub struct SeatRecord {
 }
 
 impl Lent for SeatRecord {
-    ghost use Rattle.rb_lend.specs.Ranges.{in_place_of};
     ghost use Rattle.rb_lend.specs.Rewritten.{rewritten_in_place};
+    ghost use Rattle.rb_seats.specs.SeatRecords.{record_bytes, with_record_bytes};
 
-    ghost bytes_of = { λ s. s.reservation.bytes };
+    ghost bytes_of = { record_bytes };
 
-    ghost with_bytes = { λ s w. record s { reservation = record s.reservation { bytes = in_place_of s.reservation.bytes w } } };
+    ghost with_bytes = { with_record_bytes };
 
     fn bytes(&self) -> &[u8] {
         self.reservation.bytes()

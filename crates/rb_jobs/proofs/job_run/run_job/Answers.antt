@@ -1,7 +1,8 @@
-use Rattle.std.proofs.Common.{◌≡◌, [], sym, ap, ◌∙◌, subst, arith}
-use Rattle.rb_seats.specs.SeatHelpers.{AtSeats, Leads}
+use Rattle.std.proofs.Common.{◌≡◌, ap, ◌∙◌, arith, subst}
+use Rattle.rb_seats.specs.SeatHelpers.{AtRings, AtSeats}
+use Rattle.rb_seats.proofs.Leading.{leads_seats}
 use Rattle.rb_jobs.specs.Jobs.{task_of}
-use Rattle.rb_jobs.proofs.Doing.{did_counted, no_count_yet}
+use Rattle.rb_jobs.proofs.Doing.{did_counted}
 use Rattle.rb_jobs.proofs.job_run.run_job.Goals as goal
 
 pub returns-in-Ok-clause-counted : goal.returns-in-Ok-clause-counted
@@ -9,9 +10,20 @@ returns-in-Ok-clause-counted g c =
     let start : AtSeats = c.new-gated.result.inner in
     let now : AtSeats = c.run-result.new.helpers.inner in
     let back : c.into_inner-helpers.result ≡ now = c.into_inner-helpers.ensures in
-    let at_start : Leads start [] start = subst (λ (h : AtSeats). Leads h [] h) (sym c.new-gated.ensures.inner) c.in-Ok.ensures.no_call_yet in
     let shows = c.run-result.ensures.shows in
-    let led = shows.2 c.new-gated.result [] (at_start, no_count_yet _ _ (omega (arith, c.new-gated.ensures.calls))) in
-    did_counted (task_of c.args.job.now) _ start now _ _ _ _ _ _ _ _ _ _ (c.new-gated.ensures.inner ∙ c.in-Ok.ensures.new)
+    did_counted (task_of c.args.job.now) _ shows.0 start now _ _ _ _ _ _ _ _ (c.new-gated.ensures.inner ∙ c.in-Ok.ensures.new)
     (c.unlogged-unlogged.ensures.count ∙ ap (λ (h : AtSeats). h.unlogged) back) (c.into_seats.ensures.seats ∙ ap (λ (h : AtSeats). h.seats) back)
-    c.new-gated.ensures.calls c.calls.ensures c.run-result.ensures.length shows.1 c.run-result.ensures.balanced led.0 led.1
+    c.new-gated.ensures.calls c.calls.ensures (omega arith) c.run-result.ensures.length shows.1 c.run-result.ensures.balanced shows.2.0 shows.2.1
+
+pub returns-in-Ok-clause-ran : goal.returns-in-Ok-clause-ran
+returns-in-Ok-clause-ran g c = (returns-in-Ok-clause-counted g c).0
+
+pub returns-in-Ok-clause-seats : goal.returns-in-Ok-clause-seats
+returns-in-Ok-clause-seats g c =
+    let start : AtSeats = c.new-gated.result.inner in
+    let now : AtSeats = c.run-result.new.helpers.inner in
+    let back : c.into_inner-helpers.result ≡ now = c.into_inner-helpers.ensures in
+    let shows = c.run-result.ensures.shows in
+    let led = leads_seats start now shows.0 shows.2.0 in
+    subst (λ rings. AtRings rings c.into_seats.result.items)
+    (ap (λ (h : AtSeats). h.rings) back ∙ led.rings_same ∙ ap (λ (h : AtSeats). h.rings) (c.new-gated.ensures.inner ∙ c.in-Ok.ensures.new)) c.into_seats.ensures.at_rings
