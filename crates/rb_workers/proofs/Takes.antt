@@ -1,11 +1,8 @@
 -- What a take leaves of a consumer's seat, and how histories go on from one another.
-use Rattle.std.proofs.Common.{◌≡◌, ℕ, ◌≤◌, ◌^◌, [], ◌++◌, refl, ap, sym, ◌∙◌, subst, append-nil, append_assoc, arith}
+use Rattle.std.proofs.Common.{◌≡◌, ℕ, ◌≤◌, ◌^◌, [], ◌++◌, refl, ap, sym, ◌∙◌, append-nil, append_assoc, arith}
 use Rattle.rb_history.specs.declared.answers.Taken.{Taken}
-use Rattle.rb_history.specs.declared.answers.Taken.TheVariants.{Event, Skipped, BusyFront, Empty}
 use Rattle.rb_history.specs.History.{consumer_of}
-use Rattle.rb_history.specs.RingModel.{Ring}
-use Rattle.rb_history.specs.Calls.{Takes}
-use Rattle.rb_ledger.specs.Roles.{Role, Book, BeginsWith, ExtendsSeen, book_of}
+use Rattle.rb_ledger.specs.Roles.{Role, Book, BeginsWith, ExtendsSeen}
 use Rattle.rb_ledger.specs.Roles.Role.{Consumer}
 use Rattle.rb_ledger.specs.LockedCalls.{LockedCall, TakesAt}
 use Rattle.rb_ledger.specs.Seats.{ConsumerTies}
@@ -33,15 +30,3 @@ begins_through a b c first second =
 -- it begins with what a role had seen, and so with what that began with
 pub begins_all : (role : Role) (a b c : Book) → ExtendsSeen role b c → BeginsWith b a → BeginsWith c a
 begins_all role a b c extends first = begins_through a b c first (record { setup_same = extends.setup_same; behind = extends.behind; history_is = extends.history_is })
-
-take_begins : (old new : Ring) (t : Taken) → Takes old new t → BeginsWith (book_of new) (book_of old)
-take_begins old new (Event p w k bytes) takes = record { setup_same = takes.logged.setup_same; behind = _; history_is = takes.logged.history_is }
-take_begins old new (Skipped p n) takes = record { setup_same = takes.logged.setup_same; behind = _; history_is = takes.logged.history_is }
-take_begins old new BusyFront takes = subst (λ r. BeginsWith (book_of r) (book_of old)) (sym takes.same) (begins_with_all (book_of old))
-take_begins old new Empty takes = subst (λ r. BeginsWith (book_of r) (book_of old)) (sym takes.same) (begins_with_all (book_of old))
-
--- what the consumer sees after a take begins with what it had seen first
-pub taken_begins : (t : Taken) (first b a : Book) → LockedCall Consumer b a (TakesAt t) → BeginsWith b first → BeginsWith a first
-taken_begins t first b a turn seen =
-    subst (λ (x : Book). BeginsWith x first) (sym turn.seen)
-    (begins_through first (book_of turn.point) (book_of turn.left) (begins_all Consumer first b (book_of turn.point) turn.goes_on seen) (take_begins turn.point turn.left t turn.called.0))

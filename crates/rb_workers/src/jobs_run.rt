@@ -164,7 +164,8 @@ fn run_known<R: Threads + Wait + Sync, S: Sink + Send + Drop, G: Gate + Sync>(
 
 /// Runs the jobs over the rings that were opened, a thread for each worker and for each ring, and closes the rings.
 ///
-/// Each worker runs its own jobs in the order of the list, at its seats, one at each ring in their order: ring k of a program is the k-th.
+/// Each worker runs its own jobs in the order of the list, at its seats, one at each ring in their order: ring k of a program is the k-th,
+/// and so is ring k of the report.
 /// Each ring's consumer gives each record that it takes to the ring's sink. When all workers have ended, what is left is taken, up to the
 /// first record that is still busy. The gate is called before each helper call, and once more after a worker's last job, with the number
 /// of helper calls that the worker has finished; so a worker without jobs calls it once, with 0. Where no thread can be made its work is

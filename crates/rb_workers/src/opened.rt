@@ -87,7 +87,7 @@ pub struct Ended<S> {
 /// What jobs came to.
 #[derive(Drop)]
 pub struct Report<S> {
-    /// The rings, in their order.
+    /// The rings that were opened, closed, in their order.
     pub rings: Vec<Ended<S>>,
     /// What each job's run answered, in the order of the jobs.
     pub answers: Vec<Result<u64, RunFault>>,
