@@ -1,0 +1,4 @@
+mod HeaderBegins
+mod TapeFronts
+mod ItemsRead
+mod RecordsCounted

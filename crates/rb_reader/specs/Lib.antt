@@ -1,0 +1,4 @@
+pub mod TapeFront
+pub mod TapeReading
+pub mod LongestTape
+pub mod inner
