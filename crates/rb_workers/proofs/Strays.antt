@@ -1,11 +1,13 @@
 -- Where no run strays, each worker's seats together submit and discard as many records as they make.
-use Rattle.std.proofs.Common.{◌≡◌, ◌≢◌, ℕ, ◌+◌, ◌==◌, Bool, true, false, cond, List, [], ◌∷◌, Result, Err, refl, ap, sym, ◌∙◌, arith}
+use Rattle.std.proofs.Common.{◌≡◌, ◌≢◌, ℕ, ◌+◌, ◌==◌, Bool, true, false, cond, List, [], ◌∷◌, Result, Err, refl, ap, sym, subst, ◌∙◌, arith}
 use Rattle.std.proofs.lemmas.Bool.{false≢true}
 use Rattle.std.proofs.lemmas.List.Sums.{sum_by-cons}
+use Rattle.std.specs.Prelude.{OnOk}
 use Rattle.std.specs.List.{count_by}
 use Rattle.rb_helpers.specs.declared.done.Done.{Done}
 use Rattle.rb_interp.specs.declared.fault.RunFault.{RunFault}
 use Rattle.rb_interp.specs.declared.fault.RunFault.TheVariants.{Stray}
+use Rattle.rb_interp.specs.RunTraces.{TraceBalances}
 use Rattle.rb_ledger.specs.Seats.{WorkerSeat}
 use Rattle.rb_seats.specs.SeatHelpers.{makes, submits, discards, call_total, made_in, submitted_in, discarded_in}
 use Rattle.rb_jobs.specs.declared.job.Job.{Job}
@@ -27,8 +29,11 @@ either : (b : Bool) (m s d : ℕ) → m ≡ s + d → cond b m 0 ≡ cond b s 0 
 either true m s d e = e
 either false m s d e = refl
 
-run_gives_back : (j : Job) (result : Result ℕ RunFault) (calls : List Done) → IsRun (task_of j) result calls → is_stray result ≡ false → call_total makes calls ≡ call_total submits calls + call_total discards calls
-run_gives_back j result calls run none = calls_give_back (task_of j).program (task_of j).context run.given result calls run.shows run.balanced (not_stray result none)
+run_gives_back : (j : Job) (result : Result ℕ RunFault) (notes : List Done) → IsRun (task_of j) result notes → is_stray result ≡ false → call_total makes notes ≡ call_total submits notes + call_total discards notes
+run_gives_back j result notes run none =
+    let balanced = subst (λ ns. OnOk result (TraceBalances [] ns)) run.notes_are run.balanced in
+    subst (λ ns. call_total makes ns ≡ call_total submits ns + call_total discards ns) (sym run.notes_are)
+    (calls_give_back (task_of j).program (task_of j).context result run.calls run.shows balanced (not_stray result none))
 
 runs_give_back : (worker : ℕ) (jobs : List Job) (results : List (Result ℕ RunFault)) (calls : List (List Done)) → AreRuns jobs results calls → count_by is_stray results ≡ 0
     → times_by makes worker jobs calls ≡ times_by submits worker jobs calls + times_by discards worker jobs calls

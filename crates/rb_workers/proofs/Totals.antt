@@ -5,6 +5,7 @@ use Rattle.std.proofs.lemmas.List.Elements.{All-head, All-tail}
 use Rattle.std.proofs.lemmas.List.Sums.{sum_by-cons}
 use Rattle.std.specs.List.{All, sum_by}
 use Rattle.rb_helpers.specs.declared.done.Done.{Done}
+use Rattle.rb_helpers.specs.AnsweredCalls.{notes_of}
 use Rattle.rb_ledger.specs.Seats.{WorkerSeat}
 use Rattle.rb_seats.specs.SeatHelpers.{makes, submits, discards, fails, call_total, made_in, refused_in, submitted_in, discarded_in}
 use Rattle.rb_jobs.specs.declared.job.Job.{Job}
@@ -66,11 +67,11 @@ number_after number w n mid old k true e rose =
 number_after number w n mid old k false e rose = subst (λ b. number (cond b mid (old k)) ≡ number (old k) + cond b n 0) (sym e) (omega arith)
 
 rose_on : (j : Job) (js : List Job) (a : JobAnswer) (mid : List WorkerSeat) (old new : ℕ → List WorkerSeat) (did : JobRan (task_of j) a (old j.worker) mid) (more : List (List Done)) (k : ℕ)
-    → HasRisen k js more (after j.worker mid old k) (new k) → HasRisen k (j ∷ js) (did.calls ∷ more) (old k) (new k)
+    → HasRisen k js more (after j.worker mid old k) (new k) → HasRisen k (j ∷ js) (notes_of did.calls ∷ more) (old k) (new k)
 rose_on j js a mid old new did more k rose =
-    let made = number_after made_in j.worker (call_total makes did.calls) mid old k (j.worker == k) refl did.made_is in
-    let submitted = number_after submitted_in j.worker (call_total submits did.calls) mid old k (j.worker == k) refl did.submitted_is in
-    let discarded = number_after discarded_in j.worker (call_total discards did.calls) mid old k (j.worker == k) refl did.discarded_is in
+    let made = number_after made_in j.worker (call_total makes (notes_of did.calls)) mid old k (j.worker == k) refl did.made_is in
+    let submitted = number_after submitted_in j.worker (call_total submits (notes_of did.calls)) mid old k (j.worker == k) refl did.submitted_is in
+    let discarded = number_after discarded_in j.worker (call_total discards (notes_of did.calls)) mid old k (j.worker == k) refl did.discarded_is in
     let made_is = rose.made_is in let submitted_is = rose.submitted_is in let discarded_is = rose.discarded_is in
     record {
       made_is = omega (arith, made, made_is);
@@ -79,7 +80,7 @@ rose_on j js a mid old new did more k rose =
     }
 
 refused_on : (count : ℕ) (j : Job) (a : JobAnswer) (mid : List WorkerSeat) (old : ℕ → List WorkerSeat) (did : JobRan (task_of j) a (old j.worker) mid) → j.worker < count
-    → refused_to count (after j.worker mid old) + a.unlogged ≡ refused_to count old + call_total fails did.calls
+    → refused_to count (after j.worker mid old) + a.unlogged ≡ refused_to count old + call_total fails (notes_of did.calls)
 refused_on count j a mid old did inside =
     let moved = sum_to_but_one count j.worker (λ k. refused_in (after j.worker mid old k)) (λ k. refused_in (old k)) inside (λ k below other. ap refused_in (after_other j.worker mid old k other)) in
     let here = ap refused_in (after_own j.worker mid old) in
@@ -109,10 +110,10 @@ told count (j ∷ js) (a ∷ rest) old new len known ran =
     let first = refused_on count j a mid old did inside in
     let failed = more.failed in
     let unlogged = sum_by-cons (λ (a : JobAnswer). a.unlogged) a rest in
-    let times_are = sum_by-cons (call_total fails) did.calls more.calls in
+    let times_are = sum_by-cons (call_total fails) (notes_of did.calls) more.calls in
     record {
-      calls = did.calls ∷ more.calls;
-      shown = (record { length_is = did.length_is; given = did.given; shows = did.shows; balanced = did.balanced }, more.shown);
+      calls = notes_of did.calls ∷ more.calls;
+      shown = (record { length_is = did.length_is; calls = did.calls; notes_are = refl; shows = did.shows; balanced = did.balanced; may_answer = did.may_answer }, more.shown);
       rose = λ k below. rose_on j js a mid old new did more.calls k (more.rose k below);
       failed = omega (arith, first, failed, unlogged, times_are);
     }

@@ -2,12 +2,15 @@
 use Rattle.std.specs.Prelude.{◌≡◌, ℕ, ◌+◌, ◌<◌, ◌==◌, nat_lt, not, List, [], ◌∷◌, ◌++◌, Bool, cond, map, Result, Ok, Err, OnOk}
 use Rattle.std.specs.List.{AllZip, count_by, list_any, sum_by}
 use Rattle.rb_helpers.specs.declared.done.Done.{Done}
+use Rattle.rb_helpers.specs.AnsweredCalls.{AnsweredCall, AllMayAnswer, notes_of}
 use Rattle.rb_history.specs.Calls.{consumer_now}
 use Rattle.rb_interp.specs.declared.fault.RunFault.{RunFault}
 use Rattle.rb_interp.specs.RunTraces.{RunMatches, TellsLength, TraceBalances}
 use Rattle.rb_ledger.specs.Roles.{BeginsWith, book_of}
 use Rattle.rb_ledger.specs.Headline.{IsClosed}
 use Rattle.rb_ledger.specs.Seats.{WorkerSeat, ConsumerSeatValue, IsSameSeat, IsSameConsumerSeat}
+use Rattle.rb_seats.specs.declared.seat_record.SeatRecord.{SeatRecord}
+use Rattle.rb_seats.specs.SeatRecords.{record_bytes, with_record_bytes}
 use Rattle.rb_seats.specs.SeatHelpers.{makes, submits, discards, fails, call_total, made_in, refused_in, submitted_in, discarded_in}
 use Rattle.rb_jobs.specs.declared.job.Job.{Job}
 use Rattle.rb_jobs.specs.declared.job.JobAnswer.{JobAnswer}
@@ -70,12 +73,15 @@ RingsEnd position [] [] [] = Unit {0}
 RingsEnd position (o ∷ os) (e ∷ es) (seats ∷ more) = RingEnds position o e seats × RingsEnd position os es more
 RingsEnd position _ _ _ = ⊥
 
--- the run of a job, with these calls and answers, is that of the program's meaning, and ends so
-pub record IsRun (task : Task) (result : Result ℕ RunFault) (calls : List Done) : Type 0 where
+-- There are calls, of which these are the notes, with answers that helpers may give, under which the run of a job is that of the program's
+-- meaning, and ends so. A record that was given back is the one that was granted, as its ring made it.
+pub record IsRun (task : Task) (result : Result ℕ RunFault) (notes : List Done) : Type 0 where
   pub length_is : TellsLength task.program task.context result
-  pub given : List (List ℕ)
-  pub shows : RunMatches task.program task.context [] calls given result
-  pub balanced : OnOk result (TraceBalances [] calls)
+  pub calls : List (AnsweredCall SeatRecord)
+  pub notes_are : notes ≡ notes_of calls
+  pub shows : RunMatches record_bytes with_record_bytes task.program task.context calls result
+  pub balanced : OnOk result (TraceBalances [] notes)
+  pub may_answer : AllMayAnswer notes
 
 -- so it is for each job, in the order of the jobs
 abbrev pub AreRuns : List Job → List (Result ℕ RunFault) → List (List Done) → Type 0
