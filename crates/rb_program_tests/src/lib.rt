@@ -20,3 +20,5 @@ mod shapes;
 mod spelling;
 #[cfg(test)]
 mod verification;
+#[cfg(test)]
+mod witness;

@@ -1,6 +1,7 @@
 //! Worked programs.
 
 mod calls;
+mod held_records;
 mod rows;
 
 use rb_cfg::shape;
