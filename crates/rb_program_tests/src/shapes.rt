@@ -4,7 +4,7 @@ use rb_cfg::{ShapeFaultKind, jump_target, next_unit, shape};
 use rb_decode::{Program, decode};
 use rb_insn::{Insn, Reg};
 use std::alloc::Global;
-use std::test::Fail;
+use std::process::Abort;
 
 // Units, each with its eight bytes in order.
 const EXIT: u64 = 0x9500_0000_0000_0000;
@@ -55,159 +55,128 @@ const SUBMIT_42: [u64; 12] = [
     EXIT,
 ];
 
-fn program_of(alloc: Global, units: &[u64]) -> Result<Program, Fail> {
+fn program_of(rt: &impl Abort, alloc: Global, units: &[u64]) -> Program {
     let mut bytes = Vec::new(alloc);
     for unit in units {
-        for byte in unit.to_be_bytes() {
-            bytes.push(byte)?;
-        }
+        bytes
+            .extend_from_slice(&unit.to_be_bytes())
+            .expect(rt, "memory");
     }
-    Ok(decode(alloc, &bytes)?)
+    decode(alloc, &bytes).expect(rt, "a program")
 }
 
-/// What is wrong with the shape of a program: nothing, or a kind at a unit.
-fn fault_of(alloc: Global, units: &[u64]) -> Result<Option<(u32, ShapeFaultKind)>, Fail> {
-    let program = program_of(alloc, units)?;
-    match shape(alloc, program) {
-        Ok(_) => Ok(None),
-        Err(fault) => Ok(Some((fault.unit, fault.kind))),
+/// The unit and the kind of a fault.
+type Fault = (u32, ShapeFaultKind);
+
+fn fault_of(rt: &impl Abort, alloc: Global, units: &[u64]) -> Option<Fault> {
+    match shape(alloc, program_of(rt, alloc, units)) {
+        Ok(_) => None,
+        Err(fault) => Some((fault.unit, fault.kind)),
+    }
+}
+
+/// Checks each program of a table beside its fault.
+fn expect_faults(rt: &impl Abort, alloc: Global, rows: &[(&[u64], Fault)]) {
+    for (units, fault) in rows {
+        assert_eq!(rt; fault_of(rt, alloc, units), Some(*fault), "{units:?}");
     }
 }
 
 #[test]
-fn each_kind_of_fault(rt: HostRuntime) -> Result<(), Fail> {
-    let alloc = rt.alloc();
-    assert_eq!(rt;
-        fault_of(alloc, &[JUMP_BACK_1, EXIT])?,
-        Some((0, ShapeFaultKind::Backward))
-    );
-    assert_eq!(rt;
-        fault_of(alloc, &[JUMP_1, EXIT])?,
-        Some((0, ShapeFaultKind::OutOfProgram))
-    );
-    assert_eq!(rt;
-        fault_of(alloc, &[IF_ZERO_1, WIDE_R0, WIDE_REST, EXIT])?,
-        Some((0, ShapeFaultKind::IntoWide))
-    );
-    assert_eq!(rt;
-        fault_of(alloc, &[ZERO_R0])?,
-        Some((0, ShapeFaultKind::FallsOff))
-    );
-    assert_eq!(rt;
-        fault_of(alloc, &[EXIT, EXIT])?,
-        Some((1, ShapeFaultKind::Unreachable))
-    );
-    Ok(())
-}
-
-#[test]
-fn a_distance_of_zero_is_lawful(rt: HostRuntime) -> Result<(), Fail> {
-    let alloc = rt.alloc();
-    assert_eq!(rt; fault_of(alloc, &[JUMP_0, ZERO_R0, EXIT])?, None);
-    assert_eq!(rt; fault_of(alloc, &[FAR_JUMP_0, ZERO_R0, EXIT])?, None);
-    assert_eq!(rt; fault_of(alloc, &[ZERO_R0, IF_ZERO_0, EXIT])?, None);
-    Ok(())
-}
-
-#[test]
-fn jumps_by_an_immediate(rt: HostRuntime) -> Result<(), Fail> {
-    let alloc = rt.alloc();
-    assert_eq!(rt;
-        fault_of(alloc, &[FAR_JUMP_BACK_1, EXIT])?,
-        Some((0, ShapeFaultKind::Backward))
-    );
-    assert_eq!(rt;
-        fault_of(alloc, &[FAR_JUMP_1, EXIT])?,
-        Some((0, ShapeFaultKind::OutOfProgram))
-    );
-    assert_eq!(rt;
-        fault_of(alloc, &[FAR_JUMP_FARTHEST, EXIT])?,
-        Some((0, ShapeFaultKind::OutOfProgram))
-    );
-    assert_eq!(rt;
-        fault_of(alloc, &[FAR_JUMP_1, ZERO_R0, EXIT])?,
-        Some((1, ShapeFaultKind::Unreachable))
-    );
-    Ok(())
-}
-
-#[test]
-fn the_first_fault_is_told(rt: HostRuntime) -> Result<(), Fail> {
-    let alloc = rt.alloc();
-    // A jump to before the first unit is a jump back.
-    assert_eq!(rt;
-        fault_of(alloc, &[JUMP_BACK_32768, EXIT])?,
-        Some((0, ShapeFaultKind::Backward))
-    );
-    // At one unit: backward before falling off, out of the program before falling off, backward before unreachable.
-    assert_eq!(rt;
-        fault_of(alloc, &[ZERO_R0, IF_ZERO_BACK_1])?,
-        Some((1, ShapeFaultKind::Backward))
-    );
-    assert_eq!(rt;
-        fault_of(alloc, &[ZERO_R0, IF_ZERO_1])?,
-        Some((1, ShapeFaultKind::OutOfProgram))
-    );
-    assert_eq!(rt;
-        fault_of(alloc, &[EXIT, JUMP_BACK_1])?,
-        Some((1, ShapeFaultKind::Backward))
-    );
-    // Falling off before unreachable; the lower unit before the lower kind.
-    assert_eq!(rt;
-        fault_of(alloc, &[EXIT, ZERO_R0])?,
-        Some((1, ShapeFaultKind::FallsOff))
-    );
-    assert_eq!(rt;
-        fault_of(alloc, &[EXIT, EXIT, JUMP_BACK_1])?,
-        Some((1, ShapeFaultKind::Unreachable))
-    );
-    // What is reached from a jump back alone is reached.
-    assert_eq!(rt;
-        fault_of(alloc, &[JUMP_1, EXIT, JUMP_BACK_2])?,
-        Some((2, ShapeFaultKind::Backward))
-    );
-    // A wide instruction falls off at its first unit.
-    assert_eq!(rt;
-        fault_of(alloc, &[WIDE_R0, WIDE_REST])?,
-        Some((0, ShapeFaultKind::FallsOff))
-    );
-    Ok(())
-}
-
-#[test]
-fn prefixes_of_submit_42(rt: HostRuntime) -> Result<(), Fail> {
-    // The answer at 2 units, at 3, and so on.
-    let wanted = [
-        Some((0, ShapeFaultKind::FallsOff)),
-        Some((2, ShapeFaultKind::FallsOff)),
-        Some((3, ShapeFaultKind::FallsOff)),
-        Some((4, ShapeFaultKind::FallsOff)),
-        Some((5, ShapeFaultKind::OutOfProgram)),
-        Some((5, ShapeFaultKind::OutOfProgram)),
-        Some((5, ShapeFaultKind::OutOfProgram)),
-        Some((5, ShapeFaultKind::OutOfProgram)),
-        Some((5, ShapeFaultKind::OutOfProgram)),
-        Some((10, ShapeFaultKind::FallsOff)),
-        None,
+fn each_kind_of_fault(rt: HostRuntime) {
+    const ROWS: [(&[u64], Fault); 5] = [
+        (&[JUMP_BACK_1, EXIT], (0, ShapeFaultKind::Backward)),
+        (&[JUMP_1, EXIT], (0, ShapeFaultKind::OutOfProgram)),
+        (
+            &[IF_ZERO_1, WIDE_R0, WIDE_REST, EXIT],
+            (0, ShapeFaultKind::IntoWide),
+        ),
+        (&[ZERO_R0], (0, ShapeFaultKind::FallsOff)),
+        (&[EXIT, EXIT], (1, ShapeFaultKind::Unreachable)),
     ];
-    for units in 2..13 {
+    expect_faults(&rt, rt.alloc(), &ROWS);
+}
+
+#[test]
+fn a_distance_of_zero_is_lawful(rt: HostRuntime) {
+    for units in [
+        [JUMP_0, ZERO_R0, EXIT],
+        [FAR_JUMP_0, ZERO_R0, EXIT],
+        [ZERO_R0, IF_ZERO_0, EXIT],
+    ] {
+        assert_eq!(rt; fault_of(&rt, rt.alloc(), &units), None);
+    }
+}
+
+#[test]
+fn jumps_by_an_immediate(rt: HostRuntime) {
+    const ROWS: [(&[u64], Fault); 4] = [
+        (&[FAR_JUMP_BACK_1, EXIT], (0, ShapeFaultKind::Backward)),
+        (&[FAR_JUMP_1, EXIT], (0, ShapeFaultKind::OutOfProgram)),
+        (
+            &[FAR_JUMP_FARTHEST, EXIT],
+            (0, ShapeFaultKind::OutOfProgram),
+        ),
+        (
+            &[FAR_JUMP_1, ZERO_R0, EXIT],
+            (1, ShapeFaultKind::Unreachable),
+        ),
+    ];
+    expect_faults(&rt, rt.alloc(), &ROWS);
+}
+
+#[test]
+fn the_first_fault_is_told(rt: HostRuntime) {
+    const ROWS: [(&[u64], Fault); 8] = [
+        // A jump to before the first unit is a jump back.
+        (&[JUMP_BACK_32768, EXIT], (0, ShapeFaultKind::Backward)),
+        // At one unit: backward before falling off, out of the program before falling off, backward before unreachable.
+        (&[ZERO_R0, IF_ZERO_BACK_1], (1, ShapeFaultKind::Backward)),
+        (&[ZERO_R0, IF_ZERO_1], (1, ShapeFaultKind::OutOfProgram)),
+        (&[EXIT, JUMP_BACK_1], (1, ShapeFaultKind::Backward)),
+        // Falling off before unreachable; the lower unit before the lower kind.
+        (&[EXIT, ZERO_R0], (1, ShapeFaultKind::FallsOff)),
+        (&[EXIT, EXIT, JUMP_BACK_1], (1, ShapeFaultKind::Unreachable)),
+        // What is reached from a jump back alone is reached.
+        (&[JUMP_1, EXIT, JUMP_BACK_2], (2, ShapeFaultKind::Backward)),
+        // A wide instruction falls off at its first unit.
+        (&[WIDE_R0, WIDE_REST], (0, ShapeFaultKind::FallsOff)),
+    ];
+    expect_faults(&rt, rt.alloc(), &ROWS);
+}
+
+#[test]
+fn prefixes_of_submit_42(rt: HostRuntime) {
+    const ROWS: [(usize, Option<Fault>); 11] = [
+        (2, Some((0, ShapeFaultKind::FallsOff))),
+        (3, Some((2, ShapeFaultKind::FallsOff))),
+        (4, Some((3, ShapeFaultKind::FallsOff))),
+        (5, Some((4, ShapeFaultKind::FallsOff))),
+        (6, Some((5, ShapeFaultKind::OutOfProgram))),
+        (7, Some((5, ShapeFaultKind::OutOfProgram))),
+        (8, Some((5, ShapeFaultKind::OutOfProgram))),
+        (9, Some((5, ShapeFaultKind::OutOfProgram))),
+        (10, Some((5, ShapeFaultKind::OutOfProgram))),
+        (11, Some((10, ShapeFaultKind::FallsOff))),
+        (12, None),
+    ];
+    for (units, wanted) in ROWS {
+        assert!(rt; units <= 12);
         assert_eq!(rt;
-            fault_of(rt.alloc(), &SUBMIT_42[..units])?,
-            wanted[units - 2],
+            fault_of(&rt, rt.alloc(), &SUBMIT_42[..units]),
+            wanted,
             "at {units} units"
         );
     }
-    Ok(())
 }
 
 #[test]
-fn a_shape_has_its_program(rt: HostRuntime) -> Result<(), Fail> {
-    let alloc = rt.alloc();
-    let shaped = shape(alloc, program_of(alloc, &[ZERO_R0, EXIT])?)?;
+fn a_shape_has_its_program(rt: HostRuntime) {
+    let program = program_of(&rt, rt.alloc(), &[ZERO_R0, EXIT]);
+    let shaped = shape(rt.alloc(), program).expect(&rt, "a shape");
     shaped.facts();
     assert_eq!(rt; shaped.program().units(), 2);
     assert_eq!(rt; shaped.program().at(1).copied(), Some(Insn::Exit));
-    Ok(())
 }
 
 #[test]
@@ -231,7 +200,7 @@ fn where_edges_lead(rt: HostRuntime) {
         ),
         (Insn::JumpFar { distance: i32::MIN }, None, None),
     ] {
-        assert_eq!(rt; next_unit(7, &insn), next, "behind {insn:?}");
-        assert_eq!(rt; jump_target(7, &insn), target, "of {insn:?}");
+        let both = (next_unit(7, &insn), jump_target(7, &insn));
+        assert_eq!(rt; both, (next, target), "of {insn:?}");
     }
 }

@@ -91,8 +91,8 @@ fn headers(rt: HostRuntime) {
     for (header, bytes) in HEADERS {
         assert!(rt; header.len < 1 << 30);
         assert!(rt; !header.busy || !header.discard);
-        assert_eq!(rt; header.to_bytes(), bytes, "of {header:?}");
-        assert_eq!(rt; Header::from_bytes(&bytes), Ok(header), "of {bytes:?}");
+        let both = (header.to_bytes(), Header::from_bytes(&bytes));
+        assert_eq!(rt; both, (bytes, Ok(header)));
     }
 }
 

@@ -1,14 +1,15 @@
 //! Entries, reservations, and the tests of a ring's numbers.
 
-ghost use Rattle.std.specs.Prelude.{◌≡◌, IfOk, length};
+ghost use Rattle.std.specs.Prelude.{◌≡◌, length};
 
+use crate::expected::{same_bytes, sheet};
 use rb_history::{
     Entry, Notice, POSITION_LIMIT, RecordState, Reservation, StoredRecord, Taken,
     each_entry_is_one_call, is_size, is_start, is_worker_count, notice_for,
 };
-use rb_lend::{Lent, Sheet};
+use rb_lend::Lent;
 use std::alloc::Global;
-use std::test::Fail;
+use std::process::Abort;
 
 #[test]
 fn sizes_are_powers_of_two_within_bounds(rt: HostRuntime) {
@@ -96,36 +97,43 @@ fn entries_are_told_apart(rt: HostRuntime) {
         (Entry::Dis(2), false, false, true, false),
         (Entry::Take(2), false, false, false, false),
     ] {
-        assert_eq!(rt; entry.is_grant(), grant, "of {entry:?}");
-        assert_eq!(rt; entry.is_refusal(), refusal, "of {entry:?}");
-        assert_eq!(rt; entry.is_discarding(), discarding, "of {entry:?}");
-        assert_eq!(rt; entry.is_grant_of(2), of_two, "of {entry:?}");
+        let told = (
+            entry.is_grant(),
+            entry.is_refusal(),
+            entry.is_discarding(),
+            entry.is_grant_of(2),
+        );
+        assert_eq!(rt; told, (grant, refusal, discarding, of_two), "of {entry:?}");
     }
     each_entry_is_one_call();
 }
 
-// A reservation of four bytes.
-fn reservation(alloc: Global, pos: u64, worker: u32, serial: u64) -> Result<Reservation, Fail>
-    ensures { IfOk result (λ r. length r.bytes ≡ 4) }
+// A reservation of `n` bytes.
+fn reservation(
+    rt: &impl Abort,
+    alloc: Global,
+    pos: u64,
+    worker: u32,
+    serial: u64,
+    n: u32,
+) -> Reservation
+    ensures { length result.bytes ≡ n }
 {
-    let sheet = Sheet::new(alloc, 4)?;
-    Ok(Reservation::new(pos, worker, serial, sheet))
+    Reservation::new(pos, worker, serial, sheet(rt, alloc, n))
 }
 
 #[test]
-fn a_reservation_tells_its_record(rt: HostRuntime) -> Result<(), Fail> {
-    let mut held = reservation(rt.alloc(), 48, 3, 5)?;
+fn a_reservation_tells_its_record(rt: HostRuntime) {
+    let mut held = reservation(&rt, rt.alloc(), 48, 3, 5, 4);
     assert_eq!(rt;
         (held.pos(), held.worker(), held.serial(), held.len()),
         (48, 3, 5, 4)
     );
-    assert_eq!(rt; held.bytes(), [0, 0, 0, 0].as_slice());
+    same_bytes(&rt, held.bytes(), &[0, 0, 0, 0]);
     held.range_mut(1, 2).fill(9);
-    assert_eq!(rt; held.bytes(), [0, 9, 9, 0].as_slice());
+    same_bytes(&rt, held.bytes(), &[0, 9, 9, 0]);
     held.bytes_mut().fill(7);
-    let sheet = held.into_sheet();
-    assert_eq!(rt; sheet.bytes(), [7, 7, 7, 7].as_slice());
-    Ok(())
+    same_bytes(&rt, held.into_sheet().bytes(), &[7, 7, 7, 7]);
 }
 
 // A record of four bytes at position 48, the sixth of worker 3.
@@ -140,43 +148,40 @@ fn stored(state: RecordState) -> StoredRecord {
 }
 
 #[test]
-fn a_stored_record_is_busy_under_four_numbers(rt: HostRuntime) -> Result<(), Fail> {
+fn a_stored_record_is_busy_under_four_numbers(rt: HostRuntime) {
     let record = stored(RecordState::Reserved);
-    assert!(rt; record.is_reserved());
-    assert!(rt; !record.is_submitted());
-    for (pos, worker, serial, want) in [
-        (48, 3, 5, true),
-        (56, 3, 5, false),
-        (48, 2, 5, false),
-        (48, 3, 4, false),
+    for (pos, worker, serial, n, want) in [
+        (48, 3, 5, 4, true),
+        (56, 3, 5, 4, false),
+        (48, 2, 5, 4, false),
+        (48, 3, 4, 4, false),
+        (48, 3, 5, 5, false),
     ] {
-        let held = reservation(rt.alloc(), pos, worker, serial)?;
-        assert_eq!(rt; record.is_reserved_by(&held), want, "at {pos}");
+        let held = reservation(&rt, rt.alloc(), pos, worker, serial, n);
+        assert_eq!(rt; record.is_reserved_by(&held), want, "at {pos} of {n} bytes");
     }
-    let longer = Reservation::new(48, 3, 5, Sheet::new(rt.alloc(), 5)?);
-    assert!(rt; !record.is_reserved_by(&longer));
-    let own = reservation(rt.alloc(), 48, 3, 5)?;
+    let own = reservation(&rt, rt.alloc(), 48, 3, 5, 4);
     assert!(rt; !stored(RecordState::Discarded).is_reserved_by(&own));
-    Ok(())
+}
+
+// Whether the record is reserved, and whether it is submitted.
+fn state_of(record: &StoredRecord) -> (bool, bool) {
+    (record.is_reserved(), record.is_submitted())
 }
 
 #[test]
-fn a_taken_record_is_handed_out_or_skipped(rt: HostRuntime) -> Result<(), Fail> {
-    let mut sheet = Sheet::new(rt.alloc(), 4)?;
-    sheet.bytes_mut().fill(6);
-    let waiting = stored(RecordState::Submitted(sheet));
-    assert!(rt; waiting.is_submitted());
-    assert!(rt; !waiting.is_reserved());
-    match waiting.taken() {
-        Taken::Event(pos, worker, serial, sheet) => {
-            assert_eq!(rt; (pos, worker, serial), (48, 3, 5));
-            assert_eq!(rt; sheet.bytes(), [6, 6, 6, 6].as_slice());
-        }
-        _ => return Err(Fail::from("no event")),
-    }
+fn a_taken_record_is_handed_out_or_skipped(rt: HostRuntime) {
+    let mut filled = sheet(&rt, rt.alloc(), 4);
+    filled.bytes_mut().fill(6);
+    let reserved = stored(RecordState::Reserved);
+    let waiting = stored(RecordState::Submitted(filled));
     let discarded = stored(RecordState::Discarded);
-    assert!(rt; !discarded.is_submitted());
-    assert!(rt; !discarded.is_reserved());
-    assert!(rt; matches!(discarded.taken(), Taken::Skipped(48, 4)));
-    Ok(())
+    assert_eq!(rt; state_of(&reserved), (true, false));
+    assert_eq!(rt; state_of(&waiting), (false, true));
+    assert_eq!(rt; state_of(&discarded), (false, false));
+    match waiting.taken() {
+        Taken::Event(48, 3, 5, sheet) => same_bytes(&rt, sheet.bytes(), &[6, 6, 6, 6]),
+        _ => panic!(rt; "no event"),
+    }
+    assert!(rt; matches!(&discarded.taken(), Taken::Skipped(48, 4)));
 }

@@ -5,6 +5,8 @@
 #[cfg(test)]
 mod examples;
 #[cfg(test)]
+mod expected;
+#[cfg(test)]
 mod headers;
 #[cfg(test)]
 mod histories;

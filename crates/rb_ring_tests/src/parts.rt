@@ -4,8 +4,10 @@ ghost use Rattle.std.specs.Prelude.{◌≡◌, ◌≤◌, ℕ, List, IsSome, tak
 ghost use Rattle.rb_lend.specs.Ranges.{written_at};
 ghost use Rattle.rb_lend.specs.PartsMemory.{part_with};
 
+use crate::expected::{same_bytes, sheet};
 use rb_lend::{Context, Lent, Part, Parts, Sheet, Slot};
-use std::test::Fail;
+use std::alloc::Global;
+use std::process::Abort;
 
 /// Clears a range where it may be written. A caller learns from the result what became of the parts.
 fn clear_if<C: Context, R: Lent>(
@@ -26,139 +28,165 @@ fn clear_if<C: Context, R: Lent>(
     }
 }
 
+/// Parts with a record of `n` bytes in the first slot.
+fn with_record<'a>(
+    rt: &impl Abort,
+    alloc: Global,
+    context: &'a [u8],
+    n: u32,
+) -> Parts<&'a [u8], Sheet> {
+    let mut parts: Parts<&[u8], Sheet> = Parts::new(context);
+    hold(rt, alloc, &mut parts, n, Slot::First);
+    parts
+}
+
+/// Holds a record of `n` bytes, for which this slot has to be the first free one.
+fn hold(rt: &impl Abort, alloc: Global, parts: &mut Parts<&[u8], Sheet>, n: u32, free: Slot) {
+    match parts.hold(sheet(rt, alloc, n)) {
+        Ok(slot) => assert_eq!(rt; slot, free),
+        Err(_) => rt.panic("no slot"),
+    }
+}
+
+/// Ends the test where a range of a part is outside, or holds other bytes.
+fn reads(rt: &impl Abort, parts: &Parts<&[u8], Sheet>, part: Part, off: usize, bytes: &[u8]) {
+    match parts.read(part, off, bytes.len()) {
+        Ok(found) => same_bytes(rt, found, bytes),
+        Err(_) => panic!(rt; "outside at {off}"),
+    }
+}
+
+/// Ends the test where a range of a part is outside; fills it otherwise.
+fn fill<C: Context, R: Lent>(
+    rt: &impl Abort,
+    parts: &mut Parts<C, R>,
+    part: Part,
+    off: usize,
+    len: usize,
+    byte: u8,
+) {
+    match parts.write(part, off, len) {
+        Ok(range) => range.into_bytes().fill(byte),
+        Err(_) => panic!(rt; "outside at {off}"),
+    }
+}
+
 #[test]
-fn new_parts_are_zero_bytes_a_context_and_empty_slots(rt: HostRuntime) -> Result<(), Fail> {
+fn new_parts_are_zero_bytes_a_context_and_empty_slots(rt: HostRuntime) {
     let context = [5, 6, 7];
     let mut parts: Parts<&[u8], Sheet> = Parts::new(context.as_slice());
     assert_eq!(rt; parts.stack.bytes().len(), 512);
-    assert_eq!(rt; parts.read(Part::Stack, 0, 4)?, [0, 0, 0, 0].as_slice());
-    assert_eq!(rt; parts.read(Part::Stack, 508, 4)?, [0, 0, 0, 0].as_slice());
-    assert_eq!(rt; parts.read(Part::Ctx, 0, 3)?, [5, 6, 7].as_slice());
+    reads(&rt, &parts, Part::Stack, 0, &[0, 0, 0, 0]);
+    reads(&rt, &parts, Part::Stack, 508, &[0, 0, 0, 0]);
+    reads(&rt, &parts, Part::Ctx, 0, &[5, 6, 7]);
     assert!(rt; parts.give(Slot::First).is_none());
     assert!(rt; parts.give(Slot::Fourth).is_none());
-    Ok(())
 }
 
 #[test]
-fn a_range_is_what_read_lends(rt: HostRuntime) -> Result<(), Fail> {
+fn a_range_is_what_read_lends(rt: HostRuntime) {
     let context = [5, 6, 7];
     let parts: Parts<&[u8], Sheet> = Parts::new(context.as_slice());
     match parts.read(Part::Ctx, 1, 2) {
-        Ok(bytes) => assert_eq!(rt; bytes, [6, 7].as_slice()),
-        Err(_) => return Err(Fail::from("outside")),
+        Ok(bytes) => same_bytes(&rt, bytes, &[6, 7]),
+        Err(_) => panic!(rt; "outside"),
     }
-    assert_eq!(rt; parts.range(Part::Ctx, 1, 2), [6, 7].as_slice());
-    Ok(())
+    same_bytes(&rt, parts.range(Part::Ctx, 1, 2), &[6, 7]);
 }
 
-fn is_outside(parts: &Parts<&[u8], Sheet>, part: Part, off: usize, len: usize) -> bool {
-    parts.read(part, off, len).is_err()
+const FIRST: Part = Part::Record(Slot::First);
+
+const SECOND: Part = Part::Record(Slot::Second);
+
+#[test]
+fn reads_are_outside_at_each_edge(rt: HostRuntime) {
+    let context = [5, 6, 7];
+    let parts = with_record(&rt, rt.alloc(), context.as_slice(), 4);
+    for (part, off, len, outside) in [
+        (Part::Stack, 0, 512, false),
+        (Part::Stack, 0, 513, true),
+        (Part::Stack, 511, 2, true),
+        (Part::Stack, 512, 0, false),
+        (Part::Stack, 513, 0, true),
+        (Part::Stack, 18446744073709551615, 1, true),
+        (Part::Ctx, 2, 1, false),
+        (Part::Ctx, 2, 2, true),
+        (Part::Ctx, 3, 0, false),
+        (Part::Ctx, 4, 0, true),
+        (FIRST, 1, 3, false),
+        (FIRST, 1, 4, true),
+        (FIRST, 4, 0, false),
+        (FIRST, 5, 0, true),
+        (SECOND, 0, 0, true),
+    ] {
+        let answer = parts.read(part, off, len);
+        assert_eq!(rt; answer.is_err(), outside, "{part:?} {off} {len}");
+    }
 }
 
 #[test]
-fn reads_are_outside_at_each_edge(rt: HostRuntime) -> Result<(), Fail> {
+fn writes_are_outside_at_each_edge(rt: HostRuntime) {
     let context = [5, 6, 7];
-    let mut parts: Parts<&[u8], Sheet> = Parts::new(context.as_slice());
-    let _slot = parts.hold(Sheet::new(rt.alloc(), 4)?).is_ok();
-    let stack = [
-        is_outside(&parts, Part::Stack, 0, 512),
-        is_outside(&parts, Part::Stack, 0, 513),
-        is_outside(&parts, Part::Stack, 511, 2),
-        is_outside(&parts, Part::Stack, 512, 0),
-        is_outside(&parts, Part::Stack, 513, 0),
-        is_outside(&parts, Part::Stack, 18446744073709551615, 1),
-    ];
-    assert_eq!(rt; stack, [false, true, true, false, true, true]);
-    let context = [
-        is_outside(&parts, Part::Ctx, 2, 1),
-        is_outside(&parts, Part::Ctx, 2, 2),
-        is_outside(&parts, Part::Ctx, 3, 0),
-        is_outside(&parts, Part::Ctx, 4, 0),
-    ];
-    assert_eq!(rt; context, [false, true, false, true]);
-    let slot = Part::Record(Slot::First);
-    let records = [
-        is_outside(&parts, slot, 1, 3),
-        is_outside(&parts, slot, 1, 4),
-        is_outside(&parts, slot, 4, 0),
-        is_outside(&parts, slot, 5, 0),
-        is_outside(&parts, Part::Record(Slot::Second), 0, 0),
-    ];
-    assert_eq!(rt; records, [false, true, false, true, true]);
-    Ok(())
+    let mut parts = with_record(&rt, rt.alloc(), context.as_slice(), 4);
+    for (part, off, len, cleared) in [
+        (Part::Stack, 0, 512, true),
+        (Part::Stack, 0, 513, false),
+        (Part::Stack, 512, 0, true),
+        (Part::Stack, 513, 0, false),
+        (Part::Ctx, 0, 1, false),
+        (Part::Ctx, 0, 0, false),
+        (FIRST, 0, 4, true),
+        (FIRST, 4, 0, true),
+        (FIRST, 3, 2, false),
+        (FIRST, 5, 0, false),
+        (SECOND, 0, 0, false),
+    ] {
+        assert_eq!(rt;
+            clear_if(&mut parts, part, off, len),
+            cleared,
+            "{part:?} {off} {len}"
+        );
+    }
 }
 
 #[test]
-fn writes_are_outside_at_each_edge(rt: HostRuntime) -> Result<(), Fail> {
+fn a_write_changes_its_range_alone(rt: HostRuntime) {
     let context = [5, 6, 7];
-    let mut parts: Parts<&[u8], Sheet> = Parts::new(context.as_slice());
-    let _slot = parts.hold(Sheet::new(rt.alloc(), 4)?).is_ok();
-    let stack = [
-        clear_if(&mut parts, Part::Stack, 0, 512),
-        clear_if(&mut parts, Part::Stack, 0, 513),
-        clear_if(&mut parts, Part::Stack, 512, 0),
-        clear_if(&mut parts, Part::Stack, 513, 0),
-        clear_if(&mut parts, Part::Ctx, 0, 1),
-        clear_if(&mut parts, Part::Ctx, 0, 0),
-    ];
-    assert_eq!(rt; stack, [true, false, true, false, false, false]);
-    let slot = Part::Record(Slot::First);
-    let records = [
-        clear_if(&mut parts, slot, 0, 4),
-        clear_if(&mut parts, slot, 4, 0),
-        clear_if(&mut parts, slot, 3, 2),
-        clear_if(&mut parts, slot, 5, 0),
-        clear_if(&mut parts, Part::Record(Slot::Second), 0, 0),
-    ];
-    assert_eq!(rt; records, [true, true, false, false, false]);
-    Ok(())
-}
-
-#[test]
-fn a_write_changes_its_range_alone(rt: HostRuntime) -> Result<(), Fail> {
-    let context = [5, 6, 7];
-    let mut parts: Parts<&[u8], Sheet> = Parts::new(context.as_slice());
-    let _slot = parts.hold(Sheet::new(rt.alloc(), 5)?).is_ok();
-    match parts.write(Part::Stack, 1, 2) {
-        Ok(range) => range.into_bytes().fill(9),
-        Err(_) => return Err(Fail::from("stack")),
-    }
-    match parts.write(Part::Record(Slot::First), 2, 2) {
-        Ok(range) => range.into_bytes().fill(8),
-        Err(_) => return Err(Fail::from("record")),
-    }
+    let mut parts = with_record(&rt, rt.alloc(), context.as_slice(), 5);
+    fill(&rt, &mut parts, Part::Stack, 1, 2, 9);
+    fill(&rt, &mut parts, FIRST, 2, 2, 8);
     if parts.can_write(Part::Stack, 510, 2) {
         parts.range_mut(Part::Stack, 510, 2).fill(7);
     }
-    assert_eq!(rt; parts.read(Part::Stack, 0, 4)?, [0, 9, 9, 0].as_slice());
-    assert_eq!(rt; parts.read(Part::Stack, 509, 3)?, [0, 7, 7].as_slice());
-    assert_eq!(rt;
-        parts.read(Part::Record(Slot::First), 0, 5)?,
-        [0, 0, 8, 8, 0].as_slice()
-    );
-    assert_eq!(rt; parts.read(Part::Ctx, 0, 3)?, [5, 6, 7].as_slice());
-    Ok(())
+    reads(&rt, &parts, Part::Stack, 0, &[0, 9, 9, 0]);
+    reads(&rt, &parts, Part::Stack, 509, &[0, 7, 7]);
+    reads(&rt, &parts, FIRST, 0, &[0, 0, 8, 8, 0]);
+    reads(&rt, &parts, Part::Ctx, 0, &[5, 6, 7]);
+}
+
+/// The length of the record that the parts hand back in place of a fifth one.
+fn handed_back(rt: &impl Abort, alloc: Global, parts: &mut Parts<&[u8], Sheet>, n: u32) -> u32 {
+    match parts.hold(sheet(rt, alloc, n)) {
+        Ok(_) => rt.panic("a fifth was held"),
+        Err(back) => back.len(),
+    }
 }
 
 #[test]
-fn a_fifth_record_is_handed_back(rt: HostRuntime) -> Result<(), Fail> {
+fn a_fifth_record_is_handed_back(rt: HostRuntime) {
     let mut parts: Parts<&[u8], Sheet> = Parts::new([].as_slice());
-    assert!(rt; matches!(parts.hold(Sheet::new(rt.alloc(), 1)?), Ok(Slot::First)));
-    assert!(rt; matches!(parts.hold(Sheet::new(rt.alloc(), 2)?), Ok(Slot::Second)));
-    assert!(rt; matches!(parts.hold(Sheet::new(rt.alloc(), 3)?), Ok(Slot::Third)));
-    assert!(rt; matches!(parts.hold(Sheet::new(rt.alloc(), 4)?), Ok(Slot::Fourth)));
-    match parts.hold(Sheet::new(rt.alloc(), 5)?) {
-        Ok(_) => return Err(Fail::from("a fifth was held")),
-        Err(back) => assert_eq!(rt; back.len(), 5),
-    }
+    hold(&rt, rt.alloc(), &mut parts, 1, Slot::First);
+    hold(&rt, rt.alloc(), &mut parts, 2, Slot::Second);
+    hold(&rt, rt.alloc(), &mut parts, 3, Slot::Third);
+    hold(&rt, rt.alloc(), &mut parts, 4, Slot::Fourth);
+    assert_eq!(rt; handed_back(&rt, rt.alloc(), &mut parts, 5), 5);
     match parts.give(Slot::Second) {
         Some(given) => assert_eq!(rt; given.len(), 2),
-        None => return Err(Fail::from("the second slot was empty")),
+        None => panic!(rt; "the second slot was empty"),
     }
     assert!(rt; parts.give(Slot::Second).is_none());
-    assert!(rt; matches!(parts.hold(Sheet::new(rt.alloc(), 6)?), Ok(Slot::Second)));
-    assert_eq!(rt; parts.read(Part::Record(Slot::Second), 0, 6)?.len(), 6);
-    Ok(())
+    hold(&rt, rt.alloc(), &mut parts, 6, Slot::Second);
+    reads(&rt, &parts, SECOND, 0, &[0; 6]);
 }
 
 /// Copies the context to the stack and fills two records, while all of them are lent.
@@ -185,33 +213,25 @@ fn copy_context<C: Context, R: Lent>(parts: &mut Parts<C, R>, len: usize)
 }
 
 #[test]
-fn all_parts_are_lent_at_once(rt: HostRuntime) -> Result<(), Fail> {
+fn all_parts_are_lent_at_once(rt: HostRuntime) {
     let context = [5, 6, 7];
     let mut parts: Parts<&[u8], Sheet> = Parts::new(context.as_slice());
-    let _slot = parts.hold(Sheet::new(rt.alloc(), 3)?).is_ok();
-    let _slot = parts.hold(Sheet::new(rt.alloc(), 2)?).is_ok();
+    let _slot = parts.hold(sheet(&rt, rt.alloc(), 3)).is_ok();
+    let _slot = parts.hold(sheet(&rt, rt.alloc(), 2)).is_ok();
     copy_context(&mut parts, 3);
-    assert_eq!(rt; parts.read(Part::Stack, 0, 4)?, [5, 6, 7, 0].as_slice());
-    assert_eq!(rt;
-        parts.read(Part::Record(Slot::First), 0, 3)?,
-        [1, 1, 1].as_slice()
-    );
-    Ok(())
+    reads(&rt, &parts, Part::Stack, 0, &[5, 6, 7, 0]);
+    reads(&rt, &parts, FIRST, 0, &[1, 1, 1]);
 }
 
 #[test]
-fn the_whole_stack_and_a_whole_record_are_lent(rt: HostRuntime) -> Result<(), Fail> {
+fn the_whole_stack_and_a_whole_record_are_lent(rt: HostRuntime) {
     let mut parts: Parts<&[u8], Sheet> = Parts::new([].as_slice());
     parts.stack.range_mut(0, 512).fill(3);
-    let Ok(Slot::First) = parts.hold(Sheet::new(rt.alloc(), 2)?) else {
-        return Err(Fail::from("another slot"));
+    let Ok(Slot::First) = parts.hold(sheet(&rt, rt.alloc(), 2)) else {
+        panic!(rt; "another slot")
     };
     parts.records.bytes_mut(Slot::First).fill(4);
-    assert_eq!(rt; parts.read(Part::Stack, 510, 2)?, [3, 3].as_slice());
+    reads(&rt, &parts, Part::Stack, 510, &[3, 3]);
     assert!(rt; parts.records.get(Slot::First).is_some());
-    assert_eq!(rt;
-        parts.read(Part::Record(Slot::First), 0, 2)?,
-        [4, 4].as_slice()
-    );
-    Ok(())
+    reads(&rt, &parts, FIRST, 0, &[4, 4]);
 }

@@ -5,8 +5,8 @@ ghost use Rattle.std.specs.Int.{w32, to_le_bytes};
 ghost use Rattle.rb_header.specs.TapeBytes.{Item, tape, item_bytes, zeros};
 ghost use Rattle.rb_header.specs.TapeBytes.Item.{Event, Skip};
 
+use crate::expected::same_bytes;
 use std::alloc::{AllocError, Global};
-use std::test::Fail;
 
 // Four bytes, the lowest first.
 fn push_word(out: &mut Vec<u8>, n: u64) -> Result<(), AllocError>
@@ -64,55 +64,58 @@ fn plain_tape(alloc: Global, size: u64, events: &[(u64, &[u8])]) -> Result<Vec<u
 }
 
 #[test]
-fn one_event(rt: HostRuntime) -> Result<(), Fail> {
-    let tape = plain_tape(rt.alloc(), 4096, &[(0, &[0x2a, 0, 0, 0, 0, 0, 0, 0])])?;
-    let want = [8, 0, 0, 0, 0, 0, 0, 0, 0x2a, 0, 0, 0, 0, 0, 0, 0];
-    assert_eq!(rt; tape.as_slice(), want.as_slice());
-    Ok(())
+fn one_event(rt: HostRuntime) {
+    let events: [(u64, &[u8]); 1] = [(0, &[0x2a, 0, 0, 0, 0, 0, 0, 0])];
+    let tape = plain_tape(rt.alloc(), 4096, &events).expect(&rt, "a tape");
+    same_bytes(
+        &rt,
+        &tape,
+        &[8, 0, 0, 0, 0, 0, 0, 0, 0x2a, 0, 0, 0, 0, 0, 0, 0],
+    );
 }
 
 #[test]
-fn no_event_at_all(rt: HostRuntime) -> Result<(), Fail> {
-    let tape = plain_tape(rt.alloc(), 4096, &[])?;
+fn no_event_at_all(rt: HostRuntime) {
+    let tape = plain_tape(rt.alloc(), 4096, &[]).expect(&rt, "a tape");
     assert!(rt; tape.is_empty());
-    Ok(())
 }
 
 #[test]
-fn one_byte_and_none(rt: HostRuntime) -> Result<(), Fail> {
-    let tape = plain_tape(rt.alloc(), 4096, &[(0, &[0xff]), (16, &[])])?;
+fn one_byte_and_none(rt: HostRuntime) {
+    let events: [(u64, &[u8]); 2] = [(0, &[0xff]), (16, &[])];
+    let tape = plain_tape(rt.alloc(), 4096, &events).expect(&rt, "a tape");
     let want = [
         1, 0, 0, 0, 0, 0, 0, 0, 0xff, 0, 0, 0, 0, 0, 0, 0, // one byte, seven zeros behind it
         0, 0, 0, 0, 0, 0, 0, 0, // a header and nothing behind it
     ];
-    assert_eq!(rt; tape.as_slice(), want.as_slice());
-    Ok(())
+    same_bytes(&rt, &tape, &want);
 }
 
 #[test]
-fn pages_go_round(rt: HostRuntime) -> Result<(), Fail> {
-    let long = vec![in rt.alloc(); 0x11u8; 4080]?;
+fn pages_go_round(rt: HostRuntime) {
+    let long = vec![in rt.alloc(); 0x11u8; 4080].expect(&rt, "a long record");
     let events: [(u64, &[u8]); 4] = [
         (4088, &[]),
         (4096, long.as_slice()),
         (8184, &[]),
         (8192, &[]),
     ];
-    let tape = plain_tape(rt.alloc(), 8192, &events)?;
+    let tape = plain_tape(rt.alloc(), 8192, &events).expect(&rt, "a tape");
     assert_eq!(rt; tape.len(), 8 + 4088 + 8 + 8);
-    assert_eq!(rt; &tape[..8], [0u8; 8].as_slice());
-    assert_eq!(rt; &tape[8..16], [0xf0, 0x0f, 0, 0, 1, 0, 0, 0].as_slice());
-    assert_eq!(rt; &tape[16..4096], long.as_slice());
-    assert_eq!(rt; &tape[4096..4104], [0, 0, 0, 0, 1, 0, 0, 0].as_slice());
-    assert_eq!(rt; &tape[4104..4112], [0u8; 8].as_slice());
-    Ok(())
+    same_bytes(&rt, &tape[..8], &[0u8; 8]);
+    same_bytes(&rt, &tape[8..16], &[0xf0, 0x0f, 0, 0, 1, 0, 0, 0]);
+    same_bytes(&rt, &tape[16..4096], &long);
+    same_bytes(&rt, &tape[4096..4104], &[0, 0, 0, 0, 1, 0, 0, 0]);
+    same_bytes(&rt, &tape[4104..4112], &[0u8; 8]);
 }
 
 #[test]
-fn a_skip(rt: HostRuntime) -> Result<(), Fail> {
+fn a_skip(rt: HostRuntime) {
     let mut tape = Vec::new(rt.alloc());
-    push_skip(&mut tape, 4096, 0, 8)?;
-    let want = [8, 0, 0, 0x40, 0, 0, 0, 0, 0, 0, 0, 0, 0, 0, 0, 0];
-    assert_eq!(rt; tape.as_slice(), want.as_slice());
-    Ok(())
+    push_skip(&mut tape, 4096, 0, 8).expect(&rt, "a tape");
+    same_bytes(
+        &rt,
+        &tape,
+        &[8, 0, 0, 0x40, 0, 0, 0, 0, 0, 0, 0, 0, 0, 0, 0, 0],
+    );
 }

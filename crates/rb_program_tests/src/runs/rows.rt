@@ -1,7 +1,6 @@
 //! Whole programs, one a row of the meaning. Another program worked out their results.
 
 use super::result_of;
-use std::test::Fail;
 
 const ARITHMETIC: [(&str, u64); 38] = [
     // 64-bit sum that wraps
@@ -302,17 +301,15 @@ const JUMPS_AND_MEMORY: [(&str, u64); 24] = [
 ];
 
 #[test]
-fn arithmetic_through_whole_programs(rt: HostRuntime) -> Result<(), Fail> {
+fn arithmetic_through_whole_programs(rt: HostRuntime) {
     for (text, wanted) in ARITHMETIC {
-        assert_eq!(rt; result_of(rt.alloc(), text)?, wanted, "of {text}");
+        assert_eq!(rt; result_of(&rt, rt.alloc(), text), Ok(wanted), "of {text}");
     }
-    Ok(())
 }
 
 #[test]
-fn jumps_and_memory_through_whole_programs(rt: HostRuntime) -> Result<(), Fail> {
+fn jumps_and_memory_through_whole_programs(rt: HostRuntime) {
     for (text, wanted) in JUMPS_AND_MEMORY {
-        assert_eq!(rt; result_of(rt.alloc(), text)?, wanted, "of {text}");
+        assert_eq!(rt; result_of(&rt, rt.alloc(), text), Ok(wanted), "of {text}");
     }
-    Ok(())
 }

@@ -4,15 +4,21 @@ use super::RESERVE_AND_SUBMIT;
 use rb_cfg::{ShapeFaultKind, shape};
 use rb_decode::{DecodeKind, decode, encode, from_text};
 use rb_verifier::verify;
-use std::test::Fail;
+use std::alloc::Global;
+use std::process::Abort;
+
+/// The bytes of the program.
+fn whole(rt: &impl Abort, alloc: Global) -> Vec<u8> {
+    let program = from_text(alloc, RESERVE_AND_SUBMIT).expect(rt, "a program");
+    encode(alloc, &program).expect(rt, "memory")
+}
 
 #[test]
-fn cut_to_each_length(rt: HostRuntime) -> Result<(), Fail> {
-    let alloc = rt.alloc();
-    let whole = encode(alloc, &from_text(alloc, RESERVE_AND_SUBMIT)?)?;
+fn cut_to_each_length(rt: HostRuntime) {
+    let whole = whole(&rt, rt.alloc());
     assert_eq!(rt; whole.len(), 96);
     for len in 0..whole.len() {
-        let fault = decode(alloc, &whole[..len])
+        let fault = decode(rt.alloc(), &whole[..len])
             .err()
             .map(|fault| (fault.kind, fault.unit));
         let expected = if len == 8 {
@@ -24,7 +30,11 @@ fn cut_to_each_length(rt: HostRuntime) -> Result<(), Fail> {
         };
         assert_eq!(rt; fault, expected, "{len}");
     }
+}
 
+#[test]
+fn cut_to_two_units_and_more(rt: HostRuntime) {
+    let whole = whole(&rt, rt.alloc());
     // two to eleven units
     let faults = [
         (16, ShapeFaultKind::FallsOff, 0),
@@ -40,12 +50,18 @@ fn cut_to_each_length(rt: HostRuntime) -> Result<(), Fail> {
     ];
     for (len, kind, unit) in faults {
         assert!(rt; len <= whole.len());
-        let fault = shape(alloc, decode(alloc, &whole[..len])?)
+        let program = decode(rt.alloc(), &whole[..len]).expect(&rt, "a program");
+        let fault = shape(rt.alloc(), program)
             .err()
             .map(|fault| (fault.kind, fault.unit));
         assert_eq!(rt; fault, Some((kind, unit)), "{len}");
     }
-    let verified = verify(alloc, shape(alloc, decode(alloc, &whole)?)?, 16, 1)?;
+}
+
+#[test]
+fn the_whole_is_verified(rt: HostRuntime) {
+    let program = decode(rt.alloc(), &whole(&rt, rt.alloc())).expect(&rt, "a program");
+    let shape = shape(rt.alloc(), program).expect(&rt, "a shape");
+    let verified = verify(rt.alloc(), shape, 16, 1).expect(&rt, "a verified program");
     assert_eq!(rt; verified.program().units(), 12);
-    Ok(())
 }

@@ -1,16 +1,16 @@
 //! Drawn commands, given to the ring and to a plain program of its definitions, whose answers have to agree.
 
-ghost use Rattle.std.specs.Prelude.{◌≡◌, ◌<◌, IfOk, length};
+ghost use Rattle.std.specs.Prelude.{◌≡◌, length};
 
 use super::draw::{Draw, WORKERS};
 use super::plain::{
     Status, ask, consumer, counts, grants, has_room, is_due, producer, record_at, status_of,
 };
+use crate::expected::sheet;
 use rb_lend::{Lent, Sheet};
-use rb_ring::{Entry, Notice, Reservation, ReserveFault, RingState, Taken};
+use rb_ring::{Entry, Notice, Reservation, ReserveFault, RingState, Stray, Taken};
 use std::alloc::{AllocError, Global};
 use std::process::Abort;
-use std::test::Fail;
 
 // A ring as its history and the byte that fills each record that was submitted.
 #[derive(Drop)]
@@ -73,17 +73,36 @@ fn fill(byte: u8, sheet: &mut Sheet)
     sheet.bytes_mut().fill(byte);
 }
 
-fn made(alloc: Global, n: u32) -> Result<Sheet, Fail>
-    ensures { IfOk result (λ s. length s ≡ n) }
-{
-    match Sheet::new(alloc, n) {
-        Ok(sheet) => Ok(sheet),
-        Err(_) => Err(Fail::from("no memory for a sheet")),
-    }
-}
-
 fn is_filled(bytes: &[u8], byte: u8) -> bool {
     bytes.iter().all(|b| *b == byte)
+}
+
+// The position, worker, serial and length of a granted record, or the fault and the length of the sheet handed back.
+type Answer = Result<(u64, u32, u64, u32), (ReserveFault, u32)>;
+
+// What a reservation answered. A granted one has to begin as zeros, and joins those that are held.
+fn keeps(
+    rt: &impl Abort,
+    held: &mut Vec<Reservation>,
+    answer: Result<Reservation, (ReserveFault, Sheet)>,
+) -> Answer {
+    match answer {
+        Ok(reservation) => {
+            assert!(rt;
+                is_filled(reservation.bytes(), 0),
+                "a granted record is not zeros"
+            );
+            let numbers = (
+                reservation.pos(),
+                reservation.worker(),
+                reservation.serial(),
+                reservation.len(),
+            );
+            held.push(reservation).expect(rt, "memory");
+            Ok(numbers)
+        }
+        Err((fault, back)) => Err((fault, back.len())),
+    }
 }
 
 fn reserves(
@@ -93,49 +112,46 @@ fn reserves(
     ring: &mut RingState,
     plain: &mut Plain,
     held: &mut Vec<Reservation>,
-) -> Result<(), Fail>
+)
     requires { ring.old.setup.workers ≡ 3 }
     ensures { ring.new.setup.workers ≡ 3 }
 {
     let worker = draw.below(WORKERS);
     let n = draw.below(1500);
-    let mut sheet = made(alloc, n)?;
+    let mut sheet = sheet(rt, alloc, n);
     fill(255, &mut sheet);
-    let answer = ring.reserve(worker, n, sheet);
-    let wanted = plain.reserve(worker, n)?;
-    match (answer, wanted) {
-        (Ok(reservation), Some((pos, serial))) => {
-            assert_eq!(rt;
-                (
-                    reservation.pos(),
-                    reservation.worker(),
-                    reservation.serial(),
-                    reservation.len()
-                ),
-                (pos, worker, serial, n)
-            );
-            assert!(rt;
-                is_filled(reservation.bytes(), 0),
-                "a granted record is not zeros"
-            );
-            held.push(reservation)?;
-        }
-        (Err((fault, back)), None) => {
-            assert_eq!(rt; fault, ReserveFault::Full);
-            assert_eq!(rt; back.len(), n);
-        }
-        _ => assert!(rt; false, "reserve of {n}"),
-    }
-    Ok(())
+    let answer = keeps(rt, held, ring.reserve(worker, n, sheet));
+    let wanted = match plain.reserve(worker, n).expect(rt, "memory") {
+        Some((pos, serial)) => Ok((pos, worker, serial, n)),
+        None => Err((ReserveFault::Full, n)),
+    };
+    assert_eq!(rt; answer, wanted);
 }
 
-fn outputs(
-    rt: &impl Abort,
-    alloc: Global,
-    draw: &mut Draw,
-    ring: &mut RingState,
-    plain: &mut Plain,
-) -> Result<(), Fail>
+impl Plain {
+    // What an output has to answer: whether a notice is due, or why it is refused.
+    fn output(
+        &mut self,
+        worker: u32,
+        n: u32,
+        byte: u8,
+        flags: u64,
+    ) -> Result<Result<bool, ReserveFault>, AllocError> {
+        if flags > 3 {
+            return Ok(Err(ReserveFault::Flags));
+        }
+        let end = producer(self.start, &self.history);
+        let due = is_due(&self.history, self.start, end, flags);
+        let Some((pos, _)) = self.reserve(worker, n)? else {
+            return Ok(Err(ReserveFault::Full));
+        };
+        self.history.push(Entry::Sub(pos))?;
+        self.filled.push((pos, byte))?;
+        Ok(Ok(due))
+    }
+}
+
+fn outputs(rt: &impl Abort, alloc: Global, draw: &mut Draw, ring: &mut RingState, plain: &mut Plain)
     requires { ring.old.setup.workers ≡ 3 }
     ensures { ring.new.setup.workers ≡ 3 }
 {
@@ -143,32 +159,37 @@ fn outputs(
     let n = draw.below(1500);
     let byte = draw.below(256) as u8;
     let flags = u64::from(draw.below(5));
-    let mut sheet = made(alloc, n)?;
+    let mut sheet = sheet(rt, alloc, n);
     fill(byte, &mut sheet);
-    let answer = ring.output(worker, sheet, flags);
-    if flags > 3 {
-        assert!(rt;
-            matches!(&answer, Err((ReserveFault::Flags, _))),
-            "output with flags {flags}"
-        );
-        return Ok(());
+    let answer = match ring.output(worker, sheet, flags) {
+        Ok(notice) => Ok(notice == Notice::Due),
+        Err((fault, _)) => Err(fault),
+    };
+    let wanted = plain.output(worker, n, byte, flags).expect(rt, "memory");
+    assert_eq!(rt; answer, wanted, "output of {n} with flags {flags}");
+}
+
+// One of the two youngest reservations.
+fn one_of(rt: &impl Abort, draw: &mut Draw, held: &mut Vec<Reservation>) -> Option<Reservation> {
+    let youngest = held.pop()?;
+    if draw.below(3) > 0 {
+        return Some(youngest);
     }
-    let due = is_due(
-        &plain.history,
-        plain.start,
-        producer(plain.start, &plain.history),
-        flags,
-    );
-    match (answer, plain.reserve(worker, n)?) {
-        (Ok(notice), Some((pos, _))) => {
-            assert_eq!(rt; notice == Notice::Due, due);
-            plain.history.push(Entry::Sub(pos))?;
-            plain.filled.push((pos, byte))?;
+    match held.pop() {
+        Some(older) => {
+            held.push(youngest).expect(rt, "memory");
+            Some(older)
         }
-        (Err((fault, _)), None) => assert_eq!(rt; fault, ReserveFault::Full),
-        _ => assert!(rt; false, "output of {n}"),
+        None => Some(youngest),
     }
-    Ok(())
+}
+
+// Whether a notice is due, or None where the reservation is stray.
+fn due(answer: Result<Notice, Stray>) -> Option<bool> {
+    match answer {
+        Ok(notice) => Some(notice == Notice::Due),
+        Err(_) => None,
+    }
 }
 
 fn ends(
@@ -177,71 +198,77 @@ fn ends(
     ring: &mut RingState,
     plain: &mut Plain,
     held: &mut Vec<Reservation>,
-) -> Result<(), Fail>
+)
     requires { ring.old.setup.workers ≡ 3 }
     ensures { ring.new.setup.workers ≡ 3 }
 {
-    let Some(mut reservation) = held.pop() else {
-        return Ok(());
+    let Some(mut reservation) = one_of(rt, draw, held) else {
+        return;
     };
-    if draw.below(3) == 0 {
-        // An older one goes first.
-        if let Some(older) = held.pop() {
-            held.push(reservation)?;
-            reservation = older;
-        }
-    }
     let pos = reservation.pos();
     let flags = u64::from(draw.below(8));
     let byte = draw.below(256) as u8;
     reservation.bytes_mut().fill(byte);
-    if draw.below(3) == 0 {
-        let wanted = plain.end(&reservation, Entry::Dis(pos), flags)?;
-        match (ring.discard(reservation, flags), wanted) {
-            (Ok(notice), Some(due)) => assert_eq!(rt; notice == Notice::Due, due),
-            (Err(_), None) => (),
-            _ => assert!(rt; false, "discard at {pos}"),
-        }
-        return Ok(());
+    let discards = draw.below(3) == 0;
+    let entry = if discards {
+        Entry::Dis(pos)
+    } else {
+        Entry::Sub(pos)
+    };
+    let wanted = plain.end(&reservation, entry, flags).expect(rt, "memory");
+    let answer = if discards {
+        due(ring.discard(reservation, flags))
+    } else {
+        due(ring.submit(reservation, flags))
+    };
+    assert_eq!(rt; answer, wanted, "the end of the record at {pos}");
+    if !discards && wanted.is_some() {
+        plain.filled.push((pos, byte)).expect(rt, "memory");
     }
-    let wanted = plain.end(&reservation, Entry::Sub(pos), flags)?;
-    match (ring.submit(reservation, flags), wanted) {
-        (Ok(notice), Some(due)) => {
-            assert_eq!(rt; notice == Notice::Due, due);
-            plain.filled.push((pos, byte))?;
-        }
-        (Err(_), None) => (),
-        _ => assert!(rt; false, "submit at {pos}"),
-    }
-    Ok(())
 }
 
-fn takes(rt: &impl Abort, ring: &mut RingState, plain: &mut Plain) -> Result<(), Fail>
+// What a take hands out: the status of the record at the front, its position and numbers, or nothing of a busy one.
+fn told(rt: &impl Abort, plain: &Plain, taken: Taken) -> Option<(Status, u64, u32, u32, u64)> {
+    match taken {
+        Taken::Empty => None,
+        Taken::BusyFront => Some((Status::Busy, 0, 0, 0, 0)),
+        Taken::Skipped(pos, n) => Some((Status::Discarded, pos, n, 0, 0)),
+        Taken::Event(pos, worker, serial, bytes) => {
+            assert!(rt;
+                is_filled(bytes.bytes(), plain.byte_at(pos)),
+                "other bytes at {pos}"
+            );
+            Some((Status::Waiting, pos, bytes.len(), worker, serial))
+        }
+    }
+}
+
+impl Plain {
+    // What a take has to tell.
+    fn take(&mut self) -> Result<Option<(Status, u64, u32, u32, u64)>, AllocError> {
+        let front = consumer(self.start, &self.history);
+        let Some((n, worker, serial)) = record_at(&self.history, front) else {
+            return Ok(None);
+        };
+        let status = status_of(&self.history, front);
+        if status == Status::Busy {
+            return Ok(Some((Status::Busy, 0, 0, 0, 0)));
+        }
+        self.history.push(Entry::Take(front))?;
+        if status == Status::Discarded {
+            return Ok(Some((Status::Discarded, front, n, 0, 0)));
+        }
+        Ok(Some((status, front, n, worker, serial)))
+    }
+}
+
+fn takes(rt: &impl Abort, ring: &mut RingState, plain: &mut Plain)
     requires { ring.old.setup.workers ≡ 3 }
     ensures { ring.new.setup.workers ≡ 3 }
 {
-    let front = consumer(plain.start, &plain.history);
-    let there = record_at(&plain.history, front);
-    let status = status_of(&plain.history, front);
-    match (ring.take(), there, status) {
-        (Taken::Empty, None, _) => return Ok(()),
-        (Taken::BusyFront, Some(_), Status::Busy) => return Ok(()),
-        (Taken::Skipped(pos, n), Some((len, _, _)), Status::Discarded) => assert_eq!(rt;
-            (pos, n),
-            (front, len)
-        ),
-        (Taken::Event(pos, worker, serial, bytes), Some(numbers), Status::Waiting) => {
-            assert_eq!(rt; pos, front);
-            assert_eq!(rt; (bytes.len(), worker, serial), numbers);
-            assert!(rt;
-                is_filled(bytes.bytes(), plain.byte_at(front)),
-                "other bytes at {front}"
-            );
-        }
-        _ => assert!(rt; false, "take at {front}"),
-    }
-    plain.history.push(Entry::Take(front))?;
-    Ok(())
+    let answer = told(rt, plain, ring.take());
+    let wanted = plain.take().expect(rt, "memory");
+    assert_eq!(rt; answer, wanted);
 }
 
 fn agrees(rt: &impl Abort, ring: &RingState, plain: &Plain) {
@@ -265,18 +292,17 @@ fn one_command(
     ring: &mut RingState,
     plain: &mut Plain,
     held: &mut Vec<Reservation>,
-) -> Result<(), Fail>
+)
     requires { ring.old.setup.workers ≡ 3 }
     ensures { ring.new.setup.workers ≡ 3 }
 {
     match draw.below(7) {
-        0 | 1 => reserves(rt, alloc, draw, ring, plain, held)?,
-        2 => outputs(rt, alloc, draw, ring, plain)?,
-        3 | 4 => ends(rt, draw, ring, plain, held)?,
-        _ => takes(rt, ring, plain)?,
+        0 | 1 => reserves(rt, alloc, draw, ring, plain, held),
+        2 => outputs(rt, alloc, draw, ring, plain),
+        3 | 4 => ends(rt, draw, ring, plain, held),
+        _ => takes(rt, ring, plain),
     }
     agrees(rt, ring, plain);
-    Ok(())
 }
 
 fn one_ring(
@@ -286,10 +312,10 @@ fn one_ring(
     held: &mut Vec<Reservation>,
     size: u64,
     start: u64,
-) -> Result<(), Fail> {
+) {
     let mut ring = match RingState::new(alloc, size, start, WORKERS) {
         Ok(ring) => ring,
-        Err(_) => return Err(Fail::from("the ring is refused")),
+        Err(_) => rt.panic("the ring is refused"),
     };
     let mut plain = Plain {
         size,
@@ -298,21 +324,19 @@ fn one_ring(
         filled: Vec::new(alloc),
     };
     for _ in 0..100 {
-        one_command(rt, alloc, draw, &mut ring, &mut plain, held)?;
+        one_command(rt, alloc, draw, &mut ring, &mut plain, held);
     }
     assert_eq!(rt; ring.counts(), counts(&plain.history));
-    Ok(())
 }
 
 #[test]
-fn drawn_commands_agree(rt: HostRuntime) -> Result<(), Fail> {
+fn drawn_commands_agree(rt: HostRuntime) {
     let mut draw = Draw::new(2026);
     // Reservations of one ring are handed to the next one too, where most are stray.
     let mut held = Vec::new(rt.alloc());
     for ring in 0..100 {
         let size = if ring % 2 == 0 { 4096 } else { 8192 };
         let start = if ring % 3 == 0 { 4088 } else { 0 };
-        one_ring(&rt, rt.alloc(), &mut draw, &mut held, size, start)?;
+        one_ring(&rt, rt.alloc(), &mut draw, &mut held, size, start);
     }
-    Ok(())
 }

@@ -1,5 +1,5 @@
 use Rattle.std.proofs.Common.{◌≡◌}
-use Rattle.rb_ring_tests.proofs.ring.rows.places_are_used_again.Given as goal
+use Rattle.rb_ring_tests.proofs.ring.rows.give_up.Given as goal
 
 abbrev pub invariant-loop-reservation : goal.invariant-loop-reservation
 invariant-loop-reservation g l = l.ring.setup.workers ≡ 2
