@@ -15,4 +15,6 @@ mod ring;
 #[cfg(test)]
 mod sheets;
 #[cfg(test)]
+mod tape_reader;
+#[cfg(test)]
 mod tapes;
