@@ -17,4 +17,6 @@ mod ring;
 #[cfg(test)]
 mod sheets;
 #[cfg(test)]
+mod tape_reader;
+#[cfg(test)]
 mod tapes;
