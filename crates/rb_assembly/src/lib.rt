@@ -3,8 +3,8 @@
 //! `specs/Assembly.antt`, a line for each instruction.
 //!
 //! ```text
-//! let insn = Insn::Load { size: Size::Double, dst: Reg::R1, base: Reg::R6, offset: 8 };
-//! assert_eq!(rt; Assembly(insn).to_string(alloc)?.as_str(), "r1 = *(u64 *)(r6 + 8)");
+//! let insn = Insn::Call { helper: 131 };
+//! assert_eq!(rt; Assembly(insn).to_string(alloc)?.as_str(), "call 131");
 //! ```
 #![tactic(auto)]
 

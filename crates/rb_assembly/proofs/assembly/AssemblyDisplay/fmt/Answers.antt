@@ -1,5 +1,5 @@
 use Rattle.std.specs.Prelude.{codes}
-use Rattle.std.proofs.Common.{rules, ◌≡◌, ℕ, List, ◌∷◌, ◌++◌, ◌∙◌, ap, sym}
+use Rattle.std.proofs.Common.{rules, ◌≡◌, ℕ, ◌++◌, ◌∙◌, ap, sym}
 use Rattle.std.proofs.Output.{has_written_of_eq}
 use mathlib.Core.List.{append_assoc}
 use Rattle.rb_insn.specs.declared.reg.Reg.{Reg}
