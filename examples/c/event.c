@@ -1,0 +1,28 @@
+/* An event with a struct and a text: who opened which descriptor, and when. */
+#include "heskavo.h"
+
+struct context {
+    u64 time;
+    u32 process;
+    u32 descriptor;
+};
+
+struct event {
+    u64 time;
+    u32 process;
+    u32 descriptor;
+    char call[8];
+};
+
+u64 event(const struct context *ctx)
+{
+    struct event *event = bpf_ringbuf_reserve(RING(0), sizeof *event, 0);
+    if (!event)
+        return 1;
+    event->time = ctx->time;
+    event->process = ctx->process;
+    event->descriptor = ctx->descriptor;
+    __builtin_memcpy(event->call, "openat\0", sizeof event->call);
+    bpf_ringbuf_submit(event, 0);
+    return 0;
+}

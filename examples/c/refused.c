@@ -1,0 +1,31 @@
+/* What was refused: three blocks are written, and the result says how many the ring refused, and how many bytes wait in it. */
+#include "heskavo.h"
+
+struct context {
+    u64 batch;
+};
+
+struct block {
+    u64 batch;
+    u64 number;
+    u8 payload[1484];
+};
+
+static inline __attribute__((always_inline)) u64 refuses(u64 batch, u64 number)
+{
+    struct block *block = bpf_ringbuf_reserve(RING(0), sizeof *block, 0);
+    if (!block)
+        return 1;
+    block->batch = batch;
+    block->number = number;
+    bpf_ringbuf_submit(block, BPF_RB_NO_WAKEUP);
+    return 0;
+}
+
+u64 refused(const struct context *ctx)
+{
+    u64 refused = 0;
+    for (u64 number = 0; number < 3; number++)
+        refused += refuses(ctx->batch, number);
+    return refused << 32 | bpf_ringbuf_query(RING(0), BPF_RB_AVAIL_DATA);
+}

@@ -1,0 +1,27 @@
+/* Sampling: a latency is kept, but for each eighth measurement, which is discarded. */
+#include "heskavo.h"
+
+struct context {
+    u64 number;
+    u64 begin;
+    u64 end;
+};
+
+struct sample {
+    u64 number;
+    u64 latency;
+};
+
+u64 sampling(const struct context *ctx)
+{
+    struct sample *sample = bpf_ringbuf_reserve(RING(0), sizeof *sample, 0);
+    if (!sample)
+        return 1;
+    sample->number = ctx->number;
+    sample->latency = ctx->end - ctx->begin;
+    if (ctx->number % 8 == 7)
+        bpf_ringbuf_discard(sample, 0);
+    else
+        bpf_ringbuf_submit(sample, 0);
+    return 0;
+}

@@ -1,0 +1,28 @@
+/* Output from the stack: a metric is put together there and written in one call, whose answer is the program's. */
+#include "heskavo.h"
+
+struct context {
+    u32 count;
+    u32 errors;
+    u64 bytes;
+};
+
+struct metric {
+    u64 bytes;
+    u64 bytes_each;
+    u32 count;
+    u32 per_mille;
+};
+
+u64 stack_output(const struct context *ctx)
+{
+    struct metric metric = {
+        .bytes = ctx->bytes,
+        .count = ctx->count,
+    };
+    if (ctx->count) {
+        metric.bytes_each = ctx->bytes / ctx->count;
+        metric.per_mille = ctx->errors * 1000u / ctx->count;
+    }
+    return bpf_ringbuf_output(RING(0), &metric, sizeof metric, 0);
+}

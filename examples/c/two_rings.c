@@ -1,0 +1,39 @@
+/* Errors to a second ring: a call that failed is reported on ring 1 and wakes the reader, one that went well on ring 0. */
+#include "heskavo.h"
+
+struct context {
+    u64 call;
+    s64 result;
+};
+
+struct outcome {
+    u64 call;
+    u64 bytes;
+};
+
+struct failure {
+    u64 call;
+    u32 error;
+    u32 padding;
+};
+
+u64 two_rings(const struct context *ctx)
+{
+    if (ctx->result < 0) {
+        struct failure *failure = bpf_ringbuf_reserve(RING(1), sizeof *failure, 0);
+        if (!failure)
+            return 1;
+        failure->call = ctx->call;
+        failure->error = -ctx->result;
+        bpf_ringbuf_submit(failure, BPF_RB_FORCE_WAKEUP);
+        KEEP_APART();
+        return 0;
+    }
+    struct outcome *outcome = bpf_ringbuf_reserve(RING(0), sizeof *outcome, 0);
+    if (!outcome)
+        return 1;
+    outcome->call = ctx->call;
+    outcome->bytes = ctx->result;
+    bpf_ringbuf_submit(outcome, BPF_RB_NO_WAKEUP);
+    return 0;
+}
