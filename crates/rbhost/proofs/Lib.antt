@@ -3,6 +3,7 @@ mod Feeding
 mod Fresh
 mod Inputs
 mod PayloadReads
+mod Refusing
 mod RingPass
 mod Running
 mod Sending

@@ -1,24 +1,12 @@
 -- What the text of a program gives, once it is verified and run (own).
 use Rattle.std.specs.Prelude.{◌≡◌, ℕ, List, replicate}
 use Rattle.std.specs.List.{AllZip}
-use Rattle.rb_insn.specs.Spelling.{SpellsAll}
-use Rattle.rb_decode.specs.Text.{IsHexOf, without_white_space}
-use Rattle.rb_verifier.specs.Annotation.{HasValid}
-use Rattle.rb_verifier.specs.Subject.{Subject, limits_of}
+use Rattle.rb_verifier.specs.Subject.{Subject}
 use Rattle.rb_helpers.specs.declared.done.Done.{Done}
 use Rattle.rb_ledger.specs.Seats.{Shared, ConsumerSeatValue}
 use Rattle.rb_semantics.specs.ProgramRuns.{Returns}
 use Rattle.rb_interp.specs.RunTraces.{run_under}
-
--- the text is the program's bytes in hex, with white space anywhere, and the program has a valid annotation for a context of
--- this length and so many rings
-pub record IsAccepted (text : List ℕ) (ctx_len rings : ℕ) (subject : Subject) : Type 0 where
-  pub bytes : List ℕ
-  pub hex : IsHexOf (without_white_space text) bytes
-  pub spelled : SpellsAll subject.program bytes
-  pub context : subject.ctx_len ≡ ctx_len
-  pub known : subject.rings ≡ rings
-  pub valid : HasValid (limits_of subject) subject.program
+use Rattle.rbhost.specs.Acceptance.{IsAccepted}
 
 -- under some answers the run over a context of zeros returns this number
 abbrev pub EndsWith : Subject → ℕ → Type 0

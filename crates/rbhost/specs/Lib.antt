@@ -1,3 +1,5 @@
+pub mod Acceptance
+pub mod Printed
 pub mod Check
 pub mod Feed
 pub mod Input

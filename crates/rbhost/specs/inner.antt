@@ -1,2 +1,3 @@
 pub mod RunCommand
 pub mod FeedRuns
+pub mod MachineFaults

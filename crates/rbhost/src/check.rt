@@ -138,6 +138,7 @@ fn fresh_ring<T: Wait>(
     alloc: Global,
     tag: u64,
 ) -> Result<(SharedRing, Seat, ConsumerSeat), CheckFault>
+    ensures tag { IfOk result (λ f. f.0.tag ≡ tag) }
     ensures seat { IfOk result (λ f. IsAt f.0 f.1) }
     ensures consumer { IfOk result (λ f. f.2.ring ≡ f.0.ring) }
 {

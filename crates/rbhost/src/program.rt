@@ -1,7 +1,8 @@
 //! A verified program from its text.
 
-ghost use Rattle.std.specs.Prelude.{◌≡◌, ◌≤◌, IfOk, IfSome};
-ghost use Rattle.rbhost.specs.Check.{IsAccepted};
+ghost use Rattle.std.specs.Prelude.{◌≡◌, ◌≢◌, ◌≤◌, ◌↔◌, Err, IfErr, IfOk, IfSome, IsErr, IsUtf8};
+ghost use Rattle.rbhost.specs.Acceptance.{IsAccepted, IsRightFault, fault_of_text, fault_of_shape};
+ghost use Rattle.rbhost.specs.inner.MachineFaults.{IsMachineFault};
 
 use rb_cfg::{ShapeFault, ShapeFaultKind, shape};
 use rb_decode::{DecodeFault, DecodeKind, TextFault, from_text};
@@ -45,9 +46,12 @@ pub enum ProgramFault {
     Device,
 }
 
-/// The verified program of a text in hex, with ASCII white space anywhere.
+/// The verified program of a text in hex, with ASCII white space anywhere. A fault is the first one of the first layer that has one: the
+/// text, its bytes, the program's shape, its verification. Out of memory may come in place of any other answer.
 pub fn accept(alloc: Global, text: &str, bounds: Bounds) -> Result<Verified, ProgramFault>
     ensures accepted { IfOk result (IsAccepted text.now bounds.ctx_len bounds.rings) }
+    ensures refused { IfErr result (IsRightFault text.now bounds.ctx_len bounds.rings) }
+    ensures no_device { result ≢ Err ProgramFault.Device }
 {
     let program = match from_text(alloc, text) {
         Ok(program) => program,
@@ -70,6 +74,7 @@ pub fn accept(alloc: Global, text: &str, bounds: Bounds) -> Result<Verified, Pro
 /// All bytes of the input.
 pub fn read_all<R: Read>(alloc: Global, input: &mut R) -> Result<Vec<u8>, ProgramFault>
     ensures bytes { IfOk result (λ b. IfSome (R.remaining input.old) (λ unread. b.items ≡ unread)) }
+    ensures fault { IfErr result IsMachineFault }
 {
     let mut bytes = Vec::new(alloc);
     match input.read_to_end(&mut bytes) {
@@ -84,6 +89,8 @@ pub fn read_all<R: Read>(alloc: Global, input: &mut R) -> Result<Vec<u8>, Progra
 /// The bytes as text; `Text` where they are no UTF-8.
 pub fn text_of(bytes: &[u8]) -> Result<&str, ProgramFault>
     ensures text { IfOk result (λ text. text.now ≡ bytes.now) }
+    ensures only_utf8 { IsErr result ↔ ¬ IsUtf8 bytes.now }
+    ensures fault { IfErr result (λ fault. fault ≡ ProgramFault.Text) }
 {
     match str::from_utf8(bytes) {
         Ok(text) => Ok(text),
@@ -91,7 +98,10 @@ pub fn text_of(bytes: &[u8]) -> Result<&str, ProgramFault>
     }
 }
 
-fn text_fault(fault: TextFault) -> ProgramFault {
+// The fault of a text as one of a program.
+fn text_fault(fault: TextFault) -> ProgramFault
+    ensures { result ≡ fault_of_text fault }
+{
     match fault {
         TextFault::NotHex => ProgramFault::Text,
         TextFault::Memory => ProgramFault::Memory,
@@ -99,7 +109,10 @@ fn text_fault(fault: TextFault) -> ProgramFault {
     }
 }
 
-fn shape_fault(fault: ShapeFault) -> ProgramFault {
+// The fault of a shape as one of a program.
+fn shape_fault(fault: ShapeFault) -> ProgramFault
+    ensures { result ≡ fault_of_shape fault }
+{
     match fault.kind {
         ShapeFaultKind::Memory => ProgramFault::Memory,
         kind => ProgramFault::Shape {

@@ -1,7 +1,9 @@
 //! A line for each record of a ring.
 
+ghost use Rattle.std.specs.Prelude.{◌≡◌, IfOk, string_bytes};
 ghost use Rattle.rb_ledger.specs.Seats.{IsSameConsumerSeat};
 ghost use Rattle.rbhost.specs.Check.{AreConsumersOf, IsConsumerOf};
+ghost use Rattle.rbhost.specs.Printed.{hex_text};
 
 use crate::check::CheckFault;
 use crate::program::ProgramFault;
@@ -72,7 +74,9 @@ fn print_records<T: Wait, W: Write>(
 }
 
 // The bytes in hex; `-` where there are none.
-fn hex_of(alloc: Global, bytes: &[u8]) -> Result<String, AllocError> {
+fn hex_of(alloc: Global, bytes: &[u8]) -> Result<String, AllocError>
+    ensures { IfOk result (λ text. string_bytes text ≡ hex_text bytes.now) }
+{
     if bytes.is_empty() {
         return String::from_str(alloc, "-");
     }

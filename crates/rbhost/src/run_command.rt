@@ -3,8 +3,8 @@
 ghost use Rattle.std.specs.Prelude.{◌≡◌, ◌<◌, ◌^◌, ℕ, All, IfOk, IfSome, OnOk, length, vec_len};
 ghost use Rattle.rb_history.specs.RingModel.{IsRingSize, IsStartPosition, IsWorkerCount};
 ghost use Rattle.rb_verifier.specs.Subject.{Subject};
-ghost use Rattle.rbhost.specs.Check.{IsAccepted};
-ghost use Rattle.rbhost.specs.inner.RunCommand.{IsJobFor};
+ghost use Rattle.rbhost.specs.Acceptance.{IsAccepted};
+ghost use Rattle.rbhost.specs.inner.RunCommand.{IsJobFor, job_context};
 
 use crate::program::{Bounds, ProgramFault, accept, read_all, text_of};
 use byteorder::{ByteOrder, LittleEndian};
@@ -186,7 +186,9 @@ fn own_contexts(alloc: Global, worker: u32, jobs: u32) -> Result<Vec<[u8; CONTEX
 }
 
 // The worker's and the job's number, each in eight bytes, the lowest first.
-fn context_of(worker: u32, job: u32) -> [u8; CONTEXT] {
+fn context_of(worker: u32, job: u32) -> [u8; CONTEXT]
+    ensures { result ≡ job_context worker job }
+{
     let mut context = [0; CONTEXT];
     LittleEndian::write_u64(&mut context[..8], u64::from(worker));
     LittleEndian::write_u64(&mut context[8..], u64::from(job));
