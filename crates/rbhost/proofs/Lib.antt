@@ -8,3 +8,4 @@ mod RingPass
 mod Running
 mod Sending
 mod Sizes
+mod InputText

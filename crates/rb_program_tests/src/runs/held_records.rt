@@ -1,10 +1,9 @@
 //! Whole programs over helpers that tell what went over.
 
-use super::{CONTEXT, result_of, verified};
+use super::{CONTEXT, listed, result_of, verified};
 use crate::witness::Witness;
-use rb_helpers::{Done, Helpers, Listed};
+use rb_helpers::{Done, Helpers};
 use rb_interp::run;
-use std::test::Fail;
 
 /// Reserves four records of 8 bytes, writes 1, 2, 3 and 4 into each byte of their lower halves, submits the third, discards the first with
 /// flags 1, submits the fourth with flags 2 and the second. Where one is null it discards those that it holds.
@@ -29,13 +28,11 @@ const QUERY_THREE: &str =
     "b700000009000000 1851000000000000 0000000000000000 b702000003000000 8500000086000000 0700000005000000 9500000000000000";
 
 #[test]
-fn four_records_go_back_in_the_order_of_the_program(rt: HostRuntime) -> Result<(), Fail> {
-    let program = verified(rt.alloc(), FOUR_RECORDS)?;
-    let answers = vec![in rt.alloc(); true; 11]?;
-    let mut helpers = Witness::new(rt.alloc(), Listed::new(rt.alloc(), answers)?);
-    if program.calls() > helpers.room() {
-        return Err(Fail::from("no room"));
-    }
+fn four_records_go_back_in_the_order_of_the_program(rt: HostRuntime) {
+    let program = verified(&rt, rt.alloc(), FOUR_RECORDS);
+    let answers = listed(&rt, rt.alloc(), &[true; 11]);
+    let mut helpers = Witness::new(rt.alloc(), answers);
+    assert!(rt; program.calls() <= helpers.room(), "no room");
     assert_eq!(rt; run(&program, &CONTEXT, &mut helpers), Ok(0));
     assert_eq!(rt;
         helpers.bytes(),
@@ -60,11 +57,9 @@ fn four_records_go_back_in_the_order_of_the_program(rt: HostRuntime) -> Result<(
             taken: true
         })
     );
-    Ok(())
 }
 
 #[test]
-fn a_query_gives_a_program_its_number(rt: HostRuntime) -> Result<(), Fail> {
-    assert_eq!(rt; result_of(rt.alloc(), QUERY_THREE)?, 5);
-    Ok(())
+fn a_query_gives_a_program_its_number(rt: HostRuntime) {
+    assert_eq!(rt; result_of(&rt, rt.alloc(), QUERY_THREE), Ok(5));
 }
