@@ -16,10 +16,10 @@ use Rattle.rb_seats.specs.SeatCalls.{AtSeat, CallsSeats, OutputAnswered, RecordA
 use Rattle.rb_seats.specs.SeatLaws.{SeatsGoOn, SeatBegins}
 use Rattle.rb_seats.proofs.Lists.{zip_self, zip_through, zip_one}
 
-begins_itself : (s : WorkerSeat) → SeatBegins s s
+pub begins_itself : (s : WorkerSeat) → SeatBegins s s
 begins_itself s = begins_with_all s.seen
 
-begins_on : (x y z : WorkerSeat) → SeatBegins x y → SeatBegins y z → SeatBegins x z
+pub begins_on : (x y z : WorkerSeat) → SeatBegins x y → SeatBegins y z → SeatBegins x z
 begins_on x y z first second = begins_through x.seen y.seen z.seen first second
 
 -- ---- one seat

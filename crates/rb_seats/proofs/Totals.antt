@@ -17,13 +17,13 @@ use Rattle.rb_seats.proofs.Lists.{zip_self, zip_through, zip_one}
 
 -- ---- the seats are the same
 
-same_seat : (s : WorkerSeat) → IsSameSeat s s
+pub same_seat : (s : WorkerSeat) → IsSameSeat s s
 same_seat s = record { tag_same = refl; ring_same = refl; worker_same = refl }
 
 same_seats : (xs : List WorkerSeat) → AllZip IsSameSeat xs xs
 same_seats xs = zip_self IsSameSeat same_seat xs
 
-same_through : (x y z : WorkerSeat) → IsSameSeat x y → IsSameSeat y z → IsSameSeat x z
+pub same_through : (x y z : WorkerSeat) → IsSameSeat x y → IsSameSeat y z → IsSameSeat x z
 same_through x y z first second =
     record { tag_same = second.tag_same ∙ first.tag_same; ring_same = second.ring_same ∙ first.ring_same; worker_same = second.worker_same ∙ first.worker_same }
 

@@ -4,9 +4,12 @@ use Rattle.std.proofs.lemmas.Bool.{true≢false}
 use Rattle.std.proofs.lemmas.Bool.Decides.{leb_tells}
 use Rattle.std.specs.Prelude.{All, nat_lt, not}
 use Rattle.std.specs.List.{AllZip, count_by, list_any, sum_by}
-use Rattle.std.proofs.lemmas.List.Elements.{All-cons}
-use Rattle.rb_ledger.specs.Roles.{BeginsWith}
-use Rattle.rb_ledger.specs.Roles.Role.{Consumer}
+use Rattle.std.proofs.lemmas.List.Elements.{All-cons, AllZip-get_or}
+use Rattle.rb_ledger.specs.Headline.{Accounts}
+use Rattle.rb_ledger.specs.Roles.{Book, BeginsWith, book_of}
+use Rattle.rb_ledger.specs.Roles.Role.{Consumer, Worker as WorkerRole}
+use Rattle.rb_ledger.proofs.Beginnings.{begins_through, extended_begins}
+use Rattle.rb_seats.specs.SeatLaws.{SeatBegins}
 use Rattle.rb_ledger.specs.Seats.{WorkerSeat, IsSameSeat, IsSameConsumerSeat}
 use Rattle.rb_jobs.specs.declared.job.Job.{Job}
 use Rattle.rb_jobs.specs.declared.job.JobAnswer.{JobAnswer}
@@ -21,36 +24,45 @@ use Rattle.rb_workers.specs.Opened.{AreOpened, IsOpened, workers_of}
 use Rattle.rb_workers.specs.Reports.{AreRuns, RingsEnd, IsHandedBack, IsReport, RunsFirst, has_unknown_worker}
 use Rattle.rb_workers.specs.SeatRows.{seat_rows, worker_column}
 use Rattle.rb_workers.specs.inner.WorkerRuns.{HasRun}
+use Rattle.rb_workers.proofs.Lists.{zip_length}
 use Rattle.rb_workers.proofs.Same.{opened_long, list_head, list_tail}
-use Rattle.rb_workers.proofs.Takes.{begins_all}
 use Rattle.rb_workers.proofs.Totals.{report_of_runs}
 use Rattle.rb_workers.proofs.Parts.{all_first, all_rest}
 
 -- ---- rings
 
+-- what a history begins with, it begins with each beginning of that
+all_begin : (b : Book) (opened seats : List WorkerSeat) → AllZip SeatBegins opened seats → All (Accounts b) seats → All (λ s. BeginsWith b s.seen) opened
+all_begin b opened seats begins ties =
+    λ k d below.
+    let same = zip_length SeatBegins opened seats begins in
+    begins_through (get_or opened k d).seen (get_or seats k d).seen b (AllZip-get_or SeatBegins opened seats k d d begins below)
+    (extended_begins (WorkerRole (get_or seats k d).worker) (get_or seats k d).seen b (ties k d (omega (arith, same, below))).goes_on)
+
 -- each ring that was closed with what came back is one that was opened
 pub rings_end : {S : Type 0} (position : S → ℕ) (opened back : List (Opened S)) (ended : List (Ended S)) (count : ℕ) → All (IsOpened position count) back → map (λ o. o.ring) back ≡ map (λ o. o.ring) opened
     → AllZip (AllZip IsSameSeat) (seat_rows opened) (seat_rows back) → AllZip (λ o b. IsSameConsumerSeat o.consumer b.consumer) opened back → AllZip (λ o b. BeginsWith b.consumer.seen o.consumer.seen) opened back
-    → AllZip Closes back ended → RingsEnd position opened ended (seat_rows back)
-rings_end position [] [] [] count all rings seats consumers begins closes = tt
-rings_end position [] [] (e ∷ es) count all rings seats consumers begins closes = absurd closes
-rings_end position [] (b ∷ bs) ended count all rings seats consumers begins closes = absurd consumers
-rings_end position (o ∷ os) [] ended count all rings seats consumers begins closes = absurd consumers
-rings_end position (o ∷ os) (b ∷ bs) [] count all rings seats consumers begins closes = absurd closes
-rings_end position (o ∷ os) (b ∷ bs) (e ∷ es) count all rings seats consumers begins closes =
+    → AllZip (AllZip SeatBegins) (seat_rows opened) (seat_rows back) → AllZip Closes back ended → RingsEnd position opened ended (seat_rows back)
+rings_end position [] [] [] count all rings seats consumers begins seen closes = tt
+rings_end position [] [] (e ∷ es) count all rings seats consumers begins seen closes = absurd closes
+rings_end position [] (b ∷ bs) ended count all rings seats consumers begins seen closes = absurd consumers
+rings_end position (o ∷ os) [] ended count all rings seats consumers begins seen closes = absurd consumers
+rings_end position (o ∷ os) (b ∷ bs) [] count all rings seats consumers begins seen closes = absurd closes
+rings_end position (o ∷ os) (b ∷ bs) (e ∷ es) count all rings seats consumers begins seen closes =
     let is = all_first (IsOpened position count) (b ∷ bs) bs b refl all in
     let c = closes.0 in (
       record {
         consumer = b.consumer;
         which = c.which ∙ list_head b.ring o.ring (map (λ x. x.ring) bs) (map (λ x. x.ring) os) rings;
         closed = c.closed;
-        begins = begins_all Consumer _ _ _ c.closed.consumer_goes_on begins.0;
+        begins = begins_through _ _ _ begins.0 (extended_begins Consumer _ _ c.closed.consumer_goes_on);
+        seats_begin = all_begin (book_of e.closing.at_end) o.seats.items b.seats.items seen.0 c.closed.seats_tie;
         same_seats = seats.0;
         same_consumer = consumers.0;
         sink_follows = ap position c.same_sink ∙ (is.sink_follows ∙ c.closed.consumer_ties.position_is);
         tallies_are = c.tallies_are;
       },
-      rings_end position os bs es count (all_rest (IsOpened position count) (b ∷ bs) bs b refl all) (list_tail b.ring o.ring (map (λ x. x.ring) bs) (map (λ x. x.ring) os) rings) seats.1 consumers.1 begins.1 closes.1,
+      rings_end position os bs es count (all_rest (IsOpened position count) (b ∷ bs) bs b refl all) (list_tail b.ring o.ring (map (λ x. x.ring) bs) (map (λ x. x.ring) os) rings) seats.1 consumers.1 begins.1 seen.1 closes.1,
     )
 
 -- ---- workers
@@ -133,7 +145,7 @@ reported position opened back jobs answers report all handed len known ran close
     record {
       seats = seat_rows back;
       calls = told.calls;
-      rings_end = rings_end position opened back report.rings.items count again handed.rings_same handed.seats_same handed.consumers_same handed.consumers_begin closes;
+      rings_end = rings_end position opened back report.rings.items count again handed.rings_same handed.seats_same handed.consumers_same handed.consumers_begin handed.seats_begin closes;
       job_answers = answers;
       worked = ran;
       results_are = results;

@@ -6,6 +6,10 @@ use Rattle.std.proofs.lemmas.List.Elements.{AllZip-get_or, All-cons}
 use Rattle.rb_history.specs.RoomRule.{Setup}
 use Rattle.rb_ledger.specs.Roles.{BeginsWith}
 use Rattle.rb_ledger.specs.Seats.{Shared, WorkerSeat, IsSameSeat, IsSameConsumerSeat}
+use Rattle.rb_ledger.proofs.Beginnings.{begins_with_all}
+use Rattle.rb_seats.specs.SeatLaws.{SeatBegins}
+use Rattle.rb_seats.proofs.Lists.{zip_self}
+use Rattle.rb_seats.proofs.Beginnings.{begins_itself}
 use Rattle.rb_jobs.specs.declared.job.Job.{Job}
 use Rattle.rb_workers.specs.declared.opened.Opened.{Opened}
 use Rattle.rb_workers.specs.inner.ConsumerTasks.{IsConsumed}
@@ -16,8 +20,7 @@ use Rattle.rb_workers.specs.SeatRows.{seat_rows, worker_column}
 use Rattle.rb_workers.proofs.Lists.{zip_length}
 use Rattle.rb_workers.proofs.Numbered.{seats_length}
 use Rattle.rb_workers.proofs.Parts.{all_first, all_rest, rows_length}
-use Rattle.rb_workers.proofs.Takes.{begins_with_all}
-use Rattle.rb_workers.proofs.SameSeats.{same_seats, seats_same_of_runs, rows_of_columns}
+use Rattle.rb_workers.proofs.SameSeats.{same_seats, seats_same_of_runs, seats_begin_of_runs, rows_of_columns}
 
 pub long_rows : {S : Type 0} (count : ℕ) (opened : List (Opened S)) → All (λ o. length o.seats.items ≡ count) opened → All (λ row. length row ≡ count) (seat_rows opened)
 long_rows count [] all = λ k d below. absurd (omega arith)
@@ -100,6 +103,8 @@ handed_back {S} position opened back jobs all rings consumed long ran =
     record {
       rings_same = rings;
       seats_same = same;
+      seats_begin = rows_of_columns SeatBegins count (seat_rows opened) (seat_rows back) (opened_long position count opened all) (long_rows count back long) len
+          (λ k below. let r = ran k below in seats_begin_of_runs r.0 r.2 (worker_column k (seat_rows opened)) (worker_column k (seat_rows back)) r.4);
       consumers_same = takers_same position opened back consumed;
       consumers_begin = takers_begin position opened back consumed;
       runs_again = subst (λ n. All (IsOpened position n) back) (sym many) (all_again position count opened back all rings consumed same);
@@ -113,6 +118,7 @@ unchanged {S} position opened jobs all =
     record {
       rings_same = refl;
       seats_same = each (seat_rows opened);
+      seats_begin = zip_self (AllZip SeatBegins) (zip_self SeatBegins begins_itself) (seat_rows opened);
       consumers_same = consumers opened;
       consumers_begin = begins opened;
       runs_again = all;

@@ -1,9 +1,14 @@
 -- A worker's seats stay the same seats, whatever it ran; so do all rows, where all columns do.
-use Rattle.std.proofs.Common.{◌≡◌, ℕ, zero, suc, ◌<◌, List, [], ◌∷◌, length, refl, sym, ◌∙◌, subst, arith}
+use Rattle.std.proofs.Common.{◌≡◌, ℕ, zero, suc, ◌<◌, List, [], ◌∷◌, length, sym, subst, arith}
 use Rattle.std.proofs.lemmas.List.Elements.{All-head, All-tail}
 use Rattle.std.specs.Prelude.{slice_get}
 use Rattle.std.specs.List.{All, AllZip, cons_option}
 use Rattle.rb_ledger.specs.Seats.{WorkerSeat, IsSameSeat}
+use Rattle.rb_seats.specs.SeatLaws.{SeatBegins}
+use Rattle.rb_seats.proofs.Lists.{zip_self, zip_through}
+use Rattle.rb_seats.proofs.Totals.{same_seat, same_through}
+use Rattle.rb_seats.proofs.Beginnings.{begins_itself, begins_on, seats_go_on}
+use Rattle.rb_jobs.specs.Jobs.{JobRan, Task, task_of}
 use Rattle.rb_jobs.specs.declared.job.Job.{Job}
 use Rattle.rb_jobs.specs.declared.job.JobAnswer.{JobAnswer}
 use Rattle.rb_workers.specs.JobRuns.{RunsJobs}
@@ -11,29 +16,24 @@ use Rattle.rb_workers.specs.SeatRows.{worker_column}
 
 -- ---- a worker's seats
 
-same_seat : (s : WorkerSeat) → IsSameSeat s s
-same_seat s = record { tag_same = refl; ring_same = refl; worker_same = refl }
-
 pub same_seats : (xs : List WorkerSeat) → AllZip IsSameSeat xs xs
-same_seats [] = tt
-same_seats (x ∷ xs) = (same_seat x, same_seats xs)
+same_seats xs = zip_self IsSameSeat same_seat xs
 
-then_same : (xs ys zs : List WorkerSeat) → AllZip IsSameSeat xs ys → AllZip IsSameSeat ys zs → AllZip IsSameSeat xs zs
-then_same [] [] zs one two = two
-then_same [] (y ∷ ys) zs one two = absurd one
-then_same (x ∷ xs) [] zs one two = absurd one
-then_same (x ∷ xs) (y ∷ ys) [] one two = absurd two
-then_same (x ∷ xs) (y ∷ ys) (z ∷ zs) one two =
-    let f = one.0 in let g = two.0 in (
-      record { tag_same = g.tag_same ∙ f.tag_same; ring_same = g.ring_same ∙ f.ring_same; worker_same = g.worker_same ∙ f.worker_same },
-      then_same xs ys zs one.1 two.1,
-    )
+-- what every job keeps between its worker's seats before and after it, all jobs keep
+zip_of_runs : (R : WorkerSeat → WorkerSeat → Type 0) → ((s : WorkerSeat) → R s s) → ((x y z : WorkerSeat) → R x y → R y z → R x z)
+    → ((task : Task) (answer : JobAnswer) (old new : List WorkerSeat) → JobRan task answer old new → AllZip R old new)
+    → (jobs : List Job) (answers : List JobAnswer) (old new : List WorkerSeat) → RunsJobs jobs answers old new → AllZip R old new
+zip_of_runs R itself through one [] [] old new same = subst (AllZip R old) (sym same) (zip_self R itself old)
+zip_of_runs R itself through one [] (a ∷ rest) old new ran = absurd ran
+zip_of_runs R itself through one (j ∷ js) [] old new ran = absurd ran
+zip_of_runs R itself through one (j ∷ js) (a ∷ rest) old new ran =
+    zip_through R through old ran.0 new (one (task_of j) a old ran.0 ran.1) (zip_of_runs R itself through one js rest ran.0 new ran.2)
 
 pub seats_same_of_runs : (jobs : List Job) (answers : List JobAnswer) (old new : List WorkerSeat) → RunsJobs jobs answers old new → AllZip IsSameSeat old new
-seats_same_of_runs [] [] old new same = subst (AllZip IsSameSeat old) (sym same) (same_seats old)
-seats_same_of_runs [] (a ∷ rest) old new ran = absurd ran
-seats_same_of_runs (j ∷ js) [] old new ran = absurd ran
-seats_same_of_runs (j ∷ js) (a ∷ rest) old new ran = let did = ran.1 in then_same old ran.0 new did.same (seats_same_of_runs js rest ran.0 new ran.2)
+seats_same_of_runs = zip_of_runs IsSameSeat same_seat same_through (λ task answer old new did. did.same)
+
+pub seats_begin_of_runs : (jobs : List Job) (answers : List JobAnswer) (old new : List WorkerSeat) → RunsJobs jobs answers old new → AllZip SeatBegins old new
+seats_begin_of_runs = zip_of_runs SeatBegins begins_itself begins_on (λ task answer old new did. seats_go_on old new did.calls answer.unlogged did.led)
 
 -- ---- rows from columns
 

@@ -1,5 +1,5 @@
 -- What a run of jobs over rings gives (own).
-use Rattle.std.specs.Prelude.{◌≡◌, ℕ, ◌+◌, ◌<◌, ◌==◌, nat_lt, not, List, [], ◌∷◌, ◌++◌, Bool, cond, map, Result, Ok, Err, OnOk}
+use Rattle.std.specs.Prelude.{◌≡◌, All, ℕ, ◌+◌, ◌<◌, ◌==◌, nat_lt, not, List, [], ◌∷◌, ◌++◌, Bool, cond, map, Result, Ok, Err, OnOk}
 use Rattle.std.specs.List.{AllZip, count_by, list_any, sum_by}
 use Rattle.rb_helpers.specs.declared.done.Done.{Done}
 use Rattle.rb_helpers.specs.AnsweredCalls.{AnsweredCall, AllMayAnswer, notes_of}
@@ -10,6 +10,7 @@ use Rattle.rb_ledger.specs.Roles.{BeginsWith, book_of}
 use Rattle.rb_ledger.specs.Headline.{IsClosed}
 use Rattle.rb_ledger.specs.Seats.{WorkerSeat, ConsumerSeatValue, IsSameSeat, IsSameConsumerSeat}
 use Rattle.rb_seats.specs.declared.seat_record.SeatRecord.{SeatRecord}
+use Rattle.rb_seats.specs.SeatLaws.{SeatBegins}
 use Rattle.rb_seats.specs.SeatRecords.{record_bytes, with_record_bytes}
 use Rattle.rb_seats.specs.SeatHelpers.{makes, submits, discards, fails, call_total, made_in, refused_in, submitted_in, discarded_in}
 use Rattle.rb_jobs.specs.declared.job.Job.{Job}
@@ -42,11 +43,12 @@ IsRefusedFor fault (Err e) = e.0 ≡ fault
 abbrev pub RunsFirst : List Job → List WorkerSeat → List WorkerSeat → Type 0
 RunsFirst jobs old new = (done left : List Job) × (answers : List JobAnswer) × (jobs ≡ done ++ left) × RunsJobs done answers old new
 
--- all came back, each at its place, and may be run again: the same rings, seats and consumers; what each consumer sees begins with what it
--- had seen; and each worker ran the first of its own jobs
+-- all came back, each at its place, and may be run again: the same rings, seats and consumers; what each seat and each consumer sees begins
+-- with what it had seen; and each worker ran the first of its own jobs
 pub record IsHandedBack {S : Type 0} (position : S → ℕ) (opened : List (Opened S)) (jobs : List Job) (back : List (Opened S)) : Type 0 where
   pub rings_same : map (λ o. o.ring) back ≡ map (λ o. o.ring) opened
   pub seats_same : AllZip (AllZip IsSameSeat) (seat_rows opened) (seat_rows back)
+  pub seats_begin : AllZip (AllZip SeatBegins) (seat_rows opened) (seat_rows back)
   pub consumers_same : AllZip (λ o b. IsSameConsumerSeat o.consumer b.consumer) opened back
   pub consumers_begin : AllZip (λ o b. BeginsWith b.consumer.seen o.consumer.seen) opened back
   pub runs_again : AreOpened position back
@@ -56,13 +58,14 @@ pub record IsHandedBack {S : Type 0} (position : S → ℕ) (opened : List (Open
 -- ---- reports
 
 -- the ring that was opened was closed, with these seats and a consumer, which are those that were opened with it; its setup is the one that
--- the consumer had seen, and its history begins with that of then; the tallies are the seats'; and the sink's position is the consumer
+-- they had seen, and its history begins with what each of them had seen; the tallies are the seats'; and the sink's position is the consumer
 -- position of the closed ring
 pub record RingEnds {S : Type 0} (position : S → ℕ) (o : Opened S) (ended : Ended S) (seats : List WorkerSeat) : Type 0 where
   pub consumer : ConsumerSeatValue
   pub which : ended.closing.shared ≡ o.ring
   pub closed : IsClosed ended.closing.at_end seats consumer
   pub begins : BeginsWith (book_of ended.closing.at_end) o.consumer.seen
+  pub seats_begin : All (λ s. BeginsWith (book_of ended.closing.at_end) s.seen) o.seats.items
   pub same_seats : AllZip IsSameSeat o.seats.items seats
   pub same_consumer : IsSameConsumerSeat o.consumer consumer
   pub sink_follows : position ended.sink ≡ consumer_now ended.closing.at_end
