@@ -1,6 +1,6 @@
 //! Rings that are closed.
 
-ghost use Rattle.std.specs.Prelude.{◌≡◌, IfOk, All};
+ghost use Rattle.std.specs.Prelude.{◌≡◌, All};
 ghost use Rattle.rb_history.specs.Counting.{counts_of};
 ghost use Rattle.rb_ledger.specs.Seats.{HasSettledAll};
 
@@ -9,21 +9,20 @@ use rb_history::Entry;
 use rb_ledger::{Closing, ConsumerSeat, Seat, SharedRing, numbers_agree};
 use std::process::Abort;
 use std::sync::Wait;
-use std::test::Fail;
 
 #[test]
-fn a_ring_is_closed_with_all_seats_alone(rt: HostRuntime) -> Result<(), Fail> {
-    let (ring, mut zero, mut one, mut consumer) = two_seats(&rt, rt.alloc(), 5)?;
-    let _notice = output(&rt, rt.alloc(), &ring, &mut zero, 8, 1)?;
-    let _notice = output(&rt, rt.alloc(), &ring, &mut one, 8, 2)?;
+fn a_ring_is_closed_with_all_seats_alone(rt: HostRuntime) {
+    let (ring, mut zero, mut one, mut consumer) = two_seats(&rt, rt.alloc(), 5);
+    let _notice = output(&rt, rt.alloc(), &ring, &mut zero, 8, 1);
+    let _notice = output(&rt, rt.alloc(), &ring, &mut one, 8, 2);
     assert_eq!(rt;
-        taken(&rt, &ring, &mut consumer)?,
+        taken(&rt, &ring, &mut consumer),
         Found::Event(0, 0, 0, 8, 1)
     );
     let mut seats = Vec::new(rt.alloc());
-    seats.push(zero)?;
+    seats.push(zero).expect(&rt, "memory");
     let Err(back) = ring.close(&rt, seats, consumer) else {
-        return Err(Fail::from("closed without a seat"));
+        rt.panic("closed without a seat")
     };
     let (ring, mut seats, consumer) = (back.ring, back.seats, back.consumer);
     assert_eq!(rt;
@@ -34,9 +33,9 @@ fn a_ring_is_closed_with_all_seats_alone(rt: HostRuntime) -> Result<(), Fail> {
         (ring.tag(), consumer.consumed(), consumer.position()),
         (5, 1, 16)
     );
-    seats.push(one)?;
+    seats.push(one).expect(&rt, "memory");
     let Ok(closing) = ring.close(&rt, seats, consumer) else {
-        return Err(Fail::from("not closed with all seats"));
+        rt.panic("not closed with all seats")
     };
     let counts = closing.counts();
     assert_eq!(rt; (counts.made, counts.consumed, counts.discarded), (2, 1, 0));
@@ -53,34 +52,33 @@ fn a_ring_is_closed_with_all_seats_alone(rt: HostRuntime) -> Result<(), Fail> {
         Entry::Take(0),
     ];
     assert_eq!(rt; closing.history(), history.as_slice());
-    Ok(())
 }
 
 // Closes a ring with all its seats.
-fn closed<R: Wait>(
+fn closed<R: Wait + Abort>(
     rt: &R,
     ring: SharedRing,
     seats: Vec<Seat>,
     consumer: ConsumerSeat,
-) -> Result<Closing, Fail>
+) -> Closing
     requires seats { All (λ s. s.ring ≡ ring.ring) seats.items }
     requires consumer { consumer.ring ≡ ring.ring }
-    ensures none_busy { IfOk result (λ c. All HasSettledAll seats.items → (counts_of c.at_end.history).busy ≡ 0) }
+    ensures none_busy { All HasSettledAll seats.items → (counts_of result.at_end.history).busy ≡ 0 }
 {
     numbers_agree();
     match ring.close(rt, seats, consumer) {
-        Ok(closing) => Ok(closing),
-        Err(_) => Err(Fail::from("not closed")),
+        Ok(closing) => closing,
+        Err(_) => rt.panic("not closed"),
     }
 }
 
 #[test]
-fn seats_that_settled_all_leave_none_busy(rt: HostRuntime) -> Result<(), Fail> {
-    let (ring, mut zero, mut one, consumer) = two_seats(&rt, rt.alloc(), 6)?;
-    let _notice = output(&rt, rt.alloc(), &ring, &mut zero, 8, 1)?;
-    let first = reserved(&rt, rt.alloc(), &ring, &mut one, 24)?;
-    let second = reserved(&rt, rt.alloc(), &ring, &mut one, 8)?;
-    let _notice = submitted(&rt, &ring, &mut one, second, 0)?;
+fn seats_that_settled_all_leave_none_busy(rt: HostRuntime) {
+    let (ring, mut zero, mut one, consumer) = two_seats(&rt, rt.alloc(), 6);
+    let _notice = output(&rt, rt.alloc(), &ring, &mut zero, 8, 1);
+    let first = reserved(&rt, rt.alloc(), &ring, &mut one, 24);
+    let second = reserved(&rt, rt.alloc(), &ring, &mut one, 8);
+    let _notice = submitted(&rt, &ring, &mut one, second, 0);
     assert!(rt; ring.discard(&rt, &mut one, first, 0).is_ok());
     assert_eq!(rt;
         (zero.made(), zero.submitted(), zero.discarded()),
@@ -88,29 +86,27 @@ fn seats_that_settled_all_leave_none_busy(rt: HostRuntime) -> Result<(), Fail> {
     );
     assert_eq!(rt; (one.made(), one.submitted(), one.discarded()), (2, 1, 1));
     let mut seats = Vec::new(rt.alloc());
-    seats.push(zero)?;
-    seats.push(one)?;
-    let counts = closed(&rt, ring, seats, consumer)?.counts();
+    seats.push(zero).expect(&rt, "memory");
+    seats.push(one).expect(&rt, "memory");
+    let counts = closed(&rt, ring, seats, consumer).counts();
     assert_eq!(rt; (counts.made, counts.busy), (3, 0));
     assert_eq!(rt;
         (counts.waiting, counts.consumed, counts.discarded),
         (2, 0, 1)
     );
-    Ok(())
 }
 
 #[test]
-fn a_ring_is_not_closed_with_a_foreign_seat(rt: HostRuntime) -> Result<(), Fail> {
-    let (_home, seat, _home_consumer) = one_seat(&rt, rt.alloc(), 1)?;
-    let (ring, _own, consumer) = one_seat(&rt, rt.alloc(), 2)?;
+fn a_ring_is_not_closed_with_a_foreign_seat(rt: HostRuntime) {
+    let (_home, seat, _home_consumer) = one_seat(&rt, rt.alloc(), 1);
+    let (ring, _own, consumer) = one_seat(&rt, rt.alloc(), 2);
     let mut seats = Vec::new(rt.alloc());
-    seats.push(seat)?;
+    seats.push(seat).expect(&rt, "memory");
     let Err(back) = ring.close(&rt, seats, consumer) else {
-        return Err(Fail::from("closed with a foreign seat"));
+        rt.panic("closed with a foreign seat")
     };
     assert_eq!(rt;
         (back.ring.tag(), back.seats.len(), back.consumer.tag()),
         (2, 1, 2)
     );
-    Ok(())
 }

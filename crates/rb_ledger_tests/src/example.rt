@@ -2,27 +2,26 @@
 
 use rb_ledger::{Taken, open};
 use rb_lend::{Lent, Sheet};
-use std::test::Fail;
+use std::process::Abort;
 
 #[test]
-fn a_worker_sends_and_the_consumer_takes(rt: HostRuntime) -> Result<(), Fail> {
+fn a_worker_sends_and_the_consumer_takes(rt: HostRuntime) {
     let Ok((ring, mut seats, mut consumer)) = open(&rt, rt.alloc(), 7, 4096, 0, 2) else {
-        return Err(Fail::from("no ring"));
+        rt.panic("no ring")
     };
     let (Some(mut seat), Ok(sheet)) = (seats.pop(), Sheet::new(rt.alloc(), 5)) else {
-        return Err(Fail::from("no seat or no sheet"));
+        rt.panic("no seat or no sheet")
     };
     let Ok(mut record) = ring.reserve(&rt, &mut seat, 5, sheet) else {
-        return Err(Fail::from("not granted"));
+        rt.panic("not granted")
     };
     record.bytes_mut().copy_from_slice(b"hello");
     if ring.submit(&rt, &mut seat, record, 0).is_err() {
-        return Err(Fail::from("a stray submit"));
+        rt.panic("a stray submit")
     }
     let Ok(Taken::Event(position, worker, serial, sheet)) = ring.take(&rt, &mut consumer) else {
-        return Err(Fail::from("no event"));
+        rt.panic("no event")
     };
     assert_eq!(rt; (position, worker, serial), (0, 1, 0));
     assert_eq!(rt; sheet.bytes(), b"hello".as_slice());
-    Ok(())
 }

@@ -9,7 +9,6 @@ use rb_lend::{Lent, Sheet};
 use std::alloc::Global;
 use std::process::Abort;
 use std::sync::Wait;
-use std::test::Fail;
 use std::thread;
 use std::thread::{Threads, join_mut};
 
@@ -143,10 +142,10 @@ fn sends<T: Send>(_x: &T) -> bool {
 }
 
 #[test]
-fn four_producers_and_a_consumer(rt: HostRuntime) -> Result<(), Fail> {
+fn four_producers_and_a_consumer(rt: HostRuntime) {
     let alloc = rt.alloc();
     let Ok((ring, mut seats, mut consumer)) = open(&rt, alloc, 3, 4096, 0, 4) else {
-        return Err(Fail::from("no ring"));
+        rt.panic("no ring")
     };
     assert!(rt; syncs(&ring) && sends(&seats) && sends(&consumer));
     let mut sums = Sums {
@@ -171,7 +170,7 @@ fn four_producers_and_a_consumer(rt: HostRuntime) -> Result<(), Fail> {
     assert_eq!(rt; (consumer.consumed(), consumer.skipped()), (40_000, 0));
     assert_eq!(rt; consumer.position(), 640_000);
     let Ok(closing) = ring.close(&rt, seats, consumer) else {
-        return Err(Fail::from("not closed"));
+        rt.panic("not closed")
     };
     assert!(rt; sends(&closing));
     let counts = closing.counts();
@@ -181,5 +180,4 @@ fn four_producers_and_a_consumer(rt: HostRuntime) -> Result<(), Fail> {
         (closing.producer(), closing.consumer()),
         (640_000, 640_000)
     );
-    Ok(())
 }

@@ -1,12 +1,11 @@
 //! Programs and faults that were worked out by hand, from the tables of RFC 9669 and the lists of what is left out.
 
 use rb_decode::{
-    DecodeFault, DecodeKind, MAX_UNITS, TextFault, decode, decoding_laws, encode, from_text,
+    DecodeFault, DecodeKind, MAX_UNITS, Program, TextFault, decode, decoding_laws, encode, from_text,
 };
 use rb_insn::{Condition, Extend64, Insn, Operand, Reg, Size, Width};
 use std::alloc::Global;
 use std::process::Abort;
-use std::test::Fail;
 
 /// Exits with 0.
 const EXIT_ZERO: &str = "b700000000000000 9500000000000000";
@@ -33,19 +32,36 @@ const EXIT_AFTER_RESERVE: &str = "1851000000000000 0000000000000000 b70200000800
 const SIZE_FROM_CONTEXT: &str = "7912000000000000 1851000000000000 0000000000000000 \
     b703000000000000 8500000083000000 9500000000000000";
 
-fn bytes_of(alloc: Global, text: &str) -> Result<Vec<u8>, Fail> {
+fn bytes_of(rt: &impl Abort, alloc: Global, text: &str) -> Vec<u8> {
     let digits: Vec<u8> = text
         .as_bytes()
         .iter()
         .copied()
         .filter(|byte| *byte != b' ')
-        .collect(alloc)?;
-    Ok(hex::decode(alloc, digits.as_slice())?)
+        .collect(alloc)
+        .expect(rt, "memory");
+    hex::decode(alloc, digits.as_slice()).expect(rt, "hex")
+}
+
+fn program_of(rt: &impl Abort, alloc: Global, text: &str) -> Program {
+    from_text(alloc, text).expect(rt, text)
+}
+
+/// The bytes of the program that a text spells.
+fn spelled(rt: &impl Abort, alloc: Global, text: &str) -> Vec<u8> {
+    encode(alloc, &program_of(rt, alloc, text)).expect(rt, "memory")
+}
+
+/// The units of a program's bytes, and the bytes that it is encoded to.
+fn decoded(rt: &impl Abort, alloc: Global, bytes: &[u8]) -> (u32, Vec<u8>) {
+    let program = decode(alloc, bytes).expect(rt, "a program");
+    program.facts();
+    (program.units(), encode(alloc, &program).expect(rt, "memory"))
 }
 
 #[test]
-fn programs_and_back(rt: HostRuntime) -> Result<(), Fail> {
-    let rows = [
+fn programs_and_back(rt: HostRuntime) {
+    const ROWS: [(&str, u32); 6] = [
         (EXIT_ZERO, 2),
         (SUBMIT_42, 12),
         (KEEP_RECORD, 9),
@@ -53,29 +69,18 @@ fn programs_and_back(rt: HostRuntime) -> Result<(), Fail> {
         (EXIT_AFTER_RESERVE, 6),
         (SIZE_FROM_CONTEXT, 6),
     ];
-    for (text, units) in rows {
-        let bytes = bytes_of(rt.alloc(), text)?;
-        let program = decode(rt.alloc(), &bytes)?;
-        program.facts();
-        assert_eq!(rt; program.units(), units, "{text}");
-        assert_eq!(rt;
-            encode(rt.alloc(), &program)?.as_slice(),
-            bytes.as_slice(),
-            "{text}"
-        );
-        let read = from_text(rt.alloc(), text)?;
-        assert_eq!(rt;
-            encode(rt.alloc(), &read)?.as_slice(),
-            bytes.as_slice(),
-            "{text}"
-        );
+    for (text, units) in ROWS {
+        let bytes = bytes_of(&rt, rt.alloc(), text);
+        let (count, encoded) = decoded(&rt, rt.alloc(), &bytes);
+        assert_eq!(rt; count, units, "{text}");
+        assert_eq!(rt; encoded.as_slice(), bytes.as_slice(), "{text}");
+        assert_eq!(rt; spelled(&rt, rt.alloc(), text).as_slice(), bytes.as_slice(), "{text}");
     }
-    Ok(())
 }
 
 #[test]
-fn instructions_of_submit_42(rt: HostRuntime) -> Result<(), Fail> {
-    let program = from_text(rt.alloc(), SUBMIT_42)?;
+fn instructions_of_submit_42(rt: HostRuntime) {
+    let program = program_of(&rt, rt.alloc(), SUBMIT_42);
     let mov = |dst: Reg, value: i32| Insn::Move {
         width: Width::W64,
         dst,
@@ -119,29 +124,31 @@ fn instructions_of_submit_42(rt: HostRuntime) -> Result<(), Fail> {
         assert_eq!(rt; program.at(unit).copied(), row, "unit {unit}");
         unit = unit.saturating_add(1);
     }
-    Ok(())
 }
 
-fn refuses(rt: &impl Abort, alloc: Global, rows: &[(&str, u32, DecodeKind)]) -> Result<(), Fail> {
+/// The faults of the bytes that a text spells, and of the text.
+fn faults_of(rt: &impl Abort, alloc: Global, text: &str) -> (Option<DecodeFault>, Option<TextFault>) {
+    let bytes = bytes_of(rt, alloc, text);
+    (decode(alloc, &bytes).err(), from_text(alloc, text).err())
+}
+
+fn expect_faults(rt: &impl Abort, alloc: Global, rows: &[(&str, u32, DecodeKind)]) {
     for (text, unit, kind) in rows {
-        let bytes = bytes_of(alloc, text)?;
         let fault = DecodeFault {
             unit: *unit,
             kind: *kind,
         };
-        assert_eq!(rt; decode(alloc, &bytes).err(), Some(fault), "{text}");
         assert_eq!(rt;
-            from_text(alloc, text).err(),
-            Some(TextFault::Decode(fault)),
+            faults_of(rt, alloc, text),
+            (Some(fault), Some(TextFault::Decode(fault))),
             "{text}"
         );
     }
-    Ok(())
 }
 
 #[test]
-fn faults_of_one_unit(rt: HostRuntime) -> Result<(), Fail> {
-    let rows = [
+fn faults_of_one_unit(rt: HostRuntime) {
+    const ROWS: [(&str, u32, DecodeKind); 28] = [
         ("bf21040000000000", 0, DecodeKind::UnusedField),
         ("b70b000000000000", 0, DecodeKind::BadRegister),
         ("b710000000000000", 0, DecodeKind::UnusedField),
@@ -171,12 +178,12 @@ fn faults_of_one_unit(rt: HostRuntime) -> Result<(), Fail> {
         ("720b000000000000", 0, DecodeKind::BadRegister),
         ("7a10000000000000", 0, DecodeKind::UnusedField),
     ];
-    refuses(&rt, rt.alloc(), &rows)
+    expect_faults(&rt, rt.alloc(), &ROWS);
 }
 
 #[test]
-fn faults_of_more_units(rt: HostRuntime) -> Result<(), Fail> {
-    let rows = [
+fn faults_of_more_units(rt: HostRuntime) {
+    const ROWS: [(&str, u32, DecodeKind); 11] = [
         (
             "1850000000000000 0000000001000000",
             0,
@@ -209,13 +216,13 @@ fn faults_of_more_units(rt: HostRuntime) -> Result<(), Fail> {
         ("000000000000000000000000", 0, DecodeKind::Length),
         ("95000000000000", 0, DecodeKind::Length),
     ];
-    refuses(&rt, rt.alloc(), &rows)
+    expect_faults(&rt, rt.alloc(), &ROWS);
 }
 
 #[test]
-fn sign_extending_move(rt: HostRuntime) -> Result<(), Fail> {
+fn sign_extending_move(rt: HostRuntime) {
     decoding_laws();
-    let program = from_text(rt.alloc(), "bf21080000000000")?;
+    let program = program_of(&rt, rt.alloc(), "bf21080000000000");
     let insn = Insn::MoveExtended64 {
         from: Extend64::From8,
         dst: Reg::R1,
@@ -226,81 +233,97 @@ fn sign_extending_move(rt: HostRuntime) -> Result<(), Fail> {
         assert_eq!(rt; *program.fetch(0), insn);
     }
     assert_eq!(rt; program.units(), 1);
-    Ok(())
+}
+
+/// How many opcodes, each with seven zero bytes, are answered so.
+fn opcodes_answered(alloc: Global, kind: Option<DecodeKind>) -> u32 {
+    let mut count = 0u32;
+    for opcode in 0..=255u8 {
+        let answer = match decode(alloc, &[opcode, 0, 0, 0, 0, 0, 0, 0]) {
+            Ok(_) => None,
+            Err(fault) => Some(fault.kind),
+        };
+        if answer == kind {
+            count = count.saturating_add(1);
+        }
+    }
+    count
 }
 
 #[test]
-fn each_opcode_alone(rt: HostRuntime) -> Result<(), Fail> {
-    let mut answers = Vec::new(rt.alloc());
-    for opcode in 0..=255u8 {
-        let answer = decode(rt.alloc(), &[opcode, 0, 0, 0, 0, 0, 0, 0]);
-        answers.push(answer.err().map(|fault| fault.kind))?;
-    }
-    let rows = [
+fn each_opcode_alone(rt: HostRuntime) {
+    const ROWS: [(Option<DecodeKind>, u32); 4] = [
         (None, 113),
         (Some(DecodeKind::BadOpcode), 133),
         (Some(DecodeKind::LeftOut), 9),
         (Some(DecodeKind::HalfWide), 1),
     ];
-    for (answer, count) in rows {
-        assert_eq!(rt;
-            answers.iter().filter(|other| **other == answer).count(),
-            count,
-            "{answer:?}"
-        );
+    for (kind, count) in ROWS {
+        assert_eq!(rt; opcodes_answered(rt.alloc(), kind), count, "{kind:?}");
     }
-    Ok(())
+}
+
+/// Bytes of so many units of EXIT, and then some more.
+fn exits(rt: &impl Abort, alloc: Global, units: u32, more: &[u8]) -> Vec<u8> {
+    let mut bytes = Vec::new(alloc);
+    for _ in 0..units {
+        bytes
+            .extend_from_slice(&[0x95, 0, 0, 0, 0, 0, 0, 0])
+            .expect(rt, "memory");
+    }
+    bytes.extend_from_slice(more).expect(rt, "memory");
+    bytes
 }
 
 #[test]
-fn greatest_length(rt: HostRuntime) -> Result<(), Fail> {
-    let exit = [0x95, 0, 0, 0, 0, 0, 0, 0];
-    let mut bytes = Vec::new(rt.alloc());
-    for _ in 0..MAX_UNITS {
-        bytes.extend_from_slice(&exit)?;
-    }
-    let program = decode(rt.alloc(), &bytes)?;
+fn greatest_length(rt: HostRuntime) {
+    let bytes = exits(&rt, rt.alloc(), MAX_UNITS, &[]);
+    let program = decode(rt.alloc(), &bytes).expect(&rt, "a program");
     assert_eq!(rt; program.units(), 4096);
     assert_eq!(rt; program.at(4095).copied(), Some(Insn::Exit));
     assert_eq!(rt; program.at(4096), None);
-    bytes.extend_from_slice(&exit)?;
-    let fault = DecodeFault {
-        unit: 4096,
-        kind: DecodeKind::TooLong,
-    };
-    assert_eq!(rt; decode(rt.alloc(), &bytes).err(), Some(fault));
-    bytes.push(0)?;
-    let fault = DecodeFault {
-        unit: 0,
-        kind: DecodeKind::Length,
-    };
-    assert_eq!(rt; decode(rt.alloc(), &bytes).err(), Some(fault));
-    Ok(())
 }
 
 #[test]
-fn text(rt: HostRuntime) -> Result<(), Fail> {
-    let exit = [0x95, 0, 0, 0, 0, 0, 0, 0];
-    let rows = [
+fn one_unit_too_many(rt: HostRuntime) {
+    const ROWS: [(&[u8], u32, DecodeKind); 2] = [
+        (&[0x95, 0, 0, 0, 0, 0, 0, 0], 4096, DecodeKind::TooLong),
+        (&[0x95, 0, 0, 0, 0, 0, 0, 0, 0], 0, DecodeKind::Length),
+    ];
+    for (more, unit, kind) in ROWS {
+        let bytes = exits(&rt, rt.alloc(), MAX_UNITS, more);
+        let fault = DecodeFault { unit, kind };
+        assert_eq!(rt; decode(rt.alloc(), &bytes).err(), Some(fault), "{kind:?}");
+    }
+}
+
+#[test]
+fn text_with_white_space(rt: HostRuntime) {
+    const ROWS: [&str; 3] = [
         "9500000000000000",
         " 9\t5\n0\x0c0\r 000000 00 0000\n",
         "9500 0000 0000 0000 ",
     ];
-    for row in rows {
-        let program = from_text(rt.alloc(), row)?;
+    for text in ROWS {
         assert_eq!(rt;
-            encode(rt.alloc(), &program)?.as_slice(),
-            exit.as_slice(),
-            "{row:?}"
+            spelled(&rt, rt.alloc(), text).as_slice(),
+            [0x95, 0, 0, 0, 0, 0, 0, 0].as_slice(),
+            "{text:?}"
         );
     }
-    let upper = from_text(rt.alloc(), "B7020000fFFFFfff")?;
-    let lower = from_text(rt.alloc(), "b7020000ffffffff")?;
+}
+
+#[test]
+fn text_in_either_case(rt: HostRuntime) {
     assert_eq!(rt;
-        encode(rt.alloc(), &upper)?.as_slice(),
-        encode(rt.alloc(), &lower)?.as_slice()
+        spelled(&rt, rt.alloc(), "B7020000fFFFFfff").as_slice(),
+        spelled(&rt, rt.alloc(), "b7020000ffffffff").as_slice()
     );
-    let rows = [
+}
+
+#[test]
+fn text_that_is_no_hex(rt: HostRuntime) {
+    const ROWS: [&str; 6] = [
         "9",
         "950",
         "9500000000000g00",
@@ -308,12 +331,11 @@ fn text(rt: HostRuntime) -> Result<(), Fail> {
         "0x95",
         "\u{e9}9",
     ];
-    for row in rows {
+    for text in ROWS {
         assert_eq!(rt;
-            from_text(rt.alloc(), row).err(),
+            from_text(rt.alloc(), text).err(),
             Some(TextFault::NotHex),
-            "{row:?}"
+            "{text:?}"
         );
     }
-    Ok(())
 }

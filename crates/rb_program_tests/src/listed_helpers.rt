@@ -2,7 +2,8 @@ ghost use Rattle.std.specs.Prelude.{◌≡◌, ◌≤◌, true};
 
 use rb_helpers::{DISCARD, Done, EAGAIN, Helpers, Listed, OUTPUT, QUERY, RESERVE, SUBMIT};
 use rb_lend::{Lent, Sheet};
-use std::test::Fail;
+use std::alloc::Global;
+use std::process::Abort;
 
 /// Reserves a record, fills it and submits it, over any helpers.
 fn submit_filled<H: Helpers>(helpers: &mut H, ring: u32, n: u32, value: u8) -> bool
@@ -16,9 +17,17 @@ fn submit_filled<H: Helpers>(helpers: &mut H, ring: u32, n: u32, value: u8) -> b
     helpers.submit(owned, 0).is_ok()
 }
 
+/// Helpers that answer so, in this order.
+fn listed(rt: &impl Abort, alloc: Global, answers: &[bool]) -> Listed
+    ensures { result.left ≡ answers.now }
+{
+    let answers = answers.to_vec(alloc).expect(rt, "memory");
+    Listed::new(alloc, answers).expect(rt, "memory")
+}
+
 #[test]
-fn the_answers_of_the_list_come_one_a_call(rt: HostRuntime) -> Result<(), Fail> {
-    let mut helpers = Listed::new(rt.alloc(), vec![in rt.alloc(); true, true, false]?)?;
+fn the_answers_of_the_list_come_one_a_call(rt: HostRuntime) {
+    let mut helpers = listed(&rt, rt.alloc(), &[true, true, false]);
     assert_eq!(rt; helpers.room(), 3);
     assert!(rt; submit_filled(&mut helpers, 7, 8, 42));
     assert_eq!(rt; helpers.room(), 1);
@@ -48,33 +57,22 @@ fn the_answers_of_the_list_come_one_a_call(rt: HostRuntime) -> Result<(), Fail> 
             ]
         )
     );
-    Ok(())
 }
 
 #[test]
-fn a_granted_record_is_zero_bytes(rt: HostRuntime) -> Result<(), Fail> {
-    let mut helpers = Listed::new(rt.alloc(), vec![in rt.alloc(); true]?)?;
-    assert!(rt; helpers.room() == 1);
-    match helpers.reserve(3, 4, 9) {
-        Some(owned) => assert_eq!(rt; owned.bytes(), [0, 0, 0, 0].as_slice()),
-        None => return Err(Fail::from("null")),
-    }
-    Ok(())
+fn a_granted_record_is_zero_bytes(rt: HostRuntime) {
+    let mut helpers = listed(&rt, rt.alloc(), &[true]);
+    let owned = helpers.reserve(3, 4, 9).expect(&rt, "a record");
+    assert_eq!(rt; owned.bytes(), [0, 0, 0, 0].as_slice());
 }
 
 #[test]
-fn false_hands_the_record_back(rt: HostRuntime) -> Result<(), Fail> {
-    let mut helpers = Listed::new(rt.alloc(), vec![in rt.alloc(); false, false, true]?)?;
-    assert!(rt; helpers.room() == 3);
-    let Err(back) = helpers.submit(Sheet::new(rt.alloc(), 2)?, 0) else {
-        return Err(Fail::from("submitted"));
-    };
-    assert!(rt; helpers.room() == 2);
-    let Err(back) = helpers.discard(back, 1) else {
-        return Err(Fail::from("discarded"));
-    };
-    assert_eq!(rt; back.len(), 2);
-    assert!(rt; helpers.room() == 1);
+fn false_hands_the_record_back(rt: HostRuntime) {
+    let mut helpers = listed(&rt, rt.alloc(), &[false, false, true]);
+    let owned = Sheet::new(rt.alloc(), 2).expect(&rt, "memory");
+    let back = helpers.submit(owned, 0).expect_err(&rt, "handed back");
+    let back = helpers.discard(back, 1).expect_err(&rt, "handed back");
+    assert_eq!(rt; (back.len(), helpers.room()), (2, 1));
     assert!(rt; helpers.discard(back, 2).is_ok());
     assert!(rt;
         matches!(
@@ -95,21 +93,14 @@ fn false_hands_the_record_back(rt: HostRuntime) -> Result<(), Fail> {
             ]
         )
     );
-    Ok(())
 }
 
 #[test]
-fn outputs_and_queries_are_answered(rt: HostRuntime) -> Result<(), Fail> {
-    let mut helpers = Listed::new(rt.alloc(), vec![in rt.alloc(); true, false, true]?)?;
-    assert!(rt; helpers.room() == 3);
-    let first = helpers.output(1, [5, 6].as_slice(), 0);
-    assert!(rt; helpers.room() == 2);
-    let second = helpers.output(2, [].as_slice(), 4);
-    assert!(rt; helpers.room() == 1);
-    let third = helpers.query(3, 1);
-    assert_eq!(rt; first, 0);
-    assert_eq!(rt; second, -EAGAIN);
-    assert_eq!(rt; third, 0);
+fn outputs_and_queries_are_answered(rt: HostRuntime) {
+    let mut helpers = listed(&rt, rt.alloc(), &[true, false, true]);
+    assert_eq!(rt; helpers.output(1, [5, 6].as_slice(), 0), 0);
+    assert_eq!(rt; helpers.output(2, [].as_slice(), 4), -EAGAIN);
+    assert_eq!(rt; helpers.query(3, 1), 0);
     assert!(rt;
         matches!(
             helpers.trace(),
@@ -134,14 +125,12 @@ fn outputs_and_queries_are_answered(rt: HostRuntime) -> Result<(), Fail> {
             ]
         )
     );
-    Ok(())
 }
 
 #[test]
-fn the_numbers_are_the_kernels(rt: HostRuntime) -> Result<(), Fail> {
+fn the_numbers_are_the_kernels(rt: HostRuntime) {
     assert_eq!(rt;
         [OUTPUT, RESERVE, SUBMIT, DISCARD, QUERY],
         [130, 131, 132, 133, 134]
     );
-    Ok(())
 }

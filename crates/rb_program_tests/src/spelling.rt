@@ -6,7 +6,6 @@ use rb_insn::{
     BinaryOp, ByteOrder, DivisionOp, Extend32, Extend64, Insn, Operand, Reg, Signedness, SwapWidth,
     Width, spelling_laws,
 };
-use std::test::Fail;
 
 /// A zero byte in front of what is written would show, and so would a byte too many.
 const FILL: u8 = 0xaa;
@@ -31,7 +30,7 @@ fn imm(value: i32) -> Operand {
 }
 
 #[test]
-fn arithmetic(rt: HostRuntime) -> Result<(), Fail> {
+fn arithmetic(rt: HostRuntime) {
     let rows = [
         (
             BinaryOp::Add,
@@ -112,11 +111,10 @@ fn arithmetic(rt: HostRuntime) -> Result<(), Fail> {
             &bytes,
         );
     }
-    Ok(())
 }
 
 #[test]
-fn divisions(rt: HostRuntime) -> Result<(), Fail> {
+fn divisions(rt: HostRuntime) {
     let rows = [
         (
             DivisionOp::Div,
@@ -167,11 +165,10 @@ fn divisions(rt: HostRuntime) -> Result<(), Fail> {
             &bytes,
         );
     }
-    Ok(())
 }
 
 #[test]
-fn moves(rt: HostRuntime) -> Result<(), Fail> {
+fn moves(rt: HostRuntime) {
     let rows = [
         (
             Insn::Negate {
@@ -279,11 +276,10 @@ fn moves(rt: HostRuntime) -> Result<(), Fail> {
     for (insn, bytes) in rows {
         spells(&rt, insn, &bytes);
     }
-    Ok(())
 }
 
 #[test]
-fn registers(rt: HostRuntime) -> Result<(), Fail> {
+fn registers(rt: HostRuntime) {
     for number in 0..=255u8 {
         let found = Reg::new(number);
         assert_eq!(rt; found.is_some(), number <= 10);
@@ -293,5 +289,4 @@ fn registers(rt: HostRuntime) -> Result<(), Fail> {
     }
     assert_eq!(rt; Reg::new(10), Some(Reg::R10));
     spelling_laws();
-    Ok(())
 }

@@ -1,6 +1,6 @@
 //! Worked jobs at one ring of 4,096 bytes, one after another.
 
-ghost use Rattle.std.specs.Prelude.{◌≡◌, ◌≤◌, IfOk};
+ghost use Rattle.std.specs.Prelude.{◌≡◌, ◌≤◌};
 ghost use Rattle.rb_ledger.specs.Seats.{IsSameConsumerSeat};
 ghost use Rattle.rb_seats.specs.SeatHelpers.{AtRings, IsAt};
 
@@ -14,8 +14,8 @@ use rb_lend::{Lent, Sheet};
 use rb_verifier::{Verified, verify};
 use std::alloc::Global;
 use std::cell::Cell;
+use std::process::Abort;
 use std::sync::Wait;
-use std::test::Fail;
 
 /// A context of 16 bytes.
 const CONTEXT: [u8; 16] = [1, 2, 3, 4, 5, 6, 7, 8, 9, 10, 11, 12, 13, 14, 15, 16];
@@ -56,39 +56,40 @@ impl Gate for CallOrder {
 }
 
 /// A program, verified for a context of 16 bytes and one ring.
-fn verified(alloc: Global, text: &str) -> Result<Verified, Fail>
-    ensures { IfOk result (λ v. v.rings ≡ 1) }
+fn verified(rt: &impl Abort, alloc: Global, text: &str) -> Verified
+    ensures { result.rings ≡ 1 }
 {
-    let program = from_text(alloc, text)?;
-    Ok(verify(alloc, shape(alloc, program)?, 16, 1)?)
+    let program = from_text(alloc, text).expect(rt, "a program");
+    let shape = shape(alloc, program).expect(rt, "a shape");
+    verify(alloc, shape, 16, 1).expect(rt, "a verified program")
 }
 
 /// A ring of 4,096 bytes with one seat.
-fn opened<R: Wait>(rt: &R, alloc: Global) -> Result<(SharedRing, Seat, ConsumerSeat), Fail>
-    ensures seat { IfOk result (λ o. IsAt o.0 o.1) }
-    ensures consumer { IfOk result (λ o. o.2.ring ≡ o.0.ring) }
+fn opened<R: Wait + Abort>(rt: &R, alloc: Global) -> (SharedRing, Seat, ConsumerSeat)
+    ensures seat { IsAt result.0 result.1 }
+    ensures consumer { result.2.ring ≡ result.0.ring }
 {
     let Ok((ring, mut seats, consumer)) = open(rt, alloc, 3, 4096, 0, 1) else {
-        return Err(Fail::from("no ring"));
+        rt.panic("no ring")
     };
     match seats.pop() {
-        Some(seat) => Ok((ring, seat, consumer)),
-        None => Err(Fail::from("no seat")),
+        Some(seat) => (ring, seat, consumer),
+        None => rt.panic("no seat"),
     }
 }
 
 /// The worker and serial of the next event, and its bytes.
-fn taken<R: Wait>(
+fn taken<R: Wait + Abort>(
     rt: &R,
     ring: &SharedRing,
     consumer: &mut ConsumerSeat,
-) -> Result<(u32, u64, Sheet), Fail>
+) -> (u32, u64, Sheet)
     requires { consumer.old.ring ≡ ring.now.ring }
     ensures { IsSameConsumerSeat consumer.old consumer.new }
 {
     match ring.take(rt, consumer) {
-        Ok(Taken::Event(_, worker, serial, sheet)) => Ok((worker, serial, sheet)),
-        _ => Err(Fail::from("no event")),
+        Ok(Taken::Event(_, worker, serial, sheet)) => (worker, serial, sheet),
+        _ => rt.panic("no event"),
     }
 }
 
@@ -110,10 +111,10 @@ fn counts(seats: &[Seat]) -> Option<(u64, u64, u64, u64)> {
 }
 
 #[test]
-fn jobs_submit_42_and_come_to_the_gate_at_each_call(rt: HostRuntime) -> Result<(), Fail> {
+fn jobs_submit_42_and_come_to_the_gate_at_each_call(rt: HostRuntime) {
     jobs_give_back();
-    let program = verified(rt.alloc(), SUBMIT_42)?;
-    let (ring, seat, mut consumer) = opened(&rt, rt.alloc())?;
+    let program = verified(&rt, rt.alloc(), SUBMIT_42);
+    let (ring, seat, mut consumer) = opened(&rt, rt.alloc());
     let rings = [ring];
     let gate = CallOrder::new();
     let mut calls = 0;
@@ -126,7 +127,7 @@ fn jobs_submit_42_and_come_to_the_gate_at_each_call(rt: HostRuntime) -> Result<(
         result: Ok(0),
         unlogged: 0,
     };
-    let seats = vec![in rt.alloc(); seat]?;
+    let seats = vec![in rt.alloc(); seat].expect(&rt, "memory");
     let (answer, seats) = run_job(
         &rt,
         rt.alloc(),
@@ -150,21 +151,20 @@ fn jobs_submit_42_and_come_to_the_gate_at_each_call(rt: HostRuntime) -> Result<(
     );
     assert_eq!(rt; answer, Ok(done));
     assert_eq!(rt; counts(seats.as_slice()), Some((2, 0, 2, 0)));
-    let (worker, serial, sheet) = taken(&rt, &rings[0], &mut consumer)?;
+    let (worker, serial, sheet) = taken(&rt, &rings[0], &mut consumer);
     assert_eq!(rt; (worker, serial), (0, 0));
     assert_eq!(rt; sheet.bytes(), [42, 0, 0, 0, 0, 0, 0, 0].as_slice());
-    let (worker, serial, sheet) = taken(&rt, &rings[0], &mut consumer)?;
+    let (worker, serial, sheet) = taken(&rt, &rings[0], &mut consumer);
     assert_eq!(rt; (worker, serial), (0, 1));
     assert_eq!(rt; sheet.bytes(), [42, 0, 0, 0, 0, 0, 0, 0].as_slice());
     assert!(rt; is_empty(&rt, &rings[0], &mut consumer));
     assert_eq!(rt; (calls, gate.next.get(), gate.other.get()), (4, 4, false));
-    Ok(())
 }
 
 #[test]
-fn a_job_outputs_bytes_of_its_context(rt: HostRuntime) -> Result<(), Fail> {
-    let program = verified(rt.alloc(), OUTPUT_CONTEXT)?;
-    let (ring, seat, mut consumer) = opened(&rt, rt.alloc())?;
+fn a_job_outputs_bytes_of_its_context(rt: HostRuntime) {
+    let program = verified(&rt, rt.alloc(), OUTPUT_CONTEXT);
+    let (ring, seat, mut consumer) = opened(&rt, rt.alloc());
     let rings = [ring];
     let gate = CallOrder::new();
     let mut calls = u64::MAX;
@@ -173,7 +173,7 @@ fn a_job_outputs_bytes_of_its_context(rt: HostRuntime) -> Result<(), Fail> {
         program: &program,
         ctx: CONTEXT.as_slice(),
     };
-    let seats = vec![in rt.alloc(); seat]?;
+    let seats = vec![in rt.alloc(); seat].expect(&rt, "memory");
     let (answer, seats) = run_job(
         &rt,
         rt.alloc(),
@@ -185,17 +185,16 @@ fn a_job_outputs_bytes_of_its_context(rt: HostRuntime) -> Result<(), Fail> {
     );
     assert!(rt; answer.is_ok_and(|a: JobAnswer| a.result == Ok(0) && a.unlogged == 0));
     assert_eq!(rt; counts(seats.as_slice()), Some((1, 0, 1, 0)));
-    let (worker, serial, sheet) = taken(&rt, &rings[0], &mut consumer)?;
+    let (worker, serial, sheet) = taken(&rt, &rings[0], &mut consumer);
     assert_eq!(rt; (worker, serial), (0, 0));
     assert_eq!(rt; sheet.bytes(), [1, 2, 3, 4, 5, 6, 7, 8].as_slice());
     assert_eq!(rt; (calls, gate.other.get()), (u64::MAX, true));
-    Ok(())
 }
 
 #[test]
-fn a_context_of_another_length_makes_no_call(rt: HostRuntime) -> Result<(), Fail> {
-    let program = verified(rt.alloc(), SUBMIT_42)?;
-    let (ring, seat, mut consumer) = opened(&rt, rt.alloc())?;
+fn a_context_of_another_length_makes_no_call(rt: HostRuntime) {
+    let program = verified(&rt, rt.alloc(), SUBMIT_42);
+    let (ring, seat, mut consumer) = opened(&rt, rt.alloc());
     let rings = [ring];
     let gate = CallOrder::new();
     let mut calls = 0;
@@ -204,7 +203,7 @@ fn a_context_of_another_length_makes_no_call(rt: HostRuntime) -> Result<(), Fail
         program: &program,
         ctx: [1, 2, 3].as_slice(),
     };
-    let seats = vec![in rt.alloc(); seat]?;
+    let seats = vec![in rt.alloc(); seat].expect(&rt, "memory");
     let (answer, seats) = run_job(
         &rt,
         rt.alloc(),
@@ -222,14 +221,13 @@ fn a_context_of_another_length_makes_no_call(rt: HostRuntime) -> Result<(), Fail
     assert_eq!(rt; counts(seats.as_slice()), Some((0, 0, 0, 0)));
     assert_eq!(rt; (calls, gate.next.get()), (0, 0));
     assert!(rt; is_empty(&rt, &rings[0], &mut consumer));
-    Ok(())
 }
 
 #[test]
-fn a_full_ring_gives_null_and_is_logged(rt: HostRuntime) -> Result<(), Fail> {
-    let program = verified(rt.alloc(), SUBMIT_42)?;
-    let (ring, mut seat, _consumer) = opened(&rt, rt.alloc())?;
-    let sheet = Sheet::new(rt.alloc(), 4080)?;
+fn a_full_ring_gives_null_and_is_logged(rt: HostRuntime) {
+    let program = verified(&rt, rt.alloc(), SUBMIT_42);
+    let (ring, mut seat, _consumer) = opened(&rt, rt.alloc());
+    let sheet = Sheet::new(rt.alloc(), 4080).expect(&rt, "memory");
     assert!(rt; ring.reserve(&rt, &mut seat, 4080, sheet).is_ok());
     let rings = [ring];
     let gate = CallOrder::new();
@@ -239,7 +237,7 @@ fn a_full_ring_gives_null_and_is_logged(rt: HostRuntime) -> Result<(), Fail> {
         program: &program,
         ctx: CONTEXT.as_slice(),
     };
-    let seats = vec![in rt.alloc(); seat]?;
+    let seats = vec![in rt.alloc(); seat].expect(&rt, "memory");
     let (answer, seats) = run_job(
         &rt,
         rt.alloc(),
@@ -252,5 +250,4 @@ fn a_full_ring_gives_null_and_is_logged(rt: HostRuntime) -> Result<(), Fail> {
     assert!(rt; answer.is_ok_and(|a: JobAnswer| a.result.is_ok() && a.unlogged == 0));
     assert_eq!(rt; counts(seats.as_slice()), Some((1, 1, 0, 0)));
     assert_eq!(rt; (calls, gate.next.get(), gate.other.get()), (1, 1, false));
-    Ok(())
 }

@@ -1,6 +1,6 @@
 //! Programs that call helpers, one instruction at a time and to their ends.
 
-ghost use Rattle.std.specs.Prelude.{◌≡◌, IfSome, replicate};
+ghost use Rattle.std.specs.Prelude.{◌≡◌};
 ghost use Rattle.rb_semantics.specs.declared.pending_call.PendingCall.TheVariants.{Reserve, GiveBack};
 ghost use Rattle.rb_interp.specs.declared.step.Phase.TheVariants.{Ready, Waiting};
 
@@ -11,7 +11,7 @@ use rb_interp::{Answer, Machine, Request, Step, run};
 use rb_lend::{Lent, Sheet};
 use rb_verifier::{Verified, verify};
 use std::alloc::Global;
-use std::test::Fail;
+use std::process::Abort;
 
 const CONTEXT: [u8; 16] = [0; 16];
 
@@ -21,22 +21,24 @@ const SUBMIT_42: &str = "1851000000000000 0000000000000000 b702000008000000 b703
     b702000000000000 8500000084000000 b700000000000000 9500000000000000";
 
 // A program, verified for a context of 16 bytes and one ring.
-fn verified(alloc: Global, text: &str) -> Result<Verified, Fail> {
-    let program = from_text(alloc, text)?;
-    Ok(verify(alloc, shape(alloc, program)?, 16, 1)?)
+fn verified(rt: &impl Abort, alloc: Global, text: &str) -> Verified {
+    let program = from_text(alloc, text).expect(rt, "a program");
+    let shape = shape(alloc, program).expect(rt, "a shape");
+    verify(alloc, shape, 16, 1).expect(rt, "a verified program")
 }
 
 type RunningMachine<'p> = Machine<'p, &'static [u8], Sheet>;
 
 // Answers a reservation: with a record, or with null.
-fn answer_reserve(machine: &mut RunningMachine<'_>, len: u32, granted: Option<Sheet>)
+fn answer_reserve(rt: &impl Abort, alloc: Global, machine: &mut RunningMachine<'_>, len: u32, grants: bool)
     requires waits { machine.old.phase ≡ Waiting (Reserve len) }
-    requires zeros { IfSome granted (λ r. r ≡ replicate len 0) }
     ensures ready { machine.new.phase ≡ Ready }
 {
-    match granted {
-        Some(sheet) => machine.answer(Answer::Granted(sheet)),
-        None => machine.answer(Answer::Null),
+    if grants {
+        let sheet = Sheet::new(alloc, len).expect(rt, "memory");
+        machine.answer(Answer::Granted(sheet));
+    } else {
+        machine.answer(Answer::Null);
     }
 }
 
@@ -49,59 +51,52 @@ fn answer_submit(machine: &mut RunningMachine<'_>)
 }
 
 // How many instructions a program executes to its end, and the bytes that it submits, where reservations are granted or not.
-fn executed(alloc: Global, program: &Verified, grants: bool) -> Result<(u32, Vec<u8>), Fail> {
+fn executed(rt: &impl Abort, alloc: Global, program: &Verified, grants: bool) -> (u32, Vec<u8>) {
     let mut submitted = Vec::new(alloc);
     let Ok(mut machine) = Machine::new(program, CONTEXT.as_slice()) else {
-        return Err(Fail::from("no machine"));
+        rt.panic("no machine")
     };
     for count in 1..=16 {
         match machine.step() {
             Step::Went => {}
-            Step::Exit(_) => return Ok((count, submitted)),
+            Step::Exit(_) => return (count, submitted),
             Step::Call(Request::Reserve { len, .. }) => {
-                let record = if grants {
-                    Some(Sheet::new(alloc, len)?)
-                } else {
-                    None
-                };
-                answer_reserve(&mut machine, len, record);
+                answer_reserve(rt, alloc, &mut machine, len, grants);
             }
             Step::Call(Request::Submit { owned, .. }) => {
-                submitted.extend_from_slice(owned.bytes())?;
+                submitted
+                    .extend_from_slice(owned.bytes())
+                    .expect(rt, "memory");
                 answer_submit(&mut machine);
             }
-            Step::Call(_) => return Err(Fail::from("another call")),
+            Step::Call(_) => rt.panic("another call"),
         }
     }
-    Err(Fail::from("no end"))
+    rt.panic("no end")
 }
 
 #[test]
-fn submit_42_executes_each_instruction_once(rt: HostRuntime) -> Result<(), Fail> {
-    let program = verified(rt.alloc(), SUBMIT_42)?;
-    let (count, submitted) = executed(rt.alloc(), &program, true)?;
+fn submit_42_executes_each_instruction_once(rt: HostRuntime) {
+    let program = verified(&rt, rt.alloc(), SUBMIT_42);
+    let (count, submitted) = executed(&rt, rt.alloc(), &program, true);
     assert_eq!(rt; count, 11);
     assert_eq!(rt; submitted.as_slice(), [42, 0, 0, 0, 0, 0, 0, 0].as_slice());
-    let (count, submitted) = executed(rt.alloc(), &program, false)?;
+    let (count, submitted) = executed(&rt, rt.alloc(), &program, false);
     assert_eq!(rt; count, 7);
     assert!(rt; submitted.is_empty());
-    Ok(())
 }
 
 // What a program ends with, over helpers that grant each call.
-fn ended(alloc: Global, text: &str) -> Result<u64, Fail> {
-    let program = verified(alloc, text)?;
-    let answers = vec![in alloc; true; program.calls()]?;
-    let mut helpers = Listed::new(alloc, answers)?;
-    match run(&program, CONTEXT.as_slice(), &mut helpers) {
-        Ok(value) => Ok(value),
-        Err(_) => Err(Fail::from("no result")),
-    }
+fn ended(rt: &impl Abort, alloc: Global, text: &str) -> Option<u64> {
+    let program = verified(rt, alloc, text);
+    let answers = vec![in alloc; true; program.calls()].expect(rt, "memory");
+    let mut helpers = Listed::new(alloc, answers).expect(rt, "memory");
+    run(&program, CONTEXT.as_slice(), &mut helpers).ok()
 }
 
 #[test]
-fn calls_of_helpers(rt: HostRuntime) -> Result<(), Fail> {
-    let rows = [
+fn calls_of_helpers(rt: HostRuntime) {
+    const ROWS: [(&str, u64); 4] = [
         // An output is answered 0.
         (
             "18510000000000000000000000000000 bfa2000000000000 07020000f8ffffff b703000008000000 b704000000000000 7a0af8ff05000000 8500000082000000 9500000000000000",
@@ -123,8 +118,7 @@ fn calls_of_helpers(rt: HostRuntime) -> Result<(), Fail> {
             0,
         ),
     ];
-    for (text, want) in rows {
-        assert_eq!(rt; ended(rt.alloc(), text)?, want, "of {text}");
+    for (text, value) in ROWS {
+        assert_eq!(rt; ended(&rt, rt.alloc(), text), Some(value), "{text}");
     }
-    Ok(())
 }

@@ -1,6 +1,6 @@
 //! Worked calls of helpers over the seats of two rings of 4,096 bytes.
 
-ghost use Rattle.std.specs.Prelude.{◌≡◌, ◌≤◌, IfOk, IfSome, true};
+ghost use Rattle.std.specs.Prelude.{◌≡◌, ◌≤◌, true};
 ghost use Rattle.rb_ledger.specs.Seats.{IsSameConsumerSeat};
 ghost use Rattle.rb_seats.specs.SeatHelpers.{IsAt};
 
@@ -11,38 +11,34 @@ use rb_lend::{Lent, Sheet};
 use rb_seats::{NoStock, SeatHelpers, SeatRecord, Stock};
 use std::alloc::Global;
 use std::cell::Cell;
+use std::process::Abort;
 use std::sync::Wait;
-use std::test::Fail;
 
-fn opened<R: Wait>(
-    rt: &R,
-    alloc: Global,
-    tag: u64,
-) -> Result<(SharedRing, Seat, ConsumerSeat), Fail>
-    ensures seat { IfOk result (λ o. IsAt o.0 o.1) }
-    ensures consumer { IfOk result (λ o. o.2.ring ≡ o.0.ring) }
+fn opened<R: Wait + Abort>(rt: &R, alloc: Global, tag: u64) -> (SharedRing, Seat, ConsumerSeat)
+    ensures seat { IsAt result.0 result.1 }
+    ensures consumer { result.2.ring ≡ result.0.ring }
 {
     let Ok((ring, mut seats, consumer)) = open(rt, alloc, tag, 4096, 0, 1) else {
-        return Err(Fail::from("no ring"));
+        rt.panic("no ring")
     };
     match seats.pop() {
-        Some(seat) => Ok((ring, seat, consumer)),
-        None => Err(Fail::from("no seat")),
+        Some(seat) => (ring, seat, consumer),
+        None => rt.panic("no seat"),
     }
 }
 
 /// The position, worker and serial of the next event, and its bytes.
-fn taken<R: Wait>(
+fn taken<R: Wait + Abort>(
     rt: &R,
     ring: &SharedRing,
     consumer: &mut ConsumerSeat,
-) -> Result<(u64, u32, u64, Sheet), Fail>
+) -> (u64, u32, u64, Sheet)
     requires { consumer.old.ring ≡ ring.now.ring }
     ensures { IsSameConsumerSeat consumer.old consumer.new }
 {
     match ring.take(rt, consumer) {
-        Ok(Taken::Event(pos, worker, serial, sheet)) => Ok((pos, worker, serial, sheet)),
-        _ => Err(Fail::from("no event")),
+        Ok(Taken::Event(pos, worker, serial, sheet)) => (pos, worker, serial, sheet),
+        _ => rt.panic("no event"),
     }
 }
 
@@ -93,14 +89,14 @@ impl Stock for OneSheet {
 }
 
 #[test]
-fn a_submitted_record_reaches_its_ring_alone(rt: HostRuntime) -> Result<(), Fail> {
-    let (first, one, _consumer) = opened(&rt, rt.alloc(), 0)?;
-    let (second, two, mut consumer) = opened(&rt, rt.alloc(), 1)?;
+fn a_submitted_record_reaches_its_ring_alone(rt: HostRuntime) {
+    let (first, one, _consumer) = opened(&rt, rt.alloc(), 0);
+    let (second, two, mut consumer) = opened(&rt, rt.alloc(), 1);
     let rings = [first, second];
-    let seats = vec![in rt.alloc(); one, two]?;
+    let seats = vec![in rt.alloc(); one, two].expect(&rt, "memory");
     let Ok(mut helpers) = SeatHelpers::new(&rt, rt.alloc(), rings.as_slice(), seats, 2, &NoStock)
     else {
-        return Err(Fail::from("no memory"));
+        rt.panic("no memory")
     };
     assert_eq!(rt; helpers.room(), 2);
     assert!(rt; submit_filled(&mut helpers, 1, 8, 42));
@@ -125,20 +121,19 @@ fn a_submitted_record_reaches_its_ring_alone(rt: HostRuntime) -> Result<(), Fail
     let seats = helpers.into_seats();
     assert_eq!(rt; seats.first().map(counts), Some((0, 0, 0, 0)));
     assert_eq!(rt; seats.last().map(counts), Some((1, 0, 1, 0)));
-    let (pos, worker, serial, sheet) = taken(&rt, &rings[1], &mut consumer)?;
+    let (pos, worker, serial, sheet) = taken(&rt, &rings[1], &mut consumer);
     assert_eq!(rt; (pos, worker, serial), (0, 0, 0));
     assert_eq!(rt; sheet.bytes(), [42, 42, 42, 42, 42, 42, 42, 42].as_slice());
-    Ok(())
 }
 
 #[test]
-fn outputs_and_queries_are_answered(rt: HostRuntime) -> Result<(), Fail> {
-    let (ring, seat, mut consumer) = opened(&rt, rt.alloc(), 0)?;
+fn outputs_and_queries_are_answered(rt: HostRuntime) {
+    let (ring, seat, mut consumer) = opened(&rt, rt.alloc(), 0);
     let rings = [ring];
-    let seats = vec![in rt.alloc(); seat]?;
+    let seats = vec![in rt.alloc(); seat].expect(&rt, "memory");
     let Ok(mut helpers) = SeatHelpers::new(&rt, rt.alloc(), rings.as_slice(), seats, 5, &NoStock)
     else {
-        return Err(Fail::from("no memory"));
+        rt.panic("no memory")
     };
     assert_eq!(rt; helpers.output(0, [5, 6].as_slice(), 0), 0);
     assert_eq!(rt; helpers.query(0, 0), 16);
@@ -148,20 +143,19 @@ fn outputs_and_queries_are_answered(rt: HostRuntime) -> Result<(), Fail> {
     assert_eq!(rt; helpers.unlogged(), 0);
     let seats = helpers.into_seats();
     assert_eq!(rt; seats.first().map(counts), Some((1, 0, 1, 0)));
-    let (pos, worker, serial, sheet) = taken(&rt, &rings[0], &mut consumer)?;
+    let (pos, worker, serial, sheet) = taken(&rt, &rings[0], &mut consumer);
     assert_eq!(rt; (pos, worker, serial), (0, 0, 0));
     assert_eq!(rt; sheet.bytes(), [5, 6].as_slice());
-    Ok(())
 }
 
 #[test]
-fn bad_flags_make_no_step_of_the_ring(rt: HostRuntime) -> Result<(), Fail> {
-    let (ring, seat, _consumer) = opened(&rt, rt.alloc(), 0)?;
+fn bad_flags_make_no_step_of_the_ring(rt: HostRuntime) {
+    let (ring, seat, _consumer) = opened(&rt, rt.alloc(), 0);
     let rings = [ring];
-    let seats = vec![in rt.alloc(); seat]?;
+    let seats = vec![in rt.alloc(); seat].expect(&rt, "memory");
     let Ok(mut helpers) = SeatHelpers::new(&rt, rt.alloc(), rings.as_slice(), seats, 5, &NoStock)
     else {
-        return Err(Fail::from("no memory"));
+        rt.panic("no memory")
     };
     assert_eq!(rt; helpers.output(0, [5, 6].as_slice(), 4), -EINVAL);
     assert!(rt; helpers.reserve(0, 8, 1).is_none());
@@ -171,40 +165,38 @@ fn bad_flags_make_no_step_of_the_ring(rt: HostRuntime) -> Result<(), Fail> {
     assert_eq!(rt; helpers.unlogged(), 0);
     let seats = helpers.into_seats();
     assert_eq!(rt; seats.first().map(counts), Some((1, 0, 1, 0)));
-    Ok(())
 }
 
 #[test]
-fn a_full_ring_is_refused_in_the_history(rt: HostRuntime) -> Result<(), Fail> {
-    let (ring, seat, _consumer) = opened(&rt, rt.alloc(), 0)?;
+fn a_full_ring_is_refused_in_the_history(rt: HostRuntime) {
+    let (ring, seat, _consumer) = opened(&rt, rt.alloc(), 0);
     let rings = [ring];
-    let seats = vec![in rt.alloc(); seat]?;
+    let seats = vec![in rt.alloc(); seat].expect(&rt, "memory");
     let Ok(mut helpers) = SeatHelpers::new(&rt, rt.alloc(), rings.as_slice(), seats, 3, &NoStock)
     else {
-        return Err(Fail::from("no memory"));
+        rt.panic("no memory")
     };
-    let bytes = vec![in rt.alloc(); 7; 4081]?;
+    let bytes = vec![in rt.alloc(); 7; 4081].expect(&rt, "memory");
     assert_eq!(rt; helpers.output(0, bytes.as_slice(), 0), -EAGAIN);
     assert!(rt; helpers.reserve(0, 4081, 0).is_none());
     assert!(rt; helpers.reserve(0, 4080, 0).is_some());
     assert_eq!(rt; helpers.unlogged(), 0);
     let seats = helpers.into_seats();
     assert_eq!(rt; seats.first().map(counts), Some((1, 2, 0, 0)));
-    Ok(())
 }
 
 #[test]
-fn a_record_of_no_ring_or_of_another_is_handed_back(rt: HostRuntime) -> Result<(), Fail> {
-    let (first, one, _consumer) = opened(&rt, rt.alloc(), 0)?;
-    let (second, two, _other_consumer) = opened(&rt, rt.alloc(), 1)?;
+fn a_record_of_no_ring_or_of_another_is_handed_back(rt: HostRuntime) {
+    let (first, one, _consumer) = opened(&rt, rt.alloc(), 0);
+    let (second, two, _other_consumer) = opened(&rt, rt.alloc(), 1);
     let rings = [first, second];
-    let seats = vec![in rt.alloc(); one, two]?;
+    let seats = vec![in rt.alloc(); one, two].expect(&rt, "memory");
     let Ok(mut helpers) = SeatHelpers::new(&rt, rt.alloc(), rings.as_slice(), seats, 5, &NoStock)
     else {
-        return Err(Fail::from("no memory"));
+        rt.panic("no memory")
     };
     let Some(SeatRecord { ring, reservation }) = helpers.reserve(1, 8, 0) else {
-        return Err(Fail::from("null"));
+        rt.panic("null")
     };
     assert_eq!(rt; ring, 1);
     let Err(back) = helpers.submit(
@@ -214,11 +206,11 @@ fn a_record_of_no_ring_or_of_another_is_handed_back(rt: HostRuntime) -> Result<(
         },
         0,
     ) else {
-        return Err(Fail::from("submitted to no ring"));
+        rt.panic("submitted to no ring")
     };
     assert_eq!(rt; back.ring, 2);
     let Err(back) = helpers.discard(back, 0) else {
-        return Err(Fail::from("discarded at no ring"));
+        rt.panic("discarded at no ring")
     };
     let SeatRecord {
         ring: _,
@@ -231,7 +223,7 @@ fn a_record_of_no_ring_or_of_another_is_handed_back(rt: HostRuntime) -> Result<(
         },
         0,
     ) else {
-        return Err(Fail::from("submitted to another ring"));
+        rt.panic("submitted to another ring")
     };
     let SeatRecord {
         ring: _,
@@ -251,33 +243,31 @@ fn a_record_of_no_ring_or_of_another_is_handed_back(rt: HostRuntime) -> Result<(
     let seats = helpers.into_seats();
     assert_eq!(rt; seats.first().map(counts), Some((0, 0, 0, 0)));
     assert_eq!(rt; seats.last().map(counts), Some((1, 0, 0, 1)));
-    Ok(())
 }
 
 #[test]
-fn a_sheet_of_the_stock_is_used_again(rt: HostRuntime) -> Result<(), Fail> {
-    let (ring, seat, _consumer) = opened(&rt, rt.alloc(), 0)?;
+fn a_sheet_of_the_stock_is_used_again(rt: HostRuntime) {
+    let (ring, seat, _consumer) = opened(&rt, rt.alloc(), 0);
     let rings = [ring];
-    let seats = vec![in rt.alloc(); seat]?;
-    let mut used = Sheet::new(rt.alloc(), 16)?;
+    let seats = vec![in rt.alloc(); seat].expect(&rt, "memory");
+    let mut used = Sheet::new(rt.alloc(), 16).expect(&rt, "memory");
     used.bytes_mut().fill(9);
     let stock = OneSheet {
         kept: Cell::new(Some(used)),
     };
     let Ok(mut helpers) = SeatHelpers::new(&rt, rt.alloc(), rings.as_slice(), seats, 3, &stock)
     else {
-        return Err(Fail::from("no memory"));
+        rt.panic("no memory")
     };
     match helpers.reserve(0, 4, 0) {
         Some(owned) => assert_eq!(rt; owned.bytes(), [0, 0, 0, 0].as_slice()),
-        None => return Err(Fail::from("null")),
+        None => rt.panic("null"),
     }
     assert!(rt; stock.kept.take().is_none());
     assert!(rt; helpers.reserve(0, 4081, 0).is_none());
     let kept = stock.kept.take();
     assert_eq!(rt; kept.map(|sheet| sheet.len()), Some(4081));
     assert!(rt; NoStock.used().is_none());
-    let back = NoStock.put(Sheet::new(rt.alloc(), 3)?);
+    let back = NoStock.put(Sheet::new(rt.alloc(), 3).expect(&rt, "memory"));
     assert_eq!(rt; back.map(|sheet| sheet.len()), Some(3));
-    Ok(())
 }

@@ -4,9 +4,9 @@ ghost use Rattle.rb_refs.specs.References.{AreEarlier};
 
 use super::{ENVIRONMENT, UNIT, mixed, reference, reg, three};
 use rb_insn::Insn;
-use rb_refs::{Abs, AbsState, Rule, step};
+use rb_refs::{Abs, AbsState, Held, Reference, Rule, step};
 use std::alloc::Global;
-use std::test::Fail;
+use std::process::Abort;
 
 /// The state before the call of a helper, with these arguments.
 fn calling(alloc: Global, arguments: [Abs; 5]) -> AbsState
@@ -133,87 +133,97 @@ fn arguments_in_order(rt: HostRuntime) {
     }
 }
 
-#[test]
-fn states_after_a_call(rt: HostRuntime) -> Result<(), Fail> {
-    let flags = Abs::Number;
-    let ring = Abs::Ring(0);
-    let rows = [
-        (
-            130,
-            [ring, Abs::Stack(-8), Abs::Known(8), flags, flags],
-            Abs::Number,
-            2,
-        ),
-        (
-            130,
-            [ring, Abs::Record(2, 16), Abs::Known(0), flags, flags],
-            Abs::Number,
-            2,
-        ),
-        (
-            131,
-            [ring, Abs::Known(8), flags, flags, flags],
-            Abs::Perhaps(UNIT),
-            3,
-        ),
-        (
-            132,
-            [Abs::Record(2, 0), flags, flags, flags, flags],
-            Abs::Unreadable,
-            1,
-        ),
-        (
-            133,
-            [Abs::Record(2, 0), flags, flags, flags, flags],
-            Abs::Unreadable,
-            1,
-        ),
-        (134, [ring, flags, flags, flags, flags], Abs::Number, 2),
-    ];
-    for (helper, arguments, answer, held) in rows {
-        let state = calling(rt.alloc(), arguments);
-        let after = step(ENVIRONMENT, UNIT, &Insn::Call { helper }, &state)?.next;
-        assert_eq!(rt; after.value(reg(0)), answer, "{helper}");
-        for register in 1..6 {
-            assert_eq!(rt;
-                after.value(reg(register)),
-                Abs::Unreadable,
-                "{helper} {register}"
-            );
-        }
-        let record = if held == 1 {
-            Abs::Unreadable
-        } else {
-            Abs::Record(2, 4)
-        };
-        assert_eq!(rt; after.value(reg(8)), record, "{helper}");
-        assert_eq!(rt; after.value(reg(6)), Abs::Stack(-8), "{helper}");
-        assert_eq!(rt; after.held.as_slice().len(), held, "{helper}");
-    }
-    Ok(())
+/// What is known after a call: of r0, of r1 to r5, of the record in r8, of the stack in r6, and how many references are held.
+type After = (Abs, [Abs; 5], Abs, Abs, usize);
+
+fn after_call(rt: &impl Abort, alloc: Global, helper: u32, arguments: [Abs; 5]) -> After {
+    let state = calling(alloc, arguments);
+    let next = step(ENVIRONMENT, UNIT, &Insn::Call { helper }, &state)
+        .expect(rt, "a step")
+        .next;
+    (
+        next.value(reg(0)),
+        [
+            next.value(reg(1)),
+            next.value(reg(2)),
+            next.value(reg(3)),
+            next.value(reg(4)),
+            next.value(reg(5)),
+        ],
+        next.value(reg(8)),
+        next.value(reg(6)),
+        next.held.as_slice().len(),
+    )
 }
 
 #[test]
-fn four_references_at_most(rt: HostRuntime) -> Result<(), Fail> {
-    let arguments = [
-        Abs::Ring(0),
-        Abs::Known(8),
-        Abs::Number,
-        Abs::Number,
-        Abs::Number,
+fn states_after_a_call(rt: HostRuntime) {
+    const FLAGS: Abs = Abs::Number;
+    const RING: Abs = Abs::Ring(0);
+    const GONE: [Abs; 5] = [Abs::Unreadable; 5];
+    const RECORD: Abs = Abs::Record(2, 4);
+    const STACK: Abs = Abs::Stack(-8);
+    const ROWS: [(u32, [Abs; 5], After); 6] = [
+        (
+            130,
+            [RING, STACK, Abs::Known(8), FLAGS, FLAGS],
+            (Abs::Number, GONE, RECORD, STACK, 2),
+        ),
+        (
+            130,
+            [RING, Abs::Record(2, 16), Abs::Known(0), FLAGS, FLAGS],
+            (Abs::Number, GONE, RECORD, STACK, 2),
+        ),
+        (
+            131,
+            [RING, Abs::Known(8), FLAGS, FLAGS, FLAGS],
+            (Abs::Perhaps(UNIT), GONE, RECORD, STACK, 3),
+        ),
+        (
+            132,
+            [Abs::Record(2, 0), FLAGS, FLAGS, FLAGS, FLAGS],
+            (Abs::Unreadable, GONE, Abs::Unreadable, STACK, 1),
+        ),
+        (
+            133,
+            [Abs::Record(2, 0), FLAGS, FLAGS, FLAGS, FLAGS],
+            (Abs::Unreadable, GONE, Abs::Unreadable, STACK, 1),
+        ),
+        (
+            134,
+            [RING, FLAGS, FLAGS, FLAGS, FLAGS],
+            (Abs::Number, GONE, RECORD, STACK, 2),
+        ),
     ];
-    let mut state = calling(rt.alloc(), arguments);
-    let reserve = Insn::Call { helper: 131 };
+    for (helper, arguments, after) in ROWS {
+        assert_eq!(rt; after_call(&rt, rt.alloc(), helper, arguments), after, "{helper}");
+    }
+}
 
-    state.held = three(rt.alloc());
-    let after = step(ENVIRONMENT, 4, &reserve, &state)?.next;
-    assert!(rt; after.held.is_full());
-    assert_eq!(rt; after.held.get(4), Some(reference(4, false)));
+/// What a reservation finds with these references held: the rule that it breaks, or the reference of the call and whether no more fit.
+#[derive(Clone, Copy, Debug, PartialEq, Eq)]
+enum Reserved {
+    Breaks(Rule),
+    Adds(Option<Reference>, bool),
+}
 
-    state.held = three(rt.alloc()).added(reference(4, false));
-    assert_eq!(rt;
-        step(ENVIRONMENT, UNIT, &reserve, &state).err(),
-        Some(Rule::TooManyReferences)
-    );
-    Ok(())
+fn reserve_with(alloc: Global, held: Held, unit: u32) -> Reserved
+    requires { AreEarlier unit held }
+{
+    let flags = Abs::Number;
+    let mut state = calling(alloc, [Abs::Ring(0), Abs::Known(8), flags, flags, flags]);
+    state.held = held;
+    match step(ENVIRONMENT, unit, &Insn::Call { helper: 131 }, &state) {
+        Ok(effect) => Reserved::Adds(effect.next.held.get(unit), effect.next.held.is_full()),
+        Err(rule) => Reserved::Breaks(rule),
+    }
+}
+
+#[test]
+fn four_references_at_most(rt: HostRuntime) {
+    let added = Reserved::Adds(Some(reference(4, false)), true);
+    assert_eq!(rt; reserve_with(rt.alloc(), three(rt.alloc()), 4), added);
+    let four = three(rt.alloc()).added(reference(4, false));
+    let refused = Reserved::Breaks(Rule::TooManyReferences);
+    assert_eq!(rt; reserve_with(rt.alloc(), four, UNIT), refused);
 }

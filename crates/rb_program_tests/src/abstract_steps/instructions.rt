@@ -9,7 +9,7 @@ use rb_insn::{
     Signedness, Size, SwapWidth, Width,
 };
 use rb_refs::{Abs, AbsState, Rule, step, step_in_place};
-use std::test::Fail;
+use std::process::Abort;
 
 fn load(dst: u8, base: u8, offset: i16) -> Insn
     requires dst { dst ≤ 10 }
@@ -322,49 +322,68 @@ fn values_after_a_step(rt: HostRuntime) {
     }
 }
 
+/// What a null test tells along one edge of it: of the tested register and of a copy, of another reservation, how many references are
+/// held, and whether the tested one is known to be there.
+type Edge = ([Abs; 2], Abs, usize, Option<bool>);
+
+fn edge_of(state: &AbsState) -> Edge {
+    let tested = match state.held.get(4) {
+        Some(reference) => Some(reference.sure),
+        None => None,
+    };
+    (
+        [state.value(reg(0)), state.value(reg(7))],
+        state.value(reg(3)),
+        state.held.as_slice().len(),
+        tested,
+    )
+}
+
+/// What is told where the instruction goes on, and where it jumps.
+fn edges_of(rt: &impl Abort, insn: &Insn, state: &AbsState) -> (Edge, Edge)
+    requires { AreEarlier 9 state.now.held }
+{
+    let effect = step(ENVIRONMENT, UNIT, insn, state).expect(rt, "a step");
+    (edge_of(&effect.next), edge_of(&effect.jump))
+}
+
 #[test]
-fn null_test_tells_each_edge(rt: HostRuntime) -> Result<(), Fail> {
+fn null_test_tells_each_edge(rt: HostRuntime) {
+    const NULL: Edge = ([Abs::Known(0), Abs::Known(0)], Abs::Perhaps(2), 1, None);
+    const THERE: Edge = (
+        [Abs::Record(4, 0), Abs::Record(4, 0)],
+        Abs::Perhaps(2),
+        2,
+        Some(true),
+    );
     let mut state = mixed(rt.alloc());
     state.values[7] = Abs::Perhaps(4);
     state.values[3] = Abs::Perhaps(2);
     let equal = branch(Width::W64, Condition::Equal, 0, Operand::Immediate(0));
     let not_equal = branch(Width::W64, Condition::NotEqual, 7, Operand::Immediate(0));
-    let first = step(ENVIRONMENT, UNIT, &equal, &state)?;
-    let second = step(ENVIRONMENT, UNIT, &not_equal, &state)?;
-    for null in [&first.jump, &second.next] {
-        for register in [0, 7] {
-            assert_eq!(rt; null.value(reg(register)), Abs::Known(0));
-        }
-        assert_eq!(rt; null.value(reg(3)), Abs::Perhaps(2));
-        assert_eq!(rt; null.held.as_slice().len(), 1);
-        assert_eq!(rt; null.held.get(4), None);
-    }
-    for there in [&first.next, &second.jump] {
-        for register in [0, 7] {
-            assert_eq!(rt; there.value(reg(register)), Abs::Record(4, 0));
-        }
-        assert_eq!(rt; there.value(reg(3)), Abs::Perhaps(2));
-        assert_eq!(rt; there.held.as_slice().len(), 2);
-        assert_eq!(rt;
-            there.held.get(4).map(|reference| reference.sure),
-            Some(true)
-        );
-    }
-    Ok(())
+    assert_eq!(rt; edges_of(&rt, &equal, &state), (THERE, NULL));
+    assert_eq!(rt; edges_of(&rt, &not_equal, &state), (NULL, THERE));
+}
+
+/// Takes a step in place: what is known of the register along the next edge, and along the jump's where that differs.
+fn in_place(rt: &impl Abort, insn: &Insn, mut state: AbsState, register: Reg) -> (Abs, Option<Abs>)
+    requires { AreEarlier 9 state.held }
+{
+    let jump = step_in_place(ENVIRONMENT, UNIT, insn, &mut state).expect(rt, "a step");
+    let along_jump = match jump {
+        Some(jump) => Some(jump.value(register)),
+        None => None,
+    };
+    (state.value(register), along_jump)
 }
 
 #[test]
-fn a_step_in_place_leaves_the_state_along_the_next_edge(rt: HostRuntime) -> Result<(), Fail> {
-    let mut state = mixed(rt.alloc());
-    let same = step_in_place(ENVIRONMENT, UNIT, &load(7, 10, -512), &mut state)?;
-    assert!(rt; same.is_none());
-    assert_eq!(rt; state.value(reg(7)), Abs::Number);
-    let mut state = mixed(rt.alloc());
+fn a_step_in_place_leaves_the_state_along_the_next_edge(rt: HostRuntime) {
+    let load = load(7, 10, -512);
+    assert_eq!(rt; in_place(&rt, &load, mixed(rt.alloc()), reg(7)), (Abs::Number, None));
     let equal = branch(Width::W64, Condition::Equal, 0, Operand::Immediate(0));
-    match step_in_place(ENVIRONMENT, UNIT, &equal, &mut state)? {
-        Some(jump) => assert_eq!(rt; jump.value(reg(0)), Abs::Known(0)),
-        None => assert!(rt; false),
-    }
-    assert_eq!(rt; state.value(reg(0)), Abs::Record(4, 0));
-    Ok(())
+    assert_eq!(rt;
+        in_place(&rt, &equal, mixed(rt.alloc()), reg(0)),
+        (Abs::Record(4, 0), Some(Abs::Known(0)))
+    );
 }

@@ -2,7 +2,8 @@
 
 use super::{mixed, reference, reg, three};
 use rb_refs::{Abs, AbsState, Held, Helper, Rule, below, join, step_keeps_form, step_keeps_order};
-use std::test::Fail;
+use std::alloc::Global;
+use std::process::Abort;
 
 #[test]
 fn references_are_held(rt: HostRuntime) {
@@ -23,9 +24,40 @@ fn references_are_held(rt: HostRuntime) {
     assert_eq!(rt; held.as_slice().len(), 3);
 }
 
+/// What is known after a join of two states that differ in r3 alone.
+#[derive(Clone, Copy, Debug, PartialEq, Eq)]
+struct Joined {
+    /// Of r1.
+    kept: Abs,
+    /// Of r10.
+    frame: Abs,
+    /// Of r3.
+    least: Abs,
+    /// Whether both states are below it.
+    above_both: bool,
+    /// Whether it is below the first.
+    is_first: bool,
+}
+
+/// Joins two states of the entry with these values of r3.
+fn joined_at_r3(rt: &impl Abort, alloc: Global, value: Abs, other: Abs) -> Joined {
+    let mut left = AbsState::entry(alloc);
+    let mut right = left.copy();
+    left.values[3] = value;
+    right.values[3] = other;
+    let both = join(&left, &right).expect(rt, "the references are the same");
+    Joined {
+        kept: both.value(reg(1)),
+        frame: both.value(reg(10)),
+        least: both.value(reg(3)),
+        above_both: below(&left, &both) && below(&right, &both),
+        is_first: below(&both, &left),
+    }
+}
+
 #[test]
-fn joins_and_order(rt: HostRuntime) -> Result<(), Fail> {
-    let rows = [
+fn joins_and_order(rt: HostRuntime) {
+    const ROWS: [(Abs, Abs, Abs); 9] = [
         (Abs::Known(1), Abs::Known(1), Abs::Known(1)),
         (Abs::Known(1), Abs::Known(2), Abs::Number),
         (Abs::Known(1), Abs::Number, Abs::Number),
@@ -36,26 +68,25 @@ fn joins_and_order(rt: HostRuntime) -> Result<(), Fail> {
         (Abs::Perhaps(4), Abs::Record(4, 0), Abs::Unreadable),
         (Abs::Record(4, 0), Abs::Unreadable, Abs::Unreadable),
     ];
-    for (value, other, least) in rows {
-        let mut left = AbsState::entry(rt.alloc());
-        let mut right = left.copy();
-        left.values[3] = value;
-        right.values[3] = other;
-        let both = join(&left, &right).ok_or("the references are the same")?;
-        assert_eq!(rt; both.value(reg(3)), least, "{value:?} {other:?}");
-        assert_eq!(rt; both.value(reg(1)), Abs::Ctx(0));
-        assert_eq!(rt; both.value(reg(10)), Abs::Stack(0));
-        assert!(rt; below(&left, &both), "{value:?} {other:?}");
-        assert!(rt; below(&right, &both), "{value:?} {other:?}");
-        assert_eq!(rt; below(&both, &left), least == value, "{value:?} {other:?}");
+    for (value, other, least) in ROWS {
+        let joined = Joined {
+            kept: Abs::Ctx(0),
+            frame: Abs::Stack(0),
+            least,
+            above_both: true,
+            is_first: least == value,
+        };
+        assert_eq!(rt; joined_at_r3(&rt, rt.alloc(), value, other), joined, "{value:?} {other:?}");
     }
+}
+
+#[test]
+fn other_references_have_no_join(rt: HostRuntime) {
     let entry = AbsState::entry(rt.alloc());
     let holds = mixed(rt.alloc());
-    assert!(rt; join(&entry, &holds).is_none());
-    assert!(rt; !below(&entry, &holds));
+    assert_eq!(rt; (join(&entry, &holds).is_some(), below(&entry, &holds)), (false, false));
     step_keeps_order();
     step_keeps_form();
-    Ok(())
 }
 
 #[test]

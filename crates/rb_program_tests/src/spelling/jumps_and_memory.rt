@@ -2,10 +2,9 @@
 
 use super::{R3, R10, imm, spells};
 use rb_insn::{Condition, Insn, Operand, Reg, SignedSize, Size, Width};
-use std::test::Fail;
 
 #[test]
-fn branches(rt: HostRuntime) -> Result<(), Fail> {
+fn branches(rt: HostRuntime) {
     let rows = [
         (
             Condition::Equal,
@@ -98,11 +97,10 @@ fn branches(rt: HostRuntime) -> Result<(), Fail> {
             &bytes,
         );
     }
-    Ok(())
 }
 
 #[test]
-fn jumps(rt: HostRuntime) -> Result<(), Fail> {
+fn jumps(rt: HostRuntime) {
     let rows = [
         (
             Insn::Jump { distance: -2 },
@@ -128,11 +126,10 @@ fn jumps(rt: HostRuntime) -> Result<(), Fail> {
     for (insn, bytes) in rows {
         spells(&rt, insn, &bytes);
     }
-    Ok(())
 }
 
 #[test]
-fn memory(rt: HostRuntime) -> Result<(), Fail> {
+fn memory(rt: HostRuntime) {
     let rows = [
         (
             Insn::Load {
@@ -273,11 +270,10 @@ fn memory(rt: HostRuntime) -> Result<(), Fail> {
     for (insn, bytes) in rows {
         spells(&rt, insn, &bytes);
     }
-    Ok(())
 }
 
 #[test]
-fn wide(rt: HostRuntime) -> Result<(), Fail> {
+fn wide(rt: HostRuntime) {
     spells(
         &rt,
         Insn::LoadNumber {
@@ -306,5 +302,4 @@ fn wide(rt: HostRuntime) -> Result<(), Fail> {
             0x18, 0x5a, 0, 0, 0xfe, 0xff, 0xff, 0xff, 0, 0, 0, 0, 0, 0, 0, 0,
         ],
     );
-    Ok(())
 }
