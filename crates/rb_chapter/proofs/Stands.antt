@@ -1,16 +1,17 @@
 -- What entries stand for from an opening is what the whole history stands for.
-use Rattle.std.proofs.Common.{◌≡◌, ℕ, ◌+◌, ◌<◌, cond, ◌↔◌, List, ◌++◌, sym, ap, ◌∙◌, subst}
+use Rattle.std.proofs.Common.{◌≡◌, ℕ, ◌+◌, ◌<◌, cond, ◌↔◌, List, ◌++◌, refl, sym, ap, ◌∙◌, subst}
 use Rattle.std.specs.List.{count_by, All}
 use Rattle.std.proofs.lemmas.List.Sums.{sum_by-append}
 use Rattle.rb_history.specs.declared.entries.Entry.{Entry}
 use Rattle.rb_history.specs.History.{is_grant_of, grants, producer_of}
+use Rattle.rb_history.specs.NoticesAndQueries.{query_answer}
 use Rattle.rb_history.specs.RoomRule.{Setup}
 use Rattle.rb_history.specs.Legal.{IsLegal}
 use Rattle.rb_history.proofs.Laws.{KeptAs, kept-from-legal}
 use Rattle.rb_history.specs.WorkerCounts.{tally_of, is_refusal_of, is_submit_of, is_discard_of}
 use Rattle.rb_history.proofs.TakenRecords.{NeverBoth, never-both}
 use Rattle.rb_chapter.specs.Opening.{opening_of, counts_at, tally_at}
-use Rattle.rb_chapter.specs.CountedFrom.{opening_after, tally_from, is_own_submit_from, is_own_discard_from, IsLegalFrom}
+use Rattle.rb_chapter.specs.CountedFrom.{opening_after, query_answer_from, tally_from, is_own_submit_from, is_own_discard_from, IsLegalFrom}
 use Rattle.rb_chapter.specs.WholeHistory.{IsSameFrom, CountedFromOpening}
 use Rattle.rb_chapter.proofs.From.{GoesFrom}
 use Rattle.rb_chapter.proofs.Numbers.{map-below, tally-at}
@@ -42,6 +43,9 @@ module _ (r : Setup) (h : List Entry) (k : KeptAs r h) (never : NeverBoth h) (t 
       let skipped = skips-same r h k never t from in
       λ i. record { setup = r; producer = producer i; consumer = consumer i; records = records i; tallies = tallies i; consumed = consumed i; skipped = skipped i }
 
+  pub queries : (q : ℕ) → query_answer_from (opening_of r h) t q ≡ query_answer r (h ++ t) q
+  queries q = rw (producer-same r h k never t, consumer-same r h k never t from) refl
+
 -- ---- where h is legal
 
 module _ (r : Setup) (h : List Entry) (l : IsLegal r h) (t : List Entry) where
@@ -58,6 +62,7 @@ module _ (r : Setup) (h : List Entry) (l : IsLegal r h) (t : List Entry) where
         stands = same;
         status = λ p free. status-same r h k never t p free;
         counts = ap counts_at same ∙ counts-are r (h ++ t) (both-ways.0 lt);
+        query = λ q. queries r h k never t from q;
         fits = λ n. (fits-back r h k never t from n, fits-from r h k never t from n);
         waiting = waiting-alike r h k never t from;
         granted = granted-alike r h k never t from;

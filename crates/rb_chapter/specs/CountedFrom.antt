@@ -9,6 +9,7 @@ use Rattle.rb_header.specs.Span.{span}
 use Rattle.rb_history.specs.History.{Shown, Status, status_by, is_granted_at, is_submitted_at, is_discarded_at, is_taken_at, producer_of, span_of_record, grants, records}
 use Rattle.rb_history.specs.History.Status.{Waiting, Discarded}
 use Rattle.rb_history.specs.Counting.{is_same}
+use Rattle.rb_history.specs.declared.notices_and_queries.TheConstants.{AVAIL_DATA, RING_SIZE, CONS_POS, PROD_POS}
 use Rattle.rb_history.specs.declared.tally.Tally.{Tally}
 use Rattle.rb_history.specs.WorkerCounts.{is_record_of, is_refusal_of, is_take_where, numbers_below}
 use Rattle.rb_chapter.specs.Opening.{Opening, tally_at, counts_at}
@@ -123,6 +124,15 @@ opening_after o h = record {
 -- the six counts
 abbrev pub counts_from : Opening → List Entry → Counts
 counts_from o h = counts_at (opening_after o h)
+
+-- the answers to a query (bpf-helpers(7), bpf_ringbuf_query); 0 for what it does not know
+abbrev pub query_answer_from : Opening → List Entry → ℕ → ℕ
+query_answer_from o h q =
+    if q == AVAIL_DATA then producer_from o h - consumer_from o h
+    else if q == RING_SIZE then o.setup.size
+    else if q == CONS_POS then consumer_from o h
+    else if q == PROD_POS then producer_from o h
+    else 0
 
 -- ---- which entries may stand in a chapter
 

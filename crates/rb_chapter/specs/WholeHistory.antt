@@ -7,24 +7,26 @@ use Rattle.rb_history.specs.declared.answers.Taken.{Taken}
 use Rattle.rb_history.specs.History.{is_taken_at, status_of}
 use Rattle.rb_history.specs.History.Status.{Waiting}
 use Rattle.rb_history.specs.Counting.{counts_of}
+use Rattle.rb_history.specs.NoticesAndQueries.{query_answer}
 use Rattle.rb_history.specs.ReservationModel.{Granted}
 use Rattle.rb_history.specs.RoomRule.{Setup, HasRoomFor}
 use Rattle.rb_history.specs.Legal.{IsLegal}
 use Rattle.rb_history.specs.RingModel.{StandsFor}
 use Rattle.rb_history.specs.Calls.{IsBusy, Grants as WholeGrants, FindsFull as WholeFindsFull, Outputs as WholeOutputs, Submits as WholeSubmits, Discards as WholeDiscards, Strays as WholeStrays, Takes as WholeTakes, HasBusyFront as WholeHasBusyFront, AllTaken as WholeAllTaken}
 use Rattle.rb_chapter.specs.Opening.{Opening, opening_of}
-use Rattle.rb_chapter.specs.CountedFrom.{opening_after, counts_from, status_from, HasRoomFrom, MayFollowFrom, IsLegalFrom}
+use Rattle.rb_chapter.specs.CountedFrom.{opening_after, counts_from, query_answer_from, status_from, HasRoomFrom, MayFollowFrom, IsLegalFrom}
 use Rattle.rb_chapter.specs.Chapters.{Chapter, closing_of, Meets, AreChaptersOf, joined, last_of}
 use Rattle.rb_chapter.specs.ChapterRoom.{HasEntryRoom, HasRoomForOwed, with_entry}
 use Rattle.rb_chapter.specs.ChapterRing.{ChapterRing, IsGranted, StandsForChapter, whole_ring}
 use Rattle.rb_chapter.specs.ChapterCalls.{IsBusyFrom, Grants, FindsFull, FindsChapterFull, Outputs, Submits, Discards, Strays, Takes, HasBusyFront, AllTaken, HandsOut}
 
 -- what is counted from the opening is what the whole history says: both positions, the records, each worker's totals and the
--- consumer's, which make up the next opening; the counts and the room; and of the records that h did not take, whose they are and
+-- consumer's, which make up the next opening; the counts, the answers to a query and the room; and of the records that h did not take, whose they are and
 -- their status
 pub record IsSameFrom (r : Setup) (h : List Entry) (o : Opening) (t : List Entry) : Type 0 where
   pub stands : opening_after o t ≡ opening_of r (h ++ t)
   pub counts : counts_from o t ≡ counts_of (h ++ t)
+  pub query : (q : ℕ) → query_answer_from o t q ≡ query_answer r (h ++ t) q
   pub fits : (n : ℕ) → HasRoomFrom o t n ↔ HasRoomFor r (h ++ t) n
   pub status : (p : ℕ) → is_taken_at h p ≡ false → status_from o t p ≡ status_of (h ++ t) p
   pub waiting : (p : ℕ) → (status_from o t p ≡ Waiting) ↔ (status_of (h ++ t) p ≡ Waiting)
