@@ -12,3 +12,6 @@ pub mod Exact
 pub mod Counting
 pub mod Tallies
 pub mod OneCall
+pub mod RecordWorkers
+pub mod TakenRecords
+pub mod WorkerCounts

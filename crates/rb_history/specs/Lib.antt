@@ -8,4 +8,5 @@ pub mod ReservationModel
 pub mod Calls
 pub mod StoredRecords
 pub mod OneCall
+pub mod WorkerCounts
 pub mod inner

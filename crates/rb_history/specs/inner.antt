@@ -1,2 +1,3 @@
 pub mod GrantCounts
 pub mod RecordRows
+pub mod TallySteps

@@ -22,6 +22,7 @@ mod notices_and_queries;
 mod one_call;
 mod reservations;
 mod stored_records;
+mod tally;
 
 pub use answers::{Counts, Notice, OpenFault, ReserveFault, Stray, Taken};
 pub use bounds::{POSITION_LIMIT, check_setup, is_size, is_start, is_worker_count};
@@ -32,3 +33,4 @@ pub use notices_and_queries::{
 pub use one_call::each_entry_is_one_call;
 pub use reservations::Reservation;
 pub use stored_records::{RecordState, StoredRecord};
+pub use tally::Tally;

@@ -1,0 +1,15 @@
+pub mod Pieces
+pub mod Shown
+pub mod From
+pub mod Same
+pub mod Numbers
+pub mod Legal
+pub mod Granted
+pub mod Weights
+pub mod Counts
+pub mod Stands
+pub mod Join
+pub mod Room
+pub mod Alike
+pub mod Bound
+pub mod Keeping
