@@ -9,6 +9,7 @@
 #![tactic(auto)]
 
 mod assembly;
+mod forms;
 mod parts;
 mod symbols;
 

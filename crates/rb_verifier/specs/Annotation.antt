@@ -45,6 +45,10 @@ pub record IsLeastBefore (limits : Limits) (program : List Insn) (a : Annotation
   pub valid : IsValidBefore limits program a bound
   pub least : (b : Annotation) → IsValidBefore limits program b bound → (unit : ℕ) (insn : Insn) → unit < bound → slot_at program unit ≡ Some insn → Below (a unit) (b unit)
 
+-- it is valid, and below each other valid annotation
+abbrev pub IsLeast : Limits → List Insn → Annotation → Type 0
+IsLeast limits program a = IsLeastBefore limits program a (unit_count program)
+
 -- a state arrives at a unit from the units below the bound: the entry state at the first unit, and what is known along
 -- each edge that leads there
 pub data Arrives (limits : Limits) (program : List Insn) (a : Annotation) (bound to : ℕ) (s : AbsState) : Type 0 where

@@ -3,8 +3,7 @@
 ghost use Rattle.std.specs.Prelude.{◌≡◌, ◌+◌, ◌++◌, [], ◌∷◌, ◌<◌, ℕ, Some, length, IfOk, IfErr, OnOk};
 ghost use Rattle.rb_decode.specs.Program.{unit_count, slot_at};
 ghost use Rattle.rb_refs.specs.AbstractStates.{entry_state};
-ghost use Rattle.rb_verifier.specs.Annotation.{IsValid};
-ghost use Rattle.rb_verifier.specs.Annotation.{state_at};
+ghost use Rattle.rb_verifier.specs.Annotation.{IsLeast, state_at};
 ghost use Rattle.rb_verifier.specs.inner.Sweep.{Progress};
 ghost use Rattle.rb_verifier.specs.Refusals.{IsRightRefusal};
 
@@ -84,13 +83,14 @@ fn sweep_unit(
     }
 }
 
-/// The pass: the states of a valid annotation, one for each unit, or the first rule that is broken.
+/// The pass: the states of the least valid annotation, one for each unit, or the first rule that is broken.
 pub(crate) fn annotate(
     alloc: Global,
     limits: Limits,
     shape: &Shape,
 ) -> Result<Vec<AbsState>, Refusal>
-    ensures valid { IfOk result (λ states. IsValid limits shape.now (state_at states.items)) }
+    ensures count { IfOk result (λ states. length states.items ≡ unit_count shape.now) }
+    ensures least { IfOk result (λ states. IsLeast limits shape.now (state_at states.items)) }
     ensures refused { IfErr result (IsRightRefusal limits shape.now) }
 {
     shape.program().facts();

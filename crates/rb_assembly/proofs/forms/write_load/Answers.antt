@@ -9,7 +9,7 @@ use Rattle.rb_insn.specs.declared.insn.Width.TheVariants.{W64}
 use Rattle.rb_assembly.specs.declared.parts.Register.{Register}
 use Rattle.rb_assembly.specs.Assembly.{assembly_of}
 use Rattle.rb_assembly.specs.AssemblyParts.{register_text, ring_text}
-use Rattle.rb_assembly.proofs.assembly.AssemblyDisplay.fmt.Goals as goal
+use Rattle.rb_assembly.proofs.forms.write_load.Goals as goal
 
 -- the text of a ring that is loaded, in the order in which it is written
 ring_loaded : (insn : Insn) (dst : Reg) (number : ℕ) (shown : Register) → insn ≡ LoadRing dst number → shown ≡ record { width = W64; reg = dst }
@@ -18,6 +18,7 @@ ring_loaded insn dst number shown is shows =
     ap (λ r. register_text r.width r.reg ++ (codes " = " ++ ring_text number)) shows
     ∙ sym (append_assoc (register_text W64 dst) (codes " = ") (ring_text number)) ∙ ap assembly_of (sym is)
 
-pub returns-in-LoadRing-clause-writes : goal.returns-in-LoadRing-clause-writes
-returns-in-LoadRing-clause-writes g c = λ plain ok.
-    has_written_of_eq _ _ _ _ _ (ring_loaded _ c.in-LoadRing.dst c.in-LoadRing.ring _ (search rules) c.whole-in-LoadRing.ensures) (c.write-in-LoadRing.ensures.writes plain ok)
+pub returns-in-LoadRing : goal.returns-in-LoadRing
+returns-in-LoadRing g c = record {
+  writes = λ plain ok. has_written_of_eq _ _ _ _ _ (ring_loaded _ c.in-LoadRing.dst c.in-LoadRing.ring _ (search rules) c.whole-in-LoadRing.ensures) (c.write-in-LoadRing.ensures.writes plain ok);
+}
