@@ -12,3 +12,4 @@ pub mod Exact
 pub mod Counting
 pub mod Tallies
 pub mod OneCall
+pub mod ManyTakes
