@@ -15,3 +15,4 @@ pub mod OneCall
 pub mod RecordWorkers
 pub mod TakenRecords
 pub mod WorkerCounts
+pub mod ManyTakes

@@ -6,6 +6,7 @@ pub mod RingModel
 pub mod NoticesAndQueries
 pub mod ReservationModel
 pub mod Calls
+pub mod ManyTakes
 pub mod StoredRecords
 pub mod OneCall
 pub mod WorkerCounts

@@ -34,7 +34,7 @@ use Rattle.rb_ledger.proofs.Steps.{get-same, get-cases, left-out, Done, done, st
 abbrev pub StepIn : RoleKnowledge → Ring → Ring → RoleKnowledge → Type 0
 StepIn = RoleStep
 
-same-contents : (a b : Contents) → b ≡ a → IsWithin b a
+pub same-contents : (a b : Contents) → b ≡ a → IsWithin b a
 same-contents a b e p bytes is = ap (λ (m : Contents). get m p) (sym e) ∙ is
 
 -- the ring goes on by entries that submit nothing, and the role's bytes stand
@@ -45,7 +45,7 @@ quiet-done s new role seen bytes added logs contents own is_ring same fit =
     (quiet s new added logs.setup_same logs.history_is fit.sound is_ring role own contents) fit same
     (quiet-bytes s new added logs.setup_same logs.history_is fit.sound is_ring role bytes fit.bytes_fit)
 
-same-logs : (old new : Ring) → new ≡ old → Logs old new []
+pub same-logs : (old new : Ring) → new ≡ old → Logs old new []
 same-logs old new e = record { setup_same = ap (λ (r : Ring). r.setup) e; history_is = ap (λ (r : Ring). r.history) e ∙ sym (append-nil old.history) }
 
 pub no-bytes : (role : Role) (old new : Ring) (bytes : Contents) → bytes_after role old new [] bytes ≡ bytes
@@ -145,20 +145,21 @@ module _ (w : ℕ) (seen : Book) (bytes : Contents) where
   put-output old new b flags (Ok _) call is_ring = step-from (role_knowledge (Worker w) seen bytes) old new (λ x. Outputs x new w b) call.0 (λ s c fit. outputs-done s new b c is_ring fit)
   put-output old new b flags (Err e) call is_ring = put-refused old new (length b) e.0 call.0 is_ring
 
-module _ (seen : Book) (got : Contents) where
-  within-more : (all : Contents) (p : ℕ) (b : List ℕ) → IsWithin got all → get all p ≡ Some b → IsWithin (insert got p b) all
-  within-more all p b old here q c is = elim (get-cases got p q b c is) [
-    | inl now ↦ ap (get all) now.0 ∙ here ∙ ap Some now.1
-    | inr before ↦ old q c before.1
-  ]
+-- what was got is still within, with the bytes that are there at one more position
+pub within-more : (got all : Contents) (p : ℕ) (b : List ℕ) → IsWithin got all → get all p ≡ Some b → IsWithin (insert got p b) all
+within-more got all p b old here q c is = elim (get-cases got p q b c is) [
+  | inl now ↦ ap (get all) now.0 ∙ here ∙ ap Some now.1
+  | inr before ↦ old q c before.1
+]
 
+module _ (seen : Book) (got : Contents) where
   event-done : (s : Ledger) (new : Ring) (p w k : ℕ) (b : List ℕ) → TakesEvent s.ring new p w k b → IsRing new → FitsLedger s (role_knowledge Consumer seen got) → Done s new (role_knowledge Consumer seen got)
   event-done s new p w k b call is_ring fit =
       let fewer : IsWithin new.contents s.ring.contents = λ q c is. left-out s.ring.contents p q c (ap (λ (m : Contents). get m q) (sym call.contents_are) ∙ is) in
       done s (record { ring = new; sent = s.sent }) (role_knowledge Consumer seen got) (insert got p b) (Take p ∷ [])
       (quiet s new (Take p ∷ []) call.logged.setup_same call.logged.history_is fit.sound is_ring Consumer (refl, tt) fewer) fit
       (ap (λ o. put_at p o got) call.bytes_are)
-      (within-more s.sent p b fit.bytes_fit (fit.sound.within p b call.bytes_are))
+      (within-more got s.sent p b fit.bytes_fit (fit.sound.within p b call.bytes_are))
 
   skip-done : (s : Ledger) (new : Ring) (p n : ℕ) → Skips s.ring new p n → IsRing new → FitsLedger s (role_knowledge Consumer seen got) → Done s new (role_knowledge Consumer seen got)
   skip-done s new p n call is_ring fit =

@@ -11,6 +11,7 @@ pub mod Opens
 pub mod Meets
 pub mod Taking
 pub mod Seated
+pub mod ManyTakes
 pub mod Serials
 pub mod Settled
 pub mod Sums

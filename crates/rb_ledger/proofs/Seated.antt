@@ -150,8 +150,8 @@ taker-goes-on c s p b k goes legal ties =
       position_is = ties.position_is ∙ ap (λ (x : Setup). consumer_of x.start b.history) (sym goes.setup_same) ∙ sym (ap (consumer_of k.setup.start) goes.history_is ∙ same.position_same);
     }
 
-module _ (c s p : ℕ) (old new : Ring) (was_ring : IsRing old) (is_ring : IsRing new) (ties : ConsumerTies c s p (book_of old)) where
-  taker-same : new ≡ old → ConsumerTies (c + 0) (s + 0) (p + 0) (book_of new)
+module _ (c s p : ℕ) (old new : Ring) (was_legal : IsLegal old.setup old.history) (is_legal : IsLegal new.setup new.history) (ties : ConsumerTies c s p (book_of old)) where
+  pub taker-same : new ≡ old → ConsumerTies (c + 0) (s + 0) (p + 0) (book_of new)
   taker-same e =
       let k = subst (λ r. ConsumerTies c s p (book_of r)) (sym e) ties in
       record { consumed_is = add-zero c ∙ k.consumed_is; skipped_is = add-zero s ∙ k.skipped_is; position_is = add-zero p ∙ k.position_is }
@@ -160,28 +160,28 @@ module _ (c s p : ℕ) (old new : Ring) (was_ring : IsRing old) (is_ring : IsRin
       ConsumerTies (c + event) (s + skip) (p + span n) (book_of new)
   taker-take w k n q event skip setup history is e d =
       let h = old.history in
-      let l : IsLegal old.setup (h ++ Take q ∷ []) = subst (IsLegal old.setup) history (subst (λ x. IsLegal x new.history) setup is_ring.legal) in
+      let l : IsLegal old.setup (h ++ Take q ∷ []) = subst (IsLegal old.setup) history (subst (λ x. IsLegal x new.history) setup is_legal) in
       let t₀ = ties.consumed_is in
       let t₁ = ties.skipped_is in
       let t₂ = ties.position_is in
       record {
         consumed_is = (λ i. t₀ i + sym e i) ∙ sym (events-next old.setup h (Take q) l) ∙ ap events_of (sym history);
         skipped_is = (λ i. t₁ i + sym d i) ∙ sym (skips-next old.setup h (Take q) l) ∙ ap skips_of (sym history);
-        position_is = ap (λ x. x + span n) t₂ ∙ sym (position-taken old.setup.start w k n q h (granted-once old.setup h q was_ring.legal) is) ∙ ap (consumer_of old.setup.start) (sym history) ∙ ap (λ (x : Setup). consumer_of x.start new.history) (sym setup);
+        position_is = ap (λ x. x + span n) t₂ ∙ sym (position-taken old.setup.start w k n q h (granted-once old.setup h q was_legal) is) ∙ ap (consumer_of old.setup.start) (sym history) ∙ ap (λ (x : Setup). consumer_of x.start new.history) (sym setup);
       }
 
-  taker-taken : (t : Taken) → Takes old new t → ConsumerTies (c + events_in t) (s + skips_in t) (p + span_in t) (book_of new)
+  pub taker-taken : (t : Taken) → Takes old new t → ConsumerTies (c + events_in t) (s + skips_in t) (p + span_in t) (book_of new)
   taker-taken (Event q w k bytes) call =
       let parts = waiting-submitted (is_submitted_at old.history q) (is_discarded_at old.history q) (is_taken_at old.history q) call.waiting in
       taker-take w k (length bytes) q 1 0 call.logged.setup_same call.logged.history_is call.granted_is (ap bit parts.0) (ap bit parts.1)
   taker-taken (Skipped q n) call =
       let gone = discarded-is (is_submitted_at old.history q) (is_discarded_at old.history q) (is_taken_at old.history q) call.discarded in
-      let kept : is_submitted_at old.history q ≡ false = false_from_ne_true (is_submitted_at old.history q) (λ is. true≢false (sym gone ∙ never-both old.setup old.history was_ring.legal q is)) in
+      let kept : is_submitted_at old.history q ≡ false = false_from_ne_true (is_submitted_at old.history q) (λ is. true≢false (sym gone ∙ never-both old.setup old.history was_legal q is)) in
       taker-take call.granted_is.0 call.granted_is.1.0 n q 0 1 call.logged.setup_same call.logged.history_is call.granted_is.1.1 (ap bit kept) (ap bit gone)
   taker-taken BusyFront call = taker-same call.same
   taker-taken Empty call = taker-same call.same
 
-  taken-place : (t : Taken) → Takes old new t → IsTakenAt p t
+  pub taken-place : (t : Taken) → Takes old new t → IsTakenAt p t
   taken-place (Event q w k bytes) call = call.front ∙ sym ties.position_is
   taken-place (Skipped q n) call = call.front ∙ sym ties.position_is
   taken-place BusyFront call = tt
@@ -192,10 +192,10 @@ module _ (c s p : ℕ) (b a : Book) (t : Taken) (turn : LockedCall Consumer b a 
   point-ties = taker-goes-on c s p b (book_of turn.point) turn.goes_on turn.was_ring.legal ties
 
   pub take-ties : ConsumerTies (c + events_in t) (s + skips_in t) (p + span_in t) a
-  take-ties = subst (ConsumerTies (c + events_in t) (s + skips_in t) (p + span_in t)) (sym turn.seen) (taker-taken c s p turn.point turn.left turn.was_ring turn.is_ring point-ties t turn.called.0)
+  take-ties = subst (ConsumerTies (c + events_in t) (s + skips_in t) (p + span_in t)) (sym turn.seen) (taker-taken c s p turn.point turn.left turn.was_ring.legal turn.is_ring.legal point-ties t turn.called.0)
 
   pub take-place : IsTakenAt p t
-  take-place = taken-place c s p turn.point turn.left turn.was_ring turn.is_ring point-ties t turn.called.0
+  take-place = taken-place c s p turn.point turn.left turn.was_ring.legal turn.is_ring.legal point-ties t turn.called.0
 
   -- its numbers fit 64 bits
   pub take-fits : length a.history < 2 ^ 64 → (c + events_in t < 2 ^ 64) × (s + skips_in t < 2 ^ 64) × (p + span_in t < 2 ^ 64)

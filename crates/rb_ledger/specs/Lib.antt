@@ -5,6 +5,7 @@ pub mod RoleKnowledge
 pub mod Ledger
 pub mod LockRule
 pub mod LockedCalls
+pub mod ManyTakes
 pub mod Seats
 pub mod Headline
 pub mod inner

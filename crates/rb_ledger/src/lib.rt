@@ -23,6 +23,7 @@
 #![tactic(auto)]
 
 mod audit;
+mod batch_takes;
 mod closing;
 mod consumer_seat;
 mod headline;

@@ -1,14 +1,16 @@
 //! The calls of a ring of one thread, each on the state that the lock holds. The lock is held for that one call alone.
 
-ghost use Rattle.std.specs.Prelude.{◌≡◌, ◌≢◌, None, ◌<◌, ◌^◌, ◌↔◌, IfOk, IfErr, OnErr, length};
+ghost use Rattle.std.specs.Prelude.{◌≡◌, ◌≢◌, None, ◌+◌, ◌<◌, ◌≤◌, ◌^◌, ◌↔◌, ◌++◌, IfOk, IfErr, OnErr, length, vec_len, vec_capacity};
 ghost use Rattle.std.specs.Fn.{FnOnceTakesAtMut, FnOnceReturnsAtMut};
 ghost use Rattle.crossbeam_queue.specs.Passes.{view, IsPassOf, IsSamePass, ruled_capacity};
 ghost use Rattle.rb_history.specs.Calls.{producer_now};
+ghost use Rattle.rb_history.specs.ManyTakes.{TakesMany, pushed};
 ghost use Rattle.rb_ledger.specs.Roles.Role.{Consumer, Worker};
 ghost use Rattle.rb_ledger.specs.Ledger.{IsRing};
 ghost use Rattle.rb_ledger.specs.inner.SeatPasses.{seen_in, pass_bytes, IsIdle};
 ghost use Rattle.rb_ledger.specs.inner.LentState.{MayLend, MayCall, LendsState};
 ghost use Rattle.rb_ledger.specs.LockedCalls.{LockedCall, Reserves, SubmitsAt, DiscardsAt, OutputsAt, TakesAt, Queries, Audits, sent_by_submit, sent_by_output, got_by};
+ghost use Rattle.rb_ledger.specs.ManyTakes.{got_by_all};
 
 use crate::audit::{Audit, audit_of};
 use crate::lock::{Lock, RingPass, put_back, take_out};
@@ -187,6 +189,34 @@ pub(crate) fn take_with<R: Wait>(rt: &R, lock: &Lock, pass: &mut RingPass) -> Ta
             ensures call { TakesAt result state.old state.new }
         { state.take() },
     )
+}
+
+/// `RingState::take_many`, for the consumer. The lock is held for all of its takes, and for nothing else.
+pub(crate) fn take_many_with<R: Wait>(
+    rt: &R,
+    lock: &Lock,
+    pass: &mut RingPass,
+    n: usize,
+    out: &mut Vec<Taken>,
+) -> usize
+    requires pass { IsPassOf lock.now pass.old × (ruled_capacity lock.now ≡ 1) }
+    requires idle { IsIdle Consumer (view pass.old) }
+    requires room { vec_len out.old + n ≤ vec_capacity out.old }
+    ensures same { IsSamePass pass.old pass.new }
+    ensures idle { IsIdle Consumer (view pass.new) }
+    ensures call { LockedCall Consumer (seen_in (view pass.old)) (seen_in (view pass.new)) (TakesMany n (pushed out.old.items out.new.items)) }
+    ensures bytes { pass_bytes (view pass.new) ≡ got_by_all (pass_bytes (view pass.old)) (pushed out.old.items out.new.items) }
+    ensures short { length (seen_in (view pass.new)).history < 2 ^ 64 }
+    ensures kept { out.new.items ≡ out.old.items ++ pushed out.old.items out.new.items }
+    ensures count { result ≡ length (pushed out.old.items out.new.items) }
+    ensures capacity { vec_capacity out.new ≡ vec_capacity out.old }
+{
+    let mut held = take_out(rt, lock, pass);
+    let state = held.as_mut();
+    let count = state.take_many(n, out);
+    facts_of(state);
+    put_back(rt, lock, pass, held);
+    count
 }
 
 /// `RingState::query`, for the worker whose pass it is.

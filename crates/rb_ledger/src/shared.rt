@@ -242,7 +242,7 @@ impl SharedRing {
 }
 
 // How many events an answer of `take` is.
-fn events(answer: &Taken) -> u64
+pub(crate) fn events(answer: &Taken) -> u64
     ensures { result ≡ events_in answer.now }
 {
     match answer {
@@ -252,7 +252,7 @@ fn events(answer: &Taken) -> u64
 }
 
 // How many records an answer of `take` passed over.
-fn skips(answer: &Taken) -> u64
+pub(crate) fn skips(answer: &Taken) -> u64
     ensures { result ≡ skips_in answer.now }
 {
     match answer {
@@ -262,7 +262,7 @@ fn skips(answer: &Taken) -> u64
 }
 
 // How far an answer of `take` moves the consumer position.
-fn span_taken(answer: &Taken) -> u64
+pub(crate) fn span_taken(answer: &Taken) -> u64
     ensures { result ≡ span_in answer.now }
 {
     match answer {

@@ -19,6 +19,7 @@
 #![tactic(auto)]
 
 mod header_table;
+mod many_takes;
 mod ring;
 mod running_counts;
 

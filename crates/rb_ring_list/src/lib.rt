@@ -4,6 +4,7 @@
 #![tactic(auto)]
 
 mod counting;
+mod many_takes;
 mod ring;
 
 pub use rb_history::{Counts, Entry, Notice, OpenFault, Reservation, ReserveFault, Stray, Taken};
