@@ -125,8 +125,8 @@ module _ (earlier : List Entry) (old new : ChapterRing) (is : IsKept earlier old
 
   hands-out : (out : Chapter) → HandsOut old new out → IsKept (earlier ++ out.entries) new.chapter
   hands-out out a =
-      let next = next-room earlier old.chapter new.chapter is.continues is.room a.next_is a.no_entries a.room_same in
-      subst (λ (c : Chapter). IsKept (earlier ++ c.entries) new.chapter) (sym a.out_is) (record { continues = next.1; room = next.0 })
+      let next = next-room earlier old.chapter new.chapter is.continues is.room a.next.next_is a.next.no_entries a.next.room_same in
+      subst (λ (c : Chapter). IsKept (earlier ++ c.entries) new.chapter) (sym a.next.out_is) (record { continues = next.1; room = next.0 })
 
 pub calls-keep : CallsKeepChapters
 calls-keep earlier old new is = record {
