@@ -73,11 +73,11 @@ pub record ContinuesHistory (earlier : List Entry) (c : Chapter) : Type 0 where
   pub opened : c.opening ≡ opening_of c.opening.setup earlier
   pub legal : IsLegalFrom c.opening c.entries
 
--- an entry that may follow, and that there is room for, leaves room for all that is owed then
+-- behind an entry that may follow there is room for all that is owed then, exactly where there was room for the entry
 abbrev pub EntriesKeepRoom : Type 0
 EntriesKeepRoom =
-    (earlier : List Entry) (c : Chapter) (e : Entry) → ContinuesHistory earlier c → MayFollowFrom c.opening c.entries e → HasEntryRoom c e
-    → HasRoomForOwed (with_entry c e)
+    (earlier : List Entry) (c : Chapter) (e : Entry) → ContinuesHistory earlier c → MayFollowFrom c.opening c.entries e
+    → HasEntryRoom c e ↔ HasRoomForOwed (with_entry c e)
 
 -- a chapter that meets the one that is handed out has room for what it owes, and continues the longer history
 abbrev pub NextHasRoom : Type 0
