@@ -93,7 +93,7 @@ output-follows r h o t l is lt = subst (SubmitMayFollow t) (sym is) (submit-foll
 one-kept : (earlier : List Entry) (c : Chapter) (e : Entry) → IsKept earlier c → MayFollowFrom c.opening c.entries e → HasEntryRoom c e → IsKept earlier (with_entry c e)
 one-kept earlier c e is follows room = record {
   continues = record { earlier_legal = is.continues.earlier_legal; opened = is.continues.opened; legal = legal-one c.opening c.entries e is.continues.legal follows };
-  room = keep-room earlier c e is.continues follows room;
+  room = (keep-room earlier c e is.continues follows).0 room;
 }
 
 module _ (earlier : List Entry) (old new : ChapterRing) (is : IsKept earlier old.chapter) where
@@ -125,8 +125,8 @@ module _ (earlier : List Entry) (old new : ChapterRing) (is : IsKept earlier old
 
   hands-out : (out : Chapter) → HandsOut old new out → IsKept (earlier ++ out.entries) new.chapter
   hands-out out a =
-      let next = next-room earlier old.chapter new.chapter is.continues is.room a.next_is a.no_entries a.room_same in
-      subst (λ (c : Chapter). IsKept (earlier ++ c.entries) new.chapter) (sym a.out_is) (record { continues = next.1; room = next.0 })
+      let next = next-room earlier old.chapter new.chapter is.continues is.room a.next.next_is a.next.no_entries a.next.room_same in
+      subst (λ (c : Chapter). IsKept (earlier ++ c.entries) new.chapter) (sym a.next.out_is) (record { continues = next.1; room = next.0 })
 
 pub calls-keep : CallsKeepChapters
 calls-keep earlier old new is = record {

@@ -1,5 +1,5 @@
 -- The room that a chapter owes is kept.
-use Rattle.std.proofs.Common.{◌≡◌, ℕ, ◌+◌, ◌≤◌, Bool, true, false, ◌||◌, List, [], ◌∷◌, ◌++◌, length, refl, sym, ap, ◌∙◌, subst, append_assoc, append-nil, length-append, arith}
+use Rattle.std.proofs.Common.{◌≡◌, ℕ, ◌+◌, ◌≤◌, ◌↔◌, Bool, true, false, ◌||◌, List, [], ◌∷◌, ◌++◌, length, refl, sym, ap, ◌∙◌, subst, append_assoc, append-nil, length-append, arith}
 use Rattle.std.proofs.lemmas.Bool.{true≢false}
 use Rattle.rb_history.specs.declared.entries.Entry.{Entry}
 use Rattle.rb_history.specs.declared.entries.Entry.TheVariants.{Res, Full, Sub, Dis, Take}
@@ -35,6 +35,13 @@ asked c (Sub p) n is room = omega (arith, is, room)
 asked c (Dis p) n is room = omega (arith, is, room)
 asked c (Take p) n is room = omega (arith, is, room)
 
+asked-back : (c : Chapter) (e : Entry) (n : ℕ) → n ≡ length c.entries + owed_for (records_from c.opening c.entries) → Asked n c.room e → HasEntryRoom c e
+asked-back c (Res w k l p) n is room = omega (arith, is, room)
+asked-back c (Full w l) n is room = omega (arith, is, room)
+asked-back c (Sub p) n is room = omega (arith, is, room)
+asked-back c (Dis p) n is room = omega (arith, is, room)
+asked-back c (Take p) n is room = omega (arith, is, room)
+
 -- a legal history, of which u entries are the chapter's
 room-step : (r : Setup) (h : List Entry) (e : Entry) (u m : ℕ) → IsLegal r h → MayFollow r h e → Asked (u + owed_for (records h)) m e → u + 1 + owed_for (records (h ++ e ∷ [])) ≤ m
 room-step r h (Full w n) u m l f room = omega (arith, room, weigh-full entries_owed r h (kept-from-legal r h l) w n)
@@ -43,24 +50,35 @@ room-step r h (Sub p) u m l f room = omega (arith, room, weigh-sub entries_owed 
 room-step r h (Dis p) u m l f room = omega (arith, room, weigh-dis entries_owed r h (kept-from-legal r h l) p f)
 room-step r h (Take p) u m l f room = omega (arith, room, weigh-take entries_owed r h (kept-from-legal r h l) p f, one-owed (is_submitted_at h p) (is_discarded_at h p) f.1)
 
+-- and back
+room-unstep : (r : Setup) (h : List Entry) (e : Entry) (u m : ℕ) → IsLegal r h → MayFollow r h e → u + 1 + owed_for (records (h ++ e ∷ [])) ≤ m → Asked (u + owed_for (records h)) m e
+room-unstep r h (Full w n) u m l f room = omega (arith, room, weigh-full entries_owed r h (kept-from-legal r h l) w n)
+room-unstep r h (Res w s n p) u m l f room = omega (arith, room, weigh-res entries_owed r h (kept-from-legal r h l) w s n p f)
+room-unstep r h (Sub p) u m l f room = omega (arith, room, weigh-sub entries_owed r h (kept-from-legal r h l) p f)
+room-unstep r h (Dis p) u m l f room = omega (arith, room, weigh-dis entries_owed r h (kept-from-legal r h l) p f)
+room-unstep r h (Take p) u m l f room = omega (arith, room, weigh-take entries_owed r h (kept-from-legal r h l) p f, one-owed (is_submitted_at h p) (is_discarded_at h p) f.1)
+
 module _ (r : Setup) (h : List Entry) (l : IsLegal r h) where
-  kept-at : (c : Chapter) (e : Entry) → c.opening ≡ opening_of r h → IsLegalFrom (opening_of r h) c.entries → MayFollowFrom (opening_of r h) c.entries e → HasEntryRoom c e → HasRoomForOwed (with_entry c e)
-  kept-at c e opened legal follows room =
+  kept-at : (c : Chapter) (e : Entry) → c.opening ≡ opening_of r h → IsLegalFrom (opening_of r h) c.entries → MayFollowFrom (opening_of r h) c.entries e → HasEntryRoom c e ↔ HasRoomForOwed (with_entry c e)
+  kept-at c e opened legal follows =
       let t = c.entries in
       let old : records_from c.opening t ≡ records (h ++ t) = ap (λ x. records_from x t) opened ∙ ap (λ x. x.records) (said r h l t legal).stands in
       let longer : IsLegalFrom (opening_of r h) (t ++ e ∷ []) = legal-one (opening_of r h) t e legal follows in
-      let whole_ring : IsLegal r (h ++ (t ++ e ∷ [])) = (both-ways r h l (t ++ e ∷ [])).0 longer in
+      let whole : IsLegal r (h ++ (t ++ e ∷ [])) = (both-ways r h l (t ++ e ∷ [])).0 longer in
       let new : records_from c.opening (t ++ e ∷ []) ≡ records (h ++ (t ++ e ∷ [])) = ap (λ x. records_from x (t ++ e ∷ [])) opened ∙ ap (λ x. x.records) (said r h l (t ++ e ∷ []) longer).stands in
       let cut : (h ++ t) ++ e ∷ [] ≡ h ++ (t ++ e ∷ []) = append_assoc h t (e ∷ []) in
-      let one : IsLegal r ((h ++ t) ++ e ∷ []) = subst (IsLegal r) (sym cut) whole_ring in
-      let ask : Asked (length t + owed_for (records (h ++ t))) c.room e = asked c e (length t + owed_for (records (h ++ t))) (ap (λ x. length t + owed_for x) (sym old)) room in
-      let step = room-step r (h ++ t) e (length t) c.room (legal-front r (h ++ t) (e ∷ []) one) (legal-next r (h ++ t) e [] one) ask in
+      let one : IsLegal r ((h ++ t) ++ e ∷ []) = subst (IsLegal r) (sym cut) whole in
+      let front : IsLegal r (h ++ t) = legal-front r (h ++ t) (e ∷ []) one in
+      let next : MayFollow r (h ++ t) e = legal-next r (h ++ t) e [] one in
       let owes : owed_for (records_from c.opening (t ++ e ∷ [])) ≡ owed_for (records ((h ++ t) ++ e ∷ [])) = ap owed_for (new ∙ ap records (sym cut)) in
-      omega (arith, step, owes, length-append t (e ∷ []))
+      let n : length t + owed_for (records (h ++ t)) ≡ length t + owed_for (records_from c.opening t) = ap (λ x. length t + owed_for x) (sym old) in (
+        (λ room. omega (arith, room-step r (h ++ t) e (length t) c.room front next (asked c e (length t + owed_for (records (h ++ t))) n room), owes, length-append t (e ∷ []))),
+        (λ room. asked-back c e (length t + owed_for (records (h ++ t))) n (room-unstep r (h ++ t) e (length t) c.room front next (omega (arith, room, owes, length-append t (e ∷ []))))),
+      )
 
 pub keep-room : EntriesKeepRoom
-keep-room earlier c e is follows room =
-    kept-at c.opening.setup earlier is.earlier_legal c e is.opened (subst (λ o. IsLegalFrom o c.entries) is.opened is.legal) (subst (λ o. MayFollowFrom o c.entries e) is.opened follows) room
+keep-room earlier c e is follows =
+    kept-at c.opening.setup earlier is.earlier_legal c e is.opened (subst (λ o. IsLegalFrom o c.entries) is.opened is.legal) (subst (λ o. MayFollowFrom o c.entries e) is.opened follows)
 
 no_entry : (before : List Entry) (e : Entry) (after : List Entry) → [] ≡ before ++ e ∷ after → ⊥
 no_entry [] e after is = cc

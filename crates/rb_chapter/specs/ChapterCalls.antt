@@ -42,6 +42,10 @@ pub record HasBusyFront (v : ChapterRing) : Type 0 where
 abbrev pub AllTaken : ChapterRing → Type 0
 AllTaken v = producer_now v ≡ consumer_now v
 
+-- it is the same chapter, whatever its entries
+abbrev pub IsSameChapter : ChapterRing → ChapterRing → Type 0
+IsSameChapter old new = new.chapter ≡ record old.chapter { entries = new.chapter.entries }
+
 -- the entries were added to the chapter, and it is the same chapter
 abbrev pub Logs : ChapterRing → ChapterRing → List Entry → Type 0
 Logs old new entries = new.chapter ≡ record old.chapter { entries = old.chapter.entries ++ entries }
@@ -131,12 +135,16 @@ Takes old new Empty = FindsEmpty old new
 
 -- ---- the turn of a chapter
 
--- the chapter was handed out, and the next one begins where it ends
-pub record HandsOut (old new : ChapterRing) (out : Chapter) : Type 0 where
+-- the old chapter was handed out as it was, and the next one begins where it ends, without entries and with the same room
+pub record IsNextChapter (old new : ChapterRing) (out : Chapter) : Type 0 where
   pub out_is : out ≡ old.chapter
   pub next_is : Meets old.chapter new.chapter
   pub no_entries : new.chapter.entries ≡ []
   pub room_same : new.chapter.room ≡ old.chapter.room
+
+-- the chapter was handed out, and nothing else of the ring changed
+pub record HandsOut (old new : ChapterRing) (out : Chapter) : Type 0 where
+  pub next : IsNextChapter old new out
   pub contents_same : new.contents ≡ old.contents
   pub shown_same : new.shown ≡ old.shown
   pub producer_same : new.producer ≡ old.producer

@@ -12,13 +12,13 @@ use Rattle.rb_history.specs.ReservationModel.{Granted}
 use Rattle.rb_history.specs.RoomRule.{Setup, HasRoomFor}
 use Rattle.rb_history.specs.Legal.{IsLegal}
 use Rattle.rb_history.specs.RingModel.{StandsFor}
-use Rattle.rb_history.specs.Calls.{IsBusy, Grants as WholeGrants, FindsFull as WholeFindsFull, Outputs as WholeOutputs, Submits as WholeSubmits, Discards as WholeDiscards, Strays as WholeStrays, Takes as WholeTakes, HasBusyFront as WholeHasBusyFront, AllTaken as WholeAllTaken}
+use Rattle.rb_history.specs.Calls.{IsBusy, RingHasRoom, Grants as WholeGrants, FindsFull as WholeFindsFull, Outputs as WholeOutputs, Submits as WholeSubmits, Discards as WholeDiscards, Strays as WholeStrays, Takes as WholeTakes, HasBusyFront as WholeHasBusyFront, AllTaken as WholeAllTaken}
 use Rattle.rb_chapter.specs.Opening.{Opening, opening_of}
 use Rattle.rb_chapter.specs.CountedFrom.{opening_after, counts_from, query_answer_from, status_from, HasRoomFrom, MayFollowFrom, IsLegalFrom}
 use Rattle.rb_chapter.specs.Chapters.{Chapter, closing_of, Meets, AreChaptersOf, joined, last_of}
-use Rattle.rb_chapter.specs.ChapterRoom.{HasEntryRoom, HasRoomForOwed, with_entry}
+use Rattle.rb_chapter.specs.ChapterRoom.{HasEntryRoom, HasRoomForOwed, MayGrant, MayRefuse, with_entry}
 use Rattle.rb_chapter.specs.ChapterRing.{ChapterRing, IsGranted, StandsForChapter, whole_ring}
-use Rattle.rb_chapter.specs.ChapterCalls.{IsBusyFrom, Grants, FindsFull, FindsChapterFull, Outputs, Submits, Discards, Strays, Takes, HasBusyFront, AllTaken, HandsOut}
+use Rattle.rb_chapter.specs.ChapterCalls.{IsBusyFrom, IsSameChapter, IsNextChapter, Grants, FindsFull, FindsChapterFull, Outputs, Submits, Discards, Strays, Takes, HasBusyFront, AllTaken, HandsOut}
 
 -- what is counted from the opening is what the whole history says: both positions, the records, each worker's totals and the
 -- consumer's, which make up the next opening; the counts, the answers to a query and the room; and of the records that h did not take, whose they are and
@@ -73,11 +73,11 @@ pub record ContinuesHistory (earlier : List Entry) (c : Chapter) : Type 0 where
   pub opened : c.opening ≡ opening_of c.opening.setup earlier
   pub legal : IsLegalFrom c.opening c.entries
 
--- an entry that may follow, and that there is room for, leaves room for all that is owed then
+-- behind an entry that may follow there is room for all that is owed then, exactly where there was room for the entry
 abbrev pub EntriesKeepRoom : Type 0
 EntriesKeepRoom =
-    (earlier : List Entry) (c : Chapter) (e : Entry) → ContinuesHistory earlier c → MayFollowFrom c.opening c.entries e → HasEntryRoom c e
-    → HasRoomForOwed (with_entry c e)
+    (earlier : List Entry) (c : Chapter) (e : Entry) → ContinuesHistory earlier c → MayFollowFrom c.opening c.entries e
+    → HasEntryRoom c e ↔ HasRoomForOwed (with_entry c e)
 
 -- a chapter that meets the one that is handed out has room for what it owes, and continues the longer history
 abbrev pub NextHasRoom : Type 0
@@ -111,19 +111,23 @@ CallsKeepChapters = (earlier : List Entry) (old new : ChapterRing) → IsKept ea
 abbrev pub StandsAlike : Type 0
 StandsAlike = (earlier : List Entry) (v : ChapterRing) → ContinuesHistory earlier v.chapter → StandsForChapter v ↔ StandsFor (whole_ring earlier v)
 
--- each call by its chapter is the call of the ring with its whole history; to hand a chapter out changes nothing of that ring
+-- each call by its chapter is the call of the ring with its whole history, exactly: that call, in the same chapter, where the chapter
+-- has the room that the call asks for. Handing a chapter out changes nothing of that ring
 pub record AreWholeCalls (earlier : List Entry) (old new : ChapterRing) : Type 0 where
-  pub grants : (w n p k : ℕ) → w < old.chapter.opening.setup.workers → Grants old new w n p k → WholeGrants (whole_ring earlier old) (whole_ring earlier new) w n p k
-  pub finds_full : (w n : ℕ) → FindsFull old new w n → WholeFindsFull (whole_ring earlier old) (whole_ring earlier new) w n
-  pub finds_chapter_full : (w n : ℕ) → FindsChapterFull old new w n → whole_ring earlier new ≡ whole_ring earlier old
-  pub outputs : (w : ℕ) (bytes : List ℕ) → w < old.chapter.opening.setup.workers → Outputs old new w bytes → WholeOutputs (whole_ring earlier old) (whole_ring earlier new) w bytes
-  pub submits : (r : Granted) → Submits old new r → WholeSubmits (whole_ring earlier old) (whole_ring earlier new) r
-  pub discards : (r : Granted) → Discards old new r → WholeDiscards (whole_ring earlier old) (whole_ring earlier new) r
-  pub strays : (r : Granted) → Strays old new r → WholeStrays (whole_ring earlier old) (whole_ring earlier new) r
-  pub takes : (t : Taken) → Takes old new t → WholeTakes (whole_ring earlier old) (whole_ring earlier new) t
+  pub grants : (w n p k : ℕ) → w < old.chapter.opening.setup.workers
+      → Grants old new w n p k ↔ (MayGrant old.chapter × IsSameChapter old new × WholeGrants (whole_ring earlier old) (whole_ring earlier new) w n p k)
+  pub finds_full : (w n : ℕ) → FindsFull old new w n ↔ (MayRefuse old.chapter w × IsSameChapter old new × WholeFindsFull (whole_ring earlier old) (whole_ring earlier new) w n)
+  pub finds_chapter_full : (w n : ℕ) → FindsChapterFull old new w n
+      ↔ ((RingHasRoom (whole_ring earlier old) n → ¬ MayGrant old.chapter) × (¬ RingHasRoom (whole_ring earlier old) n → ¬ MayRefuse old.chapter w) × (new ≡ old))
+  pub outputs : (w : ℕ) (bytes : List ℕ) → w < old.chapter.opening.setup.workers
+      → Outputs old new w bytes ↔ (MayGrant old.chapter × IsSameChapter old new × WholeOutputs (whole_ring earlier old) (whole_ring earlier new) w bytes)
+  pub submits : (r : Granted) → Submits old new r ↔ (IsSameChapter old new × WholeSubmits (whole_ring earlier old) (whole_ring earlier new) r)
+  pub discards : (r : Granted) → Discards old new r ↔ (IsSameChapter old new × WholeDiscards (whole_ring earlier old) (whole_ring earlier new) r)
+  pub strays : (r : Granted) → Strays old new r ↔ (IsSameChapter old new × WholeStrays (whole_ring earlier old) (whole_ring earlier new) r)
+  pub takes : (t : Taken) → Takes old new t ↔ (IsSameChapter old new × WholeTakes (whole_ring earlier old) (whole_ring earlier new) t)
   pub busy_front : HasBusyFront old ↔ WholeHasBusyFront (whole_ring earlier old)
   pub all_taken : AllTaken old ↔ WholeAllTaken (whole_ring earlier old)
-  pub hands_out : (out : Chapter) → HandsOut old new out → whole_ring (earlier ++ out.entries) new ≡ whole_ring earlier old
+  pub hands_out : (out : Chapter) → HandsOut old new out ↔ (IsNextChapter old new out × (whole_ring (earlier ++ out.entries) new ≡ whole_ring earlier old))
 
 abbrev pub CallsAlike : Type 0
 CallsAlike = (earlier : List Entry) (old new : ChapterRing) → ContinuesHistory earlier old.chapter → AreWholeCalls earlier old new

@@ -16,8 +16,9 @@ pub fn chapters_join()
     ensures binds { OnceBound }
 {}
 
-/// Each entry for which a chapter has room leaves room for all that its records wait for, and so does the turn to the next chapter. Each
-/// call of a ring leaves a chapter that has it, and that is legal from its opening. The function does nothing; its contract is the law.
+/// Behind a lawful entry a chapter has room for all that its records wait for exactly where it had room for the entry; a chapter that
+/// meets one with that room has it too. Each call of a ring leaves a chapter that has it and that is legal from its opening. The
+/// function does nothing; its contract is the law.
 pub fn room_is_kept()
     ensures entries { EntriesKeepRoom }
     ensures next { NextHasRoom }
