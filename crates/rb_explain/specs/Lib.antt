@@ -1,0 +1,4 @@
+pub mod Joined
+pub mod Lines
+pub mod StateTexts
+pub mod Explanations

@@ -1,0 +1,198 @@
+//! The explanation of a program's text.
+
+ghost use Rattle.std.specs.Prelude.{◌≡◌, ◌≢◌, ◌<◌, ◌≤◌, ◌⊎◌, List, None, Some, IfErr, IfOk, MatchOption, string_bytes};
+ghost use Rattle.rb_insn.specs.declared.insn.Insn.{Insn};
+ghost use Rattle.rb_decode.specs.FirstDecodeFault.{IsFirstDecodeFault, decode_no_memory};
+ghost use Rattle.rb_decode.specs.Text.{IsHexOf, without_white_space};
+ghost use Rattle.rb_decode.specs.inner.TextFaults.{IsTextFault};
+ghost use Rattle.rb_explain.specs.Explanations.{ExplainsBytes, Explains, IsNoHex, IsProgramOf, ShowsFault, ShowsWindow, ShowsRule};
+
+use crate::advice::{decode_advice, rule_advice, shape_advice};
+use crate::explanation::{Explanation, Reason};
+use crate::listing::listing_text;
+use crate::windows::{decode_again, push_number, push_window, units_text};
+use rb_cfg::{Shape, ShapeFault, ShapeFaultKind, shape};
+use rb_decode::{DecodeFault, DecodeKind, TextFault, decode};
+use rb_refs::Rule;
+use rb_verifier::{Refusal, verify};
+use std::alloc::{AllocError, Global};
+
+/// Explains the program of a text in hex, with ASCII white space anywhere, for a context of so many bytes and so many rings. The text answered is, of
+/// an accepted program, each instruction with what the verifier knows before it; of a refused one, the units around its first fault with a mark
+/// under the fault's own, and what is wrong and how programs mend it. A refusal is the first fault of the first layer that has one. An error is out of
+/// memory, and says nothing of the program.
+///
+/// The time and the memory are linear in the length of the text.
+pub fn explain(
+    alloc: Global,
+    text: &str,
+    ctx_len: u32,
+    rings: u32,
+) -> Result<Explanation, AllocError>
+    requires context { ctx_len ≤ 65536 }
+    requires rings { rings ≤ 16 }
+    ensures explained { IfOk result (Explains text.now (record { ctx_len = ctx_len; rings = rings })) }
+{
+    match bytes_of(alloc, text)? {
+        Some(bytes) => explain_bytes(alloc, &bytes, ctx_len, rings),
+        None => no_hex(alloc),
+    }
+}
+
+// The bytes of a text in hex; none where it is no hex.
+fn bytes_of(alloc: Global, text: &str) -> Result<Option<Vec<u8>>, AllocError>
+    ensures hex { IfOk result (λ found. MatchOption found (IsNoHex text.now) (λ bytes. IsHexOf (without_white_space text.now) bytes.items)) }
+{
+    let digits = digits_of(alloc, text.as_bytes())?;
+    match decode_hex(alloc, digits.as_slice()) {
+        Ok(bytes) => Ok(Some(bytes)),
+        Err(TextFault::NotHex) => Ok(None),
+        Err(_) => Err(AllocError),
+    }
+}
+
+// The bytes of digits, or that they are no hex, or out of memory.
+fn decode_hex(alloc: Global, digits: &[u8]) -> Result<Vec<u8>, TextFault>
+    ensures hex { IfOk result (λ bytes. IsHexOf digits.now bytes.items) }
+    ensures fault { IfErr result (IsTextFault digits.now) }
+{
+    let bytes = hex::decode(alloc, digits)?;
+    Ok(bytes)
+}
+
+// The bytes of a text that are no white space.
+fn digits_of(alloc: Global, text: &[u8]) -> Result<Vec<u8>, AllocError>
+    ensures { IfOk result (λ digits. digits.items ≡ without_white_space text.now) }
+{
+    text.iter()
+        .copied()
+        .filter(|byte| !byte.is_ascii_whitespace())
+        .collect(alloc)
+}
+
+fn no_hex(alloc: Global) -> Result<Explanation, AllocError>
+    ensures reason { IfOk result (λ explanation. explanation.reason ≡ Some Reason.Text) }
+{
+    let text = String::from_str(
+        alloc,
+        "The text is not pairs of hex digits. A program is text in hex, sixteen digits a unit, with white space anywhere.\n",
+    )?;
+    Ok(Explanation {
+        text,
+        reason: Some(Reason::Text),
+    })
+}
+
+// The explanation of the program that bytes spell.
+fn explain_bytes(
+    alloc: Global,
+    bytes: &[u8],
+    ctx_len: u32,
+    rings: u32,
+) -> Result<Explanation, AllocError>
+    requires context { ctx_len ≤ 65536 }
+    requires rings { rings ≤ 16 }
+    ensures explained { IfOk result (λ explanation.
+        ExplainsBytes bytes.now (record { ctx_len = ctx_len; rings = rings }) explanation.reason (string_bytes explanation.text)) }
+{
+    let program = match decode(alloc, bytes) {
+        Ok(program) => program,
+        Err(fault) => return explain_decode(alloc, bytes, fault),
+    };
+    program.facts();
+    match shape(alloc, program) {
+        Ok(shape) => explain_shaped(alloc, bytes, shape, ctx_len, rings),
+        Err(fault) => explain_shape(alloc, bytes, fault),
+    }
+}
+
+// The explanation of bytes that are no program.
+fn explain_decode(
+    alloc: Global,
+    bytes: &[u8],
+    fault: DecodeFault,
+) -> Result<Explanation, AllocError>
+    requires { (fault ≡ decode_no_memory) ⊎ IsFirstDecodeFault bytes.now fault }
+    ensures first { IfOk result (λ explanation. IsFirstDecodeFault bytes.now fault) }
+    ensures reason { IfOk result (λ explanation. explanation.reason ≡ Some (Reason.Decode fault)) }
+    ensures shown { IfOk result (λ explanation. ShowsFault bytes.now fault.unit fault.kind (string_bytes explanation.text)) }
+{
+    let mut text = match fault.kind {
+        DecodeKind::Memory => return Err(AllocError),
+        DecodeKind::Length | DecodeKind::TooLong => String::new(alloc),
+        _ => units_text(alloc, bytes, fault.unit)?,
+    };
+    text.push_str(decode_advice(fault.kind))?;
+    Ok(Explanation {
+        text,
+        reason: Some(Reason::Decode(fault)),
+    })
+}
+
+// The explanation of a program whose shape has a fault.
+fn explain_shape(alloc: Global, bytes: &[u8], fault: ShapeFault) -> Result<Explanation, AllocError>
+    requires unit { fault.unit < 4096 }
+    ensures kind { IfOk result (λ explanation. fault.kind ≢ ShapeFaultKind.Memory) }
+    ensures reason { IfOk result (λ explanation. explanation.reason ≡ Some (Reason.Shape fault)) }
+    ensures shown { (program : List Insn) → IsProgramOf bytes.now program
+        → IfOk result (λ explanation. ShowsWindow program fault.unit (string_bytes explanation.text)) }
+{
+    if fault.kind == ShapeFaultKind::Memory {
+        return Err(AllocError);
+    }
+    let program = decode_again(alloc, bytes)?;
+    let mut text = String::new(alloc);
+    push_window(alloc, &mut text, &program, fault.unit)?;
+    text.push_str(shape_advice(fault.kind))?;
+    Ok(Explanation {
+        text,
+        reason: Some(Reason::Shape(fault)),
+    })
+}
+
+// The explanation of a program without a fault of shape.
+fn explain_shaped(
+    alloc: Global,
+    bytes: &[u8],
+    shape: Shape,
+    ctx_len: u32,
+    rings: u32,
+) -> Result<Explanation, AllocError>
+    requires program { IsProgramOf bytes.now shape }
+    requires context { ctx_len ≤ 65536 }
+    requires rings { rings ≤ 16 }
+    ensures explained { IfOk result (λ explanation.
+        ExplainsBytes bytes.now (record { ctx_len = ctx_len; rings = rings }) explanation.reason (string_bytes explanation.text)) }
+{
+    match verify(alloc, shape, ctx_len, rings) {
+        Ok(verified) => Ok(Explanation {
+            text: listing_text(alloc, &verified)?,
+            reason: None,
+        }),
+        Err(Refusal::Memory) => Err(AllocError),
+        Err(Refusal::Rule { unit, rule }) => explain_rule(alloc, bytes, unit, rule),
+    }
+}
+
+// The explanation of a program that breaks a rule.
+fn explain_rule(
+    alloc: Global,
+    bytes: &[u8],
+    unit: u32,
+    rule: Rule,
+) -> Result<Explanation, AllocError>
+    requires unit { unit < 4096 }
+    ensures reason { IfOk result (λ explanation. explanation.reason ≡ Some (Reason.Rule unit rule)) }
+    ensures shown { (program : List Insn) → IsProgramOf bytes.now program
+        → IfOk result (λ explanation. ShowsRule program unit rule (string_bytes explanation.text)) }
+{
+    let program = decode_again(alloc, bytes)?;
+    let mut text = String::new(alloc);
+    push_window(alloc, &mut text, &program, unit)?;
+    push_number(&mut text, rule)?;
+    text.push_str(rule_advice(rule))?;
+    Ok(Explanation {
+        text,
+        reason: Some(Reason::Rule { unit, rule }),
+    })
+}

@@ -1,0 +1,32 @@
+//! What an explanation is.
+
+use rb_cfg::ShapeFault;
+use rb_decode::DecodeFault;
+use rb_refs::Rule as BrokenRule;
+
+/// Why a program is refused: the first fault of the first layer that has one.
+#[derive(Clone, Copy, Debug, PartialEq, Eq)]
+pub enum Reason {
+    /// The text, without its white space, is not pairs of hex digits.
+    Text,
+    /// The bytes are no program.
+    Decode(DecodeFault),
+    /// The program is not well shaped.
+    Shape(ShapeFault),
+    /// The program breaks a rule of verification.
+    Rule {
+        /// The lowest unit at which a rule is broken.
+        unit: u32,
+        /// The first rule that is broken there.
+        rule: BrokenRule,
+    },
+}
+
+/// The explanation of a program.
+#[derive(Debug, Drop)]
+pub struct Explanation {
+    /// The text, in whole lines.
+    pub text: String,
+    /// Why the program is refused; none where it is accepted.
+    pub reason: Option<Reason>,
+}

@@ -1,0 +1,154 @@
+//! The line of what is known before an instruction.
+
+ghost use Rattle.std.specs.Prelude.{◌≡◌, ◌<◌, ◌++◌, Some, OnOk, string_bytes};
+ghost use Rattle.std.specs.List.{flat_map};
+ghost use Rattle.rb_explain.specs.StateTexts.{size_text, value_text, register_in, registers_text, tested_text, reference_text, state_text};
+ghost use Rattle.rb_explain.specs.StateTexts as texts;
+
+use rb_refs::{Abs, AbsState, Held, Reference};
+use std::alloc::AllocError;
+use std::fmt;
+use std::fmt::Write;
+
+// How long a record is, where it is held.
+#[derive(Clone, Copy)]
+struct Size(Option<Reference>);
+
+impl fmt::Display for Size {
+    ghost output = { λ size. Some (size_text size.0) };
+
+    fn fmt<W: fmt::Write>(&self, f: &mut fmt::Formatter<W>) -> fmt::Result {
+        match self.0 {
+            Some(reference) => write!(f, " of {} bytes", reference.size),
+            None => write!(f, ""),
+        }
+    }
+}
+
+// What a register holds.
+#[derive(Clone, Copy)]
+struct Value<'a> {
+    held: &'a Held,
+    value: Abs,
+}
+
+impl fmt::Display for Value<'_> {
+    ghost output = { λ shown. Some (value_text shown.held.now shown.value) };
+
+    fn fmt<W: fmt::Write>(&self, f: &mut fmt::Formatter<W>) -> fmt::Result {
+        match self.value {
+            Abs::Unreadable => write!(f, "nothing"),
+            Abs::Number => write!(f, "number"),
+            Abs::Known(number) => write!(f, "{}", number.cast_signed()),
+            Abs::Ctx(offset) => write!(f, "context{offset:+}"),
+            Abs::Stack(offset) => write!(f, "stack{offset:+}"),
+            Abs::Ring(ring) => write!(f, "ring {ring}"),
+            Abs::Perhaps(id) => write!(f, "null or record {id}{}", Size(self.held.get(id))),
+            Abs::Record(id, offset) => write!(
+                f,
+                "record {id}{offset:+}{}",
+                Size(self.held.get(id))
+            ),
+        }
+    }
+}
+
+fn is_readable(value: Abs) -> bool
+    ensures { result ≡ texts.is_readable value }
+{
+    match value {
+        Abs::Unreadable => false,
+        _ => true,
+    }
+}
+
+// A register with what it holds, where it may be read.
+fn push_register(text: &mut String, state: &AbsState, register: usize) -> Result<(), AllocError>
+    requires { register < 11 }
+    ensures added { OnOk result (string_bytes text.new ≡ string_bytes text.old ++ register_in state.now register) }
+{
+    let value = state.values[register];
+    let held = &state.held;
+    if is_readable(value) {
+        write!(text, "  r{register} = {}", Value { held, value })
+    } else {
+        text.push_str("")
+    }
+}
+
+// Whether a record was tested against null.
+#[derive(Clone, Copy)]
+struct Tested(bool);
+
+impl fmt::Display for Tested {
+    ghost output = { λ tested. Some (tested_text tested.0) };
+
+    fn fmt<W: fmt::Write>(&self, f: &mut fmt::Formatter<W>) -> fmt::Result {
+        if self.0 {
+            write!(f, "")
+        } else {
+            write!(f, ", or null")
+        }
+    }
+}
+
+// A record that has to be given back.
+#[derive(Clone, Copy)]
+struct Holding(Reference);
+
+impl fmt::Display for Holding {
+    ghost output = { λ holding. Some (reference_text holding.0) };
+
+    fn fmt<W: fmt::Write>(&self, f: &mut fmt::Formatter<W>) -> fmt::Result {
+        let Reference {
+            id,
+            ring,
+            size,
+            sure,
+        } = self.0;
+        let tested = Tested(sure);
+        write!(
+            f,
+            "  holds record {id} of {size} bytes in ring {ring}{tested}"
+        )
+    }
+}
+
+fn push_reference(text: &mut String, reference: &Reference) -> Result<(), AllocError>
+    ensures added { OnOk result (string_bytes text.new ≡ string_bytes text.old ++ reference_text reference.now) }
+{
+    write!(text, "{}", Holding(*reference))
+}
+
+// All registers that may be read.
+#[tactic(auto, using(crate::proofs::Joining::joins), unfolding(crate::specs::StateTexts::registers_text))]
+fn push_registers(text: &mut String, state: &AbsState) -> Result<(), AllocError>
+    ensures added { OnOk result (string_bytes text.new ≡ string_bytes text.old ++ registers_text state.now) }
+{
+    for register in 0..11 {
+        push_register(text, state, register)?;
+    }
+    Ok(())
+}
+
+// All records that have to be given back.
+#[tactic(auto, using(crate::proofs::Joining::joins_item))]
+fn push_references(text: &mut String, held: &[Reference]) -> Result<(), AllocError>
+    ensures added { OnOk result (string_bytes text.new ≡ string_bytes text.old ++ flat_map reference_text held.now) }
+{
+    for reference in held {
+        push_reference(text, reference)?;
+    }
+    Ok(())
+}
+
+/// What is known before an instruction.
+#[tactic(auto, using(crate::proofs::Joining::four))]
+pub(crate) fn push_state(text: &mut String, state: &AbsState) -> Result<(), AllocError>
+    ensures added { OnOk result (string_bytes text.new ≡ string_bytes text.old ++ state_text state.now) }
+{
+    text.push_str("      #")?;
+    push_registers(text, state)?;
+    push_references(text, state.held.as_slice())?;
+    text.push_str("\n")
+}

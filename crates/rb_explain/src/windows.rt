@@ -1,0 +1,153 @@
+//! The lines around a fault.
+
+ghost use Rattle.std.specs.Prelude.{◌≡◌, ◌+◌, ◌*◌, ◌<◌, ◌≤◌, ◌%◌, ◌++◌, List, IfOk, OnOk, length, take, string_bytes};
+ghost use Rattle.rb_insn.specs.declared.insn.Insn.{Insn};
+ghost use Rattle.rb_decode.specs.Program.{IsProgram, unit_count};
+ghost use Rattle.rb_insn.specs.Spelling.{SpellsAll};
+ghost use Rattle.rb_explain.specs.Joined.{joined_below};
+ghost use Rattle.rb_explain.specs.Explanations.{is_near, mark_under, near_line, window, raw_line, number_text, ShowsUnits};
+
+use crate::lines::{push_bytes, push_line};
+use rb_decode::{Program, decode};
+use rb_refs::Rule;
+use std::alloc::{AllocError, Global};
+use std::fmt::Write;
+
+/// How many units are shown before a fault, and how many behind it.
+const NEAR: u32 = 4;
+
+/// How many units are shown of bytes that are no program, from the one with the fault on.
+const RAW: u32 = 3;
+
+fn is_near_to(at: u32, unit: u32) -> bool
+    requires at { at ≤ 4096 }
+    requires unit { unit ≤ 4096 }
+    ensures { result ≡ is_near at unit }
+{
+    unit <= at + NEAR && at <= unit + NEAR
+}
+
+// The mark under the unit of the fault.
+fn mark_of(at: u32, unit: u32) -> &'static str
+    ensures { result.now ≡ mark_under at unit }
+{
+    if unit == at { "   ^\n" } else { "" }
+}
+
+// The line of an instruction near the fault, with the mark under it where the fault is its own.
+fn push_near(
+    alloc: Global,
+    text: &mut String,
+    program: &Program,
+    at: u32,
+    unit: u32,
+) -> Result<(), AllocError>
+    requires at { at ≤ 4096 }
+    requires unit { unit ≤ 4096 }
+    ensures added { OnOk result (string_bytes text.new ≡ string_bytes text.old ++ near_line program.now at unit) }
+{
+    match program.at(unit) {
+        Some(insn) if is_near_to(at, unit) => {
+            push_line(alloc, text, unit, insn)?;
+            text.push_str(mark_of(at, unit))
+        }
+        _ => text.push_str(""),
+    }
+}
+
+/// A rule's number, in front of what is said of it: `V10: `.
+pub(crate) fn push_number(text: &mut String, rule: Rule) -> Result<(), AllocError>
+    ensures added { OnOk result (string_bytes text.new ≡ string_bytes text.old ++ number_text rule) }
+{
+    write!(text, "V{}: ", rule.number())
+}
+
+/// The lines around a unit, with the mark under it.
+#[tactic(auto, using(crate::proofs::Joining::joins))]
+pub(crate) fn push_window(
+    alloc: Global,
+    text: &mut String,
+    program: &Program,
+    at: u32,
+) -> Result<(), AllocError>
+    requires { at ≤ 4096 }
+    ensures added { OnOk result (string_bytes text.new ≡ string_bytes text.old ++ window program.now at) }
+{
+    program.facts();
+    for unit in 0..program.units() {
+        push_near(alloc, text, program, at, unit)?;
+    }
+    Ok(())
+}
+
+// The bytes of a unit that was not read, where there is one, with the mark under it where the fault is its own.
+fn push_raw(
+    alloc: Global,
+    text: &mut String,
+    bytes: &[u8],
+    at: u32,
+    unit: u32,
+) -> Result<(), AllocError>
+    requires whole { length bytes.now % 8 ≡ 0 }
+    requires unit { unit ≤ 8192 }
+    ensures added { OnOk result (string_bytes text.new ≡ string_bytes text.old ++ raw_line bytes.now at unit) }
+{
+    let start = 8 * unit as usize;
+    if start < bytes.len() {
+        push_bytes(alloc, text, unit, &bytes[start..start + 8])?;
+        text.push_str(mark_of(at, unit))
+    } else {
+        text.push_str("")
+    }
+}
+
+// The bytes of the units from the fault on.
+#[tactic(auto, using(crate::proofs::Joining::joins))]
+fn push_raws(alloc: Global, text: &mut String, bytes: &[u8], at: u32) -> Result<(), AllocError>
+    requires whole { length bytes.now % 8 ≡ 0 }
+    requires at { at ≤ 4096 }
+    ensures added { OnOk result (string_bytes text.new ≡ string_bytes text.old ++ joined_below (λ k. raw_line bytes.now at (at + k)) 3) }
+{
+    for k in 0..RAW {
+        push_raw(alloc, text, bytes, at, at + k)?;
+    }
+    Ok(())
+}
+
+/// The program of bytes that spell one; only memory may be missing.
+pub(crate) fn decode_again(alloc: Global, bytes: &[u8]) -> Result<Program, AllocError>
+    ensures spelled { IfOk result (λ program. SpellsAll program bytes.now) }
+    ensures same { (program : List Insn) → IsProgram program → SpellsAll program bytes.now → IfOk result (λ found. found ≡ program) }
+{
+    match decode(alloc, bytes) {
+        Ok(program) => Ok(program),
+        Err(_) => Err(AllocError),
+    }
+}
+
+// The lines before a fault.
+fn push_front(alloc: Global, text: &mut String, bytes: &[u8], at: u32) -> Result<(), AllocError>
+    requires inside { 8 * at ≤ length bytes.now }
+    requires at { at ≤ 4096 }
+    ensures added { OnOk result ((front : List Insn) × SpellsAll front (take (8 * at) bytes.now)
+        × (string_bytes text.new ≡ string_bytes text.old ++ window front at)) }
+{
+    if at == 0 {
+        return text.push_str("");
+    }
+    let front = decode_again(alloc, &bytes[..8 * at as usize])?;
+    push_window(alloc, text, &front, at)
+}
+
+/// The lines before a fault of bytes, and the bytes of the units from it on.
+pub(crate) fn units_text(alloc: Global, bytes: &[u8], at: u32) -> Result<String, AllocError>
+    requires inside { 8 * at < length bytes.now }
+    requires whole { length bytes.now % 8 ≡ 0 }
+    requires at { at ≤ 4096 }
+    ensures shown { IfOk result (λ text. ShowsUnits bytes.now at (string_bytes text)) }
+{
+    let mut text = String::new(alloc);
+    push_front(alloc, &mut text, bytes, at)?;
+    push_raws(alloc, &mut text, bytes, at)?;
+    Ok(text)
+}
