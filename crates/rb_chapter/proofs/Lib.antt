@@ -13,3 +13,4 @@ pub mod Room
 pub mod Alike
 pub mod Bound
 pub mod Keeping
+pub mod Empty

@@ -84,7 +84,7 @@ no_entry : (before : List Entry) (e : Entry) (after : List Entry) → [] ≡ bef
 no_entry [] e after is = cc
 no_entry (b ∷ bs) e after is = cc
 
-none-legal : (o : Opening) (t : List Entry) → t ≡ [] → IsLegalFrom o t
+pub none-legal : (o : Opening) (t : List Entry) → t ≡ [] → IsLegalFrom o t
 none-legal o t none = record { each = λ before e after is. absurd (no_entry before e after (sym none ∙ is)) }
 
 -- a chapter that meets one with a earlier goes on from the longer earlier

@@ -5,3 +5,5 @@ pub mod ChapterRoom
 pub mod ChapterRing
 pub mod ChapterCalls
 pub mod WholeHistory
+pub mod UntakenRecords
+pub mod inner

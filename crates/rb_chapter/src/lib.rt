@@ -1,6 +1,6 @@
 //! A ring's history, cut into numbered chapters, for rings that run without end: a ring keeps one chapter at a time, so its memory does
-//! not grow, and what a chapter begins with stands for all that came before it. There is no ring in this crate, and no body to run:
-//! `specs/` has the definitions that the contracts of rings cite, and the laws are contracts here.
+//! not grow, and what a chapter begins with stands for all that came before it. There is no ring in this crate: `specs/` has the
+//! definitions that the contracts of rings cite, the laws are contracts here, and `Chapter` is a chapter as a value.
 //!
 //! A chapter has its number, its opening (`specs/Opening.antt`: both positions, the records that were not taken, and the totals so
 //! far) and its entries (`specs/Chapters.antt` has a drawing). `specs/CountedFrom.antt` says what entries mean that are counted from an
@@ -20,6 +20,10 @@
 //! ```
 #![tactic(auto)]
 
+mod chapter;
 mod chapter_laws;
+mod opening;
 
+pub use chapter::Chapter;
 pub use chapter_laws::{calls_are_alike, chapters_join, counted_from_the_opening, room_is_kept};
+pub use opening::{Opening, UntakenRecord, UntakenStatus};

@@ -3,6 +3,8 @@
 #![tactic(auto)]
 
 #[cfg(test)]
+mod chapter_values;
+#[cfg(test)]
 mod examples;
 #[cfg(test)]
 mod expected;

@@ -1,5 +1,6 @@
 //! The ring of one thread.
 
+mod chapters;
 mod draw;
 mod drawn;
 mod plain;

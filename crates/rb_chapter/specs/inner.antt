@@ -1,0 +1,3 @@
+pub mod OpeningNumbers
+pub mod OpeningBody
+pub mod ChapterBody

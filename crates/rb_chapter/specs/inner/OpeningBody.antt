@@ -1,0 +1,20 @@
+-- What an opening's fields mean, and what they keep.
+use Rattle.std.specs.Prelude.{◌≡◌, map, length}
+use Rattle.rb_chapter.specs.declared.opening.Opening.TheInside.{Inside}
+use Rattle.rb_chapter.specs.UntakenRecords.{untaken_shown}
+use Rattle.rb_chapter.specs.Opening.{Opening}
+
+abbrev pub opening_shown : Inside → Opening
+opening_shown a = record {
+  setup = record { size = a.numbers.size; start = a.numbers.start; workers = a.numbers.workers };
+  producer = a.numbers.producer;
+  consumer = a.numbers.consumer;
+  records = map untaken_shown a.records.items;
+  tallies = a.tallies.items;
+  consumed = a.numbers.consumed;
+  skipped = a.numbers.skipped;
+}
+
+-- it has the totals of each worker
+abbrev pub OpeningInvariant : Inside → Type 0
+OpeningInvariant a = length a.tallies.items ≡ a.numbers.workers
