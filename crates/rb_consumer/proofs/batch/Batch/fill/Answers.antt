@@ -1,0 +1,9 @@
+use Rattle.std.proofs.Common.{arith}
+use Rattle.rb_consumer.proofs.Batches.{filled}
+use Rattle.rb_consumer.proofs.batch.Batch.fill.Goals as goal
+
+pub invariant_of-self : goal.invariant_of-self
+invariant_of-self g c =
+    let t = c.take_many.ensures in
+    filled c.take_many.result _ c.capacity-n.result c.clear.new.self.items c.take_many.new.out.items _ _
+    (λ e. t.foreign.0 e (omega (arith, c.tag.ensures, c.tag-2.ensures, c.if-tag.false))) t.call c.clear.ensures.items (omega (arith, t.capacity, c.capacity-n.ensures))

@@ -1,0 +1,52 @@
+-- What a batch holds, and what it lends and gives back (own).
+use Rattle.std.specs.Prelude.{ℕ, ◌≡◌, ◌≤◌, Bool, true, false, List, [], ◌∷◌, ◌++◌, Option, None, Some, filter, length}
+use Rattle.rb_history.specs.declared.answers.Taken.{Taken}
+use Rattle.rb_history.specs.declared.answers.Taken.TheVariants.{Event}
+use Rattle.rb_history.specs.ManyTakes.{HasRecord}
+use Rattle.rb_consumer.specs.declared.item.Event as lent
+use Rattle.rb_consumer.specs.declared.item.Item as given
+use Rattle.rb_consumer.specs.Items.{event_taken, item_taken}
+
+-- a batch: how many records it has room for, and what was taken into it
+pub record BatchValue : Type 0 where
+  pub capacity : ℕ
+  pub taken : List Taken
+
+-- each found a record
+abbrev pub AreRecords : List Taken → Type 0
+AreRecords [] = Unit {0}
+AreRecords (t ∷ ts) = HasRecord t × AreRecords ts
+
+-- what holds of every batch
+pub record IsBatch (b : BatchValue) : Type 0 where
+  pub records : AreRecords b.taken
+  pub within : length b.taken ≤ b.capacity
+
+abbrev pub is_event : Taken → Bool
+is_event (Event p w k bytes) = true
+is_event _ = false
+
+-- the next item is what was taken first; none where nothing is left
+abbrev pub LendsItem : List Taken → List Taken → Option given.Item → Type 0
+LendsItem old new None = (old ≡ []) × (new ≡ [])
+LendsItem old new (Some i) = old ≡ item_taken i ∷ new
+
+-- the next event, of those that are left
+abbrev pub LendsEvent : List Taken → List Taken → Option lent.Event → Type 0
+LendsEvent old new None = (old ≡ []) × (new ≡ [])
+LendsEvent old new (Some e) = old ≡ event_taken e ∷ new
+
+-- the last event is taken out, and its bytes are given; none where there is no event
+pub record GivesLastEvent (old new : List Taken) (bytes : List ℕ) : Type 0 where
+  pub front : List Taken
+  pub back : List Taken
+  pub pos : ℕ
+  pub worker : ℕ
+  pub serial : ℕ
+  pub old_is : old ≡ front ++ Event pos worker serial bytes ∷ back
+  pub new_is : new ≡ front ++ back
+  pub last : filter is_event back ≡ []
+
+abbrev pub Recycles : List Taken → List Taken → Option (List ℕ) → Type 0
+Recycles old new None = (filter is_event old ≡ []) × (new ≡ old)
+Recycles old new (Some bytes) = GivesLastEvent old new bytes

@@ -1,0 +1,20 @@
+-- What an item that is lent says: the answer of `take` that it comes from, and its record on a tape (own).
+use Rattle.rb_header.specs.TapeBytes.{Item}
+use Rattle.rb_header.specs.TapeBytes.Item.{Event, Skip}
+use Rattle.rb_history.specs.declared.answers.Taken.{Taken}
+use Rattle.rb_history.specs.declared.answers.Taken.TheVariants as answers
+use Rattle.rb_consumer.specs.declared.item.Event as lent
+use Rattle.rb_consumer.specs.declared.item.Item as given
+use Rattle.rb_consumer.specs.declared.item.Item.TheVariants as kinds
+
+abbrev pub event_taken : lent.Event → Taken
+event_taken e = answers.Event e.pos e.worker e.serial e.bytes.now
+
+abbrev pub item_taken : given.Item → Taken
+item_taken (kinds.Event e) = event_taken e
+item_taken (kinds.Skip pos n) = answers.Skipped pos n
+
+-- as the records of a tape, which stand in rb_header
+abbrev pub item_of : given.Item → Item
+item_of (kinds.Event e) = Event e.pos e.bytes.now
+item_of (kinds.Skip pos n) = Skip pos n

@@ -1,0 +1,4 @@
+pub mod Items
+pub mod Batches
+pub mod TapeOutput
+pub mod inner

@@ -1,0 +1,9 @@
+-- The parts of a record on a tape, as they are written.
+use Rattle.std.specs.Prelude.{ℕ, List, []}
+use Rattle.rb_header.specs.TapeBytes.{Item}
+use Rattle.rb_header.specs.TapeBytes.Item.{Event, Skip}
+
+-- what stands behind the header before zeros do
+abbrev pub bytes_before_zeros : Item → List ℕ
+bytes_before_zeros (Event position bytes) = bytes
+bytes_before_zeros (Skip position len) = []

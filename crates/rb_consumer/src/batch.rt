@@ -1,0 +1,133 @@
+//! Many records, taken under one holding of the lock.
+
+ghost use Rattle.std.specs.Prelude.{◌≡◌, ◌≢◌, ◌+◌, ◌≤◌, ◌↔◌, [], IsErr, IfOk, IfSome, IfNone, OnOk, None, filter, length};
+ghost use Rattle.rb_history.specs.ManyTakes.{TakesMany};
+ghost use Rattle.rb_ledger.specs.Roles.Role.{Consumer};
+ghost use Rattle.rb_ledger.specs.Seats.{IsSameConsumerSeat};
+ghost use Rattle.rb_ledger.specs.LockedCalls.{LockedCall};
+ghost use Rattle.rb_ledger.specs.ManyTakes.{events_among, skips_among, span_among, AreTakenFrom, got_by_all};
+ghost use Rattle.rb_consumer.specs.Batches.{AreRecords, Recycles, is_event};
+ghost use Rattle.rb_consumer.specs.inner.LastEvents.{IsLastEvent};
+
+use crate::batch_items::{Events, Items};
+use rb_history::Taken;
+use rb_ledger::{ConsumerSeat, Foreign, SharedRing};
+use rb_lend::Sheet;
+use std::alloc::{AllocError, Global};
+use std::marker::Model;
+use std::sync::Wait;
+
+/// Records that a ring's consumer took, with their bytes, as many as there is room for. It is filled again and again, and takes memory
+/// when it is made alone. Contracts see its capacity and the answers of `take` that are in it.
+#[derive(Drop)]
+pub struct Batch {
+    taken: Vec<Taken>,
+}
+
+impl Model for Batch {
+    ghost use Rattle.std.specs.Prelude.{vec_capacity};
+    ghost use Rattle.rb_consumer.specs.Batches.{BatchValue, IsBatch};
+
+    ghost Value = { BatchValue };
+
+    ghost view = { λ b. record { capacity = vec_capacity b.taken; taken = b.taken.items } };
+
+    ghost invariant = { λ b. IsBatch (record { capacity = vec_capacity b.taken; taken = b.taken.items }) };
+}
+
+impl Batch {
+    /// An empty batch with room for `n` records; the error is want of memory.
+    pub fn with_capacity(alloc: Global, n: usize) -> Result<Batch, AllocError>
+        ensures empty { IfOk result (λ b. b ≡ record { capacity = n; taken = [] }) }
+    {
+        let taken = Vec::with_capacity(alloc, n)?;
+        Ok(Batch { taken })
+    }
+
+    /// Gives up what is in the batch, and takes records under one holding of the ring's lock until the batch is full, the front is busy or
+    /// the ring is empty; returns how many they are. `Foreign` where the seat is another ring's: then nothing changed. It takes no memory.
+    /// (Linux Documentation/bpf/ringbuf.rst: records are consumed in the order of their reservation.)
+    pub fn fill<R: Wait>(
+        &mut self,
+        rt: &R,
+        ring: &SharedRing,
+        me: &mut ConsumerSeat,
+    ) -> Result<usize, Foreign>
+        requires ring { me.old.tag ≡ ring.now.tag → me.old.ring ≡ ring.now.ring }
+        ensures foreign { IsErr result ↔ (me.old.tag ≢ ring.now.tag) }
+        ensures unchanged { me.old.tag ≢ ring.now.tag → me.new ≡ me.old }
+        ensures batch_unchanged { me.old.tag ≢ ring.now.tag → self.new ≡ self.old }
+        ensures capacity { self.new.capacity ≡ self.old.capacity }
+        ensures seat { IsSameConsumerSeat me.old me.new }
+        ensures released { (me.old.out ≡ None) × (me.new.out ≡ None) }
+        ensures count { IfOk result (λ count. count ≡ length self.new.taken) }
+        ensures call { OnOk result (LockedCall Consumer me.old.seen me.new.seen (TakesMany self.old.capacity self.new.taken)) }
+        ensures place { OnOk result (AreTakenFrom me.old.position self.new.taken) }
+        ensures position { OnOk result (me.new.position ≡ me.old.position + span_among self.new.taken) }
+        ensures consumed { OnOk result (me.new.consumed ≡ me.old.consumed + events_among self.new.taken) }
+        ensures skipped { OnOk result (me.new.skipped ≡ me.old.skipped + skips_among self.new.taken) }
+        ensures got { OnOk result (me.new.got ≡ got_by_all me.old.got self.new.taken) }
+    {
+        if me.tag() != ring.tag() {
+            me.facts();
+            return Err(Foreign);
+        }
+        self.taken.clear();
+        let n = self.taken.capacity();
+        ring.take_many(rt, me, n, &mut self.taken)
+    }
+
+    /// What holds of each batch: what is in it are records, at most as many as there is room for.
+    pub fn facts(&self)
+        ensures records { AreRecords self.now.taken }
+        ensures within { length self.now.taken ≤ self.now.capacity }
+    {
+        let _ = &self.taken;
+    }
+
+    /// The submitted records in the batch, in the order in which they were taken.
+    pub fn events(&self) -> Events<'_>
+        ensures value { result ≡ filter is_event self.now.taken }
+    {
+        Events {
+            rest: self.taken.as_slice(),
+        }
+    }
+
+    /// All records in the batch, discarded ones too, in the order in which they were taken.
+    pub fn items(&self) -> Items<'_>
+        ensures value { result ≡ self.now.taken }
+    {
+        Items {
+            rest: self.taken.as_slice(),
+        }
+    }
+
+    /// Takes the last submitted record out of the batch and returns its sheet, to be used again; `None` where there is none. In time linear
+    /// in the discarded records behind it.
+    pub fn recycle(&mut self) -> Option<Sheet>
+        ensures recycles { Recycles self.old.taken self.new.taken result }
+        ensures capacity { self.new.capacity ≡ self.old.capacity }
+    {
+        let index = last_event(&self.taken)?;
+        match self.taken.remove(index) {
+            Taken::Event(_pos, _worker, _serial, sheet) => Some(sheet),
+            _ => unreachable!(),
+        }
+    }
+}
+
+// The index of the last submitted record, where there is one.
+fn last_event(taken: &[Taken]) -> Option<usize>
+    ensures last { IfSome result (IsLastEvent taken.now) }
+    ensures none { IfNone result (filter is_event taken.now ≡ []) }
+{
+    let mut behind = taken.len();
+    while behind > 0 {
+        behind -= 1;
+        if matches!(taken[behind], Taken::Event(_, _, _, _)) {
+            return Some(behind);
+        }
+    }
+    None
+}

@@ -1,0 +1,30 @@
+//! What a ring's consumer does with what it takes. A `Batch` takes many records under one holding of the ring's lock and lends them; a
+//! `TapeWriter` writes records as a tape, one behind the other, to any writer (`rb_header` has the tape's bytes; a record's header is that
+//! of Linux Documentation/bpf/ringbuf.rst). It is for programs that hand on what they take.
+//!
+//! Proved: what a `Batch` lends is what its one `take_many` took, in order and with nothing left out, so positions follow each other and
+//! the seat's numbers rise by them; fewer records than the capacity only where the front was busy then, or no record was left. What a
+//! `put` wrote is the first `sent()` bytes of its record, and `resume` writes the rest, for any writer that tells its bytes.
+//!
+//! ```text
+//! let mut batch = Batch::with_capacity(alloc, 64)?;
+//! let mut tape = TapeWriter::new(out, 4096, consumer.position());
+//! batch.fill(rt, &ring, &mut consumer)?;
+//! for item in batch.items() {
+//!     tape.put(&item)?;
+//! }
+//! ```
+//!
+//! Its calls are tested in consumer.rt of rb_ledger_tests. `fill` may wait for other threads, and no proof says that it returns.
+#![tactic(auto)]
+
+mod batch;
+mod batch_items;
+mod item;
+mod piece;
+mod tape_writer;
+
+pub use batch::Batch;
+pub use batch_items::{Events, Items};
+pub use item::{Event, Item};
+pub use tape_writer::{DeviceFault, TapeWriter};

@@ -1,0 +1,137 @@
+//! Writing the tape: the records that were taken, one behind the other.
+
+use crate::item::Item;
+use crate::piece::write_from;
+use rb_header::span;
+use std::io::Write;
+use std::marker::Model;
+use thiserror::Error;
+
+/// A write failed, interrupted ones too, or took nothing of bytes that were to be written. The record is unfinished.
+#[derive(Clone, Copy, Debug, Error, PartialEq, Eq)]
+#[error("a write failed or took nothing")]
+pub struct DeviceFault;
+
+/// Writes records to a writer as a tape, one behind the other. Each call writes a record in a few pieces, so let the writer be a buffered
+/// one, and flush it at the end. No call takes memory.
+#[derive(Drop)]
+pub struct TapeWriter<W> {
+    writer: W,
+    size: u64,
+    position: u64,
+    // How many bytes of the last record went out.
+    sent: u64,
+    // Whether some bytes of the last record are still to be written.
+    unfinished: bool,
+}
+
+impl<W> Model for TapeWriter<W> {
+    ghost use Rattle.rb_history.specs.RingModel.{IsRingSize};
+    ghost use Rattle.rb_consumer.specs.TapeOutput.{TapeOutput};
+
+    ghost Value = { TapeOutput W };
+
+    ghost view = { λ t. record { writer = t.writer; size = t.size; position = t.position; sent = t.sent; unfinished = t.unfinished } };
+
+    ghost invariant = { λ t. IsRingSize t.size };
+}
+
+impl<W: Write> TapeWriter<W> {
+    ghost use Rattle.std.specs.Prelude.{◌≡◌, ◌<◌, ◌≤◌, ◌+◌, false, true, not, is_ok, if◌then◌else◌, take, drop, OnOk, OnErr};
+    ghost use Rattle.std.specs.Io.KnownBytes.{Appends};
+    ghost use Rattle.rb_header.specs.TapeBytes.{item_bytes, item_span, IsItemAt};
+    ghost use Rattle.rb_history.specs.RingModel.{IsRingSize, IsStartPosition};
+    ghost use Rattle.rb_consumer.specs.Items.{item_of};
+
+    /// A tape of a ring of `size` bytes, whose first record stands at `start`. Nothing is written yet.
+    pub fn new(writer: W, size: u64, start: u64) -> TapeWriter<W>
+        requires size { IsRingSize size }
+        requires start { IsStartPosition start }
+        ensures value { result ≡ record { writer = writer; size = size; position = start; sent = 0; unfinished = false } }
+    {
+        TapeWriter {
+            writer,
+            size,
+            position: start,
+            sent: 0,
+            unfinished: false,
+        }
+    }
+
+    /// Writes one record: its header, its bytes, and zeros up to a multiple of eight. It stops at the first write that fails or takes
+    /// nothing; the record is then unfinished, `sent` tells how many of its bytes went out, and `resume` writes the rest. The position moves
+    /// once the record is whole.
+    pub fn put(&mut self, item: &Item<'_>) -> Result<(), DeviceFault>
+        requires finished { self.old.unfinished ≡ false }
+        requires stands { IsItemAt self.old.size self.old.position (item_of item.now) }
+        ensures bytes { Appends (W.contents self.old.writer) (W.contents self.new.writer) (take self.new.sent (item_bytes self.old.size (item_of item.now))) }
+        ensures all_sent { OnOk result (self.new.sent ≡ item_span (item_of item.now)) }
+        ensures not_all_sent { OnErr result (self.new.sent < item_span (item_of item.now)) }
+        ensures unfinished { self.new.unfinished ≡ not (is_ok result) }
+        ensures size { self.new.size ≡ self.old.size }
+        ensures position { self.new.position ≡ (if is_ok result then self.old.position + item_span (item_of item.now) else self.old.position) }
+    {
+        self.write_on(item, 0)
+    }
+
+    /// Writes the bytes of the unfinished record that did not go out yet; `item` is the one that `put` was called with. It stops as `put`
+    /// does, and may be called again then.
+    pub fn resume(&mut self, item: &Item<'_>) -> Result<(), DeviceFault>
+        requires unfinished { self.old.unfinished ≡ true }
+        requires stands { IsItemAt self.old.size self.old.position (item_of item.now) }
+        requires sent { self.old.sent < item_span (item_of item.now) }
+        ensures bytes { Appends (W.contents self.old.writer) (W.contents self.new.writer) (drop self.old.sent (take self.new.sent (item_bytes self.old.size (item_of item.now)))) }
+        ensures more { self.old.sent ≤ self.new.sent }
+        ensures all_sent { OnOk result (self.new.sent ≡ item_span (item_of item.now)) }
+        ensures not_all_sent { OnErr result (self.new.sent < item_span (item_of item.now)) }
+        ensures unfinished { self.new.unfinished ≡ not (is_ok result) }
+        ensures size { self.new.size ≡ self.old.size }
+        ensures position { self.new.position ≡ (if is_ok result then self.old.position + item_span (item_of item.now) else self.old.position) }
+    {
+        self.write_on(item, self.sent)
+    }
+
+    // Writes the record from its byte `from` on.
+    fn write_on(&mut self, item: &Item<'_>, from: u64) -> Result<(), DeviceFault>
+        requires stands { IsItemAt self.old.size self.old.position (item_of item.now) }
+        requires from { from < item_span (item_of item.now) }
+        ensures bytes { Appends (W.contents self.old.writer) (W.contents self.new.writer) (drop from (take self.new.sent (item_bytes self.old.size (item_of item.now)))) }
+        ensures more { from ≤ self.new.sent }
+        ensures all_sent { OnOk result (self.new.sent ≡ item_span (item_of item.now)) }
+        ensures not_all_sent { OnErr result (self.new.sent < item_span (item_of item.now)) }
+        ensures unfinished { self.new.unfinished ≡ not (is_ok result) }
+        ensures size { self.new.size ≡ self.old.size }
+        ensures position { self.new.position ≡ (if is_ok result then self.old.position + item_span (item_of item.now) else self.old.position) }
+    {
+        let sent = write_from(&mut self.writer, self.size, item, from);
+        let span = span(item.len());
+        self.sent = sent;
+        self.unfinished = sent < span;
+        if sent < span {
+            return Err(DeviceFault);
+        }
+        self.position += span;
+        Ok(())
+    }
+
+    /// How many bytes of the last record went out; 0 before the first.
+    pub fn sent(&self) -> u64
+        ensures value { result ≡ self.now.sent }
+    {
+        self.sent
+    }
+
+    /// Where the next record stands, or the one that is unfinished.
+    pub fn position(&self) -> u64
+        ensures value { result ≡ self.now.position }
+    {
+        self.position
+    }
+
+    /// The writer, with what was written to it.
+    pub fn into_writer(self) -> W
+        ensures value { result ≡ self.writer }
+    {
+        self.writer
+    }
+}
