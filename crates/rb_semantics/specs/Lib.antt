@@ -1,3 +1,4 @@
+pub mod StackPointers
 pub mod ProgramMemory
 pub mod ProgramStates
 pub mod HelperCalls
