@@ -194,8 +194,8 @@ spill r = StoreRegister Double r10 (negsuc 7) r
 abbrev fill : Reg → Insn
 fill r = Load Double r r10 (negsuc 7)
 
--- a pointer that is stored on the stack is loaded again
-pointer_kept : runs (spill r1 ∷ fill r2 ∷ Load Byte r0 r2 (pos 3) ∷ Exit ∷ []) ([]) ([]) (Returns 255)
+-- a pointer that is stored on the stack is loaded again, as often as a program likes
+pointer_kept : runs (spill r1 ∷ fill r3 ∷ fill r2 ∷ Load Byte r0 r2 (pos 3) ∷ Exit ∷ []) ([]) ([]) (Returns 255)
 unfolding execute edge_target value_of jumps_of condition_holds wrapped signed_of sign_extended binary_of division_of unsigned_division
 pointer_kept = refl
 
