@@ -1,8 +1,9 @@
 //! The shared types, and the laws called once.
 
 use rb_semantics::{
-    MemoryRegion, PendingCall, Value, programs_can_start, runs_call_once, runs_end_well,
-    steps_are_sound, verified_programs_end_well,
+    MemoryRegion, PendingCall, Value, bytes_written_are_read, pointers_are_not_read,
+    pointers_stored_are_found, pointers_stored_leave_zeros, programs_can_start, runs_call_once,
+    runs_end_well, steps_are_sound, verified_programs_end_well, writes_take_pointers_out,
 };
 
 #[test]
@@ -32,4 +33,9 @@ fn laws_can_be_called() {
     runs_end_well();
     verified_programs_end_well();
     runs_call_once();
+    bytes_written_are_read();
+    writes_take_pointers_out();
+    pointers_stored_are_found();
+    pointers_stored_leave_zeros();
+    pointers_are_not_read();
 }

@@ -1,5 +1,5 @@
 -- Loads and stores are sound.
-use Rattle.std.proofs.Common.{◌≡◌, ℕ, ◌+◌, ◌≤◌, ℤ, ◌+ℤ◌, Bool, true, false, List, ◌++◌, Option, Some, None, length, take, drop, find, sym, ap, subst, ◌∙◌, refl, arith, Result, Ok}
+use Rattle.std.proofs.Common.{◌≡◌, ℕ, ◌+◌, ◌≤◌, ℤ, ◌+ℤ◌, Bool, true, false, List, [], ◌++◌, Option, Some, None, option_and_then, length, take, drop, find, sym, ap, subst, ◌∙◌, refl, arith, Result, Ok}
 use Rattle.std.specs.Prelude.{not, nat_le}
 use Rattle.std.proofs.lemmas.Bool.Decides.{nat_tests}
 use Rattle.std.proofs.lemmas.Grind.{common_steps}
@@ -28,8 +28,9 @@ use Rattle.rb_semantics.specs.declared.value.MemoryRegion.{MemoryRegion}
 use Rattle.rb_semantics.specs.declared.value.MemoryRegion.TheVariants.{Stack, Context, Record}
 use Rattle.rb_semantics.specs.declared.value.Value.{Value}
 use Rattle.rb_semantics.specs.declared.value.Value.TheVariants.{Number, Pointer}
-use Rattle.rb_semantics.specs.ProgramMemory.{Memory, record_named, byte_of, part_bytes, with_bytes, with_part, write}
-use Rattle.rb_semantics.specs.ProgramStates.{State, register, pointed, memory_written}
+use Rattle.rb_semantics.specs.StackPointers.{pointer_at, pointers_beside, spill_of}
+use Rattle.rb_semantics.specs.ProgramMemory.{Memory, record_named, byte_of, part_bytes, part_pointers, with_bytes, with_part, write, place_at}
+use Rattle.rb_semantics.specs.ProgramStates.{State, register, pointed, memory_written, fill_of}
 use Rattle.rb_semantics.specs.Instructions.{StepEffect}
 use Rattle.rb_semantics.specs.Instructions as meaning
 use Rattle.rb_semantics.specs.Agreement.{AgreesValue, AreHeld, IsTested, HasReference, Agrees}
@@ -41,10 +42,11 @@ use Rattle.rb_semantics.proofs.Changes.{agrees_stack, agrees_written}
 use Rattle.rb_semantics.proofs.Checks.{passed, number_passed, IsRange, from_zero, in_stack}
 use Rattle.rb_semantics.proofs.Rows.{past, known, Follows, Sound, gives_sound, goes_next}
 
--- the bytes of a part, in which a range lies
+-- the bytes of a part that keeps no pointer, in which a range lies
 pub record IsInside (m : Memory) (place : MemoryRegion) (z : ℤ) (len : ℕ) : Type 0 where
   pub bytes : List ℕ
   pub there : part_bytes m place ≡ Some bytes
+  pub plain : part_pointers m place ≡ []
   pub range : IsRange (byte_of place z) len (length bytes)
 
 -- where a value points into a part
@@ -62,7 +64,7 @@ pub reached_read : (m : Memory) (v : Value) (by : ℤ) (len : ℕ) → IsReached
 reached_read m v by len r =
     let i = r.inside in
     let at = i.range.at in
-    (take len (drop at i.bytes), rw (r.points, i.there, i.range.byte_at, fits at len i.bytes i.range.fits) refl)
+    (take len (drop at i.bytes), rw (r.points, i.there, i.plain, i.range.byte_at, fits at len i.bytes i.range.fits) refl)
 
 pub length-over : (at : ℕ) (new old : List ℕ) → at + length new ≤ length old → length (take at old ++ (new ++ drop (length new) (drop at old))) ≡ length old
 length-over at new old h = grind (arith, common_steps)
@@ -84,15 +86,15 @@ module _ (subject : Subject) (a : AbsState) (s : State) (g : Agrees subject a s)
   record_inside : (id : ℕ) (z : ℤ) (len : ℕ) → record_contains (find (has_id id) a.held) z len ≡ true → HasReference a.held (abs.Record id z) → IsInside s.memory (Record id) z len
   record_inside id z len h t =
       let b = record_reached a.held s.memory.records id z len (find (has_id id) a.held) refl h t g.records in
-      record { bytes = b.0; there = b.1; range = from_zero z len (length b.0) b.2 }
+      record { bytes = b.0; there = b.1; plain = refl; range = from_zero z len (length b.0) b.2 }
 
   stack_inside : (z : ℤ) (len : ℕ) → contains_range stack_extent z len ≡ true → IsInside s.memory Stack z len
-  stack_inside z len h = record { bytes = s.memory.stack; there = refl; range = subst (IsRange _ len) (sym g.stack) (in_stack z len h) }
+  stack_inside z len h = record { bytes = s.memory.stack; there = refl; plain = g.pointers; range = subst (IsRange _ len) (sym g.stack) (in_stack z len h) }
 
   -- a value that reaches into a part points there
   pub value_reached : (x : Abs) (v : Value) (by : ℤ) (len : ℕ) → reaches (limits_of subject) a.held x by len ≡ true → AgreesValue s.memory.records x v → HasReference a.held x → IsReached s.memory v by len
   value_reached (abs.Ctx o) v by len h k t =
-      record { place = Context; offset = o; points = k; inside = record { bytes = s.memory.context; there = refl; range = from_zero (o +ℤ by) len (length s.memory.context) (subst (λ n. contains_range (extent_from_zero n) (o +ℤ by) len ≡ true) (sym g.context) h) } }
+      record { place = Context; offset = o; points = k; inside = record { bytes = s.memory.context; there = refl; plain = refl; range = from_zero (o +ℤ by) len (length s.memory.context) (subst (λ n. contains_range (extent_from_zero n) (o +ℤ by) len ≡ true) (sym g.context) h) } }
   value_reached (abs.Stack o) v by len h k t = record { place = Stack; offset = o; points = k; inside = stack_inside (o +ℤ by) len h }
   value_reached (abs.Record id o) v by len h k t = record { place = Record id; offset = o; points = k; inside = record_inside id (o +ℤ by) len h t }
   value_reached abs.Unreadable v by len h k t = absurd (cc)
@@ -108,7 +110,7 @@ module _ (subject : Subject) (a : AbsState) (s : State) (g : Agrees subject a s)
     pub held : length memory.records ≡ length s.memory.records
     pub agrees : Agrees subject a (record s { memory = memory })
 
-  write_is : (place : MemoryRegion) (z : ℤ) (new : List ℕ) (i : IsInside s.memory place z (length new)) → write s.memory place z new ≡ with_part s.memory place (take i.range.at i.bytes ++ (new ++ drop (length new) (drop i.range.at i.bytes)))
+  write_is : (place : MemoryRegion) (z : ℤ) (new : List ℕ) (i : IsInside s.memory place z (length new)) → write s.memory place z new ≡ with_part s.memory place i.range.at (length new) (take i.range.at i.bytes ++ (new ++ drop (length new) (drop i.range.at i.bytes)))
   write_is place z new i = rw (i.there, i.range.byte_at, fits i.range.at (length new) i.bytes i.range.fits) refl
 
   stack_written : (o by : ℤ) (v : Value) (new : List ℕ) → v ≡ Pointer Stack o → IsInside s.memory Stack (o +ℤ by) (length new) → IsWritten v by new
@@ -116,10 +118,10 @@ module _ (subject : Subject) (a : AbsState) (s : State) (g : Agrees subject a s)
       let b = take i.range.at i.bytes ++ (new ++ drop (length new) (drop i.range.at i.bytes)) in
       let same : s.memory.stack ≡ i.bytes = (let e : Some s.memory.stack ≡ Some i.bytes = i.there in cc) in
       record {
-        memory = record s.memory { stack = b };
+        memory = record s.memory { stack = b; pointers = pointers_beside i.range.at (length new) s.memory.pointers };
         is = ap (λ v. memory_written s.memory v by new) points ∙ write_is Stack (o +ℤ by) new i;
         held = refl;
-        agrees = agrees_stack subject a s b (length-over i.range.at new i.bytes i.range.fits ∙ ap length (sym same)) g;
+        agrees = agrees_stack subject a s i.range.at (length new) b (length-over i.range.at new i.bytes i.range.fits ∙ ap length (sym same)) g;
       }
 
   record_written : (id : ℕ) (o by : ℤ) (v : Value) (new : List ℕ) → v ≡ Pointer (Record id) o → IsInside s.memory (Record id) (o +ℤ by) (length new) → IsWritten v by new
@@ -141,6 +143,22 @@ module _ (subject : Subject) (a : AbsState) (s : State) (g : Agrees subject a s)
   value_written (abs.Known n) v by new unit w h k t = absurd (cc)
   value_written (abs.Ring n) v by new unit w h k t = absurd (cc)
   value_written (abs.Perhaps n) v by new unit w h k t = absurd (cc)
+
+-- where no pointer is kept, none is found
+pub no_fill : (size : Size) (m : Memory) (v : Value) (by : ℤ) → m.pointers ≡ [] → fill_of size m v by ≡ None
+no_fill Double m (Pointer part offset) by e = at_place (place_at part (offset +ℤ by))
+  where
+    at_place : (o : Option ℕ) → option_and_then (λ place. pointer_at place m.pointers) o ≡ None
+    at_place None = refl
+    at_place (Some place) = ap (pointer_at place) e
+no_fill size m v by e = refl
+
+-- a number is no pointer
+no_spill : (size : Size) (n : ℕ) → spill_of size (Number n) ≡ None
+no_spill Byte n = refl
+no_spill Half n = refl
+no_spill Word n = refl
+no_spill Double n = refl
 
 not_false : (b : Bool) → not b ≡ false → b ≡ true
 not_false true e = refl
@@ -168,15 +186,31 @@ module _ (subject : Subject) (s : State) (c : CanStep subject s) (insn : Insn) (
       subst (λ found. Follows subject s c insn begins (meaning.execute_load insn dst number_of found s) (table.assignment_effect dst abs.Number a)) (sym b.1)
       (gives_sound subject s c insn begins dst abs.Number (Number (number_of b.0)) on (_, refl) tt tt))))
 
-  pub stored_sound : (base : Reg) (by : ℤ) (size : Size) (y : Abs) (w : Value) → AgreesValue s.memory.records y w → Given (meaning.execute_store insn (register s base.number) by (byte_count size) w s) (table.check_store (limits_of subject) base by (byte_count size) y a)
-  stored_sound base by size y w k =
+  pub filled_sound : (dst base : Reg) (by : ℤ) (size : Size) (len : ℕ) (number_of : List ℕ → ℕ) → Given (meaning.execute_fill insn dst number_of (fill_of size s.memory (register s base.number) by) (pointed s.memory (register s base.number) by len) s) (table.check_load (limits_of subject) dst base by len a)
+  filled_sound dst base by size len number_of =
+      let none : fill_of size s.memory (register s base.number) by ≡ None = no_fill size s.memory (register s base.number) by c.agrees.pointers in
+      subst (λ o. Given (meaning.execute_fill insn dst number_of o (pointed s.memory (register s base.number) by len) s) (table.check_load (limits_of subject) dst base by len a)) (sym none) (loaded_sound dst base by len number_of)
+
+  -- a store of what is a number, by any function that does so
+  numbers_stored : (f : Value → StepEffect) (base : Reg) (by : ℤ) (size : Size) (y : Abs) (w : Value) → ((n : ℕ) → f (Number n) ≡ meaning.execute_store insn (register s base.number) by (byte_count size) (Number n) s) → AgreesValue s.memory.records y w
+      → Given (f w) (table.check_store (limits_of subject) base by (byte_count size) y a)
+  numbers_stored f base by size y w same k =
       let x = value_in a base.number in
       let v = register s base.number in
-      let P = Follows subject s c insn begins (meaning.execute_store insn v by (byte_count size) w s) in
-      past P (check_tested x) _ (λ _ _. past P (check_not_context x) _ (λ may allowed. past P (check_inside (limits_of subject) a.held x by (byte_count size)) _ (λ unit e. past P (check_number rule.PointerStored y) _ (λ is_number f.
-      let n = number_value s.memory.records y w (number_passed rule.PointerStored y is_number f) k in
+      let P = Follows subject s c insn begins (f w) in
+      past P (check_tested x) _ (λ _ _. past P (check_not_context x) _ (λ may allowed. past P (check_inside (limits_of subject) a.held x by (byte_count size)) _ (λ unit e. past P (check_number rule.PointerStored y) _ (λ is_number g.
+      let n = number_value s.memory.records y w (number_passed rule.PointerStored y is_number g) k in
       let reach : reaches (limits_of subject) a.held x by (length (little_bytes (byte_count size) n.0)) ≡ true = subst (λ len. reaches (limits_of subject) a.held x by len ≡ true) (sym (length-stored size n.0)) (inside_passed subject a.held x by (byte_count size) unit e) in
       let r = value_written subject a s c.agrees x v by (little_bytes (byte_count size) n.0) may allowed reach (c.agrees.values base.number) (c.agrees.tied base.number) in
-      subst (λ w. Follows subject s c insn begins (meaning.execute_store insn v by (byte_count size) w s) (effect_on_both a)) (sym n.1)
+      subst (λ effect. Follows subject s c insn begins effect (effect_on_both a)) (sym (ap f n.1 ∙ same n.0))
       (subst (λ m. Follows subject s c insn begins (meaning.after_store insn m s) (effect_on_both a)) (sym r.is)
       (goes_next subject s c insn begins (effect_on_both a) s.registers r.memory on r.held r.agrees))))))
+
+  pub stored_sound : (base : Reg) (by : ℤ) (size : Size) (y : Abs) (w : Value) → AgreesValue s.memory.records y w → Given (meaning.execute_store insn (register s base.number) by (byte_count size) w s) (table.check_store (limits_of subject) base by (byte_count size) y a)
+  stored_sound base by size y w k = numbers_stored (λ w. meaning.execute_store insn (register s base.number) by (byte_count size) w s) base by size y w (λ n. refl) k
+
+  pub spilled_sound : (base : Reg) (by : ℤ) (size : Size) (y : Abs) (w : Value) → AgreesValue s.memory.records y w
+      → Given (meaning.execute_spill insn (register s base.number) by (byte_count size) (spill_of size w) w s) (table.check_store (limits_of subject) base by (byte_count size) y a)
+  spilled_sound base by size y w k =
+      numbers_stored (λ w. meaning.execute_spill insn (register s base.number) by (byte_count size) (spill_of size w) w s) base by size y w
+      (λ n. ap (λ o. meaning.execute_spill insn (register s base.number) by (byte_count size) o (Number n) s) (no_spill size n)) k

@@ -11,6 +11,7 @@ use Rattle.rb_refs.specs.HelperChecks as helpers
 use Rattle.rb_verifier.specs.Subject.{Subject}
 use Rattle.rb_semantics.specs.declared.value.Value.{Value}
 use Rattle.rb_semantics.specs.declared.value.Value.TheVariants.{Nothing}
+use Rattle.rb_semantics.specs.StackPointers.{pointers_beside}
 use Rattle.rb_semantics.specs.ProgramMemory.{record_named, with_bytes, without, holding}
 use Rattle.rb_semantics.specs.ProgramStates.{State, register}
 use Rattle.rb_semantics.specs.HelperCalls.{waiting, with_answer}
@@ -52,12 +53,13 @@ module _ (subject : Subject) where
     tied = λ r. subst (λ held. HasReference held (value_in b r)) h.held (tied_below a.held (value_in a r) (value_in b r) (h.values r) (g.tied r));
     bounded = g.bounded;
     stack = g.stack;
+    pointers = g.pointers;
     context = g.context;
   }
 
   -- the unit is of no account
   pub agrees_at : (a : AbsState) (s : State) (unit : ℕ) → Agrees subject a s → Agrees subject a (record s { unit = unit })
-  agrees_at a s unit g = record { count = g.count; values = g.values; records = g.records; tied = g.tied; bounded = g.bounded; stack = g.stack; context = g.context }
+  agrees_at a s unit g = record { count = g.count; values = g.values; records = g.records; tied = g.tied; bounded = g.bounded; stack = g.stack; pointers = g.pointers; context = g.context }
 
   pub agrees_put : (a : AbsState) (s : State) (d : ℕ) (x : Abs) (v : Value) → AgreesValue s.memory.records x v → HasReference a.held x → IsBoundedValue subject.rings v → Agrees subject a s → Agrees subject (put a d x) (record s { registers = set s.registers d v })
   agrees_put a s d x v h t b g = record {
@@ -67,6 +69,7 @@ module _ (subject : Subject) where
     tied = set_all (HasReference a.held) a.values d x abs.Unreadable g.tied t;
     bounded = set_all (IsBoundedValue subject.rings) s.registers d v Nothing g.bounded b;
     stack = g.stack;
+    pointers = g.pointers;
     context = g.context;
   }
 
@@ -86,6 +89,7 @@ module _ (subject : Subject) where
         tied = p5.tied;
         bounded = λ r. subst (λ (vs : List Value). IsBoundedValue subject.rings (get_or vs r Nothing)) (in_order s.registers v) (p5.bounded r);
         stack = g.stack;
+        pointers = g.pointers;
         context = g.context;
       }
     where
@@ -102,6 +106,7 @@ module _ (subject : Subject) where
     tied = λ r. rw (map_at (if_null id) a.values r refl) (tied_null id a.held (value_in a r) h (g.tied r));
     bounded = g.bounded;
     stack = g.stack;
+    pointers = g.pointers;
     context = g.context;
   }
 
@@ -114,6 +119,7 @@ module _ (subject : Subject) where
     tied = λ r. rw (map_at (if_there id) a.values r refl) (tied_there id a.held (value_in a r) (g.tied r));
     bounded = g.bounded;
     stack = g.stack;
+    pointers = g.pointers;
     context = g.context;
   }
 
@@ -126,6 +132,7 @@ module _ (subject : Subject) where
     tied = λ r. rw (map_at (if_given_back id) a.values r refl) (tied_given_back id a.held (value_in a r) h (g.tied r));
     bounded = g.bounded;
     stack = g.stack;
+    pointers = g.pointers;
     context = g.context;
   }
 
@@ -142,6 +149,7 @@ module _ (subject : Subject) where
     tied = λ r. tied_pushed _ a.held (value_in a r) (g.tied r);
     bounded = g.bounded;
     stack = g.stack;
+    pointers = g.pointers;
     context = g.context;
   }
 
@@ -154,12 +162,23 @@ module _ (subject : Subject) where
     tied = λ r. tied_pushed _ a.held (value_in a r) (g.tied r);
     bounded = g.bounded;
     stack = g.stack;
+    pointers = g.pointers;
     context = g.context;
   }
 
   -- the stack has other bytes
-  pub agrees_stack : (a : AbsState) (s : State) (b : List ℕ) → length b ≡ length s.memory.stack → Agrees subject a s → Agrees subject a (record s { memory = record s.memory { stack = b } })
-  agrees_stack a s b l g = record { count = g.count; values = g.values; records = g.records; tied = g.tied; bounded = g.bounded; stack = l ∙ g.stack; context = g.context }
+  pub agrees_stack : (a : AbsState) (s : State) (at len : ℕ) (b : List ℕ) → length b ≡ length s.memory.stack → Agrees subject a s
+      → Agrees subject a (record s { memory = record s.memory { stack = b; pointers = pointers_beside at len s.memory.pointers } })
+  agrees_stack a s at len b l g = record {
+    count = g.count;
+    values = g.values;
+    records = g.records;
+    tied = g.tied;
+    bounded = g.bounded;
+    stack = l ∙ g.stack;
+    pointers = ap (pointers_beside at len) g.pointers;
+    context = g.context;
+  }
 
   -- a record has other bytes
   pub agrees_written : (a : AbsState) (s : State) (id : ℕ) (b old : List ℕ) → record_named id s.memory.records ≡ Some old → length b ≡ length old → Agrees subject a s
@@ -171,5 +190,6 @@ module _ (subject : Subject) where
     tied = g.tied;
     bounded = g.bounded;
     stack = g.stack;
+    pointers = g.pointers;
     context = g.context;
   }

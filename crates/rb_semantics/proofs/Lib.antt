@@ -8,6 +8,7 @@ mod Rows
 mod Moves
 mod Sums
 mod Accesses
+mod MemoryLaws
 mod Branches
 mod Calling
 mod Sound

@@ -37,7 +37,7 @@ use Rattle.rb_semantics.proofs.Checks.{passed, number_passed}
 use Rattle.rb_semantics.proofs.Rows.{past, known, Follows, Sound, IsEffect}
 use Rattle.rb_semantics.proofs.Moves.{given_sound, copied_sound, converted_sound, altered_sound, ring_sound, divided_sound}
 use Rattle.rb_semantics.proofs.Sums.{binary_sound}
-use Rattle.rb_semantics.proofs.Accesses.{loaded_sound, stored_sound}
+use Rattle.rb_semantics.proofs.Accesses.{loaded_sound, filled_sound, stored_sound, spilled_sound}
 use Rattle.rb_semantics.proofs.Branches.{jumps_to, branch_sound}
 use Rattle.rb_semantics.proofs.Calling.{call_sound}
 
@@ -70,10 +70,10 @@ module _ (subject : Subject) (s : State) (c : CanStep subject s) where
   row_sound (Binary width op dst operand) begins = binary_sound subject s c (Binary width op dst operand) begins refl width op dst operand
   row_sound (LoadNumber dst n) begins = given_sound subject s c (LoadNumber dst n) begins refl dst (abs.Known n) (Number n) refl tt tt
   row_sound (LoadRing dst ring) begins = ring_sound subject s c (LoadRing dst ring) begins refl dst ring
-  row_sound (Load size dst base by) begins = loaded_sound subject s c (Load size dst base by) begins refl dst base by (byte_count size) (little_number (byte_count size))
+  row_sound (Load size dst base by) begins = filled_sound subject s c (Load size dst base by) begins refl dst base by size (byte_count size) (little_number (byte_count size))
   row_sound (LoadSigned size dst base by) begins = loaded_sound subject s c (LoadSigned size dst base by) begins refl dst base by (signed_byte_count size) (signed_number (signed_byte_count size))
   row_sound (StoreImmediate size base by k) begins = stored_sound subject s c (StoreImmediate size base by k) begins refl base by size abs.Number (Number _) (_, refl)
-  row_sound (StoreRegister size base by src) begins = stored_sound subject s c (StoreRegister size base by src) begins refl base by size (value_in (known subject s c) src.number) (register s src.number) (c.agrees.values src.number)
+  row_sound (StoreRegister size base by src) begins = spilled_sound subject s c (StoreRegister size base by src) begins refl base by size (value_in (known subject s c) src.number) (register s src.number) (c.agrees.values src.number)
   row_sound (Branch width condition dst operand distance) begins = branch_sound subject s c width condition dst operand distance begins
   row_sound (Jump distance) begins = jumps_to subject s c (Jump distance) begins distance refl (effect_on_both (known subject s c)) c.agrees
   row_sound (JumpFar distance) begins = jumps_to subject s c (JumpFar distance) begins distance refl (effect_on_both (known subject s c)) c.agrees
@@ -148,6 +148,7 @@ entry_agrees subject context long = record {
   tied = entry_tied;
   bounded = entry_bounded subject.rings context;
   stack = length-replicate {A = ℕ} 512 0;
+  pointers = refl;
   context = long;
 }
 

@@ -4,11 +4,11 @@ use Rattle.rb_insn.specs.declared.insn.BinaryOp.TheVariants.{Add, Sub}
 use Rattle.rb_insn.specs.declared.insn.Condition.TheVariants.{Equal}
 use Rattle.rb_insn.specs.declared.insn.DivisionOp.TheVariants.{Mod}
 use Rattle.rb_insn.specs.declared.insn.Insn.{Insn}
-use Rattle.rb_insn.specs.declared.insn.Insn.TheVariants.{Binary, Division, Move, Branch, Call, Exit, LoadNumber, LoadRing, Load, LoadSigned, StoreImmediate}
+use Rattle.rb_insn.specs.declared.insn.Insn.TheVariants.{Binary, Division, Move, Branch, Call, Exit, LoadNumber, LoadRing, Load, LoadSigned, StoreImmediate, StoreRegister}
 use Rattle.rb_insn.specs.declared.insn.Operand.TheVariants.{Immediate, Register}
 use Rattle.rb_insn.specs.declared.insn.Signedness.TheVariants.{Unsigned}
 use Rattle.rb_insn.specs.declared.insn.SignedSize.TheVariants as signed
-use Rattle.rb_insn.specs.declared.insn.Size.TheVariants.{Byte, Double}
+use Rattle.rb_insn.specs.declared.insn.Size.TheVariants.{Byte, Word, Double}
 use Rattle.rb_insn.specs.declared.insn.Width.TheVariants.{W32, W64}
 use Rattle.rb_insn.specs.declared.reg.Reg.{Reg}
 use Rattle.rb_alu.specs.ArithmeticAndJumps.{value_of, jumps_of, sign_extended, division_of}
@@ -185,3 +185,150 @@ unknown_helper = refl
 fell_off : runs (set r0 0 ∷ []) ([]) ([]) IsStuck
 unfolding execute edge_target value_of jumps_of condition_holds wrapped signed_of sign_extended binary_of division_of unsigned_division
 fell_off = refl
+
+-- ---- pointers that are kept on the stack, in its last eight bytes where nothing else is said
+
+abbrev spill : Reg → Insn
+spill r = StoreRegister Double r10 (negsuc 7) r
+
+abbrev fill : Reg → Insn
+fill r = Load Double r r10 (negsuc 7)
+
+-- a pointer that is stored on the stack is loaded again, as often as a program likes
+pointer_kept : runs (spill r1 ∷ fill r3 ∷ fill r2 ∷ Load Byte r0 r2 (pos 3) ∷ Exit ∷ []) ([]) ([]) (Returns 255)
+unfolding execute edge_target value_of jumps_of condition_holds wrapped signed_of sign_extended binary_of division_of unsigned_division
+pointer_kept = refl
+
+-- and so is a ring
+ring_kept : runs (LoadRing r6 3 ∷ spill r6 ∷ fill r1 ∷ set r2 3 ∷ Call 134 ∷ Exit ∷ []) (Told 24 ∷ []) (Query 3 3 ∷ []) (Returns 24)
+unfolding execute edge_target value_of jumps_of condition_holds wrapped signed_of sign_extended binary_of division_of unsigned_division
+ring_kept = refl
+
+-- the first place is at the other end of the stack
+first_place : runs (StoreRegister Double r10 (negsuc 511) r1 ∷ Load Double r2 r10 (negsuc 511) ∷ Load Byte r0 r2 (pos 3) ∷ Exit ∷ []) ([]) ([]) (Returns 255)
+unfolding execute edge_target value_of jumps_of condition_holds wrapped signed_of sign_extended binary_of division_of unsigned_division
+first_place = refl
+
+-- a pointer takes the place of another
+pointer_over_pointer : runs (spill r10 ∷ spill r1 ∷ fill r2 ∷ Load Byte r0 r2 (pos 3) ∷ Exit ∷ []) ([]) ([]) (Returns 255)
+unfolding execute edge_target value_of jumps_of condition_holds wrapped signed_of sign_extended binary_of division_of unsigned_division
+pointer_over_pointer = refl
+
+-- two places keep two pointers
+two_places : runs (spill r1 ∷ StoreRegister Double r10 (negsuc 15) r10 ∷ Load Double r3 r10 (negsuc 15) ∷ StoreImmediate Byte r3 (negsuc 23) (pos 7) ∷ fill r2 ∷ Load Byte r4 r2 (pos 0) ∷ Load Byte r0 r10 (negsuc 23) ∷ Exit ∷ []) ([]) ([]) (Returns 7)
+unfolding execute edge_target value_of jumps_of condition_holds wrapped signed_of sign_extended binary_of division_of unsigned_division
+two_places = refl
+
+-- the bytes of a place that got a pointer are zeros, whatever they were
+pointer_over_number : runs (StoreImmediate Double r10 (negsuc 7) (negsuc 0) ∷ spill r1 ∷ StoreImmediate Byte r10 (negsuc 6) (pos 7) ∷ fill r0 ∷ Exit ∷ []) ([]) ([]) (Returns 1792)
+unfolding execute edge_target value_of jumps_of condition_holds wrapped signed_of sign_extended binary_of division_of unsigned_division
+pointer_over_number = refl
+
+-- a number takes the place of a pointer
+number_over_pointer : runs (spill r1 ∷ StoreImmediate Double r10 (negsuc 7) (pos 5) ∷ fill r0 ∷ Exit ∷ []) ([]) ([]) (Returns 5)
+unfolding execute edge_target value_of jumps_of condition_holds wrapped signed_of sign_extended binary_of division_of unsigned_division
+number_over_pointer = refl
+
+-- eight bytes between two places take the places of both pointers
+number_over_two_pointers : runs (spill r1 ∷ StoreRegister Double r10 (negsuc 15) r1 ∷ StoreImmediate Double r10 (negsuc 11) (pos 0) ∷ Load Byte r3 r10 (negsuc 15) ∷ fill r0 ∷ Exit ∷ []) ([]) ([]) (Returns 0)
+unfolding execute edge_target value_of jumps_of condition_holds wrapped signed_of sign_extended binary_of division_of unsigned_division
+number_over_two_pointers = refl
+
+-- a number in the byte below a place leaves its pointer
+number_below_pointer : runs (spill r1 ∷ StoreImmediate Byte r10 (negsuc 8) (pos 1) ∷ fill r2 ∷ Load Byte r0 r2 (pos 3) ∷ Exit ∷ []) ([]) ([]) (Returns 255)
+unfolding execute edge_target value_of jumps_of condition_holds wrapped signed_of sign_extended binary_of division_of unsigned_division
+number_below_pointer = refl
+
+-- and so does one in the byte behind it
+number_above_pointer : runs (StoreRegister Double r10 (negsuc 15) r1 ∷ StoreImmediate Byte r10 (negsuc 7) (pos 1) ∷ Load Double r2 r10 (negsuc 15) ∷ Load Byte r0 r2 (pos 3) ∷ Exit ∷ []) ([]) ([]) (Returns 255)
+unfolding execute edge_target value_of jumps_of condition_holds wrapped signed_of sign_extended binary_of division_of unsigned_division
+number_above_pointer = refl
+
+-- the eight bytes below a pointer are read
+read_below_pointer : runs (spill r1 ∷ StoreImmediate Double r10 (negsuc 15) (pos 9) ∷ Load Double r0 r10 (negsuc 15) ∷ Exit ∷ []) ([]) ([]) (Returns 9)
+unfolding execute edge_target value_of jumps_of condition_holds wrapped signed_of sign_extended binary_of division_of unsigned_division
+read_below_pointer = refl
+
+-- 32 bits of a pointer have no meaning
+pointer_read_in_32_bits : runs (spill r1 ∷ Load Word r0 r10 (negsuc 7) ∷ Exit ∷ []) ([]) ([]) IsStuck
+unfolding execute edge_target value_of jumps_of condition_holds wrapped signed_of sign_extended binary_of division_of unsigned_division
+pointer_read_in_32_bits = refl
+
+-- nor have they as a signed number
+pointer_read_signed : runs (spill r1 ∷ LoadSigned signed.Word r0 r10 (negsuc 7) ∷ Exit ∷ []) ([]) ([]) IsStuck
+unfolding execute edge_target value_of jumps_of condition_holds wrapped signed_of sign_extended binary_of division_of unsigned_division
+pointer_read_signed = refl
+
+-- nor has its last byte by itself
+last_byte_of_pointer : runs (spill r1 ∷ Load Byte r0 r10 (negsuc 0) ∷ Exit ∷ []) ([]) ([]) IsStuck
+unfolding execute edge_target value_of jumps_of condition_holds wrapped signed_of sign_extended binary_of division_of unsigned_division
+last_byte_of_pointer = refl
+
+-- nor have eight bytes of which some are its
+part_of_pointer : runs (spill r1 ∷ Load Double r0 r10 (negsuc 11) ∷ Exit ∷ []) ([]) ([]) IsStuck
+unfolding execute edge_target value_of jumps_of condition_holds wrapped signed_of sign_extended binary_of division_of unsigned_division
+part_of_pointer = refl
+
+-- a pointer is stored at a place, not across two
+pointer_beside_places : runs (StoreRegister Double r10 (negsuc 11) r1 ∷ set r0 0 ∷ Exit ∷ []) ([]) ([]) IsStuck
+unfolding execute edge_target value_of jumps_of condition_holds wrapped signed_of sign_extended binary_of division_of unsigned_division
+pointer_beside_places = refl
+
+-- nor past the stack's end
+pointer_past_stack : runs (StoreRegister Double r10 (pos 0) r1 ∷ set r0 0 ∷ Exit ∷ []) ([]) ([]) IsStuck
+unfolding execute edge_target value_of jumps_of condition_holds wrapped signed_of sign_extended binary_of division_of unsigned_division
+pointer_past_stack = refl
+
+-- nor before its first byte
+pointer_below_stack : runs (StoreRegister Double r10 (negsuc 519) r1 ∷ set r0 0 ∷ Exit ∷ []) ([]) ([]) IsStuck
+unfolding execute edge_target value_of jumps_of condition_holds wrapped signed_of sign_extended binary_of division_of unsigned_division
+pointer_below_stack = refl
+
+-- nor by 32 bits
+pointer_stored_in_32_bits : runs (StoreRegister Word r10 (negsuc 7) r1 ∷ set r0 0 ∷ Exit ∷ []) ([]) ([]) IsStuck
+unfolding execute edge_target value_of jumps_of condition_holds wrapped signed_of sign_extended binary_of division_of unsigned_division
+pointer_stored_in_32_bits = refl
+
+-- nor into a record
+pointer_in_record : runs (LoadRing r1 0 ∷ set r2 8 ∷ set r3 0 ∷ Call 131 ∷ StoreRegister Double r0 (pos 0) r10 ∷ Exit ∷ []) (Granted ∷ []) (Reserve 4 0 8 0 ∷ []) IsStuck
+unfolding execute edge_target value_of jumps_of condition_holds wrapped signed_of sign_extended binary_of division_of unsigned_division
+pointer_in_record = refl
+
+-- an output hands over no byte of a pointer
+pointer_put_out : runs (spill r1 ∷ LoadRing r1 3 ∷ Move W64 r2 (Register r10) ∷ Binary W64 Sub r2 (Immediate (pos 16)) ∷ set r3 9 ∷ set r4 0 ∷ Call 130 ∷ Exit ∷ []) (Code (pos 0) ∷ []) ([]) IsStuck
+unfolding execute edge_target value_of jumps_of condition_holds wrapped signed_of sign_extended binary_of division_of unsigned_division
+pointer_put_out = refl
+
+-- but the bytes below it are handed over
+output_below_pointer : runs (spill r1 ∷ LoadRing r1 3 ∷ Move W64 r2 (Register r10) ∷ Binary W64 Sub r2 (Immediate (pos 16)) ∷ set r3 8 ∷ set r4 0 ∷ Call 130 ∷ Exit ∷ []) (Code (pos 0) ∷ []) (Output 3 (0 ∷ 0 ∷ 0 ∷ 0 ∷ 0 ∷ 0 ∷ 0 ∷ 0 ∷ []) 0 ∷ []) (Returns 0)
+unfolding execute edge_target value_of jumps_of condition_holds wrapped signed_of sign_extended binary_of division_of unsigned_division
+output_below_pointer = refl
+
+-- and an output of no bytes touches no place
+output_of_none : runs (spill r1 ∷ LoadRing r1 3 ∷ Move W64 r2 (Register r10) ∷ Binary W64 Sub r2 (Immediate (pos 4)) ∷ set r3 0 ∷ set r4 0 ∷ Call 130 ∷ Exit ∷ []) (Code (pos 0) ∷ []) (Output 3 ([]) 0 ∷ []) (Returns 0)
+unfolding execute edge_target value_of jumps_of condition_holds wrapped signed_of sign_extended binary_of division_of unsigned_division
+output_of_none = refl
+
+-- a pointer is kept while a record is reserved, written, read and submitted
+kept_through_calls : runs (StoreRegister Double r10 (negsuc 511) r1 ∷ LoadRing r1 0 ∷ set r2 8 ∷ set r3 0 ∷ Call 131 ∷ StoreImmediate Double r0 (pos 0) (pos 42) ∷ Load Double r3 r0 (pos 0) ∷ Move W64 r1 (Register r0) ∷ set r2 0 ∷ Call 132 ∷ Load Double r2 r10 (negsuc 511) ∷ Load Byte r0 r2 (pos 3) ∷ Exit ∷ []) (Granted ∷ Taken ∷ []) (Reserve 5 0 8 0 ∷ Submit 5 bytes_of_42 0 ∷ []) (Returns 255)
+unfolding execute edge_target value_of jumps_of condition_holds wrapped signed_of sign_extended binary_of division_of unsigned_division
+kept_through_calls = refl
+
+-- reserves 8 bytes and keeps what it was granted on the stack; loads it, and unless that is null, writes 42 and submits it
+abbrev submit_kept : List Insn
+submit_kept = LoadRing r1 0 ∷ set r2 8 ∷ set r3 0 ∷ Call 131 ∷ spill r0 ∷ fill r6 ∷ Branch W64 Equal r6 (Immediate (pos 0)) (pos 4) ∷ StoreImmediate Double r6 (pos 0) (pos 42) ∷ Move W64 r1 (Register r6) ∷ set r2 0 ∷ Call 132 ∷ set r0 0 ∷ Exit ∷ []
+
+-- a record is the same once it was loaded again
+record_kept : runs (submit_kept) (Granted ∷ Taken ∷ []) (Reserve 4 0 8 0 ∷ Submit 4 bytes_of_42 0 ∷ []) (Returns 0)
+unfolding execute edge_target value_of jumps_of condition_holds wrapped signed_of sign_extended binary_of division_of unsigned_division
+record_kept = refl
+
+-- and null is the number that it is in a register
+null_kept : runs (submit_kept) (Null ∷ []) (Reserve 4 0 8 0 ∷ []) (Returns 0)
+unfolding execute edge_target value_of jumps_of condition_holds wrapped signed_of sign_extended binary_of division_of unsigned_division
+null_kept = refl
+
+-- a pointer to a record that was discarded leads nowhere, also one that was kept
+record_kept_gone : runs (LoadRing r1 0 ∷ set r2 1 ∷ set r3 0 ∷ Call 131 ∷ spill r0 ∷ Move W64 r1 (Register r0) ∷ set r2 0 ∷ Call 133 ∷ fill r6 ∷ Load Byte r0 r6 (pos 0) ∷ Exit ∷ []) (Granted ∷ Taken ∷ []) (Reserve 4 0 1 0 ∷ Discard 4 (0 ∷ []) 0 ∷ []) IsStuck
+unfolding execute edge_target value_of jumps_of condition_holds wrapped signed_of sign_extended binary_of division_of unsigned_division
+record_kept_gone = refl

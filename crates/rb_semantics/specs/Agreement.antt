@@ -55,7 +55,7 @@ IsBoundedValue rings (Pointer place offset) = is_near offset ≡ true
 IsBoundedValue rings (Ring ring) = ring < rings
 IsBoundedValue rings v = Unit {0}
 
--- a state is as is known of it
+-- A state is as is known of it. The stack keeps no pointer, since the verifier refuses every store of one.
 pub record Agrees (subject : Subject) (known : AbsState) (s : State) : Type 0 where
   pub count : length known.values ≡ length s.registers
   pub values : (r : ℕ) → AgreesValue s.memory.records (value_in known r) (register s r)
@@ -63,4 +63,5 @@ pub record Agrees (subject : Subject) (known : AbsState) (s : State) : Type 0 wh
   pub tied : (r : ℕ) → HasReference known.held (value_in known r)
   pub bounded : (r : ℕ) → IsBoundedValue subject.rings (register s r)
   pub stack : length s.memory.stack ≡ 512
+  pub pointers : s.memory.pointers ≡ []
   pub context : length s.memory.context ≡ subject.ctx_len

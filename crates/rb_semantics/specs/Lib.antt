@@ -1,4 +1,6 @@
+pub mod StackPointers
 pub mod ProgramMemory
+pub mod MemoryLaws
 pub mod ProgramStates
 pub mod HelperCalls
 pub mod Instructions

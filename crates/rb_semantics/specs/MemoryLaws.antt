@@ -1,0 +1,31 @@
+-- The laws of a program's memory.
+use Rattle.std.specs.Prelude.{◌≡◌, ℕ, ℤ, true, List, length, replicate, Some, None, if◌then◌else◌}
+use Rattle.rb_semantics.specs.declared.value.MemoryRegion.{MemoryRegion}
+use Rattle.rb_semantics.specs.declared.value.MemoryRegion.TheVariants.{Stack}
+use Rattle.rb_semantics.specs.declared.value.Value.{Value}
+use Rattle.rb_semantics.specs.StackPointers.{touches, pointer_at}
+use Rattle.rb_semantics.specs.ProgramMemory.{Memory, byte_of, byte_range, read, write, spill, fill}
+
+-- bytes that were written are read, whatever pointers were kept among them
+abbrev pub BytesWrittenAreRead : Type 0
+BytesWrittenAreRead = (m new : Memory) (part : MemoryRegion) (offset : ℤ) (bytes : List ℕ) → write m part offset bytes ≡ Some new → read new part offset (length bytes) ≡ Some bytes
+
+-- a write on the stack takes the pointer out of each place that it touches, and leaves those of the others
+abbrev pub WritesTakePointersOut : Type 0
+WritesTakePointersOut =
+    (m new : Memory) (offset : ℤ) (at : ℕ) (bytes : List ℕ) (place : ℕ) → byte_of Stack offset ≡ Some at → write m Stack offset bytes ≡ Some new
+    → pointer_at place new.pointers ≡ (if touches at (length bytes) place then None else pointer_at place m.pointers)
+
+-- a pointer that was stored at a place is found there
+abbrev pub PointersStoredAreFound : Type 0
+PointersStoredAreFound = (m new : Memory) (part : MemoryRegion) (offset : ℤ) (v : Value) → spill m part offset v ≡ Some new → fill new part offset ≡ Some v
+
+-- and the bytes of the place are zeros
+abbrev pub PointersStoredLeaveZeros : Type 0
+PointersStoredLeaveZeros =
+    (m new : Memory) (offset : ℤ) (at : ℕ) (v : Value) → byte_of Stack offset ≡ Some at → spill m Stack offset v ≡ Some new → byte_range 8 new.stack at ≡ Some (replicate 8 0)
+
+-- no bytes of a place that has a pointer are read
+abbrev pub PointersAreNotRead : Type 0
+PointersAreNotRead =
+    (m : Memory) (offset : ℤ) (at len place : ℕ) (v : Value) → byte_of Stack offset ≡ Some at → pointer_at place m.pointers ≡ Some v → touches at len place ≡ true → read m Stack offset len ≡ None
