@@ -9,8 +9,8 @@ use Rattle.rb_ledger.specs.Seats.{WorkerSeat}
 use Rattle.rb_jobs.specs.declared.job.Job.{Job}
 use Rattle.rb_jobs.specs.declared.job.JobAnswer.{JobAnswer}
 use Rattle.rb_jobs.specs.Jobs.{JobRan, task_of}
-use Rattle.rb_workers.specs.JobRuns.{RunsJobs, own_jobs}
-use Rattle.rb_workers.specs.inner.WorkerRuns.{RunsOwnJobs}
+use Rattle.rb_workers.specs.JobRuns.{own_jobs}
+use Rattle.rb_workers.specs.inner.WorkerRuns.{RunsJobs, RunsOwnJobs}
 
 pub ran_more : (js : List Job) (given : List JobAnswer) (j : Job) (a : JobAnswer) (old mid new : List WorkerSeat) → RunsJobs js given old mid → JobRan (task_of j) a mid new → RunsJobs (js ++ j ∷ []) (given ++ a ∷ []) old new
 ran_more [] [] j a old mid new e did = (new, subst (λ o. JobRan (task_of j) a o new) e did, refl)

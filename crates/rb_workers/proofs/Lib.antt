@@ -5,6 +5,7 @@ pub mod Parts
 pub mod Whole
 pub mod Numbered
 pub mod Takes
+pub mod SinkItems
 pub mod Merges
 pub mod Same
 pub mod Sums

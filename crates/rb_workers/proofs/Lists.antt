@@ -3,13 +3,7 @@ use Rattle.std.proofs.Common.{◌≡◌, ℕ, zero, suc, ◌<◌, List, [], ◌�
 use Rattle.std.specs.Prelude.{slice_get}
 use Rattle.std.specs.List.{AllZip}
 
-pub zip_length : {A B : Type 0} (R : A → B → Type 0) (xs : List A) (ys : List B) → AllZip R xs ys → length xs ≡ length ys
-zip_length R [] [] all = refl
-zip_length R [] (y ∷ ys) all = absurd all
-zip_length R (x ∷ xs) [] all = absurd all
-zip_length R (x ∷ xs) (y ∷ ys) all = let e = zip_length R xs ys all.1 in omega arith
-
--- the same, where both lists are of one type
+-- two lists of one type, element by element
 pub zip_of : {A : Type 0} (R : A → A → Type 0) (xs ys : List A) → length xs ≡ length ys → ((i : ℕ) (d : A) → i < length xs → R (get_or xs i d) (get_or ys i d)) → AllZip R xs ys
 zip_of R [] [] len each = tt
 zip_of R [] (y ∷ ys) len each = absurd (omega arith)

@@ -4,7 +4,7 @@ use Rattle.rb_jobs.specs.declared.job.Job.{Job}
 use Rattle.rb_jobs.specs.declared.job.JobAnswer.{JobAnswer}
 use Rattle.rb_workers.specs.declared.workers.Worker.{Worker}
 use Rattle.rb_workers.specs.JobRuns.{own_jobs}
-use Rattle.rb_workers.specs.JobRuns.{own_answers}
+use Rattle.rb_workers.specs.inner.WorkerRuns.{own_answers}
 
 -- behind the first `at` jobs each worker's answers are taken: what it has still, with those, is what it had
 abbrev pub IsMerged : List Job → List Worker → ℕ → List JobAnswer → List Worker → Type 0

@@ -18,15 +18,17 @@ use Rattle.rb_workers.specs.declared.opened.Ended.{Ended}
 use Rattle.rb_workers.specs.declared.opened.Report.{Report}
 use Rattle.rb_workers.specs.declared.workers.Worker.{Worker}
 use Rattle.rb_workers.specs.inner.RingEnds.{Closes}
-use Rattle.rb_workers.specs.JobRuns.{RunsJobs, own_jobs, own_answers, is_stray}
-use Rattle.rb_workers.specs.inner.WorkerRuns.{RunsOwnJobs}
-use Rattle.rb_workers.specs.Opened.{AreOpened, IsOpened, workers_of}
-use Rattle.rb_workers.specs.Reports.{AreRuns, RingsEnd, IsHandedBack, IsReport, RunsFirst, has_unknown_worker}
+use Rattle.rb_workers.specs.JobRuns.{JobRun, own_jobs, is_stray}
+use Rattle.rb_workers.specs.inner.WorkerRuns.{RunsJobs, RunsOwnJobs, own_answers}
+use Rattle.rb_workers.specs.Opened.{AreOpened, IsOpened, SinkGetsTaken, workers_of}
+use Rattle.rb_workers.specs.Reports.{RingsEnd, IsHandedBack, IsReport, RunsFirst, has_unknown_worker}
+use Rattle.rb_workers.specs.Sink.{SinkItem}
 use Rattle.rb_workers.specs.SeatRows.{seat_rows, worker_column}
 use Rattle.rb_workers.specs.inner.WorkerRuns.{HasRun}
-use Rattle.rb_workers.proofs.Lists.{zip_length}
+use Rattle.rb_seats.proofs.Lists.{zip_length}
 use Rattle.rb_workers.proofs.Same.{opened_long, list_head, list_tail}
-use Rattle.rb_workers.proofs.Totals.{report_of_runs}
+use Rattle.rb_workers.proofs.Totals.{results_of_runs, runs_of, report_of_runs, unlogged_of_runs}
+use Rattle.rb_workers.proofs.SinkItems.{gets_at_close}
 use Rattle.rb_workers.proofs.Parts.{all_first, all_rest}
 
 -- ---- rings
@@ -40,15 +42,15 @@ all_begin b opened seats begins ties =
     (extended_begins (WorkerRole (get_or seats k d).worker) (get_or seats k d).seen b (ties k d (omega (arith, same, below))).goes_on)
 
 -- each ring that was closed with what came back is one that was opened
-pub rings_end : {S : Type 0} (position : S → ℕ) (opened back : List (Opened S)) (ended : List (Ended S)) (count : ℕ) → All (IsOpened position count) back → map (λ o. o.ring) back ≡ map (λ o. o.ring) opened
+pub rings_end : {S : Type 0} (position : S → ℕ) (takes : S → SinkItem → S → Type 0) (opened back : List (Opened S)) (ended : List (Ended S)) (count : ℕ) → All (IsOpened position count) back → map (λ o. o.ring) back ≡ map (λ o. o.ring) opened
     → AllZip (AllZip IsSameSeat) (seat_rows opened) (seat_rows back) → AllZip (λ o b. IsSameConsumerSeat o.consumer b.consumer) opened back → AllZip (λ o b. BeginsWith b.consumer.seen o.consumer.seen) opened back
-    → AllZip (AllZip SeatBegins) (seat_rows opened) (seat_rows back) → AllZip Closes back ended → RingsEnd position opened ended (seat_rows back)
-rings_end position [] [] [] count all rings seats consumers begins seen closes = tt
-rings_end position [] [] (e ∷ es) count all rings seats consumers begins seen closes = absurd closes
-rings_end position [] (b ∷ bs) ended count all rings seats consumers begins seen closes = absurd consumers
-rings_end position (o ∷ os) [] ended count all rings seats consumers begins seen closes = absurd consumers
-rings_end position (o ∷ os) (b ∷ bs) [] count all rings seats consumers begins seen closes = absurd closes
-rings_end position (o ∷ os) (b ∷ bs) (e ∷ es) count all rings seats consumers begins seen closes =
+    → AllZip (AllZip SeatBegins) (seat_rows opened) (seat_rows back) → AllZip (SinkGetsTaken takes) opened back → AllZip Closes back ended → RingsEnd position takes opened ended (seat_rows back)
+rings_end position takes [] [] [] count all rings seats consumers begins seen given closes = tt
+rings_end position takes [] [] (e ∷ es) count all rings seats consumers begins seen given closes = absurd closes
+rings_end position takes [] (b ∷ bs) ended count all rings seats consumers begins seen given closes = absurd consumers
+rings_end position takes (o ∷ os) [] ended count all rings seats consumers begins seen given closes = absurd consumers
+rings_end position takes (o ∷ os) (b ∷ bs) [] count all rings seats consumers begins seen given closes = absurd closes
+rings_end position takes (o ∷ os) (b ∷ bs) (e ∷ es) count all rings seats consumers begins seen given closes =
     let is = all_first (IsOpened position count) (b ∷ bs) bs b refl all in
     let c = closes.0 in (
       record {
@@ -59,10 +61,11 @@ rings_end position (o ∷ os) (b ∷ bs) (e ∷ es) count all rings seats consum
         seats_begin = all_begin (book_of e.closing.at_end) o.seats.items b.seats.items seen.0 c.closed.seats_tie;
         same_seats = seats.0;
         same_consumer = consumers.0;
+        sink_given = gets_at_close takes o.consumer.seen.history b.consumer.seen (book_of e.closing.at_end) b.consumer.got o.sink b.sink e.sink c.closed.consumer_goes_on c.same_sink given.0;
         sink_follows = ap position c.same_sink ∙ (is.sink_follows ∙ c.closed.consumer_ties.position_is);
         tallies_are = c.tallies_are;
       },
-      rings_end position os bs es count (all_rest (IsOpened position count) (b ∷ bs) bs b refl all) (list_tail b.ring o.ring (map (λ x. x.ring) bs) (map (λ x. x.ring) os) rings) seats.1 consumers.1 begins.1 seen.1 closes.1,
+      rings_end position takes os bs es count (all_rest (IsOpened position count) (b ∷ bs) bs b refl all) (list_tail b.ring o.ring (map (λ x. x.ring) bs) (map (λ x. x.ring) os) rings) seats.1 consumers.1 begins.1 seen.1 given.1 closes.1,
     )
 
 -- ---- workers
@@ -94,7 +97,9 @@ ran_all jobs short answers old new w e =
     subst (λ l. RunsJobs l answers old new) (sym (w.2 ∙ (ap (λ l. w.0 ++ l) (w.3 e) ∙ append-nil w.0))) w.4
 
 pub ran_first : (jobs : List Job) (short : Bool) (answers : List JobAnswer) (old new : List WorkerSeat) → RunsOwnJobs jobs short answers old new → RunsFirst jobs old new
-ran_first jobs short answers old new w = (w.0, w.1, answers, w.2, w.4)
+ran_first jobs short answers old new w =
+    let turns = runs_of w.0 answers old new w.4 in
+    (turns.0, w.1, w.2 ∙ ap (λ js. js ++ w.1) (sym turns.1), turns.3)
 
 pub ran_length : (js : List Job) (answers : List JobAnswer) (old new : List WorkerSeat) → RunsJobs js answers old new → length answers ≡ length js
 ran_length [] [] old new ran = refl
@@ -132,26 +137,27 @@ each_told count jobs answers old new workers len ran merged k below =
 
 -- ---- the whole
 
-pub reported : {S : Type 0} (position : S → ℕ) (opened back : List (Opened S)) (jobs : List Job) (answers : List JobAnswer) (report : Report S) → AreOpened position opened → IsHandedBack position opened jobs back
+pub reported : {S : Type 0} (position : S → ℕ) (takes : S → SinkItem → S → Type 0) (opened back : List (Opened S)) (jobs : List Job) (answers : List JobAnswer) (report : Report S) → AreOpened position opened → IsHandedBack position takes opened jobs back
     → length answers ≡ length jobs → All (λ j. j.worker < workers_of opened) jobs
     → ((k : ℕ) → k < workers_of opened → RunsJobs (own_jobs k jobs) (own_answers k jobs answers) (worker_column k (seat_rows opened)) (worker_column k (seat_rows back)))
     → AllZip Closes back report.rings.items → report.answers.items ≡ map (λ a. a.result) answers → report.strays ≡ count_by is_stray report.answers.items → report.unlogged ≡ sum_by (λ a. a.unlogged) answers
-    → IsReport position opened jobs report
-reported position opened back jobs answers report all handed len known ran closes results strays unlogged =
+    → IsReport position takes opened jobs report
+reported position takes opened back jobs answers report all handed len known ran closes results strays unlogged =
     let count = workers_of opened in
     let again : All (IsOpened position count) back = subst (λ n. All (IsOpened position n) back) handed.workers_same handed.runs_again in
     let told = report_of_runs count jobs answers (seat_rows opened) (seat_rows back) (opened_long position count opened all) (opened_long position count back again) len known ran in
     let failed = told.failures_add_up in
+    let unlogged_is : report.unlogged ≡ sum_by (λ run. run.answer.unlogged) told.runs = unlogged ∙ (ap (sum_by (λ (a : JobAnswer). a.unlogged)) (sym told.answers_are) ∙ unlogged_of_runs told.runs) in
     record {
       seats = seat_rows back;
-      calls = told.calls;
-      rings_end = rings_end position opened back report.rings.items count again handed.rings_same handed.seats_same handed.consumers_same handed.consumers_begin handed.seats_begin closes;
-      job_answers = answers;
-      worked = ran;
-      results_are = results;
-      unlogged_is = unlogged;
-      answers_are_runs = subst (λ l. AreRuns jobs l told.calls) (sym results) told.answers_are_runs;
-      numbers_rose = told.numbers_rose;
-      failures_add_up = omega (arith, failed, unlogged);
+      runs = told.runs;
+      jobs_are = told.jobs_are;
+      rings_end = rings_end position takes opened back report.rings.items count again handed.rings_same handed.seats_same handed.consumers_same handed.consumers_begin handed.seats_begin handed.sinks_given closes;
+      worked = told.turns;
+      runs_match = told.runs_match;
+      answers_are = results ∙ (ap (map (λ (a : JobAnswer). a.result)) (sym told.answers_are) ∙ results_of_runs told.runs);
       strays_are = strays;
+      unlogged_is = unlogged_is;
+      numbers_rose = told.numbers_rose;
+      failures_add_up = omega (arith, failed, unlogged_is);
     }

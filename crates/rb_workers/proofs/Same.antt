@@ -14,10 +14,12 @@ use Rattle.rb_jobs.specs.declared.job.Job.{Job}
 use Rattle.rb_workers.specs.declared.opened.Opened.{Opened}
 use Rattle.rb_workers.specs.inner.ConsumerTasks.{IsConsumed}
 use Rattle.rb_workers.specs.JobRuns.{own_jobs}
-use Rattle.rb_workers.specs.Opened.{IsOpened, AreOpened, workers_of}
+use Rattle.rb_workers.specs.Opened.{IsOpened, AreOpened, SinkGetsTaken, workers_of}
+use Rattle.rb_workers.specs.Sink.{SinkItem}
+use Rattle.rb_workers.proofs.SinkItems.{nothing_given}
 use Rattle.rb_workers.specs.Reports.{IsHandedBack, RunsFirst}
 use Rattle.rb_workers.specs.SeatRows.{seat_rows, worker_column}
-use Rattle.rb_workers.proofs.Lists.{zip_length}
+use Rattle.rb_seats.proofs.Lists.{zip_length}
 use Rattle.rb_workers.proofs.Numbered.{seats_length}
 use Rattle.rb_workers.proofs.Parts.{all_first, all_rest, rows_length}
 use Rattle.rb_workers.proofs.SameSeats.{same_seats, seats_same_of_runs, seats_begin_of_runs, rows_of_columns}
@@ -41,8 +43,8 @@ workers_same [] (y ∷ ys) p = absurd p
 workers_same (x ∷ xs) [] p = absurd p
 workers_same (x ∷ xs) (y ∷ ys) p = λ i. p.0.worker_same i ∷ workers_same xs ys p.1 i
 
-again : {S : Type 0} (position : S → ℕ) (count : ℕ) (o b : Opened S) → IsOpened position count o → b.ring ≡ o.ring → IsConsumed position o b → AllZip IsSameSeat o.seats.items b.seats.items → IsOpened position count b
-again position count o b is ring consumed same =
+again : {S : Type 0} (position : S → ℕ) (takes : S → SinkItem → S → Type 0) (count : ℕ) (o b : Opened S) → IsOpened position count o → b.ring ≡ o.ring → IsConsumed position takes o b → AllZip IsSameSeat o.seats.items b.seats.items → IsOpened position count b
+again position takes count o b is ring consumed same =
     record {
       numbered = workers_same o.seats.items b.seats.items same ∙ is.numbered;
       seats_at = λ k d below.
@@ -61,15 +63,15 @@ list_head x y xs ys e = ap (λ l. get_or l 0 x) e
 pub list_tail : {A : Type 0} (x y : A) (xs ys : List A) → x ∷ xs ≡ y ∷ ys → xs ≡ ys
 list_tail x y xs ys e = ap (λ l. drop 1 l) e
 
-all_again : {S : Type 0} (position : S → ℕ) (count : ℕ) (opened back : List (Opened S)) → All (IsOpened position count) opened → map (λ o. o.ring) back ≡ map (λ o. o.ring) opened
-    → AllZip (IsConsumed position) opened back → AllZip (AllZip IsSameSeat) (seat_rows opened) (seat_rows back) → All (IsOpened position count) back
-all_again position count [] [] all rings consumed same = λ k d below. absurd (omega arith)
-all_again position count [] (b ∷ bs) all rings consumed same = absurd consumed
-all_again position count (o ∷ os) [] all rings consumed same = absurd consumed
-all_again position count (o ∷ os) (b ∷ bs) all rings consumed same =
+all_again : {S : Type 0} (position : S → ℕ) (takes : S → SinkItem → S → Type 0) (count : ℕ) (opened back : List (Opened S)) → All (IsOpened position count) opened → map (λ o. o.ring) back ≡ map (λ o. o.ring) opened
+    → AllZip (IsConsumed position takes) opened back → AllZip (AllZip IsSameSeat) (seat_rows opened) (seat_rows back) → All (IsOpened position count) back
+all_again position takes count [] [] all rings consumed same = λ k d below. absurd (omega arith)
+all_again position takes count [] (b ∷ bs) all rings consumed same = absurd consumed
+all_again position takes count (o ∷ os) [] all rings consumed same = absurd consumed
+all_again position takes count (o ∷ os) (b ∷ bs) all rings consumed same =
     All-cons (IsOpened position count) b bs
-    (again position count o b (all_first (IsOpened position count) (o ∷ os) os o refl all) (list_head b.ring o.ring (map (λ x. x.ring) bs) (map (λ x. x.ring) os) rings) consumed.0 same.0)
-    (all_again position count os bs (all_rest (IsOpened position count) (o ∷ os) os o refl all) (list_tail b.ring o.ring (map (λ x. x.ring) bs) (map (λ x. x.ring) os) rings) consumed.1 same.1)
+    (again position takes count o b (all_first (IsOpened position count) (o ∷ os) os o refl all) (list_head b.ring o.ring (map (λ x. x.ring) bs) (map (λ x. x.ring) os) rings) consumed.0 same.0)
+    (all_again position takes count os bs (all_rest (IsOpened position count) (o ∷ os) os o refl all) (list_tail b.ring o.ring (map (λ x. x.ring) bs) (map (λ x. x.ring) os) rings) consumed.1 same.1)
 
 count_same : {S : Type 0} (opened back : List (Opened S)) → AllZip (AllZip IsSameSeat) (seat_rows opened) (seat_rows back) → workers_of back ≡ workers_of opened
 count_same [] [] same = refl
@@ -77,53 +79,61 @@ count_same [] (b ∷ bs) same = absurd same
 count_same (o ∷ os) [] same = absurd same
 count_same (o ∷ os) (b ∷ bs) same = sym (zip_length IsSameSeat o.seats.items b.seats.items same.0)
 
-takers_same : {S : Type 0} (position : S → ℕ) (opened back : List (Opened S)) → AllZip (IsConsumed position) opened back → AllZip (λ o b. IsSameConsumerSeat o.consumer b.consumer) opened back
-takers_same position [] [] consumed = tt
-takers_same position [] (b ∷ bs) consumed = absurd consumed
-takers_same position (o ∷ os) [] consumed = absurd consumed
-takers_same position (o ∷ os) (b ∷ bs) consumed = (record { tag_same = consumed.0.0.tag_same; ring_same = consumed.0.0.ring_same }, takers_same position os bs consumed.1)
+takers_same : {S : Type 0} (position : S → ℕ) (takes : S → SinkItem → S → Type 0) (opened back : List (Opened S)) → AllZip (IsConsumed position takes) opened back → AllZip (λ o b. IsSameConsumerSeat o.consumer b.consumer) opened back
+takers_same position takes [] [] consumed = tt
+takers_same position takes [] (b ∷ bs) consumed = absurd consumed
+takers_same position takes (o ∷ os) [] consumed = absurd consumed
+takers_same position takes (o ∷ os) (b ∷ bs) consumed = (record { tag_same = consumed.0.0.tag_same; ring_same = consumed.0.0.ring_same }, takers_same position takes os bs consumed.1)
 
-takers_begin : {S : Type 0} (position : S → ℕ) (opened back : List (Opened S)) → AllZip (IsConsumed position) opened back → AllZip (λ o b. BeginsWith b.consumer.seen o.consumer.seen) opened back
-takers_begin position [] [] consumed = tt
-takers_begin position [] (b ∷ bs) consumed = absurd consumed
-takers_begin position (o ∷ os) [] consumed = absurd consumed
-takers_begin position (o ∷ os) (b ∷ bs) consumed = (consumed.0.0.begins, takers_begin position os bs consumed.1)
+takers_begin : {S : Type 0} (position : S → ℕ) (takes : S → SinkItem → S → Type 0) (opened back : List (Opened S)) → AllZip (IsConsumed position takes) opened back → AllZip (λ o b. BeginsWith b.consumer.seen o.consumer.seen) opened back
+takers_begin position takes [] [] consumed = tt
+takers_begin position takes [] (b ∷ bs) consumed = absurd consumed
+takers_begin position takes (o ∷ os) [] consumed = absurd consumed
+takers_begin position takes (o ∷ os) (b ∷ bs) consumed = (consumed.0.0.begins, takers_begin position takes os bs consumed.1)
+
+sinks_given : {S : Type 0} (position : S → ℕ) (takes : S → SinkItem → S → Type 0) (opened back : List (Opened S)) → AllZip (IsConsumed position takes) opened back → AllZip (SinkGetsTaken takes) opened back
+sinks_given position takes [] [] consumed = tt
+sinks_given position takes [] (b ∷ bs) consumed = absurd consumed
+sinks_given position takes (o ∷ os) [] consumed = absurd consumed
+sinks_given position takes (o ∷ os) (b ∷ bs) consumed = (consumed.0.2, sinks_given position takes os bs consumed.1)
 
 -- what came back of a run may be run again
-pub handed_back : {S : Type 0} (position : S → ℕ) (opened back : List (Opened S)) (jobs : List Job) → AreOpened position opened → map (λ o. o.ring) back ≡ map (λ o. o.ring) opened
-    → AllZip (IsConsumed position) opened back → All (λ o. length o.seats.items ≡ workers_of opened) back
+pub handed_back : {S : Type 0} (position : S → ℕ) (takes : S → SinkItem → S → Type 0) (opened back : List (Opened S)) (jobs : List Job) → AreOpened position opened → map (λ o. o.ring) back ≡ map (λ o. o.ring) opened
+    → AllZip (IsConsumed position takes) opened back → All (λ o. length o.seats.items ≡ workers_of opened) back
     → ((k : ℕ) → k < workers_of opened → RunsFirst (own_jobs k jobs) (worker_column k (seat_rows opened)) (worker_column k (seat_rows back)))
-    → IsHandedBack position opened jobs back
-handed_back {S} position opened back jobs all rings consumed long ran =
+    → IsHandedBack position takes opened jobs back
+handed_back {S} position takes opened back jobs all rings consumed long ran =
     let count = workers_of opened in
-    let len : length (seat_rows opened) ≡ length (seat_rows back) = rows_length opened ∙ (zip_length (IsConsumed position) opened back consumed ∙ sym (rows_length back)) in
+    let len : length (seat_rows opened) ≡ length (seat_rows back) = rows_length opened ∙ (zip_length (IsConsumed position takes) opened back consumed ∙ sym (rows_length back)) in
     let same = rows_of_columns IsSameSeat count (seat_rows opened) (seat_rows back) (opened_long position count opened all) (long_rows count back long) len
-    (λ k below. let r = ran k below in seats_same_of_runs r.0 r.2 (worker_column k (seat_rows opened)) (worker_column k (seat_rows back)) r.4) in
+    (λ k below. let r = ran k below in seats_same_of_runs r.0 (worker_column k (seat_rows opened)) (worker_column k (seat_rows back)) r.3) in
     let many = count_same opened back same in
     record {
       rings_same = rings;
       seats_same = same;
       seats_begin = rows_of_columns SeatBegins count (seat_rows opened) (seat_rows back) (opened_long position count opened all) (long_rows count back long) len
-          (λ k below. let r = ran k below in seats_begin_of_runs r.0 r.2 (worker_column k (seat_rows opened)) (worker_column k (seat_rows back)) r.4);
-      consumers_same = takers_same position opened back consumed;
-      consumers_begin = takers_begin position opened back consumed;
-      runs_again = subst (λ n. All (IsOpened position n) back) (sym many) (all_again position count opened back all rings consumed same);
+          (λ k below. let r = ran k below in seats_begin_of_runs r.0 (worker_column k (seat_rows opened)) (worker_column k (seat_rows back)) r.3);
+      consumers_same = takers_same position takes opened back consumed;
+      consumers_begin = takers_begin position takes opened back consumed;
+      sinks_given = sinks_given position takes opened back consumed;
+      runs_again = subst (λ n. All (IsOpened position n) back) (sym many) (all_again position takes count opened back all rings consumed same);
       workers_same = many;
       worked = ran;
     }
 
 -- nothing ran
-pub unchanged : {S : Type 0} (position : S → ℕ) (opened : List (Opened S)) (jobs : List Job) → AreOpened position opened → IsHandedBack position opened jobs opened
-unchanged {S} position opened jobs all =
+pub unchanged : {S : Type 0} (position : S → ℕ) (takes : S → SinkItem → S → Type 0) (opened : List (Opened S)) (jobs : List Job) → AreOpened position opened → IsHandedBack position takes opened jobs opened
+unchanged {S} position takes opened jobs all =
     record {
       rings_same = refl;
       seats_same = each (seat_rows opened);
       seats_begin = zip_self (AllZip SeatBegins) (zip_self SeatBegins begins_itself) (seat_rows opened);
       consumers_same = consumers opened;
       consumers_begin = begins opened;
+      sinks_given = zip_self (SinkGetsTaken takes) (λ o. (nothing_given takes o.consumer o.sink).gets) opened;
       runs_again = all;
       workers_same = refl;
-      worked = λ k below. ([], own_jobs k jobs, [], refl, refl);
+      worked = λ k below. ([], own_jobs k jobs, refl, refl);
     }
   where
     each : (xs : List (List WorkerSeat)) → AllZip (AllZip IsSameSeat) xs xs

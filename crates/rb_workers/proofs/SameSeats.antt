@@ -9,9 +9,8 @@ use Rattle.rb_seats.proofs.Lists.{zip_self, zip_through}
 use Rattle.rb_seats.proofs.Totals.{same_seat, same_through}
 use Rattle.rb_seats.proofs.Beginnings.{begins_itself, begins_on, seats_go_on}
 use Rattle.rb_jobs.specs.Jobs.{JobRan, Task, task_of}
-use Rattle.rb_jobs.specs.declared.job.Job.{Job}
 use Rattle.rb_jobs.specs.declared.job.JobAnswer.{JobAnswer}
-use Rattle.rb_workers.specs.JobRuns.{RunsJobs}
+use Rattle.rb_workers.specs.JobRuns.{JobRun, RunsInTurn}
 use Rattle.rb_workers.specs.SeatRows.{worker_column}
 
 -- ---- a worker's seats
@@ -22,17 +21,15 @@ same_seats xs = zip_self IsSameSeat same_seat xs
 -- what every job keeps between its worker's seats before and after it, all jobs keep
 zip_of_runs : (R : WorkerSeat → WorkerSeat → Type 0) → ((s : WorkerSeat) → R s s) → ((x y z : WorkerSeat) → R x y → R y z → R x z)
     → ((task : Task) (answer : JobAnswer) (old new : List WorkerSeat) → JobRan task answer old new → AllZip R old new)
-    → (jobs : List Job) (answers : List JobAnswer) (old new : List WorkerSeat) → RunsJobs jobs answers old new → AllZip R old new
-zip_of_runs R itself through one [] [] old new same = subst (AllZip R old) (sym same) (zip_self R itself old)
-zip_of_runs R itself through one [] (a ∷ rest) old new ran = absurd ran
-zip_of_runs R itself through one (j ∷ js) [] old new ran = absurd ran
-zip_of_runs R itself through one (j ∷ js) (a ∷ rest) old new ran =
-    zip_through R through old ran.0 new (one (task_of j) a old ran.0 ran.1) (zip_of_runs R itself through one js rest ran.0 new ran.2)
+    → (runs : List JobRun) (old new : List WorkerSeat) → RunsInTurn runs old new → AllZip R old new
+zip_of_runs R itself through one [] old new same = subst (AllZip R old) (sym same) (zip_self R itself old)
+zip_of_runs R itself through one (run ∷ runs) old new turn =
+    zip_through R through old turn.0 new (one (task_of run.job) run.answer old turn.0 turn.1.0) (zip_of_runs R itself through one runs turn.0 new turn.2)
 
-pub seats_same_of_runs : (jobs : List Job) (answers : List JobAnswer) (old new : List WorkerSeat) → RunsJobs jobs answers old new → AllZip IsSameSeat old new
+pub seats_same_of_runs : (runs : List JobRun) (old new : List WorkerSeat) → RunsInTurn runs old new → AllZip IsSameSeat old new
 seats_same_of_runs = zip_of_runs IsSameSeat same_seat same_through (λ task answer old new did. did.same)
 
-pub seats_begin_of_runs : (jobs : List Job) (answers : List JobAnswer) (old new : List WorkerSeat) → RunsJobs jobs answers old new → AllZip SeatBegins old new
+pub seats_begin_of_runs : (runs : List JobRun) (old new : List WorkerSeat) → RunsInTurn runs old new → AllZip SeatBegins old new
 seats_begin_of_runs = zip_of_runs SeatBegins begins_itself begins_on (λ task answer old new did. seats_go_on old new did.calls answer.unlogged did.led)
 
 -- ---- rows from columns

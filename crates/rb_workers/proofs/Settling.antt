@@ -1,9 +1,9 @@
 -- Where each worker's seats together are settled, each seat is, and so no closed ring has a busy record.
-use Rattle.std.proofs.Common.{refl, map, ◌≡◌, ℕ, zero, suc, ◌+◌, ◌<◌, ◌≤◌, List, [], ◌∷◌, length, sym, ◌∙◌, arith}
+use Rattle.std.proofs.Common.{refl, ap, map, ◌≡◌, ℕ, zero, suc, ◌+◌, ◌<◌, ◌≤◌, List, [], ◌∷◌, length, sym, ◌∙◌, arith}
 use Rattle.std.proofs.lemmas.List.Elements.{All-head, All-tail, All-cons, All-nil, All-same, All-map}
 use Rattle.std.proofs.lemmas.Slice.Zip.{AllZip-long}
 use Rattle.std.specs.Prelude.{slice_get}
-use Rattle.std.specs.List.{All}
+use Rattle.std.specs.List.{All, count_by}
 use Rattle.rb_ledger.specs.Seats.{WorkerSeat, IsSameSeat, SettlesWithin, HasSettledAll}
 use Rattle.rb_ledger.proofs.Laws.{once-closed}
 use Rattle.rb_seats.specs.SeatHelpers.{made_in, submitted_in, discarded_in}
@@ -14,6 +14,8 @@ use Rattle.rb_workers.specs.declared.opened.Report.{Report}
 use Rattle.rb_workers.specs.Opened.{AreOpened, IsOpened, workers_of}
 use Rattle.rb_workers.specs.Reports.{IsReport, RingsEnd}
 use Rattle.rb_workers.specs.SeatRows.{worker_column, seat_rows}
+use Rattle.rb_workers.specs.Sink.{SinkItem}
+use Rattle.rb_workers.specs.JobRuns.{is_stray}
 use Rattle.rb_workers.specs.Settled.{AreSettled, EachSettled, IsEven, EndsSettled}
 use Rattle.rb_workers.proofs.Sums.{number_at, cons_sum}
 use Rattle.rb_workers.proofs.Numbered.{seats_length}
@@ -87,59 +89,59 @@ settled_together count (row ∷ seats) all k below =
 
 -- ---- closed rings
 
-rings_within : {S : Type 0} (position : S → ℕ) (opened : List (Opened S)) (ended : List (Ended S)) (seats : List (List WorkerSeat)) → RingsEnd position opened ended seats → All (All SettlesWithin) seats
-rings_within position [] [] [] ends = All-nil (All SettlesWithin)
-rings_within position [] [] (row ∷ more) ends = absurd ends
-rings_within position [] (e ∷ es) [] ends = absurd ends
-rings_within position [] (e ∷ es) (row ∷ more) ends = absurd ends
-rings_within position (o ∷ os) [] [] ends = absurd ends
-rings_within position (o ∷ os) [] (row ∷ more) ends = absurd ends
-rings_within position (o ∷ os) (e ∷ es) [] ends = absurd ends
-rings_within position (o ∷ os) (e ∷ es) (row ∷ more) ends =
+rings_within : {S : Type 0} (position : S → ℕ) (takes : S → SinkItem → S → Type 0) (opened : List (Opened S)) (ended : List (Ended S)) (seats : List (List WorkerSeat)) → RingsEnd position takes opened ended seats → All (All SettlesWithin) seats
+rings_within position takes [] [] [] ends = All-nil (All SettlesWithin)
+rings_within position takes [] [] (row ∷ more) ends = absurd ends
+rings_within position takes [] (e ∷ es) [] ends = absurd ends
+rings_within position takes [] (e ∷ es) (row ∷ more) ends = absurd ends
+rings_within position takes (o ∷ os) [] [] ends = absurd ends
+rings_within position takes (o ∷ os) [] (row ∷ more) ends = absurd ends
+rings_within position takes (o ∷ os) (e ∷ es) [] ends = absurd ends
+rings_within position takes (o ∷ os) (e ∷ es) (row ∷ more) ends =
     let ring = ends.0 in
-    All-cons (All SettlesWithin) row more (once-closed e.closing.at_end row ring.consumer ring.closed).within (rings_within position os es more ends.1)
+    All-cons (All SettlesWithin) row more (once-closed e.closing.at_end row ring.consumer ring.closed).within (rings_within position takes os es more ends.1)
 
-rings_settled : {S : Type 0} (position : S → ℕ) (opened : List (Opened S)) (ended : List (Ended S)) (seats : List (List WorkerSeat)) → RingsEnd position opened ended seats → All (All HasSettledAll) seats → All EndsSettled ended
-rings_settled position [] [] [] ends settled = All-nil EndsSettled
-rings_settled position [] [] (row ∷ more) ends settled = absurd ends
-rings_settled position [] (e ∷ es) [] ends settled = absurd ends
-rings_settled position [] (e ∷ es) (row ∷ more) ends settled = absurd ends
-rings_settled position (o ∷ os) [] [] ends settled = absurd ends
-rings_settled position (o ∷ os) [] (row ∷ more) ends settled = absurd ends
-rings_settled position (o ∷ os) (e ∷ es) [] ends settled = absurd ends
-rings_settled position (o ∷ os) (e ∷ es) (row ∷ more) ends settled =
+rings_settled : {S : Type 0} (position : S → ℕ) (takes : S → SinkItem → S → Type 0) (opened : List (Opened S)) (ended : List (Ended S)) (seats : List (List WorkerSeat)) → RingsEnd position takes opened ended seats → All (All HasSettledAll) seats → All EndsSettled ended
+rings_settled position takes [] [] [] ends settled = All-nil EndsSettled
+rings_settled position takes [] [] (row ∷ more) ends settled = absurd ends
+rings_settled position takes [] (e ∷ es) [] ends settled = absurd ends
+rings_settled position takes [] (e ∷ es) (row ∷ more) ends settled = absurd ends
+rings_settled position takes (o ∷ os) [] [] ends settled = absurd ends
+rings_settled position takes (o ∷ os) [] (row ∷ more) ends settled = absurd ends
+rings_settled position takes (o ∷ os) (e ∷ es) [] ends settled = absurd ends
+rings_settled position takes (o ∷ os) (e ∷ es) (row ∷ more) ends settled =
     let ring = ends.0 in
     let here = All-head (All HasSettledAll) row more settled in
     let one : EndsSettled e = record {
       tallies_even = All-same IsEven e.tallies.items (map (λ (s : WorkerSeat). s.tally) row) ring.tallies_are (All-map IsEven (λ (s : WorkerSeat). s.tally) row here);
       none_busy = (once-closed e.closing.at_end row ring.consumer ring.closed).none_busy.0 here;
     } in
-    All-cons EndsSettled e es one (rings_settled position os es more ends.1 (All-tail (All HasSettledAll) row more settled))
+    All-cons EndsSettled e es one (rings_settled position takes os es more ends.1 (All-tail (All HasSettledAll) row more settled))
 
 -- ---- a report
 
 -- the rows that rings end with are as long as those that were opened
-rows_at_end : {S : Type 0} (position : S → ℕ) (count : ℕ) (opened : List (Opened S)) (ended : List (Ended S)) (seats : List (List WorkerSeat)) → All (IsOpened position count) opened
-    → RingsEnd position opened ended seats → All (λ row. length row ≡ count) seats
-rows_at_end position count [] [] [] each ends = All-nil (λ (row : List WorkerSeat). length row ≡ count)
-rows_at_end position count [] [] (row ∷ more) each ends = absurd ends
-rows_at_end position count [] (e ∷ es) [] each ends = absurd ends
-rows_at_end position count [] (e ∷ es) (row ∷ more) each ends = absurd ends
-rows_at_end position count (o ∷ os) [] [] each ends = absurd ends
-rows_at_end position count (o ∷ os) [] (row ∷ more) each ends = absurd ends
-rows_at_end position count (o ∷ os) (e ∷ es) [] each ends = absurd ends
-rows_at_end position count (o ∷ os) (e ∷ es) (row ∷ more) each ends =
+rows_at_end : {S : Type 0} (position : S → ℕ) (takes : S → SinkItem → S → Type 0) (count : ℕ) (opened : List (Opened S)) (ended : List (Ended S)) (seats : List (List WorkerSeat)) → All (IsOpened position count) opened
+    → RingsEnd position takes opened ended seats → All (λ row. length row ≡ count) seats
+rows_at_end position takes count [] [] [] each ends = All-nil (λ (row : List WorkerSeat). length row ≡ count)
+rows_at_end position takes count [] [] (row ∷ more) each ends = absurd ends
+rows_at_end position takes count [] (e ∷ es) [] each ends = absurd ends
+rows_at_end position takes count [] (e ∷ es) (row ∷ more) each ends = absurd ends
+rows_at_end position takes count (o ∷ os) [] [] each ends = absurd ends
+rows_at_end position takes count (o ∷ os) [] (row ∷ more) each ends = absurd ends
+rows_at_end position takes count (o ∷ os) (e ∷ es) [] each ends = absurd ends
+rows_at_end position takes count (o ∷ os) (e ∷ es) (row ∷ more) each ends =
     let here = seats_length position count o (All-head (IsOpened position count) o os each) in
     let same = AllZip-long IsSameSeat o.seats.items row ends.0.same_seats in
-    All-cons (λ (row : List WorkerSeat). length row ≡ count) row more (same ∙ here) (rows_at_end position count os es more (All-tail (IsOpened position count) o os each) ends.1)
+    All-cons (λ (row : List WorkerSeat). length row ≡ count) row more (same ∙ here) (rows_at_end position takes count os es more (All-tail (IsOpened position count) o os each) ends.1)
 
 -- where no run ended with a stray record, and each worker's seats were settled before, each ring ends settled
-pub no_strays : {S : Type 0} (position : S → ℕ) (opened : List (Opened S)) (jobs : List Job) (report : Report S) → AreOpened position opened → IsReport position opened jobs report
+pub no_strays : {S : Type 0} (position : S → ℕ) (takes : S → SinkItem → S → Type 0) (opened : List (Opened S)) (jobs : List Job) (report : Report S) → AreOpened position opened → IsReport position takes opened jobs report
     → report.strays ≡ 0 → EachSettled (workers_of opened) (seat_rows opened) → All EndsSettled report.rings.items
-no_strays position opened jobs report each told none settled =
+no_strays position takes opened jobs report each told none settled =
     let count = workers_of opened in
     let still : EachSettled count told.seats =
-    λ k below. stays_settled k jobs report.answers.items told.calls (worker_column k (seat_rows opened)) (worker_column k told.seats) told.answers_are_runs (sym told.strays_are ∙ none) (told.numbers_rose k below) (settled k below)
+    λ k below. stays_settled k told.runs (worker_column k (seat_rows opened)) (worker_column k told.seats) told.runs_match (sym (told.strays_are ∙ ap (count_by is_stray) told.answers_are) ∙ none) (told.numbers_rose k below) (settled k below)
     in
-    let all = each_settled count told.seats (rows_at_end position count opened report.rings.items told.seats each told.rings_end) (rings_within position opened report.rings.items told.seats told.rings_end) still in
-    rings_settled position opened report.rings.items told.seats told.rings_end all
+    let all = each_settled count told.seats (rows_at_end position takes count opened report.rings.items told.seats each told.rings_end) (rings_within position takes opened report.rings.items told.seats told.rings_end) still in
+    rings_settled position takes opened report.rings.items told.seats told.rings_end all

@@ -21,11 +21,11 @@ sum_to_same (suc n) f g same =
     let rest = sum_to_same n (λ k. f (suc k)) (λ k. g (suc k)) (λ k below. same (suc k) (omega arith)) in
     omega (arith, first, rest)
 
-sum_to_none : (n : ℕ) → sum_to n (λ k. 0) ≡ 0
+pub sum_to_none : (n : ℕ) → sum_to n (λ k. 0) ≡ 0
 sum_to_none zero = refl
 sum_to_none (suc n) = let rest = sum_to_none n in omega (arith, rest)
 
-sum_to_add : (n : ℕ) (f g : ℕ → ℕ) → sum_to n (λ k. f k + g k) ≡ sum_to n f + sum_to n g
+pub sum_to_add : (n : ℕ) (f g : ℕ → ℕ) → sum_to n (λ k. f k + g k) ≡ sum_to n f + sum_to n g
 sum_to_add zero f g = refl
 sum_to_add (suc n) f g = let rest = sum_to_add n (λ k. f (suc k)) (λ k. g (suc k)) in omega (arith, rest)
 

@@ -16,7 +16,9 @@ use Rattle.rb_workers.specs.inner.ConsumerTasks.{IsSameConsumer, IsConsumerTaskO
 use Rattle.rb_workers.specs.JobRuns.{own_jobs}
 use Rattle.rb_workers.specs.inner.WorkerRuns.{RunsOwnJobs}
 use Rattle.rb_workers.specs.SeatRows.{worker_column, seat_rows}
-use Rattle.rb_workers.specs.Opened.{IsOpened}
+use Rattle.rb_workers.specs.Opened.{IsOpened, SinkGetsTaken}
+use Rattle.rb_workers.specs.Sink.{SinkItem, GetsTaken}
+use Rattle.rb_workers.proofs.SinkItems.{gets_same}
 use Rattle.rb_workers.proofs.Numbered.{seats_length}
 use Rattle.rb_workers.proofs.Parts.{some_of, column_cons, all_first, all_rest}
 
@@ -41,19 +43,19 @@ takers_at position count (o ∷ os) (t ∷ ts) parts all =
       takers_at position count os ts parts.1 (all_rest (IsOpened position count) (o ∷ os) os o refl all),
     )
 
-pub homes_at : {S : Type 0} (position : S → ℕ) (count : ℕ) (opened : List (Opened S)) (consumers ended : List (ConsumerTask S)) → AllZip IsSplitOff opened consumers → AllZip (Consumed position) consumers ended → All (IsOpened position count) opened
+pub homes_at : {S : Type 0} (position : S → ℕ) (takes : S → SinkItem → S → Type 0) (count : ℕ) (opened : List (Opened S)) (consumers ended : List (ConsumerTask S)) → AllZip IsSplitOff opened consumers → AllZip (Consumed position takes) consumers ended → All (IsOpened position count) opened
     → All (λ t. (t.returned_seats.items ≡ []) × (count ≤ vec_capacity t.returned_seats)) ended
-homes_at {S} position count [] [] [] parts ends all = λ k d below. absurd (omega arith)
-homes_at {S} position count [] [] (u ∷ us) parts ends all = absurd ends
-homes_at {S} position count [] (t ∷ ts) ended parts ends all = absurd parts
-homes_at {S} position count (o ∷ os) [] ended parts ends all = absurd parts
-homes_at {S} position count (o ∷ os) (t ∷ ts) [] parts ends all = absurd ends
-homes_at {S} position count (o ∷ os) (t ∷ ts) (u ∷ us) parts ends all =
+homes_at {S} position takes count [] [] [] parts ends all = λ k d below. absurd (omega arith)
+homes_at {S} position takes count [] [] (u ∷ us) parts ends all = absurd ends
+homes_at {S} position takes count [] (t ∷ ts) ended parts ends all = absurd parts
+homes_at {S} position takes count (o ∷ os) [] ended parts ends all = absurd parts
+homes_at {S} position takes count (o ∷ os) (t ∷ ts) [] parts ends all = absurd ends
+homes_at {S} position takes count (o ∷ os) (t ∷ ts) (u ∷ us) parts ends all =
     let first = all_first (IsOpened position count) (o ∷ os) os o refl all in
     let p = parts.0 in
     let room : count ≤ vec_capacity t.returned_seats = omega (arith, seats_length position count o first, p.3) in
     All-cons (λ (t : ConsumerTask S). (t.returned_seats.items ≡ []) × (count ≤ vec_capacity t.returned_seats)) u us (subst (λ h. (h.items ≡ []) × (count ≤ vec_capacity h)) (sym ends.0.2) (p.2, room))
-    (homes_at position count os ts us parts.1 ends.1 (all_rest (IsOpened position count) (o ∷ os) os o refl all))
+    (homes_at position takes count os ts us parts.1 ends.1 (all_rest (IsOpened position count) (o ∷ os) os o refl all))
 
 zip_through : {A B C : Type 0} (R : A → B → Type 0) (Q : B → C → Type 0) (P : A → C → Type 0) → ((x : A) (y : B) (z : C) → R x y → Q y z → P x z)
     → (xs : List A) (ys : List B) (zs : List C) → AllZip R xs ys → AllZip Q ys zs → AllZip P xs zs
@@ -70,16 +72,26 @@ lent_whole len new items e = subst (λ n. take n (new ++ drop (length new) items
 pub rings_length : {S : Type 0} (xs : List (Opened S)) → length (map (λ (o : Opened S). o.ring) xs) ≡ length xs
 rings_length xs = length-map xs (λ o. o.ring)
 
-abbrev HasEnded : {S : Type 0} → (S → ℕ) → Opened S → ConsumerTask S → Type 0
-HasEnded position o u = IsSameConsumer o.consumer u.consumer × (position u.sink ≡ u.consumer.position)
+abbrev HasEnded : {S : Type 0} → (S → ℕ) → (S → SinkItem → S → Type 0) → Opened S → ConsumerTask S → Type 0
+HasEnded position takes o u =
+    IsSameConsumer o.consumer u.consumer × (position u.sink ≡ u.consumer.position)
+    × GetsTaken takes o.consumer.seen.history u.consumer.seen.history u.consumer.got o.sink u.sink
 
-pub ends_at : {S : Type 0} (position : S → ℕ) (opened back : List (Opened S)) (consumers ended : List (ConsumerTask S)) → AllZip IsSplitOff opened consumers → AllZip (Consumed position) consumers ended → AllZip IsMergedInto ended back → AllZip (IsConsumed position) opened back
-ends_at {S} position opened back consumers ended parts ends from =
-    zip_through (HasEnded position) IsMergedInto (IsConsumed position)
-    (λ o u n h f. (subst (λ c. IsSameConsumer o.consumer c) (sym f.0) h.0, ap position f.1 ∙ (h.1 ∙ sym (ap (λ (c : ConsumerSeatValue). c.position) f.0))))
+pub ends_at : {S : Type 0} (position : S → ℕ) (takes : S → SinkItem → S → Type 0) (opened back : List (Opened S)) (consumers ended : List (ConsumerTask S)) → AllZip IsSplitOff opened consumers → AllZip (Consumed position takes) consumers ended → AllZip IsMergedInto ended back → AllZip (IsConsumed position takes) opened back
+ends_at {S} position takes opened back consumers ended parts ends from =
+    zip_through (HasEnded position takes) IsMergedInto (IsConsumed position takes)
+    (λ o u n h f. (
+      subst (λ c. IsSameConsumer o.consumer c) (sym f.0) h.0,
+      ap position f.1 ∙ (h.1 ∙ sym (ap (λ (c : ConsumerSeatValue). c.position) f.0)),
+      gets_same takes o.consumer o.consumer u.consumer n.consumer o.sink o.sink u.sink n.sink refl f.0 refl f.1 h.2,
+    ))
     opened ended back
-    (zip_through IsSplitOff (Consumed position) (HasEnded position)
-    (λ o t u p e. (subst (λ c. IsSameConsumer c u.consumer) p.0 e.0, e.1))
+    (zip_through IsSplitOff (Consumed position takes) (HasEnded position takes)
+    (λ o t u p e. (
+      subst (λ c. IsSameConsumer c u.consumer) p.0 e.0,
+      e.1,
+      gets_same takes t.consumer o.consumer u.consumer u.consumer t.sink o.sink u.sink u.sink (sym p.0) refl (sym p.1) refl e.3.gets,
+    ))
     opened consumers ended parts ends)
     from
 

@@ -1,29 +1,37 @@
 -- What jobs do at the seats of their worker (own).
-use Rattle.std.specs.Prelude.{◌≡◌, ℕ, ◌==◌, List, [], ◌∷◌, Bool, true, false, cond, Result, Ok, Err}
+use Rattle.std.specs.Prelude.{◌≡◌, ℕ, ◌==◌, List, [], ◌∷◌, Bool, true, false, Result, Ok, Err}
 use Rattle.std.specs.List.{filter}
+use Rattle.rb_helpers.specs.AnsweredCalls.{AnsweredCall}
 use Rattle.rb_interp.specs.declared.fault.RunFault.{RunFault}
 use Rattle.rb_interp.specs.declared.fault.RunFault.TheVariants.{ContextLength, Stray}
 use Rattle.rb_ledger.specs.Seats.{WorkerSeat}
+use Rattle.rb_seats.specs.declared.seat_record.SeatRecord.{SeatRecord}
 use Rattle.rb_jobs.specs.declared.job.Job.{Job}
 use Rattle.rb_jobs.specs.declared.job.JobAnswer.{JobAnswer}
 use Rattle.rb_jobs.specs.Jobs.{JobRan, task_of}
 
--- the jobs, one after another, gave the answers, and took the seats from the one state to the other
-abbrev pub RunsJobs : List Job → List JobAnswer → List WorkerSeat → List WorkerSeat → Type 0
-RunsJobs [] [] old new = new ≡ old
-RunsJobs [] (a ∷ rest) old new = ⊥
-RunsJobs (j ∷ js) [] old new = ⊥
-RunsJobs (j ∷ js) (a ∷ rest) old new = (mid : List WorkerSeat) × JobRan (task_of j) a old mid × RunsJobs js rest mid new
+-- one run: the job, what it came to, and its calls with their answers
+pub record JobRun : Type 0 where
+  pub job : Job
+  pub answer : JobAnswer
+  pub calls : List (AnsweredCall SeatRecord)
+
+-- the job was run, came to this answer and made these calls, which took its worker's seats from the one state to the other
+abbrev pub RunsJob : JobRun → List WorkerSeat → List WorkerSeat → Type 0
+RunsJob run old new = (ran : JobRan (task_of run.job) run.answer old new) × (ran.calls ≡ run.calls)
+
+-- the runs, one after another, took the seats from the one state to the other
+abbrev pub RunsInTurn : List JobRun → List WorkerSeat → List WorkerSeat → Type 0
+RunsInTurn [] old new = new ≡ old
+RunsInTurn (run ∷ runs) old new = (mid : List WorkerSeat) × RunsJob run old mid × RunsInTurn runs mid new
 
 -- the worker's own jobs, in the list's order
 abbrev pub own_jobs : ℕ → List Job → List Job
 own_jobs worker jobs = filter (λ j. j.worker == worker) jobs
 
--- of the answers, which stand as the jobs do, those of the worker's own jobs
-abbrev pub own_answers : ℕ → List Job → List JobAnswer → List JobAnswer
-own_answers worker [] answers = []
-own_answers worker (j ∷ js) [] = []
-own_answers worker (j ∷ js) (a ∷ rest) = cond (j.worker == worker) (a ∷ own_answers worker js rest) (own_answers worker js rest)
+-- the runs of the worker's own jobs, in the list's order
+abbrev pub own_runs : ℕ → List JobRun → List JobRun
+own_runs worker runs = filter (λ run. run.job.worker == worker) runs
 
 -- the run ended with a stray record
 abbrev pub is_stray : Result ℕ RunFault → Bool

@@ -3,6 +3,7 @@ use Rattle.std.specs.Prelude.{◌≡◌, ℕ, List, [], ◌∷◌, All, length, 
 use Rattle.rb_ledger.specs.WorkerCounts.{numbers_below}
 use Rattle.rb_seats.specs.SeatHelpers.{IsAt}
 use Rattle.rb_workers.specs.declared.opened.Opened.{Opened}
+use Rattle.rb_workers.specs.Sink.{SinkItem, GetsTaken}
 
 -- the seats are one of each worker, in the order of their numbers; they and the consumer are the ring's; and the sink's position is the
 -- consumer's
@@ -22,3 +23,7 @@ workers_of (o ∷ more) = length o.seats.items
 -- all rings are so, for the same workers
 abbrev pub AreOpened : {S : Type 0} → (S → ℕ) → List (Opened S) → Type 0
 AreOpened position opened = All (IsOpened position (workers_of opened)) opened
+
+-- from the one state of a ring's consumer and sink to the other, the sink was given just what the consumer took
+abbrev pub SinkGetsTaken : {S : Type 0} → (S → SinkItem → S → Type 0) → Opened S → Opened S → Type 0
+SinkGetsTaken takes old new = GetsTaken takes old.consumer.seen.history new.consumer.seen.history new.consumer.got old.sink new.sink

@@ -21,7 +21,7 @@ impl<S: Sink> ConsumerTask<S> {
     // Takes the next record and gives it to the sink, and answers whether there was one to take.
     fn take_next<R: Wait>(&mut self, rt: &R, ring: &SharedRing) -> bool
         requires ready { IsConsumerTaskOf S.position_of ring.now self.old }
-        ensures taken { Consumed S.position_of self.old self.new }
+        ensures taken { Consumed S.position_of S.takes self.old self.new }
     {
         match ring.take(rt, &mut self.consumer) {
             Ok(Taken::Event(pos, worker, serial, sheet)) => {
@@ -34,7 +34,8 @@ impl<S: Sink> ConsumerTask<S> {
                 self.sink.skipped(pos, n);
                 true
             }
-            Ok(_) => false,
+            Ok(Taken::BusyFront) => false,
+            Ok(Taken::Empty) => false,
             Err(Foreign) => unreachable!(),
         }
     }
@@ -49,7 +50,7 @@ pub(crate) fn consume<R: Wait, S: Sink>(
     task: &mut ConsumerTask<S>,
 )
     requires ready { IsConsumerTaskOf S.position_of ring.now task.old }
-    ensures returned { Consumed S.position_of task.old task.new }
+    ensures returned { Consumed S.position_of S.takes task.old task.new }
 {
     let mut backoff = WaitBackoff::new();
     for _ in rt.forever() {

@@ -2,7 +2,8 @@
 
 ghost use Rattle.std.specs.Prelude.{ℕ, ◌≡◌, ◌<◌, ◌≤◌, [], All, length, map, slice_index_or, true, vec_capacity, vec_len};
 ghost use Rattle.std.specs.List.{count_by, list_any, sum_by};
-ghost use Rattle.rb_workers.specs.JobRuns.{own_jobs, own_answers, is_stray};
+ghost use Rattle.rb_workers.specs.JobRuns.{own_jobs, is_stray};
+ghost use Rattle.rb_workers.specs.inner.WorkerRuns.{own_answers};
 
 use crate::workers::Worker;
 use rb_interp::RunFault;

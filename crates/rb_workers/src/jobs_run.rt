@@ -84,7 +84,7 @@ fn run_in<R: Threads + Wait + Sync, G: Gate + Sync, S: Sink + Send + Drop>(
     requires empty { (rings.items ≡ []) × (consumers.items ≡ []) × (merged.items ≡ []) }
     requires room { (vec_len opened ≤ vec_capacity rings) × (vec_len opened ≤ vec_capacity consumers) × (vec_len opened ≤ vec_capacity merged) }
     requires workers { (k : ℕ) (d : _) → k < length workers.old → IsNew k (vec_len opened) (slice_index_or workers.old k d) }
-    ensures handed_back { IsHandedBack S.position_of opened.items jobs.now result.items }
+    ensures handed_back { IsHandedBack S.position_of S.takes opened.items jobs.now result.items }
     ensures workers { (k : ℕ) (d : _) → k < workers_of opened.items → HasRun k jobs.now (worker_column k (seat_rows opened.items)) (worker_column k (seat_rows result.items)) (slice_index_or workers.new k d) }
 {
     split(opened, &mut rings, &mut consumers, workers);
@@ -131,8 +131,8 @@ fn run_known<R: Threads + Wait + Sync, S: Sink + Send + Drop, G: Gate + Sync>(
     requires rings { has_unknown_ring (vec_len opened) jobs.now ≡ false }
     requires workers { has_unknown_worker (workers_of opened.items) jobs.now ≡ false }
     requires buffers { HasRoomForRun (workers_of opened.items) (vec_len opened) (length jobs.now) buffers }
-    ensures report { IfOk result (IsReport S.position_of opened.items jobs.now) }
-    ensures handed_back { IfErr result (λ b. IsHandedBack S.position_of opened.items jobs.now b.items) }
+    ensures report { IfOk result (IsReport S.position_of S.takes opened.items jobs.now) }
+    ensures handed_back { IfErr result (λ b. IsHandedBack S.position_of S.takes opened.items jobs.now b.items) }
 {
     let RunBuffers {
         rings,
@@ -187,8 +187,8 @@ pub fn run_jobs<R: Threads + Wait + Sync, S: Sink + Send + Drop, G: Gate + Sync>
     ensures unknown_ring { IsRefusedFor JobFault.UnknownRing result ↔ (has_unknown_ring (vec_len opened) jobs.now ≡ true) }
     ensures unknown_worker { IsRefusedFor JobFault.UnknownWorker result ↔ ((has_unknown_ring (vec_len opened) jobs.now ≡ false) × (has_unknown_worker (workers_of opened.items) jobs.now ≡ true)) }
     ensures nothing_ran { IfErr result (λ e. e.0 ≢ JobFault.Memory → e.1 ≡ opened) }
-    ensures handed_back { IfErr result (λ e. IsHandedBack S.position_of opened.items jobs.now e.1.items) }
-    ensures report { IfOk result (IsReport S.position_of opened.items jobs.now) }
+    ensures handed_back { IfErr result (λ e. IsHandedBack S.position_of S.takes opened.items jobs.now e.1.items) }
+    ensures report { IfOk result (IsReport S.position_of S.takes opened.items jobs.now) }
     ensures no_strays { IfOk result (λ r. r.strays ≡ 0 → EachSettled (workers_of opened.items) (seat_rows opened.items) → All EndsSettled r.rings.items) }
 {
     if is_ring_unknown(jobs, opened.len()) {

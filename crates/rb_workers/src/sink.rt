@@ -2,11 +2,16 @@
 
 ghost use Rattle.std.specs.Prelude.{◌≡◌, ◌+◌, ◌<◌, ◌≤◌, ◌^◌, ℕ, length};
 ghost use Rattle.rb_header.specs.Span.{span};
+ghost use Rattle.rb_workers.specs.Sink.{SinkItem};
+ghost use Rattle.rb_workers.specs.Sink.SinkItem.{Event, Skip};
 
 /// What a ring's consumer gives its records to, one by one and in the order of their positions. It has a position, which moves with the
 /// consumer's.
 pub trait Sink {
     ghost position_of: { Self → ℕ };
+
+    /// What taking one item makes of a sink. Who runs jobs learns by it which items each sink was given, in which order.
+    ghost takes: { Self → SinkItem → Self → Type 0 };
 
     /// The position of the next record.
     fn position(&self) -> u64
@@ -17,11 +22,13 @@ pub trait Sink {
         requires next { pos ≡ position_of self.old }
         requires len { length bytes.now < 2 ^ 32 }
         requires end { pos + span (length bytes.now) ≤ 2 ^ 62 }
-        ensures moved { position_of self.new ≡ position_of self.old + span (length bytes.now) };
+        ensures moved { position_of self.new ≡ position_of self.old + span (length bytes.now) }
+        ensures took { takes self.old (Event pos worker serial bytes.now) self.new };
 
     /// Passes over a discarded record of `n` bytes at its position.
     fn skipped(&mut self, pos: u64, n: u32)
         requires next { pos ≡ position_of self.old }
         requires end { pos + span n ≤ 2 ^ 62 }
-        ensures moved { position_of self.new ≡ position_of self.old + span n };
+        ensures moved { position_of self.new ≡ position_of self.old + span n }
+        ensures took { takes self.old (Skip pos n) self.new };
 }

@@ -46,12 +46,12 @@ fn consume_all<R: Threads + Wait + Sync, S: Sink + Send>(
     consumers: &mut [ConsumerTask<S>],
 )
     requires ready { AllZip (IsConsumerTaskOf S.position_of) rings.now consumers.old }
-    ensures returned { AllZip (Consumed S.position_of) consumers.old consumers.new }
+    ensures returned { AllZip (Consumed S.position_of S.takes) consumers.old consumers.new }
 {
     let threads = consumers.len().max(1);
     let consume = move |i: usize, task: &mut ConsumerTask<S>|
         requires { (ring : Shared) × (slice_get rings.now i ≡ Some ring) × IsConsumerTaskOf S.position_of ring task.now }
-        ensures { Consumed S.position_of task.entry.now task.exit.now }
+        ensures { Consumed S.position_of S.takes task.entry.now task.exit.now }
     {
         consume(rt, &rings[i], ended, task);
     };
@@ -73,7 +73,7 @@ pub(crate) fn run_threads<R: Threads + Wait + Sync, G: Gate + Sync, S: Sink + Se
     requires workers { All (IsReady rings.now) workers.old }
     requires consumers { AllZip (IsConsumerTaskOf S.position_of) rings.now consumers.old }
     ensures workers { AllZip (GivesBack rings.now jobs.now) workers.old workers.new }
-    ensures consumers { AllZip (Consumed S.position_of) consumers.old consumers.new }
+    ensures consumers { AllZip (Consumed S.position_of S.takes) consumers.old consumers.new }
 {
     let ended = AtomicBool::new(false);
     let shared = &ended;
@@ -81,7 +81,7 @@ pub(crate) fn run_threads<R: Threads + Wait + Sync, G: Gate + Sync, S: Sink + Se
         rt,
         &mut ||
             requires { AllZip (IsConsumerTaskOf S.position_of) rings.now consumers.now }
-            ensures { AllZip (Consumed S.position_of) consumers.entry.now consumers.exit.now }
+            ensures { AllZip (Consumed S.position_of S.takes) consumers.entry.now consumers.exit.now }
         { consume_all(rt, rings, shared, consumers) },
         &mut ||
             requires { All (λ j. j.program.now.rings ≤ length rings.now) jobs.now × All (IsReady rings.now) workers.now }

@@ -2,8 +2,8 @@
 
 ghost use Rattle.std.specs.Prelude.{◌≡◌, ◌<◌, ◌≤◌, All, if◌then◌else◌, length, vec_len, vec_capacity};
 ghost use Rattle.rb_seats.specs.SeatHelpers.{AtRings};
-ghost use Rattle.rb_workers.specs.JobRuns.{RunsJobs, own_jobs};
-ghost use Rattle.rb_workers.specs.inner.WorkerRuns.{HasSpareSeat, IsOneMore, IsOneAnswerMore, IsReady, GivesBack, RunsOne};
+ghost use Rattle.rb_workers.specs.JobRuns.{own_jobs};
+ghost use Rattle.rb_workers.specs.inner.WorkerRuns.{HasSpareSeat, IsOneMore, IsOneAnswerMore, IsReady, GivesBack, RunsJobs, RunsOne};
 
 use rb_jobs::{Gate, Job, JobAnswer, run_job};
 use rb_ledger::{Seat, SharedRing};

@@ -73,9 +73,13 @@ struct NullSink {
 }
 
 impl Sink for NullSink {
-    ghost use Rattle.std.specs.Prelude.{ℕ};
+    ghost use Rattle.std.specs.Prelude.{◌≡◌, ◌+◌, ℕ};
+    ghost use Rattle.rb_header.specs.TapeBytes.{item_span};
+    ghost use Rattle.rb_workers.specs.Sink.{SinkItem, tape_item};
 
     ghost position_of = { λ s. s.position };
+
+    ghost takes = { λ old item new. new.position ≡ old.position + item_span (tape_item item) };
 
     fn position(&self) -> u64 {
         self.position

@@ -1,9 +1,15 @@
 -- What becomes of consumers and sinks.
-use Rattle.std.specs.Prelude.{◌≡◌, ℕ, ◌≤◌, [], length, vec_capacity}
+use Rattle.std.specs.Prelude.{◌≡◌, ℕ, ◌<◌, ◌≤◌, List, [], ◌∷◌, All, length, vec_capacity}
+use Rattle.std.specs.FinMap.{get}
+use Rattle.rb_history.specs.declared.answers.Taken.{Taken}
+use Rattle.rb_history.specs.declared.answers.Taken.TheVariants.{Event as TakenEvent, Skipped, BusyFront, Empty}
 use Rattle.rb_ledger.specs.Roles.{BeginsWith}
 use Rattle.rb_ledger.specs.Seats.{Shared, ConsumerSeatValue}
+use Rattle.rb_workers.specs.Sink.{SinkItem, GetsTaken, sink_position}
+use Rattle.rb_workers.specs.Sink.SinkItem.{Event, Skip}
 use Rattle.rb_workers.specs.declared.opened.Opened.{Opened}
 use Rattle.rb_workers.specs.declared.consumer_task.ConsumerTask.{ConsumerTask}
+use Rattle.rb_workers.specs.Opened.{SinkGetsTaken}
 
 -- it is the same consumer, and what it sees begins with what it had seen
 pub record IsSameConsumer (old new : ConsumerSeatValue) : Type 0 where
@@ -15,10 +21,26 @@ pub record IsSameConsumer (old new : ConsumerSeatValue) : Type 0 where
 abbrev pub IsConsumerTaskOf : {S : Type 0} → (S → ℕ) → Shared → ConsumerTask S → Type 0
 IsConsumerTaskOf position ring task = (task.consumer.tag ≡ ring.tag) × (task.consumer.ring ≡ ring.ring) × (position task.sink ≡ task.consumer.position)
 
--- what a consumer's thread gives back: the same consumer, and the sink, whose position is the consumer's
-abbrev pub Consumed : {S : Type 0} → (S → ℕ) → ConsumerTask S → ConsumerTask S → Type 0
-Consumed position old new =
+-- what a take gives to a sink
+abbrev pub items_of : Taken → List SinkItem
+items_of (TakenEvent p w k bytes) = Event p w k bytes ∷ []
+items_of (Skipped p n) = Skip p n ∷ []
+items_of BusyFront = []
+items_of Empty = []
+
+-- the sink was given what the consumer took; all of it stands before the consumer's position, and what the consumer had got stays
+pub record HasGiven {S : Type 0} (takes : S → SinkItem → S → Type 0) (old new : ConsumerSeatValue) (before after : S) : Type 0 where
+  pub gets : GetsTaken takes old.seen.history new.seen.history new.got before after
+  pub moved : old.position ≤ new.position
+  pub passed : All (λ item. sink_position item < new.position) gets.items
+  pub keeps : (p : ℕ) → p < old.position → get new.got p ≡ get old.got p
+
+-- what a consumer's thread gives back: the same consumer, and the sink, which was given what the consumer took, and whose position is the
+-- consumer's
+abbrev pub Consumed : {S : Type 0} → (S → ℕ) → (S → SinkItem → S → Type 0) → ConsumerTask S → ConsumerTask S → Type 0
+Consumed position takes old new =
     IsSameConsumer old.consumer new.consumer × (position new.sink ≡ new.consumer.position) × (new.returned_seats ≡ old.returned_seats)
+    × HasGiven takes old.consumer new.consumer old.sink new.sink
 
 -- what a ring's thread owns of what was opened, and an empty place for the ring's seats
 abbrev pub IsSplitOff : {S : Type 0} → Opened S → ConsumerTask S → Type 0
@@ -28,6 +50,8 @@ IsSplitOff o t = (t.consumer ≡ o.consumer) × (t.sink ≡ o.sink) × (t.return
 abbrev pub IsMergedInto : {S : Type 0} → ConsumerTask S → Opened S → Type 0
 IsMergedInto t o = (o.consumer ≡ t.consumer) × (o.sink ≡ t.sink)
 
--- it is the same consumer, and the sink's position is the consumer's
-abbrev pub IsConsumed : {S : Type 0} → (S → ℕ) → Opened S → Opened S → Type 0
-IsConsumed position old new = IsSameConsumer old.consumer new.consumer × (position new.sink ≡ new.consumer.position)
+-- it is the same consumer, and the sink was given what the consumer took, and its position is the consumer's
+abbrev pub IsConsumed : {S : Type 0} → (S → ℕ) → (S → SinkItem → S → Type 0) → Opened S → Opened S → Type 0
+IsConsumed position takes old new =
+    IsSameConsumer old.consumer new.consumer × (position new.sink ≡ new.consumer.position)
+    × SinkGetsTaken takes old new

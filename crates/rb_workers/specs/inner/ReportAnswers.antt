@@ -5,7 +5,8 @@ use Rattle.rb_jobs.specs.declared.job.Job.{Job}
 use Rattle.rb_jobs.specs.declared.job.JobAnswer.{JobAnswer}
 use Rattle.rb_workers.specs.declared.opened.Report.{Report}
 use Rattle.rb_workers.specs.declared.workers.Worker.{Worker}
-use Rattle.rb_workers.specs.JobRuns.{own_answers, is_stray}
+use Rattle.rb_workers.specs.JobRuns.{is_stray}
+use Rattle.rb_workers.specs.inner.WorkerRuns.{own_answers}
 
 -- the report has an answer of each job, in which each worker's stand as the worker has them
 pub record ReportMatches {S : Type 0} (jobs : List Job) (workers : List Worker) (report : Report S) : Type 0 where

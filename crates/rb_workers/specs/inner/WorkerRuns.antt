@@ -1,12 +1,25 @@
 -- What becomes of workers, their seats and their answers.
-use Rattle.std.specs.Prelude.{◌≡◌, ℕ, ◌<◌, ◌≤◌, List, [], ◌∷◌, ◌++◌, Bool, true, false, vec_len, vec_capacity}
+use Rattle.std.specs.Prelude.{◌≡◌, ℕ, ◌<◌, ◌≤◌, ◌==◌, List, [], ◌∷◌, ◌++◌, Bool, true, false, cond, vec_len, vec_capacity}
 use Rattle.rb_ledger.specs.Seats.{Shared, WorkerSeat}
 use Rattle.rb_seats.specs.SeatHelpers.{AtRings}
 use Rattle.rb_jobs.specs.declared.job.Job.{Job}
 use Rattle.rb_jobs.specs.declared.job.JobAnswer.{JobAnswer}
 use Rattle.rb_jobs.specs.Jobs.{JobRan, task_of}
 use Rattle.rb_workers.specs.declared.workers.Worker.{Worker}
-use Rattle.rb_workers.specs.JobRuns.{RunsJobs, own_jobs}
+use Rattle.rb_workers.specs.JobRuns.{own_jobs}
+
+-- the jobs, one after another, gave the answers, and took the seats from the one state to the other
+abbrev pub RunsJobs : List Job → List JobAnswer → List WorkerSeat → List WorkerSeat → Type 0
+RunsJobs [] [] old new = new ≡ old
+RunsJobs [] (a ∷ rest) old new = ⊥
+RunsJobs (j ∷ js) [] old new = ⊥
+RunsJobs (j ∷ js) (a ∷ rest) old new = (mid : List WorkerSeat) × JobRan (task_of j) a old mid × RunsJobs js rest mid new
+
+-- of the answers, which stand as the jobs do, those of the worker's own jobs
+abbrev pub own_answers : ℕ → List Job → List JobAnswer → List JobAnswer
+own_answers worker [] answers = []
+own_answers worker (j ∷ js) [] = []
+own_answers worker (j ∷ js) (a ∷ rest) = cond (j.worker == worker) (a ∷ own_answers worker js rest) (own_answers worker js rest)
 
 -- the worker can take one seat more without memory
 abbrev pub HasSpareSeat : Worker → Type 0

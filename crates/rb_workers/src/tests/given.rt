@@ -45,9 +45,13 @@ impl Counter {
 }
 
 impl Sink for Counter {
-    ghost use Rattle.std.specs.Prelude.{ℕ};
+    ghost use Rattle.std.specs.Prelude.{◌≡◌, ◌+◌, ℕ};
+    ghost use Rattle.rb_header.specs.TapeBytes.{item_span};
+    ghost use Rattle.rb_workers.specs.Sink.{SinkItem, tape_item};
 
     ghost position_of = { λ c. c.position };
+
+    ghost takes = { λ old item new. new.position ≡ old.position + item_span (tape_item item) };
 
     fn position(&self) -> u64 {
         self.position

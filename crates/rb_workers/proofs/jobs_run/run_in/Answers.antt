@@ -9,7 +9,7 @@ use Rattle.rb_seats.specs.SeatHelpers.{IsAt, AtRings}
 use Rattle.rb_workers.specs.inner.WorkerRuns.{GivesBack}
 use Rattle.rb_workers.specs.inner.ConsumerTasks.{IsSplitOff, IsConsumerTaskOf, Consumed, IsMergedInto}
 use Rattle.rb_workers.specs.SeatRows.{seat_rows}
-use Rattle.rb_workers.proofs.Lists.{zip_length}
+use Rattle.rb_seats.proofs.Lists.{zip_length}
 use Rattle.rb_workers.proofs.Whole.{column_at, takers_at, homes_at, lent_whole, rings_length, ends_at, worked_at}
 use Rattle.rb_workers.proofs.Numbered.{seats_length}
 use Rattle.rb_workers.proofs.Reported.{each_ran}
@@ -44,11 +44,12 @@ merge-requires-clause-len g c =
 pub merge-requires-clause-returned_seats : goal.merge-requires-clause-returned_seats
 merge-requires-clause-returned_seats g c =
     let pos = g.S.Sink.position_of in
+    let takes = g.S.Sink.takes in
     let ts = c.run_threads.new.consumers in
-    let ends : AllZip (Consumed pos) c.split.new.consumers.items ts = subst (λ (l : List (ConsumerTask g.row.S.Denot)). AllZip (Consumed pos) l ts) c.deref_mut.ensures.value c.run_threads.ensures.consumers in
-    let len : length ts ≡ c.split.new.consumers.len = let z = zip_length (Consumed pos) c.split.new.consumers.items ts ends in omega (arith, c.split.new.consumers.ok.0) in
+    let ends : AllZip (Consumed pos takes) c.split.new.consumers.items ts = subst (λ (l : List (ConsumerTask g.row.S.Denot)). AllZip (Consumed pos takes) l ts) c.deref_mut.ensures.value c.run_threads.ensures.consumers in
+    let len : length ts ≡ c.split.new.consumers.len = let z = zip_length (Consumed pos takes) c.split.new.consumers.items ts ends in omega (arith, c.split.new.consumers.ok.0) in
     subst (All (λ (t : ConsumerTask g.row.S.Denot). (t.returned_seats.items ≡ []) × (length c.run_threads.new.workers ≤ vec_capacity t.returned_seats))) (sym (lent_whole c.split.new.consumers.len ts c.split.new.consumers.items len))
-    (λ k d below. let h = homes_at pos (length c.args.workers.now) c.args.opened.items c.split.new.consumers.items ts c.split.ensures.consumers ends c.requires.opened k d below in (h.0, omega (arith, h.1, c.run_threads.auto.workers, c.split.auto.workers)))
+    (λ k d below. let h = homes_at pos takes (length c.args.workers.now) c.args.opened.items c.split.new.consumers.items ts c.split.ensures.consumers ends c.requires.opened k d below in (h.0, omega (arith, h.1, c.run_threads.auto.workers, c.split.auto.workers)))
 
 pub merge-requires-clause-workers : goal.merge-requires-clause-workers
 merge-requires-clause-workers g c = λ k d below.
@@ -71,17 +72,18 @@ returns-clause-workers g c = λ k d inside.
 pub returns-clause-handed_back : goal.returns-clause-handed_back
 returns-clause-handed_back g c =
     let pos = g.S.Sink.position_of in
+    let takes = g.S.Sink.takes in
     let opened = c.args.opened.items in
     let back = c.merge.result.items in
     let workers = c.merge.new.workers in
     let count = length c.args.workers.now in
     let ts = c.run_threads.new.consumers in
-    let ends : AllZip (Consumed pos) c.split.new.consumers.items ts = subst (λ (l : List (ConsumerTask g.row.S.Denot)). AllZip (Consumed pos) l ts) c.deref_mut.ensures.value c.run_threads.ensures.consumers in
-    let len : length ts ≡ c.split.new.consumers.len = let z = zip_length (Consumed pos) c.split.new.consumers.items ts ends in omega (arith, c.split.new.consumers.ok.0) in
-    let consumed = ends_at pos opened back c.split.new.consumers.items ts c.split.ensures.consumers ends
+    let ends : AllZip (Consumed pos takes) c.split.new.consumers.items ts = subst (λ (l : List (ConsumerTask g.row.S.Denot)). AllZip (Consumed pos takes) l ts) c.deref_mut.ensures.value c.run_threads.ensures.consumers in
+    let len : length ts ≡ c.split.new.consumers.len = let z = zip_length (Consumed pos takes) c.split.new.consumers.items ts ends in omega (arith, c.split.new.consumers.ok.0) in
+    let consumed = ends_at pos takes opened back c.split.new.consumers.items ts c.split.ensures.consumers ends
     (subst (λ (l : List (ConsumerTask g.row.S.Denot)). AllZip IsMergedInto l back) (lent_whole c.split.new.consumers.len ts c.split.new.consumers.items len) c.merge.ensures.consumers) in
     let many : length workers ≡ count = c.merge.auto.workers ∙ (c.run_threads.auto.workers ∙ c.split.auto.workers) in
-    handed_back pos opened back c.args.jobs.now (subst (λ n. All (IsOpened pos n) opened) c.requires.count c.requires.opened) (c.merge.ensures.rings ∙ c.split.ensures.rings) consumed
+    handed_back pos takes opened back c.args.jobs.now (subst (λ n. All (IsOpened pos n) opened) c.requires.count c.requires.opened) (c.merge.ensures.rings ∙ c.split.ensures.rings) consumed
     (λ k d below. c.merge.ensures.seats k d below ∙ (c.run_threads.auto.workers ∙ (c.split.auto.workers ∙ c.requires.count)))
     (each_ran (workers_of opened) c.args.jobs.now (seat_rows opened) (seat_rows back) workers (many ∙ c.requires.count) (returns-clause-workers g c))
 

@@ -4,12 +4,13 @@ use Rattle.std.specs.List.{AllZip, list_any}
 use Rattle.rb_ledger.specs.Seats.{IsSameSeat}
 use Rattle.rb_workers.specs.declared.workers.Worker.{Worker}
 use Rattle.rb_workers.specs.inner.RingEnds.{Closes}
-use Rattle.rb_workers.specs.JobRuns.{own_jobs, own_answers}
+use Rattle.rb_workers.specs.JobRuns.{own_jobs}
+use Rattle.rb_workers.specs.inner.WorkerRuns.{own_answers}
 use Rattle.rb_workers.specs.Opened.{workers_of}
 use Rattle.rb_workers.specs.inner.RunBuffers.{IsEmptyFor}
 use Rattle.rb_workers.specs.SeatRows.{seat_rows, worker_column}
 use Rattle.rb_workers.proofs.Reported.{each_answered, each_told, known_workers, ran_length, reported}
-use Rattle.rb_workers.proofs.Lists.{zip_length}
+use Rattle.rb_seats.proofs.Lists.{zip_length}
 use Rattle.rb_workers.proofs.Parts.{rows_length}
 use Rattle.rb_workers.proofs.Whole.{lent_whole}
 use Rattle.rb_workers.proofs.jobs_run.run_known.Goals as goal
@@ -68,5 +69,5 @@ returns-clause-report g c =
     let own_told : (k : ℕ) (d : Worker) → k < count → own_answers k jobs told.answers ≡ (get_or workers k d).answers.items =
     λ k d below. (subst (λ (l : List Worker). (k : ℕ) (d : Worker) → k < length l → own_answers k jobs told.answers ≡ (get_or l k d).answers.items) same told.own_are) k d (omega (arith, len, below)) in
     let closes : AllZip Closes back report.rings.items = subst (λ rings. AllZip Closes back rings.items) (sym c.report_on.ensures.rings) c.close_all-rings.ensures.closes in
-    reported g.S.Sink.position_of opened back jobs told.answers report c.requires.opened c.run_in-merged.ensures.handed_back told.one_each (known_workers count jobs c.requires.workers)
+    reported g.S.Sink.position_of g.S.Sink.takes opened back jobs told.answers report c.requires.opened c.run_in-merged.ensures.handed_back told.one_each (known_workers count jobs c.requires.workers)
     (each_told count jobs told.answers (seat_rows opened) (seat_rows back) workers len answered own_told) closes told.results_are told.strays_are told.unlogged_is

@@ -12,8 +12,8 @@ returns g c =
     let olds = c.args.consumers.now in
     let news = c.for_each_mut.new.s in
     record {
-      returned = zip_of (Consumed g.S.Sink.position_of) olds news (search rules) (λ i d below.
+      returned = zip_of (Consumed g.S.Sink.position_of g.S.Sink.takes) olds news (search rules) (λ i d below.
           let at = (c.for_each_mut.ensures i d below).1 in
-          subst (λ (x : ConsumerTask _). Consumed g.S.Sink.position_of x (get_or news i d)) at.argument_is
-          (subst (λ (y : ConsumerTask _). Consumed g.S.Sink.position_of at.argument.now y) at.left at.call));
+          subst (λ (x : ConsumerTask _). Consumed g.S.Sink.position_of g.S.Sink.takes x (get_or news i d)) at.argument_is
+          (subst (λ (y : ConsumerTask _). Consumed g.S.Sink.position_of g.S.Sink.takes at.argument.now y) at.left at.call));
     }

@@ -3,9 +3,9 @@ use Rattle.rb_jobs.specs.declared.job.Job.{Job}
 use Rattle.rb_jobs.specs.declared.job.JobAnswer.{JobAnswer}
 use Rattle.rb_jobs.specs.Jobs.{JobRan, task_of}
 use Rattle.rb_ledger.specs.Seats.{WorkerSeat}
-use Rattle.rb_workers.specs.JobRuns.{RunsJobs, own_jobs}
+use Rattle.rb_workers.specs.JobRuns.{own_jobs}
 use Rattle.rb_workers.proofs.Jobs.{ran_more, own_more, worked_short, worked_all}
-use Rattle.rb_workers.specs.inner.WorkerRuns.{GivesBack}
+use Rattle.rb_workers.specs.inner.WorkerRuns.{GivesBack, RunsJobs}
 use Rattle.rb_workers.proofs.workers.Worker.work.Goals as goal
 use Rattle.rb_workers.proofs.workers.Worker.work.Goals.{else-loop-job-test, then-loop-job-test+else-job-self+then-not-run_one}
 

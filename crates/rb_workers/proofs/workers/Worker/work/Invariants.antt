@@ -1,6 +1,7 @@
 use Rattle.std.specs.Prelude.{◌≡◌, take, false}
 use Rattle.rb_seats.specs.SeatHelpers.{AtRings}
-use Rattle.rb_workers.specs.JobRuns.{RunsJobs, own_jobs}
+use Rattle.rb_workers.specs.JobRuns.{own_jobs}
+use Rattle.rb_workers.specs.inner.WorkerRuns.{RunsJobs}
 use Rattle.rb_workers.proofs.workers.Worker.work.Given as goal
 
 abbrev pub invariant-loop-job : goal.invariant-loop-job

@@ -1,0 +1,260 @@
+-- What a consumer's thread gives to its sink is what was taken.
+use Rattle.std.proofs.Common.{◌≡◌, ◌≢◌, ℕ, ◌+◌, ◌<◌, ◌≤◌, ◌||◌, Bool, true, false, cond, List, [], ◌∷◌, ◌++◌, Option, Some, None, length, map, refl, ap, sym, ◌∙◌, subst, append-nil, append_assoc, arith}
+use Rattle.std.proofs.lemmas.Bool.{true≢false}
+use Rattle.std.proofs.lemmas.List.{map-append}
+use Rattle.std.proofs.lemmas.List.Elements.{All-nil, All-cons, All-append, All-weaker, All-head, All-tail, Contains-append_left, filter_map-append}
+use Rattle.std.proofs.lemmas.List.Folds.{list_any-append}
+use Rattle.std.specs.Prelude.{All}
+use Rattle.std.specs.List.{Contains, filter_map, list_any}
+use Rattle.std.specs.FinMap.{get, insert, get-insert}
+use Rattle.std.specs.Cmp.{nat_cmp_total}
+use Rattle.rb_header.specs.Span.{span}
+use Rattle.rb_history.specs.declared.entries.Entry.{Entry}
+use Rattle.rb_history.specs.declared.entries.Entry.TheVariants.{Res, Full, Sub, Dis, Take}
+use Rattle.rb_history.specs.declared.answers.Taken.{Taken}
+use Rattle.rb_history.specs.declared.answers.Taken.TheVariants.{Event as TakenEvent, Skipped, BusyFront, Empty}
+use Rattle.rb_history.specs.History.{Status, status_by, status_of, is_submit, is_discard, is_take, is_submitted_at, is_discarded_at, is_taken_at}
+use Rattle.rb_history.specs.History.Status.{Waiting, Discarded}
+use Rattle.rb_history.specs.RingModel.{Ring, Contents, HasLength}
+use Rattle.rb_history.specs.Calls.{Takes, TakesEvent, Skips}
+use Rattle.rb_history.proofs.Contents.{hit-yes, hit-no}
+use Rattle.rb_ledger.specs.Roles.{Book, NoneOwn, ExtendsSeen, BeginsWith, book_of}
+use Rattle.rb_ledger.specs.Roles.Role.{Consumer}
+use Rattle.rb_ledger.specs.LockedCalls.{LockedCall, TakesAt, got_by, span_in, IsTakenAt}
+use Rattle.rb_ledger.specs.Seats.{ConsumerSeatValue, IsSameConsumerSeat}
+use Rattle.rb_ledger.proofs.Beginnings.{begins_through, begins_with_all, call_begins, logged_begins, same_begins}
+use Rattle.rb_workers.specs.declared.consumer_task.ConsumerTask.{ConsumerTask}
+use Rattle.rb_workers.specs.Sink.{SinkItem, GetsTaken, IsRecordIn, TakesAll, sink_position, takes_in, take_of}
+use Rattle.rb_workers.specs.Sink.SinkItem.{Event, Skip}
+use Rattle.rb_workers.specs.inner.ConsumerTasks.{Consumed, HasGiven, items_of}
+
+-- ---- a longer history
+
+submitted_on : (h more : List Entry) (p : ℕ) → is_submitted_at h p ≡ true → is_submitted_at (h ++ more) p ≡ true
+submitted_on h more p is = list_any-append (is_submit p) h more ∙ ap (λ b. b || list_any (is_submit p) more) is
+
+discarded_on : (h more : List Entry) (p : ℕ) → is_discarded_at h p ≡ true → is_discarded_at (h ++ more) p ≡ true
+discarded_on h more p is = list_any-append (is_discard p) h more ∙ ap (λ b. b || list_any (is_discard p) more) is
+
+-- a record of a history is one of each longer history, where the bytes there are the same
+record_on : (h more : List Entry) (got now : Contents) (item : SinkItem) → get now (sink_position item) ≡ get got (sink_position item) → IsRecordIn h got item → IsRecordIn (h ++ more) now item
+record_on h more got now (Event p w k bytes) same is = (Contains-append_left h more (Res w k (length bytes) p) is.0, submitted_on h more p is.1, same ∙ is.2)
+record_on h more got now (Skip p n) same is = ((is.0.0, (is.0.1.0, Contains-append_left h more (Res is.0.0 is.0.1.0 n p) is.0.1.1)), discarded_on h more p is.1)
+
+-- entries that are not the consumer's take nothing
+none_taken : (before behind : List Entry) → NoneOwn Consumer before behind → takes_in behind ≡ []
+none_taken before [] none = refl
+none_taken before (Res w k n p ∷ es) none = none_taken (before ++ Res w k n p ∷ []) es none.1
+none_taken before (Full w n ∷ es) none = none_taken (before ++ Full w n ∷ []) es none.1
+none_taken before (Sub p ∷ es) none = none_taken (before ++ Sub p ∷ []) es none.1
+none_taken before (Dis p ∷ es) none = none_taken (before ++ Dis p ∷ []) es none.1
+none_taken before (Take p ∷ es) none = absurd (true≢false none.0)
+
+pub takes_stay : (seen now : Book) → ExtendsSeen Consumer seen now → takes_in now.history ≡ takes_in seen.history
+takes_stay seen now goes =
+    ap takes_in goes.history_is
+    ∙ (filter_map-append take_of seen.history goes.behind ∙ (ap (λ l. takes_in seen.history ++ l) (none_taken seen.history goes.behind goes.none_own) ∙ append-nil (takes_in seen.history)))
+
+-- ---- all items
+
+taken_all : {S : Type 0} (takes : S → SinkItem → S → Type 0) (a b c : S) (first more : List SinkItem) → TakesAll takes a first b → TakesAll takes b more c → TakesAll takes a (first ++ more) c
+taken_all takes a b c [] more one two = subst (λ s. TakesAll takes s more c) one two
+taken_all takes a b c (item ∷ first) more one two = (one.0, one.1, taken_all takes one.0 b c first more one.2 two)
+
+-- ---- what was given
+
+pub nothing_given : {S : Type 0} (takes : S → SinkItem → S → Type 0) (seat : ConsumerSeatValue) (sink : S) → HasGiven takes seat seat sink sink
+nothing_given takes seat sink =
+    record {
+      gets = record { items = []; taken_are = sym (append-nil (takes_in seat.seen.history)); records_are = All-nil (IsRecordIn seat.seen.history seat.got); given = refl };
+      moved = omega arith;
+      passed = All-nil (λ item. sink_position item < seat.position);
+      keeps = λ p below. refl;
+    }
+
+records_on : (h more now : List Entry) (got kept : Contents) (at : ℕ) (items : List SinkItem) → now ≡ h ++ more → All (λ item. sink_position item < at) items
+    → ((p : ℕ) → p < at → get kept p ≡ get got p) → All (IsRecordIn h got) items → All (IsRecordIn now kept) items
+records_on h more now got kept at [] is below keeps records = All-nil (IsRecordIn now kept)
+records_on h more now got kept at (item ∷ items) is below keeps records =
+    All-cons (IsRecordIn now kept) item items
+    (subst (λ l. IsRecordIn l kept item) (sym is)
+    (record_on h more got kept item (keeps (sink_position item) (All-head (λ item. sink_position item < at) item items below)) (All-head (IsRecordIn h got) item items records)))
+    (records_on h more now got kept at items is (All-tail (λ item. sink_position item < at) item items below) keeps (All-tail (IsRecordIn h got) item items records))
+
+-- what was given, and then more
+pub given_on : {S : Type 0} (takes : S → SinkItem → S → Type 0) (a b c : ConsumerSeatValue) (x y z : S) → BeginsWith c.seen b.seen → HasGiven takes a b x y → HasGiven takes b c y z → HasGiven takes a c x z
+given_on takes a b c x y z begins one two =
+    let first = one.gets.items in
+    let more = two.gets.items in
+    let moved = two.moved in
+    record {
+      gets = record {
+        items = first ++ more;
+        taken_are =
+            two.gets.taken_are
+            ∙ (ap (λ l. l ++ map sink_position more) one.gets.taken_are ∙ (append_assoc (takes_in a.seen.history) (map sink_position first) (map sink_position more) ∙ ap (λ l. takes_in a.seen.history ++ l) (sym (map-append sink_position first more))));
+        records_are =
+            All-append (IsRecordIn c.seen.history c.got) first more
+            (records_on b.seen.history begins.behind c.seen.history b.got c.got b.position first begins.history_is one.passed two.keeps one.gets.records_are)
+            two.gets.records_are;
+        given = taken_all takes x y z first more one.gets.given two.gets.given;
+      };
+      moved = let m = one.moved in omega (arith, m, moved);
+      passed =
+          All-append (λ item. sink_position item < c.position) first more
+          (All-weaker (λ item. sink_position item < b.position) (λ item. sink_position item < c.position) (λ item below. omega (arith, below, moved)) first one.passed)
+          two.passed;
+      keeps = λ p below. two.keeps p (let m = one.moved in omega (arith, below, m)) ∙ one.keeps p below;
+    }
+
+-- ---- one take
+
+waiting_submitted : (s d t : Bool) → status_by s d t ≡ Waiting → s ≡ true
+waiting_submitted true d t e = refl
+waiting_submitted false true t e = cc
+waiting_submitted false false t e = cc
+
+status_discarded : (s d t : Bool) → status_by s d t ≡ Discarded → d ≡ true
+status_discarded s true t e = refl
+status_discarded true false true e = cc
+status_discarded true false false e = cc
+status_discarded false false t e = cc
+
+-- a take of one record
+takes_one : (seen now : Book) (point : Ring) (p : ℕ) → ExtendsSeen Consumer seen (book_of point) → now.history ≡ point.history ++ Take p ∷ [] → takes_in now.history ≡ takes_in seen.history ++ p ∷ []
+takes_one seen now point p goes is =
+    ap takes_in is ∙ (filter_map-append take_of point.history (Take p ∷ []) ∙ ap (λ l. l ++ p ∷ []) (takes_stay seen (book_of point) goes))
+
+get_here : (m : Contents) (p : ℕ) (b : List ℕ) → get (insert m p b) p ≡ Some b
+get_here m p b = get-insert nat_cmp_total m p b p ∙ ap (λ t. cond t (Some b) (get m p)) (hit-yes p p refl)
+
+get_before : (m : Contents) (p q : ℕ) (b : List ℕ) → q < p → get (insert m p b) q ≡ get m q
+get_before m p q b below = get-insert nat_cmp_total m p b q ∙ ap (λ t. cond t (Some b) (get m q)) (hit-no q p (λ e. absurd (omega (arith, below, e))))
+
+wide : (n : ℕ) → 0 < span n
+wide n = omega arith
+
+one_item : (at : ℕ) (item : SinkItem) → sink_position item < at → All (λ i. sink_position i < at) (item ∷ [])
+one_item at item below = All-cons (λ i. sink_position i < at) item [] below (All-nil (λ i. sink_position i < at))
+
+takes_stay_same : (old new : ConsumerSeatValue) (point : Ring) → ExtendsSeen Consumer old.seen (book_of point) → new.seen.history ≡ point.history → takes_in new.seen.history ≡ takes_in old.seen.history
+takes_stay_same old new point goes same = ap takes_in same ∙ takes_stay old.seen (book_of point) goes
+
+-- nothing was taken
+still : {S : Type 0} (takes : S → SinkItem → S → Type 0) (old new : ConsumerSeatValue) (x y : S) → takes_in new.seen.history ≡ takes_in old.seen.history → new.position ≡ old.position + 0 → new.got ≡ old.got → y ≡ x → HasGiven takes old new x y
+still takes old new x y taken position got given =
+    record {
+      gets = record { items = []; taken_are = taken ∙ sym (append-nil (takes_in old.seen.history)); records_are = All-nil (IsRecordIn new.seen.history new.got); given = given };
+      moved = omega (arith, position);
+      passed = All-nil (λ item. sink_position item < new.position);
+      keeps = λ p below. ap (λ m. get m p) got;
+    }
+
+pub taken_given : {S : Type 0} (takes : S → SinkItem → S → Type 0) (t : Taken) (old new : ConsumerSeatValue) (x y : S) → LockedCall Consumer old.seen new.seen (TakesAt t) → IsTakenAt old.position t
+    → new.position ≡ old.position + span_in t → new.got ≡ got_by old.got t → TakesAll takes x (items_of t) y → HasGiven takes old new x y
+taken_given takes (TakenEvent p w k bytes) old new x y call place position got given =
+    let taken = call.called.0 in
+    let now : new.seen.history ≡ call.point.history ++ Take p ∷ [] = ap (λ (b : Book). b.history) call.seen ∙ taken.logged.history_is in
+    let moved : old.position < new.position = omega (arith, position, wide (length bytes)) in
+    let item = Event p w k bytes in
+    let submitted = waiting_submitted (is_submitted_at call.point.history p) (is_discarded_at call.point.history p) (is_taken_at call.point.history p) taken.waiting in
+    record {
+      gets = record {
+        items = item ∷ [];
+        taken_are = takes_one old.seen new.seen call.point p call.goes_on now;
+        records_are = All-cons (IsRecordIn new.seen.history new.got) item [] (
+          subst (λ h. Contains h (Res w k (length bytes) p)) (sym now) (Contains-append_left call.point.history (Take p ∷ []) (Res w k (length bytes) p) taken.granted_is),
+          ap (λ h. is_submitted_at h p) now ∙ submitted_on call.point.history (Take p ∷ []) p submitted,
+          ap (λ m. get m p) got ∙ get_here old.got p bytes,
+        )
+            (All-nil (IsRecordIn new.seen.history new.got));
+        given = given;
+      };
+      moved = omega (arith, moved);
+      passed = one_item new.position item (omega (arith, moved, place));
+      keeps = λ q below. ap (λ m. get m q) got ∙ get_before old.got p q bytes (omega (arith, below, place));
+    }
+taken_given takes (Skipped p n) old new x y call place position got given =
+    let taken = call.called.0 in
+    let now : new.seen.history ≡ call.point.history ++ Take p ∷ [] = ap (λ (b : Book). b.history) call.seen ∙ taken.logged.history_is in
+    let moved : old.position < new.position = omega (arith, position, wide n) in
+    let item = Skip p n in
+    let discarded = status_discarded (is_submitted_at call.point.history p) (is_discarded_at call.point.history p) (is_taken_at call.point.history p) taken.discarded in
+    let granted = taken.granted_is in
+    record {
+      gets = record {
+        items = item ∷ [];
+        taken_are = takes_one old.seen new.seen call.point p call.goes_on now;
+        records_are = All-cons (IsRecordIn new.seen.history new.got) item [] (
+          (granted.0, (granted.1.0, subst (λ h. Contains h (Res granted.0 granted.1.0 n p)) (sym now) (Contains-append_left call.point.history (Take p ∷ []) (Res granted.0 granted.1.0 n p) granted.1.1))),
+          ap (λ h. is_discarded_at h p) now ∙ discarded_on call.point.history (Take p ∷ []) p discarded,
+        )
+            (All-nil (IsRecordIn new.seen.history new.got));
+        given = given;
+      };
+      moved = omega (arith, moved);
+      passed = one_item new.position item (omega (arith, moved, place));
+      keeps = λ q below. ap (λ m. get m q) got;
+    }
+taken_given takes BusyFront old new x y call place position got given = still takes old new x y (takes_stay_same old new call.point call.goes_on (ap (λ (b : Book). b.history) call.seen ∙ ap (λ (r : Ring). r.history) call.called.0.same)) position got given
+taken_given takes Empty old new x y call place position got given = still takes old new x y (takes_stay_same old new call.point call.goes_on (ap (λ (b : Book). b.history) call.seen ∙ ap (λ (r : Ring). r.history) call.called.0.same)) position got given
+
+-- ---- consumers' threads
+
+take_begins : (t : Taken) (old new : Ring) → TakesAt t old new → BeginsWith (book_of new) (book_of old)
+take_begins (TakenEvent p w k bytes) old new called = logged_begins old new _ called.0.logged
+take_begins (Skipped p n) old new called = logged_begins old new _ called.0.logged
+take_begins BusyFront old new called = same_begins old new called.0.same
+take_begins Empty old new called = same_begins old new called.0.same
+
+-- a take, whose item the sink was given
+pub consumed_one : {S : Type 0} (position : S → ℕ) (takes : S → SinkItem → S → Type 0) (t : Taken) (old new : ConsumerTask S) → IsSameConsumerSeat old.consumer new.consumer
+    → LockedCall Consumer old.consumer.seen new.consumer.seen (TakesAt t) → IsTakenAt old.consumer.position t → new.consumer.position ≡ old.consumer.position + span_in t
+    → new.consumer.got ≡ got_by old.consumer.got t → position old.sink ≡ old.consumer.position → position new.sink ≡ position old.sink + span_in t → new.returned_seats ≡ old.returned_seats
+    → TakesAll takes old.sink (items_of t) new.sink → Consumed position takes old new
+consumed_one position takes t old new same call place moved got follows gone seats given = (
+  record { tag_same = same.tag_same; ring_same = same.ring_same; begins = call_begins Consumer old.consumer.seen new.consumer.seen (TakesAt t) (take_begins t) call },
+  omega (arith, moved, follows, gone),
+  seats,
+  taken_given takes t old.consumer new.consumer old.sink new.sink call place moved got given,
+)
+
+pub consumed_none : {S : Type 0} (position : S → ℕ) (takes : S → SinkItem → S → Type 0) (task : ConsumerTask S) → position task.sink ≡ task.consumer.position → Consumed position takes task task
+consumed_none position takes task follows =
+    (record { tag_same = refl; ring_same = refl; begins = begins_with_all task.consumer.seen }, follows, refl, nothing_given takes task.consumer task.sink)
+
+-- what was taken, and then more
+pub consumed_on : {S : Type 0} (position : S → ℕ) (takes : S → SinkItem → S → Type 0) (a b c : ConsumerTask S) → Consumed position takes a b → Consumed position takes b c → Consumed position takes a c
+consumed_on position takes a b c one two = (
+  record {
+    tag_same = two.0.tag_same ∙ one.0.tag_same;
+    ring_same = two.0.ring_same ∙ one.0.ring_same;
+    begins = begins_through a.consumer.seen b.consumer.seen c.consumer.seen one.0.begins two.0.begins;
+  },
+  two.1,
+  two.2 ∙ one.2,
+  given_on takes a.consumer b.consumer c.consumer a.sink b.sink c.sink two.0.begins one.3 two.3,
+)
+
+-- ---- rings
+
+-- the same, under other names
+pub gets_same : {S : Type 0} (takes : S → SinkItem → S → Type 0) (c c' d d' : ConsumerSeatValue) (x x' y y' : S) → c' ≡ c → d' ≡ d → x' ≡ x → y' ≡ y
+    → GetsTaken takes c.seen.history d.seen.history d.got x y → GetsTaken takes c'.seen.history d'.seen.history d'.got x' y'
+gets_same takes c c' d d' x x' y y' ec ed ex ey gets =
+    subst (λ s. GetsTaken takes c'.seen.history d'.seen.history d'.got s y') (sym ex)
+    (subst (λ s. GetsTaken takes c'.seen.history d'.seen.history d'.got x s) (sym ey)
+    (subst (λ (v : ConsumerSeatValue). GetsTaken takes v.seen.history d'.seen.history d'.got x y) (sym ec)
+    (subst (λ (v : ConsumerSeatValue). GetsTaken takes c.seen.history v.seen.history v.got x y) (sym ed) gets)))
+
+-- what no take adds to, the sink keeps
+pub gets_at_close : {S : Type 0} (takes : S → SinkItem → S → Type 0) (before : List Entry) (seen closed : Book) (got : Contents) (x y z : S) → ExtendsSeen Consumer seen closed → z ≡ y
+    → GetsTaken takes before seen.history got x y → GetsTaken takes before closed.history got x z
+gets_at_close takes before seen closed got x y z goes same gets =
+    record {
+      items = gets.items;
+      taken_are = takes_stay seen closed goes ∙ gets.taken_are;
+      records_are = All-weaker (IsRecordIn seen.history got) (IsRecordIn closed.history got)
+          (λ item is. subst (λ h. IsRecordIn h got item) (sym goes.history_is) (record_on seen.history goes.behind got got item refl is)) gets.items gets.records_are;
+      given = subst (λ s. TakesAll takes x gets.items s) (sym same) gets.given;
+    }
