@@ -18,7 +18,8 @@ use Rattle.rb_history.specs.RingModel.{Ring, Contents, StandsFor}
 use Rattle.rb_history.specs.Calls.{Logs, FindsFull, Refuses, Outputs, Submits, TakesEvent, Skips, Takes, producer_now}
 use Rattle.rb_history.proofs.Laws.{kept-from-legal}
 use Rattle.rb_history.proofs.Exact.{granted-below}
-use Rattle.rb_ledger.specs.Roles.{Role, is_record_of, Book}
+use Rattle.rb_ledger.specs.Roles.{Role, Book}
+use Rattle.rb_history.specs.WorkerCounts.{is_record_of}
 use Rattle.rb_ledger.specs.Roles.Role.{Consumer, Worker}
 use Rattle.rb_ledger.specs.SentBytes.{IsWithin}
 use Rattle.rb_ledger.specs.inner.AddedBytes.{bytes_after, put_at}
@@ -26,8 +27,8 @@ use Rattle.rb_ledger.specs.RoleKnowledge.{RoleKnowledge, role_knowledge}
 use Rattle.rb_ledger.specs.Ledger.{Ledger, IsRing, FitsLedger}
 use Rattle.rb_ledger.specs.inner.LockSteps.{RoleStep, knowledge_after}
 use Rattle.rb_ledger.specs.LockedCalls.{Reserves, SubmitsAt, DiscardsAt, OutputsAt}
-use Rattle.rb_ledger.proofs.Records.{record-from, back-any, front-any}
-use Rattle.rb_ledger.proofs.Tallies.{submitted-granted}
+use Rattle.rb_history.proofs.RecordWorkers.{record-from, back-any, front-any}
+use Rattle.rb_history.proofs.WorkerCounts.{submitted-granted}
 use Rattle.rb_ledger.proofs.Histories.{AllOwn}
 use Rattle.rb_ledger.proofs.Steps.{get-same, get-cases, left-out, Done, done, step-from, quiet, quiet-bytes, sends, sends-bytes}
 

@@ -10,11 +10,11 @@ use Rattle.rb_history.specs.RingModel.{Ring}
 use Rattle.rb_history.proofs.Counting.{made-split}
 use Rattle.rb_history.proofs.Lists.{sum_by-cons}
 use Rattle.rb_history.proofs.Standing.{grant-stands}
-use Rattle.rb_ledger.specs.declared.tally.Tally.{Tally}
-use Rattle.rb_ledger.specs.Roles.{Role, is_record_of, book_of}
+use Rattle.rb_history.specs.declared.tally.Tally.{Tally}
+use Rattle.rb_ledger.specs.Roles.{Role, book_of}
+use Rattle.rb_history.specs.WorkerCounts.{is_record_of, numbers_below}
 use Rattle.rb_ledger.specs.Roles.Role.{Consumer, Worker}
 use Rattle.rb_ledger.specs.SentBytes.{IsAllSentBy}
-use Rattle.rb_ledger.specs.WorkerCounts.{numbers_below}
 use Rattle.rb_ledger.specs.RoleKnowledge.{RoleKnowledge, PassView, role_knowledge, pass_view, role_count}
 use Rattle.rb_ledger.specs.Ledger.{Ledger, IsRing, FitsLedger}
 use Rattle.rb_ledger.specs.LockRule.{AllFit}
@@ -22,8 +22,8 @@ use Rattle.rb_ledger.specs.inner.LockSteps.{TakesState}
 use Rattle.rb_ledger.specs.Seats.{WorkerSeat, ConsumerSeatValue, ConsumerTies, are_tagged, has_seat, HasAll, seats_of}
 use Rattle.rb_ledger.specs.Headline.{Accounts, AreSent, IsClosed}
 use Rattle.rb_ledger.specs.inner.SeatRoles.{roles_of, HasOwnCounts}
-use Rattle.rb_ledger.proofs.Records.{bit, record-from}
-use Rattle.rb_ledger.proofs.Tallies.{submitted-granted}
+use Rattle.rb_history.proofs.RecordWorkers.{bit, record-from}
+use Rattle.rb_history.proofs.WorkerCounts.{submitted-granted}
 use Rattle.rb_ledger.proofs.Seated.{ties-goes, taker-goes-on}
 use Rattle.rb_ledger.proofs.Serials.{serials-ordered, worker-in}
 use Rattle.rb_ledger.proofs.Sums.{eqb-sym, made-is}

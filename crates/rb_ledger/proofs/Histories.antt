@@ -6,10 +6,11 @@ use Rattle.rb_history.specs.declared.entries.Entry.TheVariants.{Res, Full, Sub, 
 use Rattle.rb_history.specs.RoomRule.{Setup}
 use Rattle.rb_history.specs.Legal.{IsLegal}
 use Rattle.rb_history.proofs.Laws.{legal-front}
-use Rattle.rb_ledger.specs.Roles.{Role, is_record_of, is_own, NoneOwn, Book, ExtendsSeen}
+use Rattle.rb_ledger.specs.Roles.{Role, is_own, NoneOwn, Book, ExtendsSeen}
+use Rattle.rb_history.specs.WorkerCounts.{is_record_of}
 use Rattle.rb_ledger.specs.Roles.Role.{Consumer, Worker}
 use Rattle.rb_ledger.specs.RoleKnowledge.{same_role}
-use Rattle.rb_ledger.proofs.Records.{record-unique}
+use Rattle.rb_history.proofs.RecordWorkers.{record-unique}
 
 -- all of the entries that stand behind `before` are the role's own
 abbrev pub AllOwn : Role → List Entry → List Entry → Type 0

@@ -1,6 +1,5 @@
 pub mod Views
 pub mod LockRule
-pub mod Records
 pub mod Tallies
 pub mod Histories
 pub mod Steps
@@ -9,7 +8,6 @@ pub mod Beginnings
 pub mod Passing
 pub mod Opens
 pub mod Meets
-pub mod Taking
 pub mod Seated
 pub mod ManyTakes
 pub mod Serials

@@ -13,7 +13,7 @@ use Rattle.rb_history.specs.RingModel.{Ring, StandsFor, fresh}
 use Rattle.rb_history.proofs.Laws.{legal-front}
 use Rattle.rb_history.proofs.OneCall.{each-entry}
 use Rattle.rb_ledger.specs.Roles.{Book, book_of}
-use Rattle.rb_ledger.specs.WorkerCounts.{serials_of, numbers_below}
+use Rattle.rb_history.specs.WorkerCounts.{serials_of, numbers_below}
 use Rattle.rb_ledger.specs.RoleKnowledge.{RoleKnowledge, states_out}
 use Rattle.rb_ledger.specs.Ledger.{Ledger, IsRing}
 use Rattle.rb_ledger.specs.LockRule.{AllFit}

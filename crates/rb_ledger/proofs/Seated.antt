@@ -21,17 +21,18 @@ use Rattle.rb_history.specs.RingModel.{Ring}
 use Rattle.rb_history.specs.Calls.{Refuses, Takes, producer_now}
 use Rattle.rb_history.proofs.Laws.{legal-front}
 use Rattle.rb_ledger.specs.declared.audit.Audit.{Audit}
-use Rattle.rb_ledger.specs.declared.tally.Tally.{Tally}
-use Rattle.rb_ledger.specs.Roles.{Role, is_record_of, Book, book_of, ExtendsSeen}
+use Rattle.rb_history.specs.declared.tally.Tally.{Tally}
+use Rattle.rb_ledger.specs.Roles.{Role, Book, book_of, ExtendsSeen}
+use Rattle.rb_history.specs.WorkerCounts.{is_record_of, tally_of, is_take_where, events_of, skips_of}
 use Rattle.rb_ledger.specs.Roles.Role.{Consumer, Worker}
-use Rattle.rb_ledger.specs.WorkerCounts.{tally_of, is_take_where, events_of, skips_of}
-use Rattle.rb_ledger.specs.inner.TallySteps.{IsCountable}
+use Rattle.rb_history.specs.inner.TallySteps.{IsCountable}
 use Rattle.rb_ledger.specs.Ledger.{IsRing}
 use Rattle.rb_ledger.specs.Seats.{IsBook, Ties, ConsumerTies}
 use Rattle.rb_ledger.specs.LockedCalls.{LockedCall, Reserves, SubmitsAt, DiscardsAt, OutputsAt, TakesAt, Queries, Audits, refused_by, reserved_by, output_by, submitted_by, discarded_by, events_in, skips_in, span_in, IsTakenAt}
-use Rattle.rb_ledger.proofs.Records.{bit, granted-once, record-from}
-use Rattle.rb_ledger.proofs.Tallies.{tally-goes, tally-res, tally-full, tally-sub, tally-dis, countable, events-next, skips-next, taker-goes}
-use Rattle.rb_ledger.proofs.Taking.{position-taken, never-both, waiting-submitted, discarded-is}
+use Rattle.rb_history.proofs.RecordWorkers.{bit, granted-once, record-from}
+use Rattle.rb_history.proofs.WorkerCounts.{tally-res, tally-full, tally-sub, tally-dis, countable, events-next, skips-next}
+use Rattle.rb_ledger.proofs.Tallies.{tally-goes, taker-goes}
+use Rattle.rb_history.proofs.TakenRecords.{position-taken, never-both, waiting-submitted, discarded-is}
 
 -- a ring's book is one of a ring that was opened
 pub ring-book : (r : Ring) → IsRing r → IsBook (book_of r)

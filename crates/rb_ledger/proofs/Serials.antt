@@ -10,8 +10,8 @@ use Rattle.rb_history.specs.RoomRule.{Setup}
 use Rattle.rb_history.specs.Legal.{IsLegal, MayFollow}
 use Rattle.rb_history.proofs.Laws.{legal-next}
 use Rattle.rb_history.proofs.Lists.{sum_by-snoc}
-use Rattle.rb_ledger.specs.WorkerCounts.{serial_to, serials_of, numbers_below}
-use Rattle.rb_ledger.proofs.Records.{bit}
+use Rattle.rb_history.specs.WorkerCounts.{serial_to, serials_of, numbers_below}
+use Rattle.rb_history.proofs.RecordWorkers.{bit}
 
 serials-snoc : (w : ℕ) (h : List Entry) (e : Entry) → serials_of w (h ++ e ∷ []) ≡ serials_of w h ++ filter_map (serial_to w) (e ∷ [])
 serials-snoc w h e = filter_map-append (serial_to w) h (e ∷ [])

@@ -10,12 +10,11 @@ use Rattle.rb_history.specs.RoomRule.{Setup}
 use Rattle.rb_history.specs.Legal.{IsLegal, MayFollow}
 use Rattle.rb_history.proofs.Laws.{kept-from-legal, legal-front, legal-next}
 use Rattle.rb_history.proofs.Lists.{list_any-snoc, or-false, sum_by-cons, sum_by-snoc, sum_by-add, sum_by-agree}
-use Rattle.rb_ledger.specs.Roles.{is_record_of}
-use Rattle.rb_ledger.specs.WorkerCounts.{is_submit_of, is_discard_of, tally_of}
+use Rattle.rb_history.specs.WorkerCounts.{is_record_of, is_submit_of, is_discard_of, tally_of}
 use Rattle.rb_ledger.specs.Seats.{Ties, IsBook}
-use Rattle.rb_ledger.specs.declared.tally.Tally.{Tally}
+use Rattle.rb_history.specs.declared.tally.Tally.{Tally}
 use Rattle.rb_ledger.specs.Roles.{Book}
-use Rattle.rb_ledger.proofs.Records.{bit, grant-tells, granted-once}
+use Rattle.rb_history.proofs.RecordWorkers.{bit, grant-tells, granted-once}
 
 -- the entry submits or discards a record whose position passes the test
 abbrev pub settles_where : (ℕ → Bool) → Entry → Bool

@@ -13,13 +13,13 @@ use Rattle.rb_history.proofs.Counting.{made-split}
 use Rattle.rb_history.proofs.Laws.{kept-from-legal}
 use Rattle.rb_history.proofs.Lists.{sum_by-cons, sum_by-add, sum_by-agree}
 use Rattle.rb_history.proofs.Standing.{grant-stands}
-use Rattle.rb_ledger.specs.declared.tally.Tally.{Tally}
-use Rattle.rb_ledger.specs.Roles.{is_record_of, Book, book_of}
-use Rattle.rb_ledger.specs.WorkerCounts.{is_submit_of, is_discard_of, tally_of}
+use Rattle.rb_history.specs.declared.tally.Tally.{Tally}
+use Rattle.rb_ledger.specs.Roles.{Book, book_of}
+use Rattle.rb_history.specs.WorkerCounts.{is_record_of, is_submit_of, is_discard_of, tally_of}
 use Rattle.rb_ledger.specs.Seats.{WorkerSeat, SettlesWithin, HasSettledAll, seats_of, all_made, all_submitted, all_discarded}
 use Rattle.rb_ledger.specs.Headline.{Accounts, OnceClosed}
-use Rattle.rb_ledger.proofs.Records.{bit, granted-once, grant-tells, submitted-from, discarded-from}
-use Rattle.rb_ledger.proofs.Tallies.{submitted-granted, discarded-granted}
+use Rattle.rb_history.proofs.RecordWorkers.{bit, granted-once, grant-tells, submitted-from, discarded-from}
+use Rattle.rb_history.proofs.WorkerCounts.{submitted-granted, discarded-granted}
 use Rattle.rb_ledger.proofs.Serials.{worker-in}
 use Rattle.rb_ledger.proofs.Settled.{settles_where, grants_where, settled_where, even, settled-most}
 

@@ -14,9 +14,9 @@ use Rattle.rb_history.specs.RoomRule.{Setup}
 use Rattle.rb_history.specs.Legal.{IsLegal}
 use Rattle.rb_history.specs.OneCall.{IsOneCall}
 use Rattle.rb_history.specs.RingModel.{Ring, Contents, StandsFor, IsWorkerCount, fresh}
-use Rattle.rb_ledger.specs.Roles.{is_record_of, Book, book_of, ExtendsSeen}
+use Rattle.rb_ledger.specs.Roles.{Book, book_of, ExtendsSeen}
+use Rattle.rb_history.specs.WorkerCounts.{is_record_of, serials_of, numbers_below}
 use Rattle.rb_ledger.specs.Roles.Role.{Consumer, Worker}
-use Rattle.rb_ledger.specs.WorkerCounts.{serials_of, numbers_below}
 use Rattle.rb_ledger.specs.RoleKnowledge.{PassView}
 use Rattle.rb_ledger.specs.Ledger.{IsRing}
 use Rattle.rb_ledger.specs.LockRule.{KeepsLockRule}

@@ -1,5 +1,4 @@
 pub mod Roles
-pub mod WorkerCounts
 pub mod SentBytes
 pub mod RoleKnowledge
 pub mod Ledger

@@ -15,10 +15,10 @@ use Rattle.rb_history.specs.Counting.{counts_of}
 use Rattle.rb_history.specs.RingModel.{Ring, Contents}
 use Rattle.rb_history.specs.Calls.{Grants, Refuses, Outputs, Submits, Discards, Strays, Takes, HasBusyFront, AllTaken, producer_now, consumer_now}
 use Rattle.rb_ledger.specs.declared.audit.Audit.{Audit}
-use Rattle.rb_ledger.specs.declared.tally.Tally.{Tally}
+use Rattle.rb_history.specs.declared.tally.Tally.{Tally}
 use Rattle.rb_ledger.specs.Roles.{Role, Book, book_of, ExtendsSeen}
 use Rattle.rb_ledger.specs.Ledger.{IsRing}
-use Rattle.rb_ledger.specs.WorkerCounts.{tally_of}
+use Rattle.rb_history.specs.WorkerCounts.{tally_of}
 
 -- One call under the lock, by a role that had seen `before` and then has seen `after`. When the lock was taken the ring was at some point:
 -- its history began with `before`, and what others had added since has no entry of the role's own. There the ring of one thread made the

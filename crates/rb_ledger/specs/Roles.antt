@@ -1,23 +1,15 @@
 -- Whose the entries of a history are, and how a history goes on from one that was seen (own).
-use Rattle.std.specs.Prelude.{◌≡◌, ℕ, ◌==◌, ◌&&◌, Bool, true, false, List, [], ◌∷◌, ◌++◌}
-use Rattle.std.specs.List.{list_any}
+use Rattle.std.specs.Prelude.{◌≡◌, ℕ, ◌==◌, Bool, true, false, List, [], ◌∷◌, ◌++◌}
 use Rattle.rb_history.specs.declared.entries.Entry.{Entry}
 use Rattle.rb_history.specs.declared.entries.Entry.TheVariants.{Res, Full, Sub, Dis, Take}
 use Rattle.rb_history.specs.RoomRule.{Setup}
 use Rattle.rb_history.specs.RingModel.{Ring}
+use Rattle.rb_history.specs.WorkerCounts.{is_record_of}
 
 -- who adds entries to a ring's history
 pub data Role : Type 0 where
   Consumer : Role
   Worker : ℕ → Role
-
-abbrev pub is_grant_to : ℕ → ℕ → Entry → Bool
-is_grant_to w p (Res v k n q) = (v == w) && (q == p)
-is_grant_to w p _ = false
-
--- the record at p is one that was granted to worker w
-abbrev pub is_record_of : ℕ → List Entry → ℕ → Bool
-is_record_of w h p = list_any (is_grant_to w p) h
 
 -- the entry is the role's own, where h grants the record that it names: a worker's are its grants and refusals and the ends of its
 -- records, the consumer's are the takes

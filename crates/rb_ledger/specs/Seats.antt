@@ -6,9 +6,9 @@ use Rattle.atomic_table.specs.Seated.{TableId}
 use Rattle.rb_history.specs.History.{consumer_of}
 use Rattle.rb_history.specs.Legal.{IsLegal}
 use Rattle.rb_history.specs.RingModel.{Ring, Contents, IsRingSize, IsStartPosition, IsWorkerCount}
-use Rattle.rb_ledger.specs.declared.tally.Tally.{Tally}
+use Rattle.rb_history.specs.declared.tally.Tally.{Tally}
 use Rattle.rb_ledger.specs.Roles.{Book}
-use Rattle.rb_ledger.specs.WorkerCounts.{tally_of, events_of, skips_of}
+use Rattle.rb_history.specs.WorkerCounts.{tally_of, events_of, skips_of}
 
 -- a shared ring: the caller's number for it, and which ring it is
 pub record Shared : Type 0 where

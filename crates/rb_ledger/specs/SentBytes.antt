@@ -4,7 +4,7 @@ use Rattle.std.specs.FinMap.{get}
 use Rattle.rb_history.specs.declared.entries.Entry.{Entry}
 use Rattle.rb_history.specs.History.{is_submitted_at}
 use Rattle.rb_history.specs.RingModel.{Contents}
-use Rattle.rb_ledger.specs.Roles.{is_record_of}
+use Rattle.rb_history.specs.WorkerCounts.{is_record_of}
 
 -- what stands in the one stands in the other
 abbrev pub IsWithin : Contents → Contents → Type 0

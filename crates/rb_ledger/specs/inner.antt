@@ -3,4 +3,3 @@ pub mod LentState
 pub mod LockSteps
 pub mod SeatPasses
 pub mod SeatRoles
-pub mod TallySteps

@@ -2,9 +2,8 @@
 
 ghost use Rattle.rb_ledger.specs.LockedCalls.{Audits};
 
-use crate::tally::Tally;
 use crate::tally_count::tally_in;
-use rb_history::Counts;
+use rb_history::{Counts, Tally};
 use rb_ring::RingState;
 
 /// A ring at one point of its history.

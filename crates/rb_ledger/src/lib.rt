@@ -42,9 +42,10 @@ pub use closing::{Closing, NotAll};
 pub use consumer_seat::ConsumerSeat;
 pub use headline::headline_holds;
 pub use opening::open;
-pub use rb_history::{Counts, Entry, Notice, OpenFault, Reservation, ReserveFault, Stray, Taken};
+pub use rb_history::{
+    Counts, Entry, Notice, OpenFault, Reservation, ReserveFault, Stray, Taken, Tally,
+};
 pub use seat_counts::numbers_agree;
 pub use shared::{Foreign, SharedRing};
-pub use tally::Tally;
 pub use wait_backoff::WaitBackoff;
 pub use worker_seat::Seat;

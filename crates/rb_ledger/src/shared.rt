@@ -13,6 +13,7 @@ use crate::lock::Lock;
 use crate::locked_calls::{
     audit_with, discard_with, output_with, query_with, reserve_with, submit_with, take_with,
 };
+use crate::tally::{after_discard, after_output, after_reserve, after_submit};
 use crate::worker_seat::Seat;
 use rb_header::span;
 use rb_history::{Notice, Reservation, ReserveFault, Stray, Taken};
@@ -92,7 +93,7 @@ impl SharedRing {
         }
         let worker = me.worker;
         let answer = reserve_with(rt, &self.lock, &mut me.pass, worker, n, sheet);
-        me.tally = me.tally.after_reserve(&answer);
+        me.tally = after_reserve(me.tally, &answer);
         answer
     }
 
@@ -119,7 +120,7 @@ impl SharedRing {
         }
         let worker = me.worker;
         let answer = submit_with(rt, &self.lock, &mut me.pass, worker, reservation, flags);
-        me.tally = me.tally.after_submit(&answer);
+        me.tally = after_submit(me.tally, &answer);
         answer
     }
 
@@ -145,7 +146,7 @@ impl SharedRing {
         }
         let worker = me.worker;
         let answer = discard_with(rt, &self.lock, &mut me.pass, worker, reservation, flags);
-        me.tally = me.tally.after_discard(&answer);
+        me.tally = after_discard(me.tally, &answer);
         answer
     }
 
@@ -172,7 +173,7 @@ impl SharedRing {
         }
         let worker = me.worker;
         let answer = output_with(rt, &self.lock, &mut me.pass, worker, sheet, flags);
-        me.tally = me.tally.after_output(&answer);
+        me.tally = after_output(me.tally, &answer);
         answer
     }
 

@@ -1,12 +1,10 @@
 //! A worker's numbers, counted over a history.
 
 ghost use Rattle.std.specs.Prelude.{◌≡◌, length};
-ghost use Rattle.rb_ledger.specs.WorkerCounts.{tally_of, is_refusal_of, is_submit_of, is_discard_of};
-ghost use Rattle.rb_ledger.specs.inner.TallySteps.{with_entry, GrantsOnce, IsCountable};
-ghost use Rattle.rb_ledger.specs.Roles.{is_record_of};
+ghost use Rattle.rb_history.specs.WorkerCounts.{tally_of, is_refusal_of, is_submit_of, is_discard_of, is_record_of};
+ghost use Rattle.rb_history.specs.inner.TallySteps.{with_entry, GrantsOnce, IsCountable};
 
-use crate::tally::Tally;
-use rb_history::Entry;
+use rb_history::{Entry, Tally};
 use rb_ring::RingState;
 
 /// How many entries of the ring's history are the worker's.

@@ -10,7 +10,7 @@ ghost use Rattle.rb_ledger.specs.inner.SeatPasses.{seen_in};
 ghost use Rattle.std.specs.FinMap.{empty};
 
 use crate::lock::{Lock, RingPass, SplitFirstRole};
-use crate::tally::Tally;
+use rb_history::Tally;
 use std::marker::Model;
 
 /// A worker's seat at a shared ring: the right to make calls for this worker, and the worker's numbers. It can't be cloned, so a worker
@@ -31,7 +31,7 @@ impl Model for Seat {
     ghost use Rattle.crossbeam_queue.specs.Passes.{view as known_by};
     ghost use Rattle.rb_history.specs.RingModel.{contents_code};
     ghost use Rattle.rb_history.specs.contracts.entries.Entry as entry;
-    ghost use Rattle.rb_ledger.specs.contracts.tally.Tally as tally_row;
+    ghost use Rattle.rb_history.specs.contracts.tally.Tally as tally_row;
     ghost use Rattle.rb_ledger.specs.Roles.Role.{Worker};
     ghost use Rattle.rb_ledger.specs.Seats.{WorkerSeat, IsBook, Ties};
     ghost use Rattle.rb_ledger.specs.inner.SeatPasses.{seen_in, pass_bytes, IsIdle};

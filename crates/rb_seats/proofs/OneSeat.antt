@@ -10,7 +10,7 @@ use Rattle.rb_history.specs.declared.answers.Stray.{Stray}
 use Rattle.rb_history.specs.ReservationModel.{Granted}
 use Rattle.rb_history.specs.Calls.{Refuses, producer_now}
 use Rattle.rb_history.specs.RingModel.{Ring, Contents}
-use Rattle.rb_ledger.specs.declared.tally.Tally.{Tally}
+use Rattle.rb_history.specs.declared.tally.Tally.{Tally}
 use Rattle.rb_ledger.specs.Roles.{Role, Book, book_of, ExtendsSeen}
 use Rattle.rb_ledger.specs.Roles.Role.{Worker}
 use Rattle.rb_ledger.specs.Seats.{Shared, WorkerSeat, IsSameSeat}

@@ -40,7 +40,7 @@ impl<'h, R, S> Model for SeatHelpers<'h, R, S> {
     ghost use Rattle.atomic_table.specs.Seated.{table_id_coded};
     ghost use Rattle.rb_history.specs.RingModel.{contents_code};
     ghost use Rattle.rb_history.specs.contracts.entries.Entry as entry;
-    ghost use Rattle.rb_ledger.specs.contracts.tally.Tally as tally_row;
+    ghost use Rattle.rb_history.specs.contracts.tally.Tally as tally_row;
     ghost use Rattle.rb_helpers.specs.contracts.done.Done as done_row;
     ghost use Rattle.rb_seats.specs.SeatHelpers.{AtSeats, AtRings};
 

@@ -4,7 +4,7 @@ use Rattle.std.specs.Prelude.{All}
 use Rattle.std.proofs.lemmas.List.Elements.{All-cons}
 use Rattle.atomic_table.specs.Seated.{TableId}
 use Rattle.rb_ledger.specs.Roles.{Book}
-use Rattle.rb_ledger.specs.WorkerCounts.{numbers_below}
+use Rattle.rb_history.specs.WorkerCounts.{numbers_below}
 use Rattle.rb_ledger.specs.Seats.{Shared, HasSettledAll, WorkerSeat, ConsumerSeatValue, fresh_book, fresh_seat, fresh_seats, fresh_consumer}
 use Rattle.rb_seats.specs.SeatHelpers.{IsAt}
 use Rattle.rb_workers.specs.declared.opened.Opened.{Opened}

@@ -6,7 +6,7 @@ use Rattle.std.proofs.lemmas.Bool.Decides.{eqb_tells}
 use Rattle.std.proofs.lemmas.List.Folds.{list_any-append}
 use Rattle.std.specs.List.{list_any}
 use Rattle.std.specs.Prelude.{All}
-use Rattle.rb_ledger.specs.WorkerCounts.{numbers_below}
+use Rattle.rb_history.specs.WorkerCounts.{numbers_below}
 use Rattle.rb_ledger.specs.Seats.{Shared, WorkerSeat, has_seat, HasAll, are_tagged}
 use Rattle.rb_workers.specs.declared.opened.Opened.{Opened}
 use Rattle.rb_seats.specs.SeatHelpers.{IsAt}

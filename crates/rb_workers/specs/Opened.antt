@@ -1,6 +1,6 @@
 -- What rings have to be for a run: what a caller knows of each (own).
 use Rattle.std.specs.Prelude.{◌≡◌, ℕ, List, [], ◌∷◌, All, length, map}
-use Rattle.rb_ledger.specs.WorkerCounts.{numbers_below}
+use Rattle.rb_history.specs.WorkerCounts.{numbers_below}
 use Rattle.rb_seats.specs.SeatHelpers.{IsAt}
 use Rattle.rb_workers.specs.declared.opened.Opened.{Opened}
 use Rattle.rb_workers.specs.Sink.{SinkItem, GetsTaken}

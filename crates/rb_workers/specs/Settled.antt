@@ -1,7 +1,7 @@
 -- Whether all records that were made are submitted or discarded (own).
 use Rattle.std.specs.Prelude.{◌≡◌, ℕ, ◌+◌, ◌<◌, List, All}
 use Rattle.rb_history.specs.Counting.{counts_of}
-use Rattle.rb_ledger.specs.declared.tally.Tally.{Tally}
+use Rattle.rb_history.specs.declared.tally.Tally.{Tally}
 use Rattle.rb_ledger.specs.Seats.{WorkerSeat}
 use Rattle.rb_seats.specs.SeatHelpers.{made_in, submitted_in, discarded_in}
 use Rattle.rb_workers.specs.declared.opened.Ended.{Ended}

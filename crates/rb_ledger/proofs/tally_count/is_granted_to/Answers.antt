@@ -2,7 +2,7 @@ use Rattle.std.proofs.Common.{◌∙◌, ◌<◌, ◌-◌, ap, subst, length, ar
 use Rattle.std.specs.List.{Contains}
 use Rattle.std.proofs.lemmas.List.Elements.{Contains-get_or}
 use Rattle.rb_history.specs.declared.entries.Entry.TheVariants.{Res}
-use Rattle.rb_ledger.proofs.Records.{grant-tells}
+use Rattle.rb_history.proofs.RecordWorkers.{grant-tells}
 use Rattle.rb_ledger.proofs.tally_count.is_granted_to.Goals as goal
 
 pub returns-then-at-pos : goal.returns-then-at-pos

@@ -1,5 +1,5 @@
 use Rattle.std.proofs.Common.{◌≡◌, ◌≤◌, length, take}
-use Rattle.rb_ledger.specs.Roles.{is_record_of}
+use Rattle.rb_history.specs.WorkerCounts.{is_record_of}
 use Rattle.rb_ledger.proofs.tally_count.is_granted_to.Given as goal
 
 abbrev pub invariant-loop-rest : goal.invariant-loop-rest

@@ -1,9 +1,9 @@
 use Rattle.std.proofs.Common.{◌∙◌, ap, sym, subst, take}
 use Rattle.std.proofs.lemmas.List.{take_all}
 use Rattle.rb_history.specs.Legal.{IsLegal}
-use Rattle.rb_ledger.specs.WorkerCounts.{tally_of}
-use Rattle.rb_ledger.specs.inner.TallySteps.{with_entry}
-use Rattle.rb_ledger.proofs.Tallies.{part-once, part-next}
+use Rattle.rb_history.specs.WorkerCounts.{tally_of}
+use Rattle.rb_history.specs.inner.TallySteps.{with_entry}
+use Rattle.rb_history.proofs.WorkerCounts.{part-once, part-next}
 use Rattle.rb_ledger.proofs.tally_count.tally_in.Goals as goal
 
 pub with_next-tally-requires-clause-once : goal.with_next-tally-requires-clause-once

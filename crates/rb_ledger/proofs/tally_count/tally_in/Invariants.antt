@@ -1,5 +1,5 @@
 use Rattle.std.proofs.Common.{◌≡◌, take}
-use Rattle.rb_ledger.specs.WorkerCounts.{tally_of}
+use Rattle.rb_history.specs.WorkerCounts.{tally_of}
 use Rattle.rb_ledger.proofs.tally_count.tally_in.Given as goal
 
 abbrev pub invariant-loop-i : goal.invariant-loop-i
