@@ -2,6 +2,7 @@
 
 mod draw;
 mod drawn;
+mod many_takes;
 mod plain;
 mod rows;
 mod twins;
