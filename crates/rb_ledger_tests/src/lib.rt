@@ -4,6 +4,8 @@
 #[cfg(test)]
 mod closing;
 #[cfg(test)]
+mod consumer;
+#[cfg(test)]
 mod example;
 #[cfg(test)]
 mod rows;

@@ -3,6 +3,7 @@
 mod chapters;
 mod draw;
 mod drawn;
+mod many_takes;
 mod plain;
 mod rows;
 mod twins;

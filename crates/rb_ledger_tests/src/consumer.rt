@@ -1,0 +1,205 @@
+//! What a consumer does with what it takes: batches of records, and their tape.
+
+ghost use Rattle.std.specs.Prelude.{◌≡◌, length};
+ghost use Rattle.rb_ledger.specs.Seats.{IsSameSeat};
+
+use rb_consumer::{Batch, DeviceFault, Event, Item, TapeWriter};
+use rb_ledger::{ConsumerSeat, Foreign, Reservation, Seat, SharedRing, open};
+use rb_lend::{Lent, Sheet};
+use std::alloc::Global;
+use std::io::{Error, ErrorKind, Result, Write};
+use std::process::Abort;
+use std::sync::Wait;
+
+// A writer in memory that takes one byte a write, and fails once, at this write. Writes count from 1.
+#[derive(Drop)]
+struct OneByteWriter {
+    taken: Vec<u8>,
+    writes: u32,
+    fails_at: u32,
+    takes_nothing: bool,
+}
+
+impl Write for OneByteWriter {
+    fn write(&mut self, buf: &[u8]) -> Result<usize> {
+        self.writes = self.writes.wrapping_add(1);
+        if self.writes == self.fails_at {
+            if self.takes_nothing {
+                return Ok(0);
+            }
+            return Err(Error::from(ErrorKind::Interrupted));
+        }
+        match buf.first() {
+            None => Ok(0),
+            Some(byte) => {
+                self.taken.push(*byte)?;
+                Ok(1)
+            }
+        }
+    }
+
+    fn flush(&mut self) -> Result<()> {
+        Ok(())
+    }
+}
+
+// A ring for one worker, with its seats.
+fn opened<R: Wait + Abort>(rt: &R, alloc: Global, tag: u64) -> (SharedRing, Seat, ConsumerSeat)
+    ensures ring { (result.1.ring ≡ result.0.ring) × (result.2.ring ≡ result.0.ring) }
+    ensures tags { (result.0.tag ≡ tag) × (result.1.tag ≡ tag) × (result.2.tag ≡ tag) }
+{
+    let Ok((ring, mut seats, consumer)) = open(rt, alloc, tag, 4096, 0, 1) else {
+        rt.panic("no ring");
+    };
+    let Some(seat) = seats.pop() else {
+        rt.panic("no seat");
+    };
+    (ring, seat, consumer)
+}
+
+// Eight times this byte.
+fn sheet_of(rt: &impl Abort, alloc: Global, byte: u8) -> Sheet
+    ensures { length result ≡ 8 }
+{
+    match Sheet::new(alloc, 8) {
+        Ok(mut sheet) => {
+            sheet.bytes_mut().fill(byte);
+            sheet
+        }
+        Err(_) => rt.panic("no memory for a sheet"),
+    }
+}
+
+// A record that is submitted at once.
+fn sent<R: Wait + Abort>(rt: &R, alloc: Global, ring: &SharedRing, seat: &mut Seat, byte: u8)
+    requires { seat.old.ring ≡ ring.now.ring }
+    ensures { IsSameSeat seat.old seat.new }
+{
+    match ring.output(rt, seat, sheet_of(rt, alloc, byte), 0) {
+        Ok(_) => {}
+        Err(_) => rt.panic("a refused output"),
+    }
+}
+
+// A record that is busy.
+fn held<R: Wait + Abort>(rt: &R, alloc: Global, ring: &SharedRing, seat: &mut Seat) -> Reservation
+    requires { seat.old.ring ≡ ring.now.ring }
+    ensures { IsSameSeat seat.old seat.new }
+{
+    match ring.reserve(rt, seat, 8, sheet_of(rt, alloc, 0)) {
+        Ok(reservation) => reservation,
+        Err(_) => rt.panic("not granted"),
+    }
+}
+
+// A record that was discarded.
+fn given_up<R: Wait + Abort>(rt: &R, alloc: Global, ring: &SharedRing, seat: &mut Seat)
+    requires { seat.old.ring ≡ ring.now.ring }
+    ensures { IsSameSeat seat.old seat.new }
+{
+    let reservation = held(rt, alloc, ring, seat);
+    match ring.discard(rt, seat, reservation, 0) {
+        Ok(_) => {}
+        Err(_) => rt.panic("a stray discard"),
+    }
+}
+
+fn batch(rt: &impl Abort, alloc: Global, n: usize) -> Batch {
+    match Batch::with_capacity(alloc, n) {
+        Ok(batch) => batch,
+        Err(_) => rt.panic("no memory for a batch"),
+    }
+}
+
+#[test]
+fn a_batch_ends_before_a_busy_record(rt: HostRuntime) {
+    for (capacity, wanted) in [(8, 2), (1, 1), (0, 0)] {
+        let (ring, mut seat, mut consumer) = opened(&rt, rt.alloc(), 1);
+        sent(&rt, rt.alloc(), &ring, &mut seat, 7);
+        sent(&rt, rt.alloc(), &ring, &mut seat, 9);
+        let _busy = held(&rt, rt.alloc(), &ring, &mut seat);
+        let mut batch = batch(&rt, rt.alloc(), capacity);
+        assert_eq!(rt; batch.fill(&rt, &ring, &mut consumer), Ok(wanted));
+        assert_eq!(rt; consumer.consumed(), wanted as u64);
+        assert_eq!(rt; batch.items().count(), wanted);
+    }
+}
+
+#[test]
+fn a_batch_lends_what_was_taken(rt: HostRuntime) {
+    let (ring, mut seat, mut consumer) = opened(&rt, rt.alloc(), 1);
+    let (_other, _seat, mut stranger) = opened(&rt, rt.alloc(), 2);
+    sent(&rt, rt.alloc(), &ring, &mut seat, 7);
+    given_up(&rt, rt.alloc(), &ring, &mut seat);
+    let mut batch = batch(&rt, rt.alloc(), 4);
+    assert_eq!(rt; batch.fill(&rt, &ring, &mut stranger), Err(Foreign));
+    assert_eq!(rt; batch.fill(&rt, &ring, &mut consumer), Ok(2));
+    let event = Event {
+        pos: 0,
+        worker: 0,
+        serial: 0,
+        bytes: &[7; 8],
+    };
+    let mut items = batch.items();
+    assert_eq!(rt; items.next(), Some(Item::Event(event)));
+    assert_eq!(rt; items.next(), Some(Item::Skip(16, 8)));
+    assert_eq!(rt; items.next(), None);
+    let mut events = batch.events();
+    assert_eq!(rt; events.next(), Some(event));
+    assert_eq!(rt; events.next(), None);
+    let Some(sheet) = batch.recycle() else {
+        rt.panic("no sheet");
+    };
+    assert_eq!(rt; sheet.bytes(), [7; 8].as_slice());
+    assert!(rt; batch.recycle().is_none());
+    assert_eq!(rt; batch.items().count(), 1);
+    assert_eq!(rt; batch.fill(&rt, &ring, &mut consumer), Ok(0));
+}
+
+#[test]
+fn a_discarded_record_is_written_as_zeros(rt: HostRuntime) {
+    let (ring, mut seat, mut consumer) = opened(&rt, rt.alloc(), 1);
+    given_up(&rt, rt.alloc(), &ring, &mut seat);
+    let mut batch = batch(&rt, rt.alloc(), 1);
+    assert_eq!(rt; batch.fill(&rt, &ring, &mut consumer), Ok(1));
+    let mut tape = TapeWriter::new(Vec::new(rt.alloc()), 4096, 0);
+    let Some(Item::Skip(0, 8)) = batch.items().next() else {
+        rt.panic("another record");
+    };
+    assert_eq!(rt; tape.put(&Item::Skip(0, 8)), Ok(()));
+    assert_eq!(rt; (tape.sent(), tape.position()), (16, 16));
+    let written = [8, 0, 0, 0x40, 0, 0, 0, 0, 0, 0, 0, 0, 0, 0, 0, 0];
+    assert_eq!(rt; tape.into_writer().as_slice(), written.as_slice());
+}
+
+#[test]
+fn an_unfinished_record_is_resumed(rt: HostRuntime) {
+    let record = [8, 0, 0, 0, 0, 0, 0, 0, 0x2a, 0, 0, 0, 0, 0, 0, 0];
+    let item = Item::Event(Event {
+        pos: 0,
+        worker: 0,
+        serial: 0,
+        bytes: &record[8..],
+    });
+    for takes_nothing in [false, true] {
+        for fails_at in 1..=16 {
+            let writer = OneByteWriter {
+                taken: Vec::new(rt.alloc()),
+                writes: 0,
+                fails_at,
+                takes_nothing,
+            };
+            let mut tape = TapeWriter::new(writer, 4096, 0);
+            assert_eq!(rt; tape.put(&item), Err(DeviceFault));
+            assert_eq!(rt;
+                (tape.sent(), tape.position()),
+                (u64::from(fails_at) - 1, 0)
+            );
+            if tape.sent() < 16 {
+                assert_eq!(rt; tape.resume(&item), Ok(()));
+            }
+            assert_eq!(rt; (tape.sent(), tape.position()), (16, 16));
+            assert_eq!(rt; tape.into_writer().taken.as_slice(), record.as_slice());
+        }
+    }
+}
