@@ -24,14 +24,14 @@ use Rattle.rb_ledger.specs.Roles.Role.{Consumer}
 use Rattle.rb_ledger.specs.SentBytes.{IsWithin}
 use Rattle.rb_ledger.specs.inner.AddedBytes.{bytes_after, got_with, put_at}
 use Rattle.rb_ledger.specs.RoleKnowledge.{role_knowledge}
-use Rattle.rb_ledger.specs.WorkerCounts.{is_take_where}
+use Rattle.rb_history.specs.WorkerCounts.{is_take_where}
 use Rattle.rb_ledger.specs.Ledger.{Ledger, IsRing, FitsLedger}
 use Rattle.rb_ledger.specs.Seats.{ConsumerTies}
 use Rattle.rb_ledger.specs.inner.LockSteps.{knowledge_after}
 use Rattle.rb_ledger.specs.LockedCalls.{LockedCall, events_in, skips_in, span_in}
 use Rattle.rb_ledger.specs.ManyTakes.{events_among, skips_among, span_among, AreTakenFrom, got_by_all}
 use Rattle.rb_ledger.proofs.Histories.{AllOwn}
-use Rattle.rb_ledger.proofs.Taking.{discarded-is}
+use Rattle.rb_history.proofs.TakenRecords.{discarded-is}
 use Rattle.rb_ledger.proofs.Steps.{left-out, Done, done, step-from, quiet}
 use Rattle.rb_ledger.proofs.Calls.{StepIn, same-contents, same-logs, skipped-none, within-more}
 use Rattle.rb_ledger.proofs.Seated.{taker-goes-on, taker-same, taker-taken, taken-place}
