@@ -1,18 +1,19 @@
 //! What the tests share: programs, rings with sinks, and gates.
 
-ghost use Rattle.std.specs.Prelude.{◌≡◌, ◌≤◌, ℕ, IfOk, length};
-ghost use Rattle.rb_workers.specs.Opened.{IsOpened};
+ghost use Rattle.std.specs.Prelude.{◌≡◌, ◌≤◌, ℕ, length};
+ghost use Rattle.rb_workers.specs.Opened.{AreOpened, IsOpened};
 
-use crate::{Gate, Opened, Sink};
+use crate::{Gate, Job, Opened, Report, Sink, run_jobs};
 use rb_cfg::shape;
 use rb_decode::from_text;
 use rb_header::span;
 use rb_verifier::{Verified, verify};
 use std::alloc::Global;
+use std::process::Abort;
 use std::sync::Wait;
 use std::sync::atomic::{AtomicU64, Ordering};
-use std::test::Fail;
 use std::thread;
+use std::thread::Threads;
 
 /// Reserves a record of eight bytes, and submits 42 where it was granted.
 pub(super) const SUBMIT_42: &str =
@@ -150,24 +151,72 @@ pub(super) const OUTPUT_TO_SECOND: &str = "bf12000000000000 1851000001000000 000
     b703000008000000 b704000000000000 8500000082000000 9500000000000000";
 
 /// A program, verified for a context of 16 bytes and so many rings.
-pub(super) fn verified(alloc: Global, text: &str, rings: u32) -> Result<Verified, Fail>
+pub(super) fn verified<A: Abort>(rt: &A, alloc: Global, text: &str, rings: u32) -> Verified
     requires { rings ≤ 16 }
 {
-    let program = from_text(alloc, text)?;
-    Ok(verify(alloc, shape(alloc, program)?, 16, rings)?)
+    let program = from_text(alloc, text).expect(rt, "a program");
+    let shape = shape(alloc, program).expect(rt, "a shape");
+    verify(alloc, shape, 16, rings).expect(rt, "verified")
 }
 
-/// A ring of 4,096 bytes for so many workers.
-pub(super) fn opened<R: Wait>(
-    rt: &R,
-    alloc: Global,
-    tag: u64,
-    workers: u32,
-) -> Result<Opened<Counter>, Fail>
-    ensures { IfOk result (λ o. IsOpened (λ c. c.position) workers o) }
+/// A job of this worker.
+pub(super) fn job<'j>(worker: u32, program: &'j Verified, ctx: &'j [u8]) -> Job<'j> {
+    Job {
+        worker,
+        program,
+        ctx,
+    }
+}
+
+// A ring of 4,096 bytes for so many workers.
+fn opened<R: Wait + Abort>(rt: &R, alloc: Global, tag: u64, workers: u32) -> Opened<Counter>
+    ensures { IsOpened (λ c. c.position) workers result }
 {
     match Opened::open(rt, alloc, tag, 4096, 0, workers, Counter::new()) {
-        Ok(opened) => Ok(opened),
-        Err(_) => Err(Fail::from("no ring")),
+        Ok(opened) => opened,
+        Err(_) => rt.panic("no ring"),
+    }
+}
+
+/// One ring, with tag 0.
+pub(super) fn one_ring<R: Wait + Abort>(rt: &R, alloc: Global, workers: u32) -> Vec<Opened<Counter>>
+    ensures { AreOpened (λ c. c.position) result.items }
+{
+    let first = opened(rt, alloc, 0, workers);
+    match vec![in alloc; first] {
+        Ok(rings) => rings,
+        Err(_) => rt.panic("no memory"),
+    }
+}
+
+/// Two rings, with tags 0 and 1.
+pub(super) fn two_rings<R: Wait + Abort>(
+    rt: &R,
+    alloc: Global,
+    workers: u32,
+) -> Vec<Opened<Counter>>
+    ensures { AreOpened (λ c. c.position) result.items }
+{
+    let first = opened(rt, alloc, 0, workers);
+    let second = opened(rt, alloc, 1, workers);
+    match vec![in alloc; first, second] {
+        Ok(rings) => rings,
+        Err(_) => rt.panic("no memory"),
+    }
+}
+
+/// The report of a run that is not refused.
+pub(super) fn report<R: Threads + Wait + Sync + Abort, G: Gate + Sync>(
+    rt: &R,
+    alloc: Global,
+    rings: Vec<Opened<Counter>>,
+    jobs: &[Job<'_>],
+    gate: &G,
+) -> Report<Counter>
+    requires { AreOpened (λ c. c.position) rings.items }
+{
+    match run_jobs(rt, alloc, rings, jobs, gate) {
+        Ok(report) => report,
+        Err(_) => rt.panic("no report"),
     }
 }

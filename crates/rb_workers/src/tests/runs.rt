@@ -1,13 +1,18 @@
 //! Runs that come to a report.
 
+ghost use Rattle.std.specs.Prelude.{◌<◌};
+
 use super::given::{
-    Counter, Free, Holding, OUTPUT_CONTEXT, OUTPUT_TO_SECOND, SUBMIT_42, opened, verified,
+    Counter, Free, Holding, OUTPUT_CONTEXT, OUTPUT_TO_SECOND, SUBMIT_42, job, one_ring, report,
+    two_rings, verified,
 };
-use crate::{Ended, Gate, Job, Report, run_jobs};
+use crate::{Ended, Job, Opened, Report};
 use rb_interp::RunFault;
+use rb_ledger::Tally;
+use rb_verifier::Verified;
+use std::alloc::Global;
 use std::process::Abort;
 use std::sync::atomic::Ordering;
-use std::test::Fail;
 
 /// A context of 16 bytes.
 const CONTEXT: [u8; 16] = [1, 0, 0, 0, 0, 0, 0, 0, 9, 10, 11, 12, 13, 14, 15, 16];
@@ -33,71 +38,77 @@ fn is_taken<A: Abort>(rt: &A, ended: &Ended<Counter>, made: u64, events: u64) {
     assert_eq!(rt; ended.closing.consumer(), ended.sink.position);
 }
 
-#[test]
-fn four_workers_submit_a_hundred_times_each(rt: HostRuntime) -> Result<(), Fail> {
-    let alloc = rt.alloc();
-    let program = verified(alloc, SUBMIT_42, 1)?;
-    let mut jobs = Vec::new(alloc);
-    for n in 0..400 {
-        jobs.push(Job {
-            worker: n % 4,
-            program: &program,
-            ctx: CONTEXT.as_slice(),
-        })?;
+// The first ring of a report.
+fn first_ring<'r, A: Abort>(rt: &A, report: &'r Report<Counter>) -> &'r Ended<Counter> {
+    match report.rings.first() {
+        Some(ended) => ended,
+        None => rt.panic("no ring"),
     }
-    let rings = vec![in alloc; opened(&rt, alloc, 0, 4)?]?;
-    let gate = Free::new();
-    let Ok(report) = run_jobs(&rt, alloc, rings, jobs.as_slice(), &gate) else {
-        return Err(Fail::from("no report"));
-    };
-    assert_eq!(rt;
-        (report.strays, report.unlogged, report.answers.len()),
-        (0, 0, 400)
-    );
+}
+
+// So many jobs of this program and context, which so many workers run in turn.
+fn jobs_in_turn<'j, A: Abort>(
+    rt: &A,
+    alloc: Global,
+    program: &'j Verified,
+    count: u32,
+    workers: u32,
+) -> Vec<Job<'j>>
+    requires { 0 < workers }
+{
+    let mut jobs = Vec::new(alloc);
+    for n in 0..count {
+        jobs.push(job(n % workers, program, &CONTEXT))
+            .expect(rt, "memory");
+    }
+    jobs
+}
+
+// Whether the worker made or was refused so often, and submitted what it made.
+fn submitted_all<A: Abort>(rt: &A, tally: Tally, often: u64) {
+    assert_eq!(rt; tally.made.checked_add(tally.refused), Some(often));
+    assert_eq!(rt; (tally.submitted, tally.discarded), (tally.made, 0));
+}
+
+#[test]
+fn four_workers_submit_a_hundred_times_each(rt: HostRuntime) {
+    let alloc = rt.alloc();
+    let program = verified(&rt, alloc, SUBMIT_42, 1);
+    let jobs = jobs_in_turn(&rt, alloc, &program, 400, 4);
+    let report = report(&rt, alloc, one_ring(&rt, alloc, 4), &jobs, &Free::new());
+    assert_eq!(rt; (report.strays, report.unlogged), (0, 0));
+    assert_eq!(rt; report.answers.len(), 400);
     for answer in &report.answers {
         assert_eq!(rt; *answer, Ok(0));
     }
-    let Some(ended) = report.rings.first() else {
-        return Err(Fail::from("no ring"));
-    };
+    let ended = first_ring(&rt, &report);
     for tally in &ended.tallies {
-        assert_eq!(rt; tally.made.checked_add(tally.refused), Some(100));
-        assert_eq!(rt; (tally.submitted, tally.discarded), (tally.made, 0));
+        submitted_all(&rt, *tally, 100);
     }
     let made = added(ended).0;
     is_taken(&rt, ended, made, made);
-    Ok(())
 }
 
 #[test]
-fn held_reservation(rt: HostRuntime) -> Result<(), Fail> {
+fn held_reservation(rt: HostRuntime) {
     let alloc = rt.alloc();
-    let program = verified(alloc, SUBMIT_42, 1)?;
-    let job = Job {
-        worker: 0,
-        program: &program,
-        ctx: CONTEXT.as_slice(),
-    };
-    let jobs = [job, Job { worker: 1, ..job }];
-    let rings = vec![in alloc; opened(&rt, alloc, 0, 2)?]?;
+    let program = verified(&rt, alloc, SUBMIT_42, 1);
+    let jobs = jobs_in_turn(&rt, alloc, &program, 2, 2);
     let gate = Holding::new();
-    let Ok(report) = run_jobs(&rt, alloc, rings, jobs.as_slice(), &gate) else {
-        return Err(Fail::from("no report"));
-    };
+    let report = report(&rt, alloc, one_ring(&rt, alloc, 2), &jobs, &gate);
     assert_eq!(rt; gate.late.load(Ordering::SeqCst), 0);
     assert_eq!(rt; (report.strays, report.unlogged), (0, 0));
-    let Some(ended) = report.rings.first() else {
-        return Err(Fail::from("no ring"));
-    };
+    let ended = first_ring(&rt, &report);
     assert_eq!(rt; added(ended), (2, 0, 2, 0));
     is_taken(&rt, ended, 2, 2);
-    Ok(())
 }
 
-#[test]
-fn answers_stand_in_the_order_of_the_jobs(rt: HostRuntime) -> Result<(), Fail> {
-    let alloc = rt.alloc();
-    let program = verified(alloc, SUBMIT_42, 1)?;
+// Thirty jobs of three workers: each fifth has a context that is too short.
+fn jobs_with_short_ones<'j, A: Abort>(
+    rt: &A,
+    alloc: Global,
+    program: &'j Verified,
+) -> Vec<Job<'j>> {
     let mut jobs = Vec::new(alloc);
     for n in 0..30 {
         let ctx = if n % 5 == 0 {
@@ -105,17 +116,17 @@ fn answers_stand_in_the_order_of_the_jobs(rt: HostRuntime) -> Result<(), Fail> {
         } else {
             CONTEXT.as_slice()
         };
-        jobs.push(Job {
-            worker: n % 3,
-            program: &program,
-            ctx,
-        })?;
+        jobs.push(job(n % 3, program, ctx)).expect(rt, "memory");
     }
-    let rings = vec![in alloc; opened(&rt, alloc, 0, 3)?]?;
-    let gate = Free::new();
-    let Ok(report) = run_jobs(&rt, alloc, rings, jobs.as_slice(), &gate) else {
-        return Err(Fail::from("no report"));
-    };
+    jobs
+}
+
+#[test]
+fn answers_stand_in_the_order_of_the_jobs(rt: HostRuntime) {
+    let alloc = rt.alloc();
+    let program = verified(&rt, alloc, SUBMIT_42, 1);
+    let jobs = jobs_with_short_ones(&rt, alloc, &program);
+    let report = report(&rt, alloc, one_ring(&rt, alloc, 3), &jobs, &Free::new());
     for n in 0..30 {
         let want = if n % 5 == 0 {
             Err(RunFault::ContextLength)
@@ -125,88 +136,80 @@ fn answers_stand_in_the_order_of_the_jobs(rt: HostRuntime) -> Result<(), Fail> {
         assert_eq!(rt; report.answers.get(n).copied(), Some(want), "job {n}");
     }
     assert_eq!(rt; (report.strays, report.answers.len()), (0, 30));
-    Ok(())
 }
 
 #[test]
-fn a_worker_without_jobs_comes_to_the_gate_once(rt: HostRuntime) -> Result<(), Fail> {
+fn a_worker_without_jobs_comes_to_the_gate_once(rt: HostRuntime) {
     let alloc = rt.alloc();
-    let program = verified(alloc, SUBMIT_42, 1)?;
-    let job = Job {
-        worker: 0,
-        program: &program,
-        ctx: CONTEXT.as_slice(),
-    };
-    let jobs = [job, job];
-    let rings = vec![in alloc; opened(&rt, alloc, 0, 4)?]?;
+    let program = verified(&rt, alloc, SUBMIT_42, 1);
+    let jobs = jobs_in_turn(&rt, alloc, &program, 2, 1);
     let gate = Free::new();
-    assert!(rt; run_jobs(&rt, alloc, rings, jobs.as_slice(), &gate).is_ok());
+    let report = report(&rt, alloc, one_ring(&rt, alloc, 4), &jobs, &gate);
+    assert_eq!(rt; report.strays, 0);
     assert_eq!(rt; gate.first.load(Ordering::SeqCst), 5);
-    assert_eq!(rt;
-        (
-            gate.others.load(Ordering::SeqCst),
-            gate.finished.load(Ordering::SeqCst)
-        ),
-        (3, 0)
-    );
-    Ok(())
+    assert_eq!(rt; gate.others.load(Ordering::SeqCst), 3);
+    assert_eq!(rt; gate.finished.load(Ordering::SeqCst), 0);
 }
 
-#[test]
-fn two_rings_have_each_context_once(rt: HostRuntime) -> Result<(), Fail> {
-    let alloc = rt.alloc();
-    let first = verified(alloc, OUTPUT_CONTEXT, 2)?;
-    let second = verified(alloc, OUTPUT_TO_SECOND, 2)?;
+// A hundred contexts, which begin with their numbers.
+fn contexts<A: Abort>(rt: &A, alloc: Global) -> Vec<[u8; 16]> {
     let mut contexts = Vec::new(alloc);
     for n in 0..100 {
         let mut context = [0; 16];
         context[0] = n;
-        contexts.push(context)?;
+        contexts.push(context).expect(rt, "memory");
     }
+    contexts
+}
+
+// A job of each context: each third runs the first program, the others the second.
+fn jobs_of_two<'j, A: Abort>(
+    rt: &A,
+    alloc: Global,
+    first: &'j Verified,
+    second: &'j Verified,
+    contexts: &'j [[u8; 16]],
+) -> Vec<Job<'j>> {
     let mut jobs = Vec::new(alloc);
     for (n, context) in contexts.iter().enumerate() {
-        jobs.push(Job {
-            worker: (n % 4) as u32,
-            program: if n % 3 == 0 { &first } else { &second },
-            ctx: context.as_slice(),
-        })?;
+        let program = if n % 3 == 0 { first } else { second };
+        jobs.push(job((n % 4) as u32, program, context))
+            .expect(rt, "memory");
     }
-    let rings = vec![in alloc; opened(&rt, alloc, 0, 4)?, opened(&rt, alloc, 1, 4)?]?;
-    let gate = Free::new();
-    let Ok(report) = run_jobs(&rt, alloc, rings, jobs.as_slice(), &gate) else {
-        return Err(Fail::from("no report"));
-    };
-    assert_eq!(rt;
-        (report.strays, report.unlogged, report.rings.len()),
-        (0, 0, 2)
-    );
-    for (at, ended) in report.rings.iter().enumerate() {
-        for n in 0..100 {
-            let want = u64::from((n % 3 == 0) == (at == 0));
-            assert_eq!(rt; ended.sink.events[n], want, "ring {at} context {n}");
-        }
-        assert_eq!(rt; ended.sink.others, 0);
+    jobs
+}
+
+// Whether the ring's sink has had each context of its own once, and no other.
+fn has_each_once<A: Abort>(rt: &A, ended: &Ended<Counter>, at: usize) {
+    for n in 0..100 {
+        let want = u64::from((n % 3 == 0) == (at == 0));
+        assert_eq!(rt; ended.sink.events[n], want, "ring {at} context {n}");
     }
-    Ok(())
+    assert_eq!(rt; ended.sink.others, 0);
 }
 
 #[test]
-fn no_ring_and_no_job_give_an_empty_report(rt: HostRuntime) -> Result<(), Fail> {
+fn two_rings_have_each_context_once(rt: HostRuntime) {
+    let alloc = rt.alloc();
+    let first = verified(&rt, alloc, OUTPUT_CONTEXT, 2);
+    let second = verified(&rt, alloc, OUTPUT_TO_SECOND, 2);
+    let contexts = contexts(&rt, alloc);
+    let jobs = jobs_of_two(&rt, alloc, &first, &second, &contexts);
+    let report = report(&rt, alloc, two_rings(&rt, alloc, 4), &jobs, &Free::new());
+    assert_eq!(rt; (report.strays, report.unlogged), (0, 0));
+    assert_eq!(rt; report.rings.len(), 2);
+    for (at, ended) in report.rings.iter().enumerate() {
+        has_each_once(&rt, ended, at);
+    }
+}
+
+#[test]
+fn no_ring_and_no_job_give_an_empty_report(rt: HostRuntime) {
     let alloc = rt.alloc();
     let gate = Free::new();
-    let none: [Job<'_>; 0] = [];
-    match run_jobs::<_, Counter, _>(&rt, alloc, Vec::new(alloc), none.as_slice(), &gate) {
-        Ok(report) => assert_eq!(rt;
-            (
-                report.rings.len(),
-                report.answers.len(),
-                report.strays,
-                report.unlogged
-            ),
-            (0, 0, 0, 0)
-        ),
-        Err(_) => return Err(Fail::from("no report")),
-    }
+    let none: Vec<Opened<Counter>> = Vec::new(alloc);
+    let report = report(&rt, alloc, none, &[], &gate);
+    assert_eq!(rt; (report.strays, report.unlogged), (0, 0));
+    assert_eq!(rt; (report.rings.len(), report.answers.len()), (0, 0));
     assert_eq!(rt; gate.first.load(Ordering::SeqCst), 0);
-    Ok(())
 }
