@@ -1,6 +1,6 @@
 //! Programs that call helpers, one instruction at a time and to their ends.
 
-ghost use Rattle.std.specs.Prelude.{◌≡◌};
+ghost use Rattle.std.specs.Prelude.{◌≡◌, IfSome, replicate};
 ghost use Rattle.rb_semantics.specs.declared.pending_call.PendingCall.TheVariants.{Reserve, GiveBack};
 ghost use Rattle.rb_interp.specs.declared.step.Phase.TheVariants.{Ready, Waiting};
 
@@ -30,15 +30,14 @@ fn verified(rt: &impl Abort, alloc: Global, text: &str) -> Verified {
 type RunningMachine<'p> = Machine<'p, &'static [u8], Sheet>;
 
 // Answers a reservation: with a record, or with null.
-fn answer_reserve(rt: &impl Abort, alloc: Global, machine: &mut RunningMachine<'_>, len: u32, grants: bool)
+fn answer_reserve(machine: &mut RunningMachine<'_>, len: u32, granted: Option<Sheet>)
     requires waits { machine.old.phase ≡ Waiting (Reserve len) }
+    requires zeros { IfSome granted (λ r. r ≡ replicate len 0) }
     ensures ready { machine.new.phase ≡ Ready }
 {
-    if grants {
-        let sheet = Sheet::new(alloc, len).expect(rt, "memory");
-        machine.answer(Answer::Granted(sheet));
-    } else {
-        machine.answer(Answer::Null);
+    match granted {
+        Some(sheet) => machine.answer(Answer::Granted(sheet)),
+        None => machine.answer(Answer::Null),
     }
 }
 
@@ -61,7 +60,12 @@ fn executed(rt: &impl Abort, alloc: Global, program: &Verified, grants: bool) ->
             Step::Went => {}
             Step::Exit(_) => return (count, submitted),
             Step::Call(Request::Reserve { len, .. }) => {
-                answer_reserve(rt, alloc, &mut machine, len, grants);
+                let record = if grants {
+                    Some(Sheet::new(alloc, len).expect(rt, "memory"))
+                } else {
+                    None
+                };
+                answer_reserve(&mut machine, len, record);
             }
             Step::Call(Request::Submit { owned, .. }) => {
                 submitted

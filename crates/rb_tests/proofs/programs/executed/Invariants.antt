@@ -3,4 +3,4 @@ use Rattle.rb_interp.specs.declared.step.Phase.TheVariants.{Ready}
 use Rattle.rb_tests.proofs.programs.executed.Given as goal
 
 abbrev pub invariant-loop-count : goal.invariant-loop-count
-invariant-loop-count l = l.machine.phase ≡ Ready
+invariant-loop-count g l = l.machine.phase ≡ Ready
