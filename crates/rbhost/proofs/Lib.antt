@@ -1,11 +1,15 @@
 mod Answering
+mod Checking
+mod Contexts
+mod Draining
 mod Feeding
 mod Fresh
+mod InputText
 mod Inputs
 mod PayloadReads
+mod Printing
 mod Refusing
 mod RingPass
 mod Running
 mod Sending
 mod Sizes
-mod InputText

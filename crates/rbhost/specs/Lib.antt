@@ -1,5 +1,7 @@
 pub mod Acceptance
 pub mod Printed
+pub mod FreshRings
+pub mod DrainedRings
 pub mod Check
 pub mod Feed
 pub mod Input

@@ -9,10 +9,14 @@
 #![tactic(auto)]
 
 mod check;
+mod check_fault;
 mod command;
 mod device;
+mod drain;
 mod feed;
 mod feed_fault;
+mod fresh_rings;
+mod gate;
 mod options;
 mod payloads;
 mod program;

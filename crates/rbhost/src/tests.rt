@@ -1,5 +1,6 @@
 mod check_command;
 mod commands;
+mod endings;
 mod fakes;
 mod feed_command;
 mod run_command;
