@@ -1,6 +1,6 @@
 -- The rings over which a program is checked: each has 4,096 bytes and one worker, begins at position 0, and was just opened (own).
 use Rattle.std.specs.Prelude.{◌≡◌, ℕ, List, map}
-use Rattle.rb_ledger.specs.WorkerCounts.{numbers_below}
+use Rattle.rb_history.specs.WorkerCounts.{numbers_below}
 use Rattle.rb_ledger.specs.Seats.{Shared, WorkerSeat, ConsumerSeatValue, fresh_book, fresh_seat, fresh_consumer}
 
 -- the seat of a ring's one worker

@@ -1,14 +1,14 @@
 //! A program from its text: verified, run once over fresh rings, and what it left in them.
 
 ghost use Rattle.std.specs.Prelude.{◌≡◌, ◌≢◌, ◌≤◌, ℕ, List, Ok, Err, IfErr, IfOk, IfSome, IsErr, OnErr, OnOk, length, map, take};
-ghost use Rattle.std.specs.Io.KnownBytes.{Appends, Keeps};
+ghost use Rattle.std.specs.Io.KnownBytes.{Keeps};
 ghost use Rattle.rb_interp.specs.declared.fault.RunFault.TheVariants.{Stray as RunStray};
 ghost use Rattle.rb_ledger.specs.Seats.{WorkerSeat};
 ghost use Rattle.rb_seats.specs.SeatHelpers.{AtRings};
 ghost use Rattle.rbhost.specs.Check.{Checks, IsRightCheckFault, IsRightInputFault, PrintsCheck, RunsOnce};
 
 use crate::check_fault::CheckFault;
-use crate::device::write_out;
+use crate::device::write_whole;
 use crate::drain::drain_rings;
 use crate::fresh_rings::{Fresh, fresh_rings};
 use crate::gate::OpenGate;
@@ -50,18 +50,7 @@ pub fn check<T: Wait, R: Read, W: Write>(
     let text = text_of(bytes.as_slice())?;
     let Checked { value, records } = check_text(rt, alloc, text, bounds)?;
     let printed = text_of_run(alloc, value, records.as_slice())?;
-    print_whole(out, printed.as_bytes())
-}
-
-// Prints the whole text.
-fn print_whole<W: Write>(out: &mut W, text: &[u8]) -> Result<(), CheckFault>
-    ensures printed { OnOk result (Appends (W.contents out.old) (W.contents out.new) text.now) }
-    ensures broken_off { IfErr result (λ fault. fault ≡ CheckFault.Program ProgramFault.Device) }
-{
-    if write_out(out, text) < text.len() {
-        return Err(CheckFault::Program(ProgramFault::Device));
-    }
-    match out.flush() {
+    match write_whole(out, printed.as_bytes()) {
         Ok(()) => Ok(()),
         Err(_) => Err(CheckFault::Program(ProgramFault::Device)),
     }
