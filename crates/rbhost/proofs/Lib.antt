@@ -2,6 +2,7 @@ mod Answering
 mod Checking
 mod Contexts
 mod Draining
+mod Explaining
 mod Feeding
 mod Fresh
 mod InputText
