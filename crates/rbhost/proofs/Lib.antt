@@ -1,11 +1,16 @@
 mod Answering
+mod Checking
+mod Contexts
+mod Draining
+mod Explaining
 mod Feeding
 mod Fresh
+mod InputText
 mod Inputs
 mod PayloadReads
+mod Printing
 mod Refusing
 mod RingPass
 mod Running
 mod Sending
 mod Sizes
-mod InputText

@@ -1,6 +1,9 @@
 pub mod Acceptance
 pub mod Printed
+pub mod FreshRings
+pub mod DrainedRings
 pub mod Check
+pub mod Explained
 pub mod Feed
 pub mod Input
 pub mod Items

@@ -1,61 +1,40 @@
 //! A program from its text: verified, run once over fresh rings, and what it left in them.
 
-ghost use Rattle.std.specs.Prelude.{◌≡◌, ◌≤◌, ℕ, IfOk, IfSome, OnOk, length};
-ghost use Rattle.rb_seats.specs.SeatHelpers.{AtRings, IsAt};
-ghost use Rattle.rbhost.specs.Check.{EndsWith, Gives, AreConsumersOf};
+ghost use Rattle.std.specs.Prelude.{◌≡◌, ◌≢◌, ◌≤◌, ℕ, List, Ok, Err, IfErr, IfOk, IfSome, IsErr, OnErr, OnOk, length, map, take};
+ghost use Rattle.std.specs.Io.KnownBytes.{Keeps};
+ghost use Rattle.rb_interp.specs.declared.fault.RunFault.TheVariants.{Stray as RunStray};
+ghost use Rattle.rb_ledger.specs.Seats.{WorkerSeat};
+ghost use Rattle.rb_seats.specs.SeatHelpers.{AtRings};
+ghost use Rattle.rbhost.specs.Check.{Checks, IsRightCheckFault, IsRightInputFault, PrintsCheck, RunsOnce};
 
+use crate::check_fault::CheckFault;
+use crate::device::write_whole;
+use crate::drain::drain_rings;
+use crate::fresh_rings::{Fresh, fresh_rings};
+use crate::gate::OpenGate;
 use crate::program::{Bounds, ProgramFault, accept, read_all, text_of};
-use crate::record_lines::print_rings;
-use rb_history::OpenFault;
-use rb_interp::{RunFault, run};
-use rb_ledger::{ConsumerSeat, Seat, SharedRing, open};
-use rb_seats::{NoStock, SeatHelpers};
+use crate::record_lines::text_of_run;
+use rb_history::Taken;
+use rb_interp::RunFault;
+use rb_jobs::{Job, run_job};
+use rb_ledger::{Seat, SharedRing};
 use rb_verifier::Verified;
-use std::alloc::{AllocError, Global};
-use std::io::{BufWriter, Read, Write};
+use std::alloc::Global;
+use std::io::{Read, Write};
 use std::sync::Wait;
-use thiserror::Error;
 
-/// The size in bytes of each ring over which a program is checked.
-const RING_SIZE: u64 = 4096;
-
-/// Why a program was not accepted, or what it left could not be printed.
-#[derive(Clone, Copy, Debug, PartialEq, Eq, Error)]
-pub enum CheckFault {
-    /// The program was not accepted, memory ran out, or a read or a write failed.
-    #[error(transparent)]
-    Program(#[from] ProgramFault),
-    /// A record that the program submitted or discarded was handed back.
-    #[error("stray")]
-    Stray,
-}
-
-impl From<AllocError> for CheckFault {
-    fn from(_: AllocError) -> CheckFault {
-        CheckFault::Program(ProgramFault::Memory)
-    }
-}
-
-/// The rings over which a program is checked, the worker's seat at each, and each one's consumer.
-struct Fresh {
-    rings: Vec<SharedRing>,
-    seats: Vec<Seat>,
-    consumers: Vec<ConsumerSeat>,
-}
-
-/// What a run left: its result, and the rings with their consumers.
+/// What a run left: its result, and the records of each ring.
 #[derive(Drop)]
 pub struct Checked {
     /// What the program ended with.
     pub value: u64,
-    /// The rings, in the order of their numbers.
-    pub rings: Vec<SharedRing>,
-    /// Each ring's consumer.
-    pub consumers: Vec<ConsumerSeat>,
+    /// The records that were taken of each ring, in the order of the rings' numbers.
+    pub records: Vec<Vec<Taken>>,
 }
 
 /// Verifies the program whose text is the input, runs it once with a context of zeros over fresh rings of 4,096 bytes, and prints
-/// `accepted`, what it ended with, and a line for each record that can be taken then. Input that is no UTF-8 is `Text`.
+/// `accepted`, what it ended with, and a line for each record that it left. Input that is no UTF-8 is `Text`. Nothing is printed where
+/// the program is refused or memory runs out.
 pub fn check<T: Wait, R: Read, W: Write>(
     rt: &T,
     alloc: Global,
@@ -63,116 +42,74 @@ pub fn check<T: Wait, R: Read, W: Write>(
     out: &mut W,
     bounds: Bounds,
 ) -> Result<(), CheckFault>
-    ensures accepted { OnOk result (IfSome (R.remaining input.old) (λ text. (value : ℕ) × Gives text bounds.ctx_len bounds.rings value)) }
+    ensures printed { OnOk result (IfSome (R.remaining input.old) (λ text. PrintsCheck text bounds.ctx_len bounds.rings (W.contents out.old) (W.contents out.new))) }
+    ensures refused { IfErr result (λ fault. IfSome (R.remaining input.old) (λ text. IsRightInputFault text bounds.ctx_len bounds.rings fault)) }
+    ensures nothing_printed { IfErr result (λ fault. fault ≢ CheckFault.Program ProgramFault.Device → Keeps (W.contents out.old) (W.contents out.new)) }
 {
     let bytes = read_all(alloc, input)?;
     let text = text_of(bytes.as_slice())?;
-    let Checked {
-        value,
-        rings,
-        mut consumers,
-    } = check_text(rt, alloc, text, bounds)?;
-    let Ok(()) = writeln!(out, "accepted\nresult {value}") else {
-        return Err(CheckFault::Program(ProgramFault::Device));
-    };
-    print_rings(rt, alloc, rings.as_slice(), consumers.as_mut_slice(), out)
+    let Checked { value, records } = check_text(rt, alloc, text, bounds)?;
+    let printed = text_of_run(alloc, value, records.as_slice())?;
+    match write_whole(out, printed.as_bytes()) {
+        Ok(()) => Ok(()),
+        Err(_) => Err(CheckFault::Program(ProgramFault::Device)),
+    }
 }
 
-/// Verifies the program of a text in hex, and runs it once with a context of zeros over fresh rings.
+/// Verifies the program of a text in hex, and runs it once with a context of zeros over fresh rings. `Stray` where a record that it
+/// submits or discards is handed back.
 pub fn check_text<T: Wait>(
     rt: &T,
     alloc: Global,
     text: &str,
     bounds: Bounds,
 ) -> Result<Checked, CheckFault>
-    ensures gives { IfOk result (λ c. Gives text.now bounds.ctx_len bounds.rings c.value) }
-    ensures consumers { IfOk result (λ c. AreConsumersOf c.rings.items c.consumers.items) }
+    ensures checked { IfOk result (λ c. Checks text.now bounds.ctx_len bounds.rings c.value (map (λ ring. ring.items) c.records.items)) }
+    ensures refused { IfErr result (IsRightCheckFault text.now bounds.ctx_len bounds.rings) }
+    ensures no_device { result ≢ Err (CheckFault.Program ProgramFault.Device) }
 {
     let verified = accept(alloc, text, bounds)?;
     let Fresh {
         rings,
         seats,
-        consumers,
+        mut consumers,
     } = fresh_rings(rt, alloc, verified.rings())?;
-    let value = run_once(rt, alloc, &verified, rings.as_slice(), seats)?;
-    Ok(Checked {
-        value,
-        rings,
-        consumers,
-    })
+    let (value, mut seats) = run_once(rt, alloc, &verified, rings.as_slice(), seats)?;
+    let records = drain_rings(
+        rt,
+        alloc,
+        rings.as_slice(),
+        seats.as_mut_slice(),
+        consumers.as_mut_slice(),
+    )?;
+    Ok(Checked { value, records })
 }
 
-#[tactic(auto, using(crate::proofs::Fresh::zip_push))]
-// So many rings, each for one worker. A ring's tag is its number.
-fn fresh_rings<T: Wait>(rt: &T, alloc: Global, number: u32) -> Result<Fresh, CheckFault>
-    ensures len { IfOk result (λ f. length f.rings.items ≡ number) }
-    ensures seats { IfOk result (λ f. AtRings f.rings.items f.seats.items) }
-    ensures consumers { IfOk result (λ f. AreConsumersOf f.rings.items f.consumers.items) }
-{
-    let mut rings = Vec::new(alloc);
-    let mut seats = Vec::new(alloc);
-    let mut consumers = Vec::new(alloc);
-    for tag in 0..number {
-        let (ring, seat, consumer) = fresh_ring(rt, alloc, u64::from(tag))?;
-        rings
-            .push(ring)
-            .map_err(|_| CheckFault::Program(ProgramFault::Memory))?;
-        seats
-            .push(seat)
-            .map_err(|_| CheckFault::Program(ProgramFault::Memory))?;
-        consumers
-            .push(consumer)
-            .map_err(|_| CheckFault::Program(ProgramFault::Memory))?;
-    }
-    Ok(Fresh {
-        rings,
-        seats,
-        consumers,
-    })
-}
-
-#[tactic(auto, using(crate::proofs::Sizes::least_size, crate::proofs::Sizes::first_start, crate::proofs::Sizes::one_worker))]
-// A ring for one worker.
-fn fresh_ring<T: Wait>(
-    rt: &T,
-    alloc: Global,
-    tag: u64,
-) -> Result<(SharedRing, Seat, ConsumerSeat), CheckFault>
-    ensures tag { IfOk result (λ f. f.0.tag ≡ tag) }
-    ensures seat { IfOk result (λ f. IsAt f.0 f.1) }
-    ensures consumer { IfOk result (λ f. f.2.ring ≡ f.0.ring) }
-{
-    match open(rt, alloc, tag, RING_SIZE, 0, 1) {
-        Ok((ring, mut seats, consumer)) => match seats.pop() {
-            Some(seat) => Ok((ring, seat, consumer)),
-            None => unreachable!(),
-        },
-        Err(OpenFault::Memory) => Err(CheckFault::Program(ProgramFault::Memory)),
-        Err(OpenFault::Size) => unreachable!(),
-        Err(OpenFault::Start) => unreachable!(),
-        Err(OpenFault::Workers) => unreachable!(),
-    }
-}
-
-// What a program ends with over a context of zeros.
+// What a program ends with over a context of zeros, and the seats as the run left them.
 fn run_once<T: Wait>(
     rt: &T,
     alloc: Global,
     verified: &Verified,
     rings: &[SharedRing],
     seats: Vec<Seat>,
-) -> Result<u64, CheckFault>
+) -> Result<(u64, Vec<Seat>), CheckFault>
     requires rings { verified.now.rings ≤ length rings.now }
     requires seats { AtRings rings.now seats.items }
-    ensures { IfOk result (EndsWith verified.now) }
+    ensures ran { IfOk result (λ ran. RunsOnce verified.now (Ok ran.0) seats.items ran.1.items) }
+    ensures seats { IfOk result (λ ran. AtRings rings.now ran.1.items) }
+    ensures fault { IfErr result (λ fault. fault ≢ CheckFault.Stray → fault ≡ CheckFault.Program ProgramFault.Memory) }
+    ensures stray { result ≡ Err CheckFault.Stray → (left : List WorkerSeat) × RunsOnce verified.now (Err RunStray) seats.items left }
 {
     let context = vec![in alloc; 0; verified.ctx_len() as usize]?;
-    let mut helpers = match SeatHelpers::new(rt, alloc, rings, seats, verified.calls(), &NoStock) {
-        Ok(helpers) => helpers,
-        Err(_) => return Err(CheckFault::Program(ProgramFault::Memory)),
+    let job = Job {
+        worker: 0,
+        program: verified,
+        ctx: context.as_slice(),
     };
-    match run(verified, context.as_slice(), &mut helpers) {
-        Ok(value) => Ok(value),
+    let mut calls = 0;
+    let (answer, seats) = run_job(rt, alloc, rings, seats, &job, &OpenGate, &mut calls);
+    match answer?.result {
+        Ok(value) => Ok((value, seats)),
         Err(RunFault::ContextLength) => unreachable!(),
         Err(RunFault::Stray) => Err(CheckFault::Stray),
     }

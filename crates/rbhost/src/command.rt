@@ -6,6 +6,7 @@ ghost use Rattle.rb_history.specs.RingModel.{IsRingSize, IsStartPosition};
 ghost use Rattle.rbhost.specs.Feed.{FeedAnswerMatches, AnswersAlone, IsWholeInput};
 
 use crate::check::check;
+use crate::explain::explain;
 use crate::feed::feed;
 use crate::feed_fault::FeedFault;
 use crate::options::{Request, parse};
@@ -23,7 +24,7 @@ use std::thread::Threads;
 /// the program ends with: 0; 1 where it was refused, with a line on `err` that begins with `refused `; 2 for wrong usage, which
 /// goes to `err` before anything is read or written. Help and the version, where they are asked for, go to `out`.
 ///
-/// `feed` waits for nobody. `check` and `run` hold a ring's lock for each call, and `run` starts threads.
+/// `feed` and `explain` wait for nobody. `check` and `run` hold a ring's lock for each call, and `run` starts threads.
 pub fn command<T: Threads + Wait + Sync, S: AsStr, R: Read, W: Write, E: Write>(
     rt: &T,
     alloc: Global,
@@ -38,6 +39,7 @@ pub fn command<T: Threads + Wait + Sync, S: AsStr, R: Read, W: Write, E: Write>(
     match parse(alloc, words) {
         Ok(Request::Feed { size, start }) => feed_command(alloc, input, out, err, size, start),
         Ok(Request::Check(bounds)) => status_of(check(rt, alloc, input, out, bounds), err),
+        Ok(Request::Explain(bounds)) => status_of(explain(alloc, input, out, bounds), err),
         Ok(Request::Run(wanted)) => status_of(run(rt, alloc, input, out, wanted), err),
         Err(error) => print_usage(&error, out, err),
     }

@@ -1,6 +1,6 @@
 //! Reading and writing whole pieces, over any reader and any writer.
 
-ghost use Rattle.std.specs.Prelude.{◌≡◌, ◌<◌, ◌≤◌, ℕ, List, length, take, IfOk, OnErr};
+ghost use Rattle.std.specs.Prelude.{◌≡◌, ◌<◌, ◌≤◌, ℕ, List, length, take, IfOk, OnErr, OnOk};
 ghost use Rattle.std.specs.Io.KnownBytes.{Appends, Consumes, IsAtEnd};
 
 use std::io::{Read, Write};
@@ -40,4 +40,17 @@ pub fn write_out<W: Write>(writer: &mut W, piece: &[u8]) -> usize
         }
     }
     sent
+}
+
+/// Writes the whole piece, and flushes it.
+pub fn write_whole<W: Write>(writer: &mut W, piece: &[u8]) -> Result<(), DeviceFault>
+    ensures whole { OnOk result (Appends (W.contents writer.old) (W.contents writer.new) piece.now) }
+{
+    if write_out(writer, piece) < piece.len() {
+        return Err(DeviceFault);
+    }
+    match writer.flush() {
+        Ok(()) => Ok(()),
+        Err(_) => Err(DeviceFault),
+    }
 }

@@ -1,18 +1,24 @@
-//! A host for eBPF programs that write into BPF ring buffers, as a program with three commands.
+//! A host for eBPF programs that write into BPF ring buffers, as a program with four commands.
 //!
 //! `feed` puts payloads through a ring and writes the bytes that a reader of the kernel's ring buffer maps (ringbuf.rst). `check`
-//! decodes and verifies a program (RFC 9669), runs it once over fresh rings, and prints the records that it left. `run` has workers
+//! decodes and verifies a program (RFC 9669), runs it once over fresh rings, and prints the records that it left. `explain` prints what
+//! the verifier knows before each instruction, or why a program is refused. `run` has workers
 //! run a verified program on threads over one ring, and prints what each counted.
 //!
-//! What is promised is on `command`, `feed`, `check` and `run`: which statuses there are, what `feed` read and wrote by its answer,
+//! What is promised is on `command`, `feed`, `check`, `explain` and `run`: which statuses there are, what `feed` read and wrote by its answer,
 //! and that the result printed by `check` is one that the program's meaning gives.
 #![tactic(auto)]
 
 mod check;
+mod check_fault;
 mod command;
 mod device;
+mod drain;
+mod explain;
 mod feed;
 mod feed_fault;
+mod fresh_rings;
+mod gate;
 mod options;
 mod payloads;
 mod program;

@@ -18,6 +18,8 @@ pub enum Request {
     Feed { size: u64, start: u64 },
     /// Verifies a program and runs it once.
     Check(Bounds),
+    /// Explains a program.
+    Explain(Bounds),
     /// Verifies a program and runs it as jobs on threads.
     Run(JobsRequest),
 }
@@ -32,10 +34,8 @@ pub fn parse<S: AsStr>(alloc: Global, words: &[S]) -> Result<Request, Error> {
             size: number(alloc, &mut program, options, "size")?,
             start: number(alloc, &mut program, options, "start")?,
         }),
-        Some(("check", options)) => Ok(Request::Check(Bounds {
-            ctx_len: bounded(alloc, &mut program, options, "ctx", 0, 65_536)?,
-            rings: bounded(alloc, &mut program, options, "rings", 0, 16)?,
-        })),
+        Some(("check", options)) => Ok(Request::Check(bounds(alloc, &mut program, options)?)),
+        Some(("explain", options)) => Ok(Request::Explain(bounds(alloc, &mut program, options)?)),
         Some(("run", options)) => Ok(Request::Run(JobsRequest {
             workers: number(alloc, &mut program, options, "workers")?,
             jobs: bounded(alloc, &mut program, options, "jobs", 1, 1_000_000)?,
@@ -44,6 +44,18 @@ pub fn parse<S: AsStr>(alloc: Global, words: &[S]) -> Result<Request, Error> {
         })),
         _ => Err(program.error(ErrorKind::MissingSubcommand, "no command was given")?),
     }
+}
+
+// What a program is verified for.
+fn bounds(
+    alloc: Global,
+    program: &mut Command<'_>,
+    options: &ArgMatches<'_>,
+) -> Result<Bounds, Error> {
+    Ok(Bounds {
+        ctx_len: bounded(alloc, program, options, "ctx", 0, 65_536)?,
+        rings: bounded(alloc, program, options, "rings", 0, 16)?,
+    })
 }
 
 // What the command line may say.
@@ -56,6 +68,7 @@ fn program<'a>(alloc: Global) -> Result<Command<'a>, AllocError> {
         .subcommand_required(true)
         .subcommand(feed(alloc)?)?
         .subcommand(check(alloc)?)?
+        .subcommand(explain(alloc)?)?
         .subcommand(run(alloc)?)
 }
 
@@ -64,6 +77,7 @@ fn feed<'a>(alloc: Global) -> Result<Command<'a>, AllocError> {
         .about(
             "Writes the tape of payloads, each read as a length in four bytes and that many bytes",
         )
+        .after_help("Example: printf '\\001\\000\\000\\000*' | rbhost feed --size 4096")
         .arg(size(alloc))?
         .arg(start(alloc))
 }
@@ -71,6 +85,17 @@ fn feed<'a>(alloc: Global) -> Result<Command<'a>, AllocError> {
 fn check<'a>(alloc: Global) -> Result<Command<'a>, AllocError> {
     Command::new(alloc, "check")
         .about("Verifies a program, given as text in hex, and runs it once")
+        .after_help("Example: tools/bpf-hex examples/c/event.c | rbhost check")
+        .arg(ctx(alloc))?
+        .arg(rings(alloc))
+}
+
+fn explain<'a>(alloc: Global) -> Result<Command<'a>, AllocError> {
+    Command::new(alloc, "explain")
+        .about(
+            "Explains a program, given as text in hex: what is known before each instruction, or what is wrong and how to mend it",
+        )
+        .after_help("Example: tools/bpf-hex examples/c/event.c | rbhost explain")
         .arg(ctx(alloc))?
         .arg(rings(alloc))
 }
@@ -79,6 +104,9 @@ fn run<'a>(alloc: Global) -> Result<Command<'a>, AllocError> {
     Command::new(alloc, "run")
         .about(
             "Verifies a program, given as text in hex, and runs it as jobs on threads over one ring",
+        )
+        .after_help(
+            "Example: rbhost run --workers 4 --jobs 100 --size 4096 < examples/submit_42.hex",
         )
         .arg(workers(alloc))?
         .arg(jobs(alloc))?

@@ -1,81 +1,67 @@
-//! A line for each record of a ring.
+//! What `check` prints of a program's run: its result, and a line for each record of each ring.
 
-ghost use Rattle.std.specs.Prelude.{◌≡◌, IfOk, string_bytes};
-ghost use Rattle.rb_ledger.specs.Seats.{IsSameConsumerSeat};
-ghost use Rattle.rbhost.specs.Check.{AreConsumersOf, IsConsumerOf};
-ghost use Rattle.rbhost.specs.Printed.{hex_text};
+ghost use Rattle.std.specs.Prelude.{◌≡◌, ◌++◌, IfOk, OnOk, map, string_bytes};
+ghost use Rattle.rbhost.specs.Printed.{hex_text, record_line, ring_lines, run_text};
 
-use crate::check::CheckFault;
-use crate::program::ProgramFault;
 use rb_history::Taken;
-use rb_ledger::{ConsumerSeat, SharedRing};
 use rb_lend::Lent;
 use std::alloc::{AllocError, Global};
-use std::io::Write;
-use std::sync::Wait;
 
-/// Takes all records that can be taken, ring by ring, and prints a line for each. Rings are numbered from 0.
-pub fn print_rings<T: Wait, W: Write>(
-    rt: &T,
-    alloc: Global,
-    rings: &[SharedRing],
-    consumers: &mut [ConsumerSeat],
-    out: &mut W,
-) -> Result<(), CheckFault>
-    requires consumers { AreConsumersOf rings.now consumers.old }
+/// The text of a run that ended with this value and left these records, ring by ring from ring 0 on: `accepted`, `result R`, and for
+/// each record `ring I pos P worker W serial S len N HEX`, or `ring I pos P len N discarded`. An empty payload is `-`.
+pub fn text_of_run(alloc: Global, value: u64, rings: &[Vec<Taken>]) -> Result<String, AllocError>
+    ensures text { IfOk result (λ text. string_bytes text ≡ run_text value (map (λ records. records.items) rings.now)) }
 {
-    for number in 0..rings.len() {
-        print_records(
-            rt,
-            alloc,
-            number,
-            &rings[number],
-            &mut consumers[number],
-            out,
-        )?;
+    let mut text = String::new(alloc);
+    writeln!(text, "accepted")?;
+    writeln!(text, "result {value}")?;
+    for ring in 0..rings.len() {
+        push_ring(alloc, &mut text, ring, rings[ring].as_slice())?;
+    }
+    Ok(text)
+}
+
+// The lines of a ring's records more.
+fn push_ring(
+    alloc: Global,
+    text: &mut String,
+    ring: usize,
+    records: &[Taken],
+) -> Result<(), AllocError>
+    ensures lines { OnOk result (string_bytes text.new ≡ string_bytes text.old ++ ring_lines ring records.now) }
+{
+    for taken in records {
+        push_record(alloc, text, ring, taken)?;
     }
     Ok(())
 }
 
-// Takes all records of a ring that can be taken, and prints a line for each: `ring I pos P worker W serial S len N HEX`, or
-// `ring I pos P len N discarded`. An empty payload is `-`.
-fn print_records<T: Wait, W: Write>(
-    rt: &T,
+// The line of a record more.
+fn push_record(
     alloc: Global,
-    number: usize,
-    ring: &SharedRing,
-    consumer: &mut ConsumerSeat,
-    out: &mut W,
-) -> Result<(), CheckFault>
-    requires { IsConsumerOf ring.now consumer.old }
-    ensures same { IsSameConsumerSeat consumer.old consumer.new }
+    text: &mut String,
+    ring: usize,
+    taken: &Taken,
+) -> Result<(), AllocError>
+    ensures line { OnOk result (string_bytes text.new ≡ string_bytes text.old ++ record_line ring taken.now) }
 {
-    for _ in rt.forever() {
-        let printed = match ring.take(rt, consumer) {
-            Ok(Taken::Event(pos, worker, serial, sheet)) => {
-                let bytes = hex_of(alloc, sheet.bytes())?;
-                writeln!(
-                    out,
-                    "ring {number} pos {pos} worker {worker} serial {serial} len {} {bytes}",
-                    sheet.len()
-                )
-            }
-            Ok(Taken::Skipped(pos, len)) => writeln!(
-                out,
-                "ring {number} pos {pos} len {len} discarded"
-            ),
-            _ => break,
-        };
-        if printed.is_err() {
-            return Err(CheckFault::Program(ProgramFault::Device));
+    match taken {
+        Taken::Event(pos, worker, serial, sheet) => {
+            let bytes = hex_of(alloc, sheet.bytes())?;
+            let len = sheet.len();
+            writeln!(
+                text,
+                "ring {ring} pos {pos} worker {worker} serial {serial} len {len} {bytes}"
+            )
         }
+        Taken::Skipped(pos, len) => writeln!(text, "ring {ring} pos {pos} len {len} discarded"),
+        Taken::BusyFront | Taken::Empty => Ok(()),
     }
-    Ok(())
 }
 
 // The bytes in hex; `-` where there are none.
 fn hex_of(alloc: Global, bytes: &[u8]) -> Result<String, AllocError>
-    ensures { IfOk result (λ text. string_bytes text ≡ hex_text bytes.now) }
+    ensures text { IfOk result (λ text. string_bytes text ≡ hex_text bytes.now) }
 {
     if bytes.is_empty() {
         return String::from_str(alloc, "-");

@@ -1,18 +1,19 @@
 //! A program from its text, run as jobs on threads over one ring.
 
-ghost use Rattle.std.specs.Prelude.{◌≡◌, ◌<◌, ◌^◌, ℕ, All, IfOk, IfSome, OnOk, length, vec_len};
+ghost use Rattle.std.specs.Prelude.{◌≡◌, ◌<◌, ◌^◌, ℕ, All, IfOk, IfSome, OnOk, length, map, vec_len};
 ghost use Rattle.rb_history.specs.RingModel.{IsRingSize, IsStartPosition, IsWorkerCount};
 ghost use Rattle.rb_verifier.specs.Subject.{Subject};
 ghost use Rattle.rbhost.specs.Acceptance.{IsAccepted};
-ghost use Rattle.rbhost.specs.inner.RunCommand.{IsJobFor, job_context};
+ghost use Rattle.rbhost.specs.inner.RunCommand.{IsJobFor, contexts_of_worker, contexts_of_workers, job_context};
 
+use crate::gate::OpenGate;
 use crate::program::{Bounds, ProgramFault, accept, read_all, text_of};
 use byteorder::{ByteOrder, LittleEndian};
 use rb_header::span;
 use rb_history::Counts;
 use rb_ledger::{OpenFault, Tally};
 use rb_verifier::Verified;
-use rb_workers::{Gate, Job, JobFault, Opened, Report, Sink, run_jobs};
+use rb_workers::{Job, JobFault, Opened, Report, Sink, run_jobs};
 use std::alloc::{AllocError, Global};
 use std::io;
 use std::io::{BufWriter, Read, Write};
@@ -57,13 +58,6 @@ impl From<AllocError> for JobsFault {
     fn from(_: AllocError) -> JobsFault {
         JobsFault::Program(ProgramFault::Memory)
     }
-}
-
-/// A gate that lets each call pass.
-struct OpenGate;
-
-impl Gate for OpenGate {
-    fn at(&self, _worker: u32, _call: u64) {}
 }
 
 /// Gives up all records that it is given.
@@ -172,6 +166,7 @@ fn open_fault(fault: OpenFault) -> JobsFault {
 // The contexts of each worker's jobs, in the order of their numbers.
 fn contexts_of(alloc: Global, workers: u32, jobs: u32) -> Result<Vec<Vec<[u8; CONTEXT]>>, JobsFault>
     ensures len { IfOk result (λ c. vec_len c ≡ workers) }
+    ensures contexts { IfOk result (λ c. map (λ own. own.items) c.items ≡ contexts_of_workers workers jobs) }
 {
     let mut contexts = Vec::with_capacity(alloc, workers as usize)?;
     for worker in 0..workers {
@@ -181,7 +176,9 @@ fn contexts_of(alloc: Global, workers: u32, jobs: u32) -> Result<Vec<Vec<[u8; CO
 }
 
 // The contexts of one worker's jobs.
-fn own_contexts(alloc: Global, worker: u32, jobs: u32) -> Result<Vec<[u8; CONTEXT]>, AllocError> {
+fn own_contexts(alloc: Global, worker: u32, jobs: u32) -> Result<Vec<[u8; CONTEXT]>, AllocError>
+    ensures contexts { IfOk result (λ c. c.items ≡ contexts_of_worker worker jobs) }
+{
     let mut contexts = Vec::with_capacity(alloc, jobs as usize)?;
     for job in 0..jobs {
         contexts.push_reserved(context_of(worker, job));
@@ -191,7 +188,7 @@ fn own_contexts(alloc: Global, worker: u32, jobs: u32) -> Result<Vec<[u8; CONTEX
 
 // The worker's and the job's number, each in eight bytes, the lowest first.
 fn context_of(worker: u32, job: u32) -> [u8; CONTEXT]
-    ensures { result ≡ job_context worker job }
+    ensures context { result ≡ job_context worker job }
 {
     let mut context = [0; CONTEXT];
     LittleEndian::write_u64(&mut context[..8], u64::from(worker));

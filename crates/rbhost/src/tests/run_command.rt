@@ -1,12 +1,6 @@
 //! The command `run`, with all that it prints.
 
-use super::fakes::Source;
-use crate::command::command;
-use std::alloc::Global;
-use std::process::Abort;
-use std::sync::Wait;
-use std::test::Fail;
-use std::thread::Threads;
+use super::endings::{ended, is_wrong_usage};
 
 // r0 = 0, and exit.
 const EXIT_ZERO: &str = "b700000000000000 9500000000000000";
@@ -17,111 +11,87 @@ const SUBMIT_42: &str = "1851000000000000 0000000000000000
     1500040000000000 7a0000002a000000 bf01000000000000 b702000000000000 8500000084000000
     b700000000000000 9500000000000000";
 
-// Runs the command on a text, and compares the status and both outputs.
-fn told<T: Abort + Threads + Wait + Sync>(
-    rt: &T,
-    alloc: Global,
-    words: &[&str],
-    text: &str,
-    out: &str,
-    err: &str,
-) {
-    let mut input = Source::new(text.as_bytes(), 7);
-    let mut printed = Vec::new(alloc);
-    let mut told = Vec::new(alloc);
-    let status = command(rt, alloc, words, &mut input, &mut printed, &mut told);
-    assert_eq!(rt; printed.as_slice(), out.as_bytes(), "of {words:?}");
-    assert_eq!(rt; told.as_slice(), err.as_bytes(), "of {words:?}");
-    assert_eq!(rt; status, if err.is_empty() { 0 } else { 1 }, "of {words:?}");
+#[test]
+fn runs_that_leave_one_outcome(rt: HostRuntime) {
+    let one: &[&str] = &["run", "--workers", "1", "--jobs", "3", "--size", "4096"];
+    let two: &[&str] = &[
+        "run",
+        "--workers",
+        "2",
+        "--jobs",
+        "2",
+        "--size",
+        "8192",
+        "--start",
+        "8",
+    ];
+    let rows = [
+        (
+            one,
+            SUBMIT_42,
+            "0 worker 0 made 3 refused 0 submitted 3 discarded 0\nring made 3 consumed 3 discarded 0 waiting 0 busy 0\nstrays 0\n",
+        ),
+        (
+            two,
+            EXIT_ZERO,
+            "0 worker 0 made 0 refused 0 submitted 0 discarded 0\nworker 1 made 0 refused 0 submitted 0 discarded 0\nring made 0 consumed 0 discarded 0 waiting 0 busy 0\nstrays 0\n",
+        ),
+    ];
+    for (words, program, wanted) in rows {
+        assert_eq!(rt;
+            ended(&rt, rt.alloc(), words, program.as_bytes()).as_str(),
+            wanted,
+            "of {words:?}"
+        );
+    }
+}
+
+// The number at a place of a line's words; none is the greatest.
+fn number(line: &str, place: usize) -> u64 {
+    match line.split(' ').nth(place) {
+        Some(word) => word.parse().unwrap_or(u64::MAX),
+        None => u64::MAX,
+    }
+}
+
+// What the line says was made, where it is this worker's line of a worker whose hundred jobs were granted or refused a record each, and
+// submitted each that was granted; else the greatest number.
+fn made_by(line: &str, worker: u64) -> u64 {
+    let made = number(line, 3);
+    let is_its_own = number(line, 1) == worker;
+    let is_all = made.saturating_add(number(line, 5)) == 100;
+    let is_submitted = number(line, 7) == made && number(line, 9) == 0;
+    if is_its_own && is_all && is_submitted {
+        made
+    } else {
+        u64::MAX
+    }
 }
 
 #[test]
-fn runs_that_leave_one_outcome(rt: HostRuntime) -> Result<(), Fail> {
+fn four_workers_submit_what_they_were_granted(rt: HostRuntime) {
     let alloc = rt.alloc();
-    told(
-        &rt,
-        alloc,
-        &["run", "--workers", "1", "--jobs", "3", "--size", "4096"],
-        SUBMIT_42,
-        "worker 0 made 3 refused 0 submitted 3 discarded 0\nring made 3 consumed 3 discarded 0 waiting 0 busy 0\nstrays 0\n",
-        "",
-    );
-    told(
-        &rt,
-        alloc,
-        &[
-            "run",
-            "--workers",
-            "2",
-            "--jobs",
-            "2",
-            "--size",
-            "8192",
-            "--start",
-            "8",
-        ],
-        EXIT_ZERO,
-        "worker 0 made 0 refused 0 submitted 0 discarded 0\nworker 1 made 0 refused 0 submitted 0 discarded 0\nring made 0 consumed 0 discarded 0 waiting 0 busy 0\nstrays 0\n",
-        "",
-    );
-    Ok(())
-}
-
-// The number at a place of a line's words.
-fn number<'a>(line: &'a str, place: usize) -> Option<u64> {
-    line.split(' ').nth(place)?.parse().ok()
-}
-
-#[test]
-fn four_workers_submit_what_they_were_granted(rt: HostRuntime) -> Result<(), Fail> {
-    let alloc = rt.alloc();
-    let mut input = Source::new(SUBMIT_42.as_bytes(), 100);
-    let mut printed = Vec::new(alloc);
-    let mut told = Vec::new(alloc);
     let words = ["run", "--workers", "4", "--jobs", "100", "--size", "4096"];
-    assert_eq!(rt;
-        command(&rt, alloc, &words, &mut input, &mut printed, &mut told),
-        0
-    );
-    let Ok(text) = str::from_utf8(printed.as_slice()) else {
-        return Err(Fail::from("no text"));
-    };
-    let mut lines = text.lines();
+    let text = ended(&rt, alloc, &words, SUBMIT_42.as_bytes());
     let mut all = 0u64;
-    for worker in 0..4 {
-        let Some(line) = lines.next() else {
-            return Err(Fail::from("a worker's line is missing"));
-        };
-        let (Some(number_of), Some(made), Some(refused), Some(submitted), Some(discarded)) = (
-            number(line, 1),
-            number(line, 3),
-            number(line, 5),
-            number(line, 7),
-            number(line, 9),
-        ) else {
-            return Err(Fail::from("a number is missing"));
-        };
-        assert_eq!(rt; number_of, worker);
-        assert_eq!(rt; made.saturating_add(refused), 100);
-        assert_eq!(rt; submitted, made);
-        assert_eq!(rt; discarded, 0);
-        all = all.saturating_add(made);
+    let mut workers = 0;
+    for line in text.as_str().lines().take(4) {
+        all = all.saturating_add(made_by(line.trim_start_matches("0 "), workers));
+        workers += 1;
     }
     let end = format!(in alloc;
         "ring made {all} consumed {all} discarded 0 waiting 0 busy 0\nstrays 0\n"
-    )?;
-    assert!(rt; text.ends_with(end.as_str()));
-    assert!(rt; told.is_empty());
-    Ok(())
+    ).expect(&rt, "memory");
+    assert_eq!(rt; (workers, text.as_str().lines().count()), (4, 6));
+    assert!(rt; text.as_str().ends_with(end.as_str()), "of {text}");
 }
 
 #[test]
-fn runs_are_refused(rt: HostRuntime) -> Result<(), Fail> {
-    let alloc = rt.alloc();
+fn runs_are_refused(rt: HostRuntime) {
     let rows: [(&[&str], &str); 7] = [
         (
             &["run", "--workers", "1", "--jobs", "1", "--size", "4095"],
-            "refused size\n",
+            "1 refused size\n",
         ),
         (
             &[
@@ -135,7 +105,7 @@ fn runs_are_refused(rt: HostRuntime) -> Result<(), Fail> {
                 "--start",
                 "3",
             ],
-            "refused size\n",
+            "1 refused size\n",
         ),
         (
             &[
@@ -149,15 +119,15 @@ fn runs_are_refused(rt: HostRuntime) -> Result<(), Fail> {
                 "--start",
                 "3",
             ],
-            "refused start\n",
+            "1 refused start\n",
         ),
         (
             &["run", "--workers", "0", "--jobs", "1", "--size", "4096"],
-            "refused workers\n",
+            "1 refused workers\n",
         ),
         (
             &["run", "--workers", "257", "--jobs", "1", "--size", "4096"],
-            "refused workers\n",
+            "1 refused workers\n",
         ),
         (
             &[
@@ -169,7 +139,7 @@ fn runs_are_refused(rt: HostRuntime) -> Result<(), Fail> {
                 "--size",
                 "4096",
             ],
-            "refused workers\n",
+            "1 refused workers\n",
         ),
         (
             &[
@@ -181,45 +151,85 @@ fn runs_are_refused(rt: HostRuntime) -> Result<(), Fail> {
                 "--size",
                 "4096",
             ],
-            "refused workers\n",
+            "1 refused workers\n",
         ),
     ];
-    for (words, refusal) in rows {
-        told(&rt, alloc, words, EXIT_ZERO, "", refusal);
-        // The program's refusals come first.
-        told(
-            &rt,
-            alloc,
-            words,
-            "95",
-            "",
-            "refused decode Length unit 0\n",
+    for (words, wanted) in rows {
+        assert_eq!(rt;
+            ended(&rt, rt.alloc(), words, EXIT_ZERO.as_bytes()).as_str(),
+            wanted,
+            "of {words:?}"
         );
     }
-    // A program that knows two rings.
-    let plain = ["run", "--workers", "1", "--jobs", "1", "--size", "4096"];
-    told(
-        &rt,
-        alloc,
-        &plain,
-        "1851000001000000 0000000000000000 b700000000000000 9500000000000000",
-        "",
-        "refused verify V7 unit 0\n",
-    );
-    // The byte behind the context.
-    told(
-        &rt,
-        alloc,
-        &plain,
-        "7110100000000000 9500000000000000",
-        "",
-        "refused verify V4 unit 0\n",
-    );
-    Ok(())
+}
+
+// The program's refusals come first, whatever the ring.
+#[test]
+fn programs_are_refused_before_rings(rt: HostRuntime) {
+    let plain: &[&str] = &["run", "--workers", "1", "--jobs", "1", "--size", "4096"];
+    let rows: [(&[&str], &str, &str); 6] = [
+        (
+            &["run", "--workers", "1", "--jobs", "1", "--size", "4095"],
+            "95",
+            "1 refused decode Length unit 0\n",
+        ),
+        (
+            &[
+                "run",
+                "--workers",
+                "0",
+                "--jobs",
+                "1",
+                "--size",
+                "4096",
+                "--start",
+                "3",
+            ],
+            "95",
+            "1 refused decode Length unit 0\n",
+        ),
+        (
+            &["run", "--workers", "257", "--jobs", "1", "--size", "4096"],
+            "95",
+            "1 refused decode Length unit 0\n",
+        ),
+        (
+            &[
+                "run",
+                "--workers",
+                "18446744073709551615",
+                "--jobs",
+                "1",
+                "--size",
+                "4096",
+            ],
+            "95",
+            "1 refused decode Length unit 0\n",
+        ),
+        // A program that knows two rings.
+        (
+            plain,
+            "1851000001000000 0000000000000000 b700000000000000 9500000000000000",
+            "1 refused verify V7 unit 0\n",
+        ),
+        // The byte behind the context.
+        (
+            plain,
+            "7110100000000000 9500000000000000",
+            "1 refused verify V4 unit 0\n",
+        ),
+    ];
+    for (words, program, wanted) in rows {
+        assert_eq!(rt;
+            ended(&rt, rt.alloc(), words, program.as_bytes()).as_str(),
+            wanted,
+            "of {words:?}"
+        );
+    }
 }
 
 #[test]
-fn run_is_used_wrongly(rt: HostRuntime) -> Result<(), Fail> {
+fn run_is_used_wrongly(rt: HostRuntime) {
     let wrong: [&[&str]; 6] = [
         &["run", "--jobs", "1", "--size", "4096"],
         &["run", "--workers", "1", "--size", "4096"],
@@ -237,16 +247,6 @@ fn run_is_used_wrongly(rt: HostRuntime) -> Result<(), Fail> {
         &["run", "--workers", "one", "--jobs", "1", "--size", "4096"],
     ];
     for words in wrong {
-        let mut input = Source::new(&[1], 5);
-        let mut printed = Vec::new(rt.alloc());
-        let mut told = Vec::new(rt.alloc());
-        assert_eq!(rt;
-            command(&rt, rt.alloc(), words, &mut input, &mut printed, &mut told),
-            2
-        );
-        assert!(rt; printed.is_empty());
-        assert!(rt; told.as_slice().starts_with(b"error: "));
-        assert_eq!(rt; input.rest.len(), 1);
+        assert!(rt; is_wrong_usage(&rt, rt.alloc(), words), "of {words:?}");
     }
-    Ok(())
 }

@@ -1,0 +1,16 @@
+-- The rings over which a program is checked: each has 4,096 bytes and one worker, begins at position 0, and was just opened (own).
+use Rattle.std.specs.Prelude.{◌≡◌, ℕ, List, map}
+use Rattle.rb_history.specs.WorkerCounts.{numbers_below}
+use Rattle.rb_ledger.specs.Seats.{Shared, WorkerSeat, ConsumerSeatValue, fresh_book, fresh_seat, fresh_consumer}
+
+-- the seat of a ring's one worker
+abbrev pub fresh_worker : Shared → WorkerSeat
+fresh_worker ring = fresh_seat ring.tag ring.ring 0 (fresh_book 4096 0 1)
+
+-- the seat of a ring's consumer
+abbrev pub fresh_taker : Shared → ConsumerSeatValue
+fresh_taker ring = fresh_consumer ring.tag ring.ring (fresh_book 4096 0 1)
+
+-- so many rings, each tagged by its number
+abbrev pub AreNumbered : ℕ → List Shared → Type 0
+AreNumbered count rings = map (λ ring. ring.tag) rings ≡ numbers_below count

@@ -1,0 +1,40 @@
+//! What commands end with, as one text or one answer.
+
+use super::fakes::Source;
+use crate::command::command;
+use std::alloc::Global;
+use std::process::Abort;
+use std::sync::Wait;
+use std::thread::Threads;
+
+/// The status, what was told on the error output, and what was printed, which is text too.
+pub(crate) fn ended<T: Abort + Threads + Wait + Sync>(
+    rt: &T,
+    alloc: Global,
+    words: &[&str],
+    input: &[u8],
+) -> String {
+    let mut reader = Source::new(input, 7);
+    let mut printed = Vec::new(alloc);
+    let mut told = Vec::new(alloc);
+    let status = command(rt, alloc, words, &mut reader, &mut printed, &mut told);
+    let printed = str::from_utf8(printed.as_slice()).expect(rt, "text");
+    let told = str::from_utf8(told.as_slice()).expect(rt, "text");
+    format!(in alloc; "{status} {told}{printed}").expect(rt, "memory")
+}
+
+/// Whether the words were told to be wrong, before anything was read or printed.
+pub(crate) fn is_wrong_usage<T: Threads + Wait + Sync>(
+    rt: &T,
+    alloc: Global,
+    words: &[&str],
+) -> bool {
+    let mut reader = Source::new(&[1], 5);
+    let mut printed = Vec::new(alloc);
+    let mut told = Vec::new(alloc);
+    let status = command(rt, alloc, words, &mut reader, &mut printed, &mut told);
+    status == 2
+        && printed.is_empty()
+        && told.as_slice().starts_with(b"error: ")
+        && reader.rest.len() == 1
+}
