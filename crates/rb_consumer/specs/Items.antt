@@ -1,6 +1,6 @@
 -- What an item that is lent says: the answer of `take` that it comes from, and its record on a tape (own).
-use Rattle.std.specs.Prelude.{List, [], ◌∷◌}
-use Rattle.rb_header.specs.TapeBytes.{Item}
+use Rattle.std.specs.Prelude.{ℕ, List, [], ◌∷◌}
+use Rattle.rb_header.specs.TapeBytes.{Item, item_span}
 use Rattle.rb_header.specs.TapeBytes.Item.{Event, Skip}
 use Rattle.rb_history.specs.declared.answers.Taken.{Taken}
 use Rattle.rb_history.specs.declared.answers.Taken.TheVariants as answers
@@ -27,3 +27,8 @@ tape_items (answers.Event position worker serial bytes ∷ ts) = Event position 
 tape_items (answers.Skipped position n ∷ ts) = Skip position n ∷ tape_items ts
 tape_items (answers.BusyFront ∷ ts) = tape_items ts
 tape_items (answers.Empty ∷ ts) = tape_items ts
+
+-- how many bytes of the last record went out once all of these did, `before` where there are none
+abbrev pub sent_after : ℕ → List Item → ℕ
+sent_after before [] = before
+sent_after before (item ∷ items) = sent_after (item_span item) items
