@@ -1,5 +1,5 @@
 -- The items that went out so far.
-use Rattle.std.proofs.Common.{◌≡◌, ℕ, ◌+◌, ◌<◌, List, [], ◌∷◌, ◌++◌, take, refl, sym, ap, ◌∙◌, subst, append_assoc, append-nil, arith}
+use Rattle.std.proofs.Common.{◌≡◌, ℕ, ◌+◌, List, [], ◌∷◌, ◌++◌, take, refl, sym, ap, ◌∙◌, subst, append_assoc, append-nil, arith}
 use Rattle.std.specs.Prelude.{Option, Bool, true, false, not, Result, Ok, Err, is_err, OnOk, OnErr, if◌then◌else◌}
 use Rattle.std.proofs.lemmas.Bool.{true≢false}
 use Rattle.std.proofs.lemmas.List.{take_all}
@@ -102,13 +102,11 @@ module _ (W : Type 0) (contents : W → Option (List ℕ)) (old : TapeOutput W) 
       }
 
   pub stops-within : (now new : TapeOutput W) (left rest : List Taken) (i : given.Item) → PutSoFar now left → left ≡ item_taken i ∷ rest →
-      Appends (contents now.writer) (contents new.writer) (take new.sent (item_bytes now.size (item_of i))) → new.sent < item_span (item_of i) →
-      new.position ≡ now.position → StopsWithin W contents old new items rest i
-  stops-within now new left rest i so_far is went few stays = record {
+      Appends (contents now.writer) (contents new.writer) (take new.sent (item_bytes now.size (item_of i))) → new.position ≡ now.position → StopsWithin W contents old new items rest i
+  stops-within now new left rest i so_far is went stays = record {
     whole = so_far.whole;
     items_are = so_far.items_are ∙ ap (λ x. so_far.whole ++ x) is;
     position_is = stays ∙ so_far.position_is;
-    not_all_sent = few;
     bytes = Appends-trans (contents old.writer) (contents now.writer) (contents new.writer) _ _ so_far.bytes (subst (λ s. Appends (contents now.writer) (contents new.writer) (take new.sent (item_bytes s (item_of i)))) so_far.size_same went);
   }
 

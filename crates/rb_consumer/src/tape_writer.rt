@@ -87,6 +87,7 @@ impl<W: Write> TapeWriter<W> {
         ensures position { OnOk result (self.new.position ≡ end_of self.old.position (tape_items items.old)) }
         ensures sent { OnOk result (self.new.sent ≡ sent_after self.old.sent (tape_items items.old)) }
         ensures stops { IfErr result (λ item. StopsWithin W W.contents self.old self.new items.old items.new item) }
+        ensures not_all_sent { IfErr result (λ item. self.new.sent < item_span (item_of item)) }
         ensures stands { IfErr result (λ item. IsItemAt self.new.size self.new.position (item_of item)) }
         ensures rest { IfErr result (λ item. AreItemsFrom self.new.size (self.new.position + item_span (item_of item)) (tape_items items.new)) }
         ensures unfinished { self.new.unfinished ≡ not (is_ok result) }

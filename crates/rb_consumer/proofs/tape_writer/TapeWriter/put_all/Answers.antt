@@ -19,8 +19,10 @@ put-requires-clause-stands g c =
 pub returns-then-is_err-clause-stops : goal.returns-then-is_err-clause-stops
 returns-then-is_err-clause-stops g c =
     let p = c.put.ensures in
-    stops-within _ _ _ _ _ _ _ _ _ c.loop-item.invariant.so_far c.in-Some.ensures.steps p.bytes
-    (on-err _ _ _ p.not_all_sent c.is_err.ensures.value c.if-is_err.true) (stayed _ _ _ _ _ p.position c.is_err.ensures.negation c.if-is_err.true)
+    stops-within _ _ _ _ _ _ _ _ _ c.loop-item.invariant.so_far c.in-Some.ensures.steps p.bytes (stayed _ _ _ _ _ p.position c.is_err.ensures.negation c.if-is_err.true)
+
+pub returns-then-is_err-clause-not_all_sent : goal.returns-then-is_err-clause-not_all_sent
+returns-then-is_err-clause-not_all_sent g c = on-err _ _ _ c.put.ensures.not_all_sent c.is_err.ensures.value c.if-is_err.true
 
 pub returns-then-is_err-clause-stands : goal.returns-then-is_err-clause-stands
 returns-then-is_err-clause-stands g c =
