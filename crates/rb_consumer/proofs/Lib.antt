@@ -1,2 +1,4 @@
 mod Pieces
 mod Batches
+mod TapeItems
+mod ItemsPut

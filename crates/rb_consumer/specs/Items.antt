@@ -1,5 +1,6 @@
 -- What an item that is lent says: the answer of `take` that it comes from, and its record on a tape (own).
-use Rattle.rb_header.specs.TapeBytes.{Item}
+use Rattle.std.specs.Prelude.{ℕ, List, [], ◌∷◌}
+use Rattle.rb_header.specs.TapeBytes.{Item, item_span}
 use Rattle.rb_header.specs.TapeBytes.Item.{Event, Skip}
 use Rattle.rb_history.specs.declared.answers.Taken.{Taken}
 use Rattle.rb_history.specs.declared.answers.Taken.TheVariants as answers
@@ -18,3 +19,16 @@ item_taken (kinds.Skip pos n) = answers.Skipped pos n
 abbrev pub item_of : given.Item → Item
 item_of (kinds.Event e) = Event e.pos e.bytes.now
 item_of (kinds.Skip pos n) = Skip pos n
+
+-- the records among the answers of `take`, in order, as those of a tape
+abbrev pub tape_items : List Taken → List Item
+tape_items [] = []
+tape_items (answers.Event position worker serial bytes ∷ ts) = Event position bytes ∷ tape_items ts
+tape_items (answers.Skipped position n ∷ ts) = Skip position n ∷ tape_items ts
+tape_items (answers.BusyFront ∷ ts) = tape_items ts
+tape_items (answers.Empty ∷ ts) = tape_items ts
+
+-- how many bytes of the last record went out once all of these did, `before` where there are none
+abbrev pub sent_after : ℕ → List Item → ℕ
+sent_after before [] = before
+sent_after before (item ∷ items) = sent_after (item_span item) items

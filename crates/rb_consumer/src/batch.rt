@@ -6,7 +6,9 @@ ghost use Rattle.rb_ledger.specs.Roles.Role.{Consumer};
 ghost use Rattle.rb_ledger.specs.Seats.{IsSameConsumerSeat};
 ghost use Rattle.rb_ledger.specs.LockedCalls.{LockedCall};
 ghost use Rattle.rb_ledger.specs.ManyTakes.{events_among, skips_among, span_among, AreTakenFrom, got_by_all};
+ghost use Rattle.rb_header.specs.TapeBytes.{AreItemsFrom, end_of};
 ghost use Rattle.rb_consumer.specs.Batches.{AreRecords, Recycles, is_event};
+ghost use Rattle.rb_consumer.specs.Items.{tape_items};
 ghost use Rattle.rb_consumer.specs.inner.LastEvents.{IsLastEvent};
 
 use crate::batch_items::{Events, Items};
@@ -62,14 +64,17 @@ impl Batch {
         ensures released { (me.old.out ≡ None) × (me.new.out ≡ None) }
         ensures count { IfOk result (λ count. count ≡ length self.new.taken) }
         ensures call { OnOk result (LockedCall Consumer me.old.seen me.new.seen (TakesMany self.old.capacity self.new.taken)) }
+        ensures setup { OnOk result (me.new.seen.setup ≡ me.old.seen.setup) }
         ensures place { OnOk result (AreTakenFrom me.old.position self.new.taken) }
+        ensures stand { OnOk result (AreItemsFrom me.old.seen.setup.size me.old.position (tape_items self.new.taken)) }
         ensures position { OnOk result (me.new.position ≡ me.old.position + span_among self.new.taken) }
+        ensures end { OnOk result (me.new.position ≡ end_of me.old.position (tape_items self.new.taken)) }
         ensures consumed { OnOk result (me.new.consumed ≡ me.old.consumed + events_among self.new.taken) }
         ensures skipped { OnOk result (me.new.skipped ≡ me.old.skipped + skips_among self.new.taken) }
         ensures got { OnOk result (me.new.got ≡ got_by_all me.old.got self.new.taken) }
     {
+        me.facts();
         if me.tag() != ring.tag() {
-            me.facts();
             return Err(Foreign);
         }
         self.taken.clear();

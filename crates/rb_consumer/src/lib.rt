@@ -3,19 +3,23 @@
 //! of Linux Documentation/bpf/ringbuf.rst). It is for programs that hand on what they take.
 //!
 //! Proved: what a `Batch` lends is what its one `take_many` took, in order and with nothing left out, so positions follow each other and
-//! the seat's numbers rise by them; fewer records than the capacity only where the front was busy then, or no record was left. What a
-//! `put` wrote is the first `sent()` bytes of its record, and `resume` writes the rest, for any writer that tells its bytes.
+//! the seat's numbers rise by them; fewer records than the capacity only where the front was busy then, or no record was left. All that a
+//! batch was filled with may go on a tape that stands at the consumer position before. What a `put` wrote is the first `sent()` bytes of
+//! its record, and `resume` writes the rest; `put_all` writes the tape of the records before the one that it answers, and the first
+//! `sent()` bytes of that one; each for any writer that tells its bytes.
 //!
 //! ```text
 //! let mut batch = Batch::with_capacity(alloc, 64)?;
 //! let mut tape = TapeWriter::new(out, 4096, consumer.position());
 //! batch.fill(rt, &ring, &mut consumer)?;
-//! for item in batch.items() {
-//!     tape.put(&item)?;
+//! let mut items = batch.items();
+//! while let Err(item) = tape.put_all(&mut items) {
+//!     // `tape.sent()` bytes of this record went out, and `items` has those behind it.
+//!     tape.resume(&item)?;
 //! }
 //! ```
 //!
-//! Its calls are tested in consumer.rt of rb_ledger_tests. `fill` may wait for other threads, and no proof says that it returns.
+//! Its calls are tested in consumer.rt and threads.rt of rb_ledger_tests. `fill` may wait for other threads, and no proof says that it returns.
 #![tactic(auto)]
 
 mod batch;

@@ -1,5 +1,6 @@
 //! Writing the tape: the records that were taken, one behind the other.
 
+use crate::batch_items::Items;
 use crate::item::Item;
 use crate::piece::write_from;
 use rb_header::span;
@@ -37,11 +38,12 @@ impl<W> Model for TapeWriter<W> {
 }
 
 impl<W: Write> TapeWriter<W> {
-    ghost use Rattle.std.specs.Prelude.{◌≡◌, ◌<◌, ◌≤◌, ◌+◌, false, true, not, is_ok, if◌then◌else◌, take, drop, OnOk, OnErr};
+    ghost use Rattle.std.specs.Prelude.{◌≡◌, ◌<◌, ◌≤◌, ◌+◌, [], false, true, not, is_ok, if◌then◌else◌, take, drop, OnOk, OnErr, IfErr};
     ghost use Rattle.std.specs.Io.KnownBytes.{Appends};
-    ghost use Rattle.rb_header.specs.TapeBytes.{item_bytes, item_span, IsItemAt};
+    ghost use Rattle.rb_header.specs.TapeBytes.{item_bytes, item_span, tape, end_of, IsItemAt, AreItemsFrom};
     ghost use Rattle.rb_history.specs.RingModel.{IsRingSize, IsStartPosition};
-    ghost use Rattle.rb_consumer.specs.Items.{item_of};
+    ghost use Rattle.rb_consumer.specs.Items.{item_of, tape_items, sent_after};
+    ghost use Rattle.rb_consumer.specs.TapeOutput.{StopsWithin};
 
     /// A tape of a ring of `size` bytes, whose first record stands at `start`. Nothing is written yet.
     pub fn new(writer: W, size: u64, start: u64) -> TapeWriter<W>
@@ -72,6 +74,31 @@ impl<W: Write> TapeWriter<W> {
         ensures position { self.new.position ≡ (if is_ok result then self.old.position + item_span (item_of item.now) else self.old.position) }
     {
         self.write_on(item, 0)
+    }
+
+    /// Writes the records that are left of `items`, one behind the other, each as `put` does. It stops at the first write that fails or
+    /// takes nothing; the error is the record that is unfinished then. `items` has those behind it, so that they are written once `resume`
+    /// has written its rest.
+    pub fn put_all<'a>(&mut self, items: &mut Items<'a>) -> Result<(), Item<'a>>
+        requires finished { self.old.unfinished ≡ false }
+        requires stand { AreItemsFrom self.old.size self.old.position (tape_items items.old) }
+        ensures none_left { OnOk result (items.new ≡ []) }
+        ensures bytes { OnOk result (Appends (W.contents self.old.writer) (W.contents self.new.writer) (tape self.old.size (tape_items items.old))) }
+        ensures position { OnOk result (self.new.position ≡ end_of self.old.position (tape_items items.old)) }
+        ensures sent { OnOk result (self.new.sent ≡ sent_after self.old.sent (tape_items items.old)) }
+        ensures stops { IfErr result (λ item. StopsWithin W W.contents self.old self.new items.old items.new item) }
+        ensures not_all_sent { IfErr result (λ item. self.new.sent < item_span (item_of item)) }
+        ensures stands { IfErr result (λ item. IsItemAt self.new.size self.new.position (item_of item)) }
+        ensures rest { IfErr result (λ item. AreItemsFrom self.new.size (self.new.position + item_span (item_of item)) (tape_items items.new)) }
+        ensures unfinished { self.new.unfinished ≡ not (is_ok result) }
+        ensures size { self.new.size ≡ self.old.size }
+    {
+        while let Some(item) = items.next() {
+            if self.put(&item).is_err() {
+                return Err(item);
+            }
+        }
+        Ok(())
     }
 
     /// Writes the bytes of the unfinished record that did not go out yet; `item` is the one that `put` was called with. It stops as `put`
