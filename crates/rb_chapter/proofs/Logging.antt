@@ -1,7 +1,8 @@
 -- What one more entry changes of what a chapter stands for at its end.
-use Rattle.std.proofs.Common.{◌≡◌, ◌≢◌, ℕ, zero, suc, ◌+◌, ◌<◌, ◌^◌, cond, List, [], ◌∷◌, ◌++◌, length, map, set, refl, sym, ap, ◌∙◌, inl, inr, subst, append_assoc, add-zero, arith}
+use Rattle.std.proofs.Common.{◌≡◌, ◌≢◌, ◌-◌, ◌≤◌, ◌↔◌, Bool, IsTrue, ℕ, zero, suc, ◌+◌, ◌<◌, ◌^◌, cond, List, [], ◌∷◌, ◌++◌, length, map, set, refl, sym, ap, ◌∙◌, inl, inr, subst, append_assoc, add-zero, arith}
 use Rattle.std.proofs.lemmas.Bool.{cases_lt, ne_eqb}
 use Rattle.std.proofs.lemmas.List.{map-append, length-map, set-append_left, set_at}
+use Rattle.rb_header.specs.Span.{span}
 use Rattle.rb_history.specs.declared.entries.Entry.{Entry}
 use Rattle.rb_history.specs.declared.entries.Entry.TheVariants.{Res, Full}
 use Rattle.rb_history.specs.declared.tally.Tally.{Tally}
@@ -14,13 +15,14 @@ use Rattle.rb_history.specs.StoredRecords.{entries_owed}
 use Rattle.rb_history.specs.inner.TallySteps.{with_entry as tally_with}
 use Rattle.rb_history.proofs.Laws.{kept-from-legal, legal-front, legal-next}
 use Rattle.rb_history.proofs.Lists.{sum_by-snoc}
+use Rattle.rb_history.proofs.Row.{InRow-le}
 use Rattle.rb_history.proofs.Steps.{records-full, producer-full, consumer-full}
 use Rattle.rb_history.proofs.Kept.{kept-res}
 use Rattle.rb_history.proofs.Tallies.{grants-low}
 use Rattle.rb_history.proofs.WorkerCounts.{tally-next, tally-full, tally-res, events-next, skips-next}
 use Rattle.rb_chapter.specs.Opening.{Opening, opening_of, tally_at}
 use Rattle.rb_chapter.specs.Chapters.{Chapter, closing_of}
-use Rattle.rb_chapter.specs.CountedFrom.{tally_from, grants_from, producer_from, HasRoomFrom}
+use Rattle.rb_chapter.specs.CountedFrom.{tally_from, grants_from, producer_from, consumer_from, HasRoomFrom}
 use Rattle.rb_chapter.specs.ChapterRoom.{owed_for, owed, with_entry, MayGrant, MayRefuse}
 use Rattle.rb_chapter.specs.WholeHistory.{ContinuesHistory, IsKept}
 use Rattle.rb_chapter.specs.inner.OpeningSteps.{with_refusal, with_grant, next_record}
@@ -152,6 +154,34 @@ module _ (earlier : List Entry) (c : Chapter) (kept : IsKept earlier c) (closing
   records-fit room =
       let same : length closing.records ≡ length (closing_of c).records = ap (λ (o : Opening). length o.records) is in
       omega (arith, same, records-owe (closing_of c).records, room)
+
+  -- the positions, and the room by them
+  pub consumer-low : closing.consumer ≤ closing.producer
+  consumer-low =
+      let r = c.opening.setup in
+      let h = earlier ++ c.entries in
+      let whole = is ∙ ends earlier c kept.continues in
+      let legal = (goes-on r earlier c.opening kept.continues.earlier_legal kept.continues.opened c.entries).0.0 kept.continues.legal in
+      let low : consumer_of r.start h ≤ producer_of r.start h = InRow-le (consumer_of r.start h) (records h) (producer_of r.start h) (kept-from-legal r h legal).in_row in
+      let p : closing.producer ≡ producer_of r.start h = ap (λ (o : Opening). o.producer) whole in
+      let q : closing.consumer ≡ consumer_of r.start h = ap (λ (o : Opening). o.consumer) whole in
+      omega (arith, low, p, q)
+
+  pub room-exact : (b : Bool) (n x y s : ℕ) → x ≡ closing.producer → y ≡ closing.consumer → s ≡ closing.setup.size → IsTrue b ↔ ((x + span n ≤ y + (s - 1)) × (x + span n ≤ 2 ^ 62)) → IsTrue b ↔ HasRoomFrom c.opening c.entries n
+  room-exact b n x y s x-is y-is s-is exact =
+      let p : x ≡ producer_from c.opening c.entries = x-is ∙ ap (λ (o : Opening). o.producer) is in
+      let q : y ≡ consumer_from c.opening c.entries = y-is ∙ ap (λ (o : Opening). o.consumer) is in
+      let size : s ≡ c.opening.setup.size = s-is ∙ ap (λ (o : Opening). o.setup.size) is in (
+        (λ t. let both = exact.0 t in record { space = omega (arith, both.0, p, q, size); limit = omega (arith, both.1, p) }),
+        (λ has. exact.1 (omega (arith, has.space, p, q, size), omega (arith, has.limit, p))),
+      )
+
+  pub refusal-exact : (b : Bool) (w count : ℕ) (total : Tally) → w < c.opening.setup.workers → count ≡ length c.entries + owed c → total ≡ tally_at closing w → IsTrue b ↔ ((count < c.room) × (total.refused < 2 ^ 62)) → IsTrue b ↔ MayRefuse c w
+  refusal-exact b w count total low counted read exact =
+      let same = read ∙ total-is w low in (
+        (λ t. let both = exact.0 t in (omega (arith, both.0, counted), subst (λ (x : Tally). x.refused < 2 ^ 62) same both.1)),
+        (λ may. exact.1 (omega (arith, may.0, counted), subst (λ (x : Tally). x.refused < 2 ^ 62) (sym same) may.1)),
+      )
 
   -- the numbers of the next grant
   pub serial-is : (w : ℕ) → w < c.opening.setup.workers → (tally_at closing w).made ≡ grants_from c.opening w c.entries

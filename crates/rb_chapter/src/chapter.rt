@@ -1,6 +1,7 @@
 //! A chapter as a value.
 
-ghost use Rattle.std.specs.Prelude.{◌≡◌, ◌<◌, ◌≤◌, ◌^◌, ◌↔◌, ◌++◌, ◌∷◌, [], IfOk, IsTrue, List, vec_len, vec_capacity};
+ghost use Rattle.std.specs.Prelude.{◌≡◌, ◌+◌, ◌-◌, ◌<◌, ◌≤◌, ◌^◌, ◌↔◌, ◌++◌, ◌∷◌, [], IfOk, IsTrue, List, vec_len, vec_capacity};
+ghost use Rattle.rb_header.specs.Span.{span};
 ghost use Rattle.rb_history.specs.declared.entries.Entry.{Entry};
 ghost use Rattle.rb_history.specs.declared.entries.Entry.TheVariants.{Res, Full};
 ghost use Rattle.rb_history.specs.RingModel.{IsWorkerCount};
@@ -10,9 +11,13 @@ ghost use Rattle.rb_chapter.specs.CountedFrom.{HasRoomFrom, grants_from, produce
 ghost use Rattle.rb_chapter.specs.WholeHistory.{IsKept};
 
 use crate::opening::Opening;
+use rb_header::span;
 use rb_history::Entry;
 use std::alloc::{AllocError, Global};
 use std::marker::Model;
+
+// No position lies beyond it, and no worker is refused more often: so that positions and totals fit 64 bits.
+const LIMIT: u64 = 1 << 62;
 
 /// One chapter of a ring's history. It has the memory for as many entries as it has room for, and takes none after `new`.
 #[derive(Drop)]
@@ -175,6 +180,31 @@ impl Chapter {
         self.owed
     }
 
+    /// Whether the ring has room for a record of `len` bytes, by the room rule. In constant time.
+    pub fn has_room(&self, len: u32) -> bool
+        ensures exact { IsTrue result ↔ HasRoomFrom self.now.opening self.now.entries len }
+    {
+        let closing = &self.closing;
+        fits(closing.producer(), closing.consumer(), closing.size(), len)
+    }
+
+    /// Whether there is room in the chapter for a grant, and for the end and the take of its record. In constant time.
+    pub fn may_grant(&self) -> bool
+        ensures exact { IsTrue result ↔ MayGrant self.now }
+    {
+        self.used() + self.owed + 3 <= self.room
+    }
+
+    /// Whether a refusal of the worker may be logged: there is room in the chapter, and the worker has less than 2^62 of them. In constant
+    /// time.
+    pub fn may_refuse(&self, worker: u32) -> bool
+        requires worker { worker < self.now.opening.setup.workers }
+        ensures exact { IsTrue result ↔ MayRefuse self.now worker }
+    {
+        let refused = self.closing.tally(worker).refused;
+        is_countable(self.used() + self.owed, self.room, refused)
+    }
+
     /// Whether `next` is the chapter after this one: its number is the next, and it begins with what this one stands for at its end. In
     /// time linear in the untaken records and the workers, and without memory.
     pub fn meets(&self, next: &Chapter) -> bool
@@ -204,4 +234,32 @@ fn log(entries: &mut Vec<Entry>, entry: Entry)
     ensures space { vec_capacity entries.old ≤ vec_capacity entries.new }
 {
     let _within = entries.push(entry);
+}
+
+// Whether a record of `len` bytes may be granted at the producer position.
+fn fits(producer: u64, consumer: u64, size: u64, len: u32) -> bool
+    requires positions { consumer ≤ producer }
+    ensures exact { IsTrue result ↔ ((producer + span len ≤ consumer + (size - 1)) × (producer + span len ≤ 2 ^ 62)) }
+{
+    let bytes = span(len);
+    if producer > LIMIT - bytes {
+        return false;
+    }
+    if producer - consumer + bytes >= size {
+        return false;
+    }
+    true
+}
+
+// Whether one refusal more has room and fits the worker's total.
+fn is_countable(taken: u32, room: u32, refused: u64) -> bool
+    ensures exact { IsTrue result ↔ ((taken < room) × (refused < 2 ^ 62)) }
+{
+    if refused >= LIMIT {
+        return false;
+    }
+    if taken >= room {
+        return false;
+    }
+    true
 }

@@ -180,6 +180,14 @@ impl Opening {
         record
     }
 
+    // The worker's totals.
+    pub(crate) fn tally(&self, worker: u32) -> Tally
+        requires worker { worker < self.now.opening.setup.workers }
+        ensures tally { result ≡ tally_at self.now.opening worker }
+    {
+        tally_of(self.tallies.as_slice(), worker)
+    }
+
     // Whether both say the same. In time linear in the records and the workers.
     pub(crate) fn is_same(&self, other: &Opening) -> bool
         ensures exact { IsTrue result ↔ (self.now.opening ≡ other.now.opening) }
