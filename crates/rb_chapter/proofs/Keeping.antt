@@ -90,7 +90,7 @@ output-follows r h o t l is lt = subst (SubmitMayFollow t) (sym is) (submit-foll
 
 -- ---- the calls
 
-one-kept : (earlier : List Entry) (c : Chapter) (e : Entry) → IsKept earlier c → MayFollowFrom c.opening c.entries e → HasEntryRoom c e → IsKept earlier (with_entry c e)
+pub one-kept : (earlier : List Entry) (c : Chapter) (e : Entry) → IsKept earlier c → MayFollowFrom c.opening c.entries e → HasEntryRoom c e → IsKept earlier (with_entry c e)
 one-kept earlier c e is follows room = record {
   continues = record { earlier_legal = is.continues.earlier_legal; opened = is.continues.opened; legal = legal-one c.opening c.entries e is.continues.legal follows };
   room = (keep-room earlier c e is.continues follows).0 room;

@@ -14,3 +14,6 @@ pub mod Alike
 pub mod Bound
 pub mod Keeping
 pub mod Empty
+pub mod SameOpening
+pub mod Running
+pub mod Logging

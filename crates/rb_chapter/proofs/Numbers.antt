@@ -5,7 +5,8 @@ use Rattle.std.proofs.lemmas.List.{map-append, get_or_append_left, get_or_push, 
 use Rattle.rb_history.specs.declared.entries.Entry.{Entry}
 use Rattle.rb_history.specs.RoomRule.{Setup}
 use Rattle.rb_history.specs.WorkerCounts.{tally_of, numbers_below}
-use Rattle.rb_chapter.specs.Opening.{opening_of, tally_at, no_tally}
+use Rattle.rb_chapter.specs.Opening.{Opening, opening_of, tally_at, no_tally}
+use Rattle.rb_chapter.specs.CountedFrom.{opening_after, tally_from}
 
 pub length-below : (n : ℕ) → length (numbers_below n) ≡ n
 length-below zero = refl
@@ -32,6 +33,12 @@ pub tally-at : (r : Setup) (h : List Entry) (w : ℕ) → w < r.workers → tall
 tally-at r h w l =
     get_or-map (λ v. tally_of v h) (numbers_below r.workers) w 0 no_tally (omega (arith, length-below r.workers))
     ∙ ap (λ v. tally_of v h) (get-below r.workers w 0 l)
+
+-- what an opening has for a worker at the end of entries
+pub tally-after : (o : Opening) (t : List Entry) (w : ℕ) → w < o.setup.workers → tally_at (opening_after o t) w ≡ tally_from o w t
+tally-after o t w l =
+    get_or-map (λ v. tally_from o v t) (numbers_below o.setup.workers) w 0 no_tally (omega (arith, length-below o.setup.workers))
+    ∙ ap (λ v. tally_from o v t) (get-below o.setup.workers w 0 l)
 
 -- nobody did anything yet
 pub tallies-none : (n : ℕ) → map (λ w. tally_of w []) (numbers_below n) ≡ replicate n no_tally

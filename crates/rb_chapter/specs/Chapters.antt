@@ -39,6 +39,10 @@ empty_ring r = record {
   skipped = 0;
 }
 
+-- the first chapter of a ring, without entries
+abbrev pub first_chapter : ℕ → Setup → Chapter
+first_chapter room r = record { number = 0; room = room; opening = empty_ring r; entries = [] }
+
 -- a chapter that no ring keeps: number 0, no entries, and an opening of zeros but for its workers
 abbrev pub empty_chapter : ℕ → ℕ → Chapter
 empty_chapter room workers = record { number = 0; room = room; opening = empty_ring (record { size = 0; start = 0; workers = workers }); entries = [] }

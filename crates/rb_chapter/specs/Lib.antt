@@ -1,4 +1,5 @@
 pub mod Opening
+pub mod OpeningValue
 pub mod CountedFrom
 pub mod Chapters
 pub mod ChapterRoom

@@ -1,3 +1,4 @@
 pub mod OpeningNumbers
 pub mod OpeningBody
 pub mod ChapterBody
+pub mod OpeningSteps

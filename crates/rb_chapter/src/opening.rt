@@ -1,11 +1,15 @@
 //! What a chapter begins with.
 
-ghost use Rattle.std.specs.Prelude.{◌≡◌, IfOk, length, map, replicate};
-ghost use Rattle.rb_chapter.specs.Opening.{no_tally};
+ghost use Rattle.std.specs.Prelude.{◌≡◌, ◌+◌, ◌<◌, ◌≤◌, ◌^◌, ◌↔◌, IfOk, IsTrue, length, map, replicate, slice_index_or, slice_set};
+ghost use Rattle.rb_header.specs.Span.{span};
+ghost use Rattle.rb_chapter.specs.Opening.{no_tally, tally_at};
+ghost use Rattle.rb_chapter.specs.OpeningValue.{OpeningValue};
 ghost use Rattle.rb_chapter.specs.Chapters.{empty_ring};
 ghost use Rattle.rb_chapter.specs.UntakenRecords.{untaken_shown};
-ghost use Rattle.rb_chapter.specs.inner.OpeningNumbers.{zero_numbers};
+ghost use Rattle.rb_chapter.specs.inner.OpeningNumbers.{first_numbers};
+ghost use Rattle.rb_chapter.specs.inner.OpeningSteps.{with_refusal, with_grant, next_record};
 
+use rb_header::span;
 use rb_history::Tally;
 use std::alloc::{AllocError, Global};
 use std::marker::Model;
@@ -37,7 +41,7 @@ pub struct UntakenRecord {
 }
 
 // The numbers of an opening, each as its teller below says.
-#[derive(Clone, Copy)]
+#[derive(Clone, Copy, PartialEq, Eq)]
 struct Numbers {
     size: u64,
     start: u64,
@@ -49,19 +53,26 @@ struct Numbers {
 }
 
 impl Numbers {
-    // Zeros, but for the workers.
-    fn of_zeros(workers: u32) -> Numbers
-        ensures zeros { result ≡ zero_numbers workers }
+    // Those of a ring where nothing was done.
+    fn of_ring(size: u64, start: u64, workers: u32) -> Numbers
+        ensures first { result ≡ first_numbers size start workers }
     {
         Numbers {
-            size: 0,
-            start: 0,
+            size,
+            start,
             workers,
-            producer: 0,
-            consumer: 0,
+            producer: start,
+            consumer: start,
             consumed: 0,
             skipped: 0,
         }
+    }
+
+    // Whether each number is the same.
+    fn is_same(&self, other: &Numbers) -> bool
+        ensures exact { IsTrue result ↔ (self.now ≡ other.now) }
+    {
+        *self == *other
     }
 }
 
@@ -78,14 +89,14 @@ pub struct Opening {
 impl Model for Opening {
     ghost use Rattle.std.specs.Coded.{codes};
     ghost use Rattle.rb_history.specs.contracts.tally.Tally as tally_row;
-    ghost use Rattle.rb_chapter.specs.Opening.{Opening};
-    ghost use Rattle.rb_chapter.specs.inner.OpeningBody.{opening_shown, OpeningInvariant};
+    ghost use Rattle.rb_chapter.specs.OpeningValue.{OpeningValue};
+    ghost use Rattle.rb_chapter.specs.inner.OpeningBody.{opening_value, OpeningInvariant};
 
-    ghost Value = { Opening };
+    ghost Value = { OpeningValue };
 
     ghost coded = { Prim.hlevel (codes, tally_row.the_row.coded) };
 
-    ghost view = { opening_shown };
+    ghost view = { opening_value };
 
     ghost invariant = { OpeningInvariant };
 }
@@ -93,83 +104,162 @@ impl Model for Opening {
 impl Opening {
     // An opening of zeros, with room for `room` records.
     pub(crate) fn of_zeros(alloc: Global, room: u32, workers: u32) -> Result<Opening, AllocError>
-        ensures zeros { IfOk result (λ o. o ≡ empty_ring (record { size = 0; start = 0; workers = workers })) }
+        ensures zeros { IfOk result (λ o. o.opening ≡ empty_ring (record { size = 0; start = 0; workers = workers })) }
+        ensures room { IfOk result (λ o. o.room ≡ room) }
     {
         Ok(Opening {
-            numbers: Numbers::of_zeros(workers),
+            numbers: Numbers::of_ring(0, 0, workers),
             records: Vec::with_capacity(alloc, room as usize)?,
             tallies: vec![in alloc; Tally::none(); workers as usize]?,
         })
     }
 
-    // Makes it an opening of zeros, for as many workers.
-    pub(crate) fn clear(&mut self)
-        ensures zeros { self.new ≡ empty_ring (record { size = 0; start = 0; workers = self.old.setup.workers }) }
+    // Makes it that of a ring where nothing was done, for as many workers.
+    pub(crate) fn begin(&mut self, size: u64, start: u64)
+        ensures first { self.new.opening ≡ empty_ring (record { size = size; start = start; workers = self.old.opening.setup.workers }) }
+        ensures room { self.new.room ≡ self.old.room }
     {
-        self.numbers = Numbers::of_zeros(self.numbers.workers);
+        self.numbers = Numbers::of_ring(size, start, self.numbers.workers);
         self.records.clear();
         forget(self.tallies.as_mut_slice());
     }
 
+    // Makes it say what the other says. It takes no memory.
+    pub(crate) fn copy_from(&mut self, other: &Opening)
+        requires room { length other.now.opening.records ≤ self.old.room }
+        requires workers { self.old.opening.setup.workers ≡ other.now.opening.setup.workers }
+        ensures same { self.new.opening ≡ other.now.opening }
+        ensures room { self.old.room ≤ self.new.room }
+    {
+        self.numbers = other.numbers;
+        self.records.clear();
+        let _within = self.records.extend_from_slice(other.records.as_slice());
+        copy(self.tallies.as_mut_slice(), other.tallies.as_slice());
+    }
+
+    // Counts a refusal of the worker.
+    pub(crate) fn add_refusal(&mut self, worker: u32)
+        requires worker { worker < self.old.opening.setup.workers }
+        requires total { (tally_at self.old.opening worker).refused < 2 ^ 62 }
+        ensures added { self.new.opening ≡ with_refusal worker self.old.opening }
+        ensures room { self.new.room ≡ self.old.room }
+    {
+        let tally = tally_of(self.tallies.as_slice(), worker);
+        let counted = Tally {
+            refused: tally.refused + 1,
+            ..tally
+        };
+        replace(self.tallies.as_mut_slice(), worker, counted);
+    }
+
+    // Adds the record that the worker is granted next, of `len` bytes, and returns it.
+    pub(crate) fn add_grant(&mut self, worker: u32, len: u32) -> UntakenRecord
+        requires worker { worker < self.old.opening.setup.workers }
+        requires total { (tally_at self.old.opening worker).made < 2 ^ 62 }
+        requires limit { self.old.opening.producer + span len ≤ 2 ^ 62 }
+        requires room { length self.old.opening.records < self.old.room }
+        ensures added { self.new.opening ≡ with_grant worker len self.old.opening }
+        ensures room { self.old.room ≤ self.new.room }
+        ensures record { untaken_shown result ≡ next_record worker len self.old.opening }
+    {
+        let tally = tally_of(self.tallies.as_slice(), worker);
+        let record = UntakenRecord {
+            pos: self.numbers.producer,
+            len,
+            worker,
+            serial: tally.made,
+            status: UntakenStatus::Busy,
+        };
+        let counted = Tally {
+            made: tally.made + 1,
+            ..tally
+        };
+        let _within = self.records.push(record);
+        self.numbers.producer += span(len);
+        replace(self.tallies.as_mut_slice(), worker, counted);
+        record
+    }
+
+    // The worker's totals.
+    pub(crate) fn tally(&self, worker: u32) -> Tally
+        requires worker { worker < self.now.opening.setup.workers }
+        ensures tally { result ≡ tally_at self.now.opening worker }
+    {
+        tally_of(self.tallies.as_slice(), worker)
+    }
+
+    // Whether both say the same. In time linear in the records and the workers.
+    pub(crate) fn is_same(&self, other: &Opening) -> bool
+        ensures exact { IsTrue result ↔ (self.now.opening ≡ other.now.opening) }
+    {
+        if !self.numbers.is_same(&other.numbers) {
+            return false;
+        }
+        if !are_same_records(self.records.as_slice(), other.records.as_slice()) {
+            return false;
+        }
+        are_same_tallies(self.tallies.as_slice(), other.tallies.as_slice())
+    }
+
     /// The ring's size in bytes; 0 where no ring keeps the chapter. In constant time, as the calls below.
     pub fn size(&self) -> u64
-        ensures size { result ≡ self.now.setup.size }
+        ensures size { result ≡ self.now.opening.setup.size }
     {
         self.numbers.size
     }
 
     /// The ring's first position, in bytes.
     pub fn start(&self) -> u64
-        ensures start { result ≡ self.now.setup.start }
+        ensures start { result ≡ self.now.opening.setup.start }
     {
         self.numbers.start
     }
 
     /// The ring's number of workers.
     pub fn workers(&self) -> u32
-        ensures workers { result ≡ self.now.setup.workers }
+        ensures workers { result ≡ self.now.opening.setup.workers }
     {
         self.numbers.workers
     }
 
     /// The position of the next record that is granted.
     pub fn producer(&self) -> u64
-        ensures position { result ≡ self.now.producer }
+        ensures position { result ≡ self.now.opening.producer }
     {
         self.numbers.producer
     }
 
     /// The position of the next record that is taken.
     pub fn consumer(&self) -> u64
-        ensures position { result ≡ self.now.consumer }
+        ensures position { result ≡ self.now.opening.consumer }
     {
         self.numbers.consumer
     }
 
     /// The records that were granted and not taken, in the order of their grants.
     pub fn records(&self) -> &[UntakenRecord]
-        ensures records { map untaken_shown result.now ≡ self.now.records }
+        ensures records { map untaken_shown result.now ≡ self.now.opening.records }
     {
         self.records.as_slice()
     }
 
     /// Each worker's totals before the chapter, by its number.
     pub fn tallies(&self) -> &[Tally]
-        ensures tallies { result.now ≡ self.now.tallies }
+        ensures tallies { result.now ≡ self.now.opening.tallies }
     {
         self.tallies.as_slice()
     }
 
     /// How many submitted records were taken before the chapter.
     pub fn consumed(&self) -> u64
-        ensures total { result ≡ self.now.consumed }
+        ensures total { result ≡ self.now.opening.consumed }
     {
         self.numbers.consumed
     }
 
     /// How many discarded records were passed over before the chapter.
     pub fn skipped(&self) -> u64
-        ensures total { result ≡ self.now.skipped }
+        ensures total { result ≡ self.now.opening.skipped }
     {
         self.numbers.skipped
     }
@@ -180,4 +270,42 @@ fn forget(tallies: &mut [Tally])
     ensures zeros { tallies.new ≡ replicate (length tallies.old) no_tally }
 {
     tallies.fill(Tally::none());
+}
+
+// Makes all totals those of the other.
+fn copy(tallies: &mut [Tally], other: &[Tally])
+    requires workers { length tallies.old ≡ length other.now }
+    ensures same { tallies.new ≡ other.now }
+{
+    tallies.copy_from_slice(other);
+}
+
+// Whether the records show the same.
+fn are_same_records(records: &[UntakenRecord], others: &[UntakenRecord]) -> bool
+    ensures exact { IsTrue result ↔ (map untaken_shown records.now ≡ map untaken_shown others.now) }
+{
+    records == others
+}
+
+// Whether the totals are the same.
+fn are_same_tallies(tallies: &[Tally], others: &[Tally]) -> bool
+    ensures exact { IsTrue result ↔ (tallies.now ≡ others.now) }
+{
+    tallies == others
+}
+
+// The totals of the worker.
+fn tally_of(tallies: &[Tally], worker: u32) -> Tally
+    requires worker { worker < length tallies.now }
+    ensures tally { result ≡ slice_index_or tallies.now worker no_tally }
+{
+    tallies[worker as usize]
+}
+
+// The worker has these totals now.
+fn replace(tallies: &mut [Tally], worker: u32, tally: Tally)
+    requires worker { worker < length tallies.old }
+    ensures replaced { tallies.new ≡ slice_set tallies.old worker tally }
+{
+    tallies[worker as usize] = tally;
 }

@@ -1,18 +1,24 @@
 -- What a chapter's fields mean, and what they keep.
-use Rattle.std.specs.Prelude.{◌≤◌, List, vec_capacity}
+use Rattle.std.specs.Prelude.{◌≡◌, ◌≤◌, List, vec_capacity}
 use Rattle.rb_history.specs.declared.entries.Entry.{Entry}
 use Rattle.rb_history.specs.RingModel.{IsWorkerCount}
 use Rattle.rb_chapter.specs.declared.chapter.Chapter.TheInside.{Inside}
-use Rattle.rb_chapter.specs.Chapters.{Chapter, IsChapterRoom}
+use Rattle.rb_chapter.specs.Chapters.{Chapter, IsChapterRoom, closing_of}
+use Rattle.rb_chapter.specs.ChapterRoom.{owed}
 use Rattle.rb_chapter.specs.WholeHistory.{IsKept}
 
 abbrev pub chapter_shown : Inside → Chapter
-chapter_shown a = record { number = a.number; room = a.room; opening = a.opening; entries = a.entries.items }
+chapter_shown a = record { number = a.number; room = a.room; opening = a.opening.opening; entries = a.entries.items }
 
--- it has memory for the entries that it has room for, continues some history, and has room for what it owes
+-- it has memory for the entries that it has room for, and for as many untaken records at both ends; the running totals are what it
+-- stands for at its end, and what it owes; it continues some history, and has room for what it owes
 pub record ChapterInvariant (a : Inside) : Type 0 where
   pub room : IsChapterRoom a.room
-  pub workers : IsWorkerCount a.opening.setup.workers
+  pub workers : IsWorkerCount a.opening.opening.setup.workers
   pub space : a.room ≤ vec_capacity a.entries
+  pub opening_space : a.room ≤ a.opening.room
+  pub closing_space : a.room ≤ a.closing.room
+  pub closing_is : a.closing.opening ≡ closing_of (chapter_shown a)
+  pub owed_is : a.owed ≡ owed (chapter_shown a)
   pub earlier : List Entry
   pub kept : IsKept earlier (chapter_shown a)

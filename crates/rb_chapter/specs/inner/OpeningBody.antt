@@ -1,8 +1,9 @@
 -- What an opening's fields mean, and what they keep.
-use Rattle.std.specs.Prelude.{◌≡◌, map, length}
+use Rattle.std.specs.Prelude.{◌≡◌, map, length, vec_capacity}
 use Rattle.rb_chapter.specs.declared.opening.Opening.TheInside.{Inside}
 use Rattle.rb_chapter.specs.UntakenRecords.{untaken_shown}
 use Rattle.rb_chapter.specs.Opening.{Opening}
+use Rattle.rb_chapter.specs.OpeningValue.{OpeningValue}
 
 abbrev pub opening_shown : Inside → Opening
 opening_shown a = record {
@@ -14,6 +15,9 @@ opening_shown a = record {
   consumed = a.numbers.consumed;
   skipped = a.numbers.skipped;
 }
+
+abbrev pub opening_value : Inside → OpeningValue
+opening_value a = record { opening = opening_shown a; room = vec_capacity a.records }
 
 -- it has the totals of each worker
 abbrev pub OpeningInvariant : Inside → Type 0

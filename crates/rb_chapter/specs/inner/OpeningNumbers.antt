@@ -2,5 +2,6 @@
 use Rattle.std.specs.Prelude.{ℕ}
 use Rattle.rb_chapter.specs.declared.opening.Numbers.{Numbers}
 
-abbrev pub zero_numbers : ℕ → Numbers
-zero_numbers workers = record { size = 0; start = 0; workers = workers; producer = 0; consumer = 0; consumed = 0; skipped = 0 }
+-- of a ring where nothing was done
+abbrev pub first_numbers : ℕ → ℕ → ℕ → Numbers
+first_numbers size start workers = record { size = size; start = start; workers = workers; producer = start; consumer = start; consumed = 0; skipped = 0 }
