@@ -19,7 +19,8 @@
 //! }
 //! ```
 //!
-//! Its calls are tested in consumer.rt and threads.rt of rb_ledger_tests, the example by `a_batch_is_written_as_a_tape`. `fill` may wait for other threads, and no proof says that it returns.
+//! Its calls are tested in consumer.rt and threads.rt of rb_ledger_tests, the example by `a_batch_is_written_as_a_tape`. `fill` may wait for
+//! other threads, and no proof says that it returns.
 #![tactic(auto)]
 
 mod batch;
