@@ -13,13 +13,14 @@
 //! let mut tape = TapeWriter::new(out, 4096, consumer.position());
 //! batch.fill(rt, &ring, &mut consumer)?;
 //! let mut items = batch.items();
-//! while let Err(item) = tape.put_all(&mut items) {
-//!     // `tape.sent()` bytes of this record went out, and `items` has those behind it.
+//! if let Err(item) = tape.put_all(&mut items) {
+//!     // `tape.sent()` bytes of this record went out; `items` has those behind it.
 //!     tape.resume(&item)?;
 //! }
 //! ```
 //!
-//! Its calls are tested in consumer.rt and threads.rt of rb_ledger_tests. `fill` may wait for other threads, and no proof says that it returns.
+//! Its calls are tested in consumer.rt and threads.rt of rb_ledger_tests, the example by `a_batch_is_written_as_a_tape`. `fill` may wait for
+//! other threads, and no proof says that it returns.
 #![tactic(auto)]
 
 mod batch;

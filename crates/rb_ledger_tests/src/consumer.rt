@@ -1,7 +1,9 @@
 //! What a consumer does with what it takes: batches of records, and their tape.
 
 ghost use Rattle.std.specs.Prelude.{◌≡◌, length};
+ghost use Rattle.rb_header.specs.TapeBytes.{AreItemsFrom};
 ghost use Rattle.rb_ledger.specs.Seats.{IsSameSeat};
+ghost use Rattle.rb_consumer.specs.Items.{tape_items};
 
 use rb_consumer::{Batch, DeviceFault, Event, Item, TapeWriter};
 use rb_ledger::{ConsumerSeat, Foreign, Reservation, Seat, SharedRing, open};
@@ -47,6 +49,7 @@ impl Write for OneByteWriter {
 fn opened<R: Wait + Abort>(rt: &R, alloc: Global, tag: u64) -> (SharedRing, Seat, ConsumerSeat)
     ensures ring { (result.1.ring ≡ result.0.ring) × (result.2.ring ≡ result.0.ring) }
     ensures tags { (result.0.tag ≡ tag) × (result.1.tag ≡ tag) × (result.2.tag ≡ tag) }
+    ensures consumer { (result.2.seen.setup.size ≡ 4096) × (result.2.position ≡ 0) }
 {
     let Ok((ring, mut seats, consumer)) = open(rt, alloc, tag, 4096, 0, 1) else {
         rt.panic("no ring");
@@ -201,5 +204,50 @@ fn an_unfinished_record_is_resumed(rt: HostRuntime) {
             assert_eq!(rt; (tape.sent(), tape.position()), (16, 16));
             assert_eq!(rt; tape.into_writer().taken.as_slice(), record.as_slice());
         }
+    }
+}
+
+// The tape of two records of eight bytes: one submitted, one discarded.
+const TWO_RECORDS: [u8; 32] = [
+    8, 0, 0, 0, 0, 0, 0, 0, 7, 7, 7, 7, 7, 7, 7, 7, 8, 0, 0, 0x40, 0, 0, 0, 0, 0, 0, 0, 0, 0, 0, 0,
+    0,
+];
+
+// Writes a batch as a tape by a writer that fails once at most, and goes on behind the record that is unfinished then.
+fn written(rt: &impl Abort, batch: &Batch, writer: OneByteWriter) -> TapeWriter<OneByteWriter>
+    requires { AreItemsFrom 4096 0 (tape_items batch.now.taken) }
+{
+    let mut tape = TapeWriter::new(writer, 4096, 0);
+    let mut items = batch.items();
+    if let Err(item) = tape.put_all(&mut items) {
+        let Ok(()) = tape.resume(&item) else {
+            rt.panic("the record stays unfinished");
+        };
+        let Ok(()) = tape.put_all(&mut items) else {
+            rt.panic("another record is unfinished");
+        };
+    }
+    tape
+}
+
+#[test]
+fn a_batch_is_written_as_a_tape(rt: HostRuntime) {
+    let (ring, mut seat, mut consumer) = opened(&rt, rt.alloc(), 1);
+    sent(&rt, rt.alloc(), &ring, &mut seat, 7);
+    given_up(&rt, rt.alloc(), &ring, &mut seat);
+    let mut batch = batch(&rt, rt.alloc(), 64);
+    let Ok(2) = batch.fill(&rt, &ring, &mut consumer) else {
+        rt.panic("not both records");
+    };
+    for fails_at in 1..=33 {
+        let writer = OneByteWriter {
+            taken: Vec::new(rt.alloc()),
+            writes: 0,
+            fails_at,
+            takes_nothing: false,
+        };
+        let tape = written(&rt, &batch, writer);
+        assert_eq!(rt; (tape.sent(), tape.position()), (16, 32));
+        assert_eq!(rt; tape.into_writer().taken.as_slice(), TWO_RECORDS.as_slice());
     }
 }

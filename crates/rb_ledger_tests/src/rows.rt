@@ -44,10 +44,7 @@ fn opened<R: Wait>(
 
 #[test]
 fn opens_within_bounds(rt: HostRuntime) {
-    const ROWS: [(u64, u64, u32); 2] = [
-        (4096, 2_305_843_009_213_693_952, 1),
-        (67_108_864, 8, 256),
-    ];
+    const ROWS: [(u64, u64, u32); 2] = [(4096, 2_305_843_009_213_693_952, 1), (67_108_864, 8, 256)];
     for (size, start, workers) in ROWS {
         let ring = (7, 7, workers as usize, start);
         assert_eq!(rt; opened(&rt, rt.alloc(), size, start, workers), Ok(ring));

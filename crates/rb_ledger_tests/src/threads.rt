@@ -1,8 +1,9 @@
-//! Real threads: four producers and a consumer. All loops end once the records are there.
+//! Real threads: four producers and a consumer, which takes records one by one or by batches. All loops end once the records are there.
 
 ghost use Rattle.std.specs.Prelude.{◌≡◌, ◌<◌, ◌^◌, ℕ, All, IfOk};
 ghost use Rattle.rb_ledger.specs.Seats.{IsSameSeat, IsSameConsumerSeat};
 
+use rb_consumer::Batch;
 use rb_history::Taken;
 use rb_ledger::{ConsumerSeat, Seat, SharedRing, open};
 use rb_lend::{Lent, Sheet};
@@ -16,12 +17,14 @@ const WORKERS: u32 = 4;
 
 const RECORDS: u32 = 10_000;
 
-// What a consumer adds up: for each worker the events and the sum of their first bytes, and how often a serial was not the next.
+// What a consumer adds up: for each worker the events and the sum of their first bytes, how often a serial was not the next, and how often
+// the bytes were not those that the worker sent with that serial.
 #[derive(Drop)]
 struct Sums {
     events: [u64; 4],
     bytes: [u64; 4],
     out_of_order: u64,
+    other_bytes: u64,
 }
 
 fn sheet_with<R: Wait>(rt: &R, alloc: Global, byte: u8) -> Sheet {
@@ -58,11 +61,15 @@ fn produce<R: Wait>(rt: &R, alloc: Global, ring: &SharedRing, seat: &mut Seat)
     }
 }
 
-fn add(sums: &mut Sums, worker: u32, serial: u64, byte: u8) {
+fn add(sums: &mut Sums, worker: u32, serial: u64, bytes: &[u8]) {
     let w = (worker % WORKERS) as usize;
     if serial != sums.events[w] {
         sums.out_of_order = sums.out_of_order.saturating_add(1);
     }
+    if bytes != [(serial % 256) as u8; 8].as_slice() {
+        sums.other_bytes = sums.other_bytes.saturating_add(1);
+    }
+    let byte = bytes.first().copied().unwrap_or(0);
     sums.events[w] = sums.events[w].saturating_add(1);
     sums.bytes[w] = sums.bytes[w].saturating_add(u64::from(byte));
 }
@@ -74,14 +81,33 @@ fn consume<R: Wait>(rt: &R, ring: &SharedRing, consumer: &mut ConsumerSeat, sums
     for _ in rt.forever() {
         match ring.take(rt, consumer) {
             Ok(Taken::Event(_, worker, serial, sheet)) => {
-                add(
-                    sums,
-                    worker,
-                    serial,
-                    sheet.bytes().first().copied().unwrap_or(0),
-                );
+                add(sums, worker, serial, sheet.bytes());
             }
             _ => thread::yield_now(),
+        }
+        if consumer.consumed() >= u64::from(WORKERS * RECORDS) {
+            return;
+        }
+    }
+}
+
+// The same by batches: each is filled under one holding of the lock.
+fn consume_batches<R: Wait>(
+    rt: &R,
+    ring: &SharedRing,
+    consumer: &mut ConsumerSeat,
+    batch: &mut Batch,
+    sums: &mut Sums,
+)
+    requires { consumer.old.ring ≡ ring.now.ring }
+    ensures { IsSameConsumerSeat consumer.old consumer.new }
+{
+    for _ in rt.forever() {
+        if batch.fill(rt, ring, consumer) == Ok(0) {
+            thread::yield_now();
+        }
+        for event in batch.events() {
+            add(sums, event.worker, event.serial, event.bytes);
         }
         if consumer.consumed() >= u64::from(WORKERS * RECORDS) {
             return;
@@ -133,6 +159,43 @@ fn run<R: Threads + Wait + Sync>(
     );
 }
 
+// The producers, and the consumer by batches.
+fn run_by_batches<R: Threads + Wait + Sync>(
+    rt: &R,
+    alloc: Global,
+    ring: &SharedRing,
+    seats: &mut [Seat],
+    consumer: &mut ConsumerSeat,
+    batch: &mut Batch,
+    sums: &mut Sums,
+)
+    requires seats { All (λ s. s.ring ≡ ring.now.ring) seats.old }
+    requires consumer { consumer.old.ring ≡ ring.now.ring }
+    ensures seats { All (λ s. s.ring ≡ ring.now.ring) seats.new }
+    ensures consumer { IsSameConsumerSeat consumer.old consumer.new }
+{
+    join_mut(
+        rt,
+        &mut ||
+            requires { consumer.now.ring ≡ ring.now.ring }
+            ensures { IsSameConsumerSeat consumer.entry.now consumer.exit.now }
+        { consume_batches(rt, ring, consumer, batch, sums) },
+        &mut ||
+            requires { All (λ s. s.ring ≡ ring.now.ring) seats.now }
+            ensures { All (λ s. s.ring ≡ ring.entry.now.ring) seats.exit.now }
+        { produce_all(rt, alloc, ring, seats) },
+    );
+}
+
+fn no_sums() -> Sums {
+    Sums {
+        events: [0; 4],
+        bytes: [0; 4],
+        out_of_order: 0,
+        other_bytes: 0,
+    }
+}
+
 fn syncs<T: Sync>(_x: &T) -> bool {
     true
 }
@@ -148,11 +211,7 @@ fn four_producers_and_a_consumer(rt: HostRuntime) {
         rt.panic("no ring")
     };
     assert!(rt; syncs(&ring) && sends(&seats) && sends(&consumer));
-    let mut sums = Sums {
-        events: [0; 4],
-        bytes: [0; 4],
-        out_of_order: 0,
-    };
+    let mut sums = no_sums();
     run(
         &rt,
         alloc,
@@ -163,7 +222,7 @@ fn four_producers_and_a_consumer(rt: HostRuntime) {
     );
     assert_eq!(rt; sums.events, [10_000; 4]);
     assert_eq!(rt; sums.bytes, [1_273_080; 4]);
-    assert_eq!(rt; sums.out_of_order, 0);
+    assert_eq!(rt; (sums.out_of_order, sums.other_bytes), (0, 0));
     for seat in &seats {
         assert_eq!(rt; (seat.made(), seat.submitted()), (10_000, 10_000));
     }
@@ -180,4 +239,30 @@ fn four_producers_and_a_consumer(rt: HostRuntime) {
         (closing.producer(), closing.consumer()),
         (640_000, 640_000)
     );
+}
+
+#[test]
+fn four_producers_and_batches_of_64(rt: HostRuntime) {
+    let alloc = rt.alloc();
+    let Ok((ring, mut seats, mut consumer)) = open(&rt, alloc, 3, 4096, 0, 4) else {
+        rt.panic("no ring")
+    };
+    let Ok(mut batch) = Batch::with_capacity(alloc, 64) else {
+        rt.panic("no memory for a batch")
+    };
+    assert!(rt; sends(&batch));
+    let mut sums = no_sums();
+    run_by_batches(
+        &rt,
+        alloc,
+        &ring,
+        seats.as_mut_slice(),
+        &mut consumer,
+        &mut batch,
+        &mut sums,
+    );
+    assert_eq!(rt; sums.events, [10_000; 4]);
+    assert_eq!(rt; (sums.out_of_order, sums.other_bytes), (0, 0));
+    assert_eq!(rt; (consumer.consumed(), consumer.skipped()), (40_000, 0));
+    assert_eq!(rt; consumer.position(), 640_000);
 }
