@@ -1,7 +1,8 @@
 //! Programs and faults that were worked out by hand, from the tables of RFC 9669 and the lists of what is left out.
 
 use rb_decode::{
-    DecodeFault, DecodeKind, MAX_UNITS, Program, TextFault, decode, decoding_laws, encode, from_text,
+    DecodeFault, DecodeKind, MAX_UNITS, Program, TextFault, decode, decoding_laws, encode,
+    from_text,
 };
 use rb_insn::{Condition, Extend64, Insn, Operand, Reg, Size, Width};
 use std::alloc::Global;
@@ -56,7 +57,10 @@ fn spelled(rt: &impl Abort, alloc: Global, text: &str) -> Vec<u8> {
 fn decoded(rt: &impl Abort, alloc: Global, bytes: &[u8]) -> (u32, Vec<u8>) {
     let program = decode(alloc, bytes).expect(rt, "a program");
     program.facts();
-    (program.units(), encode(alloc, &program).expect(rt, "memory"))
+    (
+        program.units(),
+        encode(alloc, &program).expect(rt, "memory"),
+    )
 }
 
 #[test]
@@ -74,7 +78,11 @@ fn programs_and_back(rt: HostRuntime) {
         let (count, encoded) = decoded(&rt, rt.alloc(), &bytes);
         assert_eq!(rt; count, units, "{text}");
         assert_eq!(rt; encoded.as_slice(), bytes.as_slice(), "{text}");
-        assert_eq!(rt; spelled(&rt, rt.alloc(), text).as_slice(), bytes.as_slice(), "{text}");
+        assert_eq!(rt;
+            spelled(&rt, rt.alloc(), text).as_slice(),
+            bytes.as_slice(),
+            "{text}"
+        );
     }
 }
 
@@ -127,7 +135,11 @@ fn instructions_of_submit_42(rt: HostRuntime) {
 }
 
 /// The faults of the bytes that a text spells, and of the text.
-fn faults_of(rt: &impl Abort, alloc: Global, text: &str) -> (Option<DecodeFault>, Option<TextFault>) {
+fn faults_of(
+    rt: &impl Abort,
+    alloc: Global,
+    text: &str,
+) -> (Option<DecodeFault>, Option<TextFault>) {
     let bytes = bytes_of(rt, alloc, text);
     (decode(alloc, &bytes).err(), from_text(alloc, text).err())
 }

@@ -196,7 +196,11 @@ fn states_after_a_call(rt: HostRuntime) {
         ),
     ];
     for (helper, arguments, after) in ROWS {
-        assert_eq!(rt; after_call(&rt, rt.alloc(), helper, arguments), after, "{helper}");
+        assert_eq!(rt;
+            after_call(&rt, rt.alloc(), helper, arguments),
+            after,
+            "{helper}"
+        );
     }
 }
 

@@ -380,7 +380,10 @@ fn in_place(rt: &impl Abort, insn: &Insn, mut state: AbsState, register: Reg) ->
 #[test]
 fn a_step_in_place_leaves_the_state_along_the_next_edge(rt: HostRuntime) {
     let load = load(7, 10, -512);
-    assert_eq!(rt; in_place(&rt, &load, mixed(rt.alloc()), reg(7)), (Abs::Number, None));
+    assert_eq!(rt;
+        in_place(&rt, &load, mixed(rt.alloc()), reg(7)),
+        (Abs::Number, None)
+    );
     let equal = branch(Width::W64, Condition::Equal, 0, Operand::Immediate(0));
     assert_eq!(rt;
         in_place(&rt, &equal, mixed(rt.alloc()), reg(0)),

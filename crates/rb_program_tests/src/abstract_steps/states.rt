@@ -76,7 +76,11 @@ fn joins_and_order(rt: HostRuntime) {
             above_both: true,
             is_first: least == value,
         };
-        assert_eq!(rt; joined_at_r3(&rt, rt.alloc(), value, other), joined, "{value:?} {other:?}");
+        assert_eq!(rt;
+            joined_at_r3(&rt, rt.alloc(), value, other),
+            joined,
+            "{value:?} {other:?}"
+        );
     }
 }
 
@@ -84,7 +88,10 @@ fn joins_and_order(rt: HostRuntime) {
 fn other_references_have_no_join(rt: HostRuntime) {
     let entry = AbsState::entry(rt.alloc());
     let holds = mixed(rt.alloc());
-    assert_eq!(rt; (join(&entry, &holds).is_some(), below(&entry, &holds)), (false, false));
+    assert_eq!(rt;
+        (join(&entry, &holds).is_some(), below(&entry, &holds)),
+        (false, false)
+    );
     step_keeps_order();
     step_keeps_form();
 }
