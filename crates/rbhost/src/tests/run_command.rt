@@ -74,10 +74,10 @@ fn four_workers_submit_what_they_were_granted(rt: HostRuntime) {
     let words = ["run", "--workers", "4", "--jobs", "100", "--size", "4096"];
     let text = ended(&rt, alloc, &words, SUBMIT_42.as_bytes());
     let mut all = 0u64;
-    let mut workers = 0;
+    let mut workers = 0u64;
     for line in text.as_str().lines().take(4) {
         all = all.saturating_add(made_by(line.trim_start_matches("0 "), workers));
-        workers += 1;
+        workers = workers.saturating_add(1);
     }
     let end = format!(in alloc;
         "ring made {all} consumed {all} discarded 0 waiting 0 busy 0\nstrays 0\n"
