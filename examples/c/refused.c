@@ -24,8 +24,8 @@ static inline __attribute__((always_inline)) u64 refuses(u64 batch, u64 number)
 
 u64 refused(const struct context *ctx)
 {
-    u64 refused = 0;
-    for (u64 number = 0; number < 3; number++)
-        refused += refuses(ctx->batch, number);
+    u64 refused = refuses(ctx->batch, 0);
+    refused += refuses(ctx->batch, 1);
+    refused += refuses(ctx->batch, 2);
     return refused << 32 | bpf_ringbuf_query(RING(0), BPF_RB_AVAIL_DATA);
 }

@@ -5,13 +5,16 @@ ghost use Rattle.rb_ledger.specs.Seats.{IsSameSeat, IsSameConsumerSeat};
 
 use crate::fault::BenchFault;
 use crate::one_thread::{FILL, SIZE};
-use rb_history::Taken;
+use rb_consumer::Batch;
 use rb_ledger::{ConsumerSeat, Seat, SharedRing, WaitBackoff, open};
 use rb_lend::{Lent, Sheet};
 use std::alloc::Global;
 use std::sync::Wait;
 use std::thread;
 use std::thread::{Threads, join_mut};
+
+// How many records the consumer takes at most under one holding of the lock.
+const BATCH: usize = 64;
 
 /// What came of a run.
 #[derive(Clone, Copy, Debug, PartialEq, Eq)]
@@ -33,6 +36,9 @@ pub(crate) fn share<R: Threads + Wait + Sync>(
     let Ok((ring, mut seats, mut consumer)) = open(rt, alloc, 1, SIZE, 0, producers) else {
         return Err(BenchFault::Memory);
     };
+    let Ok(mut batch) = Batch::with_capacity(alloc, BATCH) else {
+        return Err(BenchFault::Memory);
+    };
     let want = u64::from(producers) * u64::from(each);
     run(
         rt,
@@ -40,6 +46,7 @@ pub(crate) fn share<R: Threads + Wait + Sync>(
         &ring,
         seats.as_mut_slice(),
         &mut consumer,
+        &mut batch,
         each,
         want,
     );
@@ -60,6 +67,7 @@ fn run<R: Threads + Wait + Sync>(
     ring: &SharedRing,
     seats: &mut [Seat],
     consumer: &mut ConsumerSeat,
+    batch: &mut Batch,
     each: u32,
     want: u64,
 )
@@ -73,7 +81,7 @@ fn run<R: Threads + Wait + Sync>(
         &mut ||
             requires { consumer.now.ring ≡ ring.now.ring }
             ensures { IsSameConsumerSeat consumer.entry.now consumer.exit.now }
-        { consume(rt, ring, consumer, want) },
+        { consume(rt, ring, consumer, batch, want) },
         &mut ||
             requires { All (λ s. s.ring ≡ ring.now.ring) seats.now }
             ensures { All (λ s. s.ring ≡ ring.entry.now.ring) seats.exit.now }
@@ -138,7 +146,15 @@ fn filled<R: Wait>(rt: &R, alloc: Global) -> Sheet {
     unreachable!()
 }
 
-fn consume<R: Wait>(rt: &R, ring: &SharedRing, consumer: &mut ConsumerSeat, want: u64)
+// Takes batches until so many records were handed out. After one that is not whole it waits, and for longer each time that there is no
+// record at all.
+fn consume<R: Wait>(
+    rt: &R,
+    ring: &SharedRing,
+    consumer: &mut ConsumerSeat,
+    batch: &mut Batch,
+    want: u64,
+)
     requires { consumer.old.ring ≡ ring.now.ring }
     ensures { IsSameConsumerSeat consumer.old consumer.new }
 {
@@ -147,9 +163,13 @@ fn consume<R: Wait>(rt: &R, ring: &SharedRing, consumer: &mut ConsumerSeat, want
         if consumer.consumed() >= want {
             return;
         }
-        match ring.take(rt, consumer) {
-            Ok(Taken::Event(_, _, _, _)) => backoff = WaitBackoff::new(),
-            _ => backoff.wait(),
+        let count = batch.fill(rt, ring, consumer).unwrap_or(0);
+        if count == BATCH {
+            continue;
         }
+        if count > 0 {
+            backoff = WaitBackoff::new();
+        }
+        backoff.wait();
     }
 }

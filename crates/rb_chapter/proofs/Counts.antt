@@ -1,5 +1,5 @@
 -- The six counts of an opening are those of the history that it stands for.
-use Rattle.std.proofs.Common.{◌≡◌, ℕ, zero, suc, ◌+◌, ◌<◌, ◌≤◌, ◌==◌, Bool, true, false, cond, ◌||◌, List, [], ◌∷◌, ◌++◌, Some, None, map, refl, sym, ap, ◌∙◌, inl, inr, arith, subst, append_assoc, append-nil}
+use Rattle.std.proofs.Common.{◌≡◌, ℕ, zero, suc, ◌+◌, ◌<◌, ◌≤◌, ◌==◌, Bool, true, false, cond, ◌||◌, List, [], ◌∷◌, ◌++◌, map, refl, sym, ap, ◌∙◌, inl, inr, arith, subst, append_assoc, append-nil}
 use Rattle.std.specs.List.{sum_by, count_by, All, Contains}
 use Rattle.std.proofs.lemmas.Bool.{cases_lt, eq-eqb, ne_eqb, true≢false}
 use Rattle.std.proofs.lemmas.List.Folds.{fold-map}
@@ -7,14 +7,14 @@ use Rattle.std.proofs.lemmas.List.Sums.{sum_by_push}
 use Rattle.std.proofs.lemmas.List.Elements.{All-contains, Contains-append_right}
 use Rattle.rb_history.specs.declared.entries.Entry.{Entry}
 use Rattle.rb_history.specs.declared.entries.Entry.TheVariants.{Res, Full, Sub, Dis, Take}
-use Rattle.rb_history.specs.History.{Shown, Status, status_by, is_submitted_at, is_discarded_at, is_taken_at, is_granted_at, is_grant_of, untaken, records}
+use Rattle.rb_history.specs.History.{Status, status_by, is_submitted_at, is_discarded_at, is_granted_at, is_grant_of, records}
 use Rattle.rb_history.specs.History.Status.{Busy, Waiting, Consumed}
-use Rattle.rb_history.specs.Counting.{is_same, is_grant_entry, is_refusal_entry, is_discard_entry, has_status, status_count, counts_of}
+use Rattle.rb_history.specs.Counting.{is_same, is_grant_entry, is_refusal_entry, is_discard_entry, status_count, counts_of}
 use Rattle.rb_history.specs.RoomRule.{Setup}
 use Rattle.rb_history.specs.Legal.{IsLegal, MayFollow}
-use Rattle.rb_history.proofs.Counting.{made-split}
-use Rattle.rb_history.proofs.Laws.{KeptAs, kept-from-legal, legal-front, legal-next}
-use Rattle.rb_history.proofs.Lists.{sum_by-cons, sum_by-snoc, sum_by-only, sum_by-add, sum_by-agree, opt_sum}
+use Rattle.rb_history.proofs.Counting.{waiting-shown, busy-shown, made-split}
+use Rattle.rb_history.proofs.Laws.{kept-from-legal, legal-front, legal-next}
+use Rattle.rb_history.proofs.Lists.{sum_by-cons, sum_by-snoc, sum_by-add, sum_by-agree}
 use Rattle.rb_history.proofs.Standing.{grant-stands}
 use Rattle.rb_history.specs.declared.tally.Tally.{Tally}
 use Rattle.rb_history.specs.WorkerCounts.{is_record_of}
@@ -121,51 +121,6 @@ module _ (r : Setup) (h : List Entry) (l : IsLegal r h) where
   discarded-is : sum_by (λ t. t.discarded) (opening_of r h).tallies ≡ count_by is_discard_entry h
   discarded-is = over-workers (λ t. t.discarded) ∙ count-once (λ w. is_discard_of w h) is_discard_entry (numbers_below r.workers) h discard-one
 
--- ---- the records that are there
-
-status_bit : Status → Shown → ℕ
-status_bit st s = bit (is_same st s.status)
-
-waiting-here : (w n k q : ℕ) (s d t : Bool) → bit (is_same Waiting (status_by s d t)) ≡ opt_sum (status_bit Waiting) (cond t None (Some (record { pos = q; len = n; worker = w; serial = k; status = status_by s d t })))
-unfolding status_bit
-waiting-here w n k q s true true = refl
-waiting-here w n k q s true false = refl
-waiting-here w n k q true false true = refl
-waiting-here w n k q true false false = refl
-waiting-here w n k q false false true = refl
-waiting-here w n k q false false false = refl
-
-busy-here : (w n k q : ℕ) (s d t : Bool) → (t ≡ true → (s || d) ≡ true) → bit (is_same Busy (status_by s d t)) ≡ opt_sum (status_bit Busy) (cond t None (Some (record { pos = q; len = n; worker = w; serial = k; status = status_by s d t })))
-unfolding status_bit
-busy-here w n k q s true true c = refl
-busy-here w n k q s true false c = refl
-busy-here w n k q true false true c = refl
-busy-here w n k q true false false c = refl
-busy-here w n k q false false true c = let no_way : false ≡ true = c refl in cc
-busy-here w n k q false false false c = refl
-
-waiting-entry : (h : List Entry) (e : Entry) → bit (has_status Waiting h e) ≡ opt_sum (status_bit Waiting) (untaken h e)
-waiting-entry h (Res w k n q) = waiting-here w n k q (is_submitted_at h q) (is_discarded_at h q) (is_taken_at h q)
-waiting-entry h (Full w n) = refl
-waiting-entry h (Sub q) = refl
-waiting-entry h (Dis q) = refl
-waiting-entry h (Take q) = refl
-
-busy-entry : (h : List Entry) → ((q : ℕ) → is_taken_at h q ≡ true → (is_submitted_at h q || is_discarded_at h q) ≡ true) → (e : Entry) → bit (has_status Busy h e) ≡ opt_sum (status_bit Busy) (untaken h e)
-busy-entry h c (Res w k n q) = busy-here w n k q (is_submitted_at h q) (is_discarded_at h q) (is_taken_at h q) (c q)
-busy-entry h c (Full w n) = refl
-busy-entry h c (Sub q) = refl
-busy-entry h c (Dis q) = refl
-busy-entry h c (Take q) = refl
-
-waiting-is : (h : List Entry) → status_count Waiting h ≡ shown_count Waiting (records h)
-unfolding status_bit
-waiting-is h = sum_by-only (λ e. bit (has_status Waiting h e)) (untaken h) (status_bit Waiting) (waiting-entry h) h
-
-busy-is : (r : Setup) (h : List Entry) → KeptAs r h → status_count Busy h ≡ shown_count Busy (records h)
-unfolding status_bit
-busy-is r h k = sum_by-only (λ e. bit (has_status Busy h e)) (untaken h) (status_bit Busy) (busy-entry h k.closed) h
-
 -- ---- what was taken as an event
 
 -- each record is an event, busy, waiting or discarded
@@ -257,7 +212,7 @@ split-rest r h (e ∷ t) s l =
 events-are : (r : Setup) (h : List Entry) → IsLegal r h → events_of h ≡ status_count Consumed h
 events-are r h l =
     let k = kept-from-legal r h l in
-    omega (arith, split-rest r [] h refl l, made-split h, waiting-is h, busy-is r h k, k.given_up)
+    omega (arith, split-rest r [] h refl l, made-split h, waiting-shown h, busy-shown h k.closed, k.given_up)
 
 pub counts-are : (r : Setup) (h : List Entry) → IsLegal r h → counts_at (opening_of r h) ≡ counts_of h
 counts-are r h l =
@@ -266,6 +221,6 @@ counts-are r h l =
     let refused = refused-is r h l in
     let consumed = events-are r h l in
     let discarded = discarded-is r h l ∙ sym k.given_up in
-    let waiting = sym (waiting-is h) in
-    let busy = sym (busy-is r h k) in
+    let waiting = sym (waiting-shown h) in
+    let busy = sym (busy-shown h k.closed) in
     λ i. record { made = made i; refused = refused i; consumed = consumed i; discarded = discarded i; waiting = waiting i; busy = busy i }

@@ -17,3 +17,6 @@ pub mod Empty
 pub mod SameOpening
 pub mod Running
 pub mod Logging
+pub mod Limits
+pub mod Settling
+pub mod Places

@@ -53,7 +53,7 @@ map-set f g (suc n) w l same =
 
 module _ (r : Setup) (h : List Entry) where
   -- an entry of the worker's alone
-  tallies-next : (e : Entry) (w : ℕ) → IsLegal r (h ++ e ∷ []) → w < r.workers → ((v : ℕ) → v ≢ w → tally_with v h e (tally_of v h) ≡ tally_of v h) →
+  pub tallies-next : (e : Entry) (w : ℕ) → IsLegal r (h ++ e ∷ []) → w < r.workers → ((v : ℕ) → v ≢ w → tally_with v h e (tally_of v h) ≡ tally_of v h) →
       map (λ v. tally_of v (h ++ e ∷ [])) (numbers_below r.workers) ≡ set (map (λ v. tally_of v h) (numbers_below r.workers)) w (tally_of w (h ++ e ∷ []))
   tallies-next e w l low others =
       map-set (λ v. tally_of v (h ++ e ∷ [])) (λ v. tally_of v h) r.workers w low (λ v _ no. tally-next r v h e l ∙ others v no)
@@ -106,7 +106,7 @@ module _ (r : Setup) (h : List Entry) where
 
 -- ---- in a chapter
 
-ends : (earlier : List Entry) (c : Chapter) → ContinuesHistory earlier c → closing_of c ≡ opening_of c.opening.setup (earlier ++ c.entries)
+pub ends : (earlier : List Entry) (c : Chapter) → ContinuesHistory earlier c → closing_of c ≡ opening_of c.opening.setup (earlier ++ c.entries)
 ends earlier c is = ((goes-on c.opening.setup earlier c.opening is.earlier_legal is.opened c.entries).1 is.legal).stands
 
 -- what is kept behind one entry more
@@ -115,7 +115,7 @@ pub record RunsBehind (c : Chapter) (e : Entry) (now : Opening) : Type 0 where
   pub owed_is : owed_for now.records ≡ owed (with_entry c e)
 
 pub runs-behind : (earlier : List Entry) (c : Chapter) (e : Entry) (closing now : Opening) (f : Opening → Opening) → IsKept earlier c → IsKept earlier (with_entry c e) → closing ≡ closing_of c → now ≡ f closing
-    → ((h : List Entry) → IsLegal c.opening.setup (h ++ e ∷ []) → opening_of c.opening.setup (h ++ e ∷ []) ≡ f (opening_of c.opening.setup h)) → RunsBehind c e now
+    → (IsLegal c.opening.setup ((earlier ++ c.entries) ++ e ∷ []) → opening_of c.opening.setup ((earlier ++ c.entries) ++ e ∷ []) ≡ f (opening_of c.opening.setup (earlier ++ c.entries))) → RunsBehind c e now
 runs-behind earlier c e closing now f kept longer is made step =
     let r = c.opening.setup in
     let cut : (earlier ++ c.entries) ++ e ∷ [] ≡ earlier ++ (c.entries ++ e ∷ []) = append_assoc earlier c.entries (e ∷ []) in
@@ -123,7 +123,7 @@ runs-behind earlier c e closing now f kept longer is made step =
     let legal : IsLegal r ((earlier ++ c.entries) ++ e ∷ []) = subst (IsLegal r) (sym cut) whole in
     let old = is ∙ ends earlier c kept.continues in
     let new = ends earlier (with_entry c e) longer.continues in
-    let same : now ≡ closing_of (with_entry c e) = made ∙ ap f old ∙ sym (step (earlier ++ c.entries) legal) ∙ ap (opening_of r) cut ∙ sym new in
+    let same : now ≡ closing_of (with_entry c e) = made ∙ ap f old ∙ sym (step legal) ∙ ap (opening_of r) cut ∙ sym new in
     record { closing_is = same; owed_is = ap (λ (o : Opening). owed_for o.records) same }
 
 -- ---- the calls
@@ -195,7 +195,7 @@ module _ (earlier : List Entry) (c : Chapter) (kept : IsKept earlier c) (closing
   refused w n now owing d low none room owes made logged =
       let e = Full w n in
       let longer = one-kept earlier c e kept (low, none) room.0 in
-      let runs = runs-behind earlier c e closing now (with_refusal w) kept longer is made (λ h l. refusal-next c.opening.setup h w n l) in
+      let runs = runs-behind earlier c e closing now (with_refusal w) kept longer is made (λ l. refusal-next c.opening.setup (earlier ++ c.entries) w n l) in
       let same : owed c ≡ owed_for now.records = ap (λ (o : Opening). owed_for o.records) (sym is) ∙ ap (λ (o : Opening). owed_for o.records) (sym made) in
       subst (λ x. KeepsRunning earlier x now owing) (sym logged) (record { kept = longer; closing_is = runs.closing_is; owed_is = owes ∙ same ∙ runs.owed_is })
 
@@ -206,7 +206,7 @@ module _ (earlier : List Entry) (c : Chapter) (kept : IsKept earlier c) (closing
       let p = producer_from c.opening c.entries in
       let e = Res w s n p in
       let longer = one-kept earlier c e kept (low, refl, refl, fits) room in
-      let runs = runs-behind earlier c e closing now (with_grant w n) kept longer is made (λ h l. grant-next c.opening.setup h w s n p l) in
+      let runs = runs-behind earlier c e closing now (with_grant w n) kept longer is made (λ l. grant-next c.opening.setup (earlier ++ c.entries) w s n p l) in
       let before : owed c ≡ owed_for closing.records = ap (λ (o : Opening). owed_for o.records) (sym is) in
       let after : owed_for now.records ≡ owed_for (closing.records ++ next_record w n closing ∷ []) = ap (λ (o : Opening). owed_for o.records) made in
       let more = sum_by-snoc (λ (x : Shown). entries_owed x.status) closing.records (next_record w n closing) in

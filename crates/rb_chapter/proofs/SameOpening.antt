@@ -1,5 +1,5 @@
 -- Two openings say the same exactly where their fields are the same.
-use Rattle.std.proofs.Common.{◌≡◌, List, [], ◌∷◌, map, refl, ap}
+use Rattle.std.proofs.Common.{◌≡◌, List, [], ◌∷◌, drop, map, refl, ap}
 use Rattle.rb_history.specs.History.{Shown}
 use Rattle.rb_chapter.specs.declared.opening.UntakenRecord.{UntakenRecord}
 use Rattle.rb_chapter.specs.declared.opening.UntakenStatus.{UntakenStatus}
@@ -48,7 +48,7 @@ numbers-of a b e = λ i. record {
   skipped = (e i).skipped;
 }
 
-pub same-opening : (a b : Inside) → a.numbers ≡ b.numbers → map untaken_shown a.records.items ≡ map untaken_shown b.records.items → a.tallies.items ≡ b.tallies.items → opening_shown a ≡ opening_shown b
+pub same-opening : (a b : Inside) → a.numbers ≡ b.numbers → map untaken_shown (drop a.first a.records.items) ≡ map untaken_shown (drop b.first b.records.items) → a.tallies.items ≡ b.tallies.items → opening_shown a ≡ opening_shown b
 same-opening a b n r t = λ i. record {
   setup = record { size = (n i).size; start = (n i).start; workers = (n i).workers };
   producer = (n i).producer;

@@ -1,12 +1,14 @@
 -- How many entries a chapter has, and how many more it owes to the records that are there: so that a submit, a discard and a take
 -- always find room (own). For example, with two busy records in a chapter of room 8: used 2, owed 4, and no third grant, since
 -- 2 + 4 + 3 is more than 8.
-use Rattle.std.specs.Prelude.{ℕ, ◌+◌, ◌<◌, ◌≤◌, ◌^◌, List, ◌∷◌, ◌++◌, [], length}
-use Rattle.std.specs.List.{sum_by}
+use Rattle.std.specs.Prelude.{ℕ, ◌≡◌, ◌≢◌, ◌+◌, ◌<◌, ◌≤◌, ◌^◌, List, ◌∷◌, ◌++◌, [], length}
+use Rattle.std.specs.List.{sum_by, slice_index_or as get_or}
 use Rattle.rb_history.specs.declared.entries.Entry.{Entry}
 use Rattle.rb_history.specs.declared.entries.Entry.TheVariants.{Res, Full}
 use Rattle.rb_history.specs.History.{Shown}
+use Rattle.rb_history.specs.History.Status.{Busy}
 use Rattle.rb_history.specs.StoredRecords.{entries_owed}
+use Rattle.rb_chapter.specs.Opening.{no_record}
 use Rattle.rb_chapter.specs.CountedFrom.{records_from, tally_from}
 use Rattle.rb_chapter.specs.Chapters.{Chapter}
 
@@ -43,6 +45,18 @@ abbrev pub HasEntryRoom : Chapter → Entry → Type 0
 HasEntryRoom c (Res w k n p) = MayGrant c
 HasEntryRoom c (Full w n) = HasRefusalRoom c
 HasEntryRoom c _ = HasRoomForOwed c
+
+-- the record at an index, from the front on, of those that are there
+abbrev pub record_now : Chapter → ℕ → Shown
+record_now c i = get_or (records_from c.opening c.entries) i no_record
+
+-- there is a record at the index, and it is busy
+abbrev pub IsBusyNow : Chapter → ℕ → Type 0
+IsBusyNow c i = (i < length (records_from c.opening c.entries)) × ((record_now c i).status ≡ Busy)
+
+-- there is a record at the front, and it is no longer busy
+abbrev pub HasSettledFront : Chapter → Type 0
+HasSettledFront c = (0 < length (records_from c.opening c.entries)) × ((record_now c 0).status ≢ Busy)
 
 -- the chapter with one entry more
 abbrev pub with_entry : Chapter → Entry → Chapter

@@ -4,7 +4,7 @@ use Rattle.std.specs.List.{sum_by, count_by, slice_index_or as get_or}
 use Rattle.rb_history.specs.declared.entries.Entry.{Entry}
 use Rattle.rb_history.specs.declared.answers.Counts.{Counts}
 use Rattle.rb_history.specs.History.{Shown, Status, producer_of, consumer_of, records}
-use Rattle.rb_history.specs.History.Status.{Busy, Waiting}
+use Rattle.rb_history.specs.History.Status.{Busy, Waiting, Discarded}
 use Rattle.rb_history.specs.Counting.{is_same}
 use Rattle.rb_history.specs.RoomRule.{Setup}
 use Rattle.rb_history.specs.declared.tally.Tally.{Tally}
@@ -40,6 +40,14 @@ no_tally = record { made = 0; refused = 0; submitted = 0; discarded = 0 }
 -- a worker's totals
 abbrev pub tally_at : Opening → ℕ → Tally
 tally_at o w = get_or o.tallies w no_tally
+
+-- no record
+abbrev pub no_record : Shown
+no_record = record { pos = 0; len = 0; worker = 0; serial = 0; status = Discarded }
+
+-- the record at an index, from the front on
+abbrev pub record_in : Opening → ℕ → Shown
+record_in o i = get_or o.records i no_record
 
 -- how many of the records have this status
 abbrev pub shown_count : Status → List Shown → ℕ

@@ -2,7 +2,8 @@
 use Rattle.std.specs.Prelude.{ℕ}
 use Rattle.rb_chapter.specs.Opening.{Opening}
 
--- what it says, and for how many untaken records it has memory
+-- what it says; for how many records it has memory; and how many of those that it had were taken and still have theirs
 pub record OpeningValue : Type 0 where
   pub opening : Opening
   pub room : ℕ
+  pub passed : ℕ

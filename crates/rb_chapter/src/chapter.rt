@@ -3,11 +3,11 @@
 ghost use Rattle.std.specs.Prelude.{◌≡◌, ◌+◌, ◌-◌, ◌<◌, ◌≤◌, ◌^◌, ◌↔◌, ◌++◌, ◌∷◌, [], IfOk, IsTrue, List, vec_len, vec_capacity};
 ghost use Rattle.rb_header.specs.Span.{span};
 ghost use Rattle.rb_history.specs.declared.entries.Entry.{Entry};
-ghost use Rattle.rb_history.specs.declared.entries.Entry.TheVariants.{Res, Full};
+ghost use Rattle.rb_history.specs.declared.entries.Entry.TheVariants.{Res, Full, Sub, Dis, Take};
 ghost use Rattle.rb_history.specs.RingModel.{IsWorkerCount};
 ghost use Rattle.rb_chapter.specs.Chapters.{IsChapterRoom, empty_chapter, first_chapter, closing_of, Meets};
-ghost use Rattle.rb_chapter.specs.ChapterRoom.{used, owed, MayGrant, MayRefuse, with_entry};
-ghost use Rattle.rb_chapter.specs.CountedFrom.{HasRoomFrom, grants_from, producer_from};
+ghost use Rattle.rb_chapter.specs.ChapterRoom.{used, owed, MayGrant, MayRefuse, record_now, IsBusyNow, HasSettledFront, with_entry};
+ghost use Rattle.rb_chapter.specs.CountedFrom.{HasRoomFrom, grants_from, producer_from, consumer_from};
 ghost use Rattle.rb_chapter.specs.WholeHistory.{IsKept};
 
 use crate::opening::Opening;
@@ -128,6 +128,33 @@ impl Chapter {
         );
     }
 
+    /// Adds a submit of the record at an index of those that are there, from the front on. In constant time, and without memory.
+    pub fn log_submit(&mut self, index: usize)
+        requires busy { IsBusyNow self.old index }
+        ensures logged { self.new ≡ with_entry self.old (Sub (record_now self.old index).pos) }
+    {
+        let pos = self.closing.add_submit(index);
+        log_owed(&mut self.entries, &mut self.owed, Entry::Sub(pos));
+    }
+
+    /// Adds a discard of the record at an index of those that are there, from the front on. In constant time, and without memory.
+    pub fn log_discard(&mut self, index: usize)
+        requires busy { IsBusyNow self.old index }
+        ensures logged { self.new ≡ with_entry self.old (Dis (record_now self.old index).pos) }
+    {
+        let pos = self.closing.add_discard(index);
+        log_owed(&mut self.entries, &mut self.owed, Entry::Dis(pos));
+    }
+
+    /// Adds a take of the record at the front, which was submitted or discarded. In constant time, and without memory.
+    pub fn log_take(&mut self)
+        requires front { HasSettledFront self.old }
+        ensures logged { self.new ≡ with_entry self.old (Take (consumer_from self.old.opening self.old.entries)) }
+    {
+        let pos = self.closing.add_take();
+        log_owed(&mut self.entries, &mut self.owed, Entry::Take(pos));
+    }
+
     /// What holds of each chapter: it is legal from its opening, which a legal history stands for, and it has room for what it owes.
     pub fn facts(&self)
         ensures kept { (earlier : List Entry) × IsKept earlier self.now }
@@ -234,6 +261,18 @@ fn log(entries: &mut Vec<Entry>, entry: Entry)
     ensures space { vec_capacity entries.old ≤ vec_capacity entries.new }
 {
     let _within = entries.push(entry);
+}
+
+// Adds an entry that was owed. It takes no memory.
+fn log_owed(entries: &mut Vec<Entry>, owed: &mut u32, entry: Entry)
+    requires owing { 0 < owed.old }
+    requires space { vec_len entries.old < vec_capacity entries.old }
+    ensures logged { entries.new.items ≡ entries.old.items ++ entry ∷ [] }
+    ensures space { vec_capacity entries.old ≤ vec_capacity entries.new }
+    ensures owing { owed.new ≡ owed.old - 1 }
+{
+    *owed -= 1;
+    log(entries, entry);
 }
 
 // Whether a record of `len` bytes may be granted at the producer position.

@@ -23,6 +23,7 @@
 mod chapter;
 mod chapter_laws;
 mod opening;
+mod opening_lists;
 
 pub use chapter::Chapter;
 pub use chapter_laws::{calls_are_alike, chapters_join, counted_from_the_opening, room_is_kept};

@@ -1,14 +1,17 @@
 //! What a chapter begins with.
 
-ghost use Rattle.std.specs.Prelude.{◌≡◌, ◌+◌, ◌<◌, ◌≤◌, ◌^◌, ◌↔◌, IfOk, IsTrue, length, map, replicate, slice_index_or, slice_set};
+ghost use Rattle.std.specs.Prelude.{◌≡◌, ◌+◌, ◌<◌, ◌≤◌, ◌^◌, ◌↔◌, IfOk, IsTrue, drop, length, map, replicate, slice_index_or, slice_set};
 ghost use Rattle.rb_header.specs.Span.{span};
-ghost use Rattle.rb_chapter.specs.Opening.{no_tally, tally_at};
+ghost use Rattle.rb_chapter.specs.Opening.{no_record, no_tally, record_in, tally_at};
 ghost use Rattle.rb_chapter.specs.OpeningValue.{OpeningValue};
 ghost use Rattle.rb_chapter.specs.Chapters.{empty_ring};
-ghost use Rattle.rb_chapter.specs.UntakenRecords.{untaken_shown};
+ghost use Rattle.rb_chapter.specs.UntakenRecords.{status_shown, untaken_shown};
 ghost use Rattle.rb_chapter.specs.inner.OpeningNumbers.{first_numbers};
-ghost use Rattle.rb_chapter.specs.inner.OpeningSteps.{with_refusal, with_grant, next_record};
+ghost use Rattle.rb_chapter.specs.inner.OpeningSteps.{with_refusal, with_grant, next_record, with_submit, with_discard, with_take, events_by, skips_by};
 
+use crate::opening_lists::{
+    are_same_records, are_same_tallies, copy, forget, front_of, replace, settle, tally_of,
+};
 use rb_header::span;
 use rb_history::Tally;
 use std::alloc::{AllocError, Global};
@@ -23,6 +26,28 @@ pub enum UntakenStatus {
     Waiting,
     /// It was discarded, and is still to be passed over.
     Discarded,
+}
+
+impl UntakenStatus {
+    // 1 where a take hands the record out.
+    fn events(self) -> u64
+        ensures events { result ≡ events_by (status_shown self) }
+    {
+        match self {
+            UntakenStatus::Waiting => 1,
+            _ => 0,
+        }
+    }
+
+    // 1 where a take passes the record over.
+    fn skips(self) -> u64
+        ensures skips { result ≡ skips_by (status_shown self) }
+    {
+        match self {
+            UntakenStatus::Discarded => 1,
+            _ => 0,
+        }
+    }
 }
 
 /// A record that was granted and not taken when a chapter was opened.
@@ -82,6 +107,8 @@ impl Numbers {
 pub struct Opening {
     numbers: Numbers,
     records: Vec<UntakenRecord>,
+    // Where the records that are there begin: before them stand those that were taken.
+    first: usize,
     // One for each worker, by its number.
     tallies: Vec<Tally>,
 }
@@ -106,10 +133,12 @@ impl Opening {
     pub(crate) fn of_zeros(alloc: Global, room: u32, workers: u32) -> Result<Opening, AllocError>
         ensures zeros { IfOk result (λ o. o.opening ≡ empty_ring (record { size = 0; start = 0; workers = workers })) }
         ensures room { IfOk result (λ o. o.room ≡ room) }
+        ensures passed { IfOk result (λ o. o.passed ≡ 0) }
     {
         Ok(Opening {
             numbers: Numbers::of_ring(0, 0, workers),
             records: Vec::with_capacity(alloc, room as usize)?,
+            first: 0,
             tallies: vec![in alloc; Tally::none(); workers as usize]?,
         })
     }
@@ -118,9 +147,11 @@ impl Opening {
     pub(crate) fn begin(&mut self, size: u64, start: u64)
         ensures first { self.new.opening ≡ empty_ring (record { size = size; start = start; workers = self.old.opening.setup.workers }) }
         ensures room { self.new.room ≡ self.old.room }
+        ensures passed { self.new.passed ≡ 0 }
     {
         self.numbers = Numbers::of_ring(size, start, self.numbers.workers);
         self.records.clear();
+        self.first = 0;
         forget(self.tallies.as_mut_slice());
     }
 
@@ -130,10 +161,12 @@ impl Opening {
         requires workers { self.old.opening.setup.workers ≡ other.now.opening.setup.workers }
         ensures same { self.new.opening ≡ other.now.opening }
         ensures room { self.old.room ≤ self.new.room }
+        ensures passed { self.new.passed ≡ 0 }
     {
         self.numbers = other.numbers;
         self.records.clear();
-        let _within = self.records.extend_from_slice(other.records.as_slice());
+        self.first = 0;
+        let _within = self.records.extend_from_slice(other.records());
         copy(self.tallies.as_mut_slice(), other.tallies.as_slice());
     }
 
@@ -143,6 +176,7 @@ impl Opening {
         requires total { (tally_at self.old.opening worker).refused < 2 ^ 62 }
         ensures added { self.new.opening ≡ with_refusal worker self.old.opening }
         ensures room { self.new.room ≡ self.old.room }
+        ensures passed { self.new.passed ≡ self.old.passed }
     {
         let tally = tally_of(self.tallies.as_slice(), worker);
         let counted = Tally {
@@ -157,9 +191,10 @@ impl Opening {
         requires worker { worker < self.old.opening.setup.workers }
         requires total { (tally_at self.old.opening worker).made < 2 ^ 62 }
         requires limit { self.old.opening.producer + span len ≤ 2 ^ 62 }
-        requires room { length self.old.opening.records < self.old.room }
+        requires room { self.old.passed + length self.old.opening.records < self.old.room }
         ensures added { self.new.opening ≡ with_grant worker len self.old.opening }
         ensures room { self.old.room ≤ self.new.room }
+        ensures passed { self.new.passed ≡ self.old.passed }
         ensures record { untaken_shown result ≡ next_record worker len self.old.opening }
     {
         let tally = tally_of(self.tallies.as_slice(), worker);
@@ -180,6 +215,75 @@ impl Opening {
         record
     }
 
+    // The record at an index, from the front on, was submitted. Returns its position.
+    pub(crate) fn add_submit(&mut self, index: usize) -> u64
+        requires within { index < length self.old.opening.records }
+        requires worker { (record_in self.old.opening index).worker < self.old.opening.setup.workers }
+        requires total { (tally_at self.old.opening (record_in self.old.opening index).worker).submitted < 2 ^ 62 }
+        ensures added { self.new.opening ≡ with_submit index self.old.opening }
+        ensures room { self.new.room ≡ self.old.room }
+        ensures passed { self.new.passed ≡ self.old.passed }
+        ensures position { result ≡ (record_in self.old.opening index).pos }
+    {
+        let record = settle(
+            self.records.as_mut_slice(),
+            self.first,
+            index,
+            UntakenStatus::Waiting,
+        );
+        let tally = tally_of(self.tallies.as_slice(), record.worker);
+        let counted = Tally {
+            submitted: tally.submitted + 1,
+            ..tally
+        };
+        replace(self.tallies.as_mut_slice(), record.worker, counted);
+        record.pos
+    }
+
+    // The record at an index, from the front on, was discarded. Returns its position.
+    pub(crate) fn add_discard(&mut self, index: usize) -> u64
+        requires within { index < length self.old.opening.records }
+        requires worker { (record_in self.old.opening index).worker < self.old.opening.setup.workers }
+        requires total { (tally_at self.old.opening (record_in self.old.opening index).worker).discarded < 2 ^ 62 }
+        ensures added { self.new.opening ≡ with_discard index self.old.opening }
+        ensures room { self.new.room ≡ self.old.room }
+        ensures passed { self.new.passed ≡ self.old.passed }
+        ensures position { result ≡ (record_in self.old.opening index).pos }
+    {
+        let record = settle(
+            self.records.as_mut_slice(),
+            self.first,
+            index,
+            UntakenStatus::Discarded,
+        );
+        let tally = tally_of(self.tallies.as_slice(), record.worker);
+        let counted = Tally {
+            discarded: tally.discarded + 1,
+            ..tally
+        };
+        replace(self.tallies.as_mut_slice(), record.worker, counted);
+        record.pos
+    }
+
+    // The record at the front was taken. Returns the consumer position before.
+    pub(crate) fn add_take(&mut self) -> u64
+        requires some { 0 < length self.old.opening.records }
+        requires limit { self.old.opening.consumer + span (record_in self.old.opening 0).len ≤ 2 ^ 62 }
+        requires totals { self.old.opening.consumed + self.old.opening.skipped < 2 ^ 62 }
+        ensures taken { self.new.opening ≡ with_take self.old.opening }
+        ensures room { self.new.room ≡ self.old.room }
+        ensures passed { self.new.passed ≡ self.old.passed + 1 }
+        ensures position { result ≡ self.old.opening.consumer }
+    {
+        let record = front_of(self.records.as_slice(), self.first);
+        let position = self.numbers.consumer;
+        self.first += 1;
+        self.numbers.consumer += span(record.len);
+        self.numbers.consumed += record.status.events();
+        self.numbers.skipped += record.status.skips();
+        position
+    }
+
     // The worker's totals.
     pub(crate) fn tally(&self, worker: u32) -> Tally
         requires worker { worker < self.now.opening.setup.workers }
@@ -195,7 +299,7 @@ impl Opening {
         if !self.numbers.is_same(&other.numbers) {
             return false;
         }
-        if !are_same_records(self.records.as_slice(), other.records.as_slice()) {
+        if !are_same_records(self.records(), other.records()) {
             return false;
         }
         are_same_tallies(self.tallies.as_slice(), other.tallies.as_slice())
@@ -240,7 +344,7 @@ impl Opening {
     pub fn records(&self) -> &[UntakenRecord]
         ensures records { map untaken_shown result.now ≡ self.now.opening.records }
     {
-        self.records.as_slice()
+        &self.records.as_slice()[self.first..]
     }
 
     /// Each worker's totals before the chapter, by its number.
@@ -263,49 +367,4 @@ impl Opening {
     {
         self.numbers.skipped
     }
-}
-
-// Makes all totals those of a worker without entries.
-fn forget(tallies: &mut [Tally])
-    ensures zeros { tallies.new ≡ replicate (length tallies.old) no_tally }
-{
-    tallies.fill(Tally::none());
-}
-
-// Makes all totals those of the other.
-fn copy(tallies: &mut [Tally], other: &[Tally])
-    requires workers { length tallies.old ≡ length other.now }
-    ensures same { tallies.new ≡ other.now }
-{
-    tallies.copy_from_slice(other);
-}
-
-// Whether the records show the same.
-fn are_same_records(records: &[UntakenRecord], others: &[UntakenRecord]) -> bool
-    ensures exact { IsTrue result ↔ (map untaken_shown records.now ≡ map untaken_shown others.now) }
-{
-    records == others
-}
-
-// Whether the totals are the same.
-fn are_same_tallies(tallies: &[Tally], others: &[Tally]) -> bool
-    ensures exact { IsTrue result ↔ (tallies.now ≡ others.now) }
-{
-    tallies == others
-}
-
-// The totals of the worker.
-fn tally_of(tallies: &[Tally], worker: u32) -> Tally
-    requires worker { worker < length tallies.now }
-    ensures tally { result ≡ slice_index_or tallies.now worker no_tally }
-{
-    tallies[worker as usize]
-}
-
-// The worker has these totals now.
-fn replace(tallies: &mut [Tally], worker: u32, tally: Tally)
-    requires worker { worker < length tallies.old }
-    ensures replaced { tallies.new ≡ slice_set tallies.old worker tally }
-{
-    tallies[worker as usize] = tally;
 }

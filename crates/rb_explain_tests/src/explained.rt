@@ -1,14 +1,16 @@
 //! What is explained of accepted and of refused programs.
 
-use crate::stored_programs::{
+use crate::llvm_programs::ROWS;
+use rb_cfg::{ShapeFault, ShapeFaultKind};
+use rb_decode::{DecodeFault, DecodeKind};
+use rb_examples::{
     EVENT, EXIT_ZERO, OUTPUT_CONTEXT, REFUSED, SAMPLING, SIZE_CLASS, STACK_OUTPUT, SUBMIT_42,
     TWO_RINGS,
 };
-use rb_cfg::{ShapeFault, ShapeFaultKind};
-use rb_decode::{DecodeFault, DecodeKind};
 use rb_explain::{Explanation, Reason, explain};
 use rb_refs::Rule;
 use std::alloc::Global;
+use std::fmt::Write;
 use std::process::Abort;
 
 // The explanation of a program for a context of 24 bytes and two rings.
@@ -93,6 +95,33 @@ fn stored_programs(rt: HostRuntime) {
             .as_str()
             .ends_with(": 9500000000000000                  exit\n");
         assert_eq!(rt; (explanation.reason, ends), (None, true));
+    }
+}
+
+// The assembly of each instruction that an explanation shows, parted by ` ; `, without a helper's name.
+fn assembly(rt: &impl Abort, alloc: Global, explanation: &str) -> String {
+    let mut text = String::new(alloc);
+    for line in explanation.lines() {
+        if !line.starts_with("      #") {
+            let plain = line
+                .split_once("  # ")
+                .map_or(line, |parts: (&str, &str)| parts.0);
+            let (_, insn) = plain.rsplit_once("  ").expect(rt, "bytes and assembly");
+            let gap = if text.is_empty() { "" } else { " ; " };
+            write!(text, "{gap}{insn}").expect(rt, "memory");
+        }
+    }
+    text
+}
+
+// Each instruction is shown as LLVM's disassembler prints it.
+#[test]
+fn random_programs(rt: HostRuntime) {
+    for row in ROWS.lines() {
+        let (program, wanted) = row.split_once(": ").expect(&rt, "hex and texts");
+        let explanation = explained(&rt, rt.alloc(), program);
+        let text = assembly(&rt, rt.alloc(), explanation.text.as_str());
+        assert_eq!(rt; text.as_str(), wanted);
     }
 }
 

@@ -6,7 +6,7 @@ use Rattle.rb_history.specs.declared.entries.Entry.TheVariants.{Res, Full, Sub, 
 use Rattle.rb_history.specs.declared.stored_records.StoredRecord.{StoredRecord}
 use Rattle.rb_history.specs.declared.stored_records.RecordState.{RecordState}
 use Rattle.rb_history.specs.declared.stored_records.RecordState.TheVariants.{Reserved, Submitted, Discarded as DiscardedState}
-use Rattle.rb_history.specs.History.{Shown, Status, status_by, is_submitted_at, is_discarded_at, is_taken_at, untaken}
+use Rattle.rb_history.specs.History.{Shown, Status, status_by, is_submitted_at, is_discarded_at, is_taken_at, untaken, records}
 use Rattle.rb_history.specs.Counting.{is_same, is_grant_entry, is_refusal_entry, is_discard_entry, has_status, status_count}
 use Rattle.rb_history.specs.History.Status.{Busy, Waiting, Consumed, Discarded}
 use Rattle.rb_history.specs.StoredRecords.{is_reserved_state}
@@ -55,6 +55,15 @@ busy-entry h c (Full w n) = refl
 busy-entry h c (Sub q) = refl
 busy-entry h c (Dis q) = refl
 busy-entry h c (Take q) = refl
+
+-- the records that are there and wait, and those that are busy
+pub waiting-shown : (h : List Entry) → status_count Waiting h ≡ count_by (λ s. is_same Waiting s.status) (records h)
+unfolding status_bit
+waiting-shown h = sum_by-only (λ e. bit (has_status Waiting h e)) (untaken h) (status_bit Waiting) (waiting-entry h) h
+
+pub busy-shown : (h : List Entry) → ((q : ℕ) → is_taken_at h q ≡ true → (is_submitted_at h q || is_discarded_at h q) ≡ true) → status_count Busy h ≡ count_by (λ s. is_same Busy s.status) (records h)
+unfolding status_bit
+busy-shown h closed = sum_by-only (λ e. bit (has_status Busy h e)) (untaken h) (status_bit Busy) (busy-entry h closed) h
 
 waiting-state : (a : RecordState) → bit (is_same Waiting (state_status a)) ≡ bit (is_submitted_state a)
 waiting-state Reserved = refl

@@ -16,3 +16,5 @@ pub mod RecordWorkers
 pub mod TakenRecords
 pub mod WorkerCounts
 pub mod ManyTakes
+pub mod Serials
+pub mod Settled

@@ -5,7 +5,7 @@ mod Nearness
 mod Giving
 mod Comparing
 mod Feasible
-mod Steady
+pub mod Steady
 mod HeldRecords
 mod Reaching
 mod RunSteps

@@ -8,22 +8,24 @@ use crate::gated_helpers::GatedHelpers;
 use crate::job::{Gate, Job, JobAnswer};
 use rb_interp::run;
 use rb_ledger::{Seat, SharedRing};
-use rb_seats::{NoStock, SeatHelpers};
+use rb_seats::{SeatHelpers, Stock};
 use std::alloc::{AllocError, Global};
 use std::sync::Wait;
 
 /// Runs a job to its end over the worker's seats, one at each of the rings and in their order, and hands the seats back. Before each
-/// helper call the gate is called, with the number of calls that the worker has finished, which is then raised.
+/// helper call the gate is called, with the number of calls that the worker has finished, which is then raised. Sheets of the stock are used
+/// again for its records; of used bytes nothing is seen.
 ///
 /// `AllocError` is returned where there is no memory for the trace of the calls: nothing ran. It may wait for other threads at each call,
 /// and takes as many steps as the program has units at most.
-pub fn run_job<R: Wait, G: Gate>(
+pub fn run_job<R: Wait, G: Gate, K: Stock>(
     rt: &R,
     alloc: Global,
     rings: &[SharedRing],
     seats: Vec<Seat>,
     job: &Job<'_>,
     gate: &G,
+    stock: &K,
     calls: &mut u64,
 ) -> (Result<JobAnswer, AllocError>, Vec<Seat>)
     requires rings { job.now.program.now.rings ≤ length rings.now }
@@ -36,7 +38,7 @@ pub fn run_job<R: Wait, G: Gate>(
 {
     let room = job.program.calls();
     let finished = *calls;
-    match SeatHelpers::new(rt, alloc, rings, seats, room, &NoStock) {
+    match SeatHelpers::new(rt, alloc, rings, seats, room, stock) {
         Ok(helpers) => {
             let mut gated = GatedHelpers::new(helpers, job.worker, gate, finished);
             let result = run(job.program, job.ctx, &mut gated);

@@ -25,7 +25,7 @@ use Rattle.rb_ledger.specs.inner.SeatRoles.{roles_of, HasOwnCounts}
 use Rattle.rb_history.proofs.RecordWorkers.{bit, record-from}
 use Rattle.rb_history.proofs.WorkerCounts.{submitted-granted}
 use Rattle.rb_ledger.proofs.Seated.{ties-goes, taker-goes-on}
-use Rattle.rb_ledger.proofs.Serials.{serials-ordered, worker-in}
+use Rattle.rb_history.proofs.Serials.{serials-ordered, worker-in}
 use Rattle.rb_ledger.proofs.Sums.{eqb-sym, made-is}
 
 -- ---- one seat after the other

@@ -5,7 +5,7 @@ pub use Rattle.rb_ledger.proofs.Tallies.{tally-goes, taker-goes}
 pub use Rattle.rb_history.proofs.TakenRecords.{position-taken, never-both}
 pub use Rattle.rb_ledger.proofs.Histories.{all-seen, goes-further, seen-legal}
 pub use Rattle.rb_ledger.proofs.Seated.{ring-book, book-after, ties-goes, taker-goes-on}
-pub use Rattle.rb_ledger.proofs.Serials.{serials-ordered, worker-in}
+pub use Rattle.rb_history.proofs.Serials.{serials-ordered, worker-in}
 pub use Rattle.rb_ledger.proofs.Settled.{settles-most}
 pub use Rattle.rb_ledger.proofs.Sums.{once-closed}
 pub use Rattle.rb_ledger.proofs.Runs.{one-run, sequential}

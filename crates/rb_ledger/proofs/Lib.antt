@@ -10,7 +10,6 @@ pub mod Opens
 pub mod Meets
 pub mod Seated
 pub mod ManyTakes
-pub mod Serials
 pub mod Settled
 pub mod Sums
 pub mod Gathers

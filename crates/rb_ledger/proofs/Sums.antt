@@ -20,8 +20,8 @@ use Rattle.rb_ledger.specs.Seats.{WorkerSeat, SettlesWithin, HasSettledAll, seat
 use Rattle.rb_ledger.specs.Headline.{Accounts, OnceClosed}
 use Rattle.rb_history.proofs.RecordWorkers.{bit, granted-once, grant-tells, submitted-from, discarded-from}
 use Rattle.rb_history.proofs.WorkerCounts.{submitted-granted, discarded-granted}
-use Rattle.rb_ledger.proofs.Serials.{worker-in}
-use Rattle.rb_ledger.proofs.Settled.{settles_where, grants_where, settled_where, even, settled-most}
+use Rattle.rb_history.proofs.Serials.{worker-in}
+use Rattle.rb_history.proofs.Settled.{settles_where, grants_where, settled_where, even, settled-most}
 
 pub eqb-sym : (a b : ℕ) → (a == b) ≡ (b == a)
 eqb-sym a b = grind arith

@@ -1,6 +1,8 @@
-//! Tests of rb_ledger's public calls: worked rows, each through seats, and threads that share a ring.
+//! Tests of rb_ledger's public calls: worked rows, each through seats, and threads that share a ring; and chapters that are bound.
 #![tactic(auto)]
 
+#[cfg(test)]
+mod bound_chapters;
 #[cfg(test)]
 mod closing;
 #[cfg(test)]

@@ -74,40 +74,67 @@ fn add(sums: &mut Sums, worker: u32, serial: u64, bytes: &[u8]) {
     sums.bytes[w] = sums.bytes[w].saturating_add(u64::from(byte));
 }
 
-fn consume<R: Wait>(rt: &R, ring: &SharedRing, consumer: &mut ConsumerSeat, sums: &mut Sums)
+// How a consumer takes: a record at a time, or batches, each of which is filled under one holding of the lock.
+#[derive(Drop)]
+enum Taking {
+    Single,
+    Batches(Batch),
+}
+
+// Takes a record, and tells whether there was one.
+fn take_one<R: Wait>(
+    rt: &R,
+    ring: &SharedRing,
+    consumer: &mut ConsumerSeat,
+    sums: &mut Sums,
+) -> bool
     requires { consumer.old.ring ≡ ring.now.ring }
     ensures { IsSameConsumerSeat consumer.old consumer.new }
 {
-    for _ in rt.forever() {
-        match ring.take(rt, consumer) {
-            Ok(Taken::Event(_, worker, serial, sheet)) => {
-                add(sums, worker, serial, sheet.bytes());
-            }
-            _ => thread::yield_now(),
+    match ring.take(rt, consumer) {
+        Ok(Taken::Event(_, worker, serial, sheet)) => {
+            add(sums, worker, serial, sheet.bytes());
+            true
         }
-        if consumer.consumed() >= u64::from(WORKERS * RECORDS) {
-            return;
-        }
+        _ => false,
     }
 }
 
-// The same by batches: each is filled under one holding of the lock.
-fn consume_batches<R: Wait>(
+// Takes a batch, and tells whether there was a record.
+fn take_batch<R: Wait>(
     rt: &R,
     ring: &SharedRing,
     consumer: &mut ConsumerSeat,
     batch: &mut Batch,
+    sums: &mut Sums,
+) -> bool
+    requires { consumer.old.ring ≡ ring.now.ring }
+    ensures { IsSameConsumerSeat consumer.old consumer.new }
+{
+    let filled = batch.fill(rt, ring, consumer);
+    for event in batch.events() {
+        add(sums, event.worker, event.serial, event.bytes);
+    }
+    filled != Ok(0)
+}
+
+fn consume<R: Wait>(
+    rt: &R,
+    ring: &SharedRing,
+    consumer: &mut ConsumerSeat,
+    taking: &mut Taking,
     sums: &mut Sums,
 )
     requires { consumer.old.ring ≡ ring.now.ring }
     ensures { IsSameConsumerSeat consumer.old consumer.new }
 {
     for _ in rt.forever() {
-        if batch.fill(rt, ring, consumer) == Ok(0) {
+        let took = match taking {
+            Taking::Single => take_one(rt, ring, consumer, sums),
+            Taking::Batches(batch) => take_batch(rt, ring, consumer, batch, sums),
+        };
+        if !took {
             thread::yield_now();
-        }
-        for event in batch.events() {
-            add(sums, event.worker, event.serial, event.bytes);
         }
         if consumer.consumed() >= u64::from(WORKERS * RECORDS) {
             return;
@@ -139,6 +166,7 @@ fn run<R: Threads + Wait + Sync>(
     ring: &SharedRing,
     seats: &mut [Seat],
     consumer: &mut ConsumerSeat,
+    taking: &mut Taking,
     sums: &mut Sums,
 )
     requires seats { All (λ s. s.ring ≡ ring.now.ring) seats.old }
@@ -151,35 +179,7 @@ fn run<R: Threads + Wait + Sync>(
         &mut ||
             requires { consumer.now.ring ≡ ring.now.ring }
             ensures { IsSameConsumerSeat consumer.entry.now consumer.exit.now }
-        { consume(rt, ring, consumer, sums) },
-        &mut ||
-            requires { All (λ s. s.ring ≡ ring.now.ring) seats.now }
-            ensures { All (λ s. s.ring ≡ ring.entry.now.ring) seats.exit.now }
-        { produce_all(rt, alloc, ring, seats) },
-    );
-}
-
-// The producers, and the consumer by batches.
-fn run_by_batches<R: Threads + Wait + Sync>(
-    rt: &R,
-    alloc: Global,
-    ring: &SharedRing,
-    seats: &mut [Seat],
-    consumer: &mut ConsumerSeat,
-    batch: &mut Batch,
-    sums: &mut Sums,
-)
-    requires seats { All (λ s. s.ring ≡ ring.now.ring) seats.old }
-    requires consumer { consumer.old.ring ≡ ring.now.ring }
-    ensures seats { All (λ s. s.ring ≡ ring.now.ring) seats.new }
-    ensures consumer { IsSameConsumerSeat consumer.old consumer.new }
-{
-    join_mut(
-        rt,
-        &mut ||
-            requires { consumer.now.ring ≡ ring.now.ring }
-            ensures { IsSameConsumerSeat consumer.entry.now consumer.exit.now }
-        { consume_batches(rt, ring, consumer, batch, sums) },
+        { consume(rt, ring, consumer, taking, sums) },
         &mut ||
             requires { All (λ s. s.ring ≡ ring.now.ring) seats.now }
             ensures { All (λ s. s.ring ≡ ring.entry.now.ring) seats.exit.now }
@@ -218,6 +218,7 @@ fn four_producers_and_a_consumer(rt: HostRuntime) {
         &ring,
         seats.as_mut_slice(),
         &mut consumer,
+        &mut Taking::Single,
         &mut sums,
     );
     assert_eq!(rt; sums.events, [10_000; 4]);
@@ -247,18 +248,18 @@ fn four_producers_and_batches_of_64(rt: HostRuntime) {
     let Ok((ring, mut seats, mut consumer)) = open(&rt, alloc, 3, 4096, 0, 4) else {
         rt.panic("no ring")
     };
-    let Ok(mut batch) = Batch::with_capacity(alloc, 64) else {
+    let Ok(batch) = Batch::with_capacity(alloc, 64) else {
         rt.panic("no memory for a batch")
     };
     assert!(rt; sends(&batch));
     let mut sums = no_sums();
-    run_by_batches(
+    run(
         &rt,
         alloc,
         &ring,
         seats.as_mut_slice(),
         &mut consumer,
-        &mut batch,
+        &mut Taking::Batches(batch),
         &mut sums,
     );
     assert_eq!(rt; sums.events, [10_000; 4]);

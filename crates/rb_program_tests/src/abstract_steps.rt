@@ -2,13 +2,14 @@
 
 mod helper_calls;
 mod instructions;
+mod places;
 mod states;
 
 ghost use Rattle.std.specs.Prelude.{◌≡◌, ◌≤◌, ◌<◌, length};
 ghost use Rattle.rb_refs.specs.References.{AreEarlier};
 
 use rb_insn::Reg;
-use rb_refs::{Abs, AbsState, Held, Limits, Reference};
+use rb_refs::{Abs, AbsState, Held, Limits, Places, Reference};
 use std::alloc::Global;
 
 const ENVIRONMENT: Limits = Limits {
@@ -57,6 +58,7 @@ fn mixed(alloc: Global) -> AbsState
             Abs::Stack(0),
         ],
         held: Held::new(alloc).added(record).added(reservation),
+        places: Places::data(alloc),
     }
 }
 

@@ -1,4 +1,4 @@
 mod HeaderBegins
 mod TapeFronts
-mod ItemsRead
+pub mod ItemsRead
 mod RecordsCounted

@@ -11,7 +11,7 @@ use Rattle.rb_refs.specs.declared.value.Abs.TheVariants.{Unreadable, Number, Kno
 use Rattle.rb_refs.specs.declared.reference_changes.Change.{Change}
 use Rattle.rb_refs.specs.declared.reference_changes.Change.TheVariants.{IsNull, IsThere, GivenBack}
 use Rattle.rb_refs.specs.AbstractValues.{IsNumber, BelowValue}
-use Rattle.rb_refs.specs.inner.ChangedValues.{after_change}
+use Rattle.rb_refs.specs.inner.ChangedValues.{after_change, place_after}
 use Rattle.rb_refs.specs.ValueChecks.{◌>>=◌, Check, check_readable, check_number, check_tested, check_not_context, check_inside, check_ring, check_part_pointer, check_known_size, check_record_size, check_record_start}
 use Rattle.rb_refs.specs.AbstractArithmetic.{abstract_result, check_numbers, check_arithmetic}
 use Rattle.rb_refs.specs.StepOrder.{ResultBelow}
@@ -168,3 +168,10 @@ changed_below (IsThere id) =
 changed_below (GivenBack id) =
     below_cases (λ v w. BelowValue (after_change (GivenBack id) v) (after_change (GivenBack id) w)) (λ v. tt)
     (number_cases (λ v. BelowValue (after_change (GivenBack id) v) Number) tt (λ n. tt)) (λ v. below_value_refl (after_change (GivenBack id) v))
+
+pub place_changed_below : (change : Change) (v w : Abs) → BelowValue v w → BelowValue (place_after change v) (place_after change w)
+place_changed_below (IsNull id) =
+    below_cases (λ v w. BelowValue (place_after (IsNull id) v) (place_after (IsNull id) w)) (λ v. tt)
+    (number_cases (λ v. BelowValue (place_after (IsNull id) v) Number) tt (λ n. tt)) (λ v. below_value_refl (place_after (IsNull id) v))
+place_changed_below (IsThere id) = changed_below (IsThere id)
+place_changed_below (GivenBack id) = changed_below (GivenBack id)

@@ -27,6 +27,7 @@ use Rattle.rb_refs.specs.Branches.{null_test_of, check_branch}
 use Rattle.rb_refs.specs.ReferenceChanges.{given_back_state, null_state, there_state}
 use Rattle.rb_refs.specs.ValueChecks.{◌>>=◌, refused_if, check_writable, check_readable, check_number, check_tested, check_not_context, check_inside, check_ring, check_part_pointer, check_known_size, check_record_size, check_record_start}
 use Rattle.rb_refs.specs.Forms.{IsFormed, StepKeepsForm}
+use Rattle.rb_refs.specs.KeptPointers.{known_in, byte_behind, check_data, check_loaded, check_stored}
 use Rattle.rb_refs.specs.HelperChecks.{helper_of, check_call, after_reserve, after_answer}
 use Rattle.rb_refs.specs.References.{IsAscending, AreEarlier, is_empty, is_full, other_than, tested_in}
 use Rattle.rb_refs.specs.AbstractStates.{Below, value_in, put, effect_on_both, entry_state}
@@ -68,8 +69,8 @@ form_answered : {unit : ℕ} (v : Abs) (s : AbsState) → IsFormed unit s → Is
 form_answered v s h = form_put _ 5 Unreadable (form_put _ 4 Unreadable (form_put _ 3 Unreadable (form_put _ 2 Unreadable (form_put _ 1 Unreadable (form_put s 0 v h)))))
 
 -- each value is changed, and a reference goes
-form_without : {unit : ℕ} (f : Abs → Abs) (id : ℕ) (s : AbsState) → IsFormed unit s → IsFormed unit (record { values = map f s.values; held = filter (other_than id) s.held })
-form_without {unit} f id s h = record {
+form_without : {unit : ℕ} (f : Abs → Abs) (id : ℕ) (places : List Abs) (s : AbsState) → IsFormed unit s → IsFormed unit (record { values = map f s.values; held = filter (other_than id) s.held; places = places })
+form_without {unit} f id places s h = record {
   count = length-map s.values f ∙ h.count;
   few = let shorter : length (filter (other_than id) s.held) ≤ length s.held = length-filter_le (other_than id) s.held in let few : length s.held ≤ 4 = h.few in omega arith;
   ascending = ascending_filtered (other_than id) s.held h.ascending;
@@ -77,8 +78,8 @@ form_without {unit} f id s h = record {
 }
 
 -- each value is changed, and a reference is tested
-form_tested : {unit : ℕ} (f : Abs → Abs) (id : ℕ) (s : AbsState) → IsFormed unit s → IsFormed unit (record { values = map f s.values; held = map (tested_in id) s.held })
-form_tested {unit} f id s h = record {
+form_tested : {unit : ℕ} (f : Abs → Abs) (id : ℕ) (places : List Abs) (s : AbsState) → IsFormed unit s → IsFormed unit (record { values = map f s.values; held = map (tested_in id) s.held; places = places })
+form_tested {unit} f id places s h = record {
   count = length-map s.values f ∙ h.count;
   few = subst (λ n. n ≤ 4) (sym (length-map s.held (tested_in id))) h.few;
   ascending = ascending_tested id s.held h.ascending;
@@ -135,11 +136,14 @@ module _ (limits : Limits) (unit : ℕ) (s : AbsState) (h : IsFormed unit s) whe
   both_put : (dst : Reg) (v : Abs) → BothFormed (unit + 1) (assignment_effect dst v s)
   both_put dst v = let k : IsFormed (unit + 1) (put s dst.number v) = form_put s dst.number v kept in (k, k)
 
+  both_placed : (places : List Abs) → BothFormed (unit + 1) (effect_on_both (record s { places = places }))
+  both_placed places = let k : IsFormed (unit + 1) (record s { places = places }) = record { count = h.count; few = h.few; ascending = h.ascending; earlier = kept.earlier } in (k, k)
+
   both_answered : (v : Abs) → BothFormed (unit + 1) (effect_on_both (after_answer v s))
   both_answered v = let k : IsFormed (unit + 1) (after_answer v s) = form_answered v s kept in (k, k)
 
   both_given_back : (id : ℕ) → BothFormed (unit + 1) (effect_on_both (after_answer Unreadable (given_back_state id s)))
-  both_given_back id = let k : IsFormed (unit + 1) (after_answer Unreadable (given_back_state id s)) = form_answered Unreadable (given_back_state id s) (form_without _ id s kept) in (k, k)
+  both_given_back id = let k : IsFormed (unit + 1) (after_answer Unreadable (given_back_state id s)) = form_answered Unreadable (given_back_state id s) (form_without _ id _ s kept) in (k, k)
 
   -- what is known of an argument
   abbrev arg : ℕ → Abs
@@ -149,7 +153,8 @@ module _ (limits : Limits) (unit : ℕ) (s : AbsState) (h : IsFormed unit s) whe
   call_formed None = tt
   call_formed (Some Output) =
       go (check_ring (arg 1)) _ (λ _. go (check_tested (arg 2)) _ (λ _. go (check_part_pointer (arg 2)) _ (λ _. go (check_known_size (arg 3)) _ (λ size.
-      go (check_inside limits s.held (arg 2) (pos 0) size) _ (λ _. go (check_number rule.HelperArgument (arg 4)) _ (λ _. both_answered Number))))))
+      go (check_inside limits s.held (arg 2) (pos 0) size) _ (λ _. go (check_data (byte_behind (arg 2) (pos 0)) size (known_in s.places)) _ (λ _.
+      go (check_number rule.HelperArgument (arg 4)) _ (λ _. both_answered Number)))))))
   call_formed (Some Reserve) =
       go (check_ring (arg 1)) _ (λ ring. go (check_record_size (arg 2)) _ (λ size. go (check_number rule.HelperArgument (arg 3)) _ (λ _.
       past_test (BothFormed (unit + 1)) (is_full s.held) rule.TooManyReferences _ (λ room.
@@ -163,10 +168,10 @@ module _ (limits : Limits) (unit : ℕ) (s : AbsState) (h : IsFormed unit s) whe
       go (check_readable v) _ (λ _. go (check_readable w) _ (λ _. go (check_number rule.PointerCompared v) _ (λ _. go (check_number rule.PointerCompared w) _ (λ _. both_kept))))
 
   null_formed : (id : ℕ) → IsFormed (unit + 1) (null_state id s)
-  null_formed id = form_without _ id s kept
+  null_formed id = form_without _ id _ s kept
 
   there_formed : (id : ℕ) → IsFormed (unit + 1) (there_state id s)
-  there_formed id = form_tested _ id s kept
+  there_formed id = form_tested _ id _ s kept
 
   branch_formed : (test : Option NullTest) (v w : Abs) → Next (check_branch test v w s)
   branch_formed None v w = compared_formed v w
@@ -209,12 +214,13 @@ module _ (limits : Limits) (unit : ℕ) (s : AbsState) (h : IsFormed unit s) whe
 
   loaded_formed : (dst base : Reg) (by : ℤ) (len : ℕ) → Next (check_load limits dst base by len s)
   loaded_formed dst base by len =
-      go (check_writable dst) _ (λ _. go (check_tested (arg base.number)) _ (λ _. go (check_inside limits s.held (arg base.number) by len) _ (λ _. both_put dst Number)))
+      go (check_writable dst) _ (λ _. go (check_tested (arg base.number)) _ (λ _. go (check_inside limits s.held (arg base.number) by len) _ (λ _.
+      go (check_loaded (byte_behind (arg base.number) by) len (known_in s.places)) _ (λ v. both_put dst v))))
 
   stored_formed : (base : Reg) (by : ℤ) (len : ℕ) (v : Abs) → Next (check_store limits base by len v s)
   stored_formed base by len v =
       go (check_tested (arg base.number)) _ (λ _. go (check_not_context (arg base.number)) _ (λ _. go (check_inside limits s.held (arg base.number) by len) _ (λ _.
-      go (check_number rule.PointerStored v) _ (λ _. both_kept))))
+      go (check_stored (byte_behind (arg base.number) by) len v s.places) _ (λ places. both_placed places))))
 
   ended_formed : Next (check_exit s)
   ended_formed = go (refused_if (not (is_empty s.held)) rule.ReferenceLeft) _ (λ _. go (check_number rule.ResultNotNumber (arg 0)) _ (λ _. both_kept))

@@ -3,6 +3,7 @@ use Rattle.std.proofs.Common.{◌≡◌, refl, Result, Ok, Err}
 use Rattle.rb_refs.specs.declared.rule.Rule.{Rule}
 use Rattle.rb_refs.specs.ValueChecks.{◌>>=◌}
 pub use Rattle.rb_refs.proofs.Order.{below_value_refl, below_value_trans, below_cases, number_cases, below_refl, below_trans}
+pub use Rattle.rb_refs.proofs.KeptPlaces.{known-listed, known-past}
 pub use Rattle.rb_refs.proofs.StepOrder.{step_below}
 pub use Rattle.rb_refs.proofs.Forms.{form_entry, form_below, form_later, step_forms}
 

@@ -1,8 +1,10 @@
+pub mod KeptPlaces
 mod Numbers
 mod Ascending
 pub mod Order
 mod Registers
 mod CheckOrder
+mod KeptOrder
 mod StateOrder
 pub mod StepOrder
 pub mod Forms

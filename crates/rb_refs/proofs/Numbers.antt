@@ -1,8 +1,10 @@
 -- The numbers of the code and those of the definitions are the same.
-use Rattle.std.proofs.Common.{◌≡◌, ℕ, ◌^◌, ◌<◌, Bool, true, false, refl, sym, ◌∙◌, ap, arith}
+use Rattle.std.proofs.Common.{◌≡◌, ℕ, ◌+◌, ◌^◌, ◌<◌, ◌≤◌, Bool, true, false, refl, sym, ◌∙◌, ap, arith}
 use Rattle.std.specs.Prelude.{Option, Some, None, Result, Ok, Err, MatchOption, if◌then◌else◌, ℤ, pos, negsuc, ◌-ℤ◌, ◌+ℤ◌, ◌≤ℤ◌, ◌&&◌, int_le, nat_le, nat_abs, FitsSigned}
 use Rattle.std.specs.Option.{SomeIff}
 use Rattle.rb_refs.specs.AbstractArithmetic.{is_near, check_near}
+use Rattle.rb_refs.specs.Extents.{contains_range, stack_extent}
+use Rattle.rb_refs.specs.StackPlaces.{natural, stack_byte}
 use Rattle.rb_refs.specs.declared.rule.Rule.{Rule}
 use Rattle.rb_refs.specs.declared.rule.Rule.TheVariants as rule
 use Rattle.std.specs.Int.{cast_signed, cast_unsigned}
@@ -45,3 +47,14 @@ far z outside = decided (is_near z) refl
 pub near_checked : (o : Option ℤ) (z : ℤ) (r : Result ℤ Rule) → SomeIff o (FitsSigned w64 z) z → MatchOption o (r ≡ Err rule.PointerArithmetic) (λ offset. r ≡ check_near offset) → r ≡ check_near z
 near_checked None z r h k = k ∙ sym (far z h)
 near_checked (Some x) z r h k = k ∙ ap check_near h.1
+
+-- a range that lies on the stack begins at one of its bytes, or at its end
+pub on_stack : (z : ℤ) (len : ℕ) → contains_range stack_extent z len ≡ true → (negsuc 511 ≤ℤ z) × ((z +ℤ pos len) ≤ℤ pos 0)
+on_stack z len h = (grind (arith, ints, nat_tests), grind (arith, ints, nat_tests))
+
+pub byte_on_stack : (z : ℤ) (len : ℕ) → contains_range stack_extent z len ≡ true → (stack_byte z ≡ Some (nat_abs (z +ℤ pos 512))) × (nat_abs (z +ℤ pos 512) + len ≤ 512)
+byte_on_stack z len h = of_sum (z +ℤ pos 512) refl
+  where
+    of_sum : (y : ℤ) → z +ℤ pos 512 ≡ y → (natural y ≡ Some (nat_abs y)) × (nat_abs y + len ≤ 512)
+    of_sum (pos n) e = (refl, grind (arith, ints, nat_tests))
+    of_sum (negsuc n) e = absurd (grind (arith, ints, nat_tests))

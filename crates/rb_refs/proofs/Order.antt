@@ -4,6 +4,7 @@ use Rattle.rb_refs.specs.declared.value.Abs.{Abs}
 use Rattle.rb_refs.specs.declared.value.Abs.TheVariants.{Unreadable, Number, Known, Ctx, Stack, Ring, Perhaps, Record}
 use Rattle.rb_refs.specs.declared.state.AbsState.{AbsState}
 use Rattle.rb_refs.specs.AbstractValues.{IsNumber, BelowValue}
+use Rattle.rb_refs.specs.KeptPointers.{known_in}
 use Rattle.rb_refs.specs.AbstractStates.{Below, value_in}
 
 pub below_value_refl : (v : Abs) → BelowValue v v
@@ -45,11 +46,12 @@ below_value_trans u v w g h =
     (λ v n k. number_cases (λ v. BelowValue u v → IsNumber u) (λ k. k) (λ n k. subst IsNumber (sym k) tt) v n k) (λ v k. k) v w h g
 
 pub below_refl : (s : AbsState) → Below s s
-below_refl s = record { held = refl; count = refl; values = λ r. below_value_refl (value_in s r) }
+below_refl s = record { held = refl; count = refl; values = λ r. below_value_refl (value_in s r); places = λ place. below_value_refl (known_in s.places place) }
 
 pub below_trans : {s t u : AbsState} → Below s t → Below t u → Below s u
 below_trans {s} {t} {u} g h = record {
   held = g.held ∙ h.held;
   count = g.count ∙ h.count;
   values = λ r. below_value_trans (value_in s r) (value_in t r) (value_in u r) (g.values r) (h.values r);
+  places = λ place. below_value_trans (known_in s.places place) (known_in t.places place) (known_in u.places place) (g.places place) (h.places place);
 }

@@ -6,6 +6,7 @@ use Rattle.std.proofs.lemmas.List.Edits.{map_over_more}
 use Rattle.rb_refs.specs.declared.value.Abs.{Abs}
 use Rattle.rb_refs.specs.declared.value.Abs.TheVariants.{Unreadable}
 use Rattle.rb_refs.specs.declared.state.AbsState.{AbsState}
+use Rattle.rb_refs.specs.KeptPointers.{known_in}
 use Rattle.rb_refs.specs.AbstractStates.{value_in}
 use Rattle.rb_refs.specs.Joins.{IsJoin}
 use Rattle.rb_refs.specs.inner.ValueJoins.{IsJoinValue}
@@ -15,12 +16,12 @@ pub changed_more : (f : Abs → Abs) (xs ys : List Abs) (i : ℕ) (x : Abs) → 
 changed_more f xs ys i x lt lt' h e =
     ap (λ y. set ys i y) e ∙ map_over_more f xs ys i (get_or ys i Unreadable) lt h (get_or_default ys i Unreadable (get_or ys i Unreadable) lt')
 
--- states are joined register by register
-pub join_by_values : (s t join : AbsState) → s.held ≡ t.held → join.held ≡ s.held → length s.values ≡ length t.values → length join.values ≡ length s.values → ((r : ℕ) → IsJoinValue (value_in s r) (value_in t r) (value_in join r)) → IsJoin s t join
-join_by_values s t join same held count join_count each = record {
-  left = record { held = cc; count = cc; values = λ r. (each r).left };
-  right = record { held = cc; count = cc; values = λ r. (each r).right };
-  least = λ u a b. record { held = cc (a.held); count = cc (a.count); values = λ r. (each r).least (value_in u r) (a.values r) (b.values r) };
+-- states are joined register by register, and place by place
+pub join_by_values : (s t join : AbsState) → s.held ≡ t.held → join.held ≡ s.held → length s.values ≡ length t.values → length join.values ≡ length s.values → ((r : ℕ) → IsJoinValue (value_in s r) (value_in t r) (value_in join r)) → ((place : ℕ) → IsJoinValue (known_in s.places place) (known_in t.places place) (known_in join.places place)) → IsJoin s t join
+join_by_values s t join same held count join_count each kept = record {
+  left = record { held = cc; count = cc; values = λ r. (each r).left; places = λ place. (kept place).left };
+  right = record { held = cc; count = cc; values = λ r. (each r).right; places = λ place. (kept place).right };
+  least = λ u a b. record { held = cc (a.held); count = cc (a.count); values = λ r. (each r).least (value_in u r) (a.values r) (b.values r); places = λ place. (kept place).least (known_in u.places place) (a.places place) (b.places place) };
 }
 
 abbrev JoinedAt : List Abs → List Abs → List Abs → ℕ → Type 0

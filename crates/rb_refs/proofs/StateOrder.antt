@@ -8,9 +8,11 @@ use Rattle.rb_refs.specs.declared.value.Abs.{Abs}
 use Rattle.rb_refs.specs.declared.value.Abs.TheVariants.{Unreadable}
 use Rattle.rb_refs.specs.AbstractValues.{BelowValue}
 use Rattle.rb_refs.specs.AbstractStates.{Below, EffectBelow, put, effect_on_both}
-use Rattle.rb_refs.specs.inner.ChangedValues.{after_change}
+use Rattle.rb_refs.specs.inner.ChangedValues.{after_change, place_after}
+use Rattle.rb_refs.specs.KeptPointers.{listed_places, known_in}
 use Rattle.rb_refs.specs.HelperChecks.{after_answer}
-use Rattle.rb_refs.proofs.CheckOrder.{changed_below}
+use Rattle.rb_refs.proofs.CheckOrder.{changed_below, place_changed_below}
+use Rattle.rb_refs.proofs.KeptOrder.{ListsBelow, listed_below}
 
 abbrev ValuesBelow : List Abs → List Abs → Type 0
 ValuesBelow xs ys = (r : ℕ) → BelowValue (get_or xs r Unreadable) (get_or ys r Unreadable)
@@ -36,18 +38,23 @@ put_below s t r v w h k = record {
   held = h.held;
   count = length-set s.values r v ∙ h.count ∙ sym (length-set t.values r w);
   values = set_below s.values t.values r v w h.count k h.values;
+  places = h.places;
 }
 
+pub placed_below : (s t : AbsState) (xs ys : List Abs) → Below s t → ListsBelow xs ys → Below (record s { places = xs }) (record t { places = ys })
+placed_below s t xs ys h k = record { held = h.held; count = h.count; values = h.values; places = k }
+
 -- each value changed, and the references by some function
-pub changes_below : (change : Change) (f : List Reference → List Reference) (s t : AbsState) → Below s t → Below (record { values = map (after_change change) s.values; held = f s.held }) (record { values = map (after_change change) t.values; held = f t.held })
+pub changes_below : (change : Change) (f : List Reference → List Reference) (s t : AbsState) → Below s t → Below (record { values = map (after_change change) s.values; held = f s.held; places = listed_places (λ place. place_after change (known_in s.places place)) }) (record { values = map (after_change change) t.values; held = f t.held; places = listed_places (λ place. place_after change (known_in t.places place)) })
 changes_below change f s t h = record {
   held = ap f h.held;
   count = length-map s.values (after_change change) ∙ h.count ∙ sym (length-map t.values (after_change change));
   values = map_below (after_change change) (changed_below change) s.values t.values h.count h.values;
+  places = listed_below (λ place. place_after change (known_in s.places place)) (λ place. place_after change (known_in t.places place)) (λ place. place_changed_below change _ _ (h.places place));
 }
 
 pub held_below : (f : List Reference → List Reference) (s t : AbsState) → Below s t → Below (record s { held = f s.held }) (record t { held = f t.held })
-held_below f s t h = record { held = ap f h.held; count = h.count; values = h.values }
+held_below f s t h = record { held = ap f h.held; count = h.count; values = h.values; places = h.places }
 
 pub answered_below : (s t : AbsState) (v w : Abs) → Below s t → BelowValue v w → Below (after_answer v s) (after_answer w t)
 answered_below s t v w h k =

@@ -1,5 +1,5 @@
 -- Each row of the table keeps the order, and so does the table.
-use Rattle.std.proofs.Common.{◌≡◌, ℕ, ℤ, pos, refl, subst, List, [], ◌∷◌, ◌++◌, filter, map, Result, false, Option, Some, None}
+use Rattle.std.proofs.Common.{◌≡◌, ℕ, ℤ, pos, refl, subst, List, [], ◌∷◌, ◌++◌, filter, map, Result, Ok, false, Option, Some, None}
 use Rattle.std.specs.Prelude.{nat_le, not}
 use Rattle.rb_alu.specs.ArithmeticAndJumps.{value_of}
 use Rattle.rb_insn.specs.declared.insn.Insn.{Insn}
@@ -24,18 +24,20 @@ use Rattle.rb_refs.specs.declared.value.Abs.{Abs}
 use Rattle.rb_refs.specs.declared.value.Abs.TheVariants.{Unreadable, Number, Known, Ctx, Stack, Ring, Perhaps, Record}
 use Rattle.rb_refs.specs.AbstractArithmetic.{operand_value, direction_of}
 use Rattle.rb_refs.specs.Branches.{null_test_of, check_branch}
-use Rattle.rb_refs.specs.ValueChecks.{◌>>=◌, Check, refused_if, check_writable, check_readable, check_number, check_tested, check_not_context, check_inside, check_part_pointer}
-use Rattle.rb_refs.specs.HelperChecks.{helper_of, check_call, check_output, check_reserve, check_give_back, check_query, after_reserve}
+use Rattle.rb_refs.specs.ValueChecks.{◌>>=◌, Check, refused_if, check_writable, check_readable, check_number, check_tested, check_not_context, check_inside, check_part_pointer, check_known_size}
+use Rattle.rb_refs.specs.HelperChecks.{helper_of, check_call, check_output, check_reserve, check_give_back, check_query, after_reserve, after_answer}
 use Rattle.rb_refs.specs.ReferenceChanges.{given_back_state, null_state, there_state}
 use Rattle.rb_refs.specs.References.{is_empty, is_full, other_than, tested_in}
-use Rattle.rb_refs.specs.AbstractStates.{Below, EffectBelow, value_in}
+use Rattle.rb_refs.specs.KeptPointers.{known_in, byte_behind, check_data, check_loaded, check_stored}
+use Rattle.rb_refs.specs.AbstractStates.{Below, EffectBelow, value_in, effect_on_both}
 use Rattle.rb_refs.specs.VerifierChecks.{abstract_step, assignment_effect, check_assign, check_copy, check_convert, check_unary, check_binary, check_ring_load, check_load, check_store, check_exit}
 use Rattle.rb_refs.specs.StepOrder.{ResultBelow, StepKeepsOrder}
 use Rattle.rb_refs.specs.AbstractValues.{IsNumber, BelowValue}
 use Rattle.rb_insn.specs.Sizes.{byte_count, signed_byte_count}
 use Rattle.rb_refs.proofs.Order.{below_value_refl, below_cases, number_cases}
-use Rattle.rb_refs.proofs.CheckOrder.{result_bind, CheckBelow, check_refl, readable_below, number_below, tested_below, not_context_below, in_part_below, inside_below, ring_of_below, known_size_below, record_size_below, record_start_below, computed_below, combined_below}
-use Rattle.rb_refs.proofs.StateOrder.{put_below, changes_below, held_below, answered_below, both_below}
+use Rattle.rb_refs.proofs.CheckOrder.{result_bind, CheckBelow, check_refl, readable_below, number_below, inside_below, ring_of_below, known_size_below, record_size_below, record_start_below, computed_below, combined_below}
+use Rattle.rb_refs.proofs.KeptOrder.{ListsBelow, data_same, loaded_same, stored_same}
+use Rattle.rb_refs.proofs.StateOrder.{put_below, placed_below, changes_below, held_below, answered_below, both_below}
 
 abbrev StepBelow : Result Effect Rule → Result Effect Rule → Type 0
 StepBelow = ResultBelow EffectBelow
@@ -96,19 +98,36 @@ module _ (limits : Limits) (s t : AbsState) (h : Below s t) where
       checked (check_writable dst) (check_writable dst) _ _ (check_refl (check_writable dst))
       (checked (refused_if (nat_le limits.rings ring) rule.HelperArgument) _ _ _ (check_refl (refused_if (nat_le limits.rings ring) rule.HelperArgument)) (assigned_below dst (Ring ring) (Ring ring) refl))
 
+  -- the rest of a load, by what is known of its base
+  abbrev load_from : Abs → Reg → ℤ → ℕ → AbsState → Result Effect Rule
+  load_from v dst by len u = check_tested v >>= (λ _. check_inside limits u.held v by len >>= (λ _. check_loaded (byte_behind v by) len (known_in u.places) >>= (λ x. Ok (assignment_effect dst x u))))
+
+  load_same : (dst : Reg) (by : ℤ) (len : ℕ) (v : Abs) → StepBelow (load_from v dst by len s) (load_from v dst by len t)
+  load_same dst by len v =
+      checked (check_tested v) (check_tested v) _ _ (check_refl (check_tested v))
+      (checked (check_inside limits s.held v by len) (check_inside limits t.held v by len) _ _ (inside_here v v by len (below_value_refl v))
+      (result_bind BelowValue EffectBelow _ _ _ _ (loaded_same (known_in s.places) (known_in t.places) h.places (byte_behind v by) len) (λ x y b. assigned_below dst x y b)))
+
   loaded_below : (dst base : Reg) (by : ℤ) (len : ℕ) → StepBelow (check_load limits dst base by len s) (check_load limits dst base by len t)
   loaded_below dst base by len =
       checked (check_writable dst) (check_writable dst) _ _ (check_refl (check_writable dst))
-      (checked (check_tested (value_in s base.number)) (check_tested (value_in t base.number)) _ _ (tested_below _ _ (h.values base.number))
-      (checked (check_inside limits s.held (value_in s base.number) by len) (check_inside limits t.held (value_in t base.number) by len) _ _ (inside_here _ _ by len (h.values base.number))
-      (assigned_below dst Number Number tt)))
+      (below_cases (λ v w. StepBelow (load_from v dst by len s) (load_from w dst by len t)) (λ v. tt) (λ v n. tt) (load_same dst by len) (value_in s base.number) (value_in t base.number) (h.values base.number))
+
+  -- a store, by what is known of its base
+  abbrev store_from : Abs → ℤ → ℕ → Abs → AbsState → Result Effect Rule
+  store_from v by len x u =
+      check_tested v >>= (λ _. check_not_context v >>= (λ _. check_inside limits u.held v by len >>= (λ _. check_stored (byte_behind v by) len x u.places >>= (λ places. Ok (effect_on_both (record u { places = places }))))))
+
+  store_same : (by : ℤ) (len : ℕ) (x y : Abs) → BelowValue x y → (v : Abs) → StepBelow (store_from v by len x s) (store_from v by len y t)
+  store_same by len x y b v =
+      checked (check_tested v) (check_tested v) _ _ (check_refl (check_tested v))
+      (checked (check_not_context v) (check_not_context v) _ _ (check_refl (check_not_context v))
+      (checked (check_inside limits s.held v by len) (check_inside limits t.held v by len) _ _ (inside_here v v by len (below_value_refl v))
+      (result_bind ListsBelow EffectBelow _ _ _ _ (stored_same s.places t.places h.places (byte_behind v by) len x y b) (λ f g k. both_below _ _ (placed_below s t f g h k)))))
 
   stored_below : (base : Reg) (by : ℤ) (len : ℕ) (v w : Abs) → BelowValue v w → StepBelow (check_store limits base by len v s) (check_store limits base by len w t)
-  stored_below base by len v w b =
-      checked (check_tested (value_in s base.number)) (check_tested (value_in t base.number)) _ _ (tested_below _ _ (h.values base.number))
-      (checked (check_not_context (value_in s base.number)) (check_not_context (value_in t base.number)) _ _ (not_context_below _ _ (h.values base.number))
-      (checked (check_inside limits s.held (value_in s base.number) by len) (check_inside limits t.held (value_in t base.number) by len) _ _ (inside_here _ _ by len (h.values base.number))
-      (checked (check_number rule.PointerStored v) (check_number rule.PointerStored w) _ _ (number_below rule.PointerStored v w b) (both_below s t h))))
+  stored_below base by len x y b =
+      below_cases (λ v w. StepBelow (store_from v by len x s) (store_from w by len y t)) (λ v. tt) (λ v n. tt) (store_same by len x y b) (value_in s base.number) (value_in t base.number) (h.values base.number)
 
   ended_below : StepBelow (check_exit s) (check_exit t)
   ended_below =
@@ -163,16 +182,28 @@ module _ (limits : Limits) (s t : AbsState) (h : Below s t) where
 
   -- calls
 
+  -- the rest of an output, by what is known of where its bytes are
+  abbrev output_from : Abs → AbsState → Result Effect Rule
+  output_from v u =
+      check_tested v >>= (λ _. check_part_pointer v >>= (λ _. check_known_size (value_in u 3) >>= (λ size. check_inside limits u.held v (pos 0) size >>= (λ _.
+      check_data (byte_behind v (pos 0)) size (known_in u.places) >>= (λ _. check_number rule.HelperArgument (value_in u 4) >>= (λ _. Ok (effect_on_both (after_answer Number u))))))))
+
+  output_same : (v : Abs) → StepBelow (output_from v s) (output_from v t)
+  output_same v =
+      checked (check_tested v) (check_tested v) _ _ (check_refl (check_tested v))
+      (checked (check_part_pointer v) (check_part_pointer v) _ _ (check_refl (check_part_pointer v))
+      (result_bind ◌≡◌ EffectBelow _ _ _ _ (known_size_below _ _ (h.values 3)) (λ n n' e.
+      checked (check_inside limits s.held v (pos 0) n) (check_inside limits t.held v (pos 0) n') _ _
+      (subst (λ len. CheckBelow (check_inside limits s.held v (pos 0) n) (check_inside limits t.held v (pos 0) len)) e (inside_here v v (pos 0) n (below_value_refl v)))
+      (checked (check_data (byte_behind v (pos 0)) n (known_in s.places)) (check_data (byte_behind v (pos 0)) n' (known_in t.places)) _ _
+      (subst (λ len. CheckBelow (check_data (byte_behind v (pos 0)) n (known_in s.places)) (check_data (byte_behind v (pos 0)) len (known_in t.places))) e (data_same (known_in s.places) (known_in t.places) h.places (byte_behind v (pos 0)) n))
+      (checked (check_number rule.HelperArgument (value_in s 4)) (check_number rule.HelperArgument (value_in t 4)) _ _ (number_below rule.HelperArgument _ _ (h.values 4))
+      (both_below _ _ (answered_below s t Number Number h tt)))))))
+
   output_below : StepBelow (check_output limits s) (check_output limits t)
   output_below =
       result_bind ◌≡◌ EffectBelow _ _ _ _ (ring_of_below _ _ (h.values 1)) (λ r r' _.
-      checked (check_tested (value_in s 2)) (check_tested (value_in t 2)) _ _ (tested_below _ _ (h.values 2))
-      (checked (check_part_pointer (value_in s 2)) (check_part_pointer (value_in t 2)) _ _ (in_part_below _ _ (h.values 2))
-      (result_bind ◌≡◌ EffectBelow _ _ _ _ (known_size_below _ _ (h.values 3)) (λ n n' e.
-      checked (check_inside limits s.held (value_in s 2) (pos 0) n) (check_inside limits t.held (value_in t 2) (pos 0) n') _ _
-      (subst (λ len. CheckBelow (check_inside limits s.held (value_in s 2) (pos 0) n) (check_inside limits t.held (value_in t 2) (pos 0) len)) e (inside_here _ _ (pos 0) n (h.values 2)))
-      (checked (check_number rule.HelperArgument (value_in s 4)) (check_number rule.HelperArgument (value_in t 4)) _ _ (number_below rule.HelperArgument _ _ (h.values 4))
-      (both_below _ _ (answered_below s t Number Number h tt)))))))
+      below_cases (λ v w. StepBelow (output_from v s) (output_from w t)) (λ v. tt) (λ v n. tt) output_same (value_in s 2) (value_in t 2) (h.values 2))
 
   reserved_below : (unit ring size : ℕ) → Below (after_reserve unit ring size s) (after_reserve unit ring size t)
   reserved_below unit ring size =

@@ -11,6 +11,7 @@ use Rattle.rb_refs.specs.declared.value.Abs.{Abs}
 use Rattle.rb_refs.specs.declared.value.Abs.TheVariants.{Unreadable, Number, Perhaps}
 use Rattle.rb_refs.specs.ReferenceChanges.{given_back_state}
 use Rattle.rb_refs.specs.ValueChecks.{◌>>=◌, refused_if, check_tested, check_number, check_inside, check_ring, check_part_pointer, check_known_size, check_record_size, check_record_start}
+use Rattle.rb_refs.specs.KeptPointers.{known_in, byte_behind, check_data}
 use Rattle.rb_refs.specs.References.{is_full}
 use Rattle.rb_refs.specs.AbstractStates.{value_in, put, effect_on_both}
 
@@ -43,6 +44,7 @@ check_output limits s = do
   _ ← check_part_pointer (value_in s 2)
   size ← check_known_size (value_in s 3)
   _ ← check_inside limits s.held (value_in s 2) (pos 0) size
+  _ ← check_data (byte_behind (value_in s 2) (pos 0)) size (known_in s.places)
   _ ← check_number rule.HelperArgument (value_in s 4)
   Ok (effect_on_both (after_answer Number s))
 

@@ -1,6 +1,8 @@
 pub mod Rules
 pub mod References
 pub mod AbstractValues
+pub mod StackPlaces
+pub mod KeptPointers
 pub mod AbstractStates
 pub mod ReferenceChanges
 pub mod Extents

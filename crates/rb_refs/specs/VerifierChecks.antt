@@ -20,6 +20,7 @@ use Rattle.rb_refs.specs.Branches.{null_test_of, check_branch}
 use Rattle.rb_refs.specs.ValueChecks.{◌>>=◌, refused_if, check_writable, check_readable, check_number, check_tested, check_not_context, check_inside}
 use Rattle.rb_refs.specs.HelperChecks.{helper_of, check_call}
 use Rattle.rb_insn.specs.Sizes.{byte_count, signed_byte_count}
+use Rattle.rb_refs.specs.KeptPointers.{known_in, byte_behind, check_loaded, check_stored}
 use Rattle.rb_refs.specs.References.{is_empty}
 use Rattle.rb_refs.specs.AbstractStates.{value_in, put, effect_on_both}
 
@@ -70,22 +71,23 @@ check_ring_load limits dst ring s = do
   _ ← refused_if (nat_le limits.rings ring) rule.HelperArgument
   Ok (assignment_effect dst (Ring ring) s)
 
--- a load of so many bytes
+-- a load of so many bytes: of a place of the stack as a whole, or of data
 abbrev pub check_load : Limits → Reg → Reg → ℤ → ℕ → AbsState → Result Effect Rule
 check_load limits dst base offset len s = do
   _ ← check_writable dst
   _ ← check_tested (value_in s base.number)
   _ ← check_inside limits s.held (value_in s base.number) offset len
-  Ok (assignment_effect dst Number s)
+  v ← check_loaded (byte_behind (value_in s base.number) offset) len (known_in s.places)
+  Ok (assignment_effect dst v s)
 
--- a store of so many bytes of a value
+-- a store of so many bytes of a number
 abbrev pub check_store : Limits → Reg → ℤ → ℕ → Abs → AbsState → Result Effect Rule
 check_store limits base offset len v s = do
   _ ← check_tested (value_in s base.number)
   _ ← check_not_context (value_in s base.number)
   _ ← check_inside limits s.held (value_in s base.number) offset len
-  _ ← check_number rule.PointerStored v
-  Ok (effect_on_both s)
+  places ← check_stored (byte_behind (value_in s base.number) offset) len v s.places
+  Ok (effect_on_both (record s { places = places }))
 
 -- the end of the program
 abbrev pub check_exit : AbsState → Result Effect Rule

@@ -1,2 +1,4 @@
 pub mod ChangedValues
+pub mod KeptList
+pub mod StackReach
 pub mod ValueJoins

@@ -2,9 +2,9 @@
 
 ghost use Rattle.std.specs.Prelude.{◌≡◌, IfErr};
 ghost use Rattle.rb_refs.specs.Branches.{null_test_of, check_branch};
-ghost use Rattle.rb_refs.specs.AbstractStates.{effect_left};
+ghost use Rattle.rb_refs.specs.AbstractStates.{IsLeft};
 
-use crate::rule::Rule;
+use crate::rule::{Rule, StepFault};
 use crate::state::AbsState;
 use crate::value::Abs;
 use crate::value_checks::{check_number, check_readable};
@@ -36,13 +36,13 @@ pub(crate) fn check_branch(
     dst: Abs,
     operand: Abs,
     state: &mut AbsState,
-) -> Result<Option<AbsState>, Rule>
-    ensures effect { effect_left result state.new ≡ check_branch test dst operand state.old }
+) -> Result<Option<AbsState>, StepFault>
+    ensures effect { IsLeft result state.new (check_branch test dst operand state.old) }
     ensures unchanged { IfErr result (λ _. state.new ≡ state.old) }
 {
     if let (Some(test), Abs::Perhaps(id)) = (test, dst) {
-        let null = state.where_null(id);
-        let there = state.where_there(id);
+        let null = state.where_null(id)?;
+        let there = state.where_there(id)?;
         return match test {
             NullTest::JumpsIfNull => {
                 *state = there;

@@ -3,17 +3,18 @@
 ghost use Rattle.std.specs.Prelude.{◌≡◌, ◌<◌, length, IfErr};
 ghost use Rattle.rb_refs.specs.HelperChecks.{after_answer, after_reserve, check_output, check_reserve, check_give_back, check_query, check_call};
 ghost use Rattle.rb_refs.specs.References.{AreEarlier};
-ghost use Rattle.rb_refs.specs.AbstractStates.{effect_left};
+ghost use Rattle.rb_refs.specs.AbstractStates.{effect_left, IsLeft};
 
 use crate::helper::Helper;
+use crate::kept_pointers::{check_data, check_reach};
 use crate::limits::Limits;
 use crate::references::Reference;
-use crate::rule::Rule;
+use crate::rule::{Rule, StepFault};
 use crate::state::AbsState;
 use crate::value::Abs;
 use crate::value_checks::{
-    check_inside, check_known_size, check_number, check_part_pointer, check_record_size,
-    check_record_start, check_ring, check_tested,
+    check_known_size, check_number, check_part_pointer, check_record_size, check_record_start,
+    check_ring, check_tested,
 };
 use rb_insn::Reg;
 
@@ -57,7 +58,8 @@ fn check_output(limits: Limits, state: &mut AbsState) -> Result<Option<AbsState>
     check_tested(data)?;
     check_part_pointer(data)?;
     let size = check_known_size(size)?;
-    check_inside(limits, &state.held, data, 0, size)?;
+    let byte = check_reach(limits, &state.held, data, 0, size)?;
+    check_data(byte, size, &state.places)?;
     check_number(Rule::HelperArgument, flags)?;
     state.answer(Abs::Number);
     Ok(None)
@@ -81,14 +83,14 @@ fn check_reserve(unit: u32, state: &mut AbsState) -> Result<Option<AbsState>, Ru
 }
 
 /// submit(record, flags) and discard(record, flags)
-fn check_give_back(state: &mut AbsState) -> Result<Option<AbsState>, Rule>
-    ensures effect { effect_left result state.new ≡ check_give_back state.old }
+fn check_give_back(state: &mut AbsState) -> Result<Option<AbsState>, StepFault>
+    ensures effect { IsLeft result state.new (check_give_back state.old) }
     ensures unchanged { IfErr result (λ _. state.new ≡ state.old) }
 {
     let [_, record, flags, ..] = state.values;
     let id = check_record_start(record)?;
     check_number(Rule::HelperArgument, flags)?;
-    *state = state.once_given_back(id);
+    *state = state.once_given_back(id)?;
     state.answer(Abs::Unreadable);
     Ok(None)
 }
@@ -111,16 +113,16 @@ pub(crate) fn check_call(
     unit: u32,
     helper: Option<Helper>,
     state: &mut AbsState,
-) -> Result<Option<AbsState>, Rule>
+) -> Result<Option<AbsState>, StepFault>
     requires { AreEarlier unit state.old.held }
-    ensures effect { effect_left result state.new ≡ check_call limits unit helper state.old }
+    ensures effect { IsLeft result state.new (check_call limits unit helper state.old) }
     ensures unchanged { IfErr result (λ _. state.new ≡ state.old) }
 {
     match helper {
-        None => Err(Rule::UnknownHelper),
-        Some(Helper::Output) => check_output(limits, state),
-        Some(Helper::Reserve) => check_reserve(unit, state),
+        None => Err(StepFault::Rule(Rule::UnknownHelper)),
+        Some(Helper::Output) => Ok(check_output(limits, state)?),
+        Some(Helper::Reserve) => Ok(check_reserve(unit, state)?),
         Some(Helper::Submit | Helper::Discard) => check_give_back(state),
-        Some(Helper::Query) => check_query(state),
+        Some(Helper::Query) => Ok(check_query(state)?),
     }
 }

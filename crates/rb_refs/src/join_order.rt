@@ -1,6 +1,6 @@
 //! The order of states, and the least state above two.
 
-ghost use Rattle.std.specs.Prelude.{◌≡◌, ◌≢◌, ◌↔◌, IsTrue, MatchOption};
+ghost use Rattle.std.specs.Prelude.{◌≡◌, ◌≢◌, ◌↔◌, IsTrue, MatchOption, IfOk};
 ghost use Rattle.rb_refs.specs.AbstractValues.{IsNumber, BelowValue};
 ghost use Rattle.rb_refs.specs.AbstractStates.{Below};
 ghost use Rattle.rb_refs.specs.Joins.{IsJoin};
@@ -8,9 +8,10 @@ ghost use Rattle.rb_refs.specs.inner.ValueJoins.{IsJoinValue};
 
 use crate::state::AbsState;
 use crate::value::Abs;
+use std::alloc::AllocError;
 
 /// Whether a value is a number, known or not.
-fn is_number(value: Abs) -> bool
+pub(crate) fn is_number(value: Abs) -> bool
     ensures { IsTrue result ↔ IsNumber value }
 {
     match value {
@@ -20,7 +21,7 @@ fn is_number(value: Abs) -> bool
 }
 
 /// Whether what the second value says holds wherever what the first says does.
-fn is_below(value: Abs, upper: Abs) -> bool
+pub(crate) fn is_below(value: Abs, upper: Abs) -> bool
     ensures { IsTrue result ↔ BelowValue value upper }
 {
     match upper {
@@ -31,7 +32,7 @@ fn is_below(value: Abs, upper: Abs) -> bool
 }
 
 /// The least value above both.
-fn join_value(left: Abs, right: Abs) -> Abs
+pub(crate) fn join_value(left: Abs, right: Abs) -> Abs
     ensures { IsJoinValue left right result }
 {
     if left == right {
@@ -43,7 +44,8 @@ fn join_value(left: Abs, right: Abs) -> Abs
     }
 }
 
-/// Whether a state is below another: the references are the same, and what is known of each register is below.
+/// Whether a state is below another: the references are the same, and what is known of each register and of each place of
+/// the stack is below.
 pub fn below(state: &AbsState, upper: &AbsState) -> bool
     ensures { IsTrue result ↔ Below state.now upper.now }
 {
@@ -55,22 +57,25 @@ pub fn below(state: &AbsState, upper: &AbsState) -> bool
             return false;
         }
     }
-    true
+    state.places.are_below(&upper.places)
 }
 
-/// The least state above both; none exactly where the references differ. It takes no memory.
-pub fn join(left: &AbsState, right: &AbsState) -> Option<AbsState>
-    ensures { MatchOption result (left.now.held ≢ right.now.held) (λ join. IsJoin left.now right.now join) }
+/// The least state above both; none exactly where the references differ. It takes memory only where the stack may keep
+/// pointers.
+pub fn join(left: &AbsState, right: &AbsState) -> Result<Option<AbsState>, AllocError>
+    ensures { IfOk result (λ answer. MatchOption answer (left.now.held ≢ right.now.held) (λ join. IsJoin left.now right.now join)) }
 {
     if !left.held.is_same(&right.held) {
-        return None;
+        return Ok(None);
     }
+    let places = left.places.joined(&right.places)?;
     let mut values = left.values;
     for i in 0..11 {
         values[i] = join_value(values[i], right.values[i]);
     }
-    Some(AbsState {
+    Ok(Some(AbsState {
         values,
         held: left.held.copy(),
-    })
+        places,
+    }))
 }

@@ -1,11 +1,12 @@
-//! What a null test and the giving back of a record tell of every register and reference.
+//! What a null test and the giving back of a record tell of every register, place of the stack and reference.
 
-ghost use Rattle.std.specs.Prelude.{◌≡◌, map};
+ghost use Rattle.std.specs.Prelude.{◌≡◌, map, IfOk};
 ghost use Rattle.rb_refs.specs.ReferenceChanges.{null_state, there_state, given_back_state};
-ghost use Rattle.rb_refs.specs.inner.ChangedValues.{after_change};
+ghost use Rattle.rb_refs.specs.inner.ChangedValues.{after_change, place_after};
 
 use crate::state::AbsState;
 use crate::value::Abs;
+use std::alloc::AllocError;
 
 /// What becomes known of a reservation, by its id.
 #[derive(Clone, Copy)]
@@ -30,6 +31,16 @@ impl Abs {
             _ => self,
         }
     }
+
+    /// What is known of a place of the stack from then on: where null is kept it has data.
+    pub(crate) fn changed_place(self, change: Change) -> Abs
+        ensures { result ≡ place_after change self }
+    {
+        match (change, self) {
+            (Change::IsNull(id), Abs::Perhaps(other)) if other == id => Abs::Number,
+            _ => self.changed(change),
+        }
+    }
 }
 
 /// What is known of every register from then on.
@@ -44,33 +55,42 @@ fn changed_values(mut values: [Abs; 11], change: Change) -> [Abs; 11]
 
 impl AbsState {
     /// Where the reservation was null.
-    pub(crate) fn where_null(&self, id: u32) -> AbsState
-        ensures { result ≡ null_state id self.now }
+    pub(crate) fn where_null(&self, id: u32) -> Result<AbsState, AllocError>
+        ensures { IfOk result (λ state. state ≡ null_state id self.now) }
     {
+        let change = Change::IsNull(id);
+        let places = self.places.changed(change)?;
         let others = self.held.without(id);
-        AbsState {
-            values: changed_values(self.values, Change::IsNull(id)),
+        Ok(AbsState {
+            values: changed_values(self.values, change),
             held: others,
-        }
+            places,
+        })
     }
 
     /// Where the reservation was a record.
-    pub(crate) fn where_there(&self, id: u32) -> AbsState
-        ensures { result ≡ there_state id self.now }
+    pub(crate) fn where_there(&self, id: u32) -> Result<AbsState, AllocError>
+        ensures { IfOk result (λ state. state ≡ there_state id self.now) }
     {
-        AbsState {
-            values: changed_values(self.values, Change::IsThere(id)),
+        let change = Change::IsThere(id);
+        let places = self.places.changed(change)?;
+        Ok(AbsState {
+            values: changed_values(self.values, change),
             held: self.held.tested(id),
-        }
+            places,
+        })
     }
 
     /// Once the record was given back.
-    pub(crate) fn once_given_back(&self, id: u32) -> AbsState
-        ensures { result ≡ given_back_state id self.now }
+    pub(crate) fn once_given_back(&self, id: u32) -> Result<AbsState, AllocError>
+        ensures { IfOk result (λ state. state ≡ given_back_state id self.now) }
     {
-        AbsState {
-            values: changed_values(self.values, Change::GivenBack(id)),
+        let change = Change::GivenBack(id);
+        let places = self.places.changed(change)?;
+        Ok(AbsState {
+            values: changed_values(self.values, change),
             held: self.held.without(id),
-        }
+            places,
+        })
     }
 }

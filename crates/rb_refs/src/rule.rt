@@ -2,7 +2,9 @@
 
 ghost use Rattle.std.specs.Prelude.{◌≡◌};
 ghost use Rattle.rb_refs.specs.Rules.{rule_number};
+ghost use Rattle.rb_refs.specs.declared.rule.StepFault.TheVariants as fault;
 
+use std::alloc::AllocError;
 use thiserror::Error;
 
 /// A rule that a program breaks (own profile).
@@ -53,6 +55,33 @@ pub enum Rule {
     /// V15
     #[error("V15: a helper that is not known is called")]
     UnknownHelper,
+}
+
+/// Why there is no step.
+#[derive(Clone, Copy, Debug, PartialEq, Eq, Error)]
+pub enum StepFault {
+    /// The instruction breaks a rule.
+    #[error("{0}")]
+    Rule(Rule),
+    /// There was no memory for what is known of the stack; this says nothing of the instruction.
+    #[error("out of memory")]
+    Memory,
+}
+
+impl From<Rule> for StepFault {
+    ghost from_gives = { λ broken e. e ≡ fault.Rule broken };
+
+    fn from(broken: Rule) -> StepFault {
+        StepFault::Rule(broken)
+    }
+}
+
+impl From<AllocError> for StepFault {
+    ghost from_gives = { λ _ e. e ≡ fault.Memory };
+
+    fn from(_: AllocError) -> StepFault {
+        StepFault::Memory
+    }
 }
 
 impl Rule {

@@ -1,20 +1,23 @@
 //! What is known before an instruction.
 
-ghost use Rattle.std.specs.Prelude.{◌≡◌};
+ghost use Rattle.std.specs.Prelude.{◌≡◌, IfOk};
 ghost use Rattle.rb_refs.specs.AbstractStates.{value_in, put, entry_state, effect_on_both};
 
+use crate::places::Places;
 use crate::references::Held;
 use crate::value::Abs;
 use rb_insn::Reg;
-use std::alloc::Global;
+use std::alloc::{AllocError, Global};
 
-/// What is known before an instruction: of each register, and which references are held.
+/// What is known before an instruction: of each register, which references are held, and of each place of the stack.
 #[derive(Debug, Drop)]
 pub struct AbsState {
     /// What is known of r0 to r10.
     pub values: [Abs; 11],
     /// The references that are held.
     pub held: Held,
+    /// What is known of the places of the stack.
+    pub places: Places,
 }
 
 /// What is known along each edge out of an instruction. Where it has one edge alone, both say the same.
@@ -27,8 +30,8 @@ pub struct Effect {
 }
 
 impl AbsState {
-    /// What is known at entry: r1 points to the context, r10 to the stack, the other registers hold nothing, and no
-    /// reference is held. The references are inline, so this takes no memory.
+    /// What is known at entry: r1 points to the context, r10 to the stack, the other registers hold nothing, no reference is
+    /// held, and the stack has data. The references are inline, so this takes no memory.
     pub fn entry(alloc: Global) -> Self
         ensures { result ≡ entry_state }
     {
@@ -38,17 +41,20 @@ impl AbsState {
         AbsState {
             values,
             held: Held::new(alloc),
+            places: Places::data(alloc),
         }
     }
 
-    /// The same state. It takes no memory.
-    pub fn copy(&self) -> Self
-        ensures { result ≡ self.now }
+    /// The same state. It takes memory only where the stack may keep pointers.
+    pub fn copy(&self) -> Result<Self, AllocError>
+        ensures { IfOk result (λ copy. copy ≡ self.now) }
     {
-        AbsState {
+        let places = self.places.copy()?;
+        Ok(AbsState {
             values: self.values,
             held: self.held.copy(),
-        }
+            places,
+        })
     }
 
     /// What is known of a register.
@@ -67,12 +73,12 @@ impl AbsState {
     }
 
     /// The same along both edges.
-    pub(crate) fn along_both(self) -> Effect
-        ensures { result ≡ effect_on_both self }
+    pub(crate) fn along_both(self) -> Result<Effect, AllocError>
+        ensures { IfOk result (λ effect. effect ≡ effect_on_both self) }
     {
-        Effect {
-            next: self.copy(),
+        Ok(Effect {
+            next: self.copy()?,
             jump: self,
-        }
+        })
     }
 }

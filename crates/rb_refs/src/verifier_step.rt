@@ -5,7 +5,7 @@ ghost use Rattle.rb_insn.specs.inner.InsnGroups.{IsLoadOrStore};
 ghost use Rattle.rb_alu.specs.ArithmeticAndJumps.{IsArithmetic};
 ghost use Rattle.rb_refs.specs.declared.limits.Limits.{Limits};
 ghost use Rattle.rb_refs.specs.References.{AreEarlier};
-ghost use Rattle.rb_refs.specs.AbstractStates.{effect_left};
+ghost use Rattle.rb_refs.specs.AbstractStates.{effect_left, IsLeft, IsStep};
 ghost use Rattle.rb_refs.specs.VerifierChecks.{abstract_step, check_assign, check_copy, check_convert, check_unary, check_binary, check_ring_load, check_load, check_store, check_exit};
 
 use crate::arithmetic::{
@@ -14,12 +14,13 @@ use crate::arithmetic::{
 use crate::branches::{check_branch, null_test_of};
 use crate::calls::check_call;
 use crate::helper::Helper;
+use crate::kept_pointers::{check_loaded, check_reach, store_to};
 use crate::limits::Limits;
-use crate::rule::Rule;
+use crate::rule::{Rule, StepFault};
 use crate::state::{AbsState, Effect};
 use crate::value::Abs;
 use crate::value_checks::{
-    check_inside, check_not_context, check_number, check_readable, check_tested, check_writable,
+    check_not_context, check_number, check_readable, check_tested, check_writable,
 };
 use rb_insn::{Insn, Operand, Reg, Width};
 
@@ -116,7 +117,7 @@ fn check_ring_load(
     Ok(None)
 }
 
-/// A load of so many bytes.
+/// A load of so many bytes: of a place of the stack as a whole, or of data.
 fn check_load(
     limits: Limits,
     dst: Reg,
@@ -131,12 +132,13 @@ fn check_load(
     check_writable(dst)?;
     let base = state.value(base);
     check_tested(base)?;
-    check_inside(limits, &state.held, base, i64::from(offset), len)?;
-    state.put(dst, Abs::Number);
+    let byte = check_reach(limits, &state.held, base, i64::from(offset), len)?;
+    let value = check_loaded(byte, len, &state.places)?;
+    state.put(dst, value);
     Ok(None)
 }
 
-/// A store of so many bytes of a value.
+/// A store of so many bytes of a number.
 fn check_store(
     limits: Limits,
     base: Reg,
@@ -144,15 +146,15 @@ fn check_store(
     len: u64,
     value: Abs,
     state: &mut AbsState,
-) -> Result<Option<AbsState>, Rule>
-    ensures effect { effect_left result state.new ≡ check_store limits base offset len value state.old }
+) -> Result<Option<AbsState>, StepFault>
+    ensures effect { IsLeft result state.new (check_store limits base offset len value state.old) }
     ensures unchanged { IfErr result (λ _. state.new ≡ state.old) }
 {
     let base = state.value(base);
     check_tested(base)?;
     check_not_context(base)?;
-    check_inside(limits, &state.held, base, i64::from(offset), len)?;
-    check_number(Rule::PointerStored, value)?;
+    let byte = check_reach(limits, &state.held, base, i64::from(offset), len)?;
+    store_to(byte, len, value, &mut state.places)?;
     Ok(None)
 }
 
@@ -212,26 +214,26 @@ fn step_load_or_store(
     limits: Limits,
     insn: &Insn,
     state: &mut AbsState,
-) -> Result<Option<AbsState>, Rule>
+) -> Result<Option<AbsState>, StepFault>
     requires { IsLoadOrStore insn.now }
-    ensures effect { (unit : ℕ) → effect_left result state.new ≡ abstract_step limits unit insn.now state.old }
+    ensures effect { (unit : ℕ) → IsLeft result state.new (abstract_step limits unit insn.now state.old) }
     ensures unchanged { IfErr result (λ _. state.new ≡ state.old) }
 {
     match *insn {
-        Insn::LoadNumber { dst, value } => check_assign(dst, Abs::Known(value), state),
-        Insn::LoadRing { dst, ring } => check_ring_load(limits, dst, ring, state),
+        Insn::LoadNumber { dst, value } => Ok(check_assign(dst, Abs::Known(value), state)?),
+        Insn::LoadRing { dst, ring } => Ok(check_ring_load(limits, dst, ring, state)?),
         Insn::Load {
             size,
             dst,
             base,
             offset,
-        } => check_load(limits, dst, base, offset, size.bytes() as u64, state),
+        } => Ok(check_load(limits, dst, base, offset, size.bytes() as u64, state)?),
         Insn::LoadSigned {
             size,
             dst,
             base,
             offset,
-        } => check_load(limits, dst, base, offset, size.bytes() as u64, state),
+        } => Ok(check_load(limits, dst, base, offset, size.bytes() as u64, state)?),
         Insn::StoreImmediate {
             size,
             base,
@@ -265,16 +267,16 @@ fn step_load_or_store(
 #[tactic(auto, unfolding(crate::specs::VerifierChecks::abstract_step))]
 /// One abstract step of the instruction at a unit, in place: the state becomes what is known along the edge to the next
 /// instruction, and what is known along a jump's edge is the result where it differs; or the first rule that the instruction
-/// breaks, and then the state is unchanged. The references that are held were reserved at earlier units. It takes no memory,
-/// and constant time.
+/// breaks, and then the state is unchanged; or `Memory`, and then too. The references that are held were reserved at earlier units.
+/// It takes memory only where the stack may keep pointers, and constant time.
 pub fn step_in_place(
     limits: Limits,
     unit: u32,
     insn: &Insn,
     state: &mut AbsState,
-) -> Result<Option<AbsState>, Rule>
+) -> Result<Option<AbsState>, StepFault>
     requires { AreEarlier unit state.old.held }
-    ensures effect { effect_left result state.new ≡ abstract_step limits unit insn.now state.old }
+    ensures effect { IsLeft result state.new (abstract_step limits unit insn.now state.old) }
     ensures unchanged { IfErr result (λ _. state.new ≡ state.old) }
 {
     match *insn {
@@ -284,7 +286,7 @@ pub fn step_in_place(
         | Insn::Negate { .. }
         | Insn::Reorder { .. }
         | Insn::Division { .. }
-        | Insn::Binary { .. } => step_arithmetic(insn, state),
+        | Insn::Binary { .. } => Ok(step_arithmetic(insn, state)?),
         Insn::LoadNumber { .. }
         | Insn::LoadRing { .. }
         | Insn::Load { .. }
@@ -305,19 +307,20 @@ pub fn step_in_place(
         ),
         Insn::Jump { .. } | Insn::JumpFar { .. } => Ok(None),
         Insn::Call { helper } => check_call(limits, unit, Helper::from_number(helper), state),
-        Insn::Exit => check_exit(state),
+        Insn::Exit => Ok(check_exit(state)?),
     }
 }
 
 /// One abstract step of the instruction at a unit: what is known along each edge out of it, or the first rule that it
-/// breaks. The references that are held were reserved at earlier units. It takes no memory, and constant time.
-pub fn step(limits: Limits, unit: u32, insn: &Insn, state: &AbsState) -> Result<Effect, Rule>
+/// breaks; or `Memory`. The references that are held were reserved at earlier units. It takes memory only where the stack may
+/// keep pointers, and constant time.
+pub fn step(limits: Limits, unit: u32, insn: &Insn, state: &AbsState) -> Result<Effect, StepFault>
     requires { AreEarlier unit state.now.held }
-    ensures { result ≡ abstract_step limits unit insn.now state.now }
+    ensures { IsStep result (abstract_step limits unit insn.now state.now) }
 {
-    let mut next = state.copy();
+    let mut next = state.copy()?;
     match step_in_place(limits, unit, insn, &mut next)? {
         Some(jump) => Ok(Effect { next, jump }),
-        None => Ok(next.along_both()),
+        None => Ok(next.along_both()?),
     }
 }

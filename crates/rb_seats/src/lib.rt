@@ -20,4 +20,4 @@ mod stock;
 pub use seat_helpers::SeatHelpers;
 pub use seat_laws::{helpers_lead, seats_go_on, seats_may_answer, seats_rise};
 pub use seat_record::SeatRecord;
-pub use stock::{NoStock, Stock};
+pub use stock::{NoStock, SHORT, Stock};

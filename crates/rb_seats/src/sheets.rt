@@ -2,7 +2,7 @@
 
 ghost use Rattle.std.specs.Prelude.{◌≡◌, IfSome, replicate};
 
-use crate::stock::Stock;
+use crate::stock::{SHORT, Stock};
 use rb_lend::{Lent, Sheet};
 use std::alloc::Global;
 
@@ -11,10 +11,13 @@ pub(crate) fn give_back<S: Stock>(stock: &S, sheet: Sheet) {
     let _refused = stock.put(sheet);
 }
 
-// A sheet of `n` zero bytes, a used one where the stock has one.
+// A sheet of `n` zero bytes; where they take memory, a used one if the stock has one.
 pub(crate) fn zero_sheet<S: Stock>(alloc: Global, stock: &S, n: u32) -> Option<Sheet>
     ensures { IfSome result (λ s. s ≡ replicate n 0) }
 {
+    if n <= SHORT {
+        return Sheet::new(alloc, n).ok();
+    }
     match stock.used() {
         Some(sheet) => match sheet.renew(n) {
             Ok(sheet) => Some(sheet),

@@ -4,6 +4,9 @@ ghost use Rattle.std.specs.Prelude.{◌≡◌, IfSome, IsSome, None};
 
 use rb_lend::Sheet;
 
+/// A sheet of at most so many bytes takes no memory, so it is made new and not had from a stock.
+pub const SHORT: u32 = 16;
+
 /// Used sheets that can be had again. Nothing is promised of what a stock keeps.
 pub trait Stock {
     /// A used sheet, where there is one.

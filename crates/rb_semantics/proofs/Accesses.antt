@@ -1,6 +1,6 @@
 -- Loads and stores are sound.
-use Rattle.std.proofs.Common.{◌≡◌, ℕ, ◌+◌, ◌≤◌, ℤ, ◌+ℤ◌, Bool, true, false, List, [], ◌++◌, Option, Some, None, option_and_then, length, take, drop, find, sym, ap, subst, ◌∙◌, refl, arith, Result, Ok}
-use Rattle.std.specs.Prelude.{not, nat_le}
+use Rattle.std.proofs.Common.{◌≡◌, ℕ, ◌+◌, ◌≤◌, ℤ, ◌+ℤ◌, Bool, true, false, List, [], ◌++◌, Option, Some, None, option_and_then, length, take, drop, find, sym, ap, subst, ◌∙◌, refl, arith, Result, Ok, Err}
+use Rattle.std.specs.Prelude.{not, nat_le, if◌then◌else◌}
 use Rattle.std.proofs.lemmas.Bool.Decides.{nat_tests}
 use Rattle.std.proofs.lemmas.Grind.{common_steps}
 use Rattle.byteorder.specs.Endian.{little_bytes}
@@ -17,10 +17,13 @@ use Rattle.rb_refs.specs.declared.state.AbsState.{AbsState}
 use Rattle.rb_refs.specs.declared.state.Effect as refs
 use Rattle.rb_refs.specs.declared.value.Abs.{Abs}
 use Rattle.rb_refs.specs.declared.value.Abs.TheVariants as abs
-use Rattle.rb_refs.specs.ValueChecks.{check_writable, check_tested, check_not_context, check_inside, check_number}
+use Rattle.rb_refs.specs.ValueChecks.{◌>>=◌, check_writable, check_tested, check_not_context, check_inside, check_number}
 use Rattle.rb_refs.specs.Extents.{reaches, record_contains, contains_range, stack_extent, extent_from_zero}
 use Rattle.rb_insn.specs.Sizes.{byte_count}
 use Rattle.rb_refs.specs.References.{has_id}
+use Rattle.rb_refs.specs.AbstractValues.{IsNumber, BelowValue}
+use Rattle.rb_refs.specs.StackPlaces.{touches, whole_place}
+use Rattle.rb_refs.specs.KeptPointers.{KnownPlaces, listed_places, known_in, byte_behind, with_data, check_data, check_filled, check_loaded, check_stored}
 use Rattle.rb_refs.specs.AbstractStates.{value_in, effect_on_both}
 use Rattle.rb_refs.specs.VerifierChecks as table
 use Rattle.rb_verifier.specs.Subject.{Subject, limits_of}
@@ -37,8 +40,8 @@ use Rattle.rb_semantics.specs.Agreement.{AgreesValue, AreHeld, IsTested, HasRefe
 use Rattle.rb_semantics.specs.Soundness.{CanStep}
 use Rattle.rb_semantics.proofs.Records.{length-with_bytes}
 use Rattle.rb_semantics.proofs.Held.{held_found}
-use Rattle.rb_semantics.proofs.Values.{number_value}
-use Rattle.rb_semantics.proofs.Changes.{agrees_stack, agrees_written}
+use Rattle.rb_semantics.proofs.Values.{number_value, value_below, tied_below}
+use Rattle.rb_semantics.proofs.Changes.{plain_listed, agrees_placed, agrees_stack, agrees_written}
 use Rattle.rb_semantics.proofs.Checks.{passed, number_passed, IsRange, from_zero, in_stack}
 use Rattle.rb_semantics.proofs.Rows.{past, known, Follows, Sound, gives_sound, goes_next}
 
@@ -144,6 +147,34 @@ module _ (subject : Subject) (a : AbsState) (s : State) (g : Agrees subject a s)
   value_written (abs.Ring n) v by new unit w h k t = absurd (cc)
   value_written (abs.Perhaps n) v by new unit w h k t = absurd (cc)
 
+-- what a load of data gives, and what a store of a number leaves
+abbrev ArePlain : KnownPlaces → Type 0
+ArePlain places = (place : ℕ) → BelowValue abs.Number (places place)
+
+filled_plain : (place : Option ℕ) (at len : ℕ) (places : KnownPlaces) (y : Abs) → ArePlain places → check_filled place at len places ≡ Ok y → BelowValue abs.Number y
+filled_plain (Some place) at len places y h e = let same : places place ≡ y = cc in subst (BelowValue abs.Number) same (h place)
+filled_plain None at len places y h e = of_test (check_data (Some at) len places) e
+  where
+    of_test : (m : Result (Unit {0}) Rule) → m >>= (λ _. Ok abs.Number) ≡ Ok y → BelowValue abs.Number y
+    of_test (Ok u) e = let same : abs.Number ≡ y = cc in subst (BelowValue abs.Number) same tt
+    of_test (Err broken) e = absurd (cc)
+
+loaded_plain : (at : Option ℕ) (len : ℕ) (places : KnownPlaces) (y : Abs) → ArePlain places → check_loaded at len places ≡ Ok y → BelowValue abs.Number y
+loaded_plain None len places y h e = let same : abs.Number ≡ y = cc in subst (BelowValue abs.Number) same tt
+loaded_plain (Some at) len places y h e = filled_plain (whole_place at len) at len places y h e
+
+data_plain : (at len : ℕ) (places : KnownPlaces) → ArePlain places → ArePlain (with_data at len places)
+data_plain at len places h place = elim (touches at len place) as (λ b. BelowValue abs.Number (if b then abs.Number else places place)) [ true ↦ tt | false ↦ h place ]
+
+number_then : (y : Abs) (left places : List Abs) (m : Result (Unit {0}) Rule) → check_number rule.PointerStored y ≡ m → m >>= (λ _. Ok left) ≡ Ok places → ArePlain (known_in left) → IsNumber y × ArePlain (known_in places)
+number_then y left places (Ok u) at e h = let same : left ≡ places = cc in (number_passed rule.PointerStored y u at, subst (λ (l : List Abs). ArePlain (known_in l)) same h)
+number_then y left places (Err broken) at e h = absurd (cc)
+
+stored_plain : (at : Option ℕ) (len : ℕ) (y : Abs) (places left : List Abs) → ArePlain (known_in places) → check_stored at len y places ≡ Ok left → IsNumber y × ArePlain (known_in left)
+stored_plain None len y places left h e = number_then y places left (check_number rule.PointerStored y) refl e h
+stored_plain (Some at) len y places left h e =
+    number_then y (listed_places (with_data at len (known_in places))) left (check_number rule.PointerStored y) refl e (plain_listed (with_data at len (known_in places)) (data_plain at len (known_in places) h))
+
 -- where no pointer is kept, none is found
 pub no_fill : (size : Size) (m : Memory) (v : Value) (by : ℤ) → m.pointers ≡ [] → fill_of size m v by ≡ None
 no_fill Double m (Pointer part offset) by e = at_place (place_at part (offset +ℤ by))
@@ -180,11 +211,12 @@ module _ (subject : Subject) (s : State) (c : CanStep subject s) (insn : Insn) (
       let x = value_in a base.number in
       let v = register s base.number in
       let P = Follows subject s c insn begins (meaning.execute_load insn dst number_of (pointed s.memory v by len) s) in
-      past P (check_writable dst) _ (λ _ _. past P (check_tested x) _ (λ _ _. past P (check_inside (limits_of subject) a.held x by len) _ (λ unit e.
+      past P (check_writable dst) _ (λ _ _. past P (check_tested x) _ (λ _ _. past P (check_inside (limits_of subject) a.held x by len) _ (λ unit e. past P (check_loaded (byte_behind x by) len (known_in a.places)) _ (λ y loaded.
       let r = value_reached subject a s c.agrees x v by len (inside_passed subject a.held x by len unit e) (c.agrees.values base.number) (c.agrees.tied base.number) in
       let b = reached_read s.memory v by len r in
-      subst (λ found. Follows subject s c insn begins (meaning.execute_load insn dst number_of found s) (table.assignment_effect dst abs.Number a)) (sym b.1)
-      (gives_sound subject s c insn begins dst abs.Number (Number (number_of b.0)) on (_, refl) tt tt))))
+      let plain : BelowValue abs.Number y = loaded_plain (byte_behind x by) len (known_in a.places) y c.agrees.plain loaded in
+      subst (λ found. Follows subject s c insn begins (meaning.execute_load insn dst number_of found s) (table.assignment_effect dst y a)) (sym b.1)
+      (gives_sound subject s c insn begins dst y (Number (number_of b.0)) on (value_below s.memory.records abs.Number y (Number (number_of b.0)) plain (_, refl)) (tied_below a.held abs.Number y plain tt) tt)))))
 
   pub filled_sound : (dst base : Reg) (by : ℤ) (size : Size) (len : ℕ) (number_of : List ℕ → ℕ) → Given (meaning.execute_fill insn dst number_of (fill_of size s.memory (register s base.number) by) (pointed s.memory (register s base.number) by len) s) (table.check_load (limits_of subject) dst base by len a)
   filled_sound dst base by size len number_of =
@@ -198,13 +230,15 @@ module _ (subject : Subject) (s : State) (c : CanStep subject s) (insn : Insn) (
       let x = value_in a base.number in
       let v = register s base.number in
       let P = Follows subject s c insn begins (f w) in
-      past P (check_tested x) _ (λ _ _. past P (check_not_context x) _ (λ may allowed. past P (check_inside (limits_of subject) a.held x by (byte_count size)) _ (λ unit e. past P (check_number rule.PointerStored y) _ (λ is_number g.
-      let n = number_value s.memory.records y w (number_passed rule.PointerStored y is_number g) k in
+      past P (check_tested x) _ (λ _ _. past P (check_not_context x) _ (λ may allowed. past P (check_inside (limits_of subject) a.held x by (byte_count size)) _ (λ unit e. past P (check_stored (byte_behind x by) (byte_count size) y a.places) _ (λ places g.
+      let passes = stored_plain (byte_behind x by) (byte_count size) y a.places places c.agrees.plain g in
+      let n = number_value s.memory.records y w passes.0 k in
       let reach : reaches (limits_of subject) a.held x by (length (little_bytes (byte_count size) n.0)) ≡ true = subst (λ len. reaches (limits_of subject) a.held x by len ≡ true) (sym (length-stored size n.0)) (inside_passed subject a.held x by (byte_count size) unit e) in
       let r = value_written subject a s c.agrees x v by (little_bytes (byte_count size) n.0) may allowed reach (c.agrees.values base.number) (c.agrees.tied base.number) in
-      subst (λ effect. Follows subject s c insn begins effect (effect_on_both a)) (sym (ap f n.1 ∙ same n.0))
-      (subst (λ m. Follows subject s c insn begins (meaning.after_store insn m s) (effect_on_both a)) (sym r.is)
-      (goes_next subject s c insn begins (effect_on_both a) s.registers r.memory on r.held r.agrees))))))
+      let known_then : AbsState = record a { places = places } in
+      subst (λ effect. Follows subject s c insn begins effect (effect_on_both known_then)) (sym (ap f n.1 ∙ same n.0))
+      (subst (λ m. Follows subject s c insn begins (meaning.after_store insn m s) (effect_on_both known_then)) (sym r.is)
+      (goes_next subject s c insn begins (effect_on_both known_then) s.registers r.memory on r.held (agrees_placed subject a (record s { memory = r.memory }) places passes.1 r.agrees)))))))
 
   pub stored_sound : (base : Reg) (by : ℤ) (size : Size) (y : Abs) (w : Value) → AgreesValue s.memory.records y w → Given (meaning.execute_store insn (register s base.number) by (byte_count size) w s) (table.check_store (limits_of subject) base by (byte_count size) y a)
   stored_sound base by size y w k = numbers_stored (λ w. meaning.execute_store insn (register s base.number) by (byte_count size) w s) base by size y w (λ n. refl) k

@@ -1,13 +1,17 @@
 -- A state is as is known of it, after each change.
-use Rattle.std.proofs.Common.{◌≡◌, ℕ, zero, suc, true, false, List, [], ◌∷◌, ◌++◌, Some, None, length, map, find, get_or, set, sym, ap, subst, ◌∙◌, refl, arith}
+use Rattle.std.proofs.Common.{◌≡◌, ⊎_elim, ℕ, zero, suc, true, false, List, [], ◌∷◌, ◌++◌, Some, None, length, map, find, get_or, set, sym, ap, subst, ◌∙◌, refl, arith}
+use Rattle.std.proofs.lemmas.Bool.{cases_lt}
 use Rattle.std.proofs.lemmas.List.{length-set, length-map}
 use Rattle.rb_refs.specs.declared.state.AbsState.{AbsState}
 use Rattle.rb_refs.specs.declared.value.Abs.{Abs}
 use Rattle.rb_refs.specs.declared.value.Abs.TheVariants as abs
-use Rattle.rb_refs.specs.ReferenceChanges.{if_null, if_there, if_given_back, null_state, there_state, given_back_state}
+use Rattle.rb_refs.specs.ReferenceChanges.{if_null, place_if_null, if_there, if_given_back, null_state, there_state, given_back_state}
 use Rattle.rb_refs.specs.References.{IsAscending, AreEarlier, has_id}
 use Rattle.rb_refs.specs.AbstractStates.{Below, value_in, put}
+use Rattle.rb_refs.specs.AbstractValues.{BelowValue}
+use Rattle.rb_refs.specs.KeptPointers.{KnownPlaces, listed_places, known_in}
 use Rattle.rb_refs.specs.HelperChecks as helpers
+use Rattle.rb_refs.proofs.Laws.{below_value_trans, known-listed, known-past}
 use Rattle.rb_verifier.specs.Subject.{Subject}
 use Rattle.rb_semantics.specs.declared.value.Value.{Value}
 use Rattle.rb_semantics.specs.declared.value.Value.TheVariants.{Nothing}
@@ -44,6 +48,20 @@ map_at f [] r e = sym e
 map_at f (x ∷ xs) zero e = refl
 map_at f (x ∷ xs) (suc r) e = map_at f xs r e
 
+-- a value below which a number lies is one, or nothing is known of it; so it stays under what changes pointers alone
+plain_after : (f : Abs → Abs) → f abs.Number ≡ abs.Number → f abs.Unreadable ≡ abs.Unreadable → (x : Abs) → BelowValue abs.Number x → BelowValue abs.Number (f x)
+plain_after f n u abs.Unreadable h = rw u tt
+plain_after f n u abs.Number h = rw n tt
+plain_after f n u (abs.Known m) h = absurd (cc)
+plain_after f n u (abs.Ctx o) h = absurd (cc)
+plain_after f n u (abs.Stack o) h = absurd (cc)
+plain_after f n u (abs.Ring m) h = absurd (cc)
+plain_after f n u (abs.Perhaps m) h = absurd (cc)
+plain_after f n u (abs.Record m o) h = absurd (cc)
+
+pub plain_listed : (places : KnownPlaces) → ((place : ℕ) → BelowValue abs.Number (places place)) → (place : ℕ) → BelowValue abs.Number (known_in (listed_places places) place)
+plain_listed places h place = ⊎_elim (λ lt. rw (known-listed places place lt) (h place)) (λ le. rw (known-past places place le) tt) (cases_lt place 64)
+
 module _ (subject : Subject) where
   pub agrees_below : (a b : AbsState) (s : State) → Below a b → Agrees subject a s → Agrees subject b s
   agrees_below a b s h g = record {
@@ -54,12 +72,17 @@ module _ (subject : Subject) where
     bounded = g.bounded;
     stack = g.stack;
     pointers = g.pointers;
+    plain = λ place. below_value_trans abs.Number (known_in a.places place) (known_in b.places place) (g.plain place) (h.places place);
     context = g.context;
   }
 
+  -- other places, where they too have data
+  pub agrees_placed : (a : AbsState) (s : State) (places : List Abs) → ((place : ℕ) → BelowValue abs.Number (known_in places place)) → Agrees subject a s → Agrees subject (record a { places = places }) s
+  agrees_placed a s places h g = record { count = g.count; values = g.values; records = g.records; tied = g.tied; bounded = g.bounded; stack = g.stack; pointers = g.pointers; plain = h; context = g.context }
+
   -- the unit is of no account
   pub agrees_at : (a : AbsState) (s : State) (unit : ℕ) → Agrees subject a s → Agrees subject a (record s { unit = unit })
-  agrees_at a s unit g = record { count = g.count; values = g.values; records = g.records; tied = g.tied; bounded = g.bounded; stack = g.stack; pointers = g.pointers; context = g.context }
+  agrees_at a s unit g = record { count = g.count; values = g.values; records = g.records; tied = g.tied; bounded = g.bounded; stack = g.stack; pointers = g.pointers; plain = g.plain; context = g.context }
 
   pub agrees_put : (a : AbsState) (s : State) (d : ℕ) (x : Abs) (v : Value) → AgreesValue s.memory.records x v → HasReference a.held x → IsBoundedValue subject.rings v → Agrees subject a s → Agrees subject (put a d x) (record s { registers = set s.registers d v })
   agrees_put a s d x v h t b g = record {
@@ -70,6 +93,7 @@ module _ (subject : Subject) where
     bounded = set_all (IsBoundedValue subject.rings) s.registers d v Nothing g.bounded b;
     stack = g.stack;
     pointers = g.pointers;
+    plain = g.plain;
     context = g.context;
   }
 
@@ -90,6 +114,7 @@ module _ (subject : Subject) where
         bounded = λ r. subst (λ (vs : List Value). IsBoundedValue subject.rings (get_or vs r Nothing)) (in_order s.registers v) (p5.bounded r);
         stack = g.stack;
         pointers = g.pointers;
+        plain = g.plain;
         context = g.context;
       }
     where
@@ -107,6 +132,7 @@ module _ (subject : Subject) where
     bounded = g.bounded;
     stack = g.stack;
     pointers = g.pointers;
+    plain = plain_listed (λ place. place_if_null id (known_in a.places place)) (λ place. plain_after (place_if_null id) refl refl (known_in a.places place) (g.plain place));
     context = g.context;
   }
 
@@ -120,6 +146,7 @@ module _ (subject : Subject) where
     bounded = g.bounded;
     stack = g.stack;
     pointers = g.pointers;
+    plain = plain_listed (λ place. if_there id (known_in a.places place)) (λ place. plain_after (if_there id) refl refl (known_in a.places place) (g.plain place));
     context = g.context;
   }
 
@@ -133,6 +160,7 @@ module _ (subject : Subject) where
     bounded = g.bounded;
     stack = g.stack;
     pointers = g.pointers;
+    plain = plain_listed (λ place. if_given_back id (known_in a.places place)) (λ place. plain_after (if_given_back id) refl refl (known_in a.places place) (g.plain place));
     context = g.context;
   }
 
@@ -150,6 +178,7 @@ module _ (subject : Subject) where
     bounded = g.bounded;
     stack = g.stack;
     pointers = g.pointers;
+    plain = g.plain;
     context = g.context;
   }
 
@@ -163,6 +192,7 @@ module _ (subject : Subject) where
     bounded = g.bounded;
     stack = g.stack;
     pointers = g.pointers;
+    plain = g.plain;
     context = g.context;
   }
 
@@ -177,6 +207,7 @@ module _ (subject : Subject) where
     bounded = g.bounded;
     stack = l ∙ g.stack;
     pointers = ap (pointers_beside at len) g.pointers;
+    plain = g.plain;
     context = g.context;
   }
 
@@ -191,5 +222,6 @@ module _ (subject : Subject) where
     bounded = g.bounded;
     stack = g.stack;
     pointers = g.pointers;
+    plain = g.plain;
     context = g.context;
   }

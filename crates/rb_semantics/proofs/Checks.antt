@@ -13,7 +13,7 @@ use Rattle.rb_refs.specs.ValueChecks.{refused_if, check_readable, check_number, 
 use Rattle.rb_refs.specs.Extents.{stack_extent, extent_from_zero, contains_range}
 use Rattle.rb_refs.specs.AbstractValues.{IsNumber}
 use Rattle.rb_semantics.specs.declared.value.Value.TheVariants.{Nothing, Number}
-use Rattle.rb_semantics.specs.ProgramMemory.{natural}
+use Rattle.rb_refs.specs.StackPlaces.{natural}
 use Rattle.rb_semantics.specs.Agreement.{reserved_value, AgreesValue}
 
 -- a test that is not refused

@@ -32,7 +32,7 @@ use Rattle.rb_semantics.specs.Soundness.{CanStep, IsSoundEffect}
 use Rattle.rb_semantics.proofs.Ids.{not_equal}
 use Rattle.rb_semantics.proofs.Held.{held_none}
 use Rattle.rb_semantics.proofs.Values.{number_value}
-use Rattle.rb_semantics.proofs.Changes.{agrees_below}
+use Rattle.rb_semantics.proofs.Changes.{agrees_below, plain_listed}
 use Rattle.rb_semantics.proofs.Checks.{passed, number_passed}
 use Rattle.rb_semantics.proofs.Rows.{past, known, Follows, Sound, IsEffect}
 use Rattle.rb_semantics.proofs.Moves.{given_sound, copied_sound, converted_sound, altered_sound, ring_sound, divided_sound}
@@ -149,6 +149,7 @@ entry_agrees subject context long = record {
   bounded = entry_bounded subject.rings context;
   stack = length-replicate {A = ℕ} 512 0;
   pointers = refl;
+  plain = plain_listed (λ place. abs.Number) (λ place. tt);
   context = long;
 }
 

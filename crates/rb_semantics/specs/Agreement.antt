@@ -5,6 +5,8 @@ use Rattle.rb_refs.specs.declared.state.AbsState.{AbsState}
 use Rattle.rb_refs.specs.declared.value.Abs.{Abs}
 use Rattle.rb_refs.specs.declared.value.Abs.TheVariants as abs
 use Rattle.rb_refs.specs.AbstractArithmetic.{is_near}
+use Rattle.rb_refs.specs.AbstractValues.{BelowValue}
+use Rattle.rb_refs.specs.KeptPointers.{known_in}
 use Rattle.rb_refs.specs.References.{has_id}
 use Rattle.rb_refs.specs.AbstractStates.{value_in}
 use Rattle.rb_verifier.specs.Subject.{Subject}
@@ -55,7 +57,8 @@ IsBoundedValue rings (Pointer place offset) = is_near offset ≡ true
 IsBoundedValue rings (Ring ring) = ring < rings
 IsBoundedValue rings v = Unit {0}
 
--- A state is as is known of it. The stack keeps no pointer, since the verifier refuses every store of one.
+-- A state is as is known of it. The stack keeps no pointer, since the verifier refuses every store of one; so each place is known
+-- to have data, or nothing is known of it.
 pub record Agrees (subject : Subject) (known : AbsState) (s : State) : Type 0 where
   pub count : length known.values ≡ length s.registers
   pub values : (r : ℕ) → AgreesValue s.memory.records (value_in known r) (register s r)
@@ -64,4 +67,5 @@ pub record Agrees (subject : Subject) (known : AbsState) (s : State) : Type 0 wh
   pub bounded : (r : ℕ) → IsBoundedValue subject.rings (register s r)
   pub stack : length s.memory.stack ≡ 512
   pub pointers : s.memory.pointers ≡ []
+  pub plain : (place : ℕ) → BelowValue abs.Number (known_in known.places place)
   pub context : length s.memory.context ≡ subject.ctx_len

@@ -11,6 +11,7 @@ use rb_interp::RunFault;
 use rb_jobs::{Gate, Job, JobAnswer, jobs_give_back, run_job};
 use rb_ledger::{ConsumerSeat, Seat, SharedRing, open};
 use rb_lend::{Lent, Sheet};
+use rb_seats::NoStock;
 use rb_verifier::{Verified, verify};
 use std::alloc::Global;
 use std::cell::Cell;
@@ -135,6 +136,7 @@ fn jobs_submit_42_and_come_to_the_gate_at_each_call(rt: HostRuntime) {
         seats,
         &job,
         &gate,
+        &NoStock,
         &mut calls,
     );
     assert_eq!(rt; answer, Ok(done));
@@ -147,6 +149,7 @@ fn jobs_submit_42_and_come_to_the_gate_at_each_call(rt: HostRuntime) {
         seats,
         &job,
         &gate,
+        &NoStock,
         &mut calls,
     );
     assert_eq!(rt; answer, Ok(done));
@@ -181,6 +184,7 @@ fn a_job_outputs_bytes_of_its_context(rt: HostRuntime) {
         seats,
         &job,
         &gate,
+        &NoStock,
         &mut calls,
     );
     assert!(rt; answer.is_ok_and(|a: JobAnswer| a.result == Ok(0) && a.unlogged == 0));
@@ -211,6 +215,7 @@ fn a_context_of_another_length_makes_no_call(rt: HostRuntime) {
         seats,
         &job,
         &gate,
+        &NoStock,
         &mut calls,
     );
     let refused = JobAnswer {
@@ -245,6 +250,7 @@ fn a_full_ring_gives_null_and_is_logged(rt: HostRuntime) {
         seats,
         &job,
         &gate,
+        &NoStock,
         &mut calls,
     );
     assert!(rt; answer.is_ok_and(|a: JobAnswer| a.result.is_ok() && a.unlogged == 0));

@@ -2,6 +2,8 @@
 #![tactic(auto)]
 
 #[cfg(test)]
+mod c_programs;
+#[cfg(test)]
 mod jobs;
 #[cfg(test)]
 mod programs;

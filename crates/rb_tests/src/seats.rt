@@ -250,7 +250,7 @@ fn a_sheet_of_the_stock_is_used_again(rt: HostRuntime) {
     let (ring, seat, _consumer) = opened(&rt, rt.alloc(), 0);
     let rings = [ring];
     let seats = vec![in rt.alloc(); seat].expect(&rt, "memory");
-    let mut used = Sheet::new(rt.alloc(), 16).expect(&rt, "memory");
+    let mut used = Sheet::new(rt.alloc(), 24).expect(&rt, "memory");
     used.bytes_mut().fill(9);
     let stock = OneSheet {
         kept: Cell::new(Some(used)),
@@ -259,8 +259,8 @@ fn a_sheet_of_the_stock_is_used_again(rt: HostRuntime) {
     else {
         rt.panic("no memory")
     };
-    match helpers.reserve(0, 4, 0) {
-        Some(owned) => assert_eq!(rt; owned.bytes(), [0, 0, 0, 0].as_slice()),
+    match helpers.reserve(0, 17, 0) {
+        Some(owned) => assert_eq!(rt; owned.bytes(), [0; 17].as_slice()),
         None => rt.panic("null"),
     }
     assert!(rt; stock.kept.take().is_none());

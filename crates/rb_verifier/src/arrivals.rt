@@ -1,6 +1,6 @@
 //! What is noted of the states that arrive at the units.
 
-ghost use Rattle.std.specs.Prelude.{◌≡◌, ◌≢◌, ◌<◌, ◌≤◌, ℕ, Some, IfOk, vec_len};
+ghost use Rattle.std.specs.Prelude.{◌≡◌, ◌≢◌, ◌<◌, ◌≤◌, ℕ, Some, IfOk, OnOk, vec_len};
 ghost use Rattle.rb_refs.specs.AbstractStates.{along_jump};
 ghost use Rattle.rb_verifier.specs.inner.Sweep.{IsMerged, TakesArrival, Flows, AreFirstArrivals, noted_at};
 
@@ -21,30 +21,36 @@ pub(crate) enum Arrival {
 
 /// One more state is noted.
 #[inline(always)]
-fn merged(arrival: &Arrival, state: AbsState) -> Arrival
-    ensures { IsMerged arrival.now state result }
+fn merged(arrival: &Arrival, state: AbsState) -> Result<Arrival, AllocError>
+    ensures { IfOk result (IsMerged arrival.now state) }
 {
     match arrival {
-        Arrival::Nothing => Arrival::Least(state),
+        Arrival::Nothing => Ok(Arrival::Least(state)),
         Arrival::Least(other) => match join(other, &state) {
-            Some(least) => Arrival::Least(least),
-            None => Arrival::Differ,
+            Ok(Some(least)) => Ok(Arrival::Least(least)),
+            Ok(None) => Ok(Arrival::Differ),
+            Err(memory) => Err(memory),
         },
-        Arrival::Differ => Arrival::Differ,
+        Arrival::Differ => Ok(Arrival::Differ),
     }
 }
 
 /// Notes a state at the unit to which it flows, where there is one.
 #[inline(always)]
-pub(crate) fn flow(arrivals: &mut Vec<Arrival>, target: Option<u32>, state: AbsState)
+pub(crate) fn flow(
+    arrivals: &mut Vec<Arrival>,
+    target: Option<u32>,
+    state: AbsState,
+) -> Result<(), AllocError>
     requires { (to : ℕ) → target ≡ Some to → to < vec_len arrivals.old }
-    ensures { Flows target state arrivals.old.items arrivals.new.items }
+    ensures { OnOk result (Flows target state arrivals.old.items arrivals.new.items) }
 {
     if let Some(to) = target {
         let unit = to as usize;
-        let arrival = merged(&arrivals[unit], state);
+        let arrival = merged(&arrivals[unit], state)?;
         arrivals[unit] = arrival;
     }
+    Ok(())
 }
 
 /// Notes the state along a jump's edge at the unit to which it leads, where there is one: the one that is given, else a copy of
@@ -55,14 +61,14 @@ pub(crate) fn flow_jump(
     target: Option<u32>,
     jump: Option<AbsState>,
     next: &AbsState,
-)
+) -> Result<(), AllocError>
     requires { (to : ℕ) → target ≡ Some to → to < vec_len arrivals.old }
-    ensures { Flows target (along_jump jump next.now) arrivals.old.items arrivals.new.items }
+    ensures { OnOk result (Flows target (along_jump jump next.now) arrivals.old.items arrivals.new.items) }
 {
     match (target, jump) {
-        (None, _) => {}
+        (None, _) => Ok(()),
         (Some(_), Some(jump)) => flow(arrivals, target, jump),
-        (Some(_), None) => flow(arrivals, target, next.copy()),
+        (Some(_), None) => flow(arrivals, target, next.copy()?),
     }
 }
 

@@ -11,7 +11,7 @@ use crate::arrivals::{Arrival, first_arrivals, flow, flow_jump, take};
 use crate::refusal::Refusal;
 use rb_cfg::{Shape, jump_target, next_unit};
 use rb_insn::Insn;
-use rb_refs::{AbsState, Limits, Rule, step_in_place};
+use rb_refs::{AbsState, Limits, Rule, StepFault, step_in_place};
 use std::alloc::Global;
 
 /// One turn of the pass, at an instruction: its state is settled and kept, and what the instruction makes of it flows on along its edges.
@@ -39,15 +39,23 @@ fn visit(
         }
         Arrival::Least(state) => state,
     };
-    if states.push(state.copy()).is_err() {
+    let Ok(kept) = state.copy() else {
+        return Err(Refusal::Memory);
+    };
+    if states.push(kept).is_err() {
         return Err(Refusal::Memory);
     }
     let jump = match step_in_place(limits, unit, insn, &mut state) {
         Ok(jump) => jump,
-        Err(rule) => return Err(Refusal::Rule { unit, rule }),
+        Err(StepFault::Rule(rule)) => return Err(Refusal::Rule { unit, rule }),
+        Err(StepFault::Memory) => return Err(Refusal::Memory),
     };
-    flow_jump(arrivals, jump_target(unit, insn), jump, &state);
-    flow(arrivals, next_unit(unit, insn), state);
+    let Ok(()) = flow_jump(arrivals, jump_target(unit, insn), jump, &state) else {
+        return Err(Refusal::Memory);
+    };
+    let Ok(()) = flow(arrivals, next_unit(unit, insn), state) else {
+        return Err(Refusal::Memory);
+    };
     Ok(())
 }
 

@@ -4,8 +4,8 @@ pub mod Deals
 pub mod Parts
 pub mod Whole
 pub mod Numbered
-pub mod Takes
 pub mod SinkItems
+pub mod Giving
 pub mod Merges
 pub mod Same
 pub mod Sums

@@ -1,5 +1,5 @@
 -- What a whole run tells.
-use Rattle.std.proofs.Common.{◌≡◌, ℕ, suc, ◌<◌, List, [], ◌∷◌, ◌++◌, Bool, true, false, ◌||◌, length, get_or, map, refl, ap, sym, ◌∙◌, subst, append-nil, ⊎_elim, arith}
+use Rattle.std.proofs.Common.{◌≡◌, ℕ, suc, ◌<◌, ◌≤◌, List, [], ◌∷◌, ◌++◌, Bool, true, false, ◌||◌, length, get_or, map, refl, ap, sym, ◌∙◌, subst, append-nil, ⊎_elim, arith}
 use Rattle.std.proofs.lemmas.Bool.{true≢false}
 use Rattle.std.proofs.lemmas.Bool.Decides.{leb_tells}
 use Rattle.std.specs.Prelude.{All, nat_lt, not}
@@ -18,10 +18,10 @@ use Rattle.rb_workers.specs.declared.opened.Ended.{Ended}
 use Rattle.rb_workers.specs.declared.opened.Report.{Report}
 use Rattle.rb_workers.specs.declared.workers.Worker.{Worker}
 use Rattle.rb_workers.specs.inner.RingEnds.{Closes}
-use Rattle.rb_workers.specs.JobRuns.{JobRun, own_jobs, is_stray}
+use Rattle.rb_workers.specs.JobRuns.{own_jobs, is_stray}
 use Rattle.rb_workers.specs.inner.WorkerRuns.{RunsJobs, RunsOwnJobs, own_answers}
 use Rattle.rb_workers.specs.Opened.{AreOpened, IsOpened, SinkGetsTaken, workers_of}
-use Rattle.rb_workers.specs.Reports.{RingsEnd, IsHandedBack, IsReport, RunsFirst, has_unknown_worker}
+use Rattle.rb_workers.specs.Reports.{RingsEnd, IsHandedBack, IsReport, RunsFirst, has_unknown_ring, has_unknown_worker}
 use Rattle.rb_workers.specs.Sink.{SinkItem}
 use Rattle.rb_workers.specs.SeatRows.{seat_rows, worker_column}
 use Rattle.rb_workers.specs.inner.WorkerRuns.{HasRun}
@@ -83,6 +83,16 @@ known_workers count (j ∷ js) e =
   where
     below_known : (w n : ℕ) → not (nat_lt w n) ≡ false → w < n
     below_known w n e = ⊎_elim (λ is. omega (arith, is.1)) (λ above. absurd (true≢false (sym (ap not above.0) ∙ e))) (leb_tells (suc w) n)
+
+-- where no ring is unknown, each job's program knows rings among these
+pub known_rings : (rings : ℕ) (jobs : List Job) → has_unknown_ring rings jobs ≡ false → All (λ j. j.program.now.rings ≤ rings) jobs
+known_rings rings [] e = λ k d below. absurd (omega arith)
+known_rings rings (j ∷ js) e =
+    let parts = or_parts (nat_lt rings j.program.now.rings) (has_unknown_ring rings js) e in
+    All-cons (λ (i : Job). i.program.now.rings ≤ rings) j js (within_known rings j.program.now.rings parts.0) (known_rings rings js parts.1)
+  where
+    within_known : (n r : ℕ) → nat_lt n r ≡ false → r ≤ n
+    within_known n r e = ⊎_elim (λ is. absurd (true≢false (sym is.0 ∙ e))) (λ above. omega (arith, above.1)) (leb_tells (suc n) r)
 
 -- no worker was short of memory
 none_short : (workers : List Worker) → list_any (λ w. w.short) workers ≡ false → All (λ w. w.short ≡ false) workers

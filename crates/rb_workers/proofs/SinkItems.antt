@@ -1,11 +1,11 @@
 -- What a consumer's thread gives to its sink is what was taken.
-use Rattle.std.proofs.Common.{◌≡◌, ◌≢◌, ℕ, ◌+◌, ◌<◌, ◌≤◌, ◌||◌, Bool, true, false, cond, List, [], ◌∷◌, ◌++◌, Option, Some, None, length, map, refl, ap, sym, ◌∙◌, subst, append-nil, append_assoc, arith}
+use Rattle.std.proofs.Common.{◌≡◌, ℕ, ◌+◌, ◌<◌, ◌||◌, Bool, true, false, cond, List, [], ◌∷◌, ◌++◌, Some, length, map, refl, ap, sym, ◌∙◌, subst, append-nil, append_assoc, arith}
 use Rattle.std.proofs.lemmas.Bool.{true≢false}
 use Rattle.std.proofs.lemmas.List.{map-append}
 use Rattle.std.proofs.lemmas.List.Elements.{All-nil, All-cons, All-append, All-weaker, All-head, All-tail, Contains-append_left, filter_map-append}
 use Rattle.std.proofs.lemmas.List.Folds.{list_any-append}
 use Rattle.std.specs.Prelude.{All}
-use Rattle.std.specs.List.{Contains, filter_map, list_any}
+use Rattle.std.specs.List.{Contains, list_any}
 use Rattle.std.specs.FinMap.{get, insert, get-insert}
 use Rattle.std.specs.Cmp.{nat_cmp_total}
 use Rattle.rb_header.specs.Span.{span}
@@ -13,20 +13,24 @@ use Rattle.rb_history.specs.declared.entries.Entry.{Entry}
 use Rattle.rb_history.specs.declared.entries.Entry.TheVariants.{Res, Full, Sub, Dis, Take}
 use Rattle.rb_history.specs.declared.answers.Taken.{Taken}
 use Rattle.rb_history.specs.declared.answers.Taken.TheVariants.{Event as TakenEvent, Skipped, BusyFront, Empty}
-use Rattle.rb_history.specs.History.{Status, status_by, status_of, is_submit, is_discard, is_take, is_submitted_at, is_discarded_at, is_taken_at}
+use Rattle.rb_history.specs.History.{status_by, is_submit, is_discard, is_submitted_at, is_discarded_at, is_taken_at}
 use Rattle.rb_history.specs.History.Status.{Waiting, Discarded}
-use Rattle.rb_history.specs.RingModel.{Ring, Contents, HasLength}
-use Rattle.rb_history.specs.Calls.{Takes, TakesEvent, Skips}
+use Rattle.rb_history.specs.RingModel.{Ring, Contents}
+use Rattle.rb_history.specs.Calls.{Takes}
 use Rattle.rb_history.proofs.Contents.{hit-yes, hit-no}
 use Rattle.rb_ledger.specs.Roles.{Book, NoneOwn, ExtendsSeen, BeginsWith, book_of}
 use Rattle.rb_ledger.specs.Roles.Role.{Consumer}
-use Rattle.rb_ledger.specs.LockedCalls.{LockedCall, TakesAt, got_by, span_in, IsTakenAt}
+use Rattle.rb_history.specs.ManyTakes.{HasRecord, TakesEach, TakesMany}
+use Rattle.rb_history.proofs.Lists.{sum_by-cons}
+use Rattle.rb_ledger.specs.LockedCalls.{LockedCall, got_by, span_in, IsTakenAt}
+use Rattle.rb_ledger.specs.ManyTakes.{span_among, AreTakenFrom, got_by_all}
 use Rattle.rb_ledger.specs.Seats.{ConsumerSeatValue, IsSameConsumerSeat}
-use Rattle.rb_ledger.proofs.Beginnings.{begins_through, begins_with_all, call_begins, logged_begins, same_begins}
+use Rattle.rb_ledger.proofs.Beginnings.{begins_through, begins_with_all, call_begins, logged_begins}
+use Rattle.rb_ledger.proofs.ManyTakes.{takes_of, logs-each}
 use Rattle.rb_workers.specs.declared.consumer_task.ConsumerTask.{ConsumerTask}
 use Rattle.rb_workers.specs.Sink.{SinkItem, GetsTaken, IsRecordIn, TakesAll, sink_position, takes_in, take_of}
 use Rattle.rb_workers.specs.Sink.SinkItem.{Event, Skip}
-use Rattle.rb_workers.specs.inner.ConsumerTasks.{Consumed, HasGiven, items_of}
+use Rattle.rb_workers.specs.inner.ConsumerTasks.{Consumed, HasGiven, IsSameConsumer, items_among}
 
 -- ---- a longer history
 
@@ -150,21 +154,20 @@ still takes old new x y taken position got given =
       keeps = λ p below. ap (λ m. get m p) got;
     }
 
-pub taken_given : {S : Type 0} (takes : S → SinkItem → S → Type 0) (t : Taken) (old new : ConsumerSeatValue) (x y : S) → LockedCall Consumer old.seen new.seen (TakesAt t) → IsTakenAt old.position t
-    → new.position ≡ old.position + span_in t → new.got ≡ got_by old.got t → TakesAll takes x (items_of t) y → HasGiven takes old new x y
-taken_given takes (TakenEvent p w k bytes) old new x y call place position got given =
-    let taken = call.called.0 in
-    let now : new.seen.history ≡ call.point.history ++ Take p ∷ [] = ap (λ (b : Book). b.history) call.seen ∙ taken.logged.history_is in
+given_by : {S : Type 0} (takes : S → SinkItem → S → Type 0) (t : Taken) (old new : ConsumerSeatValue) (point left : Ring) (x y : S) → ExtendsSeen Consumer old.seen (book_of point) → Takes point left t → HasRecord t
+    → new.seen ≡ book_of left → IsTakenAt old.position t → new.position ≡ old.position + span_in t → new.got ≡ got_by old.got t → TakesAll takes x (items_among (t ∷ [])) y → HasGiven takes old new x y
+given_by takes (TakenEvent p w k bytes) old new point left x y goes taken found seen place position got given =
+    let now : new.seen.history ≡ point.history ++ Take p ∷ [] = ap (λ (b : Book). b.history) seen ∙ taken.logged.history_is in
     let moved : old.position < new.position = omega (arith, position, wide (length bytes)) in
     let item = Event p w k bytes in
-    let submitted = waiting_submitted (is_submitted_at call.point.history p) (is_discarded_at call.point.history p) (is_taken_at call.point.history p) taken.waiting in
+    let submitted = waiting_submitted (is_submitted_at point.history p) (is_discarded_at point.history p) (is_taken_at point.history p) taken.waiting in
     record {
       gets = record {
         items = item ∷ [];
-        taken_are = takes_one old.seen new.seen call.point p call.goes_on now;
+        taken_are = takes_one old.seen new.seen point p goes now;
         records_are = All-cons (IsRecordIn new.seen.history new.got) item [] (
-          subst (λ h. Contains h (Res w k (length bytes) p)) (sym now) (Contains-append_left call.point.history (Take p ∷ []) (Res w k (length bytes) p) taken.granted_is),
-          ap (λ h. is_submitted_at h p) now ∙ submitted_on call.point.history (Take p ∷ []) p submitted,
+          subst (λ h. Contains h (Res w k (length bytes) p)) (sym now) (Contains-append_left point.history (Take p ∷ []) (Res w k (length bytes) p) taken.granted_is),
+          ap (λ h. is_submitted_at h p) now ∙ submitted_on point.history (Take p ∷ []) p submitted,
           ap (λ m. get m p) got ∙ get_here old.got p bytes,
         )
             (All-nil (IsRecordIn new.seen.history new.got));
@@ -174,20 +177,19 @@ taken_given takes (TakenEvent p w k bytes) old new x y call place position got g
       passed = one_item new.position item (omega (arith, moved, place));
       keeps = λ q below. ap (λ m. get m q) got ∙ get_before old.got p q bytes (omega (arith, below, place));
     }
-taken_given takes (Skipped p n) old new x y call place position got given =
-    let taken = call.called.0 in
-    let now : new.seen.history ≡ call.point.history ++ Take p ∷ [] = ap (λ (b : Book). b.history) call.seen ∙ taken.logged.history_is in
+given_by takes (Skipped p n) old new point left x y goes taken found seen place position got given =
+    let now : new.seen.history ≡ point.history ++ Take p ∷ [] = ap (λ (b : Book). b.history) seen ∙ taken.logged.history_is in
     let moved : old.position < new.position = omega (arith, position, wide n) in
     let item = Skip p n in
-    let discarded = status_discarded (is_submitted_at call.point.history p) (is_discarded_at call.point.history p) (is_taken_at call.point.history p) taken.discarded in
+    let discarded = status_discarded (is_submitted_at point.history p) (is_discarded_at point.history p) (is_taken_at point.history p) taken.discarded in
     let granted = taken.granted_is in
     record {
       gets = record {
         items = item ∷ [];
-        taken_are = takes_one old.seen new.seen call.point p call.goes_on now;
+        taken_are = takes_one old.seen new.seen point p goes now;
         records_are = All-cons (IsRecordIn new.seen.history new.got) item [] (
-          (granted.0, (granted.1.0, subst (λ h. Contains h (Res granted.0 granted.1.0 n p)) (sym now) (Contains-append_left call.point.history (Take p ∷ []) (Res granted.0 granted.1.0 n p) granted.1.1))),
-          ap (λ h. is_discarded_at h p) now ∙ discarded_on call.point.history (Take p ∷ []) p discarded,
+          (granted.0, (granted.1.0, subst (λ h. Contains h (Res granted.0 granted.1.0 n p)) (sym now) (Contains-append_left point.history (Take p ∷ []) (Res granted.0 granted.1.0 n p) granted.1.1))),
+          ap (λ h. is_discarded_at h p) now ∙ discarded_on point.history (Take p ∷ []) p discarded,
         )
             (All-nil (IsRecordIn new.seen.history new.got));
         given = given;
@@ -196,27 +198,64 @@ taken_given takes (Skipped p n) old new x y call place position got given =
       passed = one_item new.position item (omega (arith, moved, place));
       keeps = λ q below. ap (λ m. get m q) got;
     }
-taken_given takes BusyFront old new x y call place position got given = still takes old new x y (takes_stay_same old new call.point call.goes_on (ap (λ (b : Book). b.history) call.seen ∙ ap (λ (r : Ring). r.history) call.called.0.same)) position got given
-taken_given takes Empty old new x y call place position got given = still takes old new x y (takes_stay_same old new call.point call.goes_on (ap (λ (b : Book). b.history) call.seen ∙ ap (λ (r : Ring). r.history) call.called.0.same)) position got given
+given_by takes BusyFront old new point left x y goes taken found seen place position got given = absurd found
+given_by takes Empty old new point left x y goes taken found seen place position got given = absurd found
+
+-- ---- many takes
+
+-- the consumer's seat after one take of many
+abbrev seat_after : ConsumerSeatValue → Ring → Taken → ConsumerSeatValue
+seat_after c left t = record c { seen = book_of left; position = c.position + span_in t; got = got_by c.got t }
+
+-- what was seen at the last take has nothing behind it
+nothing_behind : (r : Ring) → ExtendsSeen Consumer (book_of r) (book_of r)
+nothing_behind r = record { setup_same = refl; behind = []; history_is = sym (append-nil r.history); none_own = tt }
+
+each_begins : (old new : Ring) (ts : List Taken) → TakesEach old ts new → BeginsWith (book_of new) (book_of old)
+each_begins old new ts each = logged_begins old new (takes_of ts) (logs-each old new ts each)
+
+-- the sink took the items of the first answer, and then those of the others
+split_first : {S : Type 0} (takes : S → SinkItem → S → Type 0) (t : Taken) (ts : List Taken) (x z : S) → HasRecord t → TakesAll takes x (items_among (t ∷ ts)) z → (mid : S) × TakesAll takes x (items_among (t ∷ [])) mid × TakesAll takes mid (items_among ts) z
+split_first takes (TakenEvent p w k bytes) ts x z found given = (given.0, (given.0, given.1, refl), given.2)
+split_first takes (Skipped p n) ts x z found given = (given.0, (given.0, given.1, refl), given.2)
+split_first takes BusyFront ts x z found given = absurd found
+split_first takes Empty ts x z found given = absurd found
+
+each_given : {S : Type 0} (takes : S → SinkItem → S → Type 0) (ts : List Taken) (old new : ConsumerSeatValue) (point left : Ring) (x y : S) → ExtendsSeen Consumer old.seen (book_of point) → TakesEach point ts left
+    → new.seen ≡ book_of left → AreTakenFrom old.position ts → new.position ≡ old.position + span_among ts → new.got ≡ got_by_all old.got ts → TakesAll takes x (items_among ts) y → HasGiven takes old new x y
+each_given takes [] old new point left x y goes each seen place position got given =
+    still takes old new x y (takes_stay_same old new point goes (ap (λ (b : Book). b.history) seen ∙ ap (λ (r : Ring). r.history) each)) (omega (arith, position)) got given
+each_given takes (t ∷ ts) old new point left x y goes each seen place position got given =
+    let next = each.0 in
+    let mid = seat_after old next t in
+    let cut = split_first takes t ts x y each.2 given in
+    given_on takes old mid new x cut.0 y
+    (subst (λ b. BeginsWith b (book_of next)) (sym seen) (each_begins next left ts each.3))
+    (given_by takes t old mid point next x cut.0 goes each.1 each.2 refl place.0 refl refl cut.1)
+    (each_given takes ts mid new next left cut.0 y (nothing_behind next) each.3 seen place.1 (omega (arith, position, sum_by-cons span_in t ts)) got cut.2)
 
 -- ---- consumers' threads
 
-take_begins : (t : Taken) (old new : Ring) → TakesAt t old new → BeginsWith (book_of new) (book_of old)
-take_begins (TakenEvent p w k bytes) old new called = logged_begins old new _ called.0.logged
-take_begins (Skipped p n) old new called = logged_begins old new _ called.0.logged
-take_begins BusyFront old new called = same_begins old new called.0.same
-take_begins Empty old new called = same_begins old new called.0.same
-
--- a take, whose item the sink was given
-pub consumed_one : {S : Type 0} (position : S → ℕ) (takes : S → SinkItem → S → Type 0) (t : Taken) (old new : ConsumerTask S) → IsSameConsumerSeat old.consumer new.consumer
-    → LockedCall Consumer old.consumer.seen new.consumer.seen (TakesAt t) → IsTakenAt old.consumer.position t → new.consumer.position ≡ old.consumer.position + span_in t
-    → new.consumer.got ≡ got_by old.consumer.got t → position old.sink ≡ old.consumer.position → position new.sink ≡ position old.sink + span_in t → new.returned_seats ≡ old.returned_seats
-    → TakesAll takes old.sink (items_of t) new.sink → Consumed position takes old new
-consumed_one position takes t old new same call place moved got follows gone seats given = (
-  record { tag_same = same.tag_same; ring_same = same.ring_same; begins = call_begins Consumer old.consumer.seen new.consumer.seen (TakesAt t) (take_begins t) call },
-  omega (arith, moved, follows, gone),
+-- takes under one holding of the lock, whose items the sink was given
+pub consumed_many : {S : Type 0} (position : S → ℕ) (takes : S → SinkItem → S → Type 0) (n : ℕ) (ts : List Taken) (old new : ConsumerTask S) → IsSameConsumerSeat old.consumer new.consumer
+    → LockedCall Consumer old.consumer.seen new.consumer.seen (TakesMany n ts) → AreTakenFrom old.consumer.position ts → new.consumer.position ≡ old.consumer.position + span_among ts
+    → new.consumer.got ≡ got_by_all old.consumer.got ts → position new.sink ≡ new.consumer.position → new.returned_seats ≡ old.returned_seats
+    → TakesAll takes old.sink (items_among ts) new.sink → Consumed position takes old new
+consumed_many position takes n ts old new same call place moved got follows seats given = (
+  record { tag_same = same.tag_same; ring_same = same.ring_same; begins = call_begins Consumer old.consumer.seen new.consumer.seen (TakesMany n ts) (λ a b called. each_begins a b ts called.each) call },
+  follows,
   seats,
-  taken_given takes t old.consumer new.consumer old.sink new.sink call place moved got given,
+  each_given takes ts old.consumer new.consumer call.point call.left old.sink new.sink call.goes_on call.called.each call.seen place moved got given,
+)
+
+-- another task with the same consumer, sink and seats
+pub consumed_same : {S : Type 0} (position : S → ℕ) (takes : S → SinkItem → S → Type 0) (old new now : ConsumerTask S) → now.consumer ≡ new.consumer → now.sink ≡ new.sink → now.returned_seats ≡ new.returned_seats
+    → Consumed position takes old new → Consumed position takes old now
+consumed_same {S} position takes old new now consumer sink seats is = (
+  subst (IsSameConsumer old.consumer) (sym consumer) is.0,
+  ap position sink ∙ is.1 ∙ sym (ap (λ (c : ConsumerSeatValue). c.position) consumer),
+  seats ∙ is.2,
+  subst (λ (c : ConsumerSeatValue). HasGiven takes old.consumer c old.sink now.sink) (sym consumer) (subst (λ (s : S). HasGiven takes old.consumer new.consumer old.sink s) (sym sink) is.3),
 )
 
 pub consumed_none : {S : Type 0} (position : S → ℕ) (takes : S → SinkItem → S → Type 0) (task : ConsumerTask S) → position task.sink ≡ task.consumer.position → Consumed position takes task task

@@ -16,7 +16,7 @@ use Rattle.rb_workers.specs.inner.ConsumerTasks.{IsSameConsumer, IsConsumerTaskO
 use Rattle.rb_workers.specs.JobRuns.{own_jobs}
 use Rattle.rb_workers.specs.inner.WorkerRuns.{RunsOwnJobs}
 use Rattle.rb_workers.specs.SeatRows.{worker_column, seat_rows}
-use Rattle.rb_workers.specs.Opened.{IsOpened, SinkGetsTaken}
+use Rattle.rb_workers.specs.Opened.{IsOpened}
 use Rattle.rb_workers.specs.Sink.{SinkItem, GetsTaken}
 use Rattle.rb_workers.proofs.SinkItems.{gets_same}
 use Rattle.rb_workers.proofs.Numbered.{seats_length}

@@ -1,52 +1,81 @@
 //! A ring's consumer.
 
-ghost use Rattle.std.specs.Prelude.{◌≡◌};
-ghost use Rattle.rb_workers.specs.inner.ConsumerTasks.{IsConsumerTaskOf, Consumed};
+ghost use Rattle.std.specs.Prelude.{◌≡◌, ℕ};
+ghost use Rattle.rb_header.specs.TapeBytes.{AreItemsFrom, end_of};
+ghost use Rattle.rb_consumer.specs.Items.{tape_items};
+ghost use Rattle.rb_workers.specs.Sink.{TakesAll};
+ghost use Rattle.rb_workers.specs.inner.ConsumerTasks.{IsConsumerTaskOf, Consumed, items_among};
 
 use crate::sink::Sink;
-use rb_ledger::{ConsumerSeat, Foreign, Seat, SharedRing, Taken, WaitBackoff};
-use rb_lend::Lent;
+use rb_consumer::{Batch, Item, Items};
+use rb_ledger::{ConsumerSeat, Foreign, Seat, SharedRing, WaitBackoff};
+use rb_seats::Stock;
 use std::sync::Wait;
 use std::sync::atomic::{AtomicBool, Ordering};
 
-/// A ring's consumer, what it gives the records to, and the place to which the ring's seats come back.
+/// How many records a consumer takes at most under one holding of its ring's lock.
+pub(crate) const BATCH: usize = 64;
+
+/// A ring's consumer, what it gives the records to, the place to which the ring's seats come back, and the records that it took last.
 #[derive(Drop)]
 pub(crate) struct ConsumerTask<S> {
     pub(crate) consumer: ConsumerSeat,
     pub(crate) sink: S,
     pub(crate) returned_seats: Vec<Seat>,
+    pub(crate) batch: Batch,
 }
 
 impl<S: Sink> ConsumerTask<S> {
-    // Takes the next record and gives it to the sink, and answers whether there was one to take.
-    fn take_next<R: Wait>(&mut self, rt: &R, ring: &SharedRing) -> bool
+    // Takes as many records as there are and the batch has room for, gives them to the sink, and answers how many they are.
+    fn take_batch<R: Wait>(&mut self, rt: &R, ring: &SharedRing) -> usize
         requires ready { IsConsumerTaskOf S.position_of ring.now self.old }
         ensures taken { Consumed S.position_of S.takes self.old self.new }
     {
-        match ring.take(rt, &mut self.consumer) {
-            Ok(Taken::Event(pos, worker, serial, sheet)) => {
-                self.consumer.facts();
-                self.sink.event(pos, worker, serial, sheet.bytes());
-                true
+        match self.batch.fill(rt, ring, &mut self.consumer) {
+            Ok(count) => {
+                give_all(&mut self.sink, self.batch.items());
+                count
             }
-            Ok(Taken::Skipped(pos, n)) => {
-                self.consumer.facts();
-                self.sink.skipped(pos, n);
-                true
-            }
-            Ok(Taken::BusyFront) => false,
-            Ok(Taken::Empty) => false,
             Err(Foreign) => unreachable!(),
+        }
+    }
+
+    // Hands the sheets of the records that were taken last to the stock. One that finds no place there is dropped.
+    fn hand_on<K: Stock>(&mut self, stock: &K, count: usize)
+        ensures consumer { self.new.consumer ≡ self.old.consumer }
+        ensures sink { self.new.sink ≡ self.old.sink }
+        ensures seats { self.new.returned_seats ≡ self.old.returned_seats }
+    {
+        for _ in 0..count {
+            let Some(sheet) = self.batch.recycle() else {
+                break;
+            };
+            let _dropped = stock.put(sheet);
         }
     }
 }
 
-/// Takes records until the workers have ended and a take that began after that finds none. Where it finds none it waits, for longer each
-/// time.
-pub(crate) fn consume<R: Wait, S: Sink>(
+// Gives the sink each of the records, in their order.
+fn give_all<S: Sink>(sink: &mut S, mut items: Items<'_>)
+    requires stand { (size : ℕ) × AreItemsFrom size (S.position_of sink.old) (tape_items items) }
+    ensures moved { S.position_of sink.new ≡ end_of (S.position_of sink.old) (tape_items items.entry) }
+    ensures given { TakesAll S.takes sink.old (items_among items.entry) sink.new }
+{
+    while let Some(item) = items.next() {
+        match item {
+            Item::Event(event) => sink.event(event.pos, event.worker, event.serial, event.bytes),
+            Item::Skip(pos, n) => sink.skipped(pos, n),
+        }
+    }
+}
+
+/// Takes records until the workers have ended and a look that began after that finds none. Where it did not find a whole batch it waits,
+/// for longer each time that it finds none.
+pub(crate) fn consume<R: Wait, S: Sink, K: Stock>(
     rt: &R,
     ring: &SharedRing,
     ended: &AtomicBool,
+    stock: &K,
     task: &mut ConsumerTask<S>,
 )
     requires ready { IsConsumerTaskOf S.position_of ring.now task.old }
@@ -55,12 +84,16 @@ pub(crate) fn consume<R: Wait, S: Sink>(
     let mut backoff = WaitBackoff::new();
     for _ in rt.forever() {
         let over = ended.load(Ordering::SeqCst);
-        if task.take_next(rt, ring) {
-            backoff = WaitBackoff::new();
+        let count = task.take_batch(rt, ring);
+        task.hand_on(stock, count);
+        if count == 0 && over {
+            break;
+        }
+        if count == BATCH {
             continue;
         }
-        if over {
-            break;
+        if count > 0 {
+            backoff = WaitBackoff::new();
         }
         backoff.wait();
     }

@@ -9,6 +9,7 @@ ghost use Rattle.rb_workers.specs.inner.ConsumerTasks.{IsSplitOff, IsMergedInto}
 use crate::consumer_task::ConsumerTask;
 use crate::opened::Opened;
 use crate::workers::Worker;
+use rb_consumer::Batch;
 use rb_ledger::{Seat, SharedRing};
 
 // Gives a ring's seats to the workers, one to each.
@@ -39,13 +40,15 @@ fn return_ring(workers: &mut [Worker], returned_seats: &mut Vec<Seat>)
     }
 }
 
-/// Takes the rings apart: what all threads share, what each ring's thread owns, and each worker's seats.
+/// Takes the rings apart: what all threads share, what each ring's thread owns, a batch among it, and each worker's seats.
 pub(crate) fn split<S: Drop>(
     opened: Vec<Opened<S>>,
     rings: &mut Vec<SharedRing>,
     consumers: &mut Vec<ConsumerTask<S>>,
+    mut batches: Vec<Batch>,
     workers: &mut [Worker],
 )
+    requires batches { vec_len batches ≡ vec_len opened }
     requires empty { (rings.old.items ≡ []) × (consumers.old.items ≡ []) }
     requires room { (vec_len opened ≤ vec_capacity rings.old) × (vec_len opened ≤ vec_capacity consumers.old) }
     requires seats { All (λ o. length o.seats.items ≡ length workers.old) opened.items }
@@ -61,12 +64,16 @@ pub(crate) fn split<S: Drop>(
             consumer,
             sink,
         } = one;
+        let Some(batch) = batches.pop() else {
+            unreachable!()
+        };
         distribute_ring(&mut seats, workers);
         rings.push_reserved(ring);
         consumers.push_reserved(ConsumerTask {
             consumer,
             sink,
             returned_seats: seats,
+            batch,
         });
     }
 }
@@ -95,6 +102,7 @@ pub(crate) fn merge<S: Drop>(
             consumer,
             sink,
             mut returned_seats,
+            batch: _,
         } = task;
         return_ring(workers, &mut returned_seats);
         let one = Opened {

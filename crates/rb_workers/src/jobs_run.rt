@@ -21,9 +21,12 @@ use crate::run_buffers::{RunBuffers, make_buffers};
 use crate::sink::Sink;
 use crate::threads::run_threads;
 use crate::workers::Worker;
+use crossbeam_queue::ArrayQueue;
+use rb_consumer::Batch;
 use rb_interp::RunFault;
 use rb_jobs::{Gate, Job, JobAnswer};
 use rb_ledger::SharedRing;
+use rb_lend::Sheet;
 use std::alloc::Global;
 use std::sync::Wait;
 use std::thread::Threads;
@@ -75,20 +78,32 @@ fn run_in<R: Threads + Wait + Sync, G: Gate + Sync, S: Sink + Send + Drop>(
     gate: &G,
     mut rings: Vec<SharedRing>,
     mut consumers: Vec<ConsumerTask<S>>,
+    batches: Vec<Batch>,
+    sheets: &ArrayQueue<Sheet>,
     merged: Vec<Opened<S>>,
     workers: &mut [Worker],
 ) -> Vec<Opened<S>>
     requires jobs { All (λ j. j.program.now.rings ≤ vec_len opened) jobs.now }
     requires opened { All (IsOpened S.position_of (length workers.old)) opened.items }
     requires count { length workers.old ≡ workers_of opened.items }
+    requires batches { vec_len batches ≡ vec_len opened }
     requires empty { (rings.items ≡ []) × (consumers.items ≡ []) × (merged.items ≡ []) }
     requires room { (vec_len opened ≤ vec_capacity rings) × (vec_len opened ≤ vec_capacity consumers) × (vec_len opened ≤ vec_capacity merged) }
     requires workers { (k : ℕ) (d : _) → k < length workers.old → IsNew k (vec_len opened) (slice_index_or workers.old k d) }
     ensures handed_back { IsHandedBack S.position_of S.takes opened.items jobs.now result.items }
     ensures workers { (k : ℕ) (d : _) → k < workers_of opened.items → HasRun k jobs.now (worker_column k (seat_rows opened.items)) (worker_column k (seat_rows result.items)) (slice_index_or workers.new k d) }
 {
-    split(opened, &mut rings, &mut consumers, workers);
-    run_threads(rt, alloc, &rings, jobs, gate, workers, &mut consumers);
+    split(opened, &mut rings, &mut consumers, batches, workers);
+    run_threads(
+        rt,
+        alloc,
+        &rings,
+        jobs,
+        gate,
+        sheets,
+        workers,
+        &mut consumers,
+    );
     merge(rings, consumers, workers, merged)
 }
 
@@ -137,6 +152,8 @@ fn run_known<R: Threads + Wait + Sync, S: Sink + Send + Drop, G: Gate + Sync>(
     let RunBuffers {
         rings,
         consumers,
+        batches,
+        sheets,
         merged,
         mut workers,
         tallies,
@@ -152,6 +169,8 @@ fn run_known<R: Threads + Wait + Sync, S: Sink + Send + Drop, G: Gate + Sync>(
         gate,
         rings,
         consumers,
+        batches,
+        &sheets,
         merged,
         workers.as_mut_slice(),
     );

@@ -4,7 +4,8 @@
 //! `run_jobs` is for whoever has many verified programs run at once. What is promised: each result is one that the program's
 //! meaning gives (RFC 9669); each worker's seats counted just what the calls of its own jobs say; each ring was closed with all its
 //! seats, so the law of closed rings holds of it (rb_ledger); each ring's sink was given just the records that were taken, in their
-//! order and with their bytes; and where there is an error, all comes back and may be run again.
+//! order and with their bytes; and where there is an error, all comes back and may be run again. Records are taken many at a time, and
+//! the sheets of long ones are used again.
 //!
 //! No proof speaks of waiting, fairness or time: that a run comes to its end, that work is done in threads of its own, when a record
 //! reaches its sink, or what a gate does.
@@ -19,6 +20,7 @@ mod ring_close;
 mod run_buffers;
 mod sink;
 mod threads;
+mod used_sheets;
 mod workers;
 
 pub use jobs_run::run_jobs;

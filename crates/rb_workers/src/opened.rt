@@ -2,7 +2,7 @@
 
 ghost use Rattle.std.specs.Prelude.{◌≡◌, ◌↔◌, All, IfOk, IsErrOf};
 ghost use Rattle.rb_history.specs.RingModel.{IsRingSize, IsStartPosition, IsWorkerCount};
-ghost use Rattle.rb_ledger.specs.Seats.{HasSettledAll, fresh_book};
+ghost use Rattle.rb_ledger.specs.Seats.{HasSettledAll, fresh_book, fresh_consumer, fresh_seats};
 ghost use Rattle.rb_workers.specs.Opened.{IsOpened};
 
 use crate::sink::Sink;
@@ -40,7 +40,8 @@ impl<S: Sink + Drop> Opened<S> {
         requires begins { S.position_of sink ≡ start }
         ensures opened { IfOk result (IsOpened S.position_of workers) }
         ensures tag { IfOk result (λ o. o.ring.tag ≡ tag) }
-        ensures book { IfOk result (λ o. o.consumer.seen ≡ fresh_book size start workers) }
+        ensures seats { IfOk result (λ o. o.seats.items ≡ fresh_seats tag o.ring.ring (fresh_book size start workers) 0 workers) }
+        ensures consumer { IfOk result (λ o. o.consumer ≡ fresh_consumer tag o.ring.ring (fresh_book size start workers)) }
         ensures sink { IfOk result (λ o. o.sink ≡ sink) }
         ensures nothing_made { IfOk result (λ o. All HasSettledAll o.seats.items) }
         ensures size { IsErrOf result OpenFault.Size ↔ ¬ IsRingSize size }

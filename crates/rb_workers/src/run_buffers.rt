@@ -4,18 +4,25 @@ ghost use Rattle.std.specs.Prelude.{ℕ, All, ◌≡◌, ◌<◌, ◌≤◌, [],
 ghost use Rattle.rb_workers.specs.inner.RunBuffers.{IsEmptyFor, HasRoomForRun};
 ghost use Rattle.rb_workers.specs.inner.WorkerRuns.{IsNew};
 
-use crate::consumer_task::ConsumerTask;
+use crate::consumer_task::{BATCH, ConsumerTask};
 use crate::opened::{Ended, Opened};
+use crate::used_sheets::PLACES;
 use crate::workers::Worker;
+use crossbeam_queue::ArrayQueue;
+use rb_consumer::Batch;
 use rb_interp::RunFault;
 use rb_jobs::JobAnswer;
 use rb_ledger::{SharedRing, Tally};
+use rb_lend::Sheet;
 use std::alloc::{AllocError, Global};
 
 /// Empty places for all that a run moves and makes, and the workers, which have no seats yet.
 pub(crate) struct RunBuffers<S> {
     pub(crate) rings: Vec<SharedRing>,
     pub(crate) consumers: Vec<ConsumerTask<S>>,
+    /// One for each ring.
+    pub(crate) batches: Vec<Batch>,
+    pub(crate) sheets: ArrayQueue<Sheet>,
     pub(crate) merged: Vec<Opened<S>>,
     pub(crate) workers: Vec<Worker>,
     /// A row for each ring.
@@ -57,6 +64,17 @@ fn new_tallies(alloc: Global, count: u32, rings: usize) -> Result<Vec<Vec<Tally>
     Ok(rows)
 }
 
+// An empty batch for each ring.
+fn new_batches(alloc: Global, rings: usize) -> Result<Vec<Batch>, AllocError>
+    ensures len { IfOk result (λ v. vec_len v ≡ rings) }
+{
+    let mut batches = Vec::with_capacity(alloc, rings)?;
+    for _ in 0..rings {
+        batches.push_reserved(Batch::with_capacity(alloc, BATCH)?);
+    }
+    Ok(batches)
+}
+
 /// All memory that a run over so many rings, workers and jobs needs before its first job.
 pub(crate) fn make_buffers<S: Drop>(
     alloc: Global,
@@ -68,6 +86,8 @@ pub(crate) fn make_buffers<S: Drop>(
 {
     let workers = new_workers(alloc, count, rings)?;
     let tallies = new_tallies(alloc, count, rings)?;
+    let batches = new_batches(alloc, rings)?;
+    let sheets = ArrayQueue::new(alloc, PLACES)?;
     let consumers = Vec::with_capacity(alloc, rings)?;
     let merged = Vec::with_capacity(alloc, rings)?;
     let ended = Vec::with_capacity(alloc, rings)?;
@@ -77,6 +97,8 @@ pub(crate) fn make_buffers<S: Drop>(
     Ok(RunBuffers {
         rings,
         consumers,
+        batches,
+        sheets,
         merged,
         workers,
         tallies,

@@ -3,3 +3,4 @@
 mod given;
 mod refused;
 mod runs;
+mod sheets;

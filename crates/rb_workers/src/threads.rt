@@ -8,9 +8,12 @@ ghost use Rattle.rb_workers.specs.inner.WorkerRuns.{IsReady, GivesBack};
 
 use crate::consumer_task::{ConsumerTask, consume};
 use crate::sink::Sink;
+use crate::used_sheets::UsedSheets;
 use crate::workers::Worker;
+use crossbeam_queue::ArrayQueue;
 use rb_jobs::{Gate, Job};
 use rb_ledger::SharedRing;
+use rb_lend::Sheet;
 use std::alloc::Global;
 use std::sync::Wait;
 use std::sync::atomic::{AtomicBool, Ordering};
@@ -24,6 +27,7 @@ fn work_all<R: Threads + Wait + Sync, G: Gate + Sync>(
     rings: &[SharedRing],
     jobs: &[Job<'_>],
     gate: &G,
+    sheets: &ArrayQueue<Sheet>,
     workers: &mut [Worker],
 )
     requires rings { All (λ j. j.program.now.rings ≤ length rings.now) jobs.now }
@@ -34,7 +38,10 @@ fn work_all<R: Threads + Wait + Sync, G: Gate + Sync>(
     let work = move |_: usize, worker: &mut Worker|
         requires { All (λ j. j.program.now.rings ≤ length rings.now) jobs.now × IsReady rings.now worker.now }
         ensures { GivesBack rings.entry.now jobs.entry.now worker.entry.now worker.exit.now }
-    { worker.work(rt, alloc, rings, jobs, gate) };
+    {
+        let stock = UsedSheets { rt, sheets };
+        worker.work(rt, alloc, rings, jobs, gate, &stock);
+    };
     thread::for_each_mut(rt, workers, threads, &work);
 }
 
@@ -43,6 +50,7 @@ fn consume_all<R: Threads + Wait + Sync, S: Sink + Send>(
     rt: &R,
     rings: &[SharedRing],
     ended: &AtomicBool,
+    sheets: &ArrayQueue<Sheet>,
     consumers: &mut [ConsumerTask<S>],
 )
     requires ready { AllZip (IsConsumerTaskOf S.position_of) rings.now consumers.old }
@@ -53,7 +61,8 @@ fn consume_all<R: Threads + Wait + Sync, S: Sink + Send>(
         requires { (ring : Shared) × (slice_get rings.now i ≡ Some ring) × IsConsumerTaskOf S.position_of ring task.now }
         ensures { Consumed S.position_of S.takes task.entry.now task.exit.now }
     {
-        consume(rt, &rings[i], ended, task);
+        let stock = UsedSheets { rt, sheets };
+        consume(rt, &rings[i], ended, &stock, task);
     };
     thread::for_each_mut(rt, consumers, threads, &consume);
 }
@@ -66,6 +75,7 @@ pub(crate) fn run_threads<R: Threads + Wait + Sync, G: Gate + Sync, S: Sink + Se
     rings: &[SharedRing],
     jobs: &[Job<'_>],
     gate: &G,
+    sheets: &ArrayQueue<Sheet>,
     workers: &mut [Worker],
     consumers: &mut [ConsumerTask<S>],
 )
@@ -82,12 +92,12 @@ pub(crate) fn run_threads<R: Threads + Wait + Sync, G: Gate + Sync, S: Sink + Se
         &mut ||
             requires { AllZip (IsConsumerTaskOf S.position_of) rings.now consumers.now }
             ensures { AllZip (Consumed S.position_of S.takes) consumers.entry.now consumers.exit.now }
-        { consume_all(rt, rings, shared, consumers) },
+        { consume_all(rt, rings, shared, sheets, consumers) },
         &mut ||
             requires { All (λ j. j.program.now.rings ≤ length rings.now) jobs.now × All (IsReady rings.now) workers.now }
             ensures { AllZip (GivesBack rings.entry.now jobs.entry.now) workers.entry.now workers.exit.now }
         {
-            work_all(rt, alloc, rings, jobs, gate, workers);
+            work_all(rt, alloc, rings, jobs, gate, sheets, workers);
             shared.store(true, Ordering::SeqCst);
         },
     );

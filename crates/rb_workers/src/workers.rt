@@ -7,6 +7,7 @@ ghost use Rattle.rb_workers.specs.inner.WorkerRuns.{HasSpareSeat, IsOneMore, IsO
 
 use rb_jobs::{Gate, Job, JobAnswer, run_job};
 use rb_ledger::{Seat, SharedRing};
+use rb_seats::Stock;
 use std::alloc::Global;
 use std::mem;
 use std::sync::Wait;
@@ -54,13 +55,14 @@ impl Worker {
     }
 
     // Runs one of the worker's jobs, and answers whether there was memory for it. Where there is none, nothing ran.
-    fn run_one<R: Wait, G: Gate>(
+    fn run_one<R: Wait, G: Gate, K: Stock>(
         &mut self,
         rt: &R,
         alloc: Global,
         rings: &[SharedRing],
         job: &Job<'_>,
         gate: &G,
+        stock: &K,
     ) -> bool
         requires rings { job.now.program.now.rings ≤ length rings.now }
         requires seats { AtRings rings.now self.old.seats.items }
@@ -72,7 +74,7 @@ impl Worker {
             return false;
         }
         let seats = mem::replace(&mut self.seats, Vec::new(alloc));
-        let (answer, seats) = run_job(rt, alloc, rings, seats, job, gate, &mut self.calls);
+        let (answer, seats) = run_job(rt, alloc, rings, seats, job, gate, stock, &mut self.calls);
         self.seats = seats;
         match answer {
             Ok(answer) => {
@@ -84,13 +86,14 @@ impl Worker {
     }
 
     /// Runs the worker's jobs in their order, up to the first that finds no memory, and comes to the gate once more at the end.
-    pub(crate) fn work<R: Wait, G: Gate>(
+    pub(crate) fn work<R: Wait, G: Gate, K: Stock>(
         &mut self,
         rt: &R,
         alloc: Global,
         rings: &[SharedRing],
         jobs: &[Job<'_>],
         gate: &G,
+        stock: &K,
     )
         requires rings { All (λ j. j.program.now.rings ≤ length rings.now) jobs.now }
         requires ready { IsReady rings.now self.old }
@@ -100,7 +103,7 @@ impl Worker {
             if job.worker != self.number {
                 continue;
             }
-            if !self.run_one(rt, alloc, rings, job, gate) {
+            if !self.run_one(rt, alloc, rings, job, gate, stock) {
                 self.short = true;
                 break;
             }

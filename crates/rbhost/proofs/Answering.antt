@@ -7,7 +7,8 @@ use Rattle.rb_header.specs.TapeBytes.{end_of}
 use Rattle.rbhost.specs.Input.{framed, framed_all, events_from, Ending, Follows, InputIs}
 use Rattle.rbhost.specs.Input.Ending.{Whole, Unfit, Cut}
 use Rattle.rbhost.specs.inner.FeedRuns.{feed_run}
-use Rattle.rbhost.specs.Feed.{FeedsAll, IsReadTo, FeedsThenEnds, FeedBreaksOff, FeedResult, IsOpeningFault, FeedAnswerMatches, feed_answer, ends_of, IsAnswerOr, AnswersAlone}
+use Rattle.rbhost.specs.inner.PayloadSteps.{IsOpeningFault}
+use Rattle.rbhost.specs.Feed.{FeedsAll, IsReadTo, FeedsThenEnds, FeedBreaksOff, FeedResult, FeedAnswerMatches, feed_answer, ends_of, IsAnswerOr, AnswersAlone}
 use Rattle.rbhost.proofs.Feeding.{passes_none}
 use Rattle.rbhost.proofs.Inputs.{says_one_thing}
 use Rattle.rbhost.specs.declared.feed_fault.FeedFault.{FeedFault}

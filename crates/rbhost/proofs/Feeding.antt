@@ -13,7 +13,8 @@ use Rattle.rbhost.specs.Input.{framed, framed_all, events_from}
 use Rattle.rbhost.specs.Input.Ending.{Whole, Unfit, Cut}
 use Rattle.rbhost.specs.PayloadReads.{FindsPayload, FindsEnd, FindsNext}
 use Rattle.rbhost.specs.inner.FeedRuns.{feed_run}
-use Rattle.rbhost.specs.Feed.{FeedsAll, FeedResult, FeedsOne, ends_of}
+use Rattle.rbhost.specs.Feed.{FeedsAll, FeedResult, ends_of}
+use Rattle.rbhost.specs.inner.PayloadSteps.{FeedsOne}
 use Rattle.rbhost.specs.declared.feed_fault.FeedFault.{FeedFault}
 use Rattle.rbhost.specs.declared.feed_fault.FeedFault.TheVariants.{Size, Start, Fit, Ends, Memory, Device}
 

@@ -1,6 +1,5 @@
 mod Answering
 mod Checking
-mod Contexts
 mod Draining
 mod Explaining
 mod Feeding
@@ -14,3 +13,5 @@ mod RingPass
 mod Running
 mod Sending
 mod Sizes
+mod TapeReads
+mod WorkerTasks

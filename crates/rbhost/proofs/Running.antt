@@ -1,16 +1,27 @@
--- The jobs of a run, and the ring that they run over.
-use Rattle.std.proofs.Common.{◌≡◌, ℕ, ◌<◌, ◌≤◌, Bool, true, false, List, [], ◌∷◌, length, get_or, refl, sym, subst, arith}
-use Rattle.std.specs.Prelude.{All, nat_lt, not}
+-- A run over one ring that was just opened.
+use Rattle.std.proofs.Common.{◌≡◌, ◌≤◌, ℕ, List, Result, Ok, Err, arith, [], ◌∷◌, length, map, refl, ap, sym, ◌∙◌, subst, inr}
+use Rattle.std.specs.Prelude.{All}
+use Rattle.std.specs.Result.{OkIff, result_unwrap_or}
 use Rattle.std.proofs.lemmas.List.Elements.{All-nil, All-cons}
-use Rattle.std.proofs.lemmas.List.Folds.{list_any_none}
-use Rattle.rb_ledger.specs.Seats.{WorkerSeat}
-use Rattle.rb_verifier.specs.Subject.{Subject}
+use Rattle.rb_jobs.specs.Jobs.{task_of}
 use Rattle.rb_jobs.specs.declared.job.Job.{Job}
+use Rattle.rb_ledger.specs.Seats.{HasSettledAll, WorkerSeat, fresh_book, fresh_consumer, fresh_seats}
+use Rattle.rb_verifier.specs.Subject.{Subject}
 use Rattle.rb_workers.specs.declared.opened.Opened.{Opened}
 use Rattle.rb_workers.specs.Opened.{IsOpened, AreOpened, workers_of}
-use Rattle.rb_workers.specs.Reports.{has_unknown_ring, has_unknown_worker}
+use Rattle.rb_workers.specs.Reports.{IsReport}
+use Rattle.rb_workers.specs.SeatRows.{seat_rows}
+use Rattle.rb_workers.specs.Settled.{EachSettled, EndsSettled}
+use Rattle.rb_workers.specs.declared.opened.Report.{Report}
 use Rattle.rb_workers.proofs.Numbered.{seats_length}
-use Rattle.rbhost.specs.inner.RunCommand.{IsJobFor}
+use Rattle.rb_workers.proofs.Settling.{settled_together}
+use Rattle.rbhost.specs.Acceptance.{IsAccepted, IsRightFault}
+use Rattle.rbhost.specs.RunCommand.{IsRightJobsFault, IsRightRingFault, RunsWorkers, null_position, null_takes}
+use Rattle.rbhost.specs.WorkerJobs.{tasks_of_workers}
+use Rattle.rbhost.specs.declared.jobs_fault.JobsFault.{JobsFault}
+use Rattle.rbhost.specs.declared.jobs_fault.JobsFault.TheVariants.{Program, Size, Start, Workers}
+use Rattle.rbhost.specs.declared.run_command.JobsRequest.{JobsRequest}
+use Rattle.rbhost.specs.declared.run_command.NullSink.{NullSink}
 
 module _ {S : Type 0} (position : S → ℕ) (workers : ℕ) (one : Opened S) (opened : List (Opened S)) (is : opened ≡ one ∷ []) (is_opened : IsOpened position workers one) where
   -- one ring may be run
@@ -23,18 +34,44 @@ module _ {S : Type 0} (position : S → ℕ) (workers : ℕ) (one : Opened S) (o
   pub one_count : workers_of opened ≡ workers
   one_count = subst (λ o. workers_of o ≡ workers) (sym is) (seats_length position workers one is_opened)
 
-not_above : (a b : ℕ) → b ≤ a → nat_lt a b ≡ false
-not_above a b le = grind arith
+-- its seats have made nothing
+pub one_settled : {S : Type 0} (one : Opened S) (opened : List (Opened S)) → opened ≡ one ∷ [] → All HasSettledAll one.seats.items → EachSettled (workers_of opened) (seat_rows opened)
+one_settled one opened is settled =
+    subst (λ o. EachSettled (workers_of o) (seat_rows o)) (sym is)
+    (settled_together (length one.seats.items) (one.seats.items ∷ []) (All-cons (All HasSettledAll) one.seats.items [] settled (All-nil (All HasSettledAll))))
 
-not_not_below : (a b : ℕ) → a < b → not (nat_lt a b) ≡ false
-not_not_below a b lt = grind arith
+-- what such a run is, put together of what its calls say
+module _ (subject : Subject) (request : JobsRequest) (workers : ℕ) (one : Opened NullSink) (opened : List (Opened NullSink)) (jobs : List Job) (report : Report NullSink) where
+  pub ran_workers :
+      workers ≡ request.workers → opened ≡ one ∷ []
+      → one.seats.items ≡ fresh_seats 0 one.ring.ring (fresh_book request.size request.start workers) 0 workers
+      → one.consumer ≡ fresh_consumer 0 one.ring.ring (fresh_book request.size request.start workers)
+      → one.sink.position ≡ request.start → All HasSettledAll one.seats.items
+      → map task_of jobs ≡ tasks_of_workers subject workers request.jobs
+      → IsReport null_position null_takes opened jobs report
+      → (report.strays ≡ 0 → EachSettled (workers_of opened) (seat_rows opened) → All EndsSettled report.rings.items)
+      → RunsWorkers subject request report
+  ran_workers as_many is seats consumer sink nothing_made tasks reported settled = record {
+    opened = one;
+    jobs = jobs;
+    just_opened = record {
+      seats_are = subst (λ n. one.seats.items ≡ fresh_seats 0 one.ring.ring (fresh_book request.size request.start n) 0 n) as_many seats;
+      consumer_is = subst (λ n. one.consumer ≡ fresh_consumer 0 one.ring.ring (fresh_book request.size request.start n)) as_many consumer;
+      sink_begins = sink;
+    };
+    tasks_are = subst (λ n. map task_of jobs ≡ tasks_of_workers subject n request.jobs) as_many tasks;
+    reported = subst (λ o. IsReport null_position null_takes o jobs report) is reported;
+    settled = λ none. settled none (one_settled one opened is nothing_made);
+  }
 
--- jobs of a program that knows no more rings than there are, for as many workers as there are, are all known
-pub rings_known : (subject : Subject) (count rings : ℕ) (jobs : List Job) → All (IsJobFor subject count) jobs → subject.rings ≤ rings → has_unknown_ring rings jobs ≡ false
-rings_known subject count rings jobs all few =
-    list_any_none (λ (j : Job). nat_lt rings j.program.now.rings) jobs
-    (λ k d below. let is : (get_or jobs k d).program.now ≡ subject = (all k d below).0 in not_above rings (get_or jobs k d).program.now.rings (subst (λ (s : Subject). s.rings ≤ rings) (sym is) few))
+-- an accepted program is refused for what its ring is refused for
+pub ring_refused : (text : List ℕ) (request : JobsRequest) (fault : JobsFault) (subject : Subject) → IsAccepted text 16 1 subject → IsRightRingFault request fault → IsRightJobsFault text request fault
+ring_refused text request (Program fault) subject accepted right = inr (subst (IsRightFault text 16 1) (sym right) tt)
+ring_refused text request Size subject accepted right = ((subject, accepted), right)
+ring_refused text request Start subject accepted right = ((subject, accepted), right)
+ring_refused text request Workers subject accepted right = ((subject, accepted), right)
 
-pub workers_known : (subject : Subject) (count : ℕ) (jobs : List Job) → All (IsJobFor subject count) jobs → has_unknown_worker count jobs ≡ false
-workers_known subject count jobs all =
-    list_any_none (λ (j : Job). not (nat_lt j.worker count)) jobs (λ k d below. not_not_below (get_or jobs k d).worker count (all k d below).1)
+-- a number that was cut to 32 bits, and is small, was not cut
+pub same_number : {E : Type 0} (cut : Result ℕ E) (Fits : Type 0) (whole got : ℕ) → OkIff cut Fits whole → got ≡ result_unwrap_or cut 4294967295 → got ≤ 256 → got ≡ whole
+same_number (Ok n) Fits whole got is unwrapped few = unwrapped ∙ is.1
+same_number (Err e) Fits whole got is unwrapped few = let most : got ≡ 4294967295 = unwrapped in absurd (omega (arith, most, few))

@@ -1,9 +1,7 @@
 -- What `feed` did with its input and its output, by its answer (own).
-use Rattle.std.specs.Prelude.{ℕ, ◌≡◌, ◌+◌, ◌<◌, ◌^◌, ◌⊎◌, List, [], ◌++◌, length, take, Option, Result, Ok, Err, IfSome, ⊤}
+use Rattle.std.specs.Prelude.{ℕ, ◌≡◌, ◌⊎◌, List, ◌++◌, length, Option, Result, Ok, Err, IfSome, ⊤}
 use Rattle.std.specs.Io.KnownBytes.{Appends, Consumes, Keeps, IsAtEnd}
-use Rattle.rb_header.specs.TapeBytes.{AreItemsFrom, IsItemAt, end_of, item_bytes, tape}
-use Rattle.rb_header.specs.TapeBytes.Item.{Event}
-use Rattle.rb_header.specs.Span.{span}
+use Rattle.rb_header.specs.TapeBytes.{AreItemsFrom, end_of, tape}
 use Rattle.rb_history.specs.RingModel.{IsRingSize, IsStartPosition}
 use Rattle.rbhost.specs.Input.{framed_all, events_from, Ending, Follows, InputIs}
 use Rattle.rbhost.specs.Input.Ending.{Whole, Unfit, Cut}
@@ -98,10 +96,6 @@ FeedAnswerMatches size start unread (Err (Ends k)) = IfSome unread (λ input. (p
 FeedAnswerMatches size start unread (Err Memory) = Unit {0}
 FeedAnswerMatches size start unread (Err Device) = Unit {0}
 
--- the input, where it is known, is whole payloads that the ring has room for
-abbrev pub IsWholeInput : ℕ → ℕ → Option (List ℕ) → Type 0
-IsWholeInput size start unread = IfSome unread (λ input. (payloads : List (List ℕ)) × InputIs size start input payloads Whole)
-
 -- what is answered where an input says this
 abbrev pub feed_answer : ℕ → List (List ℕ) → Ending → Result (ℕ × ℕ) FeedFault
 feed_answer start payloads Whole = Ok (ends_of start payloads)
@@ -116,24 +110,3 @@ IsAnswerOr answer result = (result ≡ answer) ⊎ ((result ≡ Err Memory) ⊎ 
 abbrev pub AnswersAlone : ℕ → ℕ → Option (List ℕ) → Result (ℕ × ℕ) FeedFault → Type 0
 AnswersAlone size start unread result = IfSome unread (λ input. (payloads : List (List ℕ)) (ending : Ending) →
     IsRingSize size → IsStartPosition start → InputIs size start input payloads ending → IsAnswerOr (feed_answer start payloads ending) result)
-
--- ---- one payload
-
--- what one payload of this number adds to what the writer held, at this position
-abbrev pub FeedsOne : ℕ → ℕ → ℕ → List ℕ → Option (List ℕ) → Option (List ℕ) → Result (List ℕ) FeedFault → Type 0
-FeedsOne size position number payload held held' (Ok sheet) = IsItemAt size position (Event position payload) × Appends held held' (item_bytes size (Event position payload))
-FeedsOne size position number payload held held' (Err Size) = ⊥
-FeedsOne size position number payload held held' (Err Start) = ⊥
-FeedsOne size position number payload held held' (Err (Fit k)) = (k ≡ number) × (2 ^ 62 < position + span (length payload)) × Keeps held held'
-FeedsOne size position number payload held held' (Err (Ends k)) = ⊥
-FeedsOne size position number payload held held' (Err Memory) = Keeps held held'
-FeedsOne size position number payload held held' (Err Device) = IsItemAt size position (Event position payload) × (n : ℕ) × Appends held held' (take n (item_bytes size (Event position payload)))
-
--- what the opening of a ring is refused for
-abbrev pub IsOpeningFault : FeedFault → Type 0
-IsOpeningFault Size = Unit {0}
-IsOpeningFault Start = Unit {0}
-IsOpeningFault Memory = Unit {0}
-IsOpeningFault (Fit k) = ⊥
-IsOpeningFault (Ends k) = ⊥
-IsOpeningFault Device = ⊥

@@ -6,7 +6,10 @@ pub mod Check
 pub mod Explained
 pub mod Feed
 pub mod Input
-pub mod Items
+pub mod TapeText
 pub mod Transfer
+pub mod WorkerJobs
+pub mod ReportLines
+pub mod RunCommand
 pub mod PayloadReads
 pub mod inner

@@ -1,5 +1,5 @@
 -- What a read of the next payload finds, where the reader's bytes were `old` before and are `new` after.
-use Rattle.std.specs.Prelude.{ℕ, ◌≡◌, ◌<◌, ◌≤◌, ◌^◌, ◌⊎◌, List, [], ◌++◌, length, Option, Some, None, Result, Ok, Err}
+use Rattle.std.specs.Prelude.{ℕ, ◌≡◌, ◌<◌, ◌≤◌, ◌^◌, ◌⊎◌, List, [], length, Option, Some, None, Result, Ok, Err}
 use Rattle.std.specs.Int.{w32, to_le_bytes}
 use Rattle.std.specs.Io.KnownBytes.{Consumes, IsAtEnd}
 use Rattle.rb_header.specs.Span.{span}
@@ -46,14 +46,3 @@ FindsNext size number old new (Err (Fit k)) = (k ≡ number) × FindsUnfit size 
 FindsNext size number old new (Err (Ends k)) = (k ≡ number) × FindsCut size old new
 FindsNext size number old new (Err Memory) = FindsSome old new
 FindsNext size number old new (Err Device) = FindsSome old new
-
--- what a read of a length finds
-abbrev pub FindsLength : ℕ → Option (List ℕ) → Option (List ℕ) → Result (Option ℕ) FeedFault → Type 0
-FindsLength number old new (Ok (Some len)) = (len < 2 ^ 32) × Consumes old new (to_le_bytes w32 len)
-FindsLength number old new (Ok None) = FindsEnd old new
-FindsLength number old new (Err Size) = ⊥
-FindsLength number old new (Err Start) = ⊥
-FindsLength number old new (Err (Fit k)) = ⊥
-FindsLength number old new (Err (Ends k)) = (k ≡ number) × ((part : List ℕ) × Consumes old new part × IsCutLength part × IsAtEnd new)
-FindsLength number old new (Err Memory) = ⊥
-FindsLength number old new (Err Device) = FindsSome old new

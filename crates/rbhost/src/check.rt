@@ -18,6 +18,7 @@ use rb_history::Taken;
 use rb_interp::RunFault;
 use rb_jobs::{Job, run_job};
 use rb_ledger::{Seat, SharedRing};
+use rb_seats::NoStock;
 use rb_verifier::Verified;
 use std::alloc::Global;
 use std::io::{Read, Write};
@@ -107,7 +108,9 @@ fn run_once<T: Wait>(
         ctx: context.as_slice(),
     };
     let mut calls = 0;
-    let (answer, seats) = run_job(rt, alloc, rings, seats, &job, &OpenGate, &mut calls);
+    let (answer, seats) = run_job(
+        rt, alloc, rings, seats, &job, &OpenGate, &NoStock, &mut calls,
+    );
     match answer?.result {
         Ok(value) => Ok((value, seats)),
         Err(RunFault::ContextLength) => unreachable!(),

@@ -1,22 +1,27 @@
 //! The program's commands.
 
-ghost use Rattle.std.specs.Prelude.{◌≡◌, ◌≤◌, OnOk};
+ghost use Rattle.std.specs.Prelude.{◌≡◌, ◌≤◌, IfSome, OnOk};
 ghost use Rattle.std.specs.Io.KnownBytes.{Keeps};
 ghost use Rattle.rb_history.specs.RingModel.{IsRingSize, IsStartPosition};
-ghost use Rattle.rbhost.specs.Feed.{FeedAnswerMatches, AnswersAlone, IsWholeInput};
+ghost use Rattle.rbhost.specs.Feed.{FeedAnswerMatches, AnswersAlone};
+ghost use Rattle.rbhost.specs.inner.PayloadSteps.{IsWholeInput};
+ghost use Rattle.rbhost.specs.TapeText.{IsTape};
 
+use crate::buffered::Buffered;
 use crate::check::check;
 use crate::explain::explain;
 use crate::feed::feed;
 use crate::feed_fault::FeedFault;
 use crate::options::{Request, parse};
 use crate::run_command::run;
+use crate::tape::tape;
+use crate::tape_refusal::TapeRefusal;
 use clap::Error;
 use clap::error::ErrorKind;
 use std::alloc::Global;
 use std::convert::AsStr;
 use std::fmt::Display;
-use std::io::{BufReader, BufWriter, Read, Write};
+use std::io::{BufReader, Read, Write};
 use std::sync::Wait;
 use std::thread::Threads;
 
@@ -37,7 +42,16 @@ pub fn command<T: Threads + Wait + Sync, S: AsStr, R: Read, W: Write, E: Write>(
     ensures usage { result ≡ 2 → Keeps (R.remaining input.old) (R.remaining input.new) × Keeps (W.contents out.old) (W.contents out.new) }
 {
     match parse(alloc, words) {
-        Ok(Request::Feed { size, start }) => feed_command(alloc, input, out, err, size, start),
+        Ok(
+            Request::Feed {
+                size,
+                start,
+                retries,
+            },
+        ) => feed_command(alloc, input, out, err, size, start, retries),
+        Ok(Request::Tape { size, start }) => {
+            status_of(tape_buffered(alloc, input, out, size, start), err)
+        }
         Ok(Request::Check(bounds)) => status_of(check(rt, alloc, input, out, bounds), err),
         Ok(Request::Explain(bounds)) => status_of(explain(alloc, input, out, bounds), err),
         Ok(Request::Run(wanted)) => status_of(run(rt, alloc, input, out, wanted), err),
@@ -71,11 +85,12 @@ fn feed_command<R: Read, W: Write, E: Write>(
     err: &mut E,
     size: u64,
     start: u64,
+    retries: u32,
 ) -> u8
     ensures status { result ≤ 1 }
     ensures whole { result ≡ 0 → IsRingSize size × IsStartPosition start × IsWholeInput size start (R.remaining input.old) }
 {
-    match feed_buffered(alloc, input, out, size, start) {
+    match feed_buffered(alloc, input, out, size, start, retries) {
         Ok((producer, consumer)) => match writeln!(err, "producer {producer} consumer {consumer}") {
             Ok(()) => 0,
             Err(_) => 1,
@@ -91,6 +106,7 @@ fn feed_buffered<R: Read, W: Write>(
     out: &mut W,
     size: u64,
     start: u64,
+    retries: u32,
 ) -> Result<(u64, u64), FeedFault>
     ensures bounds { OnOk result (IsRingSize size × IsStartPosition start) }
     ensures answer { FeedAnswerMatches size start (R.remaining input.old) result }
@@ -99,10 +115,27 @@ fn feed_buffered<R: Read, W: Write>(
     let Ok(mut reader) = BufReader::new(alloc, input) else {
         return Err(FeedFault::Memory);
     };
-    let Ok(mut writer) = BufWriter::new(alloc, out) else {
+    let Ok(writer) = Buffered::new(alloc, out) else {
         return Err(FeedFault::Memory);
     };
-    feed(alloc, &mut reader, &mut writer, size, start)
+    feed(alloc, &mut reader, writer, size, start, retries).0
+}
+
+// Prints the records of the tape over a buffer. The order of the answers is that of `tape`, after out of memory for the buffer.
+fn tape_buffered<R: Read, W: Write>(
+    alloc: Global,
+    input: &mut R,
+    out: &mut W,
+    size: u64,
+    start: u64,
+) -> Result<(), TapeRefusal>
+    ensures bounds { OnOk result (IsRingSize size × IsStartPosition start) }
+    ensures whole { OnOk result (IfSome (R.remaining input.old) (IsTape size start)) }
+{
+    let Ok(mut writer) = Buffered::new(alloc, out) else {
+        return Err(TapeRefusal::Memory);
+    };
+    tape(alloc, input, &mut writer, size, start)
 }
 
 // The status of a command that printed its own output, with the line of its refusal.

@@ -1,7 +1,7 @@
-//! A host for eBPF programs that write into BPF ring buffers, as a program with four commands.
+//! A host for eBPF programs that write into BPF ring buffers, as a program with five commands.
 //!
-//! `feed` puts payloads through a ring and writes the bytes that a reader of the kernel's ring buffer maps (ringbuf.rst). `check`
-//! decodes and verifies a program (RFC 9669), runs it once over fresh rings, and prints the records that it left. `explain` prints what
+//! `feed` puts payloads through a ring and writes the bytes that a reader of the kernel's ring buffer maps (ringbuf.rst). `tape` reads
+//! them back. `check` decodes and verifies a program (RFC 9669), runs it once over fresh rings, and prints the records that it left. `explain` prints what
 //! the verifier knows before each instruction, or why a program is refused. `run` has workers
 //! run a verified program on threads over one ring, and prints what each counted.
 //!
@@ -9,6 +9,7 @@
 //! and that the result printed by `check` is one that the program's meaning gives.
 #![tactic(auto)]
 
+mod buffered;
 mod check;
 mod check_fault;
 mod command;
@@ -19,15 +20,21 @@ mod feed;
 mod feed_fault;
 mod fresh_rings;
 mod gate;
+mod jobs_fault;
 mod options;
 mod payloads;
 mod program;
 mod record_lines;
+mod report_lines;
+mod retries;
 mod run_command;
 mod tape;
+mod tape_lines;
+mod tape_refusal;
 #[cfg(test)]
 mod tests;
 mod transfer;
+mod worker_jobs;
 
 use command::command;
 use std::process::ExitCode;

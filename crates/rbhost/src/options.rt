@@ -14,8 +14,10 @@ use std::convert::AsStr;
 /// A command with its options.
 #[derive(Clone, Copy, Debug, PartialEq, Eq)]
 pub enum Request {
-    /// Writes the tape of payloads: the ring's size and its first position.
-    Feed { size: u64, start: u64 },
+    /// Writes the tape of payloads: the ring's size and its first position, and how often writing goes on after a write that failed.
+    Feed { size: u64, start: u64, retries: u32 },
+    /// Prints the records of a tape: the ring's size and its first position.
+    Tape { size: u64, start: u64 },
     /// Verifies a program and runs it once.
     Check(Bounds),
     /// Explains a program.
@@ -31,6 +33,11 @@ pub fn parse<S: AsStr>(alloc: Global, words: &[S]) -> Result<Request, Error> {
     let matches = program.try_get_matches_from_mut(words)?;
     match matches.subcommand() {
         Some(("feed", options)) => Ok(Request::Feed {
+            size: number(alloc, &mut program, options, "size")?,
+            start: number(alloc, &mut program, options, "start")?,
+            retries: bounded(alloc, &mut program, options, "retry", 0, 100)?,
+        }),
+        Some(("tape", options)) => Ok(Request::Tape {
             size: number(alloc, &mut program, options, "size")?,
             start: number(alloc, &mut program, options, "start")?,
         }),
@@ -67,6 +74,7 @@ fn program<'a>(alloc: Global) -> Result<Command<'a>, AllocError> {
         .no_binary_name(true)
         .subcommand_required(true)
         .subcommand(feed(alloc)?)?
+        .subcommand(tape(alloc)?)?
         .subcommand(check(alloc)?)?
         .subcommand(explain(alloc)?)?
         .subcommand(run(alloc)?)
@@ -78,6 +86,17 @@ fn feed<'a>(alloc: Global) -> Result<Command<'a>, AllocError> {
             "Writes the tape of payloads, each read as a length in four bytes and that many bytes",
         )
         .after_help("Example: printf '\\001\\000\\000\\000*' | rbhost feed --size 4096")
+        .arg(size(alloc))?
+        .arg(start(alloc))?
+        .arg(retry(alloc))
+}
+
+fn tape<'a>(alloc: Global) -> Result<Command<'a>, AllocError> {
+    Command::new(alloc, "tape")
+        .about("Reads a tape, and prints a line for each of its records")
+        .after_help(
+            "Example: printf '\\001\\000\\000\\000*' | rbhost feed --size 4096 | rbhost tape --size 4096",
+        )
         .arg(size(alloc))?
         .arg(start(alloc))
 }
@@ -152,6 +171,13 @@ fn start<'a>(alloc: Global) -> Arg<'a> {
         .value_name("P")
         .default_value("0")
         .help("The ring's first position: a multiple of 8")
+}
+
+fn retry<'a>(alloc: Global) -> Arg<'a> {
+    option(alloc, "retry")
+        .value_name("N")
+        .default_value("0")
+        .help("How often writing goes on after a write that failed, at most 100")
 }
 
 // An option with a value.

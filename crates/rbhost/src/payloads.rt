@@ -2,7 +2,8 @@
 
 ghost use Rattle.std.specs.Prelude.{◌≡◌};
 ghost use Rattle.std.specs.Int.{w32, to_le_bytes};
-ghost use Rattle.rbhost.specs.PayloadReads.{FindsLength, FindsNext};
+ghost use Rattle.rbhost.specs.PayloadReads.{FindsNext};
+ghost use Rattle.rbhost.specs.inner.LengthReads.{FindsLength};
 
 use crate::device::read_full;
 use crate::feed_fault::FeedFault;

@@ -1,28 +1,25 @@
 //! A program from its text, run as jobs on threads over one ring.
 
-ghost use Rattle.std.specs.Prelude.{◌≡◌, ◌<◌, ◌^◌, ℕ, All, IfOk, IfSome, OnOk, length, map, vec_len};
+ghost use Rattle.std.specs.Prelude.{◌≡◌, ◌≢◌, IfErr, IfOk, IfSome, OnOk};
+ghost use Rattle.std.specs.Io.KnownBytes.{Keeps};
 ghost use Rattle.rb_history.specs.RingModel.{IsRingSize, IsStartPosition, IsWorkerCount};
-ghost use Rattle.rb_verifier.specs.Subject.{Subject};
-ghost use Rattle.rbhost.specs.Acceptance.{IsAccepted};
-ghost use Rattle.rbhost.specs.inner.RunCommand.{IsJobFor, contexts_of_worker, contexts_of_workers, job_context};
+ghost use Rattle.rbhost.specs.RunCommand.{IsRightJobsFault, IsRightRingFault, PrintsRun, RunsWorkers};
+ghost use Rattle.rbhost.specs.inner.OpeningFaults.{fault_of_opening};
 
+use crate::device::write_whole;
 use crate::gate::OpenGate;
+use crate::jobs_fault::JobsFault;
 use crate::program::{Bounds, ProgramFault, accept, read_all, text_of};
-use byteorder::{ByteOrder, LittleEndian};
+use crate::report_lines::text_of_report;
+use crate::worker_jobs::{CONTEXT, contexts_of, jobs_of};
 use rb_header::span;
-use rb_history::Counts;
-use rb_ledger::{OpenFault, Tally};
+use rb_ledger::OpenFault;
 use rb_verifier::Verified;
-use rb_workers::{Job, JobFault, Opened, Report, Sink, run_jobs};
-use std::alloc::{AllocError, Global};
-use std::io;
-use std::io::{BufWriter, Read, Write};
+use rb_workers::{JobFault, Opened, Report, Sink, run_jobs};
+use std::alloc::Global;
+use std::io::{Read, Write};
 use std::sync::Wait;
 use std::thread::Threads;
-use thiserror::Error;
-
-/// The length of a job's context in bytes: the worker's and the job's number, each in eight bytes, the lowest first.
-const CONTEXT: usize = 16;
 
 /// What is run, and over which ring.
 #[derive(Clone, Copy, Debug, PartialEq, Eq)]
@@ -35,29 +32,6 @@ pub struct JobsRequest {
     pub size: u64,
     /// The ring's first position.
     pub start: u64,
-}
-
-/// Why jobs were not run, or their report could not be printed.
-#[derive(Clone, Copy, Debug, PartialEq, Eq, Error)]
-pub enum JobsFault {
-    /// The program was not accepted, memory ran out, or a read or a write failed.
-    #[error(transparent)]
-    Program(#[from] ProgramFault),
-    /// The size is no power of two from 4,096 to 67,108,864.
-    #[error("size")]
-    Size,
-    /// The start is no multiple of 8, or above 2^61.
-    #[error("start")]
-    Start,
-    /// The number of workers is not 1 to 256.
-    #[error("workers")]
-    Workers,
-}
-
-impl From<AllocError> for JobsFault {
-    fn from(_: AllocError) -> JobsFault {
-        JobsFault::Program(ProgramFault::Memory)
-    }
 }
 
 /// Gives up all records that it is given.
@@ -89,8 +63,9 @@ impl Sink for NullSink {
 }
 
 /// Verifies the program whose text is the input for one ring and contexts of 16 bytes, and has each worker run it so often, each on a thread
-/// of its own, over one ring. A job's context is the worker's number and the job's. Prints what each seat counted, and what the closed
-/// ring did, once all have ended. Input that is no UTF-8 is `Text`; the program's refusals come before those of size, start and workers.
+/// of its own, over one ring. A job's context is the worker's number and the job's, each in eight bytes, the lowest first. Prints what each
+/// seat counted, and what the closed ring did, once all have ended. Input that is no UTF-8 is `Text`; the program's refusals come before those
+/// of size, start and workers. Nothing is printed where the program or the ring is refused or memory runs out.
 pub fn run<T: Threads + Wait + Sync, R: Read, W: Write>(
     rt: &T,
     alloc: Global,
@@ -98,8 +73,10 @@ pub fn run<T: Threads + Wait + Sync, R: Read, W: Write>(
     out: &mut W,
     request: JobsRequest,
 ) -> Result<(), JobsFault>
-    ensures accepted { OnOk result (IfSome (R.remaining input.old) (λ text. (subject : Subject) × IsAccepted text 16 1 subject)) }
+    ensures printed { OnOk result (IfSome (R.remaining input.old) (λ text. PrintsRun text request (W.contents out.old) (W.contents out.new))) }
     ensures bounds { OnOk result (IsRingSize request.size × IsStartPosition request.start × IsWorkerCount request.workers) }
+    ensures refused { IfErr result (λ fault. IfSome (R.remaining input.old) (λ text. IsRightJobsFault text request fault)) }
+    ensures nothing_printed { IfErr result (λ fault. fault ≢ JobsFault.Program ProgramFault.Device → Keeps (W.contents out.old) (W.contents out.new)) }
 {
     let bytes = read_all(alloc, input)?;
     let text = text_of(bytes.as_slice())?;
@@ -112,10 +89,8 @@ pub fn run<T: Threads + Wait + Sync, R: Read, W: Write>(
         },
     )?;
     let report = run_program(rt, alloc, &program, request)?;
-    let Ok(mut writer) = BufWriter::new(alloc, out) else {
-        return Err(JobsFault::Program(ProgramFault::Memory));
-    };
-    match print_report(&mut writer, &report) {
+    let printed = text_of_report(alloc, &report)?;
+    match write_whole(out, printed.as_bytes()) {
         Ok(()) => Ok(()),
         Err(_) => Err(JobsFault::Program(ProgramFault::Device)),
     }
@@ -129,7 +104,9 @@ fn run_program<T: Threads + Wait + Sync>(
     request: JobsRequest,
 ) -> Result<Report<NullSink>, JobsFault>
     requires one_ring { program.now.rings ≡ 1 }
-    ensures bounds { OnOk result (IsRingSize request.size × IsStartPosition request.start × IsWorkerCount request.workers) }
+    ensures ran { IfOk result (RunsWorkers program.now request) }
+    ensures bounds { IfOk result (λ _. IsRingSize request.size × IsStartPosition request.start × IsWorkerCount request.workers) }
+    ensures refused { IfErr result (IsRightRingFault request) }
 {
     let workers = u32::try_from(request.workers).unwrap_or(u32::MAX);
     let sink = NullSink {
@@ -140,11 +117,11 @@ fn run_program<T: Threads + Wait + Sync>(
         Err(fault) => return Err(open_fault(fault)),
     };
     one.consumer.facts();
+    let contexts = contexts_of(alloc, workers, request.jobs)?;
+    let jobs = jobs_of(alloc, program, contexts.as_slice())?;
     let Ok(opened) = vec![in alloc; one] else {
         return Err(JobsFault::Program(ProgramFault::Memory));
     };
-    let contexts = contexts_of(alloc, workers, request.jobs)?;
-    let jobs = jobs_of(alloc, program, contexts.as_slice())?;
     match run_jobs(rt, alloc, opened, jobs.as_slice(), &OpenGate) {
         Ok(report) => Ok(report),
         Err((JobFault::Memory, _)) => Err(JobsFault::Program(ProgramFault::Memory)),
@@ -154,115 +131,13 @@ fn run_program<T: Threads + Wait + Sync>(
 }
 
 // Why the ring was not opened.
-fn open_fault(fault: OpenFault) -> JobsFault {
+fn open_fault(fault: OpenFault) -> JobsFault
+    ensures { result ≡ fault_of_opening fault }
+{
     match fault {
         OpenFault::Size => JobsFault::Size,
         OpenFault::Start => JobsFault::Start,
         OpenFault::Workers => JobsFault::Workers,
         OpenFault::Memory => JobsFault::Program(ProgramFault::Memory),
     }
-}
-
-// The contexts of each worker's jobs, in the order of their numbers.
-fn contexts_of(alloc: Global, workers: u32, jobs: u32) -> Result<Vec<Vec<[u8; CONTEXT]>>, JobsFault>
-    ensures len { IfOk result (λ c. vec_len c ≡ workers) }
-    ensures contexts { IfOk result (λ c. map (λ own. own.items) c.items ≡ contexts_of_workers workers jobs) }
-{
-    let mut contexts = Vec::with_capacity(alloc, workers as usize)?;
-    for worker in 0..workers {
-        contexts.push_reserved(own_contexts(alloc, worker, jobs)?);
-    }
-    Ok(contexts)
-}
-
-// The contexts of one worker's jobs.
-fn own_contexts(alloc: Global, worker: u32, jobs: u32) -> Result<Vec<[u8; CONTEXT]>, AllocError>
-    ensures contexts { IfOk result (λ c. c.items ≡ contexts_of_worker worker jobs) }
-{
-    let mut contexts = Vec::with_capacity(alloc, jobs as usize)?;
-    for job in 0..jobs {
-        contexts.push_reserved(context_of(worker, job));
-    }
-    Ok(contexts)
-}
-
-// The worker's and the job's number, each in eight bytes, the lowest first.
-fn context_of(worker: u32, job: u32) -> [u8; CONTEXT]
-    ensures context { result ≡ job_context worker job }
-{
-    let mut context = [0; CONTEXT];
-    LittleEndian::write_u64(&mut context[..8], u64::from(worker));
-    LittleEndian::write_u64(&mut context[8..], u64::from(job));
-    context
-}
-
-// The jobs of all workers: each runs the program once over each of its contexts.
-fn jobs_of<'j>(
-    alloc: Global,
-    program: &'j Verified,
-    contexts: &'j [Vec<[u8; CONTEXT]>],
-) -> Result<Vec<Job<'j>>, JobsFault>
-    requires few { length contexts.now < 2 ^ 32 }
-    ensures jobs { IfOk result (λ jobs. All (IsJobFor program.now (length contexts.now)) jobs.items) }
-{
-    let mut jobs = Vec::new(alloc);
-    for worker in 0..contexts.len() {
-        add_jobs(&mut jobs, program, worker as u32, &contexts[worker])?;
-    }
-    Ok(jobs)
-}
-
-// One worker's jobs more.
-fn add_jobs<'j>(
-    jobs: &mut Vec<Job<'j>>,
-    program: &'j Verified,
-    worker: u32,
-    contexts: &'j [[u8; CONTEXT]],
-) -> Result<(), JobsFault>
-    ensures added { OnOk result ((count : ℕ) → worker < count → All (IsJobFor program.now count) jobs.old.items → All (IsJobFor program.now count) jobs.new.items) }
-{
-    for context in contexts {
-        let job = Job {
-            worker,
-            program,
-            ctx: context.as_slice(),
-        };
-        match jobs.push(job) {
-            Ok(()) => {}
-            Err(_) => return Err(JobsFault::Program(ProgramFault::Memory)),
-        }
-    }
-    Ok(())
-}
-
-// What each seat counted, what the ring did, and how many jobs ended with a record handed back.
-fn print_report<W: Write>(out: &mut W, report: &Report<NullSink>) -> io::Result<()> {
-    for ended in &report.rings {
-        for worker in 0..ended.tallies.len() {
-            let Tally {
-                made,
-                refused,
-                submitted,
-                discarded,
-            } = ended.tallies[worker];
-            writeln!(
-                out,
-                "worker {worker} made {made} refused {refused} submitted {submitted} discarded {discarded}"
-            )?;
-        }
-        let Counts {
-            made,
-            refused: _,
-            consumed,
-            discarded,
-            waiting,
-            busy,
-        } = ended.closing.counts();
-        writeln!(
-            out,
-            "ring made {made} consumed {consumed} discarded {discarded} waiting {waiting} busy {busy}"
-        )?;
-    }
-    writeln!(out, "strays {}", report.strays)?;
-    out.flush()
 }

@@ -1,8 +1,10 @@
+mod c_programs;
 mod check_command;
 mod commands;
 mod endings;
 mod explain_command;
 mod fakes;
 mod feed_command;
+mod feed_retries;
 mod run_command;
-mod tape_writer;
+mod tape_command;

@@ -4,7 +4,7 @@ ghost use Rattle.rb_refs.specs.References.{AreEarlier};
 
 use super::{ENVIRONMENT, UNIT, mixed, reference, reg, three};
 use rb_insn::Insn;
-use rb_refs::{Abs, AbsState, Held, Reference, Rule, step};
+use rb_refs::{Abs, AbsState, Held, Reference, Rule, StepFault, step};
 use std::alloc::Global;
 use std::process::Abort;
 
@@ -127,7 +127,7 @@ fn arguments_in_order(rt: HostRuntime) {
         let insn = Insn::Call { helper };
         assert_eq!(rt;
             step(ENVIRONMENT, UNIT, &insn, &state).err(),
-            Some(rule),
+            Some(StepFault::Rule(rule)),
             "{helper} {arguments:?}"
         );
     }
@@ -207,7 +207,7 @@ fn states_after_a_call(rt: HostRuntime) {
 /// What a reservation finds with these references held: the rule that it breaks, or the reference of the call and whether no more fit.
 #[derive(Clone, Copy, Debug, PartialEq, Eq)]
 enum Reserved {
-    Breaks(Rule),
+    Breaks(StepFault),
     Adds(Option<Reference>, bool),
 }
 
@@ -219,7 +219,7 @@ fn reserve_with(alloc: Global, held: Held, unit: u32) -> Reserved
     state.held = held;
     match step(ENVIRONMENT, unit, &Insn::Call { helper: 131 }, &state) {
         Ok(effect) => Reserved::Adds(effect.next.held.get(unit), effect.next.held.is_full()),
-        Err(rule) => Reserved::Breaks(rule),
+        Err(fault) => Reserved::Breaks(fault),
     }
 }
 
@@ -228,6 +228,6 @@ fn four_references_at_most(rt: HostRuntime) {
     let added = Reserved::Adds(Some(reference(4, false)), true);
     assert_eq!(rt; reserve_with(rt.alloc(), three(rt.alloc()), 4), added);
     let four = three(rt.alloc()).added(reference(4, false));
-    let refused = Reserved::Breaks(Rule::TooManyReferences);
+    let refused = Reserved::Breaks(StepFault::Rule(Rule::TooManyReferences));
     assert_eq!(rt; reserve_with(rt.alloc(), four, UNIT), refused);
 }

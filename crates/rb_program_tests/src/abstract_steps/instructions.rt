@@ -8,7 +8,7 @@ use rb_insn::{
     BinaryOp, ByteOrder, Condition, DivisionOp, Extend64, Insn, Operand, Reg, SignedSize,
     Signedness, Size, SwapWidth, Width,
 };
-use rb_refs::{Abs, AbsState, Rule, step, step_in_place};
+use rb_refs::{Abs, AbsState, Rule, StepFault, step, step_in_place};
 use std::process::Abort;
 
 fn load(dst: u8, base: u8, offset: i16) -> Insn
@@ -166,7 +166,7 @@ fn refusals_in_order(rt: HostRuntime) {
     for (insn, rule) in rows {
         assert_eq!(rt;
             step(ENVIRONMENT, UNIT, &insn, &state).err(),
-            Some(rule),
+            Some(StepFault::Rule(rule)),
             "{insn:?}"
         );
     }

@@ -42,10 +42,12 @@ struct Joined {
 /// Joins two states of the entry with these values of r3.
 fn joined_at_r3(rt: &impl Abort, alloc: Global, value: Abs, other: Abs) -> Joined {
     let mut left = AbsState::entry(alloc);
-    let mut right = left.copy();
+    let mut right = left.copy().expect(rt, "memory");
     left.values[3] = value;
     right.values[3] = other;
-    let both = join(&left, &right).expect(rt, "the references are the same");
+    let both = join(&left, &right)
+        .expect(rt, "memory")
+        .expect(rt, "the references are the same");
     Joined {
         kept: both.value(reg(1)),
         frame: both.value(reg(10)),
@@ -89,7 +91,10 @@ fn other_references_have_no_join(rt: HostRuntime) {
     let entry = AbsState::entry(rt.alloc());
     let holds = mixed(rt.alloc());
     assert_eq!(rt;
-        (join(&entry, &holds).is_some(), below(&entry, &holds)),
+        (
+            join(&entry, &holds).expect(&rt, "memory").is_some(),
+            below(&entry, &holds)
+        ),
         (false, false)
     );
     step_keeps_order();

@@ -21,12 +21,13 @@ pub record IsSameConsumer (old new : ConsumerSeatValue) : Type 0 where
 abbrev pub IsConsumerTaskOf : {S : Type 0} → (S → ℕ) → Shared → ConsumerTask S → Type 0
 IsConsumerTaskOf position ring task = (task.consumer.tag ≡ ring.tag) × (task.consumer.ring ≡ ring.ring) × (position task.sink ≡ task.consumer.position)
 
--- what a take gives to a sink
-abbrev pub items_of : Taken → List SinkItem
-items_of (TakenEvent p w k bytes) = Event p w k bytes ∷ []
-items_of (Skipped p n) = Skip p n ∷ []
-items_of BusyFront = []
-items_of Empty = []
+-- what these answers of `take` give to a sink
+abbrev pub items_among : List Taken → List SinkItem
+items_among [] = []
+items_among (TakenEvent p w k bytes ∷ ts) = Event p w k bytes ∷ items_among ts
+items_among (Skipped p n ∷ ts) = Skip p n ∷ items_among ts
+items_among (BusyFront ∷ ts) = items_among ts
+items_among (Empty ∷ ts) = items_among ts
 
 -- the sink was given what the consumer took; all of it stands before the consumer's position, and what the consumer had got stays
 pub record HasGiven {S : Type 0} (takes : S → SinkItem → S → Type 0) (old new : ConsumerSeatValue) (before after : S) : Type 0 where

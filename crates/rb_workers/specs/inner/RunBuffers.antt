@@ -11,6 +11,7 @@ IsEmptyFor count v = (v.items ≡ []) × (count ≤ vec_capacity v)
 pub record HasRoomForRun {S : Type 0} (count rings jobs : ℕ) (r : RunBuffers S) : Type 0 where
   pub rings_fit : IsEmptyFor rings r.rings
   pub consumers_fit : IsEmptyFor rings r.consumers
+  pub batches_count : vec_len r.batches ≡ rings
   pub merged_fits : IsEmptyFor rings r.merged
   pub ended_fit : IsEmptyFor rings r.ended
   pub workers_count : vec_len r.workers ≡ count

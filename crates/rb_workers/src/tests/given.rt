@@ -25,7 +25,20 @@ pub(super) const SUBMIT_42: &str =
 pub(super) const OUTPUT_CONTEXT: &str = "bf12000000000000 1851000000000000 0000000000000000
     b703000008000000 b704000000000000 8500000082000000 9500000000000000";
 
-/// A sink that counts, for each first byte, the events of eight bytes that begin so and go on with zeros, and all others.
+/// Reserves a record of 24 bytes, and submits 42 and zeros where it was granted.
+pub(super) const SUBMIT_42_LONG: &str =
+    "1851000000000000 0000000000000000 b702000018000000 b703000000000000
+    8500000083000000 1500040000000000 7a0000002a000000 bf01000000000000
+    b702000000000000 8500000084000000 b700000000000000 9500000000000000";
+
+/// Reserves a record of 24 bytes, and submits it filled with the byte ff where it was granted.
+pub(super) const SUBMIT_FULL: &str =
+    "1851000000000000 0000000000000000 b702000018000000 b703000000000000
+    8500000083000000 1500060000000000 7a000000ffffffff 7a000800ffffffff
+    7a001000ffffffff bf01000000000000 b702000000000000 8500000084000000
+    b700000000000000 9500000000000000";
+
+/// A sink that counts, for each first byte, the events that begin so and go on with zeros, and all others.
 #[derive(Drop)]
 pub(super) struct Counter {
     pub(super) position: u64,
@@ -45,6 +58,16 @@ impl Counter {
     }
 }
 
+// Whether all of these are zeros.
+fn are_zeros(bytes: &[u8]) -> bool {
+    for byte in bytes {
+        if *byte != 0 {
+            return false;
+        }
+    }
+    true
+}
+
 impl Sink for Counter {
     ghost use Rattle.std.specs.Prelude.{◌≡◌, ◌+◌, ℕ};
     ghost use Rattle.rb_header.specs.TapeBytes.{item_span};
@@ -59,12 +82,11 @@ impl Sink for Counter {
     }
 
     fn event(&mut self, pos: u64, _: u32, _: u64, bytes: &[u8]) {
-        match bytes {
-            [first, 0, 0, 0, 0, 0, 0, 0] => {
-                let at = *first as usize;
-                self.events[at] = self.events[at].saturating_add(1);
-            }
-            _ => self.others = self.others.saturating_add(1),
+        if bytes.is_empty() || !are_zeros(&bytes[1..]) {
+            self.others = self.others.saturating_add(1);
+        } else {
+            let at = bytes[0] as usize;
+            self.events[at] = self.events[at].saturating_add(1);
         }
         self.position = pos + span(bytes.len() as u32);
     }

@@ -91,7 +91,7 @@ fn commands_write_tapes(rt: HostRuntime) {
 // Wrong usage is told on the error output before anything is read.
 #[test]
 fn wrong_usage(rt: HostRuntime) {
-    let wrong: [&[&str]; 14] = [
+    let wrong: [&[&str]; 17] = [
         &[],
         &["fed"],
         &["feed"],
@@ -106,6 +106,9 @@ fn wrong_usage(rt: HostRuntime) {
         &["feed", "--size", "4096", "--start", "1 "],
         &["feed", "--size", "4096", "--start=-8"],
         &["feed", "--size", "18446744073709551616"],
+        &["feed", "--size", "4096", "--retry", "101"],
+        &["tape"],
+        &["tape", "--size", "4096", "--retry", "1"],
     ];
     for words in wrong {
         assert!(rt; is_wrong_usage(&rt, rt.alloc(), words), "of {words:?}");
@@ -124,7 +127,12 @@ fn is_help<T: Threads + Wait + Sync>(rt: &T, alloc: Global, words: &[&str]) -> b
 
 #[test]
 fn help(rt: HostRuntime) {
-    let helps: [&[&str]; 3] = [&["--help"], &["help"], &["feed", "--help"]];
+    let helps: [&[&str]; 4] = [
+        &["--help"],
+        &["help"],
+        &["feed", "--help"],
+        &["tape", "--help"],
+    ];
     for words in helps {
         assert!(rt; is_help(&rt, rt.alloc(), words), "of {words:?}");
     }

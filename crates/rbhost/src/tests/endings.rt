@@ -14,7 +14,16 @@ pub(crate) fn ended<T: Abort + Threads + Wait + Sync>(
     words: &[&str],
     input: &[u8],
 ) -> String {
-    let mut reader = Source::new(input, 7);
+    ended_over(rt, alloc, words, Source::new(input, 7))
+}
+
+/// The same, over this reader.
+pub(crate) fn ended_over<T: Abort + Threads + Wait + Sync>(
+    rt: &T,
+    alloc: Global,
+    words: &[&str],
+    mut reader: Source<'_>,
+) -> String {
     let mut printed = Vec::new(alloc);
     let mut told = Vec::new(alloc);
     let status = command(rt, alloc, words, &mut reader, &mut printed, &mut told);

@@ -103,3 +103,42 @@ impl Write for Sink {
         Ok(())
     }
 }
+
+/// Takes one byte a write, but for the write of number `fails_at`, counted from 1, which fails.
+#[derive(Drop)]
+pub struct OneFailure {
+    pub taken: Vec<u8>,
+    pub writes: usize,
+    pub fails_at: usize,
+    pub trouble: Trouble,
+}
+
+impl OneFailure {
+    pub(crate) fn new(alloc: Global, fails_at: usize, trouble: Trouble) -> OneFailure {
+        OneFailure {
+            taken: Vec::new(alloc),
+            writes: 0,
+            fails_at,
+            trouble,
+        }
+    }
+}
+
+impl Write for OneFailure {
+    fn write(&mut self, buf: &[u8]) -> Result<usize> {
+        let n = buf.len().min(1);
+        self.writes = self.writes.saturating_add(n);
+        if self.writes == self.fails_at && n > 0 {
+            return match self.trouble {
+                Trouble::TakesNothing => Ok(0),
+                Trouble::Fails(kind) => Err(Error::from(kind)),
+            };
+        }
+        self.taken.extend_from_slice(&buf[..n])?;
+        Ok(n)
+    }
+
+    fn flush(&mut self) -> Result<()> {
+        Ok(())
+    }
+}

@@ -24,8 +24,7 @@ fn fed(
     most: usize,
 ) -> (Result<(u64, u64), FeedFault>, Vec<u8>) {
     let mut reader = Source::new(input, most);
-    let mut writer = Sink::open(alloc);
-    let answer = feed(alloc, &mut reader, &mut writer, size, start);
+    let (answer, writer) = feed(alloc, &mut reader, Sink::open(alloc), size, start, 0);
     (answer, writer.taken)
 }
 
@@ -108,8 +107,7 @@ fn pages_go_round(rt: HostRuntime) {
 // What feeding two payloads is answered, and whether nothing was read or written.
 fn refused(alloc: Global, size: u64, start: u64) -> (Result<(u64, u64), FeedFault>, bool) {
     let mut reader = Source::new(&TWO, 100);
-    let mut writer = Sink::open(alloc);
-    let answer = feed(alloc, &mut reader, &mut writer, size, start);
+    let (answer, writer) = feed(alloc, &mut reader, Sink::open(alloc), size, start, 0);
     (
         answer,
         reader.rest.len() == TWO.len() && writer.taken.is_empty(),
@@ -197,8 +195,8 @@ fn readers_that_fail(rt: HostRuntime) {
     for kind in [ErrorKind::BrokenPipe, ErrorKind::Interrupted] {
         for end in 0..10usize {
             let mut reader = Source::failing(&TWO[..end], kind);
-            let mut writer = Sink::open(rt.alloc());
-            let fed = feed(rt.alloc(), &mut reader, &mut writer, 4096, 0);
+            let sink = Sink::open(rt.alloc());
+            let (fed, writer) = feed(rt.alloc(), &mut reader, sink, 4096, 0, 0);
             let tape = match end {
                 0..5 => 0,
                 5..9 => 16,
@@ -224,8 +222,8 @@ fn writers_that_stop(rt: HostRuntime) {
         for room in 0..25usize {
             for most in [1usize, 5, 100] {
                 let mut reader = Source::new(&TWO, 100);
-                let mut writer = Sink::new(rt.alloc(), room, most, trouble);
-                let fed = feed(rt.alloc(), &mut reader, &mut writer, 4096, 0);
+                let sink = Sink::new(rt.alloc(), room, most, trouble);
+                let (fed, writer) = feed(rt.alloc(), &mut reader, sink, 4096, 0, 0);
                 let wanted = if room < 24 {
                     Err(FeedFault::Device)
                 } else {
@@ -244,12 +242,11 @@ fn writers_that_stop(rt: HostRuntime) {
 // How many bytes were flushed, and what is answered and written where the flush fails.
 fn flushed(alloc: Global, input: &[u8]) -> (usize, Result<(u64, u64), FeedFault>, usize) {
     let mut reader = Source::new(input, 100);
-    let mut writer = Sink::open(alloc);
-    let _ = feed(alloc, &mut reader, &mut writer, 4096, 0);
+    let (_, writer) = feed(alloc, &mut reader, Sink::open(alloc), 4096, 0, 0);
     let mut again = Source::new(input, 100);
     let mut failing = Sink::open(alloc);
     failing.flush_fails = true;
-    let fed = feed(alloc, &mut again, &mut failing, 4096, 0);
+    let (fed, failing) = feed(alloc, &mut again, failing, 4096, 0, 0);
     (writer.flushed, fed, failing.taken.len())
 }
 

@@ -18,3 +18,4 @@ returns c =
     let right : length c.args.right.now.values ≡ 11 = omega arith in
     join_by_values c.args.left.now c.args.right.now _ same c.copy.ensures (left ∙ sym right) (c.loop-i.invariant.count ∙ sym left)
     (everywhere IsJoinValue c.args.left.now.values c.args.right.now.values c.loop-i.values unreadable_join left right c.loop-i.invariant.count (λ r k. c.loop-i.invariant.joined r (omega arith)))
+    c.in_ok-places.ensures

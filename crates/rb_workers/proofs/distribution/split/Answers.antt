@@ -14,7 +14,7 @@ use Rattle.rb_workers.proofs.distribution.split.Goals as goal
 pub loop-one-init : goal.loop-one-init
 loop-one-init g c =
     let gives = c.into_iter-one-iterator.ensures.into_iter_gives in
-    ([], search rules, refl, refl, search rules, c.requires.empty.0, subst (AllZip IsSplitOff []) (sym c.requires.empty.1) tt, (λ k d below. ((refl, refl, refl, (c.requires.workers k d below).3), omega arith)))
+    ([], search rules, refl, refl, search rules, c.requires.empty.0, subst (AllZip IsSplitOff []) (sym c.requires.empty.1) tt, (let e = ap length gives.0 in omega (arith, c.requires.batches, c.args.opened.ok.0, e)), (λ k d below. ((refl, refl, refl, (c.requires.workers k d below).3), omega arith)))
 
 pub distribute_ring-requires-clause-len : goal.distribute_ring-requires-clause-len
 distribute_ring-requires-clause-len g c = all_first (λ (o : Opened g.row.S.Denot). length o.seats.items ≡ length c.args.workers.now) _ _ c.in-Some.one c.in-Some.ensures.steps.0 c.loop-one.invariant.4 ∙ sym c.loop-one.auto.workers
@@ -22,7 +22,7 @@ distribute_ring-requires-clause-len g c = all_first (λ (o : Opened g.row.S.Deno
 pub distribute_ring-requires-clause-room : goal.distribute_ring-requires-clause-room
 distribute_ring-requires-clause-room g c = λ k d below.
     let i = c.loop-one.invariant in
-    let h = i.7 k d (omega (arith, c.loop-one.auto.workers)) in
+    let h = i.8 k d (omega (arith, c.loop-one.auto.workers)) in
     let cap = (c.requires.workers k d (omega (arith, c.loop-one.auto.workers))).4 in
     let len = less i.0 _ _ _ _ i.1 c.in-Some.ensures.steps.0 in
     let col = column_length k (seat_rows i.0) in
@@ -52,8 +52,9 @@ loop-one-preserved g c =
       c.push_reserved.ensures.items ∙ (ap (λ l. l ++ one.ring ∷ []) i.5 ∙ sym (map-append (λ (o : Opened _). o.ring) done (one ∷ []))),
       subst (AllZip IsSplitOff (done ++ one ∷ [])) (sym c.push_reserved-in-loop-one.ensures.items)
           (zip_more IsSplitOff done c.loop-one.consumers.items one _ i.6 (refl, refl, c.distribute_ring.ensures.returned_seats.0, omega (arith, c.distribute_ring.ensures.returned_seats.1, one.seats.ok.0, one.seats.ok.1))),
+      (let e = ap length steps in omega (arith, e, i.7, c.in-Some-pop.ensures.len)),
       (λ k d below.
-          let h = i.7 k d below in
+          let h = i.8 k d below in
           let len : length row ≡ length c.args.workers.now = all_first (λ (o : Opened g.row.S.Denot). length o.seats.items ≡ length c.args.workers.now) _ _ c.in-Some.one steps i.4 in
           let inside : k < length row = omega arith in
           let s = some_of row k inside in
@@ -74,4 +75,4 @@ returns-clause-workers g c =
     let z = c.in-None.ensures.steps in
     let none : length (into_iter_items c.loop-one.one-iterator) ≡ 0 = search rules in
     let whole : i.0 ≡ c.args.opened.items = nothing i.0 _ _ i.1 none in
-    λ k d below. let h = i.7 k d below in (h.0.0, h.0.1, h.0.2, h.0.3 ∙ ap (λ (l : List (Opened _)). worker_column k (seat_rows l)) whole)
+    λ k d below. let h = i.8 k d below in (h.0.0, h.0.1, h.0.2, h.0.3 ∙ ap (λ (l : List (Opened _)). worker_column k (seat_rows l)) whole)

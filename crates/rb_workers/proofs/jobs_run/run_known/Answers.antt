@@ -1,19 +1,34 @@
-use Rattle.std.proofs.Common.{◌≡◌, ◌∙◌, ℕ, ◌<◌, List, false, get_or, length, sym, ap, subst, arith}
+use Rattle.std.proofs.Common.{◌≡◌, ◌∙◌, ℕ, ◌<◌, List, false, get_or, length, vec_len, sym, ap, subst, arith}
 use Rattle.std.specs.Prelude.{All}
 use Rattle.std.specs.List.{AllZip, list_any}
 use Rattle.rb_ledger.specs.Seats.{IsSameSeat}
 use Rattle.rb_workers.specs.declared.workers.Worker.{Worker}
 use Rattle.rb_workers.specs.inner.RingEnds.{Closes}
 use Rattle.rb_workers.specs.JobRuns.{own_jobs}
-use Rattle.rb_workers.specs.inner.WorkerRuns.{own_answers}
-use Rattle.rb_workers.specs.Opened.{workers_of}
+use Rattle.rb_workers.specs.inner.WorkerRuns.{IsNew, own_answers}
+use Rattle.rb_workers.specs.Opened.{IsOpened, workers_of}
 use Rattle.rb_workers.specs.inner.RunBuffers.{IsEmptyFor}
 use Rattle.rb_workers.specs.SeatRows.{seat_rows, worker_column}
-use Rattle.rb_workers.proofs.Reported.{each_answered, each_told, known_workers, ran_length, reported}
+use Rattle.rb_workers.proofs.Reported.{each_answered, each_told, known_rings, known_workers, ran_length, reported}
 use Rattle.rb_seats.proofs.Lists.{zip_length}
 use Rattle.rb_workers.proofs.Parts.{rows_length}
 use Rattle.rb_workers.proofs.Whole.{lent_whole}
 use Rattle.rb_workers.proofs.jobs_run.run_known.Goals as goal
+
+pub run_in-merged-requires-clause-jobs : goal.run_in-merged-requires-clause-jobs
+run_in-merged-requires-clause-jobs g c κs within = known_rings (vec_len c.args.opened) c.args.jobs.now c.requires.rings
+
+pub run_in-merged-requires-clause-opened : goal.run_in-merged-requires-clause-opened
+run_in-merged-requires-clause-opened g c κs within =
+    let count = workers_of c.args.opened.items in
+    let many : length c.as_mut_slice.result.now ≡ count = ap length c.as_mut_slice.ensures.value ∙ (sym c.args.buffers.workers.ok.0 ∙ c.requires.buffers.workers_count) in
+    subst (λ n. All (IsOpened g.S.Sink.position_of n) c.args.opened.items) (sym many) c.requires.opened
+
+pub run_in-merged-requires-clause-workers : goal.run_in-merged-requires-clause-workers
+run_in-merged-requires-clause-workers g c κs within =
+    let count = workers_of c.args.opened.items in
+    let many : length c.as_mut_slice.result.now ≡ count = ap length c.as_mut_slice.ensures.value ∙ (sym c.args.buffers.workers.ok.0 ∙ c.requires.buffers.workers_count) in
+    λ k d below. subst (λ (l : List Worker). IsNew k (vec_len c.args.opened) (get_or l k d)) (sym c.as_mut_slice.ensures.value) (c.requires.buffers.workers_new k d (omega (arith, below, many)))
 
 pub report_on-requires-clause-known : goal.report_on-requires-clause-known
 report_on-requires-clause-known g c =

@@ -1,13 +1,11 @@
-use Rattle.std.proofs.Common.{◌≡◌, ◌+◌, ◌*◌, ◌<◌, ◌≤◌, ◌^◌, ◌∷◌, ◌++◌, [], List, ℕ, length, Ok, Err, ap, sym, ◌∙◌, subst, arith}
+use Rattle.std.proofs.Common.{◌≡◌, ◌+◌, ◌∷◌, ◌++◌, [], length, Ok, Err, ap, sym, ◌∙◌, subst, arith}
 use Rattle.std.proofs.lemmas.Result.{err_from_is_err_and}
 use Rattle.std.proofs.lemmas.List.{length_push}
 use Rattle.std.specs.Io.KnownBytes.{Appends}
 use Rattle.rb_header.specs.Span.{span}
 use Rattle.rb_header.specs.TapeBytes.{IsItemAt, item_bytes}
 use Rattle.rb_header.specs.TapeBytes.Item.{Event}
-use Rattle.rb_history.specs.Calls.{producer_now}
-use Rattle.rbhost.specs.Feed.{FeedsOne}
-use Rattle.rbhost.specs.Input.{events_from}
+use Rattle.rbhost.specs.inner.PayloadSteps.{FeedsOne}
 use Rattle.rbhost.proofs.Feeding.{fed_next, fed_one, passes_more, end_of-push}
 use Rattle.rbhost.proofs.feed.feed_all.Goals as goal
 
@@ -23,7 +21,7 @@ returns-in_err-spare-clause-fed g c =
     let i = c.loop-payload.invariant.passed in
     let bound = c.requires.size.2 in
     rw (p.1, p.2) (fed_one c.args.size c.args.start _ _ _ _ i.0 i.1 _ _ c.loop-payload.number c.loop-payload.tape.position c.in-Some.payload i.2 i.3 (omega arith) (rw c.in-Some.is at c.in_ok-payload.ensures) c.in_err-spare.field-0.0
-    (subst (λ n. FeedsOne n c.loop-payload.tape.position c.loop-payload.number c.in-Some.payload (g.W.Write.contents c.loop-payload.tape.writer.now) (g.W.Write.contents c.feed_one.new.tape.writer.now) (Err c.in_err-spare.field-0.0)) c.loop-payload.invariant.size c.in_err-spare.ensures.fed))
+    (subst (λ n. FeedsOne n c.loop-payload.tape.position c.loop-payload.number c.in-Some.payload (g.W.Write.contents c.loop-payload.tape.writer) (g.W.Write.contents c.feed_one.new.tape.writer) (Err c.in_err-spare.field-0.0)) c.loop-payload.invariant.size c.in_err-spare.ensures.fed))
 
 pub loop-payload-preserved : goal.loop-payload-preserved
 loop-payload-preserved g c =
@@ -33,15 +31,14 @@ loop-payload-preserved g c =
     let done = c.in_ok-spare.ensures in
     let found = rw c.in-Some.is at c.in_ok-payload.ensures in
     let payload = c.in-Some.payload in
-    let fed = subst (λ n. FeedsOne n c.loop-payload.tape.position c.loop-payload.number payload (g.W.Write.contents c.loop-payload.tape.writer.now) (g.W.Write.contents c.feed_one.new.tape.writer.now) (Ok c.in_ok-spare.spare)) l.size done.fed in
+    let fed = subst (λ n. FeedsOne n c.loop-payload.tape.position c.loop-payload.number payload (g.W.Write.contents c.loop-payload.tape.writer) (g.W.Write.contents c.feed_one.new.tape.writer) (Ok c.in_ok-spare.spare)) l.size done.fed in
     let moved = done.moves_on in
     let at : c.feed_one.new.tape.position ≡ c.loop-payload.tape.position + span (length payload) = done.position in
     let item = fed.0 in
     let item_there = subst (λ q. IsItemAt c.args.size q (Event q payload)) i.3 fed.0 in
-    let wrote_there = subst (λ q. Appends (g.W.Write.contents c.loop-payload.tape.writer.now) (g.W.Write.contents c.feed_one.new.tape.writer.now) (item_bytes c.args.size (Event q payload))) i.3 fed.1 in
+    let wrote_there = subst (λ q. Appends (g.W.Write.contents c.loop-payload.tape.writer) (g.W.Write.contents c.feed_one.new.tape.writer) (item_bytes c.args.size (Event q payload))) i.3 fed.1 in
     let count = length_push i.0 payload in
     record {
-      same_reference = one.same_reference ∙ l.same_reference;
       size = one.size ∙ l.size;
       finished = done.finished;
       setup = moved.setup_same ∙ l.setup;

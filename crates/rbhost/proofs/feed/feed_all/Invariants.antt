@@ -9,7 +9,6 @@ use Rattle.rbhost.proofs.feed.feed_all.Given as goal
 -- the payloads so far were read, and their tape was written; in the ring each was taken, and the positions are one
 abbrev pub invariant-loop-payload : goal.invariant-loop-payload
 invariant-loop-payload g l = record {
-  same_reference : l.tape.writer.ghost_name ≡ l.fn.tape.writer.ghost_name;
   size : l.tape.size ≡ l.size;
   finished : l.tape.unfinished ≡ false;
   setup : l.ring.setup ≡ record { size = l.size; start = l.start; workers = 1 };
@@ -17,7 +16,7 @@ invariant-loop-payload g l = record {
   position : l.tape.position ≡ producer_now l.ring;
   low : l.start + 8 * l.number ≤ l.tape.position;
   high : l.tape.position ≤ 2 ^ 62;
-  passed : (payloads : List (List ℕ)) × FeedsAll (feed_run l.size l.start (g.R.Read.remaining l.fn.reader) (g.R.Read.remaining l.reader) (g.W.Write.contents l.fn.tape.writer.now) (g.W.Write.contents l.tape.writer.now)) payloads [] × (l.number ≡ length payloads) × (l.tape.position ≡ end_of l.start (events_from l.start payloads));
+  passed : (payloads : List (List ℕ)) × FeedsAll (feed_run l.size l.start (g.R.Read.remaining l.fn.reader) (g.R.Read.remaining l.reader) (g.W.Write.contents l.fn.tape.writer) (g.W.Write.contents l.tape.writer)) payloads [] × (l.number ≡ length payloads) × (l.tape.position ≡ end_of l.start (events_from l.start payloads));
 }
 
 abbrev pub decreases-loop-payload : goal.decreases-loop-payload

@@ -1,9 +1,11 @@
-use Rattle.std.proofs.Common.{◌≡◌, ◌≤◌, ◌∙◌, All, length, vec_len, refl, ap, sym, subst, arith}
+use Rattle.std.proofs.Common.{◌≡◌, ◌≤◌, ◌∙◌, map, vec_len, ap, subst, sym, arith}
 use Rattle.std.proofs.lemmas.Bool.{true≢false}
-use Rattle.rb_jobs.specs.declared.job.Job.{Job}
+use Rattle.rb_jobs.specs.Jobs.{task_of}
 use Rattle.rb_workers.specs.Reports.{has_unknown_worker}
-use Rattle.rbhost.specs.inner.RunCommand.{IsJobFor}
-use Rattle.rbhost.proofs.Running.{one_opened, one_count, rings_known, workers_known}
+use Rattle.rbhost.specs.WorkerJobs.{tasks_of_workers}
+use Rattle.rb_history.specs.RingModel.{IsWorkerCount}
+use Rattle.rbhost.proofs.Running.{one_opened, one_count, ran_workers, same_number}
+use Rattle.rbhost.proofs.WorkerTasks.{rings_known, tasks_lent, workers_known}
 use Rattle.rbhost.proofs.run_command.run_program.Goals as goal
 
 pub run_jobs-requires-clause-opened : goal.run_jobs-requires-clause-opened
@@ -14,15 +16,24 @@ unreachable-requires g c =
     let yes = c.in-Err-UnknownRing-default.ensures.unknown_ring.0 c.in-Err-UnknownRing-default.field-0-0-is in
     let one : vec_len c.in-Ok-vec.opened ≡ 1 = c.in-Ok-vec.ensures.len in
     let few : c.args.program.now.rings ≤ vec_len c.in-Ok-vec.opened = omega (arith, one, c.requires.one_ring) in
-    let all : All (IsJobFor c.args.program.now (length c.as_slice.result.now)) c.as_slice-2.result.now =
-    subst (All (IsJobFor c.args.program.now (length c.as_slice.result.now))) (sym c.as_slice-2.ensures.value) c.in_ok-jobs.ensures.jobs in
-    true≢false (sym yes ∙ rings_known _ _ _ _ all few)
+    let tasks : map task_of c.as_slice-2.result.now ≡ tasks_of_workers c.args.program.now c.unwrap_or-workers.result c.args.request.jobs =
+    tasks_lent c.args.program.now c.unwrap_or-workers.result c.args.request.jobs _ _ _ _ c.in_ok-contexts.ensures.contexts c.as_slice.ensures.value c.in_ok-jobs.ensures.jobs c.as_slice-2.ensures.value in
+    true≢false (sym yes ∙ rings_known c.args.program.now c.unwrap_or-workers.result c.args.request.jobs _ tasks _ few)
 
 pub unreachable-requires-in-Err-UnknownWorker-default : goal.unreachable-requires-in-Err-UnknownWorker-default
 unreachable-requires-in-Err-UnknownWorker-default g c =
     let yes = (c.in-Err-UnknownWorker-default.ensures.unknown_worker.0 c.in-Err-UnknownWorker-default.field-0-0-is).1 in
-    let all : All (IsJobFor c.args.program.now (length c.as_slice.result.now)) c.as_slice-2.result.now =
-    subst (All (IsJobFor c.args.program.now (length c.as_slice.result.now))) (sym c.as_slice-2.ensures.value) c.in_ok-jobs.ensures.jobs in
-    let rows : length c.as_slice.result.now ≡ c.unwrap_or-workers.result = omega (arith, c.as_slice.ensures.len, c.in_ok-contexts.ensures.len) in
+    let tasks : map task_of c.as_slice-2.result.now ≡ tasks_of_workers c.args.program.now c.unwrap_or-workers.result c.args.request.jobs =
+    tasks_lent c.args.program.now c.unwrap_or-workers.result c.args.request.jobs _ _ _ _ c.in_ok-contexts.ensures.contexts c.as_slice.ensures.value c.in_ok-jobs.ensures.jobs c.as_slice-2.ensures.value in
     let count = one_count _ _ c.in-Ok.one _ c.in-Ok-vec.ensures.items c.in-Ok.ensures.opened in
-    true≢false (sym yes ∙ (ap (λ n. has_unknown_worker n c.as_slice-2.result.now) (count ∙ sym rows) ∙ workers_known _ _ _ all))
+    true≢false (sym yes ∙ (ap (λ n. has_unknown_worker n c.as_slice-2.result.now) count ∙ workers_known c.args.program.now c.unwrap_or-workers.result c.args.request.jobs _ tasks))
+
+pub returns-in-Ok-run_jobs-clause-ran : goal.returns-in-Ok-run_jobs-clause-ran
+returns-in-Ok-run_jobs-clause-ran g c =
+    let count : IsWorkerCount c.unwrap_or-workers.result = subst IsWorkerCount c.in-Ok.ensures.opened.as_many c.facts.ensures.book.workers in
+    let as_many : c.unwrap_or-workers.result ≡ c.args.request.workers = same_number c.try_from.result _ c.args.request.workers c.unwrap_or-workers.result c.try_from.ensures c.unwrap_or-workers.ensures count.1 in
+    let tasks : map task_of c.as_slice-2.result.now ≡ tasks_of_workers c.args.program.now c.unwrap_or-workers.result c.args.request.jobs =
+    tasks_lent c.args.program.now c.unwrap_or-workers.result c.args.request.jobs _ _ _ _ c.in_ok-contexts.ensures.contexts c.as_slice.ensures.value c.in_ok-jobs.ensures.jobs c.as_slice-2.ensures.value in
+    ran_workers c.args.program.now c.args.request c.unwrap_or-workers.result c.in-Ok.one c.in-Ok-vec.opened.items c.as_slice-2.result.now c.in-Ok-run_jobs.report
+    as_many c.in-Ok-vec.ensures.items c.in-Ok.ensures.seats c.in-Ok.ensures.consumer (ap (λ s. s.position) c.in-Ok.ensures.sink) c.in-Ok.ensures.nothing_made tasks
+    c.in-Ok-run_jobs.ensures.report c.in-Ok-run_jobs.ensures.no_strays

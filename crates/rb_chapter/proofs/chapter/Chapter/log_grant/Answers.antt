@@ -1,11 +1,13 @@
-use Rattle.std.proofs.Common.{◌≡◌, ◌<◌, ◌++◌, ◌∷◌, [], sym, ap, ◌∙◌, subst, arith}
+use Rattle.std.proofs.Common.{◌≡◌, ◌<◌, ◌++◌, ◌∷◌, [], length, length-append, sym, ap, ◌∙◌, subst, arith}
 use Rattle.rb_history.specs.declared.entries.Entry.TheVariants.{Res}
 use Rattle.rb_history.specs.History.{Shown}
+use Rattle.rb_chapter.specs.Opening.{Opening}
 use Rattle.rb_chapter.specs.Chapters.{Chapter}
 use Rattle.rb_chapter.specs.CountedFrom.{HasRoomFrom, grants_from, producer_from}
 use Rattle.rb_chapter.specs.ChapterRoom.{MayGrant, with_entry}
-use Rattle.rb_chapter.specs.inner.ChapterBody.{chapter_shown}
-use Rattle.rb_chapter.proofs.Logging.{grants-fit, records-fit, granted, serial-is, position-is}
+use Rattle.rb_chapter.specs.inner.ChapterBody.{chapter_shown, IsBehindTakes}
+use Rattle.rb_chapter.specs.inner.OpeningSteps.{next_record}
+use Rattle.rb_chapter.proofs.Logging.{grants-fit, granted, serial-is, position-is}
 use Rattle.rb_chapter.proofs.chapter.Chapter.log_grant.Goals as goal
 
 pub add_grant-record-requires-clause-total : goal.add_grant-record-requires-clause-total
@@ -19,7 +21,7 @@ pub add_grant-record-requires-clause-room : goal.add_grant-record-requires-claus
 add_grant-record-requires-clause-room c =
     let was = c.self.invariant in
     let room = subst MayGrant (sym c.self.view_is) c.requires.chapter_room in
-    omega (arith, records-fit was.earlier (chapter_shown c.self.inside) was.kept c.self.inside.closing.opening was.closing_is room, was.closing_space)
+    omega (arith, was.passed, was.owed_is, room, was.closing_space)
 
 pub invariant_of-self : goal.invariant_of-self
 invariant_of-self c =
@@ -42,6 +44,16 @@ invariant_of-self c =
       space = omega (arith, was.space, c.log.ensures.space);
       opening_space = was.opening_space;
       closing_space = omega (arith, was.closing_space, c.add_grant-record.ensures.room);
+      passed = omega (
+        arith,
+        was.passed,
+        c.add_grant-record.ensures.passed,
+        ap (λ (o : Opening). length o.records) c.add_grant-record.ensures.added,
+        length-append closing.records (next_record w c.args.len closing ∷ []),
+        ap length c.log.ensures.logged,
+        length-append old.entries (Res w c.add_grant-record.result.serial c.args.len c.add_grant-record.result.pos ∷ []),
+      );
+      takes = subst IsBehindTakes (sym c.add_grant-record.ensures.added) was.takes;
       closing_is = runs.closing_is;
       owed_is = runs.owed_is;
       earlier = was.earlier;

@@ -1,9 +1,10 @@
-use Rattle.std.proofs.Common.{◌≡◌, ◌<◌, sym, ap, subst, arith}
+use Rattle.std.proofs.Common.{◌≡◌, ◌<◌, [], ◌∷◌, length, length-append, sym, ap, subst, arith}
 use Rattle.rb_history.specs.declared.entries.Entry.TheVariants.{Full}
+use Rattle.rb_chapter.specs.Opening.{Opening}
 use Rattle.rb_chapter.specs.Chapters.{Chapter}
 use Rattle.rb_chapter.specs.CountedFrom.{HasRoomFrom}
 use Rattle.rb_chapter.specs.ChapterRoom.{MayRefuse, with_entry}
-use Rattle.rb_chapter.specs.inner.ChapterBody.{chapter_shown}
+use Rattle.rb_chapter.specs.inner.ChapterBody.{chapter_shown, IsBehindTakes}
 use Rattle.rb_chapter.proofs.Logging.{refusals-fit, refused}
 use Rattle.rb_chapter.proofs.chapter.Chapter.log_refusal.Goals as goal
 
@@ -31,6 +32,8 @@ invariant_of-self c =
       space = omega (arith, was.space, c.log.ensures.space);
       opening_space = was.opening_space;
       closing_space = omega (arith, was.closing_space, c.add_refusal.ensures.room);
+      passed = omega (arith, was.passed, c.add_refusal.ensures.passed, ap (λ (o : Opening). length o.records) c.add_refusal.ensures.added, ap length c.log.ensures.logged, length-append old.entries (Full c.args.worker c.args.len ∷ []));
+      takes = subst IsBehindTakes (sym c.add_refusal.ensures.added) was.takes;
       closing_is = runs.closing_is;
       owed_is = runs.owed_is;
       earlier = was.earlier;

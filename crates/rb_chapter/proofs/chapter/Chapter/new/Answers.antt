@@ -1,6 +1,7 @@
-use Rattle.std.proofs.Common.{[], sym, ap, subst, arith}
+use Rattle.std.proofs.Common.{[], length, sym, ap, subst, arith}
 use Rattle.rb_history.specs.RingModel.{IsWorkerCount}
 use Rattle.rb_chapter.specs.Opening.{Opening}
+use Rattle.rb_chapter.specs.inner.ChapterBody.{IsBehindTakes}
 use Rattle.rb_chapter.proofs.Empty.{empty-as}
 use Rattle.rb_chapter.proofs.Running.{runs-from-none}
 use Rattle.rb_chapter.proofs.chapter.Chapter.new.Goals as goal
@@ -17,6 +18,8 @@ invariant_of-result c =
       space = omega (arith, space);
       opening_space = omega (arith, c.in_ok-of_zeros.ensures.room);
       closing_space = omega (arith, c.in_ok-of_zeros-2.ensures.room);
+      passed = omega (arith, c.in_ok-of_zeros-2.ensures.passed, ap (λ (o : Opening). length o.records) c.in_ok-of_zeros-2.ensures.zeros);
+      takes = subst IsBehindTakes (sym c.in_ok-of_zeros-2.ensures.zeros) (omega arith);
       closing_is = runs.closing_is;
       owed_is = runs.owed_is;
       earlier = [];

@@ -1,9 +1,9 @@
-use Rattle.std.proofs.Common.{◌≡◌, ◌+◌, ◌++◌, [], refl, sym, ap, ◌∙◌, subst, arith}
+use Rattle.std.proofs.Common.{◌≡◌, ◌+◌, ◌++◌, [], length, refl, sym, ap, ◌∙◌, subst, arith}
 use Rattle.rb_history.specs.RingModel.{IsWorkerCount}
 use Rattle.rb_chapter.specs.Opening.{Opening}
-use Rattle.rb_chapter.specs.Chapters.{Chapter, Meets}
-use Rattle.rb_chapter.specs.inner.ChapterBody.{chapter_shown}
-use Rattle.rb_chapter.proofs.Running.{closing-fits, runs-on}
+use Rattle.rb_chapter.specs.Chapters.{Chapter, Meets, closing_of}
+use Rattle.rb_chapter.specs.inner.ChapterBody.{chapter_shown, IsBehindTakes}
+use Rattle.rb_chapter.proofs.Running.{closing-fits, records-owe, runs-on}
 use Rattle.rb_chapter.proofs.chapter.Chapter.open_after.Goals as goal
 
 pub copy_from-requires-clause-room : goal.copy_from-requires-clause-room
@@ -33,6 +33,15 @@ invariant_of-self c =
       space = c.self.invariant.space;
       opening_space = omega (arith, c.self.invariant.opening_space, c.copy_from.ensures.room);
       closing_space = omega (arith, c.self.invariant.closing_space, c.copy_from-2.ensures.room);
+      passed = omega (
+        arith,
+        c.copy_from-2.ensures.passed,
+        ap (λ (o : Opening). length o.records) c.copy_from-2.ensures.same,
+        ap (λ (o : Opening). length o.records) was.closing_is,
+        records-owe (closing_of old).records,
+        was.owed_is,
+      );
+      takes = subst IsBehindTakes (sym c.copy_from-2.ensures.same) was.takes;
       closing_is = runs.closing_is;
       owed_is = was.owed_is ∙ runs.owed_is;
       earlier = was.earlier ++ old.entries;

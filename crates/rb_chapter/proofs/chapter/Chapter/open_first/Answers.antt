@@ -1,7 +1,8 @@
-use Rattle.std.proofs.Common.{◌≤◌, [], sym, ap, ◌∙◌, subst}
+use Rattle.std.proofs.Common.{◌≤◌, [], length, sym, ap, ◌∙◌, subst, arith}
 use Rattle.rb_history.specs.RingModel.{IsWorkerCount}
 use Rattle.rb_chapter.specs.Opening.{Opening}
 use Rattle.rb_chapter.specs.Chapters.{empty_ring}
+use Rattle.rb_chapter.specs.inner.ChapterBody.{IsBehindTakes}
 use Rattle.rb_chapter.proofs.Empty.{empty-as}
 use Rattle.rb_chapter.proofs.Running.{runs-from-none}
 use Rattle.rb_chapter.proofs.chapter.Chapter.open_first.Goals as goal
@@ -19,6 +20,8 @@ invariant_of-self c =
       space = subst (λ n. c.self.inside.room ≤ n) (sym c.clear.ensures.capacity) was.space;
       opening_space = subst (λ n. c.self.inside.room ≤ n) (sym c.begin.ensures.room) was.opening_space;
       closing_space = subst (λ n. c.self.inside.room ≤ n) (sym c.begin-2.ensures.room) was.closing_space;
+      passed = omega (arith, c.begin-2.ensures.passed, ap (λ (o : Opening). length o.records) c.begin-2.ensures.first);
+      takes = subst IsBehindTakes (sym c.begin-2.ensures.first) (omega arith);
       closing_is = runs.closing_is;
       owed_is = runs.owed_is;
       earlier = [];

@@ -1,0 +1,28 @@
+use Rattle.std.proofs.Common.{◌+◌, ◌∙◌, ap, drop, get_or, map}
+use Rattle.rb_header.specs.Span.{span}
+use Rattle.rb_history.specs.History.{Shown}
+use Rattle.rb_chapter.specs.OpeningValue.{OpeningValue}
+use Rattle.rb_chapter.specs.Opening.{no_record}
+use Rattle.rb_chapter.specs.UntakenRecords.{untaken_shown}
+use Rattle.rb_chapter.specs.inner.OpeningSteps.{with_take, events_by, skips_by}
+use Rattle.rb_chapter.proofs.Places.{one-dropped}
+use Rattle.rb_chapter.proofs.opening.Opening.add_take.Goals as goal
+
+pub returns-clause-taken : goal.returns-clause-taken
+returns-clause-taken c =
+    let a = c.self.inside in
+    let at = c.front_of-record.ensures.record ∙ ap (λ rs. get_or (map untaken_shown (drop a.first rs)) 0 no_record) c.as_slice.ensures.value in
+    let consumer = ap (λ n. a.numbers.consumer + n) (c.span.ensures.value ∙ ap (λ (s : Shown). span s.len) at) in
+    let rows = one-dropped a.records.items a.first in
+    let consumed = ap (λ n. a.numbers.consumed + n) (c.events.ensures.events ∙ ap (λ (s : Shown). events_by s.status) at) in
+    let skipped = ap (λ n. a.numbers.skipped + n) (c.skips.ensures.skips ∙ ap (λ (s : Shown). skips_by s.status) at) in
+    (λ i. record {
+      setup = record { size = a.numbers.size; start = a.numbers.start; workers = a.numbers.workers };
+      producer = a.numbers.producer;
+      consumer = consumer i;
+      records = rows i;
+      tallies = a.tallies.items;
+      consumed = consumed i;
+      skipped = skipped i;
+    })
+    ∙ ap (λ (v : OpeningValue). with_take v.opening) c.self.view_is

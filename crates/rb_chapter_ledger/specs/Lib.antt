@@ -1,0 +1,10 @@
+pub mod ChapteredRing
+pub mod ChapterKnowledge
+pub mod ChapterLockRule
+pub mod ChapterLockSteps
+pub mod ChapterLockLaws
+pub mod ChapterSeats
+pub mod LockedChapterCalls
+pub mod ChapterClosing
+pub mod ChapterHeadline
+pub mod inner

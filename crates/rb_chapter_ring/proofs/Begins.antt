@@ -1,0 +1,35 @@
+-- A ring that did nothing yet.
+use Rattle.std.proofs.Common.{ℕ, ◌/◌, [], replicate, refl, sym, subst, arith}
+use Rattle.std.proofs.lemmas.List.{length-replicate}
+use Rattle.std.proofs.lemmas.List.Elements.{All-nil}
+use Rattle.rb_history.specs.RoomRule.{Setup}
+use Rattle.rb_history.specs.RingModel.{IsRingSize, IsStartPosition, IsWorkerCount}
+use Rattle.rb_history.specs.StoredRecords.{IsSized}
+use Rattle.rb_chapter.specs.Chapters.{IsChapterRoom, empty_ring, first_chapter}
+use Rattle.rb_chapter.proofs.Empty.{empty-kept}
+use Rattle.rb_chapter.proofs.Running.{closing-none}
+use Rattle.rb_chapter_ring.specs.inner.CountSteps.{zero_counts}
+use Rattle.rb_chapter_ring.specs.inner.ChapterRingBody.{IsStored, IsRingOf}
+
+pub begins : (room : ℕ) (r : Setup) → IsRingSize r.size → IsStartPosition r.start → IsWorkerCount r.workers → IsChapterRoom room → IsRingOf [] (first_chapter room r) [] (replicate (r.size / 8) 0) zero_counts
+begins room r size start workers fits =
+    let kept = empty-kept room r in
+    let stands : IsStored r.size (empty_ring r) [] (replicate (r.size / 8) 0) = record {
+      limit = omega (arith, start.1);
+      space = omega arith;
+      aligned = start.0;
+      shown = refl;
+      numbered = λ i l. absurd (omega arith);
+      behind = omega arith;
+    } in
+    record {
+      kept = kept;
+      size = size;
+      start = start;
+      workers = workers;
+      chapter_room = fits;
+      stands = subst (λ o. IsStored r.size o [] (replicate (r.size / 8) 0)) (sym (closing-none [] (first_chapter room r) kept.continues refl)) stands;
+      sized = All-nil IsSized;
+      places = length-replicate (r.size / 8) 0;
+      counted = refl;
+    }

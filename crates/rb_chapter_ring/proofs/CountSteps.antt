@@ -1,0 +1,157 @@
+-- What each entry changes of the six counts.
+use Rattle.std.proofs.Common.{◌≡◌, ℕ, ◌+◌, ◌-◌, ◌*◌, ◌<◌, ◌≤◌, Bool, true, false, ◌||◌, cond, List, [], ◌∷◌, ◌++◌, refl, sym, ap, arith}
+use Rattle.std.specs.List.{sum_by, count_by}
+use Rattle.std.proofs.lemmas.Bool.{true≢false}
+use Rattle.rb_history.specs.declared.entries.Entry.{Entry}
+use Rattle.rb_history.specs.declared.entries.Entry.TheVariants.{Res, Full, Sub, Dis, Take}
+use Rattle.rb_history.specs.declared.answers.Counts.{Counts}
+use Rattle.rb_history.specs.History.{Status, status_by, granted_span, is_submitted_at, is_discarded_at}
+use Rattle.rb_history.specs.History.Status.{Busy, Waiting, Consumed, Discarded}
+use Rattle.rb_history.specs.Counting.{is_same, is_grant_entry, is_refusal_entry, is_discard_entry, status_count, counts_of}
+use Rattle.rb_history.specs.RoomRule.{Setup}
+use Rattle.rb_history.specs.Legal.{IsLegal}
+use Rattle.rb_history.proofs.Counting.{waiting-shown, busy-shown, made-split}
+use Rattle.rb_history.proofs.Laws.{kept-from-legal, legal-front, legal-next}
+use Rattle.rb_history.proofs.Lists.{sum_by-cons, sum_by-snoc}
+use Rattle.rb_chapter.proofs.Limits.{spans-low}
+use Rattle.rb_chapter.proofs.Weights.{weigh-full, weigh-res, weigh-sub, weigh-dis, weigh-take}
+use Rattle.rb_chapter_ring.specs.OpenedRing.{capped, capped_counts}
+use Rattle.rb_chapter_ring.specs.inner.CountSteps.{counting_grant, counting_refusal, counting_submit, counting_discard, counting_take, IsCountable}
+
+abbrev bit : Bool → ℕ
+bit b = cond b 1 0
+
+abbrev as_bit : Status → Status → ℕ
+as_bit st x = bit (is_same st x)
+
+-- ---- how many there are
+
+grants-within : (h : List Entry) → 8 * count_by is_grant_entry h ≤ sum_by granted_span h
+grants-within [] = omega arith
+grants-within (Res w k n p ∷ h) = omega (arith, grants-within h, sum_by-cons (λ x. bit (is_grant_entry x)) (Res w k n p) h, sum_by-cons granted_span (Res w k n p) h)
+grants-within (Full w n ∷ h) = omega (arith, grants-within h, sum_by-cons (λ x. bit (is_grant_entry x)) (Full w n) h, sum_by-cons granted_span (Full w n) h)
+grants-within (Sub p ∷ h) = omega (arith, grants-within h, sum_by-cons (λ x. bit (is_grant_entry x)) (Sub p) h, sum_by-cons granted_span (Sub p) h)
+grants-within (Dis p ∷ h) = omega (arith, grants-within h, sum_by-cons (λ x. bit (is_grant_entry x)) (Dis p) h, sum_by-cons granted_span (Dis p) h)
+grants-within (Take p ∷ h) = omega (arith, grants-within h, sum_by-cons (λ x. bit (is_grant_entry x)) (Take p) h, sum_by-cons granted_span (Take p) h)
+
+pub countable : (r : Setup) (h : List Entry) (c : Counts) → IsLegal r h → c ≡ capped_counts (counts_of h) → IsCountable c
+countable r h c l is =
+    let low = spans-low r h l in
+    let few = grants-within h in
+    let split = made-split h in
+    record {
+      made = omega (arith, ap (λ (x : Counts). x.made) is, low, few);
+      consumed = omega (arith, ap (λ (x : Counts). x.consumed) is, low, few, split);
+      discarded = omega (arith, ap (λ (x : Counts). x.discarded) is, low, few, split);
+      waiting = omega (arith, ap (λ (x : Counts). x.waiting) is, low, few, split);
+      busy = omega (arith, ap (λ (x : Counts). x.busy) is, low, few, split);
+    }
+
+-- ---- the steps
+
+module _ (r : Setup) (h : List Entry) where
+  legal-before : (e : Entry) → IsLegal r (h ++ e ∷ []) → IsLegal r h
+  legal-before e l = legal-front r h (e ∷ []) l
+
+  pub counts-refusal : (w n : ℕ) (c : Counts) → IsLegal r (h ++ Full w n ∷ []) → c ≡ capped_counts (counts_of h) → counting_refusal c ≡ capped_counts (counts_of (h ++ Full w n ∷ []))
+  counts-refusal w n c l is =
+      let e = Full w n in
+      let k = kept-from-legal r h (legal-before e l) in
+      let j = kept-from-legal r (h ++ e ∷ []) l in
+      let made : c.made ≡ count_by is_grant_entry (h ++ e ∷ []) = omega (arith, ap (λ (x : Counts). x.made) is, sum_by-snoc (λ y. bit (is_grant_entry y)) h e) in
+      let refused : capped (c.refused + 1) ≡ capped (count_by is_refusal_entry (h ++ e ∷ [])) = omega (arith, ap (λ (x : Counts). x.refused) is, sum_by-snoc (λ y. bit (is_refusal_entry y)) h e) in
+      let discards = sum_by-snoc (λ y. bit (is_discard_entry y)) h e in
+      let discarded : c.discarded ≡ status_count Discarded (h ++ e ∷ []) = omega (arith, ap (λ (x : Counts). x.discarded) is, discards, k.given_up, j.given_up) in
+      let waiting : c.waiting ≡ status_count Waiting (h ++ e ∷ []) = omega (arith, ap (λ (x : Counts). x.waiting) is, waiting-shown h, waiting-shown (h ++ e ∷ []), weigh-full (as_bit Waiting) r h k w n) in
+      let busy : c.busy ≡ status_count Busy (h ++ e ∷ []) = omega (arith, ap (λ (x : Counts). x.busy) is, busy-shown h k.closed, busy-shown (h ++ e ∷ []) j.closed, weigh-full (as_bit Busy) r h k w n) in
+      let consumed : c.consumed ≡ status_count Consumed (h ++ e ∷ []) = omega (arith, ap (λ (x : Counts). x.consumed) is, ap (λ (x : Counts). x.made) is, ap (λ (x : Counts). x.discarded) is, ap (λ (x : Counts). x.waiting) is, ap (λ (x : Counts). x.busy) is, made-split h, made-split (h ++ e ∷ []), made, discarded, waiting, busy) in
+      λ i. record { made = made i; refused = refused i; consumed = consumed i; discarded = discarded i; waiting = waiting i; busy = busy i }
+
+  pub counts-grant : (w s n p : ℕ) (c : Counts) → IsLegal r (h ++ Res w s n p ∷ []) → c ≡ capped_counts (counts_of h) → counting_grant c ≡ capped_counts (counts_of (h ++ Res w s n p ∷ []))
+  counts-grant w s n p c l is =
+      let e = Res w s n p in
+      let k = kept-from-legal r h (legal-before e l) in
+      let m = legal-next r h e [] l in
+      let j = kept-from-legal r (h ++ e ∷ []) l in
+      let made : c.made + 1 ≡ count_by is_grant_entry (h ++ e ∷ []) = omega (arith, ap (λ (x : Counts). x.made) is, sum_by-snoc (λ y. bit (is_grant_entry y)) h e) in
+      let refused : c.refused ≡ capped (count_by is_refusal_entry (h ++ e ∷ [])) = omega (arith, ap (λ (x : Counts). x.refused) is, sum_by-snoc (λ y. bit (is_refusal_entry y)) h e) in
+      let discards = sum_by-snoc (λ y. bit (is_discard_entry y)) h e in
+      let discarded : c.discarded ≡ status_count Discarded (h ++ e ∷ []) = omega (arith, ap (λ (x : Counts). x.discarded) is, discards, k.given_up, j.given_up) in
+      let waiting : c.waiting ≡ status_count Waiting (h ++ e ∷ []) = omega (arith, ap (λ (x : Counts). x.waiting) is, waiting-shown h, waiting-shown (h ++ e ∷ []), weigh-res (as_bit Waiting) r h k w s n p m) in
+      let busy : c.busy + 1 ≡ status_count Busy (h ++ e ∷ []) = omega (arith, ap (λ (x : Counts). x.busy) is, busy-shown h k.closed, busy-shown (h ++ e ∷ []) j.closed, weigh-res (as_bit Busy) r h k w s n p m) in
+      let consumed : c.consumed ≡ status_count Consumed (h ++ e ∷ []) = omega (arith, ap (λ (x : Counts). x.consumed) is, ap (λ (x : Counts). x.made) is, ap (λ (x : Counts). x.discarded) is, ap (λ (x : Counts). x.waiting) is, ap (λ (x : Counts). x.busy) is, made-split h, made-split (h ++ e ∷ []), made, discarded, waiting, busy) in
+      λ i. record { made = made i; refused = refused i; consumed = consumed i; discarded = discarded i; waiting = waiting i; busy = busy i }
+
+  pub busy-some : (p : ℕ) (c : Counts) → IsLegal r (h ++ Sub p ∷ []) → c ≡ capped_counts (counts_of h) → 0 < c.busy
+  busy-some p c l is =
+      let k = kept-from-legal r h (legal-before (Sub p) l) in
+      omega (arith, ap (λ (x : Counts). x.busy) is, busy-shown h k.closed, weigh-sub (as_bit Busy) r h k p (legal-next r h (Sub p) [] l))
+
+  pub counts-submit : (p : ℕ) (c : Counts) → IsLegal r (h ++ Sub p ∷ []) → c ≡ capped_counts (counts_of h) → counting_submit c ≡ capped_counts (counts_of (h ++ Sub p ∷ []))
+  counts-submit p c l is =
+      let e = Sub p in
+      let k = kept-from-legal r h (legal-before e l) in
+      let m = legal-next r h e [] l in
+      let j = kept-from-legal r (h ++ e ∷ []) l in
+      let made : c.made ≡ count_by is_grant_entry (h ++ e ∷ []) = omega (arith, ap (λ (x : Counts). x.made) is, sum_by-snoc (λ y. bit (is_grant_entry y)) h e) in
+      let refused : c.refused ≡ capped (count_by is_refusal_entry (h ++ e ∷ [])) = omega (arith, ap (λ (x : Counts). x.refused) is, sum_by-snoc (λ y. bit (is_refusal_entry y)) h e) in
+      let discards = sum_by-snoc (λ y. bit (is_discard_entry y)) h e in
+      let discarded : c.discarded ≡ status_count Discarded (h ++ e ∷ []) = omega (arith, ap (λ (x : Counts). x.discarded) is, discards, k.given_up, j.given_up) in
+      let waiting : c.waiting + 1 ≡ status_count Waiting (h ++ e ∷ []) = omega (arith, ap (λ (x : Counts). x.waiting) is, waiting-shown h, waiting-shown (h ++ e ∷ []), weigh-sub (as_bit Waiting) r h k p m) in
+      let busy : c.busy - 1 ≡ status_count Busy (h ++ e ∷ []) = omega (arith, ap (λ (x : Counts). x.busy) is, busy-shown h k.closed, busy-shown (h ++ e ∷ []) j.closed, weigh-sub (as_bit Busy) r h k p m) in
+      let consumed : c.consumed ≡ status_count Consumed (h ++ e ∷ []) = omega (arith, ap (λ (x : Counts). x.consumed) is, ap (λ (x : Counts). x.made) is, ap (λ (x : Counts). x.discarded) is, ap (λ (x : Counts). x.waiting) is, ap (λ (x : Counts). x.busy) is, made-split h, made-split (h ++ e ∷ []), made, discarded, waiting, busy, busy-some p c l is) in
+      λ i. record { made = made i; refused = refused i; consumed = consumed i; discarded = discarded i; waiting = waiting i; busy = busy i }
+
+  pub busy-left : (p : ℕ) (c : Counts) → IsLegal r (h ++ Dis p ∷ []) → c ≡ capped_counts (counts_of h) → 0 < c.busy
+  busy-left p c l is =
+      let k = kept-from-legal r h (legal-before (Dis p) l) in
+      omega (arith, ap (λ (x : Counts). x.busy) is, busy-shown h k.closed, weigh-dis (as_bit Busy) r h k p (legal-next r h (Dis p) [] l))
+
+  pub counts-discard : (p : ℕ) (c : Counts) → IsLegal r (h ++ Dis p ∷ []) → c ≡ capped_counts (counts_of h) → counting_discard c ≡ capped_counts (counts_of (h ++ Dis p ∷ []))
+  counts-discard p c l is =
+      let e = Dis p in
+      let k = kept-from-legal r h (legal-before e l) in
+      let m = legal-next r h e [] l in
+      let j = kept-from-legal r (h ++ e ∷ []) l in
+      let made : c.made ≡ count_by is_grant_entry (h ++ e ∷ []) = omega (arith, ap (λ (x : Counts). x.made) is, sum_by-snoc (λ y. bit (is_grant_entry y)) h e) in
+      let refused : c.refused ≡ capped (count_by is_refusal_entry (h ++ e ∷ [])) = omega (arith, ap (λ (x : Counts). x.refused) is, sum_by-snoc (λ y. bit (is_refusal_entry y)) h e) in
+      let discards = sum_by-snoc (λ y. bit (is_discard_entry y)) h e in
+      let discarded : c.discarded + 1 ≡ status_count Discarded (h ++ e ∷ []) = omega (arith, ap (λ (x : Counts). x.discarded) is, discards, k.given_up, j.given_up) in
+      let waiting : c.waiting ≡ status_count Waiting (h ++ e ∷ []) = omega (arith, ap (λ (x : Counts). x.waiting) is, waiting-shown h, waiting-shown (h ++ e ∷ []), weigh-dis (as_bit Waiting) r h k p m) in
+      let busy : c.busy - 1 ≡ status_count Busy (h ++ e ∷ []) = omega (arith, ap (λ (x : Counts). x.busy) is, busy-shown h k.closed, busy-shown (h ++ e ∷ []) j.closed, weigh-dis (as_bit Busy) r h k p m) in
+      let consumed : c.consumed ≡ status_count Consumed (h ++ e ∷ []) = omega (arith, ap (λ (x : Counts). x.consumed) is, ap (λ (x : Counts). x.made) is, ap (λ (x : Counts). x.discarded) is, ap (λ (x : Counts). x.waiting) is, ap (λ (x : Counts). x.busy) is, made-split h, made-split (h ++ e ∷ []), made, discarded, waiting, busy, busy-left p c l is) in
+      λ i. record { made = made i; refused = refused i; consumed = consumed i; discarded = discarded i; waiting = waiting i; busy = busy i }
+
+  -- the record at the position waits, or was discarded
+  pub counts-take : (p : ℕ) (c : Counts) (waited : Bool) → IsLegal r (h ++ Take p ∷ []) → bit waited ≡ as_bit Waiting (status_by (is_submitted_at h p) (is_discarded_at h p) false)
+      → c ≡ capped_counts (counts_of h) → (waited ≡ true → 0 < c.waiting) × (counting_take waited c ≡ capped_counts (counts_of (h ++ Take p ∷ [])))
+  counts-take p c waited l waits is =
+      let e = Take p in
+      let k = kept-from-legal r h (legal-before e l) in
+      let m = legal-next r h e [] l in
+      let j = kept-from-legal r (h ++ e ∷ []) l in
+      let made : c.made ≡ count_by is_grant_entry (h ++ e ∷ []) = omega (arith, ap (λ (x : Counts). x.made) is, sum_by-snoc (λ y. bit (is_grant_entry y)) h e) in
+      let refused : c.refused ≡ capped (count_by is_refusal_entry (h ++ e ∷ [])) = omega (arith, ap (λ (x : Counts). x.refused) is, sum_by-snoc (λ y. bit (is_refusal_entry y)) h e) in
+      let discards = sum_by-snoc (λ y. bit (is_discard_entry y)) h e in
+      let discarded : c.discarded ≡ status_count Discarded (h ++ e ∷ []) = omega (arith, ap (λ (x : Counts). x.discarded) is, discards, k.given_up, j.given_up) in
+      let less : status_count Waiting (h ++ e ∷ []) + bit waited ≡ c.waiting = omega (arith, ap (λ (x : Counts). x.waiting) is, waiting-shown h, waiting-shown (h ++ e ∷ []), waits, weigh-take (as_bit Waiting) r h k p m) in
+      let free = not-busy (is_submitted_at h p) (is_discarded_at h p) m.1 in
+      let busy : c.busy ≡ status_count Busy (h ++ e ∷ []) = omega (arith, ap (λ (x : Counts). x.busy) is, busy-shown h k.closed, busy-shown (h ++ e ∷ []) j.closed, free, weigh-take (as_bit Busy) r h k p m) in
+      let more : c.consumed + bit waited ≡ status_count Consumed (h ++ e ∷ []) = omega (arith, ap (λ (x : Counts). x.consumed) is, ap (λ (x : Counts). x.made) is, ap (λ (x : Counts). x.discarded) is, ap (λ (x : Counts). x.waiting) is, ap (λ (x : Counts). x.busy) is, made-split h, made-split (h ++ e ∷ []), made, discarded, less, busy) in
+      by-case waited less more made refused discarded busy
+    where
+      not-busy : (s d : Bool) → (s || d) ≡ true → as_bit Busy (status_by s d false) ≡ 0
+      not-busy true true o = refl
+      not-busy true false o = refl
+      not-busy false true o = refl
+      not-busy false false o = absurd (true≢false (sym o))
+
+      by-case : (b : Bool) → status_count Waiting (h ++ Take p ∷ []) + bit b ≡ c.waiting → c.consumed + bit b ≡ status_count Consumed (h ++ Take p ∷ []) → c.made ≡ count_by is_grant_entry (h ++ Take p ∷ []) → c.refused ≡ capped (count_by is_refusal_entry (h ++ Take p ∷ []))
+          → c.discarded ≡ status_count Discarded (h ++ Take p ∷ []) → c.busy ≡ status_count Busy (h ++ Take p ∷ []) → (b ≡ true → 0 < c.waiting) × (counting_take b c ≡ capped_counts (counts_of (h ++ Take p ∷ [])))
+      by-case true less more made refused discarded busy =
+          let waiting : c.waiting - 1 ≡ status_count Waiting (h ++ Take p ∷ []) = omega (arith, less) in
+          ((λ _. omega (arith, less)), λ i. record { made = made i; refused = refused i; consumed = more i; discarded = discarded i; waiting = waiting i; busy = busy i })
+      by-case false less more made refused discarded busy =
+          let waiting : c.waiting ≡ status_count Waiting (h ++ Take p ∷ []) = omega (arith, less) in
+          let consumed : c.consumed ≡ status_count Consumed (h ++ Take p ∷ []) = omega (arith, more) in
+          ((λ no_way. absurd (true≢false (sym no_way))), λ i. record { made = made i; refused = refused i; consumed = consumed i; discarded = discarded i; waiting = waiting i; busy = busy i })

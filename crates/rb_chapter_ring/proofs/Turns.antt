@@ -1,0 +1,60 @@
+-- The ring goes on in another chapter.
+use Rattle.std.proofs.Common.{◌≡◌, ℕ, ◌/◌, ◌<◌, ◌^◌, ◌↔◌, Bool, IsTrue, List, [], ◌∷◌, ◌++◌, length, arith, refl, sym, ap, ◌∙◌, subst, append-nil}
+use Rattle.rb_history.specs.declared.entries.Entry.{Entry}
+use Rattle.rb_history.specs.declared.answers.Counts.{Counts}
+use Rattle.rb_history.specs.declared.stored_records.StoredRecord.{StoredRecord}
+use Rattle.rb_history.specs.Counting.{counts_of}
+use Rattle.rb_history.specs.RingModel.{IsRingSize, IsStartPosition, IsWorkerCount}
+use Rattle.rb_chapter.specs.Opening.{Opening}
+use Rattle.rb_chapter.specs.Chapters.{Chapter, IsChapterRoom, closing_of, Meets}
+use Rattle.rb_chapter.specs.ChapterRing.{ChapterRing}
+use Rattle.rb_chapter.specs.ChapterCalls.{HandsOut}
+use Rattle.rb_chapter.proofs.Running.{closing-none}
+use Rattle.rb_chapter.proofs.Room.{next-room}
+use Rattle.rb_chapter_ring.specs.OpenedRing.{capped_counts, MayGoOnIn}
+use Rattle.rb_chapter_ring.specs.inner.ChapterRingBody.{ring_of, IsStored, IsRingOf}
+
+module _ (earlier : List Entry) (c : Chapter) (stored : List StoredRecord) (ordinals : List ℕ) (counts : Counts) (g : IsRingOf earlier c stored ordinals counts) (d : Chapter) (meets : Meets c d) (none : d.entries ≡ []) (room : d.room ≡ c.room) where
+  -- it stands for the same
+  closing-same : closing_of d ≡ closing_of c
+  closing-same = closing-none (earlier ++ c.entries) d (next-room earlier c d g.kept.continues g.kept.room meets none room).1 none ∙ meets.goes_on
+
+  setup-same : d.opening.setup ≡ c.opening.setup
+  setup-same = ap (λ (o : Opening). o.setup) meets.goes_on
+
+  pub turn-keeps : IsRingOf (earlier ++ c.entries) d stored ordinals counts
+  turn-keeps =
+      let next = next-room earlier c d g.kept.continues g.kept.room meets none room in
+      let size = ap (λ s. s.size) setup-same in
+      record {
+        kept = record { continues = next.1; room = next.0 };
+        size = subst IsRingSize (sym size) g.size;
+        start = subst IsStartPosition (sym (ap (λ s. s.start) setup-same)) g.start;
+        workers = subst IsWorkerCount (sym (ap (λ s. s.workers) setup-same)) g.workers;
+        chapter_room = subst IsChapterRoom (sym room) g.chapter_room;
+        stands = subst (λ o. IsStored d.opening.setup.size o stored ordinals) (sym closing-same) (subst (λ n. IsStored n (closing_of c) stored ordinals) (sym size) g.stands);
+        sized = g.sized;
+        places = g.places ∙ ap (λ n. n / 8) (sym size);
+        counted = g.counted ∙ ap (λ h. capped_counts (counts_of h)) (sym (ap (λ es. (earlier ++ c.entries) ++ es) none ∙ append-nil (earlier ++ c.entries)));
+      }
+
+  pub hands-out : HandsOut (ring_of c stored) (ring_of d stored) c
+  hands-out = record {
+    next = record { out_is = refl; next_is = meets; no_entries = none; room_same = room };
+    contents_same = refl;
+    shown_same = refl;
+    producer_same = ap (λ (o : Opening). o.producer) closing-same;
+    consumer_same = ap (λ (o : Opening). o.consumer) closing-same;
+  }
+
+-- ---- which chapters it may go on in
+
+nil-of : (es : List Entry) → length es ≡ 0 → es ≡ []
+nil-of [] e = refl
+nil-of (x ∷ es) e = absurd (omega (arith, e))
+
+pub fit-exact : (v : ChapterRing) (d : Chapter) (b : Bool) → IsTrue b ↔ ((length d.entries ≡ 0) × (d.room ≡ v.chapter.room) × (d.opening.setup.workers ≡ v.chapter.opening.setup.workers) × (v.chapter.number < 2 ^ 62)) → IsTrue b ↔ MayGoOnIn v d
+fit-exact v d b exact = (
+  (λ t. let q = exact.0 t in record { no_entries = nil-of d.entries q.0; room_same = q.1; workers_same = q.2; numbered = q.3 }),
+  (λ m. exact.1 (ap length m.no_entries, m.room_same, m.workers_same, m.numbered)),
+)

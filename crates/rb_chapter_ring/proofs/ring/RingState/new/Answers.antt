@@ -1,0 +1,22 @@
+use Rattle.std.proofs.Common.{◌≡◌, ◌/◌, ◌≤◌, ℕ, [], replicate, sym, ap, ◌∙◌, subst}
+use Rattle.std.specs.VecDeque.{deque_capacity}
+use Rattle.rb_history.specs.RoomRule.{Setup}
+use Rattle.rb_chapter.specs.Chapters.{Chapter, first_chapter}
+use Rattle.rb_chapter_ring.proofs.Begins.{begins}
+use Rattle.rb_chapter_ring.proofs.Keeps.{transport-ring}
+use Rattle.rb_chapter_ring.proofs.ring.RingState.new.Goals as goal
+
+pub invariant_of-result : goal.invariant_of-result
+invariant_of-result c =
+    let r : Setup = record { size = c.args.size; start = c.args.start; workers = c.args.workers } in
+    let fits = c.in_ok-check_setup.ensures.allowed in
+    let chapter : c.open_first.new.self ≡ first_chapter c.args.room r =
+    c.open_first.ensures.first ∙ ap (λ (x : Chapter). first_chapter x.room (record { size = c.args.size; start = c.args.start; workers = x.opening.setup.workers })) c.in-Ok.ensures.empty in
+    let zeros : c.in-Ok-vec.ordinals.items ≡ replicate (c.args.size / 8) 0 = c.in-Ok-vec.ensures.items_if_clones_equal (λ y h. h) in
+    let slots : (n : ℕ) → n ≤ c.args.size / 8 → n ≤ c.args.room → n ≤ deque_capacity c.in-Ok-with_capacity.records =
+    λ n within room. subst (λ x. n ≤ x) (sym c.in-Ok-with_capacity.ensures.exact) (c.slots_for.ensures.slots n within room) in
+    record {
+      earlier = [];
+      ring = transport-ring _ _ _ _ _ _ _ _ [] (sym chapter) (sym c.in-Ok-with_capacity.ensures.items) (sym zeros) (sym c.no_counts.ensures.zeros) (begins c.args.room r fits.0 fits.1 fits.2 fits.3);
+      slots = subst (λ (d : Chapter). (n : ℕ) → n ≤ d.opening.setup.size / 8 → n ≤ d.room → n ≤ deque_capacity c.in-Ok-with_capacity.records) (sym chapter) slots;
+    }

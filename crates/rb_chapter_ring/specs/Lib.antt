@@ -1,0 +1,4 @@
+pub mod OpenedRing
+pub mod RingFaults
+pub mod ManyTakes
+pub mod inner

@@ -1,0 +1,42 @@
+-- A ring as `new` makes it, its bounds, and which chapters it hands its own out for (own).
+use Rattle.std.specs.Prelude.{ℕ, ◌≡◌, ◌+◌, ◌-◌, ◌<◌, ◌≤◌, ◌^◌, []}
+use Rattle.std.specs.FinMap.{empty}
+use Rattle.rb_history.specs.declared.answers.Counts.{Counts}
+use Rattle.rb_history.specs.RoomRule.{Setup}
+use Rattle.rb_history.specs.RingModel.{IsRingSize, IsStartPosition, IsWorkerCount}
+use Rattle.rb_chapter.specs.CountedFrom.{counts_from}
+use Rattle.rb_chapter.specs.Chapters.{Chapter, IsChapterRoom, first_chapter}
+use Rattle.rb_chapter.specs.ChapterRing.{ChapterRing}
+
+-- the ring whose first chapter has no entries
+abbrev pub opened_ring : ℕ → Setup → ChapterRing
+opened_ring room r = record { chapter = first_chapter room r; contents = empty; shown = []; producer = r.start; consumer = r.start }
+
+-- the bounds of a ring
+pub record IsChapterRingWithin (v : ChapterRing) : Type 0 where
+  pub size : IsRingSize v.chapter.opening.setup.size
+  pub start : IsStartPosition v.chapter.opening.setup.start
+  pub workers : IsWorkerCount v.chapter.opening.setup.workers
+  pub chapter_room : IsChapterRoom v.chapter.room
+  pub consumer : v.consumer ≤ v.producer
+  pub producer : v.producer ≤ 2 ^ 62
+  pub room : v.producer ≤ v.consumer + (v.chapter.opening.setup.size - 1)
+
+-- the ring goes on in that chapter: it has no entries, the same room and as many workers, and there is a next number
+pub record MayGoOnIn (v : ChapterRing) (c : Chapter) : Type 0 where
+  pub no_entries : c.entries ≡ []
+  pub room_same : c.room ≡ v.chapter.room
+  pub workers_same : c.opening.setup.workers ≡ v.chapter.opening.setup.workers
+  pub numbered : v.chapter.number < 2 ^ 62
+
+-- a number, as far as 64 bits hold it
+abbrev pub capped : ℕ → ℕ
+capped n = n - (n - (2 ^ 64 - 1))
+
+-- of the refusals 2^64 - 1 at most are told
+abbrev pub capped_counts : Counts → Counts
+capped_counts c = record c { refused = capped c.refused }
+
+-- the six counts that the ring tells
+abbrev pub told_counts : ChapterRing → Counts
+told_counts v = capped_counts (counts_from v.chapter.opening v.chapter.entries)

@@ -1,0 +1,81 @@
+-- The ring that keeps a chapter: what it means, and what it keeps from call to call.
+use Rattle.std.specs.Prelude.{ℕ, ◌≡◌, ◌+◌, ◌-◌, ◌*◌, ◌/◌, ◌%◌, ◌<◌, ◌≤◌, ◌^◌, ◌&&◌, ltb, List, ◌++◌, Option, Some, None, map, length, if◌then◌else◌}
+use Rattle.std.specs.List.{All, slice_index_or as get_or}
+use Rattle.std.specs.VecDeque.{deque_capacity}
+use Rattle.rb_history.specs.declared.entries.Entry.{Entry}
+use Rattle.rb_history.specs.declared.answers.Counts.{Counts}
+use Rattle.rb_history.specs.declared.stored_records.StoredRecord.{StoredRecord}
+use Rattle.rb_history.specs.declared.stored_records.RecordState.TheVariants.{Reserved}
+use Rattle.rb_history.specs.Counting.{counts_of}
+use Rattle.rb_history.specs.ReservationModel.{Granted}
+use Rattle.rb_history.specs.RingModel.{IsRingSize, IsStartPosition, IsWorkerCount}
+use Rattle.rb_history.specs.StoredRecords.{shown_record, contents_of, is_reserved_by, IsSized}
+use Rattle.rb_chapter.specs.Opening.{Opening}
+use Rattle.rb_chapter.specs.Chapters.{Chapter, IsChapterRoom, closing_of}
+use Rattle.rb_chapter.specs.ChapterRing.{ChapterRing}
+use Rattle.rb_chapter.specs.WholeHistory.{IsKept}
+use Rattle.rb_chapter_ring.specs.declared.ring.RingState.TheInside.{Inside}
+use Rattle.rb_chapter_ring.specs.OpenedRing.{capped_counts}
+
+-- the place of a position: positions count round the ring, eight bytes a place
+abbrev pub place_of : ℕ → ℕ → ℕ
+place_of size p = p % size / 8
+
+abbrev pub no_stored : StoredRecord
+no_stored = record { pos = 0; len = 0; worker = 0; serial = 0; state = Reserved }
+
+-- the record at an index, where it is there, busy and the reservation's
+abbrev pub found_at : List StoredRecord → ℕ → Granted → Option ℕ
+found_at stored i r = if ltb i (length stored) && is_reserved_by r (get_or stored i no_stored) then Some i else None
+
+-- the index of the record of an ordinal
+abbrev pub index_of : List StoredRecord → ℕ → ℕ → Granted → Option ℕ
+index_of stored first ordinal r = if ltb ordinal first then None else found_at stored (ordinal - first) r
+
+-- how many records were taken
+abbrev pub taken_before : Opening → ℕ
+taken_before o = o.consumed + o.skipped
+
+-- each record's place has its ordinal: the number of the records that were taken, and its index
+abbrev pub AreNumbered : ℕ → List ℕ → ℕ → List StoredRecord → Type 0
+AreNumbered size ordinals first stored = (i : ℕ) → i < length stored → get_or ordinals (place_of size (get_or stored i no_stored).pos) 0 ≡ first + i
+
+-- the ring that the chapter and the records are
+abbrev pub ring_of : Chapter → List StoredRecord → ChapterRing
+ring_of c stored = record {
+  chapter = c;
+  contents = contents_of stored;
+  shown = map shown_record stored;
+  producer = (closing_of c).producer;
+  consumer = (closing_of c).consumer;
+}
+
+abbrev pub chapter_ring_shown : Inside → ChapterRing
+chapter_ring_shown a = ring_of a.chapter a.records.items
+
+-- what holds of the records and of their numbers, by what the chapter stands for at its end
+pub record IsStored (size : ℕ) (o : Opening) (stored : List StoredRecord) (ordinals : List ℕ) : Type 0 where
+  pub limit : o.producer ≤ 2 ^ 62
+  pub space : o.producer ≤ o.consumer + (size - 1)
+  pub aligned : o.consumer % 8 ≡ 0
+  pub shown : map shown_record stored ≡ o.records
+  pub numbered : AreNumbered size ordinals (taken_before o) stored
+  pub behind : 8 * taken_before o ≤ o.consumer
+
+-- the parts are a ring's, where `earlier` has the entries of the chapters that were handed out
+pub record IsRingOf (earlier : List Entry) (c : Chapter) (stored : List StoredRecord) (ordinals : List ℕ) (counts : Counts) : Type 0 where
+  pub kept : IsKept earlier c
+  pub size : IsRingSize c.opening.setup.size
+  pub start : IsStartPosition c.opening.setup.start
+  pub workers : IsWorkerCount c.opening.setup.workers
+  pub chapter_room : IsChapterRoom c.room
+  pub stands : IsStored c.opening.setup.size (closing_of c) stored ordinals
+  pub sized : All IsSized stored
+  pub places : length ordinals ≡ c.opening.setup.size / 8
+  pub counted : counts ≡ capped_counts (counts_of (earlier ++ c.entries))
+
+-- and there is memory for as many records as the ring and the chapter have room for
+pub record ChapterRingInvariant (a : Inside) : Type 0 where
+  pub earlier : List Entry
+  pub ring : IsRingOf earlier a.chapter a.records.items a.ordinals.items a.counts
+  pub slots : (n : ℕ) → n ≤ a.chapter.opening.setup.size / 8 → n ≤ a.chapter.room → n ≤ deque_capacity a.records

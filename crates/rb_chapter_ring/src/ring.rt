@@ -1,0 +1,388 @@
+//! One ring, for one thread, with one chapter of its history.
+
+ghost use Rattle.std.specs.Prelude.{ℕ, ◌≡◌, ◌≢◌, ◌<◌, ◌≤◌, ◌^◌, ◌↔◌, ◌∷◌, [], ◌++◌, List, IsErrOf, IsTrue, IsOk, IfOk, OnOk, OnErr, IfErr, IfSome, IfNone, OnSome, length, replicate};
+ghost use Rattle.std.specs.FinMap.{insert};
+ghost use Rattle.rb_history.specs.declared.entries.Entry.{Entry};
+ghost use Rattle.rb_history.specs.History.Status.{Busy};
+ghost use Rattle.rb_history.specs.RingModel.{IsRingSize, IsStartPosition, IsWorkerCount};
+ghost use Rattle.rb_history.specs.NoticesAndQueries.{IsDue};
+ghost use Rattle.rb_history.specs.inner.RecordRows.{IsBusyAt};
+ghost use Rattle.rb_chapter.specs.Chapters.{IsChapterRoom};
+ghost use Rattle.rb_chapter.specs.CountedFrom.{query_answer_from};
+ghost use Rattle.rb_chapter.specs.ChapterRing.{StandsForChapter};
+ghost use Rattle.rb_chapter.specs.ChapterCalls.{producer_now, consumer_now, ChapterRingHasRoom, IsSameChapter, Logs, HoldsReservationFrom, HasBusyFront, AllTaken, Grants, Outputs, Submits, Discards, Strays, Takes, HandsOut};
+ghost use Rattle.rb_chapter.specs.WholeHistory.{IsKept};
+ghost use Rattle.rb_chapter_ring.specs.OpenedRing.{opened_ring, told_counts, IsChapterRingWithin, MayGoOnIn};
+ghost use Rattle.rb_chapter_ring.specs.RingFaults.{RefusesInChapter};
+
+use crate::counting::{
+    count_discard, count_grant, count_refusal, count_submit, count_take, no_counts,
+};
+use crate::faults::{OpenFault, ReserveFault};
+use crate::finding::{busy_index, place_in};
+use crate::setup::{check_setup, is_fit, made_by, slots_for};
+use rb_chapter::Chapter;
+use rb_history::{
+    AVAIL_DATA, CONS_POS, Counts, KNOWN_FLAGS, Notice, PROD_POS, RING_SIZE, RecordState,
+    Reservation, StoredRecord, Stray, Taken, notice_for,
+};
+use rb_lend::Sheet;
+use std::alloc::Global;
+use std::collections::VecDeque;
+use std::marker::Model;
+use std::mem;
+
+/// One ring of records, for one thread. Contracts see its chapter, the bytes of its waiting records, and what it shows.
+///
+/// The records that are there stand in a queue, in the order of their grants, and beside it a number for each eight bytes of the
+/// ring: how many records had been granted before the last one there. So a reservation's record is found in constant time: that number
+/// less the number of the records that were taken is its index in the queue.
+#[derive(Drop)]
+pub struct RingState {
+    chapter: Chapter,
+    records: VecDeque<StoredRecord>,
+    ordinals: Vec<u64>,
+    counts: Counts,
+}
+
+impl Model for RingState {
+    ghost use Rattle.std.specs.Coded.{codes};
+    ghost use Rattle.rb_history.specs.RingModel.{contents_code};
+    ghost use Rattle.rb_history.specs.contracts.entries.Entry as entry;
+    ghost use Rattle.rb_history.specs.contracts.tally.Tally as tally_row;
+    ghost use Rattle.rb_chapter.specs.ChapterRing.{ChapterRing};
+    ghost use Rattle.rb_chapter_ring.specs.inner.ChapterRingBody.{chapter_ring_shown, ChapterRingInvariant};
+
+    ghost Value = { ChapterRing };
+
+    ghost coded = { Prim.hlevel (codes, contents_code, entry.the_row.coded, tally_row.the_row.coded) };
+
+    ghost view = { chapter_ring_shown };
+
+    ghost invariant = { ChapterRingInvariant };
+}
+
+impl RingState {
+    /// A ring without records, of `size` bytes, whose positions begin at `start`, for `workers` workers, which keeps chapters of `room`
+    /// entries; or the first of `OpenFault`'s refusals that applies. It takes all memory that the ring will ever need: that of its first
+    /// chapter, one record of the queue for each that may be there at once, and eight bytes for each eight of the ring.
+    pub fn new(
+        alloc: Global,
+        size: u64,
+        start: u64,
+        workers: u32,
+        room: u32,
+    ) -> Result<RingState, OpenFault>
+        ensures opened { IfOk result (λ ring. ring ≡ opened_ring room (record { size = size; start = start; workers = workers })) }
+        ensures size { IsErrOf result OpenFault.Size ↔ ¬ IsRingSize size }
+        ensures start { IsErrOf result OpenFault.Start ↔ (IsRingSize size × ¬ IsStartPosition start) }
+        ensures workers { IsErrOf result OpenFault.Workers ↔ (IsRingSize size × IsStartPosition start × ¬ IsWorkerCount workers) }
+        ensures chapter { IsErrOf result OpenFault.Chapter ↔ (IsRingSize size × IsStartPosition start × IsWorkerCount workers × ¬ IsChapterRoom room) }
+    {
+        check_setup(size, start, workers, room)?;
+        let Ok(mut chapter) = Chapter::new(alloc, room, workers) else {
+            return Err(OpenFault::Memory);
+        };
+        chapter.open_first(size, start);
+        let places = (size / 8) as usize;
+        let Ok(records) = VecDeque::with_capacity(alloc, slots_for(places, room)) else {
+            return Err(OpenFault::Memory);
+        };
+        let Ok(ordinals) = vec![in alloc; 0; places] else {
+            return Err(OpenFault::Memory);
+        };
+        Ok(RingState {
+            chapter,
+            records,
+            ordinals,
+            counts: no_counts(),
+        })
+    }
+
+    /// What holds of each ring: its chapter is legal from its opening, which a legal history stands for, and has room for all that it
+    /// owes; it is what the ring's state stands for; and the ring's numbers are within bounds.
+    pub fn facts(&self)
+        ensures kept { (earlier : List Entry) × IsKept earlier self.now.chapter }
+        ensures stands { StandsForChapter self.now }
+        ensures bounded { IsChapterRingWithin self.now }
+    {
+        let _ = &self.chapter;
+    }
+
+    /// The chapter that the ring keeps.
+    pub fn chapter(&self) -> &Chapter
+        ensures chapter { result.now ≡ self.now.chapter }
+    {
+        &self.chapter
+    }
+
+    /// The answers to a query (bpf-helpers(7), bpf_ringbuf_query): `AVAIL_DATA` asks for the bytes between the two
+    /// positions, `RING_SIZE`, `CONS_POS` and `PROD_POS` for what they name; any other number gives 0. In constant time.
+    pub fn query(&self, what: u64) -> u64
+        ensures answer { result ≡ query_answer_from self.now.chapter.opening self.now.chapter.entries what }
+    {
+        let closing = self.chapter.closing();
+        match what {
+            AVAIL_DATA => closing.producer() - closing.consumer(),
+            RING_SIZE => closing.size(),
+            CONS_POS => closing.consumer(),
+            PROD_POS => closing.producer(),
+            _ => 0,
+        }
+    }
+
+    /// The six counts of all that the ring ever did. In constant time. Of the refusals, which may be more than 64 bits hold, it tells
+    /// 2^64 - 1 at most.
+    pub fn counts(&self) -> Counts
+        ensures counts { result ≡ told_counts self.now }
+    {
+        self.counts
+    }
+
+    /// Grants worker `worker` a record of `n` bytes at the producer position, in a sheet of as many bytes, which become zeros, where
+    /// the ring has room for it and the chapter for all that it will log. `Full` is logged, where the ring has no room; `ChapterFull` changes
+    /// nothing. A refusal hands the sheet back. In constant time, but for the record's bytes, and without memory. (bpf-helpers(7),
+    /// bpf_ringbuf_reserve.)
+    pub fn reserve(
+        &mut self,
+        worker: u32,
+        n: u32,
+        sheet: Sheet,
+    ) -> Result<Reservation, (ReserveFault, Sheet)>
+        requires worker { worker < self.old.chapter.opening.setup.workers }
+        requires sized { length sheet ≡ n }
+        ensures same_chapter { IsSameChapter self.old self.new }
+        ensures granted { IfOk result (λ r. Grants self.old self.new worker n r.pos r.serial) }
+        ensures worker { IfOk result (λ r. r.worker ≡ worker) }
+        ensures zeros { IfOk result (λ r. r.bytes ≡ replicate n 0) }
+        ensures refused { IfErr result (λ e. RefusesInChapter self.old self.new worker n e.0) }
+        ensures known_flags { IfErr result (λ e. e.0 ≢ ReserveFault.Flags) }
+        ensures handed_back { IfErr result (λ e. e.1 ≡ sheet) }
+    {
+        let mut sheet = sheet;
+        match self.grant(worker, n) {
+            Err(fault) => Err((fault, sheet)),
+            Ok((pos, serial)) => {
+                sheet.clear();
+                Ok(Reservation::new(pos, worker, serial, sheet))
+            }
+        }
+    }
+
+    /// Hands the reservation's bytes to the consumer, or hands the reservation back where no busy record has its four
+    /// numbers. Of the flags only bits 0 and 1 are looked at. In constant time, and without memory. (bpf-helpers(7),
+    /// bpf_ringbuf_submit.)
+    pub fn submit(&mut self, reservation: Reservation, flags: u64) -> Result<Notice, Stray>
+        ensures same_chapter { IsSameChapter self.old self.new }
+        ensures submitted { OnOk result (Submits self.old self.new reservation) }
+        ensures notice { IfOk result (λ n. (n ≡ Notice.Due) ↔ IsDue (consumer_now self.old) reservation.pos flags) }
+        ensures stray { OnErr result (Strays self.old self.new reservation) }
+        ensures handed_back { IfErr result (λ s. s.reservation ≡ reservation) }
+    {
+        match self.find_busy(&reservation) {
+            None => Err(Stray { reservation }),
+            Some(index) => {
+                let pos = reservation.pos();
+                let notice = self.notice(pos, flags);
+                self.send(index, pos, reservation.into_sheet());
+                Ok(notice)
+            }
+        }
+    }
+
+    /// Gives the reservation's record up, so that the consumer passes over it, or hands the reservation back where no busy
+    /// record has its four numbers. Of the flags only bits 0 and 1 are looked at. In constant time, and without memory.
+    /// (bpf-helpers(7), bpf_ringbuf_discard.)
+    pub fn discard(&mut self, reservation: Reservation, flags: u64) -> Result<Notice, Stray>
+        ensures same_chapter { IsSameChapter self.old self.new }
+        ensures discarded { OnOk result (Discards self.old self.new reservation) }
+        ensures notice { IfOk result (λ n. (n ≡ Notice.Due) ↔ IsDue (consumer_now self.old) reservation.pos flags) }
+        ensures stray { OnErr result (Strays self.old self.new reservation) }
+        ensures handed_back { IfErr result (λ s. s.reservation ≡ reservation) }
+    {
+        match self.find_busy(&reservation) {
+            None => Err(Stray { reservation }),
+            Some(index) => {
+                let pos = reservation.pos();
+                let notice = self.notice(pos, flags);
+                self.give_up(index, pos, reservation.len());
+                Ok(notice)
+            }
+        }
+    }
+
+    /// Grants worker `worker` a record and submits it at once, with the sheet's bytes. Unknown flags are refused first, and
+    /// nothing is logged then; otherwise it refuses as `reserve` does. A refusal hands the sheet back. In constant time, and without
+    /// memory. (bpf-helpers(7), bpf_ringbuf_output.)
+    pub fn output(
+        &mut self,
+        worker: u32,
+        sheet: Sheet,
+        flags: u64,
+    ) -> Result<Notice, (ReserveFault, Sheet)>
+        requires worker { worker < self.old.chapter.opening.setup.workers }
+        ensures same_chapter { IsSameChapter self.old self.new }
+        ensures granted { OnOk result (Outputs self.old self.new worker sheet) }
+        ensures notice { IfOk result (λ n. (n ≡ Notice.Due) ↔ IsDue (consumer_now self.old) (producer_now self.old) flags) }
+        ensures known_flags { OnOk result (flags ≤ KNOWN_FLAGS) }
+        ensures flags { IfErr result (λ e. (e.0 ≡ ReserveFault.Flags) ↔ (KNOWN_FLAGS < flags)) }
+        ensures refused { IfErr result (λ e. RefusesInChapter self.old self.new worker (length sheet) e.0) }
+        ensures handed_back { IfErr result (λ e. e.1 ≡ sheet) }
+    {
+        if flags > KNOWN_FLAGS {
+            return Err((ReserveFault::Flags, sheet));
+        }
+        let index = self.records.len();
+        let notice = self.notice(self.producer(), flags);
+        match self.grant(worker, sheet.len()) {
+            Err(fault) => Err((fault, sheet)),
+            Ok((pos, _)) => {
+                self.send(index, pos, sheet);
+                Ok(notice)
+            }
+        }
+    }
+
+    /// Takes the record at the consumer position: hands out a submitted one and passes over a discarded one. A busy one
+    /// stops it, whatever waits behind. In constant time, and without memory. (Linux Documentation/bpf/ringbuf.rst: records are
+    /// consumed in the order of their reservation.)
+    pub fn take(&mut self) -> Taken
+        ensures same_chapter { IsSameChapter self.old self.new }
+        ensures takes { Takes self.old self.new result }
+        ensures busy_front { (result ≡ Taken.BusyFront) ↔ HasBusyFront self.old }
+        ensures empty { (result ≡ Taken.Empty) ↔ AllTaken self.old }
+    {
+        if self.records.is_empty() {
+            return Taken::Empty;
+        }
+        if self.records[0].is_reserved() {
+            return Taken::BusyFront;
+        }
+        self.chapter.log_take();
+        let Some(record) = self.records.pop_front() else {
+            unreachable!()
+        };
+        count_take(&mut self.counts, record.is_submitted());
+        record.taken()
+    }
+
+    /// Hands the chapter out as it is, and goes on in `empty`, which becomes the next one: it begins with what the old one stands for.
+    /// Hands `empty` back where it has entries, another room or other workers, or where the old one's number is 2^62. In time linear in
+    /// the records that were not taken and the workers, and without memory.
+    pub fn hand_out(&mut self, empty: Chapter) -> Result<Chapter, Chapter>
+        ensures handed_out { IfOk result (λ out. HandsOut self.old self.new out) }
+        ensures fit { IsOk result ↔ MayGoOnIn self.old empty }
+        ensures handed_back { IfErr result (λ back. back ≡ empty) }
+        ensures unchanged { OnErr result (self.new ≡ self.old) }
+    {
+        if !self.may_go_on_in(&empty) {
+            return Err(empty);
+        }
+        let mut next = empty;
+        next.open_after(&self.chapter);
+        Ok(mem::replace(&mut self.chapter, next))
+    }
+
+    // Whether the ring may go on in the chapter.
+    fn may_go_on_in(&self, empty: &Chapter) -> bool
+        ensures exact { IsTrue result ↔ MayGoOnIn self.now empty.now }
+    {
+        is_fit(&self.chapter, empty)
+    }
+
+    // Logs that there is no room in the ring, where there is room for that in the chapter.
+    fn refuse(&mut self, worker: u32, n: u32) -> ReserveFault
+        requires worker { worker < self.old.chapter.opening.setup.workers }
+        requires full { ¬ ChapterRingHasRoom self.old n }
+        ensures same_chapter { IsSameChapter self.old self.new }
+        ensures refused { RefusesInChapter self.old self.new worker n result }
+        ensures known_flags { result ≢ ReserveFault.Flags }
+    {
+        if !self.chapter.may_refuse(worker) {
+            return ReserveFault::ChapterFull;
+        }
+        self.chapter.log_refusal(worker, n);
+        count_refusal(&mut self.counts);
+        ReserveFault::Full
+    }
+
+    // Grants a busy record of `n` bytes, or logs that the ring has no room for it.
+    fn grant(&mut self, worker: u32, n: u32) -> Result<(u64, u64), ReserveFault>
+        requires worker { worker < self.old.chapter.opening.setup.workers }
+        ensures same_chapter { IsSameChapter self.old self.new }
+        ensures granted { IfOk result (λ g. Grants self.old self.new worker n g.0 g.1) }
+        ensures shown { IfOk result (λ g. self.new.shown ≡ self.old.shown ++ (record { pos = g.0; len = n; worker = worker; serial = g.1; status = Busy }) ∷ []) }
+        ensures refused { IfErr result (λ e. RefusesInChapter self.old self.new worker n e) }
+        ensures known_flags { IfErr result (λ e. e ≢ ReserveFault.Flags) }
+    {
+        if !self.chapter.has_room(n) {
+            return Err(self.refuse(worker, n));
+        }
+        if !self.chapter.may_grant() {
+            return Err(ReserveFault::ChapterFull);
+        }
+        let closing = self.chapter.closing();
+        let pos = closing.producer();
+        let serial = made_by(closing.tallies(), worker);
+        let ordinal = closing.consumed() + closing.skipped() + self.records.len() as u64;
+        let place = place_in(closing.size(), pos);
+        self.chapter.log_grant(worker, n);
+        self.ordinals[place] = ordinal;
+        self.records.push_back_reserved(StoredRecord {
+            pos,
+            len: n,
+            worker,
+            serial,
+            state: RecordState::Reserved,
+        });
+        count_grant(&mut self.counts);
+        Ok((pos, serial))
+    }
+
+    // The busy record at an index is given its bytes.
+    fn send(&mut self, index: usize, pos: u64, sheet: Sheet)
+        requires busy { IsBusyAt self.old.shown index pos (length sheet) }
+        ensures logged { Logs self.old self.new (Entry.Sub pos ∷ []) }
+        ensures contents { self.new.contents ≡ insert self.old.contents pos sheet }
+    {
+        self.chapter.log_submit(index);
+        self.records[index].state = RecordState::Submitted(sheet);
+        count_submit(&mut self.counts);
+    }
+
+    // The busy record at an index is given up.
+    fn give_up(&mut self, index: usize, pos: u64, len: u32)
+        requires busy { IsBusyAt self.old.shown index pos len }
+        ensures logged { Logs self.old self.new (Entry.Dis pos ∷ []) }
+        ensures contents { self.new.contents ≡ self.old.contents }
+    {
+        self.chapter.log_discard(index);
+        self.records[index].state = RecordState::Discarded;
+        count_discard(&mut self.counts);
+    }
+
+    // Whether a notice is due for the record at `pos`.
+    fn notice(&self, pos: u64, flags: u64) -> Notice
+        ensures due { (result ≡ Notice.Due) ↔ IsDue (consumer_now self.now) pos flags }
+    {
+        notice_for(self.chapter.closing().consumer(), pos, flags)
+    }
+
+    fn producer(&self) -> u64
+        ensures value { result ≡ producer_now self.now }
+    {
+        self.chapter.closing().producer()
+    }
+
+    // The index of the reservation's record in the queue, if it is busy.
+    fn find_busy(&self, reservation: &Reservation) -> Option<usize>
+        ensures found { IfSome result (λ i. IsBusyAt self.now.shown i reservation.now.pos (length reservation.now.bytes)) }
+        ensures busy { OnSome result (HoldsReservationFrom self.now reservation.now) }
+        ensures none { IfNone result (¬ HoldsReservationFrom self.now reservation.now) }
+    {
+        let closing = self.chapter.closing();
+        let first = closing.consumed() + closing.skipped();
+        let ordinal = self.ordinals[place_in(closing.size(), reservation.pos())];
+        busy_index(&self.records, first, ordinal, reservation)
+    }
+}

@@ -1,0 +1,62 @@
+//! The numbers that a ring is made with and goes on with.
+
+ghost use Rattle.std.specs.Prelude.{ℕ, ◌≡◌, ◌<◌, ◌≤◌, ◌^◌, ◌↔◌, IsErrOf, IsTrue, OnOk, length, slice_index_or};
+ghost use Rattle.rb_history.specs.RingModel.{IsRingSize, IsStartPosition, IsWorkerCount};
+ghost use Rattle.rb_chapter.specs.Opening.{no_tally};
+ghost use Rattle.rb_chapter.specs.Chapters.{IsChapterRoom};
+
+use crate::faults::OpenFault;
+use rb_chapter::Chapter;
+use rb_history::{Tally, is_size, is_start, is_worker_count};
+
+/// Whether a ring may be made with these numbers, or the first refusal that applies; never `Memory`.
+pub(crate) fn check_setup(size: u64, start: u64, workers: u32, room: u32) -> Result<(), OpenFault>
+    ensures size { IsErrOf result OpenFault.Size ↔ ¬ IsRingSize size }
+    ensures start { IsErrOf result OpenFault.Start ↔ (IsRingSize size × ¬ IsStartPosition start) }
+    ensures workers { IsErrOf result OpenFault.Workers ↔ (IsRingSize size × IsStartPosition start × ¬ IsWorkerCount workers) }
+    ensures chapter { IsErrOf result OpenFault.Chapter ↔ (IsRingSize size × IsStartPosition start × IsWorkerCount workers × ¬ IsChapterRoom room) }
+    ensures allowed { OnOk result (IsRingSize size × IsStartPosition start × IsWorkerCount workers × IsChapterRoom room) }
+{
+    if !is_size(size) {
+        return Err(OpenFault::Size);
+    }
+    if !is_start(start) {
+        return Err(OpenFault::Start);
+    }
+    if !is_worker_count(workers) {
+        return Err(OpenFault::Workers);
+    }
+    if !(8..=1_048_576).contains(&room) {
+        return Err(OpenFault::Chapter);
+    }
+    Ok(())
+}
+
+/// How many records a ring of so many places and a chapter of so much room may have at once.
+pub(crate) fn slots_for(places: usize, room: u32) -> usize
+    ensures slots { (n : ℕ) → n ≤ places → n ≤ room → n ≤ result }
+{
+    if places < room as usize {
+        places
+    } else {
+        room as usize
+    }
+}
+
+/// Whether a ring that keeps the chapter may go on in the other.
+pub(crate) fn is_fit(chapter: &Chapter, empty: &Chapter) -> bool
+    ensures exact { IsTrue result ↔ ((length empty.now.entries ≡ 0) × (empty.now.room ≡ chapter.now.room) × (empty.now.opening.setup.workers ≡ chapter.now.opening.setup.workers) × (chapter.now.number < 2 ^ 62)) }
+{
+    empty.used() == 0
+        && empty.room() == chapter.room()
+        && empty.opening().workers() == chapter.opening().workers()
+        && chapter.number() < 1 << 62
+}
+
+/// How many records a worker was granted.
+pub(crate) fn made_by(tallies: &[Tally], worker: u32) -> u64
+    requires worker { worker < length tallies.now }
+    ensures made { result ≡ (slice_index_or tallies.now worker no_tally).made }
+{
+    tallies[worker as usize].made
+}

@@ -1,0 +1,18 @@
+use Rattle.std.proofs.Common.{◌≡◌, ◌≢◌, ◌+◌, ◌-◌, ◌≤◌, ℕ, [], ◌∷◌, length, ◌∙◌, ap, sym, subst, arith, length-append}
+use Rattle.rb_refs.specs.declared.value.Abs.TheVariants.{Number}
+use Rattle.rb_refs.specs.KeptPointers.{known_in, with_place, with_data}
+use Rattle.rb_refs.specs.inner.ChangedValues.{place_after}
+use Rattle.rb_refs.proofs.KeptPlaces.{AreBuilt, built_more, built_list, built_all, with_place-other, with_data-data, after_change-data}
+use Rattle.rb_refs.proofs.places.Places.changed.Goals as goal
+
+pub loop-i-preserved : goal.loop-i-preserved
+loop-i-preserved c = record {
+  count = ap length c.in_ok-push.ensures.items ∙ length-append c.loop-i.items.items (c.changed_place.result ∷ []) ∙ ap (λ n. n + 1) c.loop-i.invariant.count;
+  built = subst (λ zs. AreBuilt (λ place x. x ≡ place_after c.args.change (known_in c.args.self.now place)) zs (c.loop-i.i + 1)) (sym c.in_ok-push.ensures.items)
+      (built_more (λ place x. x ≡ place_after c.args.change (known_in c.args.self.now place)) c.loop-i.items.items c.loop-i.i c.changed_place.result c.loop-i.invariant.count c.loop-i.invariant.built (c.changed_place.ensures ∙ ap (place_after c.args.change) c.get.ensures));
+}
+
+pub returns : goal.returns
+returns c =
+    built_list (λ place. place_after c.args.change (known_in c.args.self.now place)) c.loop-i.items.items c.loop-i.i c.loop-i.invariant.count c.loop-i.invariant.built
+    (λ place le past. ap (place_after c.args.change) (c.count-i-end.ensures.others place (omega arith)) ∙ after_change-data c.args.change)

@@ -1,0 +1,7 @@
+use Rattle.std.proofs.Common.{◌∙◌, ap, sym, arith}
+use Rattle.rb_refs.specs.KeptPointers.{known_in}
+use Rattle.rb_refs.proofs.KeptPlaces.{known_unlisted}
+use Rattle.rb_refs.proofs.places.Places.count.Goals as goal
+
+pub returns-clause-others : goal.returns-clause-others
+returns-clause-others c = λ place le. ap (λ places. known_in places place) (sym c.self.view_is) ∙ known_unlisted c.self.inside.items.items place (omega (arith, c.len.ensures))

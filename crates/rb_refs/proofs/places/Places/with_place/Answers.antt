@@ -1,0 +1,18 @@
+use Rattle.std.proofs.Common.{◌≡◌, ◌≢◌, ◌+◌, ◌-◌, ◌≤◌, ℕ, [], ◌∷◌, length, ◌∙◌, ap, sym, subst, arith, length-append}
+use Rattle.rb_refs.specs.declared.value.Abs.TheVariants.{Number}
+use Rattle.rb_refs.specs.KeptPointers.{known_in, with_place, with_data}
+use Rattle.rb_refs.specs.inner.ChangedValues.{place_after}
+use Rattle.rb_refs.proofs.KeptPlaces.{AreBuilt, built_more, built_list, built_all, with_place-other, with_data-data, after_change-data}
+use Rattle.rb_refs.proofs.places.Places.with_place.Goals as goal
+
+pub loop-i-preserved : goal.loop-i-preserved
+loop-i-preserved c = record {
+  count = ap length c.in_ok-push.ensures.items ∙ length-append c.loop-i.items.items (c.once_kept.result ∷ []) ∙ ap (λ n. n + 1) c.loop-i.invariant.count;
+  built = subst (λ zs. AreBuilt (λ place x. x ≡ with_place c.args.place c.args.value (known_in c.args.self.now) place) zs (c.loop-i.i + 1)) (sym c.in_ok-push.ensures.items)
+      (built_more (λ place x. x ≡ with_place c.args.place c.args.value (known_in c.args.self.now) place) c.loop-i.items.items c.loop-i.i c.once_kept.result c.loop-i.invariant.count c.loop-i.invariant.built c.once_kept.ensures);
+}
+
+pub returns : goal.returns
+returns c =
+    built_list (with_place c.args.place c.args.value (known_in c.args.self.now)) c.loop-i.items.items c.loop-i.i c.loop-i.invariant.count c.loop-i.invariant.built
+    (λ place le past. let ne : place ≢ c.args.place = omega arith in with_place-other c.args.place c.args.value (known_in c.args.self.now) place ne ∙ c.count.ensures.others place (omega arith))

@@ -1,0 +1,37 @@
+//! Used sheets, which consumers hand on to workers.
+
+ghost use Rattle.std.specs.Prelude.{◌≡◌, IfSome};
+
+use crossbeam_queue::ArrayQueue;
+use rb_lend::Sheet;
+use rb_seats::{SHORT, Stock};
+use std::sync::Wait;
+
+/// How many used sheets wait at most.
+pub(crate) const PLACES: usize = 64;
+
+/// The sheets of taken records, until a worker needs one. One that finds no place is handed back, and so is a short one, which is not
+/// worth a place.
+#[derive(Drop)]
+pub(crate) struct UsedSheets<'q, R> {
+    pub(crate) rt: &'q R,
+    pub(crate) sheets: &'q ArrayQueue<Sheet>,
+}
+
+impl<'q, R: Wait> Stock for UsedSheets<'q, R> {
+    fn used(&self) -> Option<Sheet> {
+        self.sheets.pop(self.rt)
+    }
+
+    fn put(&self, sheet: Sheet) -> Option<Sheet>
+        ensures handed_back { IfSome result (λ back. back ≡ sheet) }
+    {
+        if sheet.len() <= SHORT {
+            return Some(sheet);
+        }
+        match self.sheets.push(self.rt, sheet) {
+            Ok(()) => None,
+            Err(back) => Some(back),
+        }
+    }
+}

@@ -1,0 +1,108 @@
+-- What a worker holds once a call was with_answer, and the answers of a ring in a book that has more.
+use Rattle.std.proofs.Common.{◌≡◌, ℕ, ◌<◌, List, [], ◌∷◌, ◌++◌, Option, Some, None, refl, sym, ap, subst, ◌∙◌, inl, inr, append-nil}
+use Rattle.std.specs.Prelude.{option_map}
+use Rattle.std.proofs.lemmas.Bool.{cases_eq, eq-eqb, ne_eqb}
+use Rattle.rb_history.specs.declared.answers.Taken.{Taken}
+use Rattle.rb_history.specs.RingModel.{Ring}
+use Rattle.rb_interp.specs.StoredMemory.{held_record, others}
+use Rattle.rb_interleavings.specs.Worlds.{WorldRing, table_with}
+use Rattle.rb_interleavings.specs.CallsInWorld.{RingSteps, RecordOutcome, BadFlags, NoRoom, Made, WorkerReserves, WorkerOutputs, MemoryRefused}
+use Rattle.rb_interleavings.proofs.Tables.{eq_cases, placed-here, placed-else}
+use Rattle.rb_world.specs.declared.world_record.WorldRecord.{WorldRecord}
+use Rattle.rb_world.specs.inner.FittingWorlds.{AreOwn}
+use Rattle.rb_world.specs.inner.RingAnswers.{untaken_ring}
+
+abbrev Held : Type 0
+Held = List (ℕ × WorldRecord)
+
+module _ {X : Type 0} (f : WorldRecord → X) where
+  abbrev pub shown : Held → ℕ → Option X
+  shown rs id = option_map f (held_record id rs)
+
+  -- a record that was granted is held under a new id
+  pub shown-granted : (u : ℕ) (owned : WorldRecord) (rs : Held) (id : ℕ) → held_record u rs ≡ None → shown (rs ++ (u, owned) ∷ []) id ≡ table_with u (Some (f owned)) (shown rs) id
+  shown-granted u owned [] id none = elim (cases_eq id u) [ inl e ↦ rw (eq-eqb id u e, eq-eqb u id (sym e)) refl | inr ne ↦ rw (ne_eqb id u ne, ne_eqb u id (λ e. ne (sym e))) refl ]
+  shown-granted u owned (r ∷ rs) id none = elim (cases_eq r.0 u) [
+    | inl same ↦ absurd (let found : Some r.1 ≡ None = rw (eq-eqb r.0 u same) at none in cc)
+    | inr else ↦ elim (cases_eq r.0 id) [
+      | inl here ↦ rw (eq-eqb r.0 id here, ne_eqb id u (λ e. else (here ∙ e))) refl
+      | inr there ↦ rw (ne_eqb r.0 id there) (shown-granted u owned rs id (rw (ne_eqb r.0 u else) at none))
+    ]
+  ]
+
+  -- a record that was given back is held no more
+  pub shown-given : (id : ℕ) (rs : Held) (i : ℕ) → shown (others id rs) i ≡ table_with id None (shown rs) i
+  shown-given id [] i = elim (cases_eq i id) [ inl e ↦ rw (eq-eqb i id e) refl | inr ne ↦ rw (ne_eqb i id ne) refl ]
+  shown-given id (r ∷ rs) i = elim (cases_eq r.0 id) [
+    | inl same ↦ rw (eq-eqb r.0 id same) (shown-given id rs i ∙ elim (cases_eq i id) [
+      | inl e ↦ rw (eq-eqb i id e) refl
+      | inr ne ↦ rw (ne_eqb i id ne, ne_eqb r.0 i (λ e. ne (sym e ∙ same))) refl
+    ])
+    | inr else ↦ rw (ne_eqb r.0 id else) (elim (cases_eq r.0 i) [
+      | inl here ↦ rw (eq-eqb r.0 i here, ne_eqb i id (λ e. else (here ∙ e))) refl
+      | inr there ↦ rw (ne_eqb r.0 i there) (shown-given id rs i)
+    ])
+  ]
+
+-- ---- a step of a untaken_ring ring, in its book
+
+module _ (taken : List Taken) where
+  abbrev pub book : Ring → WorldRing
+  book v = record { ring = v; taken = taken }
+
+  moved-within : (P : Ring → Ring → Type 0) (v v' : Ring) → RingSteps P [] (untaken_ring v) (untaken_ring v') → RingSteps P [] (book v) (book v')
+  moved-within P v v' m = record { stepped = m.stepped; stands = m.stands; taken_are = sym (append-nil taken) }
+
+  same-within : (v v' : Ring) → untaken_ring v' ≡ untaken_ring v → book v' ≡ book v
+  same-within v v' e = ap (λ (b : WorldRing). book b.ring) e
+
+  pub reserves-within : (w len flags : ℕ) (outcome : RecordOutcome) (v v' : Ring) → WorkerReserves w len flags outcome (untaken_ring v) (untaken_ring v') → WorkerReserves w len flags outcome (book v) (book v')
+  reserves-within w len flags BadFlags v v' h = (h.0, same-within v v' h.1)
+  reserves-within w len flags MemoryRefused v v' h = (h.0, same-within v v' h.1)
+  reserves-within w len flags NoRoom v v' h = (h.0, moved-within _ v v' h.1)
+  reserves-within w len flags (Made p k) v v' h = (h.0, moved-within _ v v' h.1)
+
+  pub outputs-within : (w : ℕ) (bytes : List ℕ) (flags : ℕ) (outcome : RecordOutcome) (v v' : Ring) → WorkerOutputs w bytes flags outcome (untaken_ring v) (untaken_ring v') → WorkerOutputs w bytes flags outcome (book v) (book v')
+  outputs-within w bytes flags BadFlags v v' h = (h.0, same-within v v' h.1)
+  outputs-within w bytes flags MemoryRefused v v' h = (h.0, same-within v v' h.1)
+  outputs-within w bytes flags NoRoom v v' h = (h.0, moved-within _ v v' h.1)
+  outputs-within w bytes flags (Made p k) v v' h = (h.0, h.1, h.2, moved-within _ v v' h.3)
+
+-- ---- whose the records of a worker are
+
+abbrev pub seal : WorldRecord → ℕ × ℕ
+seal x = (x.ring, x.reservation.worker)
+
+abbrev Sealed : (w rings : ℕ) → Held → Type 0
+Sealed w rings rs = (id : ℕ) (q : ℕ × ℕ) → shown seal rs id ≡ Some q → (q.0 < rings) × (q.1 ≡ w)
+
+module _ (w rings : ℕ) where
+  sealed : (rs : Held) → AreOwn w rings rs → Sealed w rings rs
+  sealed rs own id q e = by_case (held_record id rs) (own id) q e
+    where
+      by_case : (o : Option WorldRecord) → ((x : WorldRecord) → o ≡ Some x → (x.ring < rings) × (x.reservation.worker ≡ w)) → (q : ℕ × ℕ) → option_map seal o ≡ Some q → (q.0 < rings) × (q.1 ≡ w)
+      by_case None own q e = absurd (cc)
+      by_case (Some x) own q e = let same : seal x ≡ q = cc in subst (λ (y : ℕ × ℕ). (y.0 < rings) × (y.1 ≡ w)) same (own x refl)
+
+  unsealed : (rs : Held) → Sealed w rings rs → AreOwn w rings rs
+  unsealed rs own id x e = own id (seal x) (ap (option_map seal) e)
+
+  pub own-granted : (u : ℕ) (owned : WorldRecord) (rs : Held) → held_record u rs ≡ None → owned.ring < rings → owned.reservation.worker ≡ w → AreOwn w rings rs → AreOwn w rings (rs ++ (u, owned) ∷ [])
+  own-granted u owned rs none low mine own = unsealed (rs ++ (u, owned) ∷ []) (λ id q e.
+      let there : table_with u (Some (seal owned)) (shown seal rs) id ≡ Some q = sym (shown-granted seal u owned rs id none) ∙ e in
+      elim (eq_cases id u) [
+        | inl same ↦ let it : Some (seal owned) ≡ Some q = sym (placed-here u (Some (seal owned)) (shown seal rs) id same.1) ∙ there in let is : seal owned ≡ q = cc in subst (λ (y : ℕ × ℕ). (y.0 < rings) × (y.1 ≡ w)) is (low, mine)
+        | inr else ↦ sealed rs own id q (sym (placed-else u (Some (seal owned)) (shown seal rs) id else.1) ∙ there)
+      ])
+
+  pub own-given : (u : ℕ) (rs : Held) → AreOwn w rings rs → AreOwn w rings (others u rs)
+  own-given u rs own = unsealed (others u rs) (λ id q e.
+      let there : table_with u None (shown seal rs) id ≡ Some q = sym (shown-given seal u rs id) ∙ e in
+      elim (eq_cases id u) [
+        | inl same ↦ absurd (let it : None ≡ Some q = sym (placed-here u None (shown seal rs) id same.1) ∙ there in cc)
+        | inr else ↦ sealed rs own id q (sym (placed-else u None (shown seal rs) id else.1) ∙ there)
+      ])
+
+  -- records whose bytes may have changed
+  pub own-rewritten : (rs ss : Held) → ((id : ℕ) → shown seal ss id ≡ shown seal rs id) → AreOwn w rings rs → AreOwn w rings ss
+  own-rewritten rs ss same own = unsealed ss (λ id q e. sealed rs own id q (sym (same id) ∙ e))

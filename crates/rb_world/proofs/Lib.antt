@@ -1,0 +1,9 @@
+mod RingAnswers
+mod ShownWorlds
+mod HeldByWorkers
+mod MachineAnswers
+mod WorkerTurns
+mod SoundWorlds
+mod ListSteps
+mod Openings
+mod Runs

@@ -1,0 +1,77 @@
+-- What a world is that was opened.
+use Rattle.std.proofs.Common.{◌≡◌, ℕ, ◌<◌, ◌≤◌, List, [], ◌∷◌, None, Some, map, length, get_or, refl, sym, ap, subst, ◌∙◌, arith}
+use Rattle.std.specs.Prelude.{All}
+use Rattle.std.specs.List.{AllZip}
+use Rattle.std.proofs.lemmas.List.Elements.{All-head, All-tail}
+use Rattle.rb_interp.specs.MachineState.{MachineState}
+use Rattle.rb_interp.specs.StoredMemory.{held_record}
+use Rattle.rb_interleavings.specs.OpeningWorld.{BeginsVerified, IsFreshRing, IsOpeningWorld}
+use Rattle.rb_interleavings.proofs.WholeRuns.{opening-reached}
+use Rattle.rb_world.specs.declared.opening.RingSetup.{RingSetup}
+use Rattle.rb_world.specs.declared.opening.WorkerSetup.{WorkerSetup}
+use Rattle.rb_world.specs.declared.world_record.WorldRecord.{WorldRecord}
+use Rattle.rb_world.specs.WorldValue.{WorldValue, worker_of, no_worker, no_ring, world_of}
+use Rattle.rb_world.specs.OpenedWorlds.{HaveRings, opened_ring, IsStarted, IsOpenedWorld}
+use Rattle.rb_world.specs.inner.FittingWorlds.{AreOwn, AreFor, setups_of, IsFitting, IsSoundWorld}
+use Rattle.rb_world.proofs.ListSteps.{zip-long}
+
+begins-at : (xs : List WorkerSetup) (ms : List (MachineState WorldRecord)) (w : ℕ) → AllZip IsStarted xs ms → w < length ms → BeginsVerified (get_or (map worker_of ms) w no_worker)
+begins-at [] [] w h low = absurd (omega arith)
+begins-at [] (m ∷ ms) w h low = absurd h
+begins-at (x ∷ xs) [] w h low = absurd h
+begins-at (x ∷ xs) (m ∷ ms) ℕ.zero h low = h.0.begins
+begins-at (x ∷ xs) (m ∷ ms) (ℕ.suc w) h low = begins-at xs ms w h.1 (omega arith)
+
+fresh-at : (n : ℕ) (rings : List RingSetup) (r : ℕ) → IsFreshRing n (get_or (map (opened_ring n) rings) r (no_ring n))
+fresh-at n [] r = record { size = 4096; start = 0; ring_is = refl; taken_none = refl }
+fresh-at n (s ∷ rings) ℕ.zero = record { size = s.size; start = s.start; ring_is = refl; taken_none = refl }
+fresh-at n (s ∷ rings) (ℕ.suc r) = fresh-at n rings r
+
+for-all : (n : ℕ) (rings : List RingSetup) → AreFor n (setups_of (map (opened_ring n) rings))
+for-all n [] = tt
+for-all n (s ∷ rings) = (refl, for-all n rings)
+
+length-opened : (n : ℕ) (rings : List RingSetup) → length (map (opened_ring n) rings) ≡ length rings
+length-opened n [] = refl
+length-opened n (s ∷ rings) = ap ℕ.suc (length-opened n rings)
+
+-- what a machine that was started is, wherever it stands
+started-at : (xs : List WorkerSetup) (ms : List (MachineState WorldRecord)) (n w : ℕ) (m : MachineState WorldRecord) → AllZip IsStarted xs ms → All (λ x. x.program.now.rings ≤ n) xs → w < length ms → m ≡ get_or ms w m → (m.program.rings ≤ n) × (m.records ≡ [])
+started-at [] [] n w m h all low is = absurd (omega arith)
+started-at [] (y ∷ ms) n w m h all low is = absurd h
+started-at (x ∷ xs) [] n w m h all low is = absurd h
+started-at (x ∷ xs) (y ∷ ms) n ℕ.zero m h all low is =
+    subst (λ (z : MachineState WorldRecord). (z.program.rings ≤ n) × (z.records ≡ [])) (sym is)
+    (subst (λ p. p.rings ≤ n) (sym h.0.program) (All-head (λ (z : WorkerSetup). z.program.now.rings ≤ n) x xs all), h.0.records)
+started-at (x ∷ xs) (y ∷ ms) n (ℕ.suc w) m h all low is = started-at xs ms n w m h.1 (All-tail (λ (z : WorkerSetup). z.program.now.rings ≤ n) x xs all) (omega arith) is
+
+none-own : (w n : ℕ) (records : List (ℕ × WorldRecord)) → records ≡ [] → AreOwn w n records
+none-own w n records e = λ id x held. absurd (none id x (subst (λ rs. held_record id rs ≡ Some x) e held))
+  where
+    none : (id : ℕ) (x : WorldRecord) → None ≡ Some x → ⊥
+    none id x e = cc
+
+module _ (rings : List RingSetup) (workers : List WorkerSetup) (v : WorldValue) (o : IsOpenedWorld rings workers v) where
+  long : length workers ≡ length v.machines
+  long = zip-long IsStarted workers v.machines o.machines_are
+
+  rings-are : v.rings ≡ map (opened_ring (length v.machines)) rings
+  rings-are = o.rings_are ∙ ap (λ n. map (opened_ring n) rings) long
+
+  pub opening-world : IsOpeningWorld (world_of v)
+  opening-world = record {
+    workers = λ w inside. begins-at workers v.machines w o.machines_are inside;
+    rings = λ r. subst (λ l. IsFreshRing (length v.machines) (get_or l r (no_ring (length v.machines)))) (sym rings-are) (fresh-at (length v.machines) rings r);
+  }
+
+  pub sound-opening : HaveRings (length rings) workers → IsSoundWorld v
+  sound-opening have =
+      let as_many : length v.rings ≡ length rings = ap length rings-are ∙ length-opened (length v.machines) rings in
+      record {
+        fitting = record {
+          rings = subst (λ l. AreFor (length v.machines) (setups_of l)) (sym rings-are) (for-all (length v.machines) rings);
+          programs = λ w m low is. subst (λ n. m.program.rings ≤ n) (sym as_many) (started-at workers v.machines (length rings) w m o.machines_are have.1 low is).0;
+          own = λ w m low is. none-own w (length v.rings) m.records (started-at workers v.machines (length rings) w m o.machines_are have.1 low is).1;
+        };
+        reached = opening-reached (world_of v) opening-world;
+      }

@@ -1,0 +1,40 @@
+-- Runs, turn after turn.
+use Rattle.std.proofs.Common.{◌≡◌, ℕ, ◌+◌, ◌<◌, List, [], ◌∷◌, ◌++◌, length, take, get_or, refl, sym, subst, arith}
+use Rattle.std.specs.Prelude.{All}
+use Rattle.std.specs.List.{AllZip}
+use Rattle.std.proofs.lemmas.List.{take_more}
+use Rattle.std.proofs.lemmas.List.Elements.{All-head, All-tail}
+use Rattle.rb_interleavings.specs.declared.actor.Actor.{Actor}
+use Rattle.rb_interleavings.specs.declared.actor.Actor.TheVariants.{Worker, Consumer}
+use Rattle.rb_interleavings.specs.Turns.{TurnEvent, WorldStep, WorldRun}
+use Rattle.rb_interleavings.proofs.WholeRuns.{run-push}
+use Rattle.rb_world.specs.declared.turn_done.TurnDone.{TurnDone}
+use Rattle.rb_world.specs.WorldValue.{WorldValue, world_of, IsThere}
+use Rattle.rb_world.specs.TurnsDone.{TellsEvent, IsTurnOf}
+use Rattle.rb_world.specs.WorldRuns.{IsFirstUnknown, IsRunOf}
+
+tell-push : (dones : List TurnDone) (events : List TurnEvent) (done : TurnDone) (event : TurnEvent) → AllZip TellsEvent dones events → TellsEvent done event → AllZip TellsEvent (dones ++ done ∷ []) (events ++ event ∷ [])
+tell-push [] [] done event h t = (t, tt)
+tell-push [] (e ∷ events) done event h t = absurd h
+tell-push (d ∷ dones) [] done event h t = absurd h
+tell-push (d ∷ dones) (e ∷ events) done event h t = (h.0, tell-push dones events done event h.1 t)
+
+-- one more turn
+pub run-more : (actors : List Actor) (i : ℕ) (d : Actor) (old mid new : WorldValue) (dones : List TurnDone) (done : TurnDone) → i < length actors → IsRunOf (take i actors) old dones mid → IsTurnOf (get_or actors i d) mid done new → IsRunOf (take (i + 1) actors) old (dones ++ done ∷ []) new
+run-more actors i d old mid new dones done low run turned = (
+  run.0 ++ turned.0 ∷ [],
+  tell-push dones run.0 done turned.0 run.1 turned.1,
+  subst (λ l. WorldRun (world_of old) l (run.0 ++ turned.0 ∷ []) (world_of new)) (sym (take_more actors i d low))
+      (run-push (world_of old) (world_of mid) (world_of new) (take i actors) run.0 (get_or actors i d) turned.0 run.2 turned.2),
+)
+
+-- the first actor that is not there
+pub first-at : (v : WorldValue) (actors : List Actor) (i : ℕ) (d : Actor) → All (IsThere v) (take i actors) → i < length actors → (IsThere v (get_or actors i d) → ⊥) → IsFirstUnknown v actors i
+first-at v [] i d all low fails = absurd (omega arith)
+first-at v (a ∷ actors) ℕ.zero d all low fails = fails
+first-at v (a ∷ actors) (ℕ.suc i) d all low fails = (All-head (IsThere v) a (take i actors) all, first-at v actors i d (All-tail (IsThere v) a (take i actors) all) (omega arith) fails)
+
+-- the same actors are there in a world of as many workers and rings
+pub there-still : (old new : WorldValue) (actor : Actor) → length new.machines ≡ length old.machines → length new.rings ≡ length old.rings → IsThere old actor → IsThere new actor
+there-still old new (Worker w) workers rings there = subst (λ n. w < n) (sym workers) there
+there-still old new (Consumer r) workers rings there = subst (λ n. r < n) (sym rings) there

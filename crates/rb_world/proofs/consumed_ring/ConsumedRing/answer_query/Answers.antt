@@ -1,0 +1,16 @@
+use Rattle.std.proofs.Common.{ap, subst, ◌∙◌}
+use Rattle.rb_semantics.specs.HelperCalls.{Told, resume}
+use Rattle.rb_semantics.specs.declared.pending_call.PendingCall.TheVariants as asked
+use Rattle.rb_history.specs.NoticesAndQueries.{query_answer}
+use Rattle.rb_interleavings.specs.Worlds.{WorldRing}
+use Rattle.rb_world.specs.WorldValue.{held_by}
+use Rattle.rb_world.specs.inner.WorkerTurn.{GoesOnWith}
+use Rattle.rb_world.proofs.MachineAnswers.{resumed, held-same}
+use Rattle.rb_world.proofs.consumed_ring.ConsumedRing.answer_query.Goals as goal
+
+pub returns-clause-answered : goal.returns-clause-answered
+returns-clause-answered c =
+    let m = c.args.machine.now in
+    let new = c.answer.new.self in
+    let done : GoesOnWith asked.Query (Told c.query.result) (held_by m) m new = resumed m new (held_by m) (resume asked.Query (Told c.query.result) m.state) (c.answer.ensures.goes_on asked.Query c.requires.waits) (λ no. absurd (cc)) c.answer.ensures.program (held-same m new c.answer.ensures.records) in
+    subst (λ n. GoesOnWith asked.Query (Told n) (held_by m) m new) (c.query.ensures.answer ∙ ap (λ (s : WorldRing). query_answer s.ring.setup s.ring.history c.args.what) c.self.view_is) done

@@ -1,0 +1,43 @@
+use Rattle.std.proofs.Common.{Some, None, sym, subst}
+use Rattle.rb_semantics.specs.declared.pending_call.PendingCall.TheVariants as asked
+use Rattle.rb_interp.specs.MachineState.{MachineState}
+use Rattle.rb_world.specs.declared.world_record.WorldRecord.{WorldRecord}
+use Rattle.rb_world.specs.inner.WorkerTurn.{AnswersReserve}
+use Rattle.rb_world.specs.inner.FittingWorlds.{AreOwn}
+use Rattle.rb_world.specs.inner.RingAnswers.{IsReserved}
+use Rattle.rb_world.proofs.HeldByWorkers.{own-granted}
+use Rattle.rb_world.proofs.MachineAnswers.{reserve-granted, reserve-refused, given-parts, no-record}
+use Rattle.rb_world.proofs.consumed_ring.ConsumedRing.answer_reserve.Goals.{in-Some, in-None}
+use Rattle.rb_world.proofs.consumed_ring.ConsumedRing.answer_reserve.Goals as goal
+
+pub returns-clause-answered : goal.returns-clause-answered
+returns-clause-answered c = elim c.match-reserve.branch [
+  | in-Some w ↦
+      let x = w.in-Some.reservation in
+      let v = c.self.inside.ring in
+      let v' = c.reserve.new.ring in
+      let h : IsReserved v v' c.args.w c.args.len c.args.flags (Some x) = subst (λ o. IsReserved v v' c.args.w c.args.len c.args.flags o) w.in-Some.is c.reserve.ensures.reserved in
+      let none = no-record c.args.machine.now c.args.len (record { ring = c.args.r; reservation = x }) c.requires.waits c.facts.ensures c.record_facts.ensures (given-parts v v' c.args.w c.args.len c.args.flags x h).1 in
+      subst (λ (m : MachineState WorldRecord). AnswersReserve c.args.w c.args.r c.args.len c.args.flags c.args.machine.now c.args.self.now m (record { ring = v'; taken = c.self.inside.taken.items })) (sym w.machine-is)
+      (reserve-granted c.args.w c.args.self.now v v' c.self.inside.taken.items c.self.view_is c.args.machine.now w.answer.new.self w.answer.ensures.program c.args.r c.args.len c.args.flags x h none (w.answer.ensures.goes_on (asked.Reserve c.args.len) c.requires.waits) w.answer.ensures.records)
+  | in-None w ↦
+      let v = c.self.inside.ring in
+      let v' = c.reserve.new.ring in
+      let h : IsReserved v v' c.args.w c.args.len c.args.flags None = subst (λ o. IsReserved v v' c.args.w c.args.len c.args.flags o) w.in-None.is c.reserve.ensures.reserved in
+      subst (λ (m : MachineState WorldRecord). AnswersReserve c.args.w c.args.r c.args.len c.args.flags c.args.machine.now c.args.self.now m (record { ring = v'; taken = c.self.inside.taken.items })) (sym w.machine-is)
+      (reserve-refused c.args.w c.args.self.now v v' c.self.inside.taken.items c.self.view_is c.args.machine.now w.answer-in-None.new.self w.answer-in-None.ensures.program c.args.r c.args.len c.args.flags h (w.answer-in-None.ensures.goes_on (asked.Reserve c.args.len) c.requires.waits) w.answer-in-None.ensures.records)
+]
+
+pub returns-clause-own : goal.returns-clause-own
+returns-clause-own c rings low own = elim c.match-reserve.branch [
+  | in-Some w ↦
+      let x = w.in-Some.reservation in
+      let v = c.self.inside.ring in
+      let v' = c.reserve.new.ring in
+      let h : IsReserved v v' c.args.w c.args.len c.args.flags (Some x) = subst (λ o. IsReserved v v' c.args.w c.args.len c.args.flags o) w.in-Some.is c.reserve.ensures.reserved in
+      let parts = given-parts v v' c.args.w c.args.len c.args.flags x h in
+      let none = no-record c.args.machine.now c.args.len (record { ring = c.args.r; reservation = x }) c.requires.waits c.facts.ensures c.record_facts.ensures parts.1 in
+      subst (λ (m : MachineState WorldRecord). AreOwn c.args.w rings m.records) (sym w.machine-is) (subst (AreOwn c.args.w rings) (sym w.answer.ensures.records)
+      (own-granted c.args.w rings c.args.machine.now.state.unit (record { ring = c.args.r; reservation = x }) c.args.machine.now.records none low parts.0 own))
+  | in-None w ↦ subst (λ (m : MachineState WorldRecord). AreOwn c.args.w rings m.records) (sym w.machine-is) (subst (AreOwn c.args.w rings) (sym w.answer-in-None.ensures.records) own)
+]

@@ -1,0 +1,231 @@
+use Rattle.std.proofs.Common.{rules, ◌≡◌, ◌<◌, ◌≤◌, length, set, refl, sym, ap, subst, ◌∙◌, arith}
+use Rattle.rb_semantics.specs.HelperCalls.{Submit, Discard}
+use Rattle.rb_semantics.specs.Instructions.{Asks, next_step}
+use Rattle.rb_semantics.specs.Soundness.{IsLawful}
+use Rattle.rb_interp.specs.CodeCalls.{left_by}
+use Rattle.rb_interp.specs.MachineState.{StepsTo}
+use Rattle.rb_interp.specs.declared.request.Request as request
+use Rattle.rb_interp.specs.declared.step.Step.TheVariants.{Call}
+use Rattle.rb_interp.specs.declared.step.Phase.TheVariants as phase
+use Rattle.rb_interleavings.specs.CallsInWorld.{WorkerSubmits, WorkerDiscards}
+use Rattle.rb_interleavings.specs.Turns.{submit_event, discard_event}
+use Rattle.rb_world.specs.declared.world_record.WorldRecord.{WorldRecord}
+use Rattle.rb_world.specs.declared.turn_done.TurnDone.TheVariants as turn
+use Rattle.rb_world.specs.WorldValue.{place_of}
+use Rattle.rb_world.specs.inner.WorkerTurn.{IsWorkerTurn}
+use Rattle.rb_world.specs.inner.FittingWorlds.{AreOwn}
+use Rattle.rb_world.proofs.ShownWorlds.{set-get}
+use Rattle.rb_world.proofs.HeldByWorkers.{seal, own-rewritten, own-given}
+use Rattle.rb_world.proofs.WorkerTurns.{same-shown, went-turn, ended-turn, idle-turn, reserve-turn, output-turn, query-turn, give-turn}
+use Rattle.rb_world.proofs.MachineAnswers.{lawful-of, open-at, setups-set, set-length}
+use Rattle.rb_world.proofs.worker_turn.work.Goals as goal
+
+pub returns-in_default-clause-turned : goal.returns-in_default-clause-turned
+returns-in_default-clause-turned c = idle-turn c.args.w c.args.rings.now.items c.args.machine.now (λ e. c.in_default.not-Ready (c.phase.ensures ∙ e))
+
+pub returns-in-Went-clause-turned : goal.returns-in-Went-clause-turned
+returns-in-Went-clause-turned c =
+    let old = c.args.machine.now in
+    let mid = c.step.new.self in
+    let rings = c.args.rings.now.items in
+    let ready : old.phase ≡ phase.Ready = sym c.phase.ensures ∙ c.in-Ready.is in
+    let st = c.in-Went.ensures.stepped in
+    went-turn c.args.w rings old mid ready st.0 st.1 c.in-Went.ensures.program (same-shown place_of _ (λ r w. refl) old.records mid.records c.in-Went.ensures.records)
+
+pub returns-in-Went-clause-own : goal.returns-in-Went-clause-own
+returns-in-Went-clause-own c =
+    own-rewritten c.args.w (length c.args.rings.now.items) c.args.machine.now.records c.step.new.self.records (same-shown seal _ (λ r w. refl) c.args.machine.now.records c.step.new.self.records c.in-Went.ensures.records) c.requires.own
+
+pub returns-in-Exit-clause-turned : goal.returns-in-Exit-clause-turned
+returns-in-Exit-clause-turned c =
+    let old = c.args.machine.now in
+    let mid = c.step.new.self in
+    let rings = c.args.rings.now.items in
+    let ready : old.phase ≡ phase.Ready = sym c.phase.ensures ∙ c.in-Ready.is in
+    let st = c.in-Exit.ensures.stepped in
+    ended-turn c.args.w rings old mid ready c.in-Exit.n st.0 st.1 c.in-Exit.ensures.program c.in-Exit.ensures.records c.in-Exit.ensures.state
+
+pub index_mut-requires : goal.index_mut-requires
+index_mut-requires c =
+    let old = c.args.machine.now in
+    let mid = c.step.new.self in
+    let rings = c.args.rings.now.items in
+    let ready : old.phase ≡ phase.Ready = sym c.phase.ensures ∙ c.in-Ready.is in
+    let st = subst (λ (q : request.Request WorldRecord). StepsTo (λ (x : WorldRecord). x.reservation.bytes) (next_step c.args.machine.now.program.program c.args.machine.now.state) c.args.machine.now.records (Call q) c.step.new.self) c.in-Call-Reserve.field-0-is c.in-Call-Reserve.ensures.stepped in
+    let lawful = subst (IsLawful old.program) st.2 (lawful-of old st.0 mid.state ready c.facts.ensures st.1) in
+    let known : c.in-Call-Reserve.ring < old.program.rings = lawful.0 in
+    let there : old.program.rings ≤ length rings = c.requires.program in
+    let low : c.in-Call-Reserve.ring < length rings = omega arith in
+    search rules
+
+pub index_mut-requires-in-Call-Output : goal.index_mut-requires-in-Call-Output
+index_mut-requires-in-Call-Output c =
+    let old = c.args.machine.now in
+    let mid = c.step.new.self in
+    let rings = c.args.rings.now.items in
+    let ready : old.phase ≡ phase.Ready = sym c.phase.ensures ∙ c.in-Ready.is in
+    let st = subst (λ (q : request.Request WorldRecord). StepsTo (λ (x : WorldRecord). x.reservation.bytes) (next_step c.args.machine.now.program.program c.args.machine.now.state) c.args.machine.now.records (Call q) c.step.new.self) c.in-Call-Output.field-0-is c.in-Call-Output.ensures.stepped in
+    let lawful = subst (IsLawful old.program) st.2.2 (lawful-of old st.0 mid.state ready c.facts.ensures st.1) in
+    let known : c.in-Call-Output.ring < old.program.rings = lawful in
+    let there : old.program.rings ≤ length rings = c.requires.program in
+    let low : c.in-Call-Output.ring < length rings = omega arith in
+    search rules
+
+pub index-requires : goal.index-requires
+index-requires c =
+    let old = c.args.machine.now in
+    let mid = c.step.new.self in
+    let rings = c.args.rings.now.items in
+    let ready : old.phase ≡ phase.Ready = sym c.phase.ensures ∙ c.in-Ready.is in
+    let st = subst (λ (q : request.Request WorldRecord). StepsTo (λ (x : WorldRecord). x.reservation.bytes) (next_step c.args.machine.now.program.program c.args.machine.now.state) c.args.machine.now.records (Call q) c.step.new.self) c.in-Call-Query.field-0-is c.in-Call-Query.ensures.stepped in
+    let lawful = subst (IsLawful old.program) st.2 (lawful-of old st.0 mid.state ready c.facts.ensures st.1) in
+    let known : c.in-Call-Query.ring < old.program.rings = lawful in
+    let there : old.program.rings ≤ length rings = c.requires.program in
+    let low : c.in-Call-Query.ring < length rings = omega arith in
+    search rules
+
+pub answer_reserve-requires-clause-worker : goal.answer_reserve-requires-clause-worker
+answer_reserve-requires-clause-worker c =
+    let old = c.args.machine.now in
+    let mid = c.step.new.self in
+    let rings = c.args.rings.now.items in
+    let ready : old.phase ≡ phase.Ready = sym c.phase.ensures ∙ c.in-Ready.is in
+    let st = subst (λ (q : request.Request WorldRecord). StepsTo (λ (x : WorldRecord). x.reservation.bytes) (next_step c.args.machine.now.program.program c.args.machine.now.state) c.args.machine.now.records (Call q) c.step.new.self) c.in-Call-Reserve.field-0-is c.in-Call-Reserve.ensures.stepped in
+    let lawful = subst (IsLawful old.program) st.2 (lawful-of old st.0 mid.state ready c.facts.ensures st.1) in
+    let known : c.in-Call-Reserve.ring < old.program.rings = lawful.0 in
+    let there : old.program.rings ≤ length rings = c.requires.program in
+    let low : c.in-Call-Reserve.ring < length rings = omega arith in
+    open-at c.args.w rings c.in-Call-Reserve.ring c.index_mut.result.now c.requires.rings low c.index_mut.ensures.value
+
+pub answer_output-requires-clause-worker : goal.answer_output-requires-clause-worker
+answer_output-requires-clause-worker c =
+    let old = c.args.machine.now in
+    let mid = c.step.new.self in
+    let rings = c.args.rings.now.items in
+    let ready : old.phase ≡ phase.Ready = sym c.phase.ensures ∙ c.in-Ready.is in
+    let st = subst (λ (q : request.Request WorldRecord). StepsTo (λ (x : WorldRecord). x.reservation.bytes) (next_step c.args.machine.now.program.program c.args.machine.now.state) c.args.machine.now.records (Call q) c.step.new.self) c.in-Call-Output.field-0-is c.in-Call-Output.ensures.stepped in
+    let lawful = subst (IsLawful old.program) st.2.2 (lawful-of old st.0 mid.state ready c.facts.ensures st.1) in
+    let known : c.in-Call-Output.ring < old.program.rings = lawful in
+    let there : old.program.rings ≤ length rings = c.requires.program in
+    let low : c.in-Call-Output.ring < length rings = omega arith in
+    open-at c.args.w rings c.in-Call-Output.ring c.index_mut-in-Call-Output.result.now c.requires.rings low c.index_mut-in-Call-Output.ensures.value
+
+pub returns-in-Call-Reserve-clause-turned : goal.returns-in-Call-Reserve-clause-turned
+returns-in-Call-Reserve-clause-turned c =
+    let old = c.args.machine.now in
+    let mid = c.step.new.self in
+    let rings = c.args.rings.now.items in
+    let ready : old.phase ≡ phase.Ready = sym c.phase.ensures ∙ c.in-Ready.is in
+    let st = subst (λ (q : request.Request WorldRecord). StepsTo (λ (x : WorldRecord). x.reservation.bytes) (next_step c.args.machine.now.program.program c.args.machine.now.state) c.args.machine.now.records (Call q) c.step.new.self) c.in-Call-Reserve.field-0-is c.in-Call-Reserve.ensures.stepped in
+    let lawful = subst (IsLawful old.program) st.2 (lawful-of old st.0 mid.state ready c.facts.ensures st.1) in
+    let known : c.in-Call-Reserve.ring < old.program.rings = lawful.0 in
+    let there : old.program.rings ≤ length rings = c.requires.program in
+    let low : c.in-Call-Reserve.ring < length rings = omega arith in
+    reserve-turn c.args.w rings old mid c.answer_reserve.new.machine c.in-Call-Reserve.ring c.index_mut.result.now c.answer_reserve.new.self ready c.in-Call-Reserve.ensures.program low c.index_mut.ensures.value
+    c.in-Call-Reserve.len c.in-Call-Reserve.flags st.0 st.1 st.2 st.4 c.answer_reserve.ensures.answered
+
+pub returns-in-Call-Reserve-clause-own : goal.returns-in-Call-Reserve-clause-own
+returns-in-Call-Reserve-clause-own c =
+    let old = c.args.machine.now in
+    let mid = c.step.new.self in
+    let rings = c.args.rings.now.items in
+    let ready : old.phase ≡ phase.Ready = sym c.phase.ensures ∙ c.in-Ready.is in
+    let st = subst (λ (q : request.Request WorldRecord). StepsTo (λ (x : WorldRecord). x.reservation.bytes) (next_step c.args.machine.now.program.program c.args.machine.now.state) c.args.machine.now.records (Call q) c.step.new.self) c.in-Call-Reserve.field-0-is c.in-Call-Reserve.ensures.stepped in
+    let lawful = subst (IsLawful old.program) st.2 (lawful-of old st.0 mid.state ready c.facts.ensures st.1) in
+    let known : c.in-Call-Reserve.ring < old.program.rings = lawful.0 in
+    let there : old.program.rings ≤ length rings = c.requires.program in
+    let low : c.in-Call-Reserve.ring < length rings = omega arith in
+    let records : mid.records ≡ old.records = st.4 ∙ ap (λ call. left_by call old.records) st.2 in
+    subst (λ n. AreOwn c.args.w n c.answer_reserve.new.machine.records) (sym (set-length rings c.in-Call-Reserve.ring c.answer_reserve.new.self))
+    (c.answer_reserve.ensures.own (length rings) low (subst (AreOwn c.args.w (length rings)) (sym records) c.requires.own))
+
+pub returns-in-Call-Reserve-clause-rings : goal.returns-in-Call-Reserve-clause-rings
+returns-in-Call-Reserve-clause-rings c = setups-set c.args.rings.now.items c.in-Call-Reserve.ring c.index_mut.result.now c.answer_reserve.new.self c.index_mut.ensures.value c.answer_reserve.ensures.same_ring
+
+pub returns-in-Call-Output-clause-turned : goal.returns-in-Call-Output-clause-turned
+returns-in-Call-Output-clause-turned c =
+    let old = c.args.machine.now in
+    let mid = c.step.new.self in
+    let rings = c.args.rings.now.items in
+    let ready : old.phase ≡ phase.Ready = sym c.phase.ensures ∙ c.in-Ready.is in
+    let st = subst (λ (q : request.Request WorldRecord). StepsTo (λ (x : WorldRecord). x.reservation.bytes) (next_step c.args.machine.now.program.program c.args.machine.now.state) c.args.machine.now.records (Call q) c.step.new.self) c.in-Call-Output.field-0-is c.in-Call-Output.ensures.stepped in
+    let lawful = subst (IsLawful old.program) st.2.2 (lawful-of old st.0 mid.state ready c.facts.ensures st.1) in
+    let known : c.in-Call-Output.ring < old.program.rings = lawful in
+    let there : old.program.rings ≤ length rings = c.requires.program in
+    let low : c.in-Call-Output.ring < length rings = omega arith in
+    output-turn c.args.w rings old mid c.answer_output.new.machine c.in-Call-Output.ring c.index_mut-in-Call-Output.result.now c.answer_output.new.self ready c.in-Call-Output.ensures.program low c.index_mut-in-Call-Output.ensures.value
+    c.in-Call-Output.flags st.0 st.2.0 st.1 st.2.1 st.2.2 st.4 c.answer_output.ensures.answered
+
+pub returns-in-Call-Output-clause-rings : goal.returns-in-Call-Output-clause-rings
+returns-in-Call-Output-clause-rings c = setups-set c.args.rings.now.items c.in-Call-Output.ring c.index_mut-in-Call-Output.result.now c.answer_output.new.self c.index_mut-in-Call-Output.ensures.value c.answer_output.ensures.same_ring
+
+pub returns-in-Call-Query-clause-turned : goal.returns-in-Call-Query-clause-turned
+returns-in-Call-Query-clause-turned c =
+    let old = c.args.machine.now in
+    let mid = c.step.new.self in
+    let rings = c.args.rings.now.items in
+    let ready : old.phase ≡ phase.Ready = sym c.phase.ensures ∙ c.in-Ready.is in
+    let st = subst (λ (q : request.Request WorldRecord). StepsTo (λ (x : WorldRecord). x.reservation.bytes) (next_step c.args.machine.now.program.program c.args.machine.now.state) c.args.machine.now.records (Call q) c.step.new.self) c.in-Call-Query.field-0-is c.in-Call-Query.ensures.stepped in
+    let lawful = subst (IsLawful old.program) st.2 (lawful-of old st.0 mid.state ready c.facts.ensures st.1) in
+    let known : c.in-Call-Query.ring < old.program.rings = lawful in
+    let there : old.program.rings ≤ length rings = c.requires.program in
+    let low : c.in-Call-Query.ring < length rings = omega arith in
+    let s = c.index.result.now in
+    let new = c.answer_query.new.machine in
+    let same : set rings c.in-Call-Query.ring s ≡ rings = ap (set rings c.in-Call-Query.ring) c.index.ensures ∙ set-get rings c.in-Call-Query.ring s in
+    subst (λ l. IsWorkerTurn c.args.w old rings turn.Went new l) same
+    (query-turn c.args.w rings old mid new c.in-Call-Query.ring s s ready c.in-Call-Query.ensures.program low c.index.ensures c.in-Call-Query.what st.0 st.1 st.2 st.4 refl c.answer_query.ensures.answered)
+
+pub returns-in-Call-Submit-clause-turned : goal.returns-in-Call-Submit-clause-turned
+returns-in-Call-Submit-clause-turned c =
+    let old = c.args.machine.now in
+    let mid = c.step.new.self in
+    let rings = c.args.rings.now.items in
+    let ready : old.phase ≡ phase.Ready = sym c.phase.ensures ∙ c.in-Ready.is in
+    let st = subst (λ (q : request.Request WorldRecord). StepsTo (λ (x : WorldRecord). x.reservation.bytes) (next_step c.args.machine.now.program.program c.args.machine.now.state) c.args.machine.now.records (Call q) c.step.new.self) c.in-Call-Submit.field-0-is c.in-Call-Submit.ensures.stepped in
+    let owned = c.in-Call-Submit.owned in
+    let flags = c.in-Call-Submit.flags in
+    let shows = st.2 in
+    let mine = c.requires.own shows.0 owned shows.1 in
+    give-turn c.args.w rings old mid c.answer_submit.new.machine owned c.index_mut-in-Call-Submit.result.now c.answer_submit.new.self ready c.in-Call-Submit.ensures.program mine.0 c.index_mut-in-Call-Submit.ensures.value
+    WorkerSubmits submit_event (Submit shows.0 owned.reservation.bytes flags) shows.0 refl tt shows.1 (st.4 ∙ ap (λ call. left_by call old.records) shows.2) mine.1
+    (st.1 ∙ ap (λ call. Asks call mid.state) shows.2) (λ world event after g. g) c.answer_submit.ensures.answered
+
+pub returns-in-Call-Submit-clause-own : goal.returns-in-Call-Submit-clause-own
+returns-in-Call-Submit-clause-own c =
+    let old = c.args.machine.now in
+    let rings = c.args.rings.now.items in
+    let st = subst (λ (q : request.Request WorldRecord). StepsTo (λ (x : WorldRecord). x.reservation.bytes) (next_step c.args.machine.now.program.program c.args.machine.now.state) c.args.machine.now.records (Call q) c.step.new.self) c.in-Call-Submit.field-0-is c.in-Call-Submit.ensures.stepped in
+    let shows = st.2 in
+    subst (λ n. AreOwn c.args.w n c.answer_submit.new.machine.records) (sym (set-length rings c.in-Call-Submit.owned.ring c.answer_submit.new.self))
+    (subst (AreOwn c.args.w (length rings)) (sym (c.answer_submit.ensures.records ∙ (st.4 ∙ ap (λ call. left_by call old.records) shows.2))) (own-given c.args.w (length rings) shows.0 old.records c.requires.own))
+
+pub returns-in-Call-Submit-clause-rings : goal.returns-in-Call-Submit-clause-rings
+returns-in-Call-Submit-clause-rings c = setups-set c.args.rings.now.items c.in-Call-Submit.owned.ring c.index_mut-in-Call-Submit.result.now c.answer_submit.new.self c.index_mut-in-Call-Submit.ensures.value c.answer_submit.ensures.same_ring
+
+pub returns-in-Call-Discard-clause-turned : goal.returns-in-Call-Discard-clause-turned
+returns-in-Call-Discard-clause-turned c =
+    let old = c.args.machine.now in
+    let mid = c.step.new.self in
+    let rings = c.args.rings.now.items in
+    let ready : old.phase ≡ phase.Ready = sym c.phase.ensures ∙ c.in-Ready.is in
+    let st = subst (λ (q : request.Request WorldRecord). StepsTo (λ (x : WorldRecord). x.reservation.bytes) (next_step c.args.machine.now.program.program c.args.machine.now.state) c.args.machine.now.records (Call q) c.step.new.self) c.in-Call-Discard.field-0-is c.in-Call-Discard.ensures.stepped in
+    let owned = c.in-Call-Discard.owned in
+    let flags = c.in-Call-Discard.flags in
+    let shows = st.2 in
+    let mine = c.requires.own shows.0 owned shows.1 in
+    give-turn c.args.w rings old mid c.answer_discard.new.machine owned c.index_mut-in-Call-Discard.result.now c.answer_discard.new.self ready c.in-Call-Discard.ensures.program mine.0 c.index_mut-in-Call-Discard.ensures.value
+    WorkerDiscards discard_event (Discard shows.0 owned.reservation.bytes flags) shows.0 refl tt shows.1 (st.4 ∙ ap (λ call. left_by call old.records) shows.2) mine.1
+    (st.1 ∙ ap (λ call. Asks call mid.state) shows.2) (λ world event after g. g) c.answer_discard.ensures.answered
+
+pub returns-in-Call-Discard-clause-own : goal.returns-in-Call-Discard-clause-own
+returns-in-Call-Discard-clause-own c =
+    let old = c.args.machine.now in
+    let rings = c.args.rings.now.items in
+    let st = subst (λ (q : request.Request WorldRecord). StepsTo (λ (x : WorldRecord). x.reservation.bytes) (next_step c.args.machine.now.program.program c.args.machine.now.state) c.args.machine.now.records (Call q) c.step.new.self) c.in-Call-Discard.field-0-is c.in-Call-Discard.ensures.stepped in
+    let shows = st.2 in
+    subst (λ n. AreOwn c.args.w n c.answer_discard.new.machine.records) (sym (set-length rings c.in-Call-Discard.owned.ring c.answer_discard.new.self))
+    (subst (AreOwn c.args.w (length rings)) (sym (c.answer_discard.ensures.records ∙ (st.4 ∙ ap (λ call. left_by call old.records) shows.2))) (own-given c.args.w (length rings) shows.0 old.records c.requires.own))
+
+pub returns-in-Call-Discard-clause-rings : goal.returns-in-Call-Discard-clause-rings
+returns-in-Call-Discard-clause-rings c = setups-set c.args.rings.now.items c.in-Call-Discard.owned.ring c.index_mut-in-Call-Discard.result.now c.answer_discard.new.self c.index_mut-in-Call-Discard.ensures.value c.answer_discard.ensures.same_ring

@@ -1,0 +1,21 @@
+use Rattle.std.proofs.Common.{◌+◌, take, sym, subst, ◌∙◌, arith}
+use Rattle.std.proofs.lemmas.List.Elements.{All-get_or}
+use Rattle.rb_world.specs.WorldValue.{IsThere}
+use Rattle.rb_world.specs.WorldRuns.{IsRunOf}
+use Rattle.rb_world.proofs.Runs.{run-more, there-still}
+use Rattle.rb_world.proofs.world.World.run.Goals as goal
+
+pub turn-done-requires : goal.turn-done-requires
+turn-done-requires c = record {
+  there = there-still c.args.self.now c.loop-actor.self _ c.loop-actor.invariant.workers c.loop-actor.invariant.rings (All-get_or (IsThere c.args.self.now) c.args.actors.now c.loop-actor.actor-index _ c.loop-actor-test.true c.in_ok-check_actors.ensures.known);
+}
+
+pub loop-actor-preserved : goal.loop-actor-preserved
+loop-actor-preserved c = record {
+  so_far = subst (λ l. IsRunOf (take (c.loop-actor.actor-index + 1) c.args.actors.now) c.args.self.now l c.turn-done.new.self) (sym c.push_reserved.ensures.items)
+      (run-more c.args.actors.now c.loop-actor.actor-index _ c.args.self.now c.loop-actor.self c.turn-done.new.self c.loop-actor.turns.items c.turn-done.result c.loop-actor-test.true c.loop-actor.invariant.so_far c.turn-done.ensures.turned);
+  count = (let more = c.push_reserved.ensures.len in let before = c.loop-actor.invariant.count in omega arith);
+  room = (let same = c.push_reserved.ensures.capacity in let before = c.loop-actor.invariant.room in omega arith);
+  workers = c.turn-done.ensures.workers ∙ c.loop-actor.invariant.workers;
+  rings = c.turn-done.ensures.rings ∙ c.loop-actor.invariant.rings;
+}

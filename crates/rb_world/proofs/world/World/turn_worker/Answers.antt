@@ -1,0 +1,38 @@
+use Rattle.std.proofs.Common.{◌≡◌, ◌<◌, length, set, sym, subst, ◌∙◌}
+use Rattle.rb_interp.specs.MachineState.{MachineState}
+use Rattle.rb_interp.specs.StoredMemory.{record_bytes_in}
+use Rattle.rb_interleavings.specs.declared.actor.Actor.TheVariants.{Worker}
+use Rattle.rb_world.specs.declared.world_record.WorldRecord.{WorldRecord}
+use Rattle.rb_world.specs.WorldValue.{WorldValue}
+use Rattle.rb_world.specs.TurnsDone.{IsTurnOf}
+use Rattle.rb_world.specs.inner.FittingWorlds.{IsFitting, IsSoundWorld}
+use Rattle.rb_world.proofs.MachineAnswers.{fits-worker, fits-rings, length-by, set-length}
+use Rattle.rb_world.proofs.ShownWorlds.{at-default}
+use Rattle.rb_world.proofs.SoundWorlds.{busy-held, sound-after}
+use Rattle.rb_world.proofs.world.World.turn_worker.Goals as goal
+
+pub returns-clause-turned : goal.returns-clause-turned
+returns-clause-turned c =
+    let inside : WorldValue = record { rings = c.self.inside.rings.items; machines = c.self.inside.machines.items } in
+    let low : c.args.w < length inside.machines = subst (λ (b : WorldValue). c.args.w < length b.machines) (sym c.self.view_is) c.requires.worker in
+    subst (λ (b : WorldValue). IsTurnOf (Worker c.args.w) b c.work.result (record { rings = c.work.new.rings.items; machines = set inside.machines c.args.w c.work.new.machine })) c.self.view_is
+    (c.work.ensures.turned inside.machines low c.index_mut.ensures.value)
+
+pub invariant_of-self : goal.invariant_of-self
+invariant_of-self c =
+    let inside : WorldValue = record { rings = c.self.inside.rings.items; machines = c.self.inside.machines.items } in
+    let new : WorldValue = record { rings = c.work.new.rings.items; machines = set inside.machines c.args.w c.work.new.machine } in
+    let low : c.args.w < length inside.machines = subst (λ (b : WorldValue). c.args.w < length b.machines) (sym c.self.view_is) c.requires.worker in
+    let sound : IsSoundWorld inside = c.self.invariant in
+    sound-after inside new (Worker c.args.w) c.work.result sound low (c.work.ensures.turned inside.machines low c.index_mut.ensures.value)
+    (fits-worker (record inside { rings = c.work.new.rings.items }) c.args.w c.index_mut.result.now c.work.new.machine (fits-rings inside c.work.new.rings.items sound.fitting c.work.ensures.rings) low c.index_mut.ensures.value c.work.ensures.program c.work.ensures.own)
+
+pub work-requires-clause-busy : goal.work-requires-clause-busy
+work-requires-clause-busy c =
+    let inside : WorldValue = record { rings = c.self.inside.rings.items; machines = c.self.inside.machines.items } in
+    let low : c.args.w < length inside.machines = subst (λ (b : WorldValue). c.args.w < length b.machines) (sym c.self.view_is) c.requires.worker in
+    let a = c.index.result.now in
+    let b = c.index_mut.result.now in
+    let same : a ≡ b = at-default inside.machines c.args.w a b low c.index.ensures ∙ sym c.index_mut.ensures.value in
+    busy-held inside c.args.w b c.self.invariant low c.index_mut.ensures.value
+    (subst (λ (m : MachineState WorldRecord). m.state.memory.records ≡ record_bytes_in (λ (x : WorldRecord). x.reservation.bytes) m.records) same c.record_facts.ensures)

@@ -1,0 +1,65 @@
+-- How worlds are opened: when they may be, and what they are then (own).
+use Rattle.std.specs.Prelude.{ℕ, ◌≡◌, ◌≤◌, List, [], All, length, map}
+use Rattle.std.specs.List.{AllZip}
+use Rattle.rb_history.specs.RingModel.{fresh, IsRingSize, IsStartPosition, IsWorkerCount}
+use Rattle.rb_semantics.specs.ProgramStates.{entry_program_state}
+use Rattle.rb_interp.specs.MachineState.{MachineState}
+use Rattle.rb_interp.specs.declared.step.Phase.TheVariants.{Ready}
+use Rattle.rb_interleavings.specs.Worlds.{WorldRing}
+use Rattle.rb_interleavings.specs.OpeningWorld.{BeginsVerified}
+use Rattle.rb_world.specs.declared.opening.RingSetup.{RingSetup}
+use Rattle.rb_world.specs.declared.opening.WorkerSetup.{WorkerSetup}
+use Rattle.rb_world.specs.declared.world_fault.WorldOpenFault.{WorldOpenFault}
+use Rattle.rb_world.specs.declared.world_fault.WorldOpenFault.TheVariants as fault
+use Rattle.rb_world.specs.declared.world_record.WorldRecord.{WorldRecord}
+use Rattle.rb_world.specs.WorldValue.{WorldValue, worker_of}
+
+-- a ring's size and start are within their bounds
+pub record IsRingSetup (s : RingSetup) : Type 0 where
+  pub size : IsRingSize s.size
+  pub start : IsStartPosition s.start
+
+-- each ring's are
+abbrev pub AreRings : List RingSetup → Type 0
+AreRings rings = All IsRingSetup rings
+
+-- each context is as long as its program was verified for
+abbrev pub HaveContexts : List WorkerSetup → Type 0
+HaveContexts workers = All (λ x. length x.context.now ≡ x.program.now.ctx_len) workers
+
+-- so many rings are few enough, and enough for each program
+abbrev pub HaveRings : ℕ → List WorkerSetup → Type 0
+HaveRings rings workers = (rings ≤ 16) × All (λ x. x.program.now.rings ≤ rings) workers
+
+-- a world may be opened with these rings and these workers
+pub record MayOpen (rings : List RingSetup) (workers : List WorkerSetup) : Type 0 where
+  pub are_rings : AreRings rings
+  pub contexts : HaveContexts workers
+  pub ring_count : HaveRings (length rings) workers
+  pub worker_count : IsWorkerCount (length workers)
+
+-- why it is not: the first of these that applies; want of memory is told only where the world may be opened
+abbrev pub IsOpenRefusal : List RingSetup → List WorkerSetup → WorldOpenFault → Type 0
+IsOpenRefusal rings workers fault.Ring = ¬ AreRings rings
+IsOpenRefusal rings workers fault.ContextLength = AreRings rings × ¬ HaveContexts workers
+IsOpenRefusal rings workers fault.Rings = AreRings rings × HaveContexts workers × ¬ HaveRings (length rings) workers
+IsOpenRefusal rings workers fault.Workers =
+    AreRings rings × HaveContexts workers × HaveRings (length rings) workers × ¬ IsWorkerCount (length workers)
+IsOpenRefusal rings workers fault.Memory = MayOpen rings workers
+
+-- a ring for so many workers, with nothing in it
+abbrev pub opened_ring : ℕ → RingSetup → WorldRing
+opened_ring workers s = record { ring = fresh s.size s.start workers; taken = [] }
+
+-- a machine is at the first instruction of a worker's program, over its context, and holds no record
+pub record IsStarted (x : WorkerSetup) (m : MachineState WorldRecord) : Type 0 where
+  pub program : m.program ≡ x.program.now
+  pub state : m.state ≡ entry_program_state x.context.now
+  pub records : m.records ≡ []
+  pub phase : m.phase ≡ Ready
+  pub begins : BeginsVerified (worker_of m)
+
+-- the world has the rings and the workers that were asked for, in their order, at their beginning
+pub record IsOpenedWorld (rings : List RingSetup) (workers : List WorkerSetup) (v : WorldValue) : Type 0 where
+  pub rings_are : v.rings ≡ map (opened_ring (length workers)) rings
+  pub machines_are : AllZip IsStarted workers v.machines

@@ -1,0 +1,3 @@
+pub mod RingAnswers
+pub mod WorkerTurn
+pub mod FittingWorlds

@@ -1,0 +1,42 @@
+-- What a world keeps between turns.
+use Rattle.std.specs.Prelude.{ℕ, ◌≡◌, ◌<◌, ◌≤◌, List, Some, length, map}
+use Rattle.std.specs.List.{slice_index_or, AllByRecursion}
+use Rattle.rb_history.specs.RoomRule.{Setup}
+use Rattle.rb_history.specs.Calls.{HoldsReservation}
+use Rattle.rb_interp.specs.MachineState.{MachineState}
+use Rattle.rb_interp.specs.StoredMemory.{held_record, record_bytes_in}
+use Rattle.rb_interleavings.specs.Worlds.{WorldRing}
+use Rattle.rb_interleavings.specs.EveryInterleaving.{IsReachedWorld}
+use Rattle.rb_world.specs.declared.world_record.WorldRecord.{WorldRecord}
+use Rattle.rb_world.specs.WorldValue.{WorldValue, world_of}
+
+-- the records of a worker were granted to it, at rings that are there
+abbrev pub AreOwn : (w rings : ℕ) → List (ℕ × WorldRecord) → Type 0
+AreOwn w rings records = (id : ℕ) (x : WorldRecord) → held_record id records ≡ Some x → (x.ring < rings) × (x.reservation.worker ≡ w)
+
+-- they are busy there
+abbrev pub AreBusy : List WorldRing → List (ℕ × WorldRecord) → Type 0
+AreBusy rings records =
+    (id : ℕ) (x : WorldRecord) (s : WorldRing) → held_record id records ≡ Some x → s ≡ slice_index_or rings x.ring s → HoldsReservation s.ring x.reservation
+
+abbrev pub setups_of : List WorldRing → List Setup
+setups_of rings = map (λ s. s.ring.setup) rings
+
+-- every ring was opened for so many workers
+abbrev pub AreFor : ℕ → List Setup → Type 0
+AreFor workers setups = AllByRecursion (λ u. u.workers ≡ workers) setups
+
+-- every ring has a seat for the worker
+abbrev pub AreOpenTo : ℕ → List Setup → Type 0
+AreOpenTo w setups = AllByRecursion (λ u. w < u.workers) setups
+
+-- the rings are for these workers, every program knows rings that are there, and every worker has records of its own
+pub record IsFitting (v : WorldValue) : Type 0 where
+  pub rings : AreFor (length v.machines) (setups_of v.rings)
+  pub programs : (w : ℕ) (m : MachineState WorldRecord) → w < length v.machines → m ≡ slice_index_or v.machines w m → m.program.rings ≤ length v.rings
+  pub own : (w : ℕ) (m : MachineState WorldRecord) → w < length v.machines → m ≡ slice_index_or v.machines w m → AreOwn w (length v.rings) m.records
+
+-- and turns led here from an opening of verified programs
+pub record IsSoundWorld (v : WorldValue) : Type 0 where
+  pub fitting : IsFitting v
+  pub reached : IsReachedWorld (world_of v)

@@ -1,0 +1,26 @@
+-- What a real ring answers, as the answers of a world's ring have it.
+use Rattle.std.specs.Prelude.{ℕ, ℤ, ◌≡◌, List, [], Option, Some, None, replicate}
+use Rattle.rb_history.specs.ReservationModel.{Granted}
+use Rattle.rb_history.specs.RingModel.{Ring}
+use Rattle.rb_semantics.specs.HelperCalls.{Code}
+use Rattle.rb_interleavings.specs.Worlds.{WorldRing}
+use Rattle.rb_interleavings.specs.CallsInWorld.{RecordOutcome, Made, WorkerReserves, WorkerOutputs, answer_to_output}
+
+-- a ring of which nothing was taken
+abbrev pub untaken_ring : Ring → WorldRing
+untaken_ring v = record { ring = v; taken = [] }
+
+-- what a reserve gives: the record that was made, with zeros, and nothing where none was
+abbrev pub GivesRecord : (w len : ℕ) → RecordOutcome → Option Granted → Type 0
+GivesRecord w len (Made p k) (Some r) = r ≡ record { pos = p; worker = w; serial = k; bytes = replicate len 0 }
+GivesRecord w len (Made p k) None = ⊥
+GivesRecord w len outcome (Some r) = ⊥
+GivesRecord w len outcome None = Unit {0}
+
+-- a reserve of a worker came out so
+abbrev pub IsReserved : Ring → Ring → (w len flags : ℕ) → Option Granted → Type 0
+IsReserved old new w len flags given = (outcome : RecordOutcome) × GivesRecord w len outcome given × WorkerReserves w len flags outcome (untaken_ring old) (untaken_ring new)
+
+-- an output of a worker came out so
+abbrev pub IsOutput : Ring → Ring → (w : ℕ) → List ℕ → (flags : ℕ) → ℤ → Type 0
+IsOutput old new w bytes flags code = (outcome : RecordOutcome) × (answer_to_output outcome ≡ Code code) × WorkerOutputs w bytes flags outcome (untaken_ring old) (untaken_ring new)

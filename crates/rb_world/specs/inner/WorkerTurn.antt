@@ -1,0 +1,58 @@
+-- What one machine and one ring do in a turn, as a turn of the world has it.
+use Rattle.std.specs.Prelude.{ℕ, ◌≡◌, ◌<◌, List, ◌++◌, Some, length, slice_set}
+use Rattle.std.specs.List.{slice_index_or}
+use Rattle.rb_semantics.specs.declared.pending_call.PendingCall.{PendingCall}
+use Rattle.rb_semantics.specs.declared.pending_call.PendingCall.TheVariants as asked
+use Rattle.rb_semantics.specs.HelperCalls.{HelperAnswer, Taken, Told, resume}
+use Rattle.rb_history.specs.NoticesAndQueries.{query_answer}
+use Rattle.rb_history.specs.RingModel.{StandsFor}
+use Rattle.rb_history.specs.Calls.{Takes}
+use Rattle.rb_interp.specs.MachineState.{MachineState}
+use Rattle.rb_interleavings.specs.declared.actor.Actor.TheVariants.{Worker}
+use Rattle.rb_interleavings.specs.Worlds.{HeldRecords, Running, WorldRing}
+use Rattle.rb_interleavings.specs.CallsInWorld.{RecordOutcome, WorkerReserves, WorkerOutputs, answer_to_reserve, held_after_reserve, answer_to_output}
+use Rattle.rb_interleavings.specs.Turns.{TurnEvent, Took, NoMemory, GivingBack, worker_after, taken_by}
+use Rattle.rb_world.specs.declared.turn_done.TurnDone.{TurnDone}
+use Rattle.rb_world.specs.declared.world_record.WorldRecord.{WorldRecord}
+use Rattle.rb_world.specs.WorldValue.{held_by, worker_of}
+use Rattle.rb_world.specs.TurnsDone.{TellsEvent, IsTurnOf}
+
+-- ---- a take
+
+-- what one take did to a ring and to what was taken of it
+abbrev pub DoesTake : TurnEvent → WorldRing → WorldRing → Type 0
+DoesTake (Took found) old new = Takes old.ring new.ring found × StandsFor new.ring × (new.taken ≡ old.taken ++ taken_by found)
+DoesTake NoMemory old new = new ≡ old
+DoesTake _ old new = ⊥
+
+abbrev pub TakesOnce : WorldRing → TurnDone → WorldRing → Type 0
+TakesOnce old done new = (event : TurnEvent) × TellsEvent done event × DoesTake event old new
+
+-- ---- a worker's turn
+
+-- a machine's turn is the turn of a worker, wherever the machine stands as that worker's
+abbrev pub IsWorkerTurn : ℕ → MachineState WorldRecord → List WorldRing → TurnDone → MachineState WorldRecord → List WorldRing → Type 0
+IsWorkerTurn w old rings done new rings' =
+    (machines : List (MachineState WorldRecord)) → w < length machines → old ≡ slice_index_or machines w old
+    → IsTurnOf (Worker w) (record { rings = rings; machines = machines }) done (record { rings = rings'; machines = slice_set machines w new })
+
+-- a machine that waited got an answer of the kind, goes on, and holds these records
+abbrev pub GoesOnWith : PendingCall → HelperAnswer → HeldRecords → MachineState WorldRecord → MachineState WorldRecord → Type 0
+GoesOnWith kind answer held old new = worker_of new ≡ worker_after (resume kind answer old.state) (record (worker_of old) { held = held; status = Running })
+
+abbrev pub AnswersReserve : (w r len flags : ℕ) → MachineState WorldRecord → WorldRing → MachineState WorldRecord → WorldRing → Type 0
+AnswersReserve w r len flags m s m' s' =
+    (outcome : RecordOutcome) × WorkerReserves w len flags outcome s s'
+    × GoesOnWith (asked.Reserve len) (answer_to_reserve outcome) (held_after_reserve m.state.unit r outcome (held_by m)) m m'
+
+abbrev pub AnswersOutput : (w flags : ℕ) → MachineState WorldRecord → WorldRing → MachineState WorldRecord → WorldRing → Type 0
+AnswersOutput w flags m s m' s' =
+    (bytes : List ℕ) → m.output ≡ Some bytes
+    → (outcome : RecordOutcome) × WorkerOutputs w bytes flags outcome s s' × GoesOnWith asked.Output (answer_to_output outcome) (held_by m) m m'
+
+-- a record was given back, by a submit or a discard, and taken
+abbrev pub AnswersGivenBack : GivingBack → WorldRecord → MachineState WorldRecord → WorldRing → MachineState WorldRecord → WorldRing → Type 0
+AnswersGivenBack gives owned m s m' s' = gives owned.reservation Taken s s' × GoesOnWith asked.GiveBack Taken (held_by m) m m'
+
+abbrev pub AnswersQuery : ℕ → MachineState WorldRecord → WorldRing → MachineState WorldRecord → Type 0
+AnswersQuery what m s m' = GoesOnWith asked.Query (Told (query_answer s.ring.setup s.ring.history what)) (held_by m) m m'

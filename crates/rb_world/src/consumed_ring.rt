@@ -1,0 +1,168 @@
+//! A ring of a world, and what its consumer took of it.
+
+use crate::ring_answers;
+use crate::turn_done::TurnDone;
+use crate::world_record::WorldRecord;
+use rb_history::Taken;
+use rb_interp::{Answer, Machine};
+use rb_ring::RingState;
+use std::alloc::Global;
+use std::marker::Model;
+
+// A ring, and what its consumer took of it, in order.
+#[derive(Drop)]
+pub(crate) struct ConsumedRing {
+    pub(crate) ring: RingState,
+    pub(crate) taken: Vec<Taken>,
+}
+
+impl Model for ConsumedRing {
+    ghost use Rattle.std.specs.Coded.{codes};
+    ghost use Rattle.rb_history.specs.RingModel.{contents_code};
+    ghost use Rattle.rb_history.specs.contracts.entries.Entry as entry;
+    ghost use Rattle.rb_interleavings.specs.Worlds.{WorldRing};
+
+    ghost Value = { WorldRing };
+
+    ghost coded = { Prim.hlevel (codes, contents_code, entry.the_row.coded) };
+
+    ghost view = { λ s. record { ring = s.ring; taken = s.taken.items } };
+}
+
+impl ConsumedRing {
+    ghost use Rattle.std.specs.Prelude.{◌≡◌, ◌<◌, ℕ};
+    ghost use Rattle.rb_history.specs.Calls.{HoldsReservation};
+    ghost use Rattle.rb_interleavings.specs.CallsInWorld.{WorkerSubmits, WorkerDiscards};
+    ghost use Rattle.rb_interp.specs.declared.step.Phase.TheVariants as phase;
+    ghost use Rattle.rb_semantics.specs.declared.pending_call.PendingCall.TheVariants as asked;
+    ghost use Rattle.rb_world.specs.inner.WorkerTurn.{TakesOnce, AnswersReserve, AnswersOutput, AnswersGivenBack, AnswersQuery};
+    ghost use Rattle.rb_world.specs.inner.FittingWorlds.{AreOwn};
+
+    // Answers the reserve of a worker that waits.
+    pub(crate) fn answer_reserve(
+        &mut self,
+        machine: &mut Machine<'_, &[u8], WorldRecord>,
+        alloc: Global,
+        w: u32,
+        r: u32,
+        len: u32,
+        flags: u64,
+    )
+        requires worker { w < self.old.ring.setup.workers }
+        requires waits { machine.old.phase ≡ phase.Waiting (asked.Reserve len) }
+        ensures answered { AnswersReserve w r len flags machine.old self.old machine.new self.new }
+        ensures own { (rings : ℕ) → r < rings → AreOwn w rings machine.old.records → AreOwn w rings machine.new.records }
+        ensures program { machine.new.program ≡ machine.old.program }
+        ensures same_ring { self.new.ring.setup ≡ self.old.ring.setup }
+    {
+        machine.facts();
+        machine.record_facts();
+        match ring_answers::reserve(&mut self.ring, alloc, w, len, flags) {
+            Some(reservation) => machine.answer(Answer::Granted(WorldRecord {
+                ring: r,
+                reservation,
+            })),
+            None => machine.answer(Answer::Null),
+        }
+    }
+
+    // Answers the output of a worker that waits.
+    pub(crate) fn answer_output(
+        &mut self,
+        machine: &mut Machine<'_, &[u8], WorldRecord>,
+        alloc: Global,
+        w: u32,
+        flags: u64,
+    )
+        requires worker { w < self.old.ring.setup.workers }
+        requires waits { machine.old.phase ≡ phase.Waiting asked.Output }
+        ensures answered { AnswersOutput w flags machine.old self.old machine.new self.new }
+        ensures records { machine.new.records ≡ machine.old.records }
+        ensures program { machine.new.program ≡ machine.old.program }
+        ensures same_ring { self.new.ring.setup ≡ self.old.ring.setup }
+    {
+        let code = ring_answers::output(&mut self.ring, alloc, w, machine.output(), flags);
+        machine.answer(Answer::Code(code));
+    }
+
+    // Answers the submit of a worker that waits, of a record that is busy.
+    pub(crate) fn answer_submit(
+        &mut self,
+        machine: &mut Machine<'_, &[u8], WorldRecord>,
+        owned: WorldRecord,
+        flags: u64,
+    )
+        requires busy { HoldsReservation self.old.ring owned.reservation }
+        requires waits { machine.old.phase ≡ phase.Waiting asked.GiveBack }
+        ensures answered { AnswersGivenBack WorkerSubmits owned machine.old self.old machine.new self.new }
+        ensures records { machine.new.records ≡ machine.old.records }
+        ensures program { machine.new.program ≡ machine.old.program }
+        ensures same_ring { self.new.ring.setup ≡ self.old.ring.setup }
+    {
+        match self.ring.submit(owned.reservation, flags) {
+            Ok(_) => {
+                self.ring.facts();
+                machine.answer(Answer::Taken);
+            }
+            Err(_) => unreachable!(),
+        }
+    }
+
+    // Answers the discard of a worker that waits, of a record that is busy.
+    pub(crate) fn answer_discard(
+        &mut self,
+        machine: &mut Machine<'_, &[u8], WorldRecord>,
+        owned: WorldRecord,
+        flags: u64,
+    )
+        requires busy { HoldsReservation self.old.ring owned.reservation }
+        requires waits { machine.old.phase ≡ phase.Waiting asked.GiveBack }
+        ensures answered { AnswersGivenBack WorkerDiscards owned machine.old self.old machine.new self.new }
+        ensures records { machine.new.records ≡ machine.old.records }
+        ensures program { machine.new.program ≡ machine.old.program }
+        ensures same_ring { self.new.ring.setup ≡ self.old.ring.setup }
+    {
+        match self.ring.discard(owned.reservation, flags) {
+            Ok(_) => {
+                self.ring.facts();
+                machine.answer(Answer::Taken);
+            }
+            Err(_) => unreachable!(),
+        }
+    }
+
+    // Answers the query of a worker that waits.
+    pub(crate) fn answer_query(&self, machine: &mut Machine<'_, &[u8], WorldRecord>, what: u64)
+        requires waits { machine.old.phase ≡ phase.Waiting asked.Query }
+        ensures answered { AnswersQuery what machine.old self.now machine.new }
+        ensures records { machine.new.records ≡ machine.old.records }
+        ensures program { machine.new.program ≡ machine.old.program }
+    {
+        machine.answer(Answer::Told(self.ring.query(what)));
+    }
+
+    // One take of the ring's consumer; `Memory` where the list of what was taken can't grow.
+    pub(crate) fn consume(&mut self) -> TurnDone
+        ensures taken { TakesOnce self.old result self.new }
+        ensures same_ring { self.new.ring.setup ≡ self.old.ring.setup }
+    {
+        if self.taken.reserve(1).is_err() {
+            return TurnDone::Memory;
+        }
+        let found = self.ring.take();
+        self.ring.facts();
+        match found {
+            Taken::BusyFront => TurnDone::BusyFront,
+            Taken::Empty => TurnDone::Empty,
+            Taken::Skipped(pos, n) => {
+                self.taken.push_reserved(Taken::Skipped(pos, n));
+                TurnDone::Skipped
+            }
+            Taken::Event(pos, worker, serial, sheet) => {
+                self.taken
+                    .push_reserved(Taken::Event(pos, worker, serial, sheet));
+                TurnDone::Took
+            }
+        }
+    }
+}

@@ -1,0 +1,39 @@
+//! Verified programs and ring buffers in turns, without a thread or a lock: every interleaving of their steps can be run, and
+//! seen. A `World` has a machine for each worker and a consumer for each ring; a `turn` of a worker executes one instruction,
+//! a call included, and a `turn` of a consumer makes one take. Calls answer as bpf-helpers(7) has it for bpf_ringbuf_reserve,
+//! bpf_ringbuf_submit, bpf_ringbuf_discard, bpf_ringbuf_output and bpf_ringbuf_query, over rings after Linux
+//! Documentation/bpf/ringbuf.rst.
+//!
+//! Each turn is one turn of the definitions (`rb_interleavings`), so whatever list of actors is run, no worker is ever stuck
+//! and no record is handed back, the busy records of each ring are exactly those that unfinished workers hold, and what is
+//! taken are the bytes that were handed over, in the order of reservation.
+//!
+//! ```text
+//! let worker = WorkerSetup { program: &program, context: &[] };
+//! let ring = RingSetup { size: 4096, start: 0 };
+//! let mut world = World::new(alloc, [ring].as_slice(), [worker, worker].as_slice())?;
+//! for _ in 0..4 {
+//!     world.turn(Actor::Worker(0));       // comes to its reservation
+//! }
+//! world.at(0);                            // Some(5): the next unit
+//! world.turn(Actor::Consumer(0));         // BusyFront: the record is not submitted yet
+//! ```
+#![tactic(auto)]
+
+mod consumed_ring;
+mod opening;
+mod ring_answers;
+mod run;
+mod turn_done;
+mod worker_turn;
+mod world;
+mod world_fault;
+mod world_record;
+
+pub use opening::{RingSetup, WorkerSetup};
+pub use rb_interleavings::Actor;
+pub use run::Report;
+pub use turn_done::TurnDone;
+pub use world::World;
+pub use world_fault::{WorldFault, WorldOpenFault};
+pub use world_record::WorldRecord;

@@ -1,0 +1,159 @@
+//! What a world is opened with.
+
+ghost use Rattle.std.specs.Prelude.{◌≡◌, ◌↔◌, IsTrue, OnOk, IfOk, IfErr, length, map};
+ghost use Rattle.std.specs.List.{AllZip};
+ghost use Rattle.rb_history.specs.RingModel.{IsWorkerCount};
+ghost use Rattle.rb_world.specs.OpenedWorlds.{IsRingSetup, AreRings, HaveContexts, HaveRings, MayOpen, IsOpenRefusal, IsStarted, opened_ring};
+
+use crate::consumed_ring::ConsumedRing;
+use crate::world_fault::WorldOpenFault;
+use crate::world_record::WorldRecord;
+use rb_history::{is_size, is_start};
+use rb_interp::Machine;
+use rb_ring::RingState;
+use rb_verifier::Verified;
+use std::alloc::{AllocError, Global};
+
+/// The size of a ring and its start, both in bytes.
+#[derive(Clone, Copy, Debug, PartialEq, Eq)]
+pub struct RingSetup {
+    /// A power of two from 4,096 to 67,108,864.
+    pub size: u64,
+    /// The first position: a multiple of 8, at most 2^61.
+    pub start: u64,
+}
+
+/// The program of a worker, and its context.
+#[derive(Clone, Copy)]
+pub struct WorkerSetup<'p> {
+    /// The program.
+    pub program: &'p Verified,
+    /// The bytes of its context, as many as the program was verified for.
+    pub context: &'p [u8],
+}
+
+// Whether a ring's size and start are within their bounds.
+fn is_ring(setup: RingSetup) -> bool
+    ensures { IsTrue result ↔ IsRingSetup setup }
+{
+    if !is_size(setup.size) {
+        return false;
+    }
+    is_start(setup.start)
+}
+
+// Whether each ring's are.
+fn are_rings(rings: &[RingSetup]) -> bool
+    ensures { IsTrue result ↔ AreRings rings.now }
+{
+    for setup in rings {
+        if !is_ring(*setup) {
+            return false;
+        }
+    }
+    true
+}
+
+// Whether all contexts have their program's length.
+fn have_contexts(workers: &[WorkerSetup<'_>]) -> bool
+    ensures { IsTrue result ↔ HaveContexts workers.now }
+{
+    for worker in workers {
+        if worker.context.len() as u64 != u64::from(worker.program.ctx_len()) {
+            return false;
+        }
+    }
+    true
+}
+
+// Whether so many rings are few enough, and enough for each program.
+fn have_rings(rings: usize, workers: &[WorkerSetup<'_>]) -> bool
+    ensures { IsTrue result ↔ HaveRings rings workers.now }
+{
+    if rings > 16 {
+        return false;
+    }
+    for worker in workers {
+        if worker.program.rings() as usize > rings {
+            return false;
+        }
+    }
+    true
+}
+
+// The first refusal that applies, never for memory.
+pub(crate) fn check_setups(
+    rings: &[RingSetup],
+    workers: &[WorkerSetup<'_>],
+) -> Result<(), WorldOpenFault>
+    ensures allowed { OnOk result (MayOpen rings.now workers.now) }
+    ensures refused { IfErr result (IsOpenRefusal rings.now workers.now) }
+{
+    if !are_rings(rings) {
+        return Err(WorldOpenFault::Ring);
+    }
+    if !have_contexts(workers) {
+        return Err(WorldOpenFault::ContextLength);
+    }
+    if !have_rings(rings.len(), workers) {
+        return Err(WorldOpenFault::Rings);
+    }
+    if workers.is_empty() {
+        return Err(WorldOpenFault::Workers);
+    }
+    if workers.len() > 256 {
+        return Err(WorldOpenFault::Workers);
+    }
+    Ok(())
+}
+
+// The rings, each for so many workers, of which nothing was taken.
+pub(crate) fn open_rings(
+    alloc: Global,
+    rings: &[RingSetup],
+    workers: u32,
+) -> Result<Vec<ConsumedRing>, AllocError>
+    requires setups { AreRings rings.now }
+    requires workers { IsWorkerCount workers }
+    ensures opened { IfOk result (λ opened. opened.items ≡ map (opened_ring workers) rings.now) }
+{
+    let mut opened = Vec::new(alloc);
+    for setup in rings {
+        let Ok(ring) = RingState::new(alloc, setup.size, setup.start, workers) else {
+            return Err(AllocError);
+        };
+        opened.push(ConsumedRing {
+            ring,
+            taken: Vec::new(alloc),
+        })?;
+    }
+    Ok(opened)
+}
+
+// A worker's machine, at its program's first instruction.
+fn start_machine<'p>(worker: WorkerSetup<'p>) -> Machine<'p, &'p [u8], WorldRecord>
+    requires length { length worker.context.now ≡ worker.program.now.ctx_len }
+    ensures started { IsStarted worker.entry result }
+{
+    worker.program.facts();
+    worker.program.program().facts();
+    match Machine::new(worker.program, worker.context) {
+        Ok(machine) => machine,
+        Err(_) => unreachable!(),
+    }
+}
+
+// The machines of the workers, each at its program's first instruction.
+pub(crate) fn start_machines<'p>(
+    alloc: Global,
+    workers: &[WorkerSetup<'p>],
+) -> Result<Vec<Machine<'p, &'p [u8], WorldRecord>>, AllocError>
+    requires contexts { HaveContexts workers.now }
+    ensures started { IfOk result (λ machines. AllZip IsStarted workers.now machines.items) }
+{
+    let mut machines = Vec::new(alloc);
+    for worker in workers {
+        machines.push(start_machine(*worker))?;
+    }
+    Ok(machines)
+}

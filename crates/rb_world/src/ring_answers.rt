@@ -1,0 +1,96 @@
+//! The answers of one ring to the calls of a program.
+
+ghost use Rattle.std.specs.Prelude.{◌<◌, ◌≡◌, negsuc, IfSome};
+ghost use Rattle.rb_history.specs.RingModel.{StandsFor};
+ghost use Rattle.rb_world.specs.inner.RingAnswers.{IsReserved, IsOutput};
+
+use rb_history::{Reservation, ReserveFault};
+use rb_lend::{Lent, Sheet};
+use rb_ring::RingState;
+use std::alloc::Global;
+
+// Reserves a record of `len` bytes for a worker: none where the flags are not 0, where there is no room, or where memory is
+// refused.
+pub(crate) fn reserve(
+    ring: &mut RingState,
+    alloc: Global,
+    worker: u32,
+    len: u32,
+    flags: u64,
+) -> Option<Reservation>
+    requires worker { worker < ring.old.setup.workers }
+    ensures reserved { IsReserved ring.old ring.new worker len flags result }
+    ensures same_ring { ring.new.setup ≡ ring.old.setup }
+{
+    if flags != 0 {
+        return None;
+    }
+    let Ok(sheet) = Sheet::new(alloc, len) else {
+        return None;
+    };
+    match ring.reserve(worker, len, sheet) {
+        Ok(reservation) => {
+            ring.facts();
+            Some(reservation)
+        }
+        Err((ReserveFault::Full, _)) => {
+            ring.facts();
+            None
+        }
+        Err(_) => None,
+    }
+}
+
+// Puts a copy of some bytes into the ring: -22 for flags above 3, -11 where no record could be made, else 0.
+pub(crate) fn output(
+    ring: &mut RingState,
+    alloc: Global,
+    worker: u32,
+    bytes: &[u8],
+    flags: u64,
+) -> i64
+    requires worker { worker < ring.old.setup.workers }
+    ensures given { IsOutput ring.old ring.new worker bytes.now flags result }
+    ensures same_ring { ring.new.setup ≡ ring.old.setup }
+{
+    if flags > 3 {
+        return -22;
+    }
+    let Some(sheet) = copy_of(alloc, bytes) else {
+        return -11;
+    };
+    match ring.output(worker, sheet, flags) {
+        Ok(_) => {
+            ring.facts();
+            return 0;
+        }
+        Err((fault, _)) => {
+            let code = refused(ring, fault);
+            return code;
+        }
+    }
+}
+
+// The code of an output that a ring refused.
+fn refused(ring: &RingState, fault: ReserveFault) -> i64
+    ensures code { result ≡ negsuc 10 }
+    ensures stands { StandsFor ring.now }
+{
+    let _ = fault;
+    ring.facts();
+    -11
+}
+
+// A sheet with a copy of these bytes; none for more than a sheet can have, and where memory is refused.
+fn copy_of(alloc: Global, bytes: &[u8]) -> Option<Sheet>
+    ensures { IfSome result (λ s. s ≡ bytes.now) }
+{
+    if bytes.len() > u32::MAX as usize {
+        return None;
+    }
+    let Ok(mut sheet) = Sheet::new(alloc, bytes.len() as u32) else {
+        return None;
+    };
+    sheet.bytes_mut().copy_from_slice(bytes);
+    Some(sheet)
+}

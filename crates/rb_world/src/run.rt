@@ -1,0 +1,53 @@
+//! Runs of a world: the turns of a list of actors.
+
+ghost use Rattle.std.specs.Prelude.{◌≡◌, All, IfOk, IfErr, OnOk, OnErr, length};
+ghost use Rattle.rb_world.specs.WorldRuns.{IsRefusedRun, IsRunOf};
+ghost use Rattle.rb_world.specs.WorldValue.{IsThere};
+
+use crate::turn_done::TurnDone;
+use crate::world::World;
+use crate::world_fault::WorldFault;
+use rb_interleavings::Actor;
+
+/// What the turns of a list of actors answered.
+#[derive(Drop)]
+pub struct Report {
+    /// The answer of each turn, in their order.
+    pub turns: Vec<TurnDone>,
+}
+
+// Whether all actors are there, or the place of the first that is not.
+fn check_actors(world: &World<'_>, actors: &[Actor]) -> Result<(), WorldFault>
+    ensures known { OnOk result (All (IsThere world.now) actors.now) }
+    ensures refused { IfErr result (IsRefusedRun world.now actors.now) }
+{
+    for (place, actor) in actors.iter().enumerate() {
+        if !world.has(*actor) {
+            return Err(WorldFault::UnknownActor(place));
+        }
+    }
+    Ok(())
+}
+
+impl<'p> World<'p> {
+    /// The turns of these actors, one after the other, and what each answered. Where an actor of the list is not there, or the
+    /// report finds no memory, no turn is made.
+    pub fn run(&mut self, actors: &[Actor]) -> Result<Report, WorldFault>
+        ensures ran { IfOk result (λ report. IsRunOf actors.now self.old report.turns.items self.new) }
+        ensures known { OnOk result (All (IsThere self.old) actors.now) }
+        ensures refused { IfErr result (IsRefusedRun self.old actors.now) }
+        ensures nothing_ran { OnErr result (self.new ≡ self.old) }
+        ensures workers { length self.new.machines ≡ length self.old.machines }
+        ensures rings { length self.new.rings ≡ length self.old.rings }
+    {
+        check_actors(self, actors)?;
+        let Ok(mut turns) = Vec::with_capacity(self.allocator(), actors.len()) else {
+            return Err(WorldFault::Memory);
+        };
+        for actor in actors {
+            let done = self.turn(*actor);
+            turns.push_reserved(done);
+        }
+        Ok(Report { turns })
+    }
+}

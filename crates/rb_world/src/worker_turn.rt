@@ -1,0 +1,58 @@
+//! One turn of a worker.
+
+ghost use Rattle.std.specs.Prelude.{◌≡◌, ◌<◌, ◌≤◌, length};
+ghost use Rattle.rb_world.specs.inner.WorkerTurn.{IsWorkerTurn};
+ghost use Rattle.rb_world.specs.inner.FittingWorlds.{AreOwn, AreBusy, AreOpenTo, setups_of};
+
+use crate::consumed_ring::ConsumedRing;
+use crate::turn_done::TurnDone;
+use crate::world_record::WorldRecord;
+use rb_interp::{Machine, Phase, Request, Step};
+use std::alloc::Global;
+
+// One turn of a worker: its next instruction, and where that is a call its answer.
+pub(crate) fn work(
+    machine: &mut Machine<'_, &[u8], WorldRecord>,
+    rings: &mut Vec<ConsumedRing>,
+    alloc: Global,
+    w: u32,
+) -> TurnDone
+    requires rings { AreOpenTo w (setups_of rings.old.items) }
+    requires program { machine.old.program.rings ≤ length rings.old.items }
+    requires own { AreOwn w (length rings.old.items) machine.old.records }
+    requires busy { AreBusy rings.old.items machine.old.records }
+    ensures turned { IsWorkerTurn w machine.old rings.old.items result machine.new rings.new.items }
+    ensures own { AreOwn w (length rings.new.items) machine.new.records }
+    ensures program { machine.new.program ≡ machine.old.program }
+    ensures rings { setups_of rings.new.items ≡ setups_of rings.old.items }
+{
+    match machine.phase() {
+        Phase::Ready => {}
+        _ => return TurnDone::Idle,
+    }
+    machine.facts();
+    match machine.step() {
+        Step::Went => TurnDone::Went,
+        Step::Exit(n) => TurnDone::Finished(n),
+        Step::Call(Request::Reserve { ring, len, flags }) => {
+            rings[ring as usize].answer_reserve(machine, alloc, w, ring, len, flags);
+            TurnDone::Went
+        }
+        Step::Call(Request::Output { ring, flags }) => {
+            rings[ring as usize].answer_output(machine, alloc, w, flags);
+            TurnDone::Went
+        }
+        Step::Call(Request::Query { ring, what }) => {
+            rings[ring as usize].answer_query(machine, what);
+            TurnDone::Went
+        }
+        Step::Call(Request::Submit { owned, flags }) => {
+            rings[owned.ring as usize].answer_submit(machine, owned, flags);
+            TurnDone::Went
+        }
+        Step::Call(Request::Discard { owned, flags }) => {
+            rings[owned.ring as usize].answer_discard(machine, owned, flags);
+            TurnDone::Went
+        }
+    }
+}

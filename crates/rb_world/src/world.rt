@@ -1,0 +1,170 @@
+//! A world of workers and rings.
+
+use crate::consumed_ring::ConsumedRing;
+use crate::opening::{RingSetup, WorkerSetup, check_setups, open_rings, start_machines};
+use crate::turn_done::TurnDone;
+use crate::worker_turn::work;
+use crate::world_fault::WorldOpenFault;
+use crate::world_record::WorldRecord;
+use rb_history::Taken;
+use rb_interleavings::Actor;
+use rb_interp::{Machine, Phase};
+use rb_ring::RingState;
+use std::alloc::Global;
+use std::marker::Model;
+
+/// A world of workers and rings: each worker has a machine that runs its program, and each ring a consumer. It goes on by
+/// turns, one actor at a time, in any order that the caller likes; nothing waits, and there is no thread and no lock.
+///
+/// Contracts see the machines, the rings with what was taken of them, and the world of the definitions that these show.
+#[derive(Drop)]
+pub struct World<'p> {
+    alloc: Global,
+    rings: Vec<ConsumedRing>,
+    machines: Vec<Machine<'p, &'p [u8], WorldRecord>>,
+}
+
+impl<'p> Model for World<'p> {
+    ghost use Rattle.rb_world.specs.WorldValue.{WorldValue};
+    ghost use Rattle.rb_world.specs.inner.FittingWorlds.{IsSoundWorld};
+    ghost use Rattle.std.specs.Coded.{codes};
+    ghost use Rattle.rb_history.specs.RingModel.{contents_code};
+    ghost use Rattle.rb_history.specs.contracts.entries.Entry as entry;
+
+    ghost Value = { WorldValue };
+
+    ghost coded = { Prim.hlevel (codes, contents_code, entry.the_row.coded) };
+
+    ghost view = { λ w. record { rings = w.rings.items; machines = w.machines.items } };
+
+    ghost invariant = { λ w. IsSoundWorld (record { rings = w.rings.items; machines = w.machines.items }) };
+}
+
+impl<'p> World<'p> {
+    ghost use Rattle.std.specs.Prelude.{◌≡◌, ◌<◌, ◌↔◌, IsTrue, OnOk, IfOk, IfErr, length};
+    ghost use Rattle.rb_interleavings.specs.declared.actor.Actor.TheVariants.{Worker, Consumer};
+    ghost use Rattle.rb_interleavings.specs.EveryInterleaving.{IsReachedWorld};
+    ghost use Rattle.rb_interleavings.specs.OpeningWorld.{IsOpeningWorld};
+    ghost use Rattle.rb_world.specs.OpenedWorlds.{IsOpenedWorld, IsOpenRefusal, MayOpen};
+    ghost use Rattle.rb_world.specs.WorldRuns.{next_unit};
+    ghost use Rattle.rb_world.specs.TurnsDone.{IsTurnOf};
+    ghost use Rattle.rb_world.specs.WorldValue.{IsThere, world_of};
+
+    /// A world with these rings, of which nothing was taken, and these workers, each at the first instruction of its program.
+    ///
+    /// A refusal is the first that applies; `Memory` is told only where no other applies.
+    pub fn new(
+        alloc: Global,
+        rings: &[RingSetup],
+        workers: &[WorkerSetup<'p>],
+    ) -> Result<World<'p>, WorldOpenFault>
+        ensures opened { IfOk result (IsOpenedWorld rings.now workers.now) }
+        ensures opening { IfOk result (λ w. IsOpeningWorld (world_of w)) }
+        ensures allowed { OnOk result (MayOpen rings.now workers.now) }
+        ensures refused { IfErr result (IsOpenRefusal rings.now workers.now) }
+    {
+        check_setups(rings, workers)?;
+        let Ok(opened) = open_rings(alloc, rings, workers.len() as u32) else {
+            return Err(WorldOpenFault::Memory);
+        };
+        let Ok(machines) = start_machines(alloc, workers) else {
+            return Err(WorldOpenFault::Memory);
+        };
+        Ok(World {
+            alloc,
+            rings: opened,
+            machines,
+        })
+    }
+
+    /// What every world is: it comes of the turns of some actors from an opening of verified programs, so that
+    /// `reached_worlds_are_well` speaks of it. For the proofs of callers; it does nothing.
+    pub fn facts(&self)
+        ensures { IsReachedWorld (world_of self.now) }
+    {
+        let _ = &self.alloc;
+    }
+
+    /// Whether the actor is there. In constant time.
+    pub fn has(&self, actor: Actor) -> bool
+        ensures { IsTrue result ↔ IsThere self.now actor }
+    {
+        match actor {
+            Actor::Worker(w) => (w as usize) < self.machines.len(),
+            Actor::Consumer(r) => (r as usize) < self.rings.len(),
+        }
+    }
+
+    /// All that was taken of a ring, in order: the events, with their bytes, and the records that were passed over.
+    pub fn taken(&self, r: u32) -> &[Taken]
+        requires ring { r < length self.now.rings }
+        ensures { result.now ≡ ((world_of self.now).rings r).taken }
+    {
+        self.rings[r as usize].taken.as_slice()
+    }
+
+    /// A ring, whose positions `query` tells, its counts `counts` and its history `history`.
+    pub fn ring(&self, r: u32) -> &RingState
+        requires ring { r < length self.now.rings }
+        ensures { result.now ≡ ((world_of self.now).rings r).ring }
+    {
+        &self.rings[r as usize].ring
+    }
+
+    /// The unit of a worker's next instruction, and none once the worker is finished.
+    pub fn at(&self, w: u32) -> Option<u32>
+        requires worker { w < length self.now.machines }
+        ensures { result ≡ next_unit ((world_of self.now).workers w) }
+    {
+        let machine = &self.machines[w as usize];
+        match machine.phase() {
+            Phase::Ready => Some(machine.unit()),
+            _ => None,
+        }
+    }
+
+    // The allocator that the world was opened with.
+    pub(crate) fn allocator(&self) -> Global {
+        self.alloc
+    }
+
+    // One take of the consumer of a ring.
+    fn turn_consumer(&mut self, r: u32) -> TurnDone
+        requires ring { r < length self.old.rings }
+        ensures turned { IsTurnOf (Consumer r) self.old result self.new }
+        ensures workers { length self.new.machines ≡ length self.old.machines }
+        ensures rings { length self.new.rings ≡ length self.old.rings }
+    {
+        self.rings[r as usize].consume()
+    }
+
+    // One turn of a worker: its next instruction, and where that is a call its answer.
+    fn turn_worker(&mut self, w: u32) -> TurnDone
+        requires worker { w < length self.old.machines }
+        ensures turned { IsTurnOf (Worker w) self.old result self.new }
+        ensures workers { length self.new.machines ≡ length self.old.machines }
+        ensures rings { length self.new.rings ≡ length self.old.rings }
+    {
+        self.machines[w as usize].record_facts();
+        work(
+            &mut self.machines[w as usize],
+            &mut self.rings,
+            self.alloc,
+            w,
+        )
+    }
+
+    /// One turn of an actor. A worker that is not finished executes one instruction, and a call is answered at once by its
+    /// ring; a consumer makes one take. It takes constant time, but for the bytes of a record and the growth of what is kept.
+    pub fn turn(&mut self, actor: Actor) -> TurnDone
+        requires there { IsThere self.old actor }
+        ensures turned { IsTurnOf actor self.old result self.new }
+        ensures workers { length self.new.machines ≡ length self.old.machines }
+        ensures rings { length self.new.rings ≡ length self.old.rings }
+    {
+        match actor {
+            Actor::Worker(w) => self.turn_worker(w),
+            Actor::Consumer(r) => self.turn_consumer(r),
+        }
+    }
+}

@@ -1,0 +1,34 @@
+//! Why a world is not opened or not run.
+
+use thiserror::Error;
+
+/// Why a world can't be opened: the first of these that applies, in this order.
+#[derive(Clone, Copy, Debug, Error, PartialEq, Eq)]
+pub enum WorldOpenFault {
+    /// A ring's size is no power of two from 4,096 to 67,108,864, or its start no multiple of 8 up to 2^61.
+    #[error("a ring's size or start is out of bounds")]
+    Ring,
+    /// A worker's context has another length than the one that its program was verified for.
+    #[error("a context has another length than its program was verified for")]
+    ContextLength,
+    /// There are more than 16 rings, or fewer than a program was verified for.
+    #[error("there are more than 16 rings, or fewer than a program was verified for")]
+    Rings,
+    /// The number of workers is not 1 to 256.
+    #[error("the number of workers is not 1 to 256")]
+    Workers,
+    /// A growth was refused: there is no memory for the world.
+    #[error("out of memory")]
+    Memory,
+}
+
+/// Why a world is not run. Nothing changed.
+#[derive(Clone, Copy, Debug, Error, PartialEq, Eq)]
+pub enum WorldFault {
+    /// The actor at this place of the list, the first of them counted from 0, is not there.
+    #[error("actor {0} of the list is unknown")]
+    UnknownActor(usize),
+    /// A growth was refused: there is no memory for the report.
+    #[error("out of memory")]
+    Memory,
+}

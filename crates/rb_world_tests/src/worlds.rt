@@ -1,0 +1,89 @@
+//! Programs and worlds for the tests.
+
+use rb_cfg::shape;
+use rb_decode::from_text;
+use rb_history::{Counts, Taken};
+use rb_lend::Lent;
+use rb_verifier::{Verified, verify};
+use rb_world::{Actor, RingSetup, TurnDone, WorkerSetup, World};
+use std::alloc::Global;
+use std::process::Abort;
+
+/// Reserves a record of eight bytes, and submits 42 where it was granted.
+pub const SUBMIT_42: &str = "1851000000000000 0000000000000000 b702000008000000 b703000000000000
+    8500000083000000 1500040000000000 7a0000002a000000 bf01000000000000
+    b702000000000000 8500000084000000 b700000000000000 9500000000000000";
+
+/// The same with a record of 4,000 bytes, of which a ring of 4,096 bytes has room for one.
+pub const SUBMIT_WIDE_42: &str =
+    "1851000000000000 0000000000000000 b7020000a00f0000 b703000000000000
+    8500000083000000 1500040000000000 7a0000002a000000 bf01000000000000
+    b702000000000000 8500000084000000 b700000000000000 9500000000000000";
+
+/// Reserves a record of eight bytes, and discards it where it was granted.
+pub const DISCARD_42: &str = "1851000000000000 0000000000000000 b702000008000000 b703000000000000
+    8500000083000000 1500040000000000 7a0000002a000000 bf01000000000000
+    b702000000000000 8500000085000000 b700000000000000 9500000000000000";
+
+/// A program, verified for a context of so many bytes and so many rings.
+pub fn verified(rt: &impl Abort, alloc: Global, text: &str, context: u32, rings: u32) -> Verified {
+    if context > 65_536 || rings > 16 {
+        rt.panic("out of bounds")
+    }
+    let program = from_text(alloc, text).expect(rt, "a program");
+    let shape = shape(alloc, program).expect(rt, "a shape");
+    verify(alloc, shape, context, rings).expect(rt, "a verified program")
+}
+
+/// A world with one ring of 4,096 bytes from 0.
+pub fn opened<'p>(rt: &impl Abort, alloc: Global, workers: &[WorkerSetup<'p>]) -> World<'p> {
+    let ring = RingSetup {
+        size: 4096,
+        start: 0,
+    };
+    World::new(alloc, [ring].as_slice(), workers).expect(rt, "a world")
+}
+
+/// One turn, of an actor that is there.
+pub fn turn(rt: &impl Abort, world: &mut World<'_>, actor: Actor) -> TurnDone {
+    if !world.has(actor) {
+        rt.panic("no such actor")
+    }
+    world.turn(actor)
+}
+
+/// Turns of one actor, and what the last one did.
+pub fn turns(rt: &impl Abort, world: &mut World<'_>, actor: Actor, count: u32) -> TurnDone {
+    let mut done = TurnDone::Idle;
+    for _ in 0..count {
+        done = turn(rt, world, actor);
+    }
+    done
+}
+
+/// The positions of ring 0, the producer's first, and its counts.
+pub fn ring_0(rt: &impl Abort, world: &World<'_>) -> (u64, u64, Counts) {
+    if !world.has(Actor::Consumer(0)) {
+        rt.panic("no ring")
+    }
+    let ring = world.ring(0);
+    (ring.query(3), ring.query(2), ring.counts())
+}
+
+/// Whether what was taken of ring 0 at this place is this event.
+pub fn is_event(
+    rt: &impl Abort,
+    world: &World<'_>,
+    place: usize,
+    event: (u64, u32, u64, &[u8]),
+) -> bool {
+    if !world.has(Actor::Consumer(0)) {
+        rt.panic("no ring")
+    }
+    match world.taken(0).get(place) {
+        Some(Taken::Event(pos, worker, serial, sheet)) => {
+            (*pos, *worker, *serial) == (event.0, event.1, event.2) && sheet.bytes() == event.3
+        }
+        _ => false,
+    }
+}
