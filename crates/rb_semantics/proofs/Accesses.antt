@@ -1,9 +1,10 @@
 -- Loads and stores are sound.
-use Rattle.std.proofs.Common.{◌≡◌, ℕ, ◌+◌, ◌≤◌, ℤ, ◌+ℤ◌, Bool, true, false, List, [], ◌++◌, Option, Some, None, option_and_then, length, take, drop, find, sym, ap, subst, ◌∙◌, refl, arith, Result, Ok, Err}
-use Rattle.std.specs.Prelude.{not, nat_le, if◌then◌else◌}
+use Rattle.std.proofs.Common.{◌≡◌, ℕ, zero, suc, ◌+◌, ◌*◌, ◌<◌, ◌≤◌, ℤ, ◌+ℤ◌, Bool, true, false, List, [], ◌∷◌, Option, Some, None, option_and_then, option_map, length, take, drop, replicate, find, sym, ap, subst, ◌∙◌, refl, arith, eq-eqb, eqb-true, ⊎_elim, ◌⊎◌, inl, inr, Result, Ok, Err}
+use Rattle.std.specs.Prelude.{not, nat_le, ◌/◌, ◌%◌, ◌==◌, ◌&&◌, ◌||◌, if◌then◌else◌}
+use Rattle.std.proofs.lemmas.Bool.{cases_lt}
 use Rattle.std.proofs.lemmas.Bool.Decides.{nat_tests}
 use Rattle.std.proofs.lemmas.Grind.{common_steps}
-use Rattle.byteorder.specs.Endian.{little_bytes}
+use Rattle.byteorder.specs.Endian.{little_number, little_bytes}
 use Rattle.rb_insn.specs.declared.insn.Insn.{Insn}
 use Rattle.rb_insn.specs.declared.insn.Size.{Size}
 use Rattle.rb_insn.specs.declared.insn.Size.TheVariants.{Byte, Half, Word, Double}
@@ -17,59 +18,51 @@ use Rattle.rb_refs.specs.declared.state.AbsState.{AbsState}
 use Rattle.rb_refs.specs.declared.state.Effect as refs
 use Rattle.rb_refs.specs.declared.value.Abs.{Abs}
 use Rattle.rb_refs.specs.declared.value.Abs.TheVariants as abs
-use Rattle.rb_refs.specs.ValueChecks.{◌>>=◌, check_writable, check_tested, check_not_context, check_inside, check_number}
+use Rattle.rb_refs.specs.ValueChecks.{◌>>=◌, check_writable, check_readable, check_tested, check_not_context, check_inside, check_number}
 use Rattle.rb_refs.specs.Extents.{reaches, record_contains, contains_range, stack_extent, extent_from_zero}
 use Rattle.rb_insn.specs.Sizes.{byte_count}
 use Rattle.rb_refs.specs.References.{has_id}
-use Rattle.rb_refs.specs.AbstractValues.{IsNumber, BelowValue}
-use Rattle.rb_refs.specs.StackPlaces.{touches, whole_place}
-use Rattle.rb_refs.specs.KeptPointers.{KnownPlaces, listed_places, known_in, byte_behind, with_data, check_data, check_filled, check_loaded, check_stored}
+use Rattle.rb_refs.specs.AbstractValues.{IsNumber}
+use Rattle.rb_refs.specs.StackPlaces.{stack_byte, place_from, touches, any_place, whole_place}
+use Rattle.rb_refs.specs.KeptPointers.{KnownPlaces, listed_places, known_in, is_data, may_keep, byte_behind, with_place, with_data, check_data, check_filled, check_loaded, check_kept, check_stored}
 use Rattle.rb_refs.specs.AbstractStates.{value_in, effect_on_both}
 use Rattle.rb_refs.specs.VerifierChecks as table
 use Rattle.rb_verifier.specs.Subject.{Subject, limits_of}
 use Rattle.rb_semantics.specs.declared.value.MemoryRegion.{MemoryRegion}
 use Rattle.rb_semantics.specs.declared.value.MemoryRegion.TheVariants.{Stack, Context, Record}
 use Rattle.rb_semantics.specs.declared.value.Value.{Value}
-use Rattle.rb_semantics.specs.declared.value.Value.TheVariants.{Number, Pointer}
-use Rattle.rb_semantics.specs.StackPointers.{pointer_at, pointers_beside, spill_of}
-use Rattle.rb_semantics.specs.ProgramMemory.{Memory, record_named, byte_of, part_bytes, part_pointers, with_bytes, with_part, write, place_at}
-use Rattle.rb_semantics.specs.ProgramStates.{State, register, pointed, memory_written, fill_of}
+use Rattle.rb_semantics.specs.declared.value.Value.TheVariants.{Nothing, Number, Pointer, Ring}
+use Rattle.rb_semantics.specs.StackPointers.{StackPointers, pointer_at, is_pointer_among, pointers_beside, spill_of}
+use Rattle.rb_semantics.specs.ProgramMemory.{Memory, record_named, byte_of, part_bytes, part_pointers, with_bytes, with_part, with_pointer, write, place_at}
+use Rattle.rb_semantics.specs.ProgramStates.{State, register, pointed, memory_written, memory_with_spill, fill_of}
 use Rattle.rb_semantics.specs.Instructions.{StepEffect}
 use Rattle.rb_semantics.specs.Instructions as meaning
-use Rattle.rb_semantics.specs.Agreement.{AgreesValue, AreHeld, IsTested, HasReference, Agrees}
+use Rattle.rb_semantics.specs.Agreement.{reserved_value, AgreesValue, AreHeld, IsTested, HasReference, IsBoundedValue, IsKeptPointer, AgreesPlaces, Agrees, loaded_value, value_at}
 use Rattle.rb_semantics.specs.Soundness.{CanStep}
 use Rattle.rb_semantics.proofs.Records.{length-with_bytes}
 use Rattle.rb_semantics.proofs.Held.{held_found}
-use Rattle.rb_semantics.proofs.Values.{number_value, value_below, tied_below}
-use Rattle.rb_semantics.proofs.Changes.{plain_listed, agrees_placed, agrees_stack, agrees_written}
-use Rattle.rb_semantics.proofs.Checks.{passed, number_passed, IsRange, from_zero, in_stack}
+use Rattle.rb_semantics.proofs.Values.{number_value}
+use Rattle.rb_semantics.proofs.Ids.{eq_cases}
+use Rattle.rb_semantics.proofs.Places.{over, other_touched, stack_written, stack_spilled, places_data, places_spilled, places_number}
+use Rattle.rb_semantics.proofs.Changes.{agrees_stack, agrees_written}
+use Rattle.rb_semantics.proofs.Checks.{passed, number_passed, readable_passed, IsRange, from_zero, in_stack}
 use Rattle.rb_semantics.proofs.Rows.{past, known, Follows, Sound, gives_sound, goes_next}
 
--- the bytes of a part that keeps no pointer, in which a range lies
+-- the bytes of a part, in which a range lies
 pub record IsInside (m : Memory) (place : MemoryRegion) (z : ℤ) (len : ℕ) : Type 0 where
   pub bytes : List ℕ
   pub there : part_bytes m place ≡ Some bytes
-  pub plain : part_pointers m place ≡ []
   pub range : IsRange (byte_of place z) len (length bytes)
-
--- where a value points into a part
-pub record IsReached (m : Memory) (v : Value) (by : ℤ) (len : ℕ) : Type 0 where
-  pub place : MemoryRegion
-  pub offset : ℤ
-  pub points : v ≡ Pointer place offset
-  pub inside : IsInside m place (offset +ℤ by) len
 
 fits : (at len : ℕ) (bytes : List ℕ) → at + len ≤ length bytes → nat_le (at + len) (length bytes) ≡ true
 fits at len bytes h = grind (arith, nat_tests)
 
--- a range that lies inside is read
-pub reached_read : (m : Memory) (v : Value) (by : ℤ) (len : ℕ) → IsReached m v by len → (b : List ℕ) × (pointed m v by len ≡ Some b)
-reached_read m v by len r =
-    let i = r.inside in
-    let at = i.range.at in
-    (take len (drop at i.bytes), rw (r.points, i.there, i.plain, i.range.byte_at, fits at len i.bytes i.range.fits) refl)
+-- a range that lies inside is read, where none of its bytes is a pointer's
+read_there : (m : Memory) (place : MemoryRegion) (offset by : ℤ) (len : ℕ) (v : Value) → v ≡ Pointer place offset → (i : IsInside m place (offset +ℤ by) len) → is_pointer_among i.range.at len (part_pointers m place) ≡ false
+    → pointed m v by len ≡ Some (take len (drop i.range.at i.bytes))
+read_there m place offset by len v points i plain = rw (points, i.there, i.range.byte_at, plain, fits i.range.at len i.bytes i.range.fits) refl
 
-pub length-over : (at : ℕ) (new old : List ℕ) → at + length new ≤ length old → length (take at old ++ (new ++ drop (length new) (drop at old))) ≡ length old
+pub length-over : (at : ℕ) (new old : List ℕ) → at + length new ≤ length old → length (over at new old) ≡ length old
 length-over at new old h = grind (arith, common_steps)
 
 -- the number of bytes that a store writes
@@ -79,57 +72,233 @@ length-stored Half n = refl
 length-stored Word n = refl
 length-stored Double n = refl
 
+size_some : (size : Size) → 0 < byte_count size
+size_some Byte = omega arith
+size_some Half = omega arith
+size_some Word = omega arith
+size_some Double = omega arith
+
 record_reached : (held : List Reference) (rs : List (ℕ × List ℕ)) (id : ℕ) (z : ℤ) (len : ℕ) (found : Option Reference) → find (has_id id) held ≡ found → record_contains found z len ≡ true → IsTested true found → AreHeld held rs
     → (b : List ℕ) × (record_named id rs ≡ Some b) × (contains_range (extent_from_zero (length b)) z len ≡ true)
 record_reached held rs id z len None f h t k = absurd t
 record_reached held rs id z len (Some q) f h t k =
     let b = held_found id held rs q f t k in (b.0, b.1, subst (λ n. contains_range (extent_from_zero n) z len ≡ true) (sym b.2) h)
 
+-- ---- which bytes are data
+
+any_false : (test : ℕ → Bool) (n place : ℕ) → any_place test n ≡ false → place < n → test place ≡ false
+any_false test zero place e lt = absurd (omega arith)
+any_false test (suc n) place e lt = by_test (test n) refl (λ e below. any_false test n place e below) e
+  where
+    by_test : (b : Bool) → test n ≡ b → (any_place test n ≡ false → place < n → test place ≡ false) → (b || any_place test n) ≡ false → test place ≡ false
+    by_test true h rest e = absurd (cc)
+    by_test false h rest e = ⊎_elim (λ below. rest e below) (λ ge. let same : place ≡ n = omega arith in ap test same ∙ h) (cases_lt place n)
+
+not_false : (b : Bool) → not b ≡ false → b ≡ true
+not_false true e = refl
+not_false false e = absurd (cc)
+
+data_number : (x : Abs) → is_data x ≡ true → IsNumber x
+data_number abs.Number e = tt
+data_number (abs.Known n) e = tt
+data_number abs.Unreadable e = absurd (cc)
+data_number (abs.Ctx o) e = absurd (cc)
+data_number (abs.Stack o) e = absurd (cc)
+data_number (abs.Ring n) e = absurd (cc)
+data_number (abs.Perhaps n) e = absurd (cc)
+data_number (abs.Record n o) e = absurd (cc)
+
+-- a pointer that a place keeps is no number
+kept_apart : (rings : ℕ) (v : Value) → IsKeptPointer rings v → (n : ℕ) × (v ≡ Number n) → ⊥
+kept_apart rings Nothing k n = k
+kept_apart rings (Number m) k n = k
+kept_apart rings (Pointer part o) k n = let e : Pointer part o ≡ Number n.0 = n.1 in cc
+kept_apart rings (Ring ring) k n = let e : Ring ring ≡ Number n.0 = n.1 in cc
+
+-- a place that has data keeps none
+kept_none : (rings : ℕ) (rs : List (ℕ × List ℕ)) (x : Abs) (o : Option Value) (bytes : List ℕ) → is_data x ≡ true → AgreesValue rs x (loaded_value o bytes) → ((v : Value) → o ≡ Some v → IsKeptPointer rings v) → o ≡ None
+kept_none rings rs x None bytes d h k = refl
+kept_none rings rs x (Some v) bytes d h k = absurd (kept_apart rings v (k v refl) (number_value rs x v (data_number x d) h))
+
+among_none : (at len : ℕ) (pointers : StackPointers) → ((place : ℕ) → touches at len place ≡ true → pointer_at place pointers ≡ None) → is_pointer_among at len pointers ≡ false
+among_none at len [] h = refl
+among_none at len (p ∷ pointers) h = by_test (touches at len p.0) refl (λ k. among_none at len pointers k)
+  where
+    none_here : pointer_at p.0 (p ∷ pointers) ≡ None → ⊥
+    none_here e = let f = rw (eq-eqb p.0 p.0 refl) at e in cc
+
+    rest : (place : ℕ) → touches at len place ≡ true → pointer_at place pointers ≡ None
+    rest place t = elim (eq_cases p.0 place) [ inl k ↦ absurd (let f = rw k.0 at (h place t) in cc) | inr k ↦ rw k.0 at (h place t) ]
+
+    by_test : (b : Bool) → touches at len p.0 ≡ b → (((place : ℕ) → touches at len place ≡ true → pointer_at place pointers ≡ None) → is_pointer_among at len pointers ≡ false) → (b || is_pointer_among at len pointers) ≡ false
+    by_test true e later = absurd (none_here (h p.0 e))
+    by_test false e later = later rest
+
+near_place : (at len place : ℕ) → touches at len place ≡ true → at + len ≤ 512 → place < 64
+near_place at len place t le = grind (arith, nat_tests)
+
+inside_bytes : (at len place : ℕ) → touches at len place ≡ true → place < at + len
+inside_bytes at len place t = grind (arith, nat_tests)
+
+-- the place that begins at a byte
+begins_at : (at place : ℕ) → place_from at ≡ Some place → at ≡ 8 * place
+begins_at at place e = by_rest (at % 8 == 0) refl e
+  where
+    by_rest : (b : Bool) → (at % 8 == 0) ≡ b → (if b then Some (at / 8) else None) ≡ Some place → at ≡ 8 * place
+    by_rest true h e = let rest : at % 8 ≡ 0 = eqb-true _ _ h in let same : at / 8 ≡ place = cc in omega arith
+    by_rest false h e = absurd (cc)
+
+whole_begins : (at len place : ℕ) → whole_place at len ≡ Some place → (len ≡ 8) × (place_from at ≡ Some place)
+whole_begins at len place e = by_length (len == 8) refl e
+  where
+    by_length : (b : Bool) → (len == 8) ≡ b → (if b then place_from at else None) ≡ Some place → (len ≡ 8) × (place_from at ≡ Some place)
+    by_length true h e = (eqb-true _ _ h, e)
+    by_length false h e = absurd (cc)
+
+kept_bounded : (rings : ℕ) (v : Value) → IsKeptPointer rings v → IsBoundedValue rings v
+kept_bounded rings Nothing k = tt
+kept_bounded rings (Number n) k = tt
+kept_bounded rings (Pointer part o) k = k
+kept_bounded rings (Ring ring) k = k
+
 module _ (subject : Subject) (a : AbsState) (s : State) (g : Agrees subject a s) where
   record_inside : (id : ℕ) (z : ℤ) (len : ℕ) → record_contains (find (has_id id) a.held) z len ≡ true → HasReference a.held (abs.Record id z) → IsInside s.memory (Record id) z len
   record_inside id z len h t =
       let b = record_reached a.held s.memory.records id z len (find (has_id id) a.held) refl h t g.records in
-      record { bytes = b.0; there = b.1; plain = refl; range = from_zero z len (length b.0) b.2 }
+      record { bytes = b.0; there = b.1; range = from_zero z len (length b.0) b.2 }
 
-  stack_inside : (z : ℤ) (len : ℕ) → contains_range stack_extent z len ≡ true → IsInside s.memory Stack z len
-  stack_inside z len h = record { bytes = s.memory.stack; there = refl; plain = g.pointers; range = subst (IsRange _ len) (sym g.stack) (in_stack z len h) }
+  context_inside : (z : ℤ) (len : ℕ) → contains_range (extent_from_zero subject.ctx_len) z len ≡ true → IsInside s.memory Context z len
+  context_inside z len h = record { bytes = s.memory.context; there = refl; range = from_zero z len (length s.memory.context) (subst (λ n. contains_range (extent_from_zero n) z len ≡ true) (sym g.context) h) }
 
-  -- a value that reaches into a part points there
-  pub value_reached : (x : Abs) (v : Value) (by : ℤ) (len : ℕ) → reaches (limits_of subject) a.held x by len ≡ true → AgreesValue s.memory.records x v → HasReference a.held x → IsReached s.memory v by len
-  value_reached (abs.Ctx o) v by len h k t =
-      record { place = Context; offset = o; points = k; inside = record { bytes = s.memory.context; there = refl; plain = refl; range = from_zero (o +ℤ by) len (length s.memory.context) (subst (λ n. contains_range (extent_from_zero n) (o +ℤ by) len ≡ true) (sym g.context) h) } }
-  value_reached (abs.Stack o) v by len h k t = record { place = Stack; offset = o; points = k; inside = stack_inside (o +ℤ by) len h }
-  value_reached (abs.Record id o) v by len h k t = record { place = Record id; offset = o; points = k; inside = record_inside id (o +ℤ by) len h t }
-  value_reached abs.Unreadable v by len h k t = absurd (cc)
-  value_reached abs.Number v by len h k t = absurd (cc)
-  value_reached (abs.Known n) v by len h k t = absurd (cc)
-  value_reached (abs.Ring n) v by len h k t = absurd (cc)
-  value_reached (abs.Perhaps n) v by len h k t = absurd (cc)
+  -- the range of the stack that a check lets through
+  stack_range : (z : ℤ) (len : ℕ) → contains_range stack_extent z len ≡ true → IsRange (stack_byte z) len (length s.memory.stack)
+  stack_range z len h = subst (IsRange (stack_byte z) len) (sym g.stack) (in_stack z len h)
 
-  -- the memory after a write that was lawful
-  pub record IsWritten (v : Value) (by : ℤ) (new : List ℕ) : Type 0 where
+  abbrev stack_inside : (z : ℤ) (len : ℕ) → IsRange (stack_byte z) len (length s.memory.stack) → IsInside s.memory Stack z len
+  stack_inside z len r = record { bytes = s.memory.stack; there = refl; range = r }
+
+  ends_inside : (at len : ℕ) → at + len ≤ length s.memory.stack → at + len ≤ 512
+  ends_inside at len h = let long : length s.memory.stack ≡ 512 = g.stack in omega arith
+
+  -- bytes that are known to be data are no pointer's
+  data_plain : (at len : ℕ) → at + len ≤ length s.memory.stack → may_keep at len (known_in a.places) ≡ false → is_pointer_among at len s.memory.pointers ≡ false
+  data_plain at len le e =
+      among_none at len s.memory.pointers (λ place t.
+      let lt : place < 64 = near_place at len place t (ends_inside at len le) in
+      let no : (touches at len place && not (is_data (known_in a.places place))) ≡ false = any_false (λ place. touches at len place && not (is_data (known_in a.places place))) (at + len) place e (inside_bytes at len place t) in
+      let number : is_data (known_in a.places place) ≡ true = not_false _ (rw t at no) in
+      kept_none subject.rings s.memory.records (known_in a.places place) (pointer_at place s.memory.pointers) (take 8 (drop (8 * place) s.memory.stack)) number (g.places.values place lt) (g.places.pointers place))
+
+  -- a place without a pointer has none among its bytes
+  place_plain : (place : ℕ) → pointer_at place s.memory.pointers ≡ None → is_pointer_among (8 * place) 8 s.memory.pointers ≡ false
+  place_plain place e =
+      among_none (8 * place) 8 s.memory.pointers (λ other t. elim (eq_cases other place) [
+        | inl k ↦ ap (λ p. pointer_at p s.memory.pointers) k.1 ∙ e
+        | inr k ↦ absurd (let f = other_touched place other k.1 in cc)
+      ])
+
+  -- data that a value reaches is read
+  pub value_read : (x : Abs) (v : Value) (by : ℤ) (len : ℕ) (unit : Unit {0}) → reaches (limits_of subject) a.held x by len ≡ true → AgreesValue s.memory.records x v → HasReference a.held x → check_data (byte_behind x by) len (known_in a.places) ≡ Ok unit → (b : List ℕ) × (pointed s.memory v by len ≡ Some b)
+  value_read (abs.Ctx o) v by len unit h k t d = (_, read_there s.memory Context o by len v k (context_inside (o +ℤ by) len h) refl)
+  value_read (abs.Record id o) v by len unit h k t d = (_, read_there s.memory (Record id) o by len v k (record_inside id (o +ℤ by) len h t) refl)
+  value_read (abs.Stack o) v by len unit h k t d =
+      let r = stack_range (o +ℤ by) len h in
+      let none : may_keep r.at len (known_in a.places) ≡ false = passed _ rule.Unreadable unit (rw r.byte_at at d) in
+      (_, read_there s.memory Stack o by len v k (stack_inside (o +ℤ by) len r) (data_plain r.at len r.fits none))
+  value_read abs.Unreadable v by len unit h k t d = absurd (cc)
+  value_read abs.Number v by len unit h k t d = absurd (cc)
+  value_read (abs.Known n) v by len unit h k t d = absurd (cc)
+  value_read (abs.Ring n) v by len unit h k t d = absurd (cc)
+  value_read (abs.Perhaps n) v by len unit h k t d = absurd (cc)
+
+  -- ---- a load of a whole place
+
+  abbrev Filled : Value → ℤ → Insn → Reg → StepEffect
+  Filled v by insn dst = meaning.execute_fill insn dst (little_number 8) (fill_of Double s.memory v by) (pointed s.memory v by 8) s
+
+  pub record IsFilled (v : Value) (by : ℤ) (y : Abs) : Type 0 where
+    pub value : Value
+    pub agrees : AgreesValue s.memory.records y value
+    pub tied : HasReference a.held y
+    pub bounded : IsBoundedValue subject.rings value
+    pub gives : (insn : Insn) (dst : Reg) → Filled v by insn dst ≡ meaning.gives insn dst value s
+
+  -- no pointer is found, and data is read
+  data_filled : (x : Abs) (v : Value) (by : ℤ) (y : Abs) → fill_of Double s.memory v by ≡ None → reaches (limits_of subject) a.held x by 8 ≡ true → AgreesValue s.memory.records x v → HasReference a.held x
+      → (m : Result (Unit {0}) Rule) → check_data (byte_behind x by) 8 (known_in a.places) ≡ m → m >>= (λ _. Ok abs.Number) ≡ Ok y → IsFilled v by y
+  data_filled x v by y none h k t (Ok unit) d e =
+      let b = value_read x v by 8 unit h k t d in
+      let same : abs.Number ≡ y = cc in
+      subst (IsFilled v by) same (record { value = Number (little_number 8 b.0); agrees = (_, refl); tied = tt; bounded = tt; gives = λ insn dst. rw (none, b.1) refl })
+  data_filled x v by y none h k t (Err broken) d e = absurd (cc)
+
+  place_filled : (o by : ℤ) (v : Value) (place : ℕ) (y : Abs) → v ≡ Pointer Stack o → (r : IsRange (stack_byte (o +ℤ by)) 8 (length s.memory.stack)) → place_from r.at ≡ Some place → known_in a.places place ≡ y → IsFilled v by y
+  place_filled o by v place y k r f e =
+      subst (IsFilled v by) e (record {
+        value = value_at place s.memory;
+        agrees = g.places.values place inside;
+        tied = g.places.tied place inside;
+        bounded = bound (pointer_at place s.memory.pointers) refl;
+        gives = λ insn dst. given insn dst (pointer_at place s.memory.pointers) refl;
+      })
+    where
+      at_place : r.at ≡ 8 * place
+      at_place = begins_at r.at place f
+
+      inside : place < 64
+      inside = let le : r.at + 8 ≤ 512 = ends_inside r.at 8 r.fits in let e : r.at ≡ 8 * place = at_place in omega arith
+
+      bytes : List ℕ
+      bytes = take 8 (drop (8 * place) s.memory.stack)
+
+      bound : (p : Option Value) → pointer_at place s.memory.pointers ≡ p → IsBoundedValue subject.rings (loaded_value p bytes)
+      bound None q = tt
+      bound (Some w) q = kept_bounded subject.rings w (g.places.pointers place w q)
+
+      found : fill_of Double s.memory v by ≡ pointer_at place s.memory.pointers
+      found = rw (k, r.byte_at, f) refl
+
+      given : (insn : Insn) (dst : Reg) (p : Option Value) → pointer_at place s.memory.pointers ≡ p → Filled v by insn dst ≡ meaning.gives insn dst (loaded_value p bytes) s
+      given insn dst (Some w) q = rw (found ∙ q) refl
+      given insn dst None q =
+          let plain : is_pointer_among r.at 8 s.memory.pointers ≡ false = subst (λ n. is_pointer_among n 8 s.memory.pointers ≡ false) (sym at_place) (place_plain place q) in
+          let b : pointed s.memory v by 8 ≡ Some (take 8 (drop r.at s.memory.stack)) = read_there s.memory Stack o by 8 v k (stack_inside (o +ℤ by) 8 r) plain in
+          rw (found ∙ q, b) (ap (λ n. meaning.gives insn dst (Number (little_number 8 (take 8 (drop n s.memory.stack)))) s) at_place)
+
+  pub value_filled : (x : Abs) (v : Value) (by : ℤ) (y : Abs) → reaches (limits_of subject) a.held x by 8 ≡ true → AgreesValue s.memory.records x v → HasReference a.held x → check_loaded (byte_behind x by) 8 (known_in a.places) ≡ Ok y → IsFilled v by y
+  value_filled (abs.Ctx o) v by y h k t e = data_filled (abs.Ctx o) v by y (rw k refl) h k t (Ok tt) refl e
+  value_filled (abs.Record id o) v by y h k t e = data_filled (abs.Record id o) v by y (rw k refl) h k t (Ok tt) refl e
+  value_filled (abs.Stack o) v by y h k t e = of_place (place_from r.at) refl (rw r.byte_at at e)
+    where
+      r : IsRange (stack_byte (o +ℤ by)) 8 (length s.memory.stack)
+      r = stack_range (o +ℤ by) 8 h
+
+      of_place : (p : Option ℕ) → place_from r.at ≡ p → check_filled p r.at 8 (known_in a.places) ≡ Ok y → IsFilled v by y
+      of_place (Some place) f e = let same : known_in a.places place ≡ y = cc in place_filled o by v place y k r f same
+      of_place None f e =
+          let none : fill_of Double s.memory v by ≡ None = rw (k, r.byte_at, f) refl in
+          data_filled (abs.Stack o) v by y none h k t (check_data (Some r.at) 8 (known_in a.places)) (ap (λ byte. check_data byte 8 (known_in a.places)) r.byte_at) e
+  value_filled abs.Unreadable v by y h k t e = absurd (cc)
+  value_filled abs.Number v by y h k t e = absurd (cc)
+  value_filled (abs.Known n) v by y h k t e = absurd (cc)
+  value_filled (abs.Ring n) v by y h k t e = absurd (cc)
+  value_filled (abs.Perhaps n) v by y h k t e = absurd (cc)
+
+  -- ---- stores
+
+  -- the memory after a store that was lawful, and what it leaves of the places
+  pub record IsStored (o : Option Memory) (places : List Abs) : Type 0 where
     pub memory : Memory
-    pub is : memory_written s.memory v by new ≡ Some memory
+    pub is : o ≡ Some memory
     pub held : length memory.records ≡ length s.memory.records
-    pub agrees : Agrees subject a (record s { memory = memory })
+    pub agrees : Agrees subject (record a { places = places }) (record s { memory = memory })
 
-  write_is : (place : MemoryRegion) (z : ℤ) (new : List ℕ) (i : IsInside s.memory place z (length new)) → write s.memory place z new ≡ with_part s.memory place i.range.at (length new) (take i.range.at i.bytes ++ (new ++ drop (length new) (drop i.range.at i.bytes)))
+  write_is : (place : MemoryRegion) (z : ℤ) (new : List ℕ) (i : IsInside s.memory place z (length new)) → write s.memory place z new ≡ with_part s.memory place i.range.at (length new) (over i.range.at new i.bytes)
   write_is place z new i = rw (i.there, i.range.byte_at, fits i.range.at (length new) i.bytes i.range.fits) refl
 
-  stack_written : (o by : ℤ) (v : Value) (new : List ℕ) → v ≡ Pointer Stack o → IsInside s.memory Stack (o +ℤ by) (length new) → IsWritten v by new
-  stack_written o by v new points i =
-      let b = take i.range.at i.bytes ++ (new ++ drop (length new) (drop i.range.at i.bytes)) in
-      let same : s.memory.stack ≡ i.bytes = (let e : Some s.memory.stack ≡ Some i.bytes = i.there in cc) in
-      record {
-        memory = record s.memory { stack = b; pointers = pointers_beside i.range.at (length new) s.memory.pointers };
-        is = ap (λ v. memory_written s.memory v by new) points ∙ write_is Stack (o +ℤ by) new i;
-        held = refl;
-        agrees = agrees_stack subject a s i.range.at (length new) b (length-over i.range.at new i.bytes i.range.fits ∙ ap length (sym same)) g;
-      }
-
-  record_written : (id : ℕ) (o by : ℤ) (v : Value) (new : List ℕ) → v ≡ Pointer (Record id) o → IsInside s.memory (Record id) (o +ℤ by) (length new) → IsWritten v by new
-  record_written id o by v new points i =
-      let b = take i.range.at i.bytes ++ (new ++ drop (length new) (drop i.range.at i.bytes)) in
+  record_stored : (id : ℕ) (o by : ℤ) (v : Value) (new : List ℕ) → v ≡ Pointer (Record id) o → IsInside s.memory (Record id) (o +ℤ by) (length new) → IsStored (memory_written s.memory v by new) a.places
+  record_stored id o by v new points i =
+      let b = over i.range.at new i.bytes in
       record {
         memory = record s.memory { records = with_bytes id b s.memory.records };
         is = ap (λ v. memory_written s.memory v by new) points ∙ write_is (Record id) (o +ℤ by) new i;
@@ -137,43 +306,182 @@ module _ (subject : Subject) (a : AbsState) (s : State) (g : Agrees subject a s)
         agrees = agrees_written subject a s id b i.bytes i.there (length-over i.range.at new i.bytes i.range.fits) g;
       }
 
-  pub value_written : (x : Abs) (v : Value) (by : ℤ) (new : List ℕ) (unit : Unit {0}) → check_not_context x ≡ Ok unit → reaches (limits_of subject) a.held x by (length new) ≡ true → AgreesValue s.memory.records x v → HasReference a.held x → IsWritten v by new
-  value_written (abs.Ctx o) v by new unit w h k t = absurd (cc)
-  value_written (abs.Stack o) v by new unit w h k t = stack_written o by v new k (stack_inside (o +ℤ by) (length new) h)
-  value_written (abs.Record id o) v by new unit w h k t = record_written id o by v new k (record_inside id (o +ℤ by) (length new) h t)
-  value_written abs.Unreadable v by new unit w h k t = absurd (cc)
-  value_written abs.Number v by new unit w h k t = absurd (cc)
-  value_written (abs.Known n) v by new unit w h k t = absurd (cc)
-  value_written (abs.Ring n) v by new unit w h k t = absurd (cc)
-  value_written (abs.Perhaps n) v by new unit w h k t = absurd (cc)
+  stack_stored : (o by : ℤ) (v : Value) (new : List ℕ) (places : List Abs) → v ≡ Pointer Stack o → (r : IsRange (stack_byte (o +ℤ by)) (length new) (length s.memory.stack)) → AgreesPlaces subject.rings a.held places (stack_written r.at new s.memory)
+      → IsStored (memory_written s.memory v by new) places
+  stack_stored o by v new places points r h = record {
+    memory = stack_written r.at new s.memory;
+    is = ap (λ v. memory_written s.memory v by new) points ∙ write_is Stack (o +ℤ by) new (stack_inside (o +ℤ by) (length new) r);
+    held = refl;
+    agrees = agrees_stack subject a s (over r.at new s.memory.stack) (pointers_beside r.at (length new) s.memory.pointers) places (length-over r.at new s.memory.stack r.fits) h g;
+  }
 
--- what a load of data gives, and what a store of a number leaves
-abbrev ArePlain : KnownPlaces → Type 0
-ArePlain places = (place : ℕ) → BelowValue abs.Number (places place)
+  stack_kept : (o by : ℤ) (v w : Value) (place : ℕ) (places : List Abs) → v ≡ Pointer Stack o → (r : IsRange (stack_byte (o +ℤ by)) 8 (length s.memory.stack)) → place_from r.at ≡ Some place → AgreesPlaces subject.rings a.held places (stack_spilled place w s.memory)
+      → IsStored (memory_with_spill s.memory v by w) places
+  stack_kept o by v w place places points r f h = record {
+    memory = after r.at;
+    is = ap (λ v. memory_with_spill s.memory v by w) points
+        ∙ ap (option_and_then (λ place. option_map (with_pointer place w) (write s.memory Stack (o +ℤ by) (replicate 8 0)))) (ap (option_and_then place_from) r.byte_at ∙ f)
+        ∙ ap (option_map (with_pointer place w)) (write_is Stack (o +ℤ by) (replicate 8 0) (stack_inside (o +ℤ by) 8 r));
+    held = refl;
+    agrees = agrees_stack subject a s (over r.at (replicate 8 0) s.memory.stack) ((place, w) ∷ pointers_beside r.at 8 s.memory.pointers) places (length-over r.at (replicate 8 0) s.memory.stack r.fits)
+        (subst (λ n. AgreesPlaces subject.rings a.held places (after n)) (sym (begins_at r.at place f)) h) g;
+  }
+    where
+      after : ℕ → Memory
+      after at = record s.memory { stack = over at (replicate 8 0) s.memory.stack; pointers = (place, w) ∷ pointers_beside at 8 s.memory.pointers }
 
-filled_plain : (place : Option ℕ) (at len : ℕ) (places : KnownPlaces) (y : Abs) → ArePlain places → check_filled place at len places ≡ Ok y → BelowValue abs.Number y
-filled_plain (Some place) at len places y h e = let same : places place ≡ y = cc in subst (BelowValue abs.Number) same (h place)
-filled_plain None at len places y h e = of_test (check_data (Some at) len places) e
+-- ---- what the check of a store leaves
+
+-- to another part than the stack: a number, and the places stay
+pub other_passed : (len : ℕ) (y : Abs) (places left : List Abs) → check_stored None len y places ≡ Ok left → IsNumber y × (places ≡ left)
+other_passed len y places left e = of_check (check_number rule.PointerStored y) refl e
   where
-    of_test : (m : Result (Unit {0}) Rule) → m >>= (λ _. Ok abs.Number) ≡ Ok y → BelowValue abs.Number y
-    of_test (Ok u) e = let same : abs.Number ≡ y = cc in subst (BelowValue abs.Number) same tt
-    of_test (Err broken) e = absurd (cc)
+    of_check : (m : Result (Unit {0}) Rule) → check_number rule.PointerStored y ≡ m → m >>= (λ _. Ok places) ≡ Ok left → IsNumber y × (places ≡ left)
+    of_check (Ok u) h e = (number_passed rule.PointerStored y u h, cc)
+    of_check (Err broken) h e = absurd (cc)
 
-loaded_plain : (at : Option ℕ) (len : ℕ) (places : KnownPlaces) (y : Abs) → ArePlain places → check_loaded at len places ≡ Ok y → BelowValue abs.Number y
-loaded_plain None len places y h e = let same : abs.Number ≡ y = cc in subst (BelowValue abs.Number) same tt
-loaded_plain (Some at) len places y h e = filled_plain (whole_place at len) at len places y h e
+-- a place keeps what may be read and is no number
+pub record IsKept (at len : ℕ) (y : Abs) (places left : List Abs) : Type 0 where
+  pub place : ℕ
+  pub whole : whole_place at len ≡ Some place
+  pub pointer : is_data y ≡ false
+  pub unit : Unit {0}
+  pub readable : check_readable y ≡ Ok unit
+  pub leaves : listed_places (with_place place y (known_in places)) ≡ left
 
-data_plain : (at len : ℕ) (places : KnownPlaces) → ArePlain places → ArePlain (with_data at len places)
-data_plain at len places h place = elim (touches at len place) as (λ b. BelowValue abs.Number (if b then abs.Number else places place)) [ true ↦ tt | false ↦ h place ]
+kept_passed : (at len : ℕ) (y : Abs) (places left : List Abs) → is_data y ≡ false → (p : Option ℕ) → whole_place at len ≡ p → (m : Result (Unit {0}) Rule) → check_readable y ≡ m → check_kept p y (known_in places) ≡ Ok left → IsKept at len y places left
+kept_passed at len y places left d (Some place) w (Ok u) h e =
+    let same : listed_places (with_place place y (known_in places)) ≡ left = (let f = rw h at e in cc) in
+    record { place = place; whole = w; pointer = d; unit = u; readable = h; leaves = same }
+kept_passed at len y places left d None w (Ok u) h e = absurd (let f = rw h at e in cc)
+kept_passed at len y places left d (Some place) w (Err broken) h e = absurd (let f = rw h at e in cc)
+kept_passed at len y places left d None w (Err broken) h e = absurd (let f = rw h at e in cc)
 
-number_then : (y : Abs) (left places : List Abs) (m : Result (Unit {0}) Rule) → check_number rule.PointerStored y ≡ m → m >>= (λ _. Ok left) ≡ Ok places → ArePlain (known_in left) → IsNumber y × ArePlain (known_in places)
-number_then y left places (Ok u) at e h = let same : left ≡ places = cc in (number_passed rule.PointerStored y u at, subst (λ (l : List Abs). ArePlain (known_in l)) same h)
-number_then y left places (Err broken) at e h = absurd (cc)
+-- to the stack: a number leaves data, and else a place keeps it
+pub stack_passed : (at len : ℕ) (y : Abs) (places left : List Abs) → check_stored (Some at) len y places ≡ Ok left → (IsNumber y × (listed_places (with_data at len (known_in places)) ≡ left)) ⊎ IsKept at len y places left
+stack_passed at len y places left e = by_data (is_data y) refl e
+  where
+    by_data : (b : Bool) → is_data y ≡ b → (if b then Ok (listed_places (with_data at len (known_in places))) else check_kept (whole_place at len) y (known_in places)) ≡ Ok left
+        → (IsNumber y × (listed_places (with_data at len (known_in places)) ≡ left)) ⊎ IsKept at len y places left
+    by_data true d e = inl (data_number y d, cc)
+    by_data false d e = inr (kept_passed at len y places left d (whole_place at len) refl (check_readable y) refl e)
 
-stored_plain : (at : Option ℕ) (len : ℕ) (y : Abs) (places left : List Abs) → ArePlain (known_in places) → check_stored at len y places ≡ Ok left → IsNumber y × ArePlain (known_in left)
-stored_plain None len y places left h e = number_then y places left (check_number rule.PointerStored y) refl e h
-stored_plain (Some at) len y places left h e =
-    number_then y (listed_places (with_data at len (known_in places))) left (check_number rule.PointerStored y) refl e (plain_listed (with_data at len (known_in places)) (data_plain at len (known_in places) h))
+-- a number that is known as a pointer is null
+null_number : (rs : List (ℕ × List ℕ)) (y : Abs) (n : ℕ) (unit : Unit {0}) → is_data y ≡ false → check_readable y ≡ Ok unit → AgreesValue rs y (Number n) → n ≡ 0
+null_number rs (abs.Perhaps id) n unit d r h = of_record (record_named id rs) h
+  where
+    of_record : (o : Option (List ℕ)) → Number n ≡ reserved_value id o → n ≡ 0
+    of_record None e = cc
+    of_record (Some b) e = absurd (cc)
+null_number rs abs.Unreadable n unit d r h = absurd (cc)
+null_number rs abs.Number n unit d r h = absurd (cc)
+null_number rs (abs.Known m) n unit d r h = absurd (cc)
+null_number rs (abs.Ctx o) n unit d r h = absurd (cc)
+null_number rs (abs.Stack o) n unit d r h = absurd (cc)
+null_number rs (abs.Ring m) n unit d r h = absurd (cc)
+null_number rs (abs.Record id o) n unit d r h = absurd (cc)
+
+null_bytes : (len n : ℕ) → len ≡ 8 → n ≡ 0 → little_number 8 (little_bytes len n) ≡ n
+null_bytes len n e f = rw (e, f) refl
+
+module _ (subject : Subject) (a : AbsState) (s : State) (g : Agrees subject a s) where
+  -- a number is stored
+  number_stored_on_stack : (o by : ℤ) (v : Value) (size : Size) (n : ℕ) (y : Abs) (left : List Abs) → v ≡ Pointer Stack o → (r : IsRange (stack_byte (o +ℤ by)) (byte_count size) (length s.memory.stack)) → AgreesValue s.memory.records y (Number n) → HasReference a.held y
+      → check_stored (Some r.at) (byte_count size) y a.places ≡ Ok left → IsStored subject a s g (memory_written s.memory v by (little_bytes (byte_count size) n)) left
+  number_stored_on_stack o by v size n y left k r h t e =
+      elim (stack_passed r.at (byte_count size) y a.places left e) [
+        | inl number ↦ stack_stored subject a s g o by v new left k range (subst (λ l. AgreesPlaces subject.rings a.held l (stack_written r.at new s.memory)) number.1
+            (subst (λ len. AgreesPlaces subject.rings a.held (listed_places (with_data r.at len (known_in a.places))) (stack_written r.at new s.memory)) long (places_data subject.rings a.held a.places s.memory g.places r.at new some fit)))
+        | inr kept ↦ stack_stored subject a s g o by v new left k range (subst (λ l. AgreesPlaces subject.rings a.held l (stack_written r.at new s.memory)) kept.leaves (null_kept kept))
+      ]
+    where
+      new : List ℕ
+      new = little_bytes (byte_count size) n
+
+      long : length new ≡ byte_count size
+      long = length-stored size n
+
+      some : 0 < length new
+      some = rw long (size_some size)
+
+      fit : r.at + length new ≤ length s.memory.stack
+      fit = rw long r.fits
+
+      range : IsRange (stack_byte (o +ℤ by)) (length new) (length s.memory.stack)
+      range = record { at = r.at; byte_at = r.byte_at; fits = fit }
+
+      null_kept : (kept : IsKept r.at (byte_count size) y a.places left) → AgreesPlaces subject.rings a.held (listed_places (with_place kept.place y (known_in a.places))) (stack_written r.at new s.memory)
+      null_kept kept =
+          let whole = whole_begins r.at (byte_count size) kept.place kept.whole in
+          let at_place : r.at ≡ 8 * kept.place = begins_at r.at kept.place whole.1 in
+          let eight : length new ≡ 8 = long ∙ whole.0 in
+          let zero_is : n ≡ 0 = null_number s.memory.records y n kept.unit kept.pointer kept.readable h in
+          let same : little_number 8 new ≡ n = null_bytes (byte_count size) n whole.0 zero_is in
+          subst (λ at. AgreesPlaces subject.rings a.held (listed_places (with_place kept.place y (known_in a.places))) (stack_written at new s.memory)) (sym at_place)
+          (places_number subject.rings a.held a.places s.memory g.places kept.place (omega arith) y t new eight (subst (λ m. AgreesValue s.memory.records y (Number m)) (sym same) h))
+
+  pub number_stored : (x : Abs) (v : Value) (by : ℤ) (size : Size) (n : ℕ) (y : Abs) (left : List Abs) (unit : Unit {0}) → check_not_context x ≡ Ok unit → reaches (limits_of subject) a.held x by (byte_count size) ≡ true → AgreesValue s.memory.records x v → HasReference a.held x
+      → AgreesValue s.memory.records y (Number n) → HasReference a.held y → check_stored (byte_behind x by) (byte_count size) y a.places ≡ Ok left → IsStored subject a s g (memory_written s.memory v by (little_bytes (byte_count size) n)) left
+  number_stored (abs.Record id o) v by size n y left unit c h k t yn yt e =
+      let reach : record_contains (find (has_id id) a.held) (o +ℤ by) (length (little_bytes (byte_count size) n)) ≡ true = rw (length-stored size n) h in
+      subst (IsStored subject a s g (memory_written s.memory v by (little_bytes (byte_count size) n))) (other_passed (byte_count size) y a.places left e).1
+      (record_stored subject a s g id o by v (little_bytes (byte_count size) n) k (record_inside subject a s g id (o +ℤ by) (length (little_bytes (byte_count size) n)) reach t))
+  number_stored (abs.Stack o) v by size n y left unit c h k t yn yt e =
+      let r = stack_range subject a s g (o +ℤ by) (byte_count size) h in
+      number_stored_on_stack o by v size n y left k r yn yt (rw r.byte_at at e)
+  number_stored (abs.Ctx o) v by size n y left unit c h k t yn yt e = absurd (cc)
+  number_stored abs.Unreadable v by size n y left unit c h k t yn yt e = absurd (cc)
+  number_stored abs.Number v by size n y left unit c h k t yn yt e = absurd (cc)
+  number_stored (abs.Known m) v by size n y left unit c h k t yn yt e = absurd (cc)
+  number_stored (abs.Ring m) v by size n y left unit c h k t yn yt e = absurd (cc)
+  number_stored (abs.Perhaps m) v by size n y left unit c h k t yn yt e = absurd (cc)
+
+  -- a pointer is stored: at a whole place of the stack
+  pub record IsSpilled (v : Value) (by : ℤ) (len : ℕ) (w : Value) (left : List Abs) : Type 0 where
+    pub eight : len ≡ 8
+    pub stored : IsStored subject a s g (memory_with_spill s.memory v by w) left
+
+  pointer_number : (y : Abs) (w : Value) → IsKeptPointer subject.rings w → AgreesValue s.memory.records y w → IsNumber y → ⊥
+  pointer_number y w b h n = kept_apart subject.rings w b (number_value s.memory.records y w n h)
+
+  pub pointer_stored : (x : Abs) (v : Value) (by : ℤ) (len : ℕ) (w : Value) (y : Abs) (left : List Abs) → reaches (limits_of subject) a.held x by len ≡ true → AgreesValue s.memory.records x v
+      → AgreesValue s.memory.records y w → HasReference a.held y → IsKeptPointer subject.rings w → check_stored (byte_behind x by) len y a.places ≡ Ok left → IsSpilled v by len w left
+  pointer_stored (abs.Stack o) v by len w y left h k yn yt b e =
+      elim (stack_passed r.at len y a.places left (rw r.byte_at at e)) [
+        | inl number ↦ absurd (pointer_number y w b yn number.0)
+        | inr kept ↦ spilled kept (whole_begins r.at len kept.place kept.whole)
+      ]
+    where
+      r : IsRange (stack_byte (o +ℤ by)) len (length s.memory.stack)
+      r = stack_range subject a s g (o +ℤ by) len h
+
+      spilled : (kept : IsKept r.at len y a.places left) → (len ≡ 8) × (place_from r.at ≡ Some kept.place) → IsSpilled v by len w left
+      spilled kept whole =
+          let at_place : r.at ≡ 8 * kept.place = begins_at r.at kept.place whole.1 in
+          let fit : r.at + len ≤ length s.memory.stack = r.fits in
+          let eight : len ≡ 8 = whole.0 in
+          let range : IsRange (stack_byte (o +ℤ by)) 8 (length s.memory.stack) = record { at = r.at; byte_at = r.byte_at; fits = omega arith } in
+          record {
+            eight = eight;
+            stored = stack_kept subject a s g o by v w kept.place left k range whole.1 (subst (λ l. AgreesPlaces subject.rings a.held l (stack_spilled kept.place w s.memory)) kept.leaves
+                (places_spilled subject.rings a.held a.places s.memory g.places kept.place (omega arith) y yt w yn b));
+          }
+  pointer_stored (abs.Record id o) v by len w y left h k yn yt b e = absurd (pointer_number y w b yn (other_passed len y a.places left e).0)
+  pointer_stored (abs.Ctx o) v by len w y left h k yn yt b e = absurd (pointer_number y w b yn (other_passed len y a.places left e).0)
+  pointer_stored abs.Unreadable v by len w y left h k yn yt b e = absurd (cc)
+  pointer_stored abs.Number v by len w y left h k yn yt b e = absurd (cc)
+  pointer_stored (abs.Known m) v by len w y left h k yn yt b e = absurd (cc)
+  pointer_stored (abs.Ring m) v by len w y left h k yn yt b e = absurd (cc)
+  pointer_stored (abs.Perhaps m) v by len w y left h k yn yt b e = absurd (cc)
+
+  -- nothing is not stored
+  pub nothing_stored : (byte : Option ℕ) (len : ℕ) (y : Abs) (left : List Abs) → AgreesValue s.memory.records y Nothing → check_stored byte len y a.places ≡ Ok left → ⊥
+  nothing_stored None len y left h e = let n = number_value s.memory.records y Nothing (other_passed len y a.places left e).0 h in let f : Nothing ≡ Number n.0 = n.1 in cc
+  nothing_stored (Some at) len y left h e =
+      elim (stack_passed at len y a.places left e) [
+        | inl number ↦ (let n = number_value s.memory.records y Nothing number.0 h in let f : Nothing ≡ Number n.0 = n.1 in cc)
+        | inr kept ↦ readable_passed s.memory.records y kept.unit kept.readable h
+      ]
 
 -- where no pointer is kept, none is found
 pub no_fill : (size : Size) (m : Memory) (v : Value) (by : ℤ) → m.pointers ≡ [] → fill_of size m v by ≡ None
@@ -191,13 +499,18 @@ no_spill Half n = refl
 no_spill Word n = refl
 no_spill Double n = refl
 
-not_false : (b : Bool) → not b ≡ false → b ≡ true
-not_false true e = refl
-not_false false e = absurd (cc)
-
 -- the range of a check lies inside
 pub inside_passed : (subject : Subject) (held : List Reference) (x : Abs) (by : ℤ) (len : ℕ) (unit : Unit {0}) → check_inside (limits_of subject) held x by len ≡ Ok unit → reaches (limits_of subject) held x by len ≡ true
 inside_passed subject held x by len unit e = not_false _ (passed (not (reaches (limits_of subject) held x by len)) rule.OutsidePart unit e)
+
+-- what a load of data gives
+loaded_data : (byte : Option ℕ) (len : ℕ) (places : KnownPlaces) (y : Abs) → ((at : ℕ) → whole_place at len ≡ None) → check_loaded byte len places ≡ Ok y → (unit : Unit {0}) × (check_data byte len places ≡ Ok unit) × (abs.Number ≡ y)
+loaded_data None len places y none e = (tt, refl, cc)
+loaded_data (Some at) len places y none e = of_check (check_data (Some at) len places) refl (rw (none at) at e)
+  where
+    of_check : (m : Result (Unit {0}) Rule) → check_data (Some at) len places ≡ m → m >>= (λ _. Ok abs.Number) ≡ Ok y → (unit : Unit {0}) × (check_data (Some at) len places ≡ Ok unit) × (abs.Number ≡ y)
+    of_check (Ok u) h e = (u, h, cc)
+    of_check (Err broken) h e = absurd (cc)
 
 module _ (subject : Subject) (s : State) (c : CanStep subject s) (insn : Insn) (begins : slot_at subject.program s.unit ≡ Some insn) (on : falls_through insn ≡ true) where
   abbrev a : AbsState
@@ -206,45 +519,77 @@ module _ (subject : Subject) (s : State) (c : CanStep subject s) (insn : Insn) (
   abbrev Given : StepEffect → Result refs.Effect Rule → Type 0
   Given = Sound subject s c insn begins
 
-  pub loaded_sound : (dst base : Reg) (by : ℤ) (len : ℕ) (number_of : List ℕ → ℕ) → Given (meaning.execute_load insn dst number_of (pointed s.memory (register s base.number) by len) s) (table.check_load (limits_of subject) dst base by len a)
-  loaded_sound dst base by len number_of =
+  -- a load of bytes that are no whole place
+  pub loaded_sound : (dst base : Reg) (by : ℤ) (len : ℕ) (number_of : List ℕ → ℕ) → ((at : ℕ) → whole_place at len ≡ None) → Given (meaning.execute_load insn dst number_of (pointed s.memory (register s base.number) by len) s) (table.check_load (limits_of subject) dst base by len a)
+  loaded_sound dst base by len number_of none =
       let x = value_in a base.number in
       let v = register s base.number in
       let P = Follows subject s c insn begins (meaning.execute_load insn dst number_of (pointed s.memory v by len) s) in
       past P (check_writable dst) _ (λ _ _. past P (check_tested x) _ (λ _ _. past P (check_inside (limits_of subject) a.held x by len) _ (λ unit e. past P (check_loaded (byte_behind x by) len (known_in a.places)) _ (λ y loaded.
-      let r = value_reached subject a s c.agrees x v by len (inside_passed subject a.held x by len unit e) (c.agrees.values base.number) (c.agrees.tied base.number) in
-      let b = reached_read s.memory v by len r in
-      let plain : BelowValue abs.Number y = loaded_plain (byte_behind x by) len (known_in a.places) y c.agrees.plain loaded in
-      subst (λ found. Follows subject s c insn begins (meaning.execute_load insn dst number_of found s) (table.assignment_effect dst y a)) (sym b.1)
-      (gives_sound subject s c insn begins dst y (Number (number_of b.0)) on (value_below s.memory.records abs.Number y (Number (number_of b.0)) plain (_, refl)) (tied_below a.held abs.Number y plain tt) tt)))))
+      let d = loaded_data (byte_behind x by) len (known_in a.places) y none loaded in
+      let b = value_read subject a s c.agrees x v by len d.0 (inside_passed subject a.held x by len unit e) (c.agrees.values base.number) (c.agrees.tied base.number) d.1 in
+      subst (λ y. P (table.assignment_effect dst y a)) d.2
+      (subst (λ found. Follows subject s c insn begins (meaning.execute_load insn dst number_of found s) (table.assignment_effect dst abs.Number a)) (sym b.1)
+      (gives_sound subject s c insn begins dst abs.Number (Number (number_of b.0)) on (_, refl) tt tt))))))
 
-  pub filled_sound : (dst base : Reg) (by : ℤ) (size : Size) (len : ℕ) (number_of : List ℕ → ℕ) → Given (meaning.execute_fill insn dst number_of (fill_of size s.memory (register s base.number) by) (pointed s.memory (register s base.number) by len) s) (table.check_load (limits_of subject) dst base by len a)
-  filled_sound dst base by size len number_of =
-      let none : fill_of size s.memory (register s base.number) by ≡ None = no_fill size s.memory (register s base.number) by c.agrees.pointers in
-      subst (λ o. Given (meaning.execute_fill insn dst number_of o (pointed s.memory (register s base.number) by len) s) (table.check_load (limits_of subject) dst base by len a)) (sym none) (loaded_sound dst base by len number_of)
-
-  -- a store of what is a number, by any function that does so
-  numbers_stored : (f : Value → StepEffect) (base : Reg) (by : ℤ) (size : Size) (y : Abs) (w : Value) → ((n : ℕ) → f (Number n) ≡ meaning.execute_store insn (register s base.number) by (byte_count size) (Number n) s) → AgreesValue s.memory.records y w
-      → Given (f w) (table.check_store (limits_of subject) base by (byte_count size) y a)
-  numbers_stored f base by size y w same k =
+  -- a load of eight bytes, which may be a whole place
+  double_sound : (dst base : Reg) (by : ℤ) → Given (meaning.execute_fill insn dst (little_number 8) (fill_of Double s.memory (register s base.number) by) (pointed s.memory (register s base.number) by 8) s) (table.check_load (limits_of subject) dst base by 8 a)
+  double_sound dst base by =
       let x = value_in a base.number in
       let v = register s base.number in
-      let P = Follows subject s c insn begins (f w) in
-      past P (check_tested x) _ (λ _ _. past P (check_not_context x) _ (λ may allowed. past P (check_inside (limits_of subject) a.held x by (byte_count size)) _ (λ unit e. past P (check_stored (byte_behind x by) (byte_count size) y a.places) _ (λ places g.
-      let passes = stored_plain (byte_behind x by) (byte_count size) y a.places places c.agrees.plain g in
-      let n = number_value s.memory.records y w passes.0 k in
-      let reach : reaches (limits_of subject) a.held x by (length (little_bytes (byte_count size) n.0)) ≡ true = subst (λ len. reaches (limits_of subject) a.held x by len ≡ true) (sym (length-stored size n.0)) (inside_passed subject a.held x by (byte_count size) unit e) in
-      let r = value_written subject a s c.agrees x v by (little_bytes (byte_count size) n.0) may allowed reach (c.agrees.values base.number) (c.agrees.tied base.number) in
-      let known_then : AbsState = record a { places = places } in
-      subst (λ effect. Follows subject s c insn begins effect (effect_on_both known_then)) (sym (ap f n.1 ∙ same n.0))
-      (subst (λ m. Follows subject s c insn begins (meaning.after_store insn m s) (effect_on_both known_then)) (sym r.is)
-      (goes_next subject s c insn begins (effect_on_both known_then) s.registers r.memory on r.held (agrees_placed subject a (record s { memory = r.memory }) places passes.1 r.agrees)))))))
+      let P = Follows subject s c insn begins (meaning.execute_fill insn dst (little_number 8) (fill_of Double s.memory v by) (pointed s.memory v by 8) s) in
+      past P (check_writable dst) _ (λ _ _. past P (check_tested x) _ (λ _ _. past P (check_inside (limits_of subject) a.held x by 8) _ (λ unit e. past P (check_loaded (byte_behind x by) 8 (known_in a.places)) _ (λ y loaded.
+      let f = value_filled subject a s c.agrees x v by y (inside_passed subject a.held x by 8 unit e) (c.agrees.values base.number) (c.agrees.tied base.number) loaded in
+      subst (λ effect. Follows subject s c insn begins effect (table.assignment_effect dst y a)) (sym (f.gives insn dst))
+      (gives_sound subject s c insn begins dst y f.value on f.agrees f.tied f.bounded)))))
 
-  pub stored_sound : (base : Reg) (by : ℤ) (size : Size) (y : Abs) (w : Value) → AgreesValue s.memory.records y w → Given (meaning.execute_store insn (register s base.number) by (byte_count size) w s) (table.check_store (limits_of subject) base by (byte_count size) y a)
-  stored_sound base by size y w k = numbers_stored (λ w. meaning.execute_store insn (register s base.number) by (byte_count size) w s) base by size y w (λ n. refl) k
+  pub filled_sound : (dst base : Reg) (by : ℤ) (size : Size) → Given (meaning.execute_fill insn dst (little_number (byte_count size)) (fill_of size s.memory (register s base.number) by) (pointed s.memory (register s base.number) by (byte_count size)) s) (table.check_load (limits_of subject) dst base by (byte_count size) a)
+  filled_sound dst base by Byte = loaded_sound dst base by 1 (little_number 1) (λ at. refl)
+  filled_sound dst base by Half = loaded_sound dst base by 2 (little_number 2) (λ at. refl)
+  filled_sound dst base by Word = loaded_sound dst base by 4 (little_number 4) (λ at. refl)
+  filled_sound dst base by Double = double_sound dst base by
 
-  pub spilled_sound : (base : Reg) (by : ℤ) (size : Size) (y : Abs) (w : Value) → AgreesValue s.memory.records y w
+  -- what a store leaves
+  store_goes : (o : Option Memory) (places : List Abs) → IsStored subject a s c.agrees o places → Follows subject s c insn begins (meaning.after_store insn o s) (effect_on_both (record a { places = places }))
+  store_goes o places r =
+      subst (λ m. Follows subject s c insn begins (meaning.after_store insn m s) (effect_on_both (record a { places = places }))) (sym r.is)
+      (goes_next subject s c insn begins (effect_on_both (record a { places = places })) s.registers r.memory on r.held r.agrees)
+
+  -- past the checks of a store
+  store_past : (effect : StepEffect) (base : Reg) (by : ℤ) (len : ℕ) (y : Abs)
+      → ((u : Unit {0}) (places : List Abs) → check_not_context (value_in a base.number) ≡ Ok u → reaches (limits_of subject) a.held (value_in a base.number) by len ≡ true → check_stored (byte_behind (value_in a base.number) by) len y a.places ≡ Ok places
+      → Follows subject s c insn begins effect (effect_on_both (record a { places = places })))
+      → Given effect (table.check_store (limits_of subject) base by len y a)
+  store_past effect base by len y go =
+      let x = value_in a base.number in
+      let P = Follows subject s c insn begins effect in
+      past P (check_tested x) _ (λ _ _. past P (check_not_context x) _ (λ u allowed. past P (check_inside (limits_of subject) a.held x by len) _ (λ unit e. past P (check_stored (byte_behind x by) len y a.places) _ (λ places stored.
+      go u places allowed (inside_passed subject a.held x by len unit e) stored))))
+
+  pub stored_sound : (base : Reg) (by : ℤ) (size : Size) (y : Abs) (n : ℕ) → AgreesValue s.memory.records y (Number n) → HasReference a.held y → Given (meaning.execute_store insn (register s base.number) by (byte_count size) (Number n) s) (table.check_store (limits_of subject) base by (byte_count size) y a)
+  stored_sound base by size y n k t =
+      store_past _ base by (byte_count size) y (λ u places allowed reach stored. store_goes _ places
+      (number_stored subject a s c.agrees (value_in a base.number) (register s base.number) by size n y places u allowed reach (c.agrees.values base.number) (c.agrees.tied base.number) k t stored))
+
+  -- a pointer is stored
+  kept_sound : (base : Reg) (by : ℤ) (size : Size) (y : Abs) (w : Value) → spill_of Double w ≡ Some w → AgreesValue s.memory.records y w → HasReference a.held y → IsKeptPointer subject.rings w
       → Given (meaning.execute_spill insn (register s base.number) by (byte_count size) (spill_of size w) w s) (table.check_store (limits_of subject) base by (byte_count size) y a)
-  spilled_sound base by size y w k =
-      numbers_stored (λ w. meaning.execute_spill insn (register s base.number) by (byte_count size) (spill_of size w) w s) base by size y w
-      (λ n. ap (λ o. meaning.execute_spill insn (register s base.number) by (byte_count size) o (Number n) s) (no_spill size n)) k
+  kept_sound base by size y w is k t b =
+      store_past _ base by (byte_count size) y (λ u places allowed reach stored.
+      let p = pointer_stored subject a s c.agrees (value_in a base.number) (register s base.number) by (byte_count size) w y places reach (c.agrees.values base.number) k t b stored in
+      of_size size p.eight (store_goes _ places p.stored))
+    where
+      of_size : {places : List Abs} (size : Size) → byte_count size ≡ 8 → Follows subject s c insn begins (meaning.after_store insn (memory_with_spill s.memory (register s base.number) by w) s) (effect_on_both (record a { places = places }))
+          → Follows subject s c insn begins (meaning.execute_spill insn (register s base.number) by (byte_count size) (spill_of size w) w s) (effect_on_both (record a { places = places }))
+      of_size Double e h = rw is h
+      of_size Byte e h = absurd (omega arith)
+      of_size Half e h = absurd (omega arith)
+      of_size Word e h = absurd (omega arith)
+
+  pub spilled_sound : (base : Reg) (by : ℤ) (size : Size) (y : Abs) (w : Value) → AgreesValue s.memory.records y w → HasReference a.held y → IsBoundedValue subject.rings w
+      → Given (meaning.execute_spill insn (register s base.number) by (byte_count size) (spill_of size w) w s) (table.check_store (limits_of subject) base by (byte_count size) y a)
+  spilled_sound base by size y Nothing k t b =
+      store_past _ base by (byte_count size) y (λ u places allowed reach stored. absurd (nothing_stored subject a s c.agrees (byte_behind (value_in a base.number) by) (byte_count size) y places k stored))
+  spilled_sound base by size y (Number n) k t b = rw (no_spill size n) (stored_sound base by size y n k t)
+  spilled_sound base by size y (Pointer part o) k t b = kept_sound base by size y (Pointer part o) refl k t b
+  spilled_sound base by size y (Ring ring) k t b = kept_sound base by size y (Ring ring) refl k t b

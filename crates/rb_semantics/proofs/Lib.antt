@@ -2,6 +2,7 @@ mod Ids
 mod Records
 mod Held
 mod Values
+mod Places
 mod Changes
 mod Checks
 mod Rows
