@@ -9,6 +9,7 @@ mod Rows
 mod Moves
 mod Sums
 mod Accesses
+mod Stores
 mod MemoryLaws
 mod Branches
 mod Calling

@@ -39,7 +39,8 @@ use Rattle.rb_semantics.proofs.Checks.{passed, number_passed}
 use Rattle.rb_semantics.proofs.Rows.{past, known, Follows, Sound, IsEffect}
 use Rattle.rb_semantics.proofs.Moves.{given_sound, copied_sound, converted_sound, altered_sound, ring_sound, divided_sound}
 use Rattle.rb_semantics.proofs.Sums.{binary_sound}
-use Rattle.rb_semantics.proofs.Accesses.{loaded_sound, filled_sound, stored_sound, spilled_sound}
+use Rattle.rb_semantics.proofs.Accesses.{loaded_sound, filled_sound}
+use Rattle.rb_semantics.proofs.Stores.{stored_sound, spilled_sound}
 use Rattle.rb_semantics.proofs.Branches.{jumps_to, branch_sound}
 use Rattle.rb_semantics.proofs.Calling.{call_sound}
 
