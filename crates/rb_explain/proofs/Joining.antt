@@ -22,8 +22,8 @@ joins_item text items n item first before after inside was is =
     is ∙ ap (λ x. x ++ text (get_or items n item)) was ∙ flat_map_more text first (take n items) (get_or items n item)
     ∙ ap (λ xs. first ++ flat_map text xs) (sym (take_more items n item inside))
 
--- four texts, one after the other
-pub four : (t0 t1 t2 t3 t4 a b c d : List ℕ) → t1 ≡ t0 ++ a → t2 ≡ t1 ++ b → t3 ≡ t2 ++ c → t4 ≡ t3 ++ d → t4 ≡ t0 ++ (a ++ (b ++ (c ++ d)))
-four t0 t1 t2 t3 t4 a b c d e1 e2 e3 e4 =
-    e4 ∙ ap (λ x. x ++ d) e3 ∙ append_assoc t2 c d ∙ ap (λ x. x ++ (c ++ d)) e2 ∙ append_assoc t1 b (c ++ d)
-    ∙ ap (λ x. x ++ (b ++ (c ++ d))) e1 ∙ append_assoc t0 a (b ++ (c ++ d))
+-- five texts, one after the other
+pub five : (t0 t1 t2 t3 t4 t5 a b c d e : List ℕ) → t1 ≡ t0 ++ a → t2 ≡ t1 ++ b → t3 ≡ t2 ++ c → t4 ≡ t3 ++ d → t5 ≡ t4 ++ e → t5 ≡ t0 ++ (a ++ (b ++ (c ++ (d ++ e))))
+five t0 t1 t2 t3 t4 t5 a b c d e e1 e2 e3 e4 e5 =
+    e5 ∙ ap (λ x. x ++ e) e4 ∙ append_assoc t3 d e ∙ ap (λ x. x ++ (d ++ e)) e3 ∙ append_assoc t2 c (d ++ e) ∙ ap (λ x. x ++ (c ++ (d ++ e))) e2
+    ∙ append_assoc t1 b (c ++ (d ++ e)) ∙ ap (λ x. x ++ (b ++ (c ++ (d ++ e)))) e1 ∙ append_assoc t0 a (b ++ (c ++ (d ++ e)))

@@ -1,5 +1,5 @@
 -- The explanation of a program: of an accepted one each instruction with what is known before it, of a refused one the units around its first fault.
-use Rattle.std.specs.Prelude.{◌≡◌, ℕ, ◌+◌, ◌*◌, ◌<◌, ◌&&◌, ◌==◌, nat_le, nat_lt, Bool, List, [], ◌++◌, codes, length, take, drop, slice_index_or, string_bytes, Option, Some, None, if◌then◌else◌}
+use Rattle.std.specs.Prelude.{◌≡◌, ℕ, ◌+◌, ◌*◌, ◌&&◌, ◌==◌, nat_le, nat_lt, Bool, List, [], ◌++◌, codes, length, take, drop, string_bytes, Option, Some, None, if◌then◌else◌}
 use Rattle.std.specs.Fmt.{decimal}
 use Rattle.rb_insn.specs.declared.insn.Insn.{Insn}
 use Rattle.rb_insn.specs.Spelling.{SpellsAll}
@@ -9,7 +9,6 @@ use Rattle.rb_decode.specs.FirstDecodeFault.{IsFirstDecodeFault}
 use Rattle.rb_decode.specs.declared.fault.DecodeKind.{DecodeKind}
 use Rattle.rb_decode.specs.declared.fault.DecodeKind.TheVariants.{Length, TooLong}
 use Rattle.rb_cfg.specs.ShapeFaults.{IsFirstShapeFault}
-use Rattle.rb_cfg.specs.declared.fault.ShapeFault.{ShapeFault}
 use Rattle.rb_refs.specs.declared.limits.Limits.{Limits}
 use Rattle.rb_refs.specs.declared.rule.Rule.{Rule}
 use Rattle.rb_refs.specs.Rules.{rule_number}

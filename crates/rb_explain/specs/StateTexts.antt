@@ -1,6 +1,6 @@
 -- The line of what is known before an instruction: each register that may be read, in order, with what it holds, and each record that has to be given
--- back. Records are named by the unit of the CALL that reserved them.
-use Rattle.std.specs.Prelude.{ℕ, ℤ, ◌^◌, ◌-◌, Bool, true, false, List, ◌++◌, codes, find, Option, Some, None, if◌then◌else◌}
+-- back. Each place of the stack that may keep a pointer stands behind the registers. Records are named by the unit of the CALL that reserved them.
+use Rattle.std.specs.Prelude.{ℕ, ℤ, ◌^◌, ◌+◌, ◌-◌, ◌*◌, Bool, true, false, List, ◌++◌, codes, find, Option, Some, None, if◌then◌else◌}
 use Rattle.std.specs.Fmt.{format_spec, decimal, signed_decimal, styled_signed_decimal}
 use Rattle.std.specs.Int.{w64, cast_signed}
 use Rattle.std.specs.List.{flat_map}
@@ -9,6 +9,7 @@ use Rattle.rb_refs.specs.declared.state.AbsState.{AbsState}
 use Rattle.rb_refs.specs.declared.value.Abs.{Abs}
 use Rattle.rb_refs.specs.declared.value.Abs.TheVariants.{Unreadable, Number, Known, Ctx, Stack, Ring, Perhaps, Record}
 use Rattle.rb_refs.specs.AbstractStates.{value_in}
+use Rattle.rb_refs.specs.KeptPointers.{known_in, is_data}
 use Rattle.rb_refs.specs.References.{has_id}
 use Rattle.rb_explain.specs.Joined.{joined_below}
 
@@ -47,6 +48,22 @@ register_in state register = register_text state.held register (value_in state r
 unfoldable pub registers_text : AbsState → List ℕ
 registers_text state = joined_below (register_in state) 11
 
+-- what a place of the stack keeps: data or a pointer, where it may have either
+abbrev pub kept_text : List Reference → Abs → List ℕ
+kept_text held Unreadable = codes "mixed"
+kept_text held value = value_text held value
+
+-- a place with what it keeps, by how many places lie behind it, so that the last one begins at fp-8: nothing for one that has data
+abbrev pub place_text : List Reference → ℕ → Abs → List ℕ
+place_text held behind value = if is_data value then codes "" else codes "  fp-" ++ decimal (8 * behind + 8) ++ codes " = " ++ kept_text held value
+
+abbrev pub place_in : AbsState → ℕ → List ℕ
+place_in state behind = place_text state.held behind (known_in state.places (63 - behind))
+
+-- all places, from the last one down
+unfoldable pub places_text : AbsState → List ℕ
+places_text state = joined_below (place_in state) 64
+
 abbrev pub tested_text : Bool → List ℕ
 tested_text true = codes ""
 tested_text false = codes ", or null"
@@ -57,4 +74,4 @@ reference_text reference =
     codes "  holds record " ++ decimal reference.id ++ codes " of " ++ decimal reference.size ++ codes " bytes in ring " ++ decimal reference.ring ++ tested_text reference.sure
 
 abbrev pub state_text : AbsState → List ℕ
-state_text state = codes "      #" ++ registers_text state ++ flat_map reference_text state.held ++ codes "\n"
+state_text state = codes "      #" ++ registers_text state ++ places_text state ++ flat_map reference_text state.held ++ codes "\n"

@@ -2,8 +2,9 @@
 
 ghost use Rattle.std.specs.Prelude.{◌≡◌, ◌<◌, ◌++◌, Some, OnOk, string_bytes};
 ghost use Rattle.std.specs.List.{flat_map};
-ghost use Rattle.rb_explain.specs.StateTexts.{size_text, value_text, register_in, registers_text, tested_text, reference_text, state_text};
+ghost use Rattle.rb_explain.specs.StateTexts.{size_text, value_text, register_in, registers_text, kept_text, place_in, places_text, tested_text, reference_text, state_text};
 ghost use Rattle.rb_explain.specs.StateTexts as texts;
+ghost use Rattle.rb_refs.specs.KeptPointers as kept;
 
 use rb_refs::{Abs, AbsState, Held, Reference};
 use std::alloc::AllocError;
@@ -76,6 +77,48 @@ fn push_register(text: &mut String, state: &AbsState, register: usize) -> Result
     }
 }
 
+// What a place of the stack keeps.
+#[derive(Clone, Copy)]
+struct Kept<'a> {
+    held: &'a Held,
+    value: Abs,
+}
+
+impl fmt::Display for Kept<'_> {
+    ghost output = { λ shown. Some (kept_text shown.held.now shown.value) };
+
+    fn fmt<W: fmt::Write>(&self, f: &mut fmt::Formatter<W>) -> fmt::Result {
+        let Kept { held, value } = *self;
+        match value {
+            Abs::Unreadable => write!(f, "mixed"),
+            _ => write!(f, "{}", Value { held, value }),
+        }
+    }
+}
+
+fn is_data(value: Abs) -> bool
+    ensures { result ≡ kept.is_data value }
+{
+    match value {
+        Abs::Number | Abs::Known(_) => true,
+        _ => false,
+    }
+}
+
+// A place of the stack with what it keeps, where it may keep a pointer.
+fn push_place(text: &mut String, state: &AbsState, behind: u64) -> Result<(), AllocError>
+    requires { behind < 64 }
+    ensures added { OnOk result (string_bytes text.new ≡ string_bytes text.old ++ place_in state.now behind) }
+{
+    let value = state.places.get(63 - behind);
+    let held = &state.held;
+    if is_data(value) {
+        text.push_str("")
+    } else {
+        write!(text, "  fp-{} = {}", 8 * behind + 8, Kept { held, value })
+    }
+}
+
 // Whether a record was tested against null.
 #[derive(Clone, Copy)]
 struct Tested(bool);
@@ -131,6 +174,17 @@ fn push_registers(text: &mut String, state: &AbsState) -> Result<(), AllocError>
     Ok(())
 }
 
+// All places of the stack that may keep a pointer.
+#[tactic(auto, using(crate::proofs::Joining::joins), unfolding(crate::specs::StateTexts::places_text))]
+fn push_places(text: &mut String, state: &AbsState) -> Result<(), AllocError>
+    ensures added { OnOk result (string_bytes text.new ≡ string_bytes text.old ++ places_text state.now) }
+{
+    for behind in 0..64 {
+        push_place(text, state, behind)?;
+    }
+    Ok(())
+}
+
 // All records that have to be given back.
 #[tactic(auto, using(crate::proofs::Joining::joins_item))]
 fn push_references(text: &mut String, held: &[Reference]) -> Result<(), AllocError>
@@ -143,12 +197,13 @@ fn push_references(text: &mut String, held: &[Reference]) -> Result<(), AllocErr
 }
 
 /// What is known before an instruction.
-#[tactic(auto, using(crate::proofs::Joining::four))]
+#[tactic(auto, using(crate::proofs::Joining::five))]
 pub(crate) fn push_state(text: &mut String, state: &AbsState) -> Result<(), AllocError>
     ensures added { OnOk result (string_bytes text.new ≡ string_bytes text.old ++ state_text state.now) }
 {
     text.push_str("      #")?;
     push_registers(text, state)?;
+    push_places(text, state)?;
     push_references(text, state.held.as_slice())?;
     text.push_str("\n")
 }

@@ -3,6 +3,7 @@
 mod cuts;
 mod helper_calls;
 mod instructions;
+mod kept_pointers;
 mod known_values;
 mod programs;
 mod rules;

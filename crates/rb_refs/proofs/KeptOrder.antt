@@ -1,6 +1,6 @@
 -- The checks of what is kept on the stack keep the order.
-use Rattle.std.proofs.Common.{◌≡◌, ℕ, zero, suc, ◌+◌, Bool, true, false, refl, subst, ⊎_elim, List, Option, Some, None, Result, Ok, Err}
-use Rattle.std.specs.Prelude.{◌&&◌, ◌||◌, not, if◌then◌else◌}
+use Rattle.std.proofs.Common.{◌≡◌, ℕ, zero, suc, ◌+◌, Bool, true, false, refl, ⊎_elim, List, Option, Some, None, Result}
+use Rattle.std.specs.Prelude.{◌==◌, ◌&&◌, ◌||◌, not, if◌then◌else◌}
 use Rattle.std.proofs.lemmas.Bool.{cases_lt}
 use Rattle.rb_refs.specs.declared.rule.Rule.{Rule}
 use Rattle.rb_refs.specs.declared.rule.Rule.TheVariants as rule
@@ -8,12 +8,12 @@ use Rattle.rb_refs.specs.declared.value.Abs.{Abs}
 use Rattle.rb_refs.specs.declared.value.Abs.TheVariants.{Unreadable, Number, Known, Ctx, Stack, Ring, Perhaps, Record}
 use Rattle.rb_refs.specs.AbstractValues.{IsNumber, BelowValue}
 use Rattle.rb_refs.specs.StackPlaces.{touches, any_place, whole_place}
-use Rattle.rb_refs.specs.KeptPointers.{KnownPlaces, listed_places, known_in, is_data, with_data, may_keep, check_data, check_filled, check_loaded, check_stored}
-use Rattle.rb_refs.specs.ValueChecks.{◌>>=◌, refused_if, check_number}
+use Rattle.rb_refs.specs.KeptPointers.{KnownPlaces, listed_places, known_in, is_data, with_place, with_data, may_keep, check_data, check_filled, check_loaded, check_kept, check_stored}
+use Rattle.rb_refs.specs.ValueChecks.{refused_if, check_readable, check_number}
 use Rattle.rb_refs.specs.StepOrder.{ResultBelow}
 use Rattle.rb_refs.proofs.KeptPlaces.{known-listed, known-past}
 use Rattle.rb_refs.proofs.Order.{below_value_refl, below_cases, number_cases}
-use Rattle.rb_refs.proofs.CheckOrder.{CheckBelow, result_bind, number_below}
+use Rattle.rb_refs.proofs.CheckOrder.{CheckBelow, check_refl, result_bind, number_below}
 
 -- each place is below
 abbrev pub PlacesBelow : KnownPlaces → KnownPlaces → Type 0
@@ -67,8 +67,40 @@ listed_below f g h place = ⊎_elim (λ lt. rw (known-listed f place lt, known-l
 abbrev pub ListsBelow : List Abs → List Abs → Type 0
 ListsBelow xs ys = PlacesBelow (known_in xs) (known_in ys)
 
+-- one place keeps the same
+kept_placed : (f g : KnownPlaces) → PlacesBelow f g → (place : ℕ) (v : Abs) → PlacesBelow (with_place place v f) (with_place place v g)
+kept_placed f g h place v other = elim (other == place) as (λ b. BelowValue (if b then v else f other) (if b then v else g other)) [ true ↦ below_value_refl v | false ↦ h other ]
+
+kept_same : (f g : KnownPlaces) → PlacesBelow f g → (place : Option ℕ) (v : Abs) → ResultBelow ListsBelow (check_kept place v f) (check_kept place v g)
+kept_same f g h (Some place) v =
+    result_bind (λ _ _. Unit {0}) ListsBelow (check_readable v) (check_readable v) _ _ (check_refl (check_readable v)) (λ _ _ _. listed_below (with_place place v f) (with_place place v g) (kept_placed f g h place v))
+kept_same f g h None v = result_bind (λ _ _. Unit {0}) ListsBelow (check_readable v) (check_readable v) _ _ (check_refl (check_readable v)) (λ _ _ _. tt)
+
+module _ (xs ys : List Abs) (h : ListsBelow xs ys) (at len : ℕ) where
+  abbrev Stored : Abs → Abs → Type 0
+  Stored x y = ResultBelow ListsBelow (check_stored (Some at) len x xs) (check_stored (Some at) len y ys)
+
+  data_stored : ListsBelow (listed_places (with_data at len (known_in xs))) (listed_places (with_data at len (known_in ys)))
+  data_stored = listed_below (with_data at len (known_in xs)) (with_data at len (known_in ys)) (data_placed (known_in xs) (known_in ys) h at len)
+
+  none_stored : (place : Option ℕ) (m : Result (List Abs) Rule) → ResultBelow ListsBelow m (check_kept place Unreadable (known_in ys))
+  none_stored (Some place) m = tt
+  none_stored None m = tt
+
+  value_stored : (v : Abs) → Stored v v
+  value_stored Number = data_stored
+  value_stored (Known n) = data_stored
+  value_stored Unreadable = none_stored (whole_place at len) (check_stored (Some at) len Unreadable xs)
+  value_stored (Ctx o) = kept_same (known_in xs) (known_in ys) h (whole_place at len) (Ctx o)
+  value_stored (Stack o) = kept_same (known_in xs) (known_in ys) h (whole_place at len) (Stack o)
+  value_stored (Ring n) = kept_same (known_in xs) (known_in ys) h (whole_place at len) (Ring n)
+  value_stored (Perhaps n) = kept_same (known_in xs) (known_in ys) h (whole_place at len) (Perhaps n)
+  value_stored (Record n o) = kept_same (known_in xs) (known_in ys) h (whole_place at len) (Record n o)
+
+  stored_there : (x y : Abs) → BelowValue x y → Stored x y
+  stored_there =
+      below_cases Stored (λ v. none_stored (whole_place at len) (check_stored (Some at) len v xs)) (number_cases (λ v. Stored v Number) data_stored (λ n. data_stored)) value_stored
+
 pub stored_same : (xs ys : List Abs) → ListsBelow xs ys → (at : Option ℕ) (len : ℕ) (x y : Abs) → BelowValue x y → ResultBelow ListsBelow (check_stored at len x xs) (check_stored at len y ys)
 stored_same xs ys h None len x y b = result_bind (λ _ _. Unit {0}) ListsBelow (check_number rule.PointerStored x) (check_number rule.PointerStored y) _ _ (number_below rule.PointerStored x y b) (λ _ _ _. h)
-stored_same xs ys h (Some at) len x y b =
-    result_bind (λ _ _. Unit {0}) ListsBelow (check_number rule.PointerStored x) (check_number rule.PointerStored y) _ _ (number_below rule.PointerStored x y b)
-    (λ _ _ _. listed_below (with_data at len (known_in xs)) (with_data at len (known_in ys)) (data_placed (known_in xs) (known_in ys) h at len))
+stored_same xs ys h (Some at) len x y b = stored_there xs ys h at len x y b

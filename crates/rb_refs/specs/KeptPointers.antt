@@ -1,13 +1,13 @@
 -- What is known of the places of the stack: of each, what is known of a register that loads it. A number says that the place has
 -- data, a pointer that it keeps this one, and Unreadable that it may have either (own profile).
-use Rattle.std.specs.Prelude.{ℕ, ℤ, ◌+◌, ◌+ℤ◌, ◌==◌, ◌&&◌, Bool, true, false, not, List, map, slice_index_or, Option, Some, None, Result, Ok, if◌then◌else◌}
+use Rattle.std.specs.Prelude.{ℕ, ℤ, ◌+◌, ◌+ℤ◌, ◌==◌, ◌&&◌, Bool, true, false, not, List, map, slice_index_or, Option, Some, None, Result, Ok, Err, if◌then◌else◌}
 use Rattle.std.specs.List.{range_with_len}
 use Rattle.rb_refs.specs.declared.rule.Rule.{Rule}
 use Rattle.rb_refs.specs.declared.rule.Rule.TheVariants as rule
 use Rattle.rb_refs.specs.declared.value.Abs.{Abs}
-use Rattle.rb_refs.specs.declared.value.Abs.TheVariants.{Unreadable, Number, Known, Stack}
+use Rattle.rb_refs.specs.declared.value.Abs.TheVariants.{Number, Known, Stack}
 use Rattle.rb_refs.specs.StackPlaces.{stack_byte, whole_place, touches, any_place}
-use Rattle.rb_refs.specs.ValueChecks.{◌>>=◌, refused_if, check_number}
+use Rattle.rb_refs.specs.ValueChecks.{◌>>=◌, refused_if, check_readable, check_number}
 
 -- what is known of each place, by its number
 abbrev pub KnownPlaces : Type 0
@@ -62,7 +62,13 @@ abbrev pub check_loaded : Option ℕ → ℕ → KnownPlaces → Result Abs Rule
 check_loaded None len places = Ok Number
 check_loaded (Some at) len places = check_filled (whole_place at len) at len places
 
--- what a store of `len` bytes of a number leaves of the places, to a byte of the stack or to another part
+-- what a store of a pointer leaves of the places: the one that has exactly these bytes keeps it, and no other bytes do
+abbrev pub check_kept : Option ℕ → Abs → KnownPlaces → Result (List Abs) Rule
+check_kept (Some place) v places = check_readable v >>= (λ _. Ok (listed_places (with_place place v places)))
+check_kept None v places = check_readable v >>= (λ _. Err rule.PointerStored)
+
+-- what a store of `len` bytes of a value leaves of the places, to a byte of the stack or to another part: a number leaves data
 abbrev pub check_stored : Option ℕ → ℕ → Abs → List Abs → Result (List Abs) Rule
 check_stored None len v places = check_number rule.PointerStored v >>= (λ _. Ok places)
-check_stored (Some at) len v places = check_number rule.PointerStored v >>= (λ _. Ok (listed_places (with_data at len (known_in places))))
+check_stored (Some at) len v places =
+    if is_data v then Ok (listed_places (with_data at len (known_in places))) else check_kept (whole_place at len) v (known_in places)

@@ -80,7 +80,7 @@ check_load limits dst base offset len s = do
   v ← check_loaded (byte_behind (value_in s base.number) offset) len (known_in s.places)
   Ok (assignment_effect dst v s)
 
--- a store of so many bytes of a number
+-- a store of so many bytes of a value: of a number, or of a pointer that a place of the stack keeps
 abbrev pub check_store : Limits → Reg → ℤ → ℕ → Abs → AbsState → Result Effect Rule
 check_store limits base offset len v s = do
   _ ← check_tested (value_in s base.number)

@@ -3,9 +3,9 @@
 ghost use Rattle.std.specs.Prelude.{◌≡◌, ◌+◌, ◌≤◌, ◌+ℤ◌, true, Some, Ok, Err, IfOk, IfErr};
 ghost use Rattle.rb_refs.specs.Extents.{contains_range, stack_extent};
 ghost use Rattle.rb_refs.specs.StackPlaces.{stack_byte};
-ghost use Rattle.rb_refs.specs.KeptPointers.{known_in, byte_behind, check_data, check_loaded, check_stored};
+ghost use Rattle.rb_refs.specs.KeptPointers.{known_in, byte_behind, check_data, check_loaded, check_kept, check_stored};
 ghost use Rattle.rb_refs.specs.ValueChecks.{check_inside};
-ghost use Rattle.rb_refs.specs.inner.StackReach.{IsPlaced, LiesInside};
+ghost use Rattle.rb_refs.specs.inner.StackReach.{IsPlace, IsPlaced, LiesInside};
 
 use crate::extents::reaches;
 use crate::limits::Limits;
@@ -13,7 +13,7 @@ use crate::places::{Places, whole_place};
 use crate::references::Held;
 use crate::rule::{Rule, StepFault};
 use crate::value::Abs;
-use crate::value_checks::check_number;
+use crate::value_checks::{check_number, check_readable};
 
 /// The length of the stack in bytes.
 const STACK_LEN: i64 = 512;
@@ -86,7 +86,24 @@ pub(crate) fn check_loaded(byte: Option<u64>, len: u64, places: &Places) -> Resu
     Ok(Abs::Number)
 }
 
+/// What a store of a pointer leaves of the places: the one that has exactly the bytes keeps it, and no other bytes do.
+fn keep_at(place: Option<u64>, value: Abs, places: &mut Places) -> Result<(), StepFault>
+    requires { IsPlace place }
+    ensures placed { IsPlaced result places.new (check_kept place value (known_in places.old)) }
+    ensures unchanged { IfErr result (λ _. places.new ≡ places.old) }
+{
+    check_readable(value)?;
+    match place {
+        Some(place) => {
+            *places = places.with_place(place, value)?;
+            Ok(())
+        }
+        None => Err(StepFault::Rule(Rule::PointerStored)),
+    }
+}
+
 /// What a store of `len` bytes of a value leaves of the places, to a byte of the stack or to another part.
+#[tactic(auto, using(crate::proofs::Numbers::whole_inside))]
 pub(crate) fn store_to(
     byte: Option<u64>,
     len: u64,
@@ -97,9 +114,14 @@ pub(crate) fn store_to(
     ensures placed { IsPlaced result places.new (check_stored byte len value places.old) }
     ensures unchanged { IfErr result (λ _. places.new ≡ places.old) }
 {
-    check_number(Rule::PointerStored, value)?;
-    if let Some(at) = byte {
-        *places = places.with_data(at, len)?;
+    let Some(at) = byte else {
+        return Ok(check_number(Rule::PointerStored, value)?);
+    };
+    match value {
+        Abs::Number | Abs::Known(_) => {
+            *places = places.with_data(at, len)?;
+            Ok(())
+        }
+        _ => keep_at(whole_place(at, len), value, places),
     }
-    Ok(())
 }

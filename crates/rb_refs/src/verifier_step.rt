@@ -138,7 +138,7 @@ fn check_load(
     Ok(None)
 }
 
-/// A store of so many bytes of a number.
+/// A store of so many bytes of a value: of a number, or of a pointer that a place of the stack keeps.
 fn check_store(
     limits: Limits,
     base: Reg,

@@ -40,7 +40,7 @@ use Rattle.rb_semantics.proofs.Held.{held_absent, held_found, held_removed}
 use Rattle.rb_semantics.proofs.Values.{number_value}
 use Rattle.rb_semantics.proofs.Changes.{agrees_answered, agrees_given_back, with_new, agrees_granted, agrees_refused}
 use Rattle.rb_semantics.proofs.Checks.{number_passed, ring_passed, size_passed, record_size_passed, IsStart, start_passed}
-use Rattle.rb_semantics.proofs.Accesses.{value_reached, reached_read, inside_passed}
+use Rattle.rb_semantics.proofs.Accesses.{value_read, inside_passed}
 use Rattle.rb_semantics.proofs.Rows.{past, known, Follows, Sound, IsEffect, can_go}
 
 -- the record of a reference that is sure
@@ -140,12 +140,11 @@ module _ (subject : Subject) (s : State) (c : CanStep subject s) (code : ℕ) (b
   output_sound =
       let P = Leads (waits_for (call_output (register s 1) (register s 2) (register s 3) (register s 4) s)) in
       past P (check_ring (arg 1)) _ (λ ring e1. past P (check_tested (arg 2)) _ (λ _ _. past P (check_part_pointer (arg 2)) _ (λ _ _. past P (check_known_size (arg 3)) _ (λ len e3.
-      past P (check_inside (limits_of subject) a.held (arg 2) (pos 0) len) _ (λ i e2. past P (check_data (byte_behind (arg 2) (pos 0)) len (known_in a.places)) _ (λ _ _. past P (check_number rule.HelperArgument (arg 4)) _ (λ j e4.
+      past P (check_inside (limits_of subject) a.held (arg 2) (pos 0) len) _ (λ i e2. past P (check_data (byte_behind (arg 2) (pos 0)) len (known_in a.places)) _ (λ d e5. past P (check_number rule.HelperArgument (arg 4)) _ (λ j e4.
       let v1 = ring_held 1 ring e1 in
       let v3 : register s 3 ≡ Number len = subst (λ x. AgreesValue s.memory.records x (register s 3)) (size_passed (arg 3) len e3) (holds 3) in
       let v4 = number_held 4 j e4 in
-      let r = value_reached subject a s c.agrees (arg 2) (register s 2) (pos 0) len (inside_passed subject a.held (arg 2) (pos 0) len i e2) (holds 2) (c.agrees.tied 2) in
-      let b = reached_read s.memory (register s 2) (pos 0) len r in
+      let b = value_read subject a s c.agrees (arg 2) (register s 2) (pos 0) len d (inside_passed subject a.held (arg 2) (pos 0) len i e2) (holds 2) (c.agrees.tied 2) e5 in
       subst (λ call. Leads (waits_for call) (effect_on_both (table.after_answer abs.Number a))) (sym (asks_output s (register s 1) (register s 2) (register s 3) (register s 4) ring len v4.0 b.0 v1 v3 v4.1 b.1))
       (λ h. record { at_call = ap calls begins; here = refl; lawful = ring_known 1 ring v1; held = omega arith; next = can_output subject (waiting s) (number_answered h) }))))))))
 

@@ -1,26 +1,23 @@
 -- A state is as is known of it, after each change.
-use Rattle.std.proofs.Common.{◌≡◌, ⊎_elim, ℕ, zero, suc, true, false, List, [], ◌∷◌, ◌++◌, Some, None, length, map, find, get_or, set, sym, ap, subst, ◌∙◌, refl, arith}
-use Rattle.std.proofs.lemmas.Bool.{cases_lt}
+use Rattle.std.proofs.Common.{◌≡◌, ℕ, zero, suc, true, false, List, [], ◌∷◌, ◌++◌, Some, None, length, map, find, get_or, set, sym, ap, subst, ◌∙◌, refl, arith}
 use Rattle.std.proofs.lemmas.List.{length-set, length-map}
 use Rattle.rb_refs.specs.declared.state.AbsState.{AbsState}
 use Rattle.rb_refs.specs.declared.value.Abs.{Abs}
 use Rattle.rb_refs.specs.declared.value.Abs.TheVariants as abs
-use Rattle.rb_refs.specs.ReferenceChanges.{if_null, place_if_null, if_there, if_given_back, null_state, there_state, given_back_state}
+use Rattle.rb_refs.specs.ReferenceChanges.{if_null, if_there, if_given_back, null_state, there_state, given_back_state}
 use Rattle.rb_refs.specs.References.{IsAscending, AreEarlier, has_id}
 use Rattle.rb_refs.specs.AbstractStates.{Below, value_in, put}
-use Rattle.rb_refs.specs.AbstractValues.{BelowValue}
-use Rattle.rb_refs.specs.KeptPointers.{KnownPlaces, listed_places, known_in}
 use Rattle.rb_refs.specs.HelperChecks as helpers
-use Rattle.rb_refs.proofs.Laws.{below_value_trans, known-listed, known-past}
 use Rattle.rb_verifier.specs.Subject.{Subject}
 use Rattle.rb_semantics.specs.declared.value.Value.{Value}
 use Rattle.rb_semantics.specs.declared.value.Value.TheVariants.{Nothing}
-use Rattle.rb_semantics.specs.StackPointers.{pointers_beside}
+use Rattle.rb_semantics.specs.StackPointers.{StackPointers}
 use Rattle.rb_semantics.specs.ProgramMemory.{record_named, with_bytes, without, holding}
 use Rattle.rb_semantics.specs.ProgramStates.{State, register}
 use Rattle.rb_semantics.specs.HelperCalls.{waiting, with_answer}
-use Rattle.rb_semantics.specs.Agreement.{AgreesValue, AreHeld, IsTested, HasReference, IsBoundedValue, Agrees}
+use Rattle.rb_semantics.specs.Agreement.{AgreesValue, AreHeld, IsTested, HasReference, IsBoundedValue, AgreesPlaces, Agrees}
 use Rattle.rb_semantics.proofs.Held.{held_null, held_there, held_without, held_pushed, held_refused, held_written}
+use Rattle.rb_semantics.proofs.Places.{places_below, places_null, places_there, places_given_back, places_granted, places_refused, places_written}
 use Rattle.rb_semantics.proofs.Values.{value_below, tied_below, value_pushed, tied_pushed, value_written, value_null, tied_null, value_there, tied_there, value_given_back, tied_given_back}
 
 -- a relation of two lists, of which each element gets a value
@@ -48,20 +45,6 @@ map_at f [] r e = sym e
 map_at f (x ∷ xs) zero e = refl
 map_at f (x ∷ xs) (suc r) e = map_at f xs r e
 
--- a value below which a number lies is one, or nothing is known of it; so it stays under what changes pointers alone
-plain_after : (f : Abs → Abs) → f abs.Number ≡ abs.Number → f abs.Unreadable ≡ abs.Unreadable → (x : Abs) → BelowValue abs.Number x → BelowValue abs.Number (f x)
-plain_after f n u abs.Unreadable h = rw u tt
-plain_after f n u abs.Number h = rw n tt
-plain_after f n u (abs.Known m) h = absurd (cc)
-plain_after f n u (abs.Ctx o) h = absurd (cc)
-plain_after f n u (abs.Stack o) h = absurd (cc)
-plain_after f n u (abs.Ring m) h = absurd (cc)
-plain_after f n u (abs.Perhaps m) h = absurd (cc)
-plain_after f n u (abs.Record m o) h = absurd (cc)
-
-pub plain_listed : (places : KnownPlaces) → ((place : ℕ) → BelowValue abs.Number (places place)) → (place : ℕ) → BelowValue abs.Number (known_in (listed_places places) place)
-plain_listed places h place = ⊎_elim (λ lt. rw (known-listed places place lt) (h place)) (λ le. rw (known-past places place le) tt) (cases_lt place 64)
-
 module _ (subject : Subject) where
   pub agrees_below : (a b : AbsState) (s : State) → Below a b → Agrees subject a s → Agrees subject b s
   agrees_below a b s h g = record {
@@ -71,18 +54,17 @@ module _ (subject : Subject) where
     tied = λ r. subst (λ held. HasReference held (value_in b r)) h.held (tied_below a.held (value_in a r) (value_in b r) (h.values r) (g.tied r));
     bounded = g.bounded;
     stack = g.stack;
-    pointers = g.pointers;
-    plain = λ place. below_value_trans abs.Number (known_in a.places place) (known_in b.places place) (g.plain place) (h.places place);
+    places = places_below subject.rings a b s.memory h g.places;
     context = g.context;
   }
 
-  -- other places, where they too have data
-  pub agrees_placed : (a : AbsState) (s : State) (places : List Abs) → ((place : ℕ) → BelowValue abs.Number (known_in places place)) → Agrees subject a s → Agrees subject (record a { places = places }) s
-  agrees_placed a s places h g = record { count = g.count; values = g.values; records = g.records; tied = g.tied; bounded = g.bounded; stack = g.stack; pointers = g.pointers; plain = h; context = g.context }
+  -- other places
+  pub agrees_placed : (a : AbsState) (s : State) (places : List Abs) → AgreesPlaces subject.rings a.held places s.memory → Agrees subject a s → Agrees subject (record a { places = places }) s
+  agrees_placed a s places h g = record { count = g.count; values = g.values; records = g.records; tied = g.tied; bounded = g.bounded; stack = g.stack; places = h; context = g.context }
 
   -- the unit is of no account
   pub agrees_at : (a : AbsState) (s : State) (unit : ℕ) → Agrees subject a s → Agrees subject a (record s { unit = unit })
-  agrees_at a s unit g = record { count = g.count; values = g.values; records = g.records; tied = g.tied; bounded = g.bounded; stack = g.stack; pointers = g.pointers; plain = g.plain; context = g.context }
+  agrees_at a s unit g = record { count = g.count; values = g.values; records = g.records; tied = g.tied; bounded = g.bounded; stack = g.stack; places = g.places; context = g.context }
 
   pub agrees_put : (a : AbsState) (s : State) (d : ℕ) (x : Abs) (v : Value) → AgreesValue s.memory.records x v → HasReference a.held x → IsBoundedValue subject.rings v → Agrees subject a s → Agrees subject (put a d x) (record s { registers = set s.registers d v })
   agrees_put a s d x v h t b g = record {
@@ -92,8 +74,7 @@ module _ (subject : Subject) where
     tied = set_all (HasReference a.held) a.values d x abs.Unreadable g.tied t;
     bounded = set_all (IsBoundedValue subject.rings) s.registers d v Nothing g.bounded b;
     stack = g.stack;
-    pointers = g.pointers;
-    plain = g.plain;
+    places = g.places;
     context = g.context;
   }
 
@@ -113,8 +94,7 @@ module _ (subject : Subject) where
         tied = p5.tied;
         bounded = λ r. subst (λ (vs : List Value). IsBoundedValue subject.rings (get_or vs r Nothing)) (in_order s.registers v) (p5.bounded r);
         stack = g.stack;
-        pointers = g.pointers;
-        plain = g.plain;
+        places = g.places;
         context = g.context;
       }
     where
@@ -131,8 +111,7 @@ module _ (subject : Subject) where
     tied = λ r. rw (map_at (if_null id) a.values r refl) (tied_null id a.held (value_in a r) h (g.tied r));
     bounded = g.bounded;
     stack = g.stack;
-    pointers = g.pointers;
-    plain = plain_listed (λ place. place_if_null id (known_in a.places place)) (λ place. plain_after (place_if_null id) refl refl (known_in a.places place) (g.plain place));
+    places = places_null subject.rings id a s.memory none h g.places;
     context = g.context;
   }
 
@@ -145,8 +124,7 @@ module _ (subject : Subject) where
     tied = λ r. rw (map_at (if_there id) a.values r refl) (tied_there id a.held (value_in a r) (g.tied r));
     bounded = g.bounded;
     stack = g.stack;
-    pointers = g.pointers;
-    plain = plain_listed (λ place. if_there id (known_in a.places place)) (λ place. plain_after (if_there id) refl refl (known_in a.places place) (g.plain place));
+    places = places_there subject.rings id b a s.memory there g.places;
     context = g.context;
   }
 
@@ -159,8 +137,7 @@ module _ (subject : Subject) where
     tied = λ r. rw (map_at (if_given_back id) a.values r refl) (tied_given_back id a.held (value_in a r) h (g.tied r));
     bounded = g.bounded;
     stack = g.stack;
-    pointers = g.pointers;
-    plain = plain_listed (λ place. if_given_back id (known_in a.places place)) (λ place. plain_after (if_given_back id) refl refl (known_in a.places place) (g.plain place));
+    places = places_given_back subject.rings id a s.memory h g.places;
     context = g.context;
   }
 
@@ -177,8 +154,7 @@ module _ (subject : Subject) where
     tied = λ r. tied_pushed _ a.held (value_in a r) (g.tied r);
     bounded = g.bounded;
     stack = g.stack;
-    pointers = g.pointers;
-    plain = g.plain;
+    places = places_granted subject.rings unit ring size b a s.memory e g.places;
     context = g.context;
   }
 
@@ -191,23 +167,21 @@ module _ (subject : Subject) where
     tied = λ r. tied_pushed _ a.held (value_in a r) (g.tied r);
     bounded = g.bounded;
     stack = g.stack;
-    pointers = g.pointers;
-    plain = g.plain;
+    places = places_refused subject.rings unit ring size a s.memory g.places;
     context = g.context;
   }
 
-  -- the stack has other bytes
-  pub agrees_stack : (a : AbsState) (s : State) (at len : ℕ) (b : List ℕ) → length b ≡ length s.memory.stack → Agrees subject a s
-      → Agrees subject a (record s { memory = record s.memory { stack = b; pointers = pointers_beside at len s.memory.pointers } })
-  agrees_stack a s at len b l g = record {
+  -- the stack has other bytes, and keeps other pointers
+  pub agrees_stack : (a : AbsState) (s : State) (b : List ℕ) (pointers : StackPointers) (places : List Abs) → length b ≡ length s.memory.stack → AgreesPlaces subject.rings a.held places (record s.memory { stack = b; pointers = pointers }) → Agrees subject a s
+      → Agrees subject (record a { places = places }) (record s { memory = record s.memory { stack = b; pointers = pointers } })
+  agrees_stack a s b pointers places l h g = record {
     count = g.count;
     values = g.values;
     records = g.records;
     tied = g.tied;
     bounded = g.bounded;
     stack = l ∙ g.stack;
-    pointers = ap (pointers_beside at len) g.pointers;
-    plain = g.plain;
+    places = h;
     context = g.context;
   }
 
@@ -221,7 +195,6 @@ module _ (subject : Subject) where
     tied = g.tied;
     bounded = g.bounded;
     stack = g.stack;
-    pointers = g.pointers;
-    plain = g.plain;
+    places = places_written subject.rings id b a s.memory g.places;
     context = g.context;
   }

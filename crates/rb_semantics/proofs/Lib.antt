@@ -2,12 +2,14 @@ mod Ids
 mod Records
 mod Held
 mod Values
+mod Places
 mod Changes
 mod Checks
 mod Rows
 mod Moves
 mod Sums
 mod Accesses
+mod Stores
 mod MemoryLaws
 mod Branches
 mod Calling

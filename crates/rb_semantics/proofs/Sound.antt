@@ -1,8 +1,7 @@
 -- From a state that agrees with a valid annotation each instruction has a meaning, and leads to such a state.
-use Rattle.std.proofs.Common.{◌≡◌, ℕ, zero, suc, ◌<◌, true, false, eqb, List, [], ◌∷◌, Some, length, sym, ap, subst, ◌∙◌, refl, arith}
+use Rattle.std.proofs.Common.{◌≡◌, ℕ, zero, suc, ◌<◌, true, false, eqb, List, [], ◌∷◌, Some, None, length, sym, ap, subst, ◌∙◌, refl, arith}
 use Rattle.std.specs.Prelude.{not}
 use Rattle.std.proofs.lemmas.List.{length-replicate}
-use Rattle.byteorder.specs.Endian.{little_number}
 use Rattle.rb_insn.specs.declared.insn.Insn.{Insn}
 use Rattle.rb_insn.specs.declared.insn.Insn.TheVariants.{Binary, Division, Negate, Move, MoveExtended32, MoveExtended64, Reorder, Jump, JumpFar, Branch, Call, Exit, LoadNumber, LoadRing, Load, LoadSigned, StoreImmediate, StoreRegister}
 use Rattle.rb_insn.specs.declared.insn.Operand.TheVariants.{Immediate, Register}
@@ -17,29 +16,39 @@ use Rattle.rb_refs.specs.declared.references.Reference.{Reference}
 use Rattle.rb_refs.specs.declared.value.Abs.TheVariants as abs
 use Rattle.rb_refs.specs.ValueChecks.{refused_if, check_number}
 use Rattle.rb_refs.specs.HelperChecks.{helper_of}
-use Rattle.rb_insn.specs.Sizes.{byte_count, signed_byte_count}
+use Rattle.rb_insn.specs.declared.insn.SignedSize.{SignedSize}
+use Rattle.rb_insn.specs.declared.insn.SignedSize.TheVariants as signed
+use Rattle.rb_insn.specs.Sizes.{signed_byte_count}
+use Rattle.rb_refs.specs.StackPlaces.{whole_place}
 use Rattle.rb_refs.specs.References.{is_empty}
 use Rattle.rb_refs.specs.AbstractStates.{value_in, effect_on_both, entry_state}
 use Rattle.rb_refs.specs.VerifierChecks as table
-use Rattle.rb_refs.proofs.Laws.{step_forms, form_entry, form_below}
+use Rattle.rb_refs.proofs.Laws.{step_forms, form_entry, form_below, known-listed}
 use Rattle.rb_verifier.specs.Annotation.{HoldsAt, HasValid}
 use Rattle.rb_verifier.specs.Subject.{Subject, limits_of}
 use Rattle.rb_semantics.specs.declared.value.Value.TheVariants.{Number}
 use Rattle.rb_semantics.specs.ProgramStates.{State, register, entry_program_state}
 use Rattle.rb_semantics.specs.Instructions.{execute, execute_at, next_step, execute_exit, signed_number}
-use Rattle.rb_semantics.specs.Agreement.{AgreesValue, HasReference, IsBoundedValue, Agrees}
+use Rattle.rb_semantics.specs.Agreement.{AgreesValue, HasReference, IsBoundedValue, AgreesPlaces, Agrees}
 use Rattle.rb_semantics.specs.Soundness.{CanStep, IsSoundEffect}
 use Rattle.rb_semantics.proofs.Ids.{not_equal}
 use Rattle.rb_semantics.proofs.Held.{held_none}
 use Rattle.rb_semantics.proofs.Values.{number_value}
-use Rattle.rb_semantics.proofs.Changes.{agrees_below, plain_listed}
+use Rattle.rb_semantics.proofs.Changes.{agrees_below}
 use Rattle.rb_semantics.proofs.Checks.{passed, number_passed}
 use Rattle.rb_semantics.proofs.Rows.{past, known, Follows, Sound, IsEffect}
 use Rattle.rb_semantics.proofs.Moves.{given_sound, copied_sound, converted_sound, altered_sound, ring_sound, divided_sound}
 use Rattle.rb_semantics.proofs.Sums.{binary_sound}
-use Rattle.rb_semantics.proofs.Accesses.{loaded_sound, filled_sound, stored_sound, spilled_sound}
+use Rattle.rb_semantics.proofs.Accesses.{loaded_sound, filled_sound}
+use Rattle.rb_semantics.proofs.Stores.{stored_sound, spilled_sound}
 use Rattle.rb_semantics.proofs.Branches.{jumps_to, branch_sound}
 use Rattle.rb_semantics.proofs.Calling.{call_sound}
+
+-- a signed load has no whole place
+signed_part : (size : SignedSize) (at : ℕ) → whole_place at (signed_byte_count size) ≡ None
+signed_part signed.Byte at = refl
+signed_part signed.Half at = refl
+signed_part signed.Word at = refl
 
 none_held : (held : List Reference) → not (is_empty held) ≡ false → held ≡ []
 none_held [] e = refl
@@ -70,10 +79,10 @@ module _ (subject : Subject) (s : State) (c : CanStep subject s) where
   row_sound (Binary width op dst operand) begins = binary_sound subject s c (Binary width op dst operand) begins refl width op dst operand
   row_sound (LoadNumber dst n) begins = given_sound subject s c (LoadNumber dst n) begins refl dst (abs.Known n) (Number n) refl tt tt
   row_sound (LoadRing dst ring) begins = ring_sound subject s c (LoadRing dst ring) begins refl dst ring
-  row_sound (Load size dst base by) begins = filled_sound subject s c (Load size dst base by) begins refl dst base by size (byte_count size) (little_number (byte_count size))
-  row_sound (LoadSigned size dst base by) begins = loaded_sound subject s c (LoadSigned size dst base by) begins refl dst base by (signed_byte_count size) (signed_number (signed_byte_count size))
-  row_sound (StoreImmediate size base by k) begins = stored_sound subject s c (StoreImmediate size base by k) begins refl base by size abs.Number (Number _) (_, refl)
-  row_sound (StoreRegister size base by src) begins = spilled_sound subject s c (StoreRegister size base by src) begins refl base by size (value_in (known subject s c) src.number) (register s src.number) (c.agrees.values src.number)
+  row_sound (Load size dst base by) begins = filled_sound subject s c (Load size dst base by) begins refl dst base by size
+  row_sound (LoadSigned size dst base by) begins = loaded_sound subject s c (LoadSigned size dst base by) begins refl dst base by (signed_byte_count size) (signed_number (signed_byte_count size)) (signed_part size)
+  row_sound (StoreImmediate size base by k) begins = stored_sound subject s c (StoreImmediate size base by k) begins refl base by size abs.Number _ (_, refl) tt
+  row_sound (StoreRegister size base by src) begins = spilled_sound subject s c (StoreRegister size base by src) begins refl base by size (value_in (known subject s c) src.number) (register s src.number) (c.agrees.values src.number) (c.agrees.tied src.number) (c.agrees.bounded src.number)
   row_sound (Branch width condition dst operand distance) begins = branch_sound subject s c width condition dst operand distance begins
   row_sound (Jump distance) begins = jumps_to subject s c (Jump distance) begins distance refl (effect_on_both (known subject s c)) c.agrees
   row_sound (JumpFar distance) begins = jumps_to subject s c (JumpFar distance) begins distance refl (effect_on_both (known subject s c)) c.agrees
@@ -140,6 +149,14 @@ entry_bounded rings context (suc (suc (suc (suc (suc (suc (suc (suc (suc zero)))
 entry_bounded rings context (suc (suc (suc (suc (suc (suc (suc (suc (suc (suc zero)))))))))) = refl
 entry_bounded rings context (suc (suc (suc (suc (suc (suc (suc (suc (suc (suc (suc r))))))))))) = tt
 
+-- the stack has data, and keeps no pointer
+entry_places : (rings : ℕ) (context : List ℕ) → AgreesPlaces rings entry_state.held entry_state.places (entry_program_state context).memory
+entry_places rings context = record {
+  values = λ place lt. rw (known-listed (λ place. abs.Number) place lt) (_, refl);
+  tied = λ place lt. rw (known-listed (λ place. abs.Number) place lt) tt;
+  pointers = λ place v e. absurd (cc);
+}
+
 entry_agrees : (subject : Subject) (context : List ℕ) → length context ≡ subject.ctx_len → Agrees subject entry_state (entry_program_state context)
 entry_agrees subject context long = record {
   count = refl;
@@ -148,8 +165,7 @@ entry_agrees subject context long = record {
   tied = entry_tied;
   bounded = entry_bounded subject.rings context;
   stack = length-replicate {A = ℕ} 512 0;
-  pointers = refl;
-  plain = plain_listed (λ place. abs.Number) (λ place. tt);
+  places = entry_places subject.rings context;
   context = long;
 }
 

@@ -1,11 +1,11 @@
 -- When the state of a program is as an annotation says (own profile).
-use Rattle.std.specs.Prelude.{◌≡◌, ℕ, ◌<◌, pos, Bool, true, false, List, [], ◌∷◌, Option, Some, None, find, length, ◌⊎◌}
+use Rattle.std.specs.Prelude.{◌≡◌, ℕ, ◌*◌, ◌<◌, pos, Bool, true, false, List, [], ◌∷◌, Option, Some, None, find, length, take, drop, ◌⊎◌}
+use Rattle.byteorder.specs.Endian.{little_number}
 use Rattle.rb_refs.specs.declared.references.Reference.{Reference}
 use Rattle.rb_refs.specs.declared.state.AbsState.{AbsState}
 use Rattle.rb_refs.specs.declared.value.Abs.{Abs}
 use Rattle.rb_refs.specs.declared.value.Abs.TheVariants as abs
 use Rattle.rb_refs.specs.AbstractArithmetic.{is_near}
-use Rattle.rb_refs.specs.AbstractValues.{BelowValue}
 use Rattle.rb_refs.specs.KeptPointers.{known_in}
 use Rattle.rb_refs.specs.References.{has_id}
 use Rattle.rb_refs.specs.AbstractStates.{value_in}
@@ -13,7 +13,8 @@ use Rattle.rb_verifier.specs.Subject.{Subject}
 use Rattle.rb_semantics.specs.declared.value.MemoryRegion.TheVariants.{Stack, Context, Record}
 use Rattle.rb_semantics.specs.declared.value.Value.{Value}
 use Rattle.rb_semantics.specs.declared.value.Value.TheVariants.{Number, Pointer, Ring}
-use Rattle.rb_semantics.specs.ProgramMemory.{record_named}
+use Rattle.rb_semantics.specs.StackPointers.{pointer_at}
+use Rattle.rb_semantics.specs.ProgramMemory.{Memory, record_named}
 use Rattle.rb_semantics.specs.ProgramStates.{State, register}
 
 -- what a reservation gave: a pointer to its record, where that is held, and else null
@@ -57,8 +58,28 @@ IsBoundedValue rings (Pointer place offset) = is_near offset ≡ true
 IsBoundedValue rings (Ring ring) = ring < rings
 IsBoundedValue rings v = Unit {0}
 
--- A state is as is known of it. The stack keeps no pointer, since the verifier refuses every store of one; so each place is known
--- to have data, or nothing is known of it.
+-- what a load of a whole place gives: the pointer that it keeps, or else the number in its eight bytes
+abbrev pub loaded_value : Option Value → List ℕ → Value
+loaded_value (Some v) bytes = v
+loaded_value None bytes = Number (little_number 8 bytes)
+
+abbrev pub value_at : ℕ → Memory → Value
+value_at place m = loaded_value (pointer_at place m.pointers) (take 8 (drop (8 * place) m.stack))
+
+-- what a place keeps beside its bytes is no number, and within the bounds of what a register holds
+abbrev pub IsKeptPointer : ℕ → Value → Type 0
+IsKeptPointer rings (Pointer part offset) = IsBoundedValue rings (Pointer part offset)
+IsKeptPointer rings (Ring ring) = IsBoundedValue rings (Ring ring)
+IsKeptPointer rings v = ⊥
+
+-- Each place of the stack is as is known of it, as a register is that loads it: one that has data keeps no pointer, one that is known to keep a
+-- pointer keeps it, where null is eight bytes that are zero, and one of which nothing is known keeps anything.
+pub record AgreesPlaces (rings : ℕ) (held : List Reference) (places : List Abs) (m : Memory) : Type 0 where
+  pub values : (place : ℕ) → place < 64 → AgreesValue m.records (known_in places place) (value_at place m)
+  pub tied : (place : ℕ) → place < 64 → HasReference held (known_in places place)
+  pub pointers : (place : ℕ) (v : Value) → pointer_at place m.pointers ≡ Some v → IsKeptPointer rings v
+
+-- a state is as is known of it
 pub record Agrees (subject : Subject) (known : AbsState) (s : State) : Type 0 where
   pub count : length known.values ≡ length s.registers
   pub values : (r : ℕ) → AgreesValue s.memory.records (value_in known r) (register s r)
@@ -66,6 +87,5 @@ pub record Agrees (subject : Subject) (known : AbsState) (s : State) : Type 0 wh
   pub tied : (r : ℕ) → HasReference known.held (value_in known r)
   pub bounded : (r : ℕ) → IsBoundedValue subject.rings (register s r)
   pub stack : length s.memory.stack ≡ 512
-  pub pointers : s.memory.pointers ≡ []
-  pub plain : (place : ℕ) → BelowValue abs.Number (known_in known.places place)
+  pub places : AgreesPlaces subject.rings known.held known.places s.memory
   pub context : length s.memory.context ≡ subject.ctx_len

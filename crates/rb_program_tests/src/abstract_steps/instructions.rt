@@ -135,7 +135,8 @@ fn refusals_in_order(rt: HostRuntime) {
         (store(1, 99, 7), Rule::ContextWritten),
         (store(4, 0, 7), Rule::OutsidePart),
         (store(6, 0, 7), Rule::Unreadable),
-        (store(6, 0, 1), Rule::PointerStored),
+        (store(6, -4, 1), Rule::PointerStored),
+        (store(5, 0, 1), Rule::PointerStored),
         (
             Insn::LoadRing {
                 dst: reg(0),

@@ -108,6 +108,17 @@ fn store(size: Size, offset: i16) -> Insn {
     }
 }
 
+fn spill(src: u8, offset: i16) -> Insn
+    requires { src ≤ 10 }
+{
+    Insn::StoreRegister {
+        size: Size::Double,
+        base: reg(10),
+        offset,
+        src: reg(src),
+    }
+}
+
 #[test]
 fn places_after_a_step(rt: HostRuntime) {
     const RECORD: Abs = Abs::Record(2, 0);
@@ -136,6 +147,14 @@ fn places_after_a_step(rt: HostRuntime) {
             store(Size::Half, -510),
             [[RECORD, PERHAPS, EITHER, DATA]; 2],
         ),
+        (spill(1, -16), [[RECORD, RECORD, EITHER, CTX]; 2]),
+        (spill(0, -8), [[PERHAPS, PERHAPS, EITHER, CTX]; 2]),
+        (spill(4, -24), [[RECORD, PERHAPS, Abs::Ring(0), CTX]; 2]),
+        (
+            spill(10, -512),
+            [[RECORD, PERHAPS, EITHER, Abs::Stack(0)]; 2],
+        ),
+        (spill(9, -16), [[RECORD, DATA, EITHER, CTX]; 2]),
         (
             null,
             [

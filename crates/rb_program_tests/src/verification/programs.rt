@@ -47,10 +47,10 @@ const ROWS: [(&str, Answer); 22] = [
         "7112100000000000 b700000000000000 9500000000000000",
         Answer::Rule(Rule::OutsidePart, 0),
     ),
-    // pointer stored
+    // pointer stored at a place of the stack
     (
         "7b1af8ff00000000 b700000000000000 9500000000000000",
-        Answer::Rule(Rule::PointerStored, 0),
+        Answer::Accepted,
     ),
     // store through a moved copy of r10
     (

@@ -29,9 +29,9 @@ const ROWS: [(&str, Answer); 16] = [
         "7a01000000000000 b700000000000000 9500000000000000",
         Answer::Rule(Rule::ContextWritten, 0),
     ),
-    // a pointer is stored
+    // a pointer is stored at no whole place of the stack
     (
-        "7b1af8ff00000000 b700000000000000 9500000000000000",
+        "7b1af4ff00000000 b700000000000000 9500000000000000",
         Answer::Rule(Rule::PointerStored, 0),
     ),
     // a reservation from no ring

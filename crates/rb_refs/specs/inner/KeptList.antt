@@ -1,5 +1,5 @@
 -- What is known of the places of the stack, as code keeps it.
-use Rattle.std.specs.Prelude.{ℕ, ◌-◌, nat_le, List, slice_index_or, if◌then◌else◌}
+use Rattle.std.specs.Prelude.{◌-◌, nat_le, List, slice_index_or, if◌then◌else◌}
 use Rattle.rb_refs.specs.declared.value.Abs.{Abs}
 use Rattle.rb_refs.specs.declared.value.Abs.TheVariants.{Number}
 use Rattle.rb_refs.specs.KeptPointers.{KnownPlaces}

@@ -10,6 +10,11 @@ abbrev pub LiesInside : ℕ → Option ℕ → Type 0
 LiesInside len None = Unit {0}
 LiesInside len (Some at) = at + len ≤ 512
 
+-- a place of the stack, or none
+abbrev pub IsPlace : Option ℕ → Type 0
+IsPlace None = Unit {0}
+IsPlace (Some place) = place ≤ 63
+
 -- a store leaves these places, or breaks a rule; or there was no memory, which says nothing
 abbrev pub IsPlaced : Result (Unit {0}) StepFault → List Abs → Result (List Abs) Rule → Type 0
 IsPlaced (Ok done) places answer = answer ≡ Ok places

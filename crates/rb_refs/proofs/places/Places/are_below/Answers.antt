@@ -1,4 +1,4 @@
-use Rattle.std.proofs.Common.{◌≡◌, ◌<◌, ◌+◌, ◌-◌, ℕ, refl, sym, subst, arith, rules, below_more}
+use Rattle.std.proofs.Common.{◌-◌, refl, subst, arith, rules, below_more}
 use Rattle.rb_refs.specs.AbstractValues.{BelowValue}
 use Rattle.rb_refs.specs.KeptPointers.{known_in}
 use Rattle.rb_refs.proofs.KeptPlaces.{each_place}

@@ -1,4 +1,4 @@
-use Rattle.std.proofs.Common.{◌≡◌, ◌<◌, ◌-◌, ◌+◌, ◌≤◌, ◌∙◌, ap, sym, length, arith}
+use Rattle.std.proofs.Common.{◌<◌, ◌-◌, ◌+◌, ◌≤◌, ◌∙◌, ap, sym, length, arith}
 use Rattle.std.proofs.lemmas.List.{get_or_default}
 use Rattle.rb_refs.specs.declared.value.Abs.TheVariants.{Number}
 use Rattle.rb_refs.specs.KeptPointers.{known_in}

@@ -1,9 +1,7 @@
-use Rattle.std.proofs.Common.{◌≡◌, ◌≢◌, ◌+◌, ◌-◌, ◌≤◌, ℕ, [], ◌∷◌, length, ◌∙◌, ap, sym, subst, arith, length-append}
-use Rattle.rb_refs.specs.declared.value.Abs.TheVariants.{Number}
+use Rattle.std.proofs.Common.{◌+◌, ◌-◌, [], ◌∷◌, length, ◌∙◌, ap, sym, subst, arith, length-append}
 use Rattle.rb_refs.specs.KeptPointers.{known_in, listed_places}
 use Rattle.rb_refs.specs.inner.KeptList.{from_last}
-use Rattle.rb_refs.specs.inner.ChangedValues.{place_after}
-use Rattle.rb_refs.proofs.KeptPlaces.{AreBuilt, built_more, built_list, built_all, with_place-other, with_data-data, after_change-data, data_join, each_place, known-from_last, known_beyond}
+use Rattle.rb_refs.proofs.KeptPlaces.{AreBuilt, built_more, built_all, data_join, each_place, known-from_last, known_beyond}
 use Rattle.rb_refs.specs.inner.ValueJoins.{IsJoinValue}
 use Rattle.rb_refs.proofs.places.Places.joined.Goals as goal
 

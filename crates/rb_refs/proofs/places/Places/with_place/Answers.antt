@@ -1,8 +1,6 @@
-use Rattle.std.proofs.Common.{◌≡◌, ◌≢◌, ◌+◌, ◌-◌, ◌≤◌, ℕ, [], ◌∷◌, length, ◌∙◌, ap, sym, subst, arith, length-append}
-use Rattle.rb_refs.specs.declared.value.Abs.TheVariants.{Number}
-use Rattle.rb_refs.specs.KeptPointers.{known_in, with_place, with_data}
-use Rattle.rb_refs.specs.inner.ChangedValues.{place_after}
-use Rattle.rb_refs.proofs.KeptPlaces.{AreBuilt, built_more, built_list, built_all, with_place-other, with_data-data, after_change-data}
+use Rattle.std.proofs.Common.{◌≡◌, ◌≢◌, ◌+◌, [], ◌∷◌, length, ◌∙◌, ap, sym, subst, arith, length-append}
+use Rattle.rb_refs.specs.KeptPointers.{known_in, with_place}
+use Rattle.rb_refs.proofs.KeptPlaces.{AreBuilt, built_more, built_list, with_place-other}
 use Rattle.rb_refs.proofs.places.Places.with_place.Goals as goal
 
 pub loop-i-preserved : goal.loop-i-preserved
