@@ -1,6 +1,8 @@
 mod Slots
 mod Tables
+mod KeptEntries
 mod Memories
+mod Spilling
 mod Nearness
 mod Giving
 mod Comparing

@@ -1,5 +1,6 @@
 pub mod ExecutedInstruction
 pub mod Reaching
 pub mod SlotTable
+pub mod KeptPointers
 pub mod NearOffsets
 pub mod PendingRequests

@@ -4,11 +4,13 @@ ghost use Rattle.std.specs.Prelude.{◌≡◌, ◌≢◌, ◌<◌, ◌^◌, leng
 ghost use Rattle.byteorder.specs.Endian.{little_number};
 ghost use Rattle.rb_alu.specs.ArithmeticAndJumps.{IsArithmetic, IsConditional};
 ghost use Rattle.rb_insn.specs.Sizes.{byte_count, signed_byte_count};
-ghost use Rattle.rb_semantics.specs.ProgramStates.{pointed, register};
-ghost use Rattle.rb_semantics.specs.Instructions.{Goes, Ends, Stuck, execute_copy, execute_compute, execute_arithmetic, execute_load, signed_number, execute_store, null_test, execute_compare, execute_exit};
+ghost use Rattle.rb_semantics.specs.StackPointers.{spill_of};
+ghost use Rattle.rb_semantics.specs.ProgramStates.{fill_of, pointed, register};
+ghost use Rattle.rb_semantics.specs.Instructions.{Goes, Ends, Stuck, execute_copy, execute_compute, execute_arithmetic, execute_load, execute_fill, signed_number, execute_store, execute_spill, null_test, execute_compare, execute_exit};
 ghost use Rattle.rb_interp.specs.ShownState.{state_of};
 ghost use Rattle.rb_interp.specs.inner.NearOffsets.{IsNearValue, LeavesNear};
 ghost use Rattle.rb_interp.specs.StoredMemory.{Rewrites};
+ghost use Rattle.rb_interp.specs.inner.KeptPointers.{IsKeepable};
 
 use crate::byte_numbers::{number_in, signed_number_in};
 use crate::cpu::Cpu;
@@ -92,7 +94,7 @@ impl<C: Context, R: Lent> Cpu<C, R> {
         }
     }
 
-    /// A load that zero-extends.
+    /// A load that zero-extends, or one of a pointer that is kept on the stack.
     pub(crate) fn execute_load(
         &mut self,
         insn: &Insn,
@@ -103,15 +105,20 @@ impl<C: Context, R: Lent> Cpu<C, R> {
     )
         requires unit { self.old.unit < 2 ^ 31 }
         requires near { IsNearValue base }
-        requires meant { let s = state_of R.bytes_of C.shown self.old in execute_load insn.now dst (little_number (byte_count size)) (pointed s.memory base offset (byte_count size)) s ≢ Stuck }
-        ensures goes { let s = state_of R.bytes_of C.shown self.old in execute_load insn.now dst (little_number (byte_count size)) (pointed s.memory base offset (byte_count size)) s ≡ Goes (state_of R.bytes_of C.shown self.new) }
+        requires meant { let s = state_of R.bytes_of C.shown self.old in execute_fill insn.now dst (little_number (byte_count size)) (fill_of size s.memory base offset) (pointed s.memory base offset (byte_count size)) s ≢ Stuck }
+        ensures goes { let s = state_of R.bytes_of C.shown self.old in execute_fill insn.now dst (little_number (byte_count size)) (fill_of size s.memory base offset) (pointed s.memory base offset (byte_count size)) s ≡ Goes (state_of R.bytes_of C.shown self.new) }
         ensures memory { self.new.memory ≡ self.old.memory }
     {
         match base {
             Value::Pointer(place, start) => {
                 let at = behind(start, offset);
-                let number = number_in(size, self.memory.read(place, at, size.bytes()));
-                self.gives(insn, dst, Value::Number(number));
+                match self.memory.found(size, place, at) {
+                    Some(pointer) => self.gives(insn, dst, pointer),
+                    None => {
+                        let number = number_in(size, self.memory.read(place, at, size.bytes()));
+                        self.gives(insn, dst, Value::Number(number));
+                    }
+                }
             }
             _ => unreachable!(),
         }
@@ -143,7 +150,53 @@ impl<C: Context, R: Lent> Cpu<C, R> {
         }
     }
 
-    /// A store.
+    /// A store of a register: of a number, or of a pointer that the stack keeps.
+    pub(crate) fn store_register(
+        &mut self,
+        insn: &Insn,
+        size: Size,
+        base: Value,
+        offset: i16,
+        from: Value,
+    )
+        requires unit { self.old.unit < 2 ^ 31 }
+        requires near { IsNearValue base }
+        requires stack { length self.old.memory.stack ≡ 512 }
+        requires meant { execute_spill insn.now base offset (byte_count size) (spill_of size from) from (state_of R.bytes_of C.shown self.old) ≢ Stuck }
+        ensures goes { execute_spill insn.now base offset (byte_count size) (spill_of size from) from (state_of R.bytes_of C.shown self.old) ≡ Goes (state_of R.bytes_of C.shown self.new) }
+        ensures same { Rewrites R.with_bytes self.old.memory.records self.new.memory.records }
+    {
+        match from {
+            Value::Number(_) => self.store(insn, size, base, offset, from),
+            Value::Pointer(_, _) | Value::Ring(_) => self.keep(insn, size, base, offset, from),
+            Value::Nothing => unreachable!(),
+        }
+    }
+
+    /// A store of a pointer, which the stack keeps.
+    fn keep(&mut self, insn: &Insn, size: Size, base: Value, offset: i16, pointer: Value)
+        requires unit { self.old.unit < 2 ^ 31 }
+        requires near { IsNearValue base }
+        requires stack { length self.old.memory.stack ≡ 512 }
+        requires pointer { IsKeepable pointer }
+        requires meant { execute_spill insn.now base offset (byte_count size) (spill_of size pointer) pointer (state_of R.bytes_of C.shown self.old) ≢ Stuck }
+        ensures goes { execute_spill insn.now base offset (byte_count size) (spill_of size pointer) pointer (state_of R.bytes_of C.shown self.old) ≡ Goes (state_of R.bytes_of C.shown self.new) }
+        ensures same { Rewrites R.with_bytes self.old.memory.records self.new.memory.records }
+    {
+        match (size, base) {
+            (Size::Double, Value::Pointer(place, start)) => {
+                let Some(next) = next_unit(self.unit, insn) else {
+                    unreachable!()
+                };
+                let at = behind(start, offset);
+                self.memory.keep(place, at, pointer);
+                self.unit = next;
+            }
+            _ => unreachable!(),
+        }
+    }
+
+    /// A store of a number.
     pub(crate) fn store(&mut self, insn: &Insn, size: Size, base: Value, offset: i16, from: Value)
         requires unit { self.old.unit < 2 ^ 31 }
         requires near { IsNearValue base }

@@ -11,6 +11,7 @@ mod fault;
 mod helper_requests;
 mod instruction;
 mod instruction_rows;
+mod kept_pointers;
 mod machine;
 mod machine_memory;
 mod offsets;

@@ -3,24 +3,27 @@
 ghost use Rattle.std.specs.Prelude.{◌≡◌, ◌≢◌, ℕ, ◌<◌, ◌≤◌, [], ◌∷◌, ◌++◌, None, Some, replicate, length};
 ghost use Rattle.byteorder.specs.Endian.{little_bytes};
 ghost use Rattle.rb_insn.specs.Sizes.{byte_count};
-ghost use Rattle.rb_semantics.specs.ProgramMemory.{byte_of, read, write};
+ghost use Rattle.rb_semantics.specs.ProgramMemory.{byte_of, place_at, read, write, spill};
 ghost use Rattle.rb_interp.specs.StoredMemory.{StoredMemory, program_memory_of, held_record, others, Rewrites};
 ghost use Rattle.rb_interp.specs.inner.NearOffsets.{IsNear};
 ghost use Rattle.rb_interp.specs.inner.SlotTable.{part_named};
+ghost use Rattle.rb_interp.specs.inner.KeptPointers.{filled, IsPlace};
 
 use crate::byte_numbers::put_number;
+use crate::kept_pointers::KeptPointers;
 use crate::slot_table::{SlotEntry, entry_of, without};
 use arrayvec::ArrayVec;
 use rb_insn::Size;
 use rb_lend::{Context, Lent, Part, Parts};
-use rb_semantics::MemoryRegion;
+use rb_semantics::{MemoryRegion, Value, writes_take_pointers_out};
 use std::marker::Model;
 
-/// The memory that a program reaches. Contracts see the bytes of the stack, the context, and the records that are held, each with
-/// its name, in the order in which they were reserved.
+/// The memory that a program reaches. Contracts see the bytes of the stack, the pointers that are kept on it, the context, and
+/// the records that are held, each with its name, in the order in which they were reserved.
 #[derive(Drop)]
 pub(crate) struct MachineMemory<C, R> {
     parts: Parts<C, R>,
+    pointers: KeptPointers,
     entries: ArrayVec<SlotEntry, 4>,
 }
 
@@ -30,18 +33,19 @@ impl<C, R> Model for MachineMemory<C, R> {
 
     ghost Value = { StoredMemory C R };
 
-    ghost view = { λ m. record { stack = m.parts.stack; context = m.parts.context; records = named m.entries.items m.parts.records } };
+    ghost view = { λ m. record { stack = m.parts.stack; pointers = m.pointers; context = m.parts.context; records = named m.entries.items m.parts.records } };
 
     ghost invariant = { λ m. IsTable m.entries.items m.parts.records };
 }
 
 impl<C, R> MachineMemory<C, R> {
-    /// A stack of zero bytes, a context, and no records.
+    /// A stack of zero bytes without pointers, a context, and no records.
     pub(crate) fn new(context: C) -> MachineMemory<C, R>
-        ensures { result ≡ record { stack = replicate 512 0; context = context; records = [] } }
+        ensures { result ≡ record { stack = replicate 512 0; pointers = []; context = context; records = [] } }
     {
         MachineMemory {
             parts: Parts::new(context),
+            pointers: KeptPointers::new(),
             entries: ArrayVec::new(),
         }
     }
@@ -96,6 +100,15 @@ fn located(entries: &[SlotEntry], place: MemoryRegion, offset: i64) -> (Part, us
     }
 }
 
+/// The place of the stack that begins at an offset.
+fn place_beginning(offset: i64) -> u8
+    requires near { IsNear offset }
+    requires place { IsPlace (place_at MemoryRegion.Stack offset) }
+    ensures { place_at MemoryRegion.Stack offset ≡ Some result }
+{
+    ((offset + 512) as usize / 8) as u8
+}
+
 impl<C: Context, R: Lent> MachineMemory<C, R> {
     /// Lends `len` bytes from an offset of a part on for reading.
     pub(crate) fn read(&self, place: MemoryRegion, offset: i64, len: usize) -> &[u8]
@@ -117,7 +130,34 @@ impl<C: Context, R: Lent> MachineMemory<C, R> {
         ensures same { Rewrites R.with_bytes self.old.records self.new.records }
     {
         let (part, at) = located(self.entries.as_slice(), place, offset);
-        let bytes = self.parts.range_mut(part, at, size.bytes());
+        let len = size.bytes();
+        self.pointers.write(place, at, len);
+        let bytes = self.parts.range_mut(part, at, len);
         put_number(size, bytes, number);
+    }
+
+    /// Keeps a pointer at the place of the stack that begins at an offset.
+    pub(crate) fn keep(&mut self, place: MemoryRegion, offset: i64, value: Value)
+        requires near { IsNear offset }
+        requires stack { length self.old.stack ≡ 512 }
+        requires inside { spill (program_memory_of R.bytes_of C.shown self.old) place offset value ≢ None }
+        ensures kept { spill (program_memory_of R.bytes_of C.shown self.old) place offset value ≡ Some (program_memory_of R.bytes_of C.shown self.new) }
+        ensures same { Rewrites R.with_bytes self.old.records self.new.records }
+    {
+        writes_take_pointers_out();
+        self.store(place, offset, Size::Double, 0);
+        self.pointers.keep(place_beginning(offset), value);
+    }
+
+    /// The pointer that a load finds at an offset of a part.
+    #[inline(always)]
+    pub(crate) fn found(&self, size: Size, place: MemoryRegion, offset: i64) -> Option<Value>
+        requires { IsNear offset }
+        ensures { result ≡ filled size (program_memory_of R.bytes_of C.shown self.now) place offset }
+    {
+        match (size, place) {
+            (Size::Double, MemoryRegion::Stack) => self.pointers.beginning(offset + 512),
+            _ => None,
+        }
     }
 }
