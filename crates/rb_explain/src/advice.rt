@@ -58,7 +58,7 @@ pub(crate) fn shape_advice(kind: ShapeFaultKind) -> &'static str {
 pub(crate) fn rule_advice(rule: Rule) -> &'static str {
     match rule {
         Rule::Unreadable => {
-            "An instruction reads only registers that hold something on every path to it. Set the register first; r1 to r5 hold nothing after a call, and r0 nothing after a submit or a discard: keep what is needed in r6 to r9.\n"
+            "An instruction reads only registers that hold something on every path to it. Set the register first; r1 to r5 hold nothing after a call, and r0 nothing after a submit or a discard: keep what is needed in r6 to r9, or on the stack. A pointer on the stack is loaded by its eight bytes at once.\n"
         }
         Rule::FramePointerWritten => {
             "The frame pointer r10 is never written. Copy it to another register and change the copy.\n"
@@ -71,7 +71,7 @@ pub(crate) fn rule_advice(rule: Rule) -> &'static str {
         }
         Rule::ContextWritten => { "The context is only read. Write to the stack or to a record." }
         Rule::PointerStored => {
-            "Only numbers are stored. Keep pointers in r6 to r9; clang does so at -O2 and not at -O0.\n"
+            "A pointer is stored at a place of the stack alone: all eight bytes of it, at an offset from r10 that is a multiple of 8. Store it so, or keep it in r6 to r9.\n"
         }
         Rule::HelperArgument => {
             "Each argument of a helper is of its kind: a ring below the number of rings (--rings), a number where a number is wanted, memory to output from, and the record's own first byte to submit or discard. Set r1 to r4 to these before the call.\n"
