@@ -10,10 +10,10 @@ use Rattle.rb_semantics.proofs.Laws.{step_goes, step_asks, step_not_stuck}
 use Rattle.rb_history.specs.declared.answers.Taken.{Taken}
 use Rattle.rb_history.specs.Calls.{IsBusy}
 use Rattle.rb_interleavings.specs.Worlds.{RecordPlace, table_with, WorkerStatus, Running, Finished, Halted, Strayed, WorkerState, WorldRing, World, with_worker, with_ring}
-use Rattle.rb_interleavings.specs.CallsInWorld.{RecordOutcome, BadFlags, MemoryRefused, NoRoom, Made, WorkerReserves, answer_to_reserve, held_after_reserve, WorkerOutputs, answer_to_output, granted_at, WorkerSubmits, WorkerDiscards}
+use Rattle.rb_interleavings.specs.CallsInWorld.{RecordOutcome, BadFlags, Unlogged, NoRoom, Made, WorkerReserves, answer_to_reserve, held_after_reserve, WorkerOutputs, answer_to_output, granted_at, WorkerSubmits, WorkerDiscards}
 use Rattle.rb_interleavings.specs.declared.actor.Actor.{Actor}
-use Rattle.rb_interleavings.specs.declared.actor.Actor.TheVariants.{Worker, Consumer}
-use Rattle.rb_interleavings.specs.Turns.{TurnEvent, Went, HandedOver, Ended, GotStuck, GotBack, Idle, Took, NoMemory, submit_event, discard_event, output_event, GetsAnswer, GivesRecordBack, MakesCall, ExecutesStep, TakesWorkerTurn, TakesConsumerTurn, WorldStep}
+use Rattle.rb_interleavings.specs.declared.actor.Actor.TheVariants.{Worker, Consumer, Keeper}
+use Rattle.rb_interleavings.specs.Turns.{TurnEvent, Went, HandedOver, Ended, GotStuck, GotBack, Idle, Took, HandedChapter, NoMemory, submit_event, discard_event, output_event, GetsAnswer, GivesRecordBack, MakesCall, ExecutesStep, TakesWorkerTurn, TakesConsumerTurn, WorldStep}
 use Rattle.rb_interleavings.specs.EveryInterleaving.{handed_by}
 use Rattle.rb_interleavings.specs.OpeningWorld.{IsActor}
 use Rattle.rb_interleavings.proofs.Tables.{eq_cases, size_of}
@@ -72,7 +72,7 @@ module _ (handed : ℕ → Handed) (old new : World) (kept : IsKept handed old) 
       → GetsAnswer w (Reserve id r len flags) t (answer_to_reserve how) Went (held_after_reserve t.unit r how (old.workers w).held) r b old event new → Turned
   reserve-turn id r len flags t BadFlags b e h a =
       unmoved (Reserve id r len flags) t (Number 0) r b e (leaves (Reserve id r len flags) t e) ((out (Reserve id r len flags) t e).next Null _ refl) (same-keeps old.worker_count (handed r) (old.rings r) b h.1 (kept.rings r)) a.told a.world
-  reserve-turn id r len flags t MemoryRefused b e h a =
+  reserve-turn id r len flags t Unlogged b e h a =
       unmoved (Reserve id r len flags) t (Number 0) r b e (leaves (Reserve id r len flags) t e) ((out (Reserve id r len flags) t e).next Null _ refl) (same-keeps old.worker_count (handed r) (old.rings r) b h.1 (kept.rings r)) a.told a.world
   reserve-turn id r len flags t NoRoom b e h a =
       unmoved (Reserve id r len flags) t (Number 0) r b e (leaves (Reserve id r len flags) t e) ((out (Reserve id r len flags) t e).next Null _ refl) (full-keeps old.worker_count (ledger (handed r) (old.rings r)) (ledger (handed r) b) (kept.rings r) w len inside (over-none _ (handed r) [] (old.rings r) b h.1)) a.told a.world
@@ -85,8 +85,8 @@ module _ (handed : ℕ → Handed) (old new : World) (kept : IsKept handed old) 
       → GetsAnswer w (Output r bytes flags) t (answer_to_output how) (output_event r bytes how) (old.workers w).held r b old event new → Turned
   output-turn r bytes flags t BadFlags b e h a =
       unmoved (Output r bytes flags) t _ r b e (leaves (Output r bytes flags) t e) ((out (Output r bytes flags) t e).next (answer_to_output BadFlags) _ refl) (same-keeps old.worker_count (handed r) (old.rings r) b h.1 (kept.rings r)) a.told a.world
-  output-turn r bytes flags t MemoryRefused b e h a =
-      unmoved (Output r bytes flags) t _ r b e (leaves (Output r bytes flags) t e) ((out (Output r bytes flags) t e).next (answer_to_output MemoryRefused) _ refl) (same-keeps old.worker_count (handed r) (old.rings r) b h.1 (kept.rings r)) a.told a.world
+  output-turn r bytes flags t Unlogged b e h a =
+      unmoved (Output r bytes flags) t _ r b e (leaves (Output r bytes flags) t e) ((out (Output r bytes flags) t e).next (answer_to_output Unlogged) _ refl) (same-keeps old.worker_count (handed r) (old.rings r) b h.1 (kept.rings r)) a.told a.world
   output-turn r bytes flags t NoRoom b e h a =
       unmoved (Output r bytes flags) t _ r b e (leaves (Output r bytes flags) t e) ((out (Output r bytes flags) t e).next (answer_to_output NoRoom) _ refl) (full-keeps old.worker_count (ledger (handed r) (old.rings r)) (ledger (handed r) b) (kept.rings r) w (length bytes) inside (over-none _ (handed r) [] (old.rings r) b h.1)) a.told a.world
   output-turn r bytes flags t (Made p k) b e h a =
@@ -184,6 +184,9 @@ work-by handed old new w event Strayed kept inside is h = idly handed old new w 
 same-turn : (handed : ℕ → Handed) (old new : World) (r : ℕ) → IsKept handed old → new ≡ old → AfterTurn (Consumer r) old (λ s. handed s ++ []) new
 same-turn handed old new r kept e = subst (AfterTurn (Consumer r) old (λ s. handed s ++ [])) (sym e) (record { kept = still-kept handed old kept; count = refl; advances = λ v. stays (old.workers v) })
 
+keeper-turn : (handed : ℕ → Handed) (old new : World) (r : ℕ) → IsKept handed old → new ≡ old → AfterTurn (Keeper r) old (λ s. handed s ++ []) new
+keeper-turn handed old new r kept e = subst (AfterTurn (Keeper r) old (λ s. handed s ++ [])) (sym e) (record { kept = still-kept handed old kept; count = refl; advances = λ v. stays (old.workers v) })
+
 take-turn : (handed : ℕ → Handed) (old new : World) (r : ℕ) (found : Taken) → IsKept handed old → TakesConsumerTurn r old (Took found) new → AfterTurn (Consumer r) old (λ s. handed s ++ []) new
 take-turn handed old new r found kept (b, m, e) =
     let book = take-keeps old.worker_count (ledger (handed r) (old.rings r)) (ledger (handed r) b) (kept.rings r) found (over-none _ (handed r) _ (old.rings r) b m) in
@@ -208,3 +211,13 @@ turn handed old new (Consumer r) (Ended n) kept inside h = absurd h
 turn handed old new (Consumer r) GotStuck kept inside h = absurd h
 turn handed old new (Consumer r) GotBack kept inside h = absurd h
 turn handed old new (Consumer r) Idle kept inside h = absurd h
+turn handed old new (Consumer r) HandedChapter kept inside h = absurd h
+turn handed old new (Keeper r) HandedChapter kept inside h = keeper-turn handed old new r kept h
+turn handed old new (Keeper r) NoMemory kept inside h = keeper-turn handed old new r kept h
+turn handed old new (Keeper r) Went kept inside h = absurd h
+turn handed old new (Keeper r) (HandedOver s p bytes) kept inside h = absurd h
+turn handed old new (Keeper r) (Ended n) kept inside h = absurd h
+turn handed old new (Keeper r) GotStuck kept inside h = absurd h
+turn handed old new (Keeper r) GotBack kept inside h = absurd h
+turn handed old new (Keeper r) Idle kept inside h = absurd h
+turn handed old new (Keeper r) (Took found) kept inside h = absurd h

@@ -15,18 +15,18 @@ pub record RingSteps (step : Ring → Ring → Type 0) (taken : List Taken) (old
   pub stands : StandsFor new.ring
   pub taken_are : new.taken ≡ old.taken ++ taken
 
--- What a call for a record comes to: its flags allow no step of the ring; memory for it is refused, which is a free choice;
--- there is no room; or it is made, at a position and with a serial.
+-- What a call for a record comes to: its flags allow no step of the ring; memory for it is refused, or room in the ring's chapter,
+-- which is a free choice and leaves no entry; the ring has no room; or it is made, at a position and with a serial.
 pub data RecordOutcome : Type 0 where
   BadFlags : RecordOutcome
-  MemoryRefused : RecordOutcome
+  Unlogged : RecordOutcome
   NoRoom : RecordOutcome
   Made : (p k : ℕ) → RecordOutcome
 
 -- the reserve of a worker: its flags are to be 0
 abbrev pub WorkerReserves : (w len flags : ℕ) → RecordOutcome → WorldRing → WorldRing → Type 0
 WorkerReserves w len flags BadFlags old new = (flags ≢ 0) × (new ≡ old)
-WorkerReserves w len flags MemoryRefused old new = (flags ≡ 0) × (new ≡ old)
+WorkerReserves w len flags Unlogged old new = (flags ≡ 0) × (new ≡ old)
 WorkerReserves w len flags NoRoom old new = (flags ≡ 0) × RingSteps (λ v v'. ring.FindsFull v v' w len) [] old new
 WorkerReserves w len flags (Made p k) old new = (flags ≡ 0) × RingSteps (λ v v'. ring.Grants v v' w len p k) [] old new
 
@@ -43,7 +43,7 @@ held_after_reserve unit r outcome held = held
 -- the output of a worker: its flags are to be 3 at most
 abbrev pub WorkerOutputs : (w : ℕ) → List ℕ → (flags : ℕ) → RecordOutcome → WorldRing → WorldRing → Type 0
 WorkerOutputs w bytes flags BadFlags old new = (3 < flags) × (new ≡ old)
-WorkerOutputs w bytes flags MemoryRefused old new = (flags ≤ 3) × (new ≡ old)
+WorkerOutputs w bytes flags Unlogged old new = (flags ≤ 3) × (new ≡ old)
 WorkerOutputs w bytes flags NoRoom old new = (flags ≤ 3) × RingSteps (λ v v'. ring.FindsFull v v' w (length bytes)) [] old new
 WorkerOutputs w bytes flags (Made p k) old new =
     (flags ≤ 3) × (p ≡ ring.producer_now old.ring) × (k ≡ grants w old.ring.history)
@@ -52,7 +52,7 @@ WorkerOutputs w bytes flags (Made p k) old new =
 -- -22 for other flags, -11 where no record was made, else 0
 abbrev pub answer_to_output : RecordOutcome → HelperAnswer
 answer_to_output BadFlags = Code (negsuc 21)
-answer_to_output MemoryRefused = Code (negsuc 10)
+answer_to_output Unlogged = Code (negsuc 10)
 answer_to_output NoRoom = Code (negsuc 10)
 answer_to_output (Made p k) = Code (pos 0)
 

@@ -12,7 +12,7 @@ use Rattle.rb_history.specs.RingModel.{StandsFor}
 use Rattle.rb_history.specs.Calls.{IsBusy}
 use Rattle.rb_interleavings.specs.Worlds.{Running, Finished, Halted, Strayed, WorkerState, WorldRing, World}
 use Rattle.rb_interleavings.specs.declared.actor.Actor.{Actor}
-use Rattle.rb_interleavings.specs.declared.actor.Actor.TheVariants.{Worker, Consumer}
+use Rattle.rb_interleavings.specs.declared.actor.Actor.TheVariants.{Worker, Consumer, Keeper}
 use Rattle.rb_interleavings.specs.Turns.{TurnEvent, HandedOver, WorldStep, WorldRun}
 use Rattle.rb_interleavings.specs.OpeningWorld.{IsOpeningWorld, IsActor}
 
@@ -20,6 +20,7 @@ use Rattle.rb_interleavings.specs.OpeningWorld.{IsOpeningWorld, IsActor}
 abbrev pub is_turn_of : ℕ → Actor → Bool
 is_turn_of w (Worker v) = v == w
 is_turn_of w (Consumer r) = false
+is_turn_of w (Keeper r) = false
 
 abbrev pub turns_of : ℕ → List Actor → ℕ
 turns_of w actors = count_by (is_turn_of w) actors
@@ -88,7 +89,7 @@ pub record IsWellRun (actors : List Actor) (events : List TurnEvent) (world : Wo
   pub none_busy : ((w : ℕ) → w < world.worker_count → HasFinished (world.workers w)) → (r p w k n : ℕ) → IsBusyIn world r p w k n → ⊥
   pub rings : (r : ℕ) → IsTrueRing world.worker_count (handed_at r events) (world.rings r)
 
--- every interleaving of verified programs and consumers
+-- every interleaving of verified programs, consumers and keepers
 abbrev pub EveryInterleavingIsWell : Type 0
 EveryInterleavingIsWell =
     (first last : World) (actors : List Actor) (events : List TurnEvent) → IsOpeningWorld first → All (IsActor first.worker_count) actors

@@ -6,7 +6,7 @@ use Rattle.rb_verifier.specs.Subject.{limits_of}
 use Rattle.rb_semantics.specs.ProgramStates.{entry_program_state}
 use Rattle.rb_history.specs.RingModel.{fresh}
 use Rattle.rb_interleavings.specs.declared.actor.Actor.{Actor}
-use Rattle.rb_interleavings.specs.declared.actor.Actor.TheVariants.{Worker, Consumer}
+use Rattle.rb_interleavings.specs.declared.actor.Actor.TheVariants.{Worker, Consumer, Keeper}
 use Rattle.rb_interleavings.specs.Worlds.{Running, WorkerState, WorldRing, World}
 
 -- a worker at the first instruction of a verified program, over a context of its length; it holds no record
@@ -35,3 +35,4 @@ pub record IsOpeningWorld (world : World) : Type 0 where
 abbrev pub IsActor : ℕ → Actor → Type 0
 IsActor workers (Worker w) = w < workers
 IsActor workers (Consumer r) = Unit {0}
+IsActor workers (Keeper r) = Unit {0}

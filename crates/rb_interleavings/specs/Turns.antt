@@ -1,4 +1,5 @@
--- The turns of a world: in each one worker executes one instruction, or the consumer of one ring makes one take.
+-- The turns of a world: in each one worker executes one instruction, the consumer of one ring makes one take, or the keeper of one
+-- ring hands a chapter out.
 use Rattle.std.specs.Prelude.{ℕ, ◌≡◌, List, [], ◌∷◌, Option, Some, None}
 use Rattle.rb_history.specs.declared.answers.Taken.{Taken}
 use Rattle.rb_history.specs.declared.answers.Taken.TheVariants.{Event, Skipped, BusyFront, Empty}
@@ -9,13 +10,14 @@ use Rattle.rb_semantics.specs.ProgramStates.{State}
 use Rattle.rb_semantics.specs.HelperCalls.{HelperCall, Reserve, Submit, Discard, Output, Query, pending_call_of, HelperAnswer, HandedBack, Told, Resumption, Resumes, Strays, Unfit, resume}
 use Rattle.rb_semantics.specs.Instructions.{StepEffect, Goes, Ends, Asks, Stuck, next_step}
 use Rattle.rb_interleavings.specs.declared.actor.Actor.{Actor}
-use Rattle.rb_interleavings.specs.declared.actor.Actor.TheVariants.{Worker, Consumer}
+use Rattle.rb_interleavings.specs.declared.actor.Actor.TheVariants.{Worker, Consumer, Keeper}
 use Rattle.rb_interleavings.specs.Worlds.{RecordPlace, HeldRecords, WorkerStatus, Running, Finished, Halted, Strayed, WorkerState, WorldRing, World, table_with, with_worker, with_ring}
 use Rattle.rb_interleavings.specs.CallsInWorld.{RingSteps, RecordOutcome, Made, WorkerReserves, answer_to_reserve, held_after_reserve, WorkerOutputs, answer_to_output, granted_at, WorkerSubmits, WorkerDiscards}
 
 -- what happened in a turn: an instruction was executed, and where it is one that hands bytes over the ring, the position of
 -- their record and the bytes; the program ended, it is at an instruction or an answer without a meaning, a record was handed
--- back, or the worker does not run any more; what a take found, or that memory for it was refused
+-- back, or the worker does not run any more; what a take found; a chapter was handed out; or memory for a take or a chapter was
+-- refused
 pub data TurnEvent : Type 0 where
   Went : TurnEvent
   HandedOver : (ring pos : ℕ) → List ℕ → TurnEvent
@@ -24,6 +26,7 @@ pub data TurnEvent : Type 0 where
   GotBack : TurnEvent
   Idle : TurnEvent
   Took : Taken → TurnEvent
+  HandedChapter : TurnEvent
   NoMemory : TurnEvent
 
 -- ---- a worker's turn
@@ -112,12 +115,22 @@ TakesConsumerTurn r old (Took found) new =
 TakesConsumerTurn r old NoMemory new = new ≡ old
 TakesConsumerTurn r old event new = ⊥
 
+-- ---- a keeper's turn
+
+-- A ring's whole history is that of all its chapters: so a keeper's turn changes nothing, whether a chapter was handed out or memory
+-- for the next one was refused.
+abbrev pub TakesKeeperTurn : World → TurnEvent → World → Type 0
+TakesKeeperTurn old HandedChapter new = new ≡ old
+TakesKeeperTurn old NoMemory new = new ≡ old
+TakesKeeperTurn old event new = ⊥
+
 -- ---- runs
 
 -- one turn of an actor, what happened, and the world after it
 abbrev pub WorldStep : World → Actor → TurnEvent → World → Type 0
 WorldStep old (Worker w) event new = TakesWorkerTurn w (old.workers w).status old event new
 WorldStep old (Consumer r) event new = TakesConsumerTurn r old event new
+WorldStep old (Keeper r) event new = TakesKeeperTurn old event new
 
 -- the turns of a list of actors, one after the other, and what happened in each
 abbrev pub WorldRun : World → List Actor → List TurnEvent → World → Type 0

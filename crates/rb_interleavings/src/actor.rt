@@ -8,4 +8,6 @@ pub enum Actor {
     Worker(u32),
     /// The consumer of the ring of this number, counted from 0: it makes one take.
     Consumer(u32),
+    /// The keeper of the ring of this number, counted from 0: it hands the ring's chapter out, and the ring goes on in the next.
+    Keeper(u32),
 }

@@ -6,7 +6,7 @@ use Rattle.rb_history.specs.declared.answers.Taken.{Taken}
 use Rattle.rb_history.specs.RingModel.{Ring}
 use Rattle.rb_interp.specs.StoredMemory.{held_record, others}
 use Rattle.rb_interleavings.specs.Worlds.{WorldRing, table_with}
-use Rattle.rb_interleavings.specs.CallsInWorld.{RingSteps, RecordOutcome, BadFlags, NoRoom, Made, WorkerReserves, WorkerOutputs, MemoryRefused}
+use Rattle.rb_interleavings.specs.CallsInWorld.{RingSteps, RecordOutcome, BadFlags, NoRoom, Made, WorkerReserves, WorkerOutputs, Unlogged}
 use Rattle.rb_interleavings.proofs.Tables.{eq_cases, placed-here, placed-else}
 use Rattle.rb_world.specs.declared.world_record.WorldRecord.{WorldRecord}
 use Rattle.rb_world.specs.inner.FittingWorlds.{AreOwn}
@@ -58,13 +58,13 @@ module _ (taken : List Taken) where
 
   pub reserves-within : (w len flags : ℕ) (outcome : RecordOutcome) (v v' : Ring) → WorkerReserves w len flags outcome (untaken_ring v) (untaken_ring v') → WorkerReserves w len flags outcome (book v) (book v')
   reserves-within w len flags BadFlags v v' h = (h.0, same-within v v' h.1)
-  reserves-within w len flags MemoryRefused v v' h = (h.0, same-within v v' h.1)
+  reserves-within w len flags Unlogged v v' h = (h.0, same-within v v' h.1)
   reserves-within w len flags NoRoom v v' h = (h.0, moved-within _ v v' h.1)
   reserves-within w len flags (Made p k) v v' h = (h.0, moved-within _ v v' h.1)
 
   pub outputs-within : (w : ℕ) (bytes : List ℕ) (flags : ℕ) (outcome : RecordOutcome) (v v' : Ring) → WorkerOutputs w bytes flags outcome (untaken_ring v) (untaken_ring v') → WorkerOutputs w bytes flags outcome (book v) (book v')
   outputs-within w bytes flags BadFlags v v' h = (h.0, same-within v v' h.1)
-  outputs-within w bytes flags MemoryRefused v v' h = (h.0, same-within v v' h.1)
+  outputs-within w bytes flags Unlogged v v' h = (h.0, same-within v v' h.1)
   outputs-within w bytes flags NoRoom v v' h = (h.0, moved-within _ v v' h.1)
   outputs-within w bytes flags (Made p k) v v' h = (h.0, h.1, h.2, moved-within _ v v' h.3)
 

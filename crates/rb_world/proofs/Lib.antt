@@ -1,9 +1,11 @@
-mod RingAnswers
+mod WholeCalls
+mod WholeLists
 mod ShownWorlds
 mod HeldByWorkers
 mod MachineAnswers
 mod WorkerTurns
 mod SoundWorlds
 mod ListSteps
+mod WholeTurns
 mod Openings
 mod Runs

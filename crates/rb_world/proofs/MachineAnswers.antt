@@ -18,10 +18,10 @@ use Rattle.rb_interp.specs.declared.request.Answer.TheVariants as given
 use Rattle.rb_interp.specs.declared.step.Phase.TheVariants as phase
 use Rattle.rb_interp.proofs.Steady.{steady_ready, steady_waiting, place_for}
 use Rattle.rb_interleavings.specs.Worlds.{RecordPlace, HeldRecords, Running, table_with, WorldRing}
-use Rattle.rb_interleavings.specs.CallsInWorld.{RecordOutcome, BadFlags, NoRoom, Made, WorkerReserves, WorkerOutputs, answer_to_reserve, held_after_reserve, MemoryRefused}
+use Rattle.rb_interleavings.specs.CallsInWorld.{RecordOutcome, BadFlags, NoRoom, Made, WorkerReserves, WorkerOutputs, answer_to_reserve, held_after_reserve, Unlogged}
 use Rattle.rb_interleavings.specs.Turns.{worker_after}
 use Rattle.rb_world.specs.declared.world_record.WorldRecord.{WorldRecord}
-use Rattle.rb_world.specs.WorldValue.{WorldValue, place_of, status_of_phase, held_by, worker_of}
+use Rattle.rb_world.specs.WorldValue.{WholeWorld, place_of, status_of_phase, held_by, worker_of}
 use Rattle.rb_world.specs.inner.WorkerTurn.{GoesOnWith, AnswersReserve, AnswersOutput}
 use Rattle.rb_world.specs.inner.FittingWorlds.{AreOwn, setups_of, AreFor, AreOpenTo, IsFitting}
 use Rattle.rb_world.specs.inner.RingAnswers.{GivesRecord, IsReserved, IsOutput}
@@ -64,7 +64,7 @@ module _ (w : ℕ) (s : WorldRing) (v v' : Ring) (items : List Taken) (is : reco
     pub reserve-granted : (x : Granted) → IsReserved v v' w len flags (Some x) → held_record m.state.unit m.records ≡ None → IsResumedTo (resume (asked.Reserve len) GrantedAnswer m.state) m' → m'.records ≡ m.records ++ (m.state.unit, owned_of x) ∷ []
         → AnswersReserve w r len flags m s m' after
     reserve-granted x (BadFlags, g, h) none goes records = absurd g
-    reserve-granted x (MemoryRefused, g, h) none goes records = absurd g
+    reserve-granted x (Unlogged, g, h) none goes records = absurd g
     reserve-granted x (NoRoom, g, h) none goes records = absurd g
     reserve-granted x (Made p k, g, h) none goes records =
         let spot : place_of (owned_of x) ≡ record { ring = r; pos = p; serial = k } = ap (λ y. place_of (owned_of y)) g in
@@ -86,14 +86,14 @@ module _ (w : ℕ) (s : WorldRing) (v v' : Ring) (items : List Taken) (is : reco
       where
         by_how : (outcome : RecordOutcome) → GivesRecord w len outcome None → WorkerReserves w len flags outcome s after → AnswersReserve w r len flags m s m' after
         by_how BadFlags g h = refused-by BadFlags h goes records refl refl
-        by_how MemoryRefused g h = refused-by MemoryRefused h goes records refl refl
+        by_how Unlogged g h = refused-by Unlogged h goes records refl refl
         by_how NoRoom g h = refused-by NoRoom h goes records refl refl
         by_how (Made p k) g h = absurd g
 
 -- what a reserve gave is of the worker, and zeros
 pub given-parts : (v v' : Ring) (w len flags : ℕ) (x : Granted) → IsReserved v v' w len flags (Some x) → (x.worker ≡ w) × (x.bytes ≡ replicate len 0)
 given-parts v v' w len flags x (BadFlags, g, h) = absurd g
-given-parts v v' w len flags x (MemoryRefused, g, h) = absurd g
+given-parts v v' w len flags x (Unlogged, g, h) = absurd g
 given-parts v v' w len flags x (NoRoom, g, h) = absurd g
 given-parts v v' w len flags x (Made p k, g, h) = (ap (λ (y : Granted). y.worker) g, ap (λ (y : Granted). y.bytes) g)
 
@@ -135,7 +135,7 @@ for-open n w [] low all = tt
 for-open n w (u ∷ us) low all = (subst (λ k. w < k) (sym all.0) low, for-open n w us low all.1)
 
 -- the rings changed
-pub fits-rings : (body : WorldValue) (rings : List WorldRing) → IsFitting body → setups_of rings ≡ setups_of body.rings → IsFitting (record body { rings = rings })
+pub fits-rings : (body : WholeWorld) (rings : List WorldRing) → IsFitting body → setups_of rings ≡ setups_of body.rings → IsFitting (record body { rings = rings })
 fits-rings body rings fits same =
     let long : length rings ≡ length body.rings = length-by rings body.rings same in
     record {
@@ -145,7 +145,7 @@ fits-rings body rings fits same =
     }
 
 -- a worker changed
-pub fits-worker : (body : WorldValue) (w : ℕ) (old new : M) → IsFitting body → w < length body.machines → old ≡ get_or body.machines w old → new.program ≡ old.program → AreOwn w (length body.rings) new.records → IsFitting (record body { machines = set body.machines w new })
+pub fits-worker : (body : WholeWorld) (w : ℕ) (old new : M) → IsFitting body → w < length body.machines → old ≡ get_or body.machines w old → new.program ≡ old.program → AreOwn w (length body.rings) new.records → IsFitting (record body { machines = set body.machines w new })
 fits-worker body w old new fits low is program own =
     let long : length (set body.machines w new) ≡ length body.machines = set-length body.machines w new in
     record {

@@ -10,10 +10,11 @@ use Rattle.rb_interleavings.proofs.WholeRuns.{opening-reached}
 use Rattle.rb_world.specs.declared.opening.RingSetup.{RingSetup}
 use Rattle.rb_world.specs.declared.opening.WorkerSetup.{WorkerSetup}
 use Rattle.rb_world.specs.declared.world_record.WorldRecord.{WorldRecord}
-use Rattle.rb_world.specs.WorldValue.{WorldValue, worker_of, no_worker, no_ring, world_of}
+use Rattle.rb_world.specs.WorldValue.{world_ring, WorldValue, whole_world, worker_of, no_worker, no_ring, world_of}
 use Rattle.rb_world.specs.OpenedWorlds.{HaveRings, opened_ring, IsStarted, IsOpenedWorld}
 use Rattle.rb_world.specs.inner.FittingWorlds.{AreOwn, AreFor, setups_of, IsFitting, IsSoundWorld}
 use Rattle.rb_world.proofs.ListSteps.{zip-long}
+use Rattle.rb_world.proofs.WholeLists.{map-length}
 
 begins-at : (xs : List WorkerSetup) (ms : List (MachineState WorldRecord)) (w : ℕ) → AllZip IsStarted xs ms → w < length ms → BeginsVerified (get_or (map worker_of ms) w no_worker)
 begins-at [] [] w h low = absurd (omega arith)
@@ -22,12 +23,12 @@ begins-at (x ∷ xs) [] w h low = absurd h
 begins-at (x ∷ xs) (m ∷ ms) ℕ.zero h low = h.0.begins
 begins-at (x ∷ xs) (m ∷ ms) (ℕ.suc w) h low = begins-at xs ms w h.1 (omega arith)
 
-fresh-at : (n : ℕ) (rings : List RingSetup) (r : ℕ) → IsFreshRing n (get_or (map (opened_ring n) rings) r (no_ring n))
+fresh-at : (n : ℕ) (rings : List RingSetup) (r : ℕ) → IsFreshRing n (get_or (map world_ring (map (opened_ring n) rings)) r (no_ring n))
 fresh-at n [] r = record { size = 4096; start = 0; ring_is = refl; taken_none = refl }
 fresh-at n (s ∷ rings) ℕ.zero = record { size = s.size; start = s.start; ring_is = refl; taken_none = refl }
 fresh-at n (s ∷ rings) (ℕ.suc r) = fresh-at n rings r
 
-for-all : (n : ℕ) (rings : List RingSetup) → AreFor n (setups_of (map (opened_ring n) rings))
+for-all : (n : ℕ) (rings : List RingSetup) → AreFor n (setups_of (map world_ring (map (opened_ring n) rings)))
 for-all n [] = tt
 for-all n (s ∷ rings) = (refl, for-all n rings)
 
@@ -61,17 +62,17 @@ module _ (rings : List RingSetup) (workers : List WorkerSetup) (v : WorldValue) 
   pub opening-world : IsOpeningWorld (world_of v)
   opening-world = record {
     workers = λ w inside. begins-at workers v.machines w o.machines_are inside;
-    rings = λ r. subst (λ l. IsFreshRing (length v.machines) (get_or l r (no_ring (length v.machines)))) (sym rings-are) (fresh-at (length v.machines) rings r);
+    rings = λ r. subst (λ l. IsFreshRing (length v.machines) (get_or (map world_ring l) r (no_ring (length v.machines)))) (sym rings-are) (fresh-at (length v.machines) rings r);
   }
 
-  pub sound-opening : HaveRings (length rings) workers → IsSoundWorld v
+  pub sound-opening : HaveRings (length rings) workers → IsSoundWorld (whole_world v)
   sound-opening have =
-      let as_many : length v.rings ≡ length rings = ap length rings-are ∙ length-opened (length v.machines) rings in
+      let as_many : length (map world_ring v.rings) ≡ length rings = map-length world_ring v.rings ∙ (ap length rings-are ∙ length-opened (length v.machines) rings) in
       record {
         fitting = record {
-          rings = subst (λ l. AreFor (length v.machines) (setups_of l)) (sym rings-are) (for-all (length v.machines) rings);
+          rings = subst (λ l. AreFor (length v.machines) (setups_of (map world_ring l))) (sym rings-are) (for-all (length v.machines) rings);
           programs = λ w m low is. subst (λ n. m.program.rings ≤ n) (sym as_many) (started-at workers v.machines (length rings) w m o.machines_are have.1 low is).0;
-          own = λ w m low is. none-own w (length v.rings) m.records (started-at workers v.machines (length rings) w m o.machines_are have.1 low is).1;
+          own = λ w m low is. none-own w (length (map world_ring v.rings)) m.records (started-at workers v.machines (length rings) w m o.machines_are have.1 low is).1;
         };
         reached = opening-reached (world_of v) opening-world;
       }

@@ -5,7 +5,7 @@ use Rattle.std.specs.List.{AllZip}
 use Rattle.std.proofs.lemmas.List.{take_more}
 use Rattle.std.proofs.lemmas.List.Elements.{All-head, All-tail}
 use Rattle.rb_interleavings.specs.declared.actor.Actor.{Actor}
-use Rattle.rb_interleavings.specs.declared.actor.Actor.TheVariants.{Worker, Consumer}
+use Rattle.rb_interleavings.specs.declared.actor.Actor.TheVariants.{Worker, Consumer, Keeper}
 use Rattle.rb_interleavings.specs.Turns.{TurnEvent, WorldStep, WorldRun}
 use Rattle.rb_interleavings.proofs.WholeRuns.{run-push}
 use Rattle.rb_world.specs.declared.turn_done.TurnDone.{TurnDone}
@@ -38,3 +38,4 @@ first-at v (a ∷ actors) (ℕ.suc i) d all low fails = (All-head (IsThere v) a 
 pub there-still : (old new : WorldValue) (actor : Actor) → length new.machines ≡ length old.machines → length new.rings ≡ length old.rings → IsThere old actor → IsThere new actor
 there-still old new (Worker w) workers rings there = subst (λ n. w < n) (sym workers) there
 there-still old new (Consumer r) workers rings there = subst (λ n. r < n) (sym rings) there
+there-still old new (Keeper r) workers rings there = subst (λ n. r < n) (sym rings) there

@@ -6,24 +6,24 @@ use Rattle.rb_history.specs.RingModel.{Ring, StandsFor}
 use Rattle.rb_history.specs.Calls.{Takes}
 use Rattle.rb_history.proofs.Row.{get_or-default}
 use Rattle.rb_interleavings.specs.Worlds.{with_ring, table_with, WorldRing}
-use Rattle.rb_interleavings.specs.Turns.{TurnEvent, Went, HandedOver, Ended, GotStuck, GotBack, Idle, Took, NoMemory, WorldStep, taken_by}
+use Rattle.rb_interleavings.specs.Turns.{TurnEvent, Went, HandedOver, Ended, GotStuck, GotBack, Idle, Took, HandedChapter, NoMemory, WorldStep, taken_by}
 use Rattle.rb_interleavings.specs.declared.actor.Actor.TheVariants.{Consumer}
 use Rattle.rb_world.specs.declared.turn_done.TurnDone.{TurnDone}
 use Rattle.rb_world.specs.declared.turn_done.TurnDone.TheVariants as turn
-use Rattle.rb_world.specs.WorldValue.{WorldValue, world_of, no_ring}
-use Rattle.rb_world.specs.TurnsDone.{TellsEvent, IsTurnOf}
+use Rattle.rb_world.specs.WorldValue.{WholeWorld, shown_world, no_ring}
+use Rattle.rb_world.specs.TurnsDone.{TellsEvent, IsWholeTurn}
 use Rattle.rb_world.specs.inner.WorkerTurn.{DoesTake, TakesOnce}
 
-module _ (body : WorldValue) (r : ℕ) (s : WorldRing) (inside : r < length body.rings) where
-  book-at : (j : ℕ) → (world_of (record body { rings = set body.rings r s })).rings j ≡ table_with r s (world_of body).rings j
+module _ (body : WholeWorld) (r : ℕ) (s : WorldRing) (inside : r < length body.rings) where
+  book-at : (j : ℕ) → (shown_world (record body { rings = set body.rings r s })).rings j ≡ table_with r s (shown_world body).rings j
   book-at j = elim (cases_eq j r) [
-    | inl same ↦ rw (eq-eqb j r same) (ap (λ i. (world_of (record body { rings = set body.rings r s })).rings i) same ∙ (get_or-set_same body.rings r s (no_ring (length body.machines)) inside))
+    | inl same ↦ rw (eq-eqb j r same) (ap (λ i. (shown_world (record body { rings = set body.rings r s })).rings i) same ∙ (get_or-set_same body.rings r s (no_ring (length body.machines)) inside))
     | inr else ↦ rw (ne_eqb j r else) ((get_or-set_other body.rings r j s (no_ring (length body.machines)) else))
   ]
 
   -- one ring is another
-  pub shown-book : world_of (record body { rings = set body.rings r s }) ≡ with_ring r s (world_of body)
-  shown-book = ap (λ rings. record (world_of body) { rings = rings }) (λ i j. book-at j i)
+  pub shown-book : shown_world (record body { rings = set body.rings r s }) ≡ with_ring r s (shown_world body)
+  shown-book = ap (λ rings. record (shown_world body) { rings = rings }) (λ i j. book-at j i)
 
 pub set-get : {X : Type 0} (xs : List X) (r : ℕ) (d : X) → set xs r (get_or xs r d) ≡ xs
 set-get [] r d = refl
@@ -31,18 +31,19 @@ set-get (x ∷ xs) ℕ.zero d = refl
 set-get (x ∷ xs) (ℕ.suc r) d = ap (λ l. x ∷ l) (set-get xs r d)
 
 -- what one take did to the ring is a turn of its consumer
-pub take-turn : (body : WorldValue) (r : ℕ) (s : WorldRing) (done : TurnDone) → r < length body.rings → TakesOnce (get_or body.rings r (no_ring (length body.machines))) done s → IsTurnOf (Consumer r) body done (record body { rings = set body.rings r s })
+pub take-turn : (body : WholeWorld) (r : ℕ) (s : WorldRing) (done : TurnDone) → r < length body.rings → TakesOnce (get_or body.rings r (no_ring (length body.machines))) done s → IsWholeTurn (Consumer r) body done (record body { rings = set body.rings r s })
 take-turn body r s done inside (event, tells, does) = (event, tells, by_done event does)
   where
-    by_done : (event : TurnEvent) → DoesTake event (get_or body.rings r (no_ring (length body.machines))) s → WorldStep (world_of body) (Consumer r) event (world_of (record body { rings = set body.rings r s }))
+    by_done : (event : TurnEvent) → DoesTake event (get_or body.rings r (no_ring (length body.machines))) s → WorldStep (shown_world body) (Consumer r) event (shown_world (record body { rings = set body.rings r s }))
     by_done (Took found) d = (s, record { stepped = d.0; stands = d.1; taken_are = d.2 }, shown-book body r s inside)
-    by_done NoMemory d = ap (λ l. world_of (record body { rings = l })) (ap (set body.rings r) d ∙ set-get body.rings r (no_ring (length body.machines)))
+    by_done NoMemory d = ap (λ l. shown_world (record body { rings = l })) (ap (set body.rings r) d ∙ set-get body.rings r (no_ring (length body.machines)))
     by_done Went d = absurd d
     by_done (HandedOver ring pos bytes) d = absurd d
     by_done (Ended n) d = absurd d
     by_done GotStuck d = absurd d
     by_done GotBack d = absurd d
     by_done Idle d = absurd d
+    by_done HandedChapter d = absurd d
 
 pub took : (before : WorldRing) (v w : Ring) (items items' : List Taken) (found : Taken) (done : TurnDone) → before ≡ record { ring = v; taken = items } → Takes v w found → StandsFor w → items' ≡ items ++ taken_by found → TellsEvent done (Took found)
     → TakesOnce before done (record { ring = w; taken = items' })

@@ -13,8 +13,8 @@ use Rattle.rb_interleavings.specs.EveryInterleaving.{HoldsRecord, IsBusyAsHeld, 
 use Rattle.rb_interleavings.proofs.WholeRuns.{leads-on, reached-well}
 use Rattle.rb_world.specs.declared.world_record.WorldRecord.{WorldRecord}
 use Rattle.rb_world.specs.declared.turn_done.TurnDone.{TurnDone}
-use Rattle.rb_world.specs.WorldValue.{WorldValue, place_of, worker_of, no_ring, world_of}
-use Rattle.rb_world.specs.TurnsDone.{IsTurnOf}
+use Rattle.rb_world.specs.WorldValue.{WholeWorld, place_of, worker_of, no_ring, shown_world}
+use Rattle.rb_world.specs.TurnsDone.{IsWholeTurn}
 use Rattle.rb_world.specs.inner.FittingWorlds.{AreOwn, AreBusy, IsFitting, IsSoundWorld}
 use Rattle.rb_world.proofs.ShownWorlds.{at-default}
 use Rattle.rb_world.proofs.WorkerTurns.{get-map}
@@ -31,24 +31,24 @@ some-bytes : (a b : List ℕ) → Some a ≡ Some b → a ≡ b
 some-bytes a b e = cc
 
 -- the records that a worker holds are busy
-pub busy-held : (v : WorldValue) (w : ℕ) (m : MachineState WorldRecord) → IsSoundWorld v → w < length v.machines → m ≡ get_or v.machines w m → m.state.memory.records ≡ record_bytes_in bytes_of m.records → AreBusy v.rings m.records
+pub busy-held : (v : WholeWorld) (w : ℕ) (m : MachineState WorldRecord) → IsSoundWorld v → w < length v.machines → m ≡ get_or v.machines w m → m.state.memory.records ≡ record_bytes_in bytes_of m.records → AreBusy v.rings m.records
 busy-held v w m sound inside is shows = λ id x s held there.
     let own = sound.fitting.own w m inside is id x held in
-    let now : (world_of v).workers w ≡ worker_of m = get-map v.machines w m inside is in
-    let holds : HoldsRecord ((world_of v).workers w) id x.ring x.reservation.pos x.reservation.serial = record { held = ap (λ (y : WorkerState). y.held id) now ∙ ap (option_map place_of) held } in
-    let well : IsWellRun sound.reached.actors sound.reached.events (world_of v) = reached-well (world_of v) sound.reached in
-    let busy : IsBusyAsHeld (world_of v) w id x.ring x.reservation.pos x.reservation.serial = well.held_are_busy w id x.ring x.reservation.pos x.reservation.serial inside holds in
-    let named : record_named id ((world_of v).workers w).state.memory.records ≡ Some x.reservation.bytes =
+    let now : (shown_world v).workers w ≡ worker_of m = get-map v.machines w m inside is in
+    let holds : HoldsRecord ((shown_world v).workers w) id x.ring x.reservation.pos x.reservation.serial = record { held = ap (λ (y : WorkerState). y.held id) now ∙ ap (option_map place_of) held } in
+    let well : IsWellRun sound.reached.actors sound.reached.events (shown_world v) = reached-well (shown_world v) sound.reached in
+    let busy : IsBusyAsHeld (shown_world v) w id x.ring x.reservation.pos x.reservation.serial = well.held_are_busy w id x.ring x.reservation.pos x.reservation.serial inside holds in
+    let named : record_named id ((shown_world v).workers w).state.memory.records ≡ Some x.reservation.bytes =
     ap (λ (y : WorkerState). record_named id y.state.memory.records) now ∙ (ap (record_named id) shows ∙ (named-bytes id m.records ∙ ap (option_map bytes_of) held)) in
     let same : busy.0 ≡ x.reservation.bytes = some-bytes busy.0 x.reservation.bytes (sym busy.1 ∙ named) in
-    let ring : s ≡ (world_of v).rings x.ring = at-default v.rings x.ring s (no_ring (length v.machines)) own.0 there in
+    let ring : s ≡ (shown_world v).rings x.ring = at-default v.rings x.ring s (no_ring (length v.machines)) own.0 there in
     subst (λ (y : WorldRing). IsBusy y.ring.history x.reservation.pos x.reservation.worker x.reservation.serial (length x.reservation.bytes)) (sym ring)
-    (subst (λ u. IsBusy ((world_of v).rings x.ring).ring.history x.reservation.pos u x.reservation.serial (length x.reservation.bytes)) (sym own.1)
-    (subst (λ (b : List ℕ). IsBusy ((world_of v).rings x.ring).ring.history x.reservation.pos w x.reservation.serial (length b)) same busy.2))
+    (subst (λ u. IsBusy ((shown_world v).rings x.ring).ring.history x.reservation.pos u x.reservation.serial (length x.reservation.bytes)) (sym own.1)
+    (subst (λ (b : List ℕ). IsBusy ((shown_world v).rings x.ring).ring.history x.reservation.pos w x.reservation.serial (length b)) same busy.2))
 
 -- a turn leaves a sound world, where what it leaves fits
-pub sound-after : (old new : WorldValue) (actor : Actor) (done : TurnDone) → IsSoundWorld old → IsActor (length old.machines) actor → IsTurnOf actor old done new → IsFitting new → IsSoundWorld new
+pub sound-after : (old new : WholeWorld) (actor : Actor) (done : TurnDone) → IsSoundWorld old → IsActor (length old.machines) actor → IsWholeTurn actor old done new → IsFitting new → IsSoundWorld new
 sound-after old new actor done sound inside turned fits = record {
   fitting = fits;
-  reached = leads-on (world_of old) (world_of new) actor turned.0 sound.reached inside turned.2;
+  reached = leads-on (shown_world old) (shown_world new) actor turned.0 sound.reached inside turned.2;
 }

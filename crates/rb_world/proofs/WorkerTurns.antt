@@ -12,13 +12,13 @@ use Rattle.rb_interp.specs.StoredMemory.{held_record, others, Rewrites}
 use Rattle.rb_interp.specs.declared.step.Phase.{Phase}
 use Rattle.rb_interp.specs.declared.step.Phase.TheVariants as phase
 use Rattle.rb_interleavings.specs.Worlds.{RecordPlace, HeldRecords, Running, Finished, WorkerState, WorldRing, World, with_worker, with_ring, table_with}
-use Rattle.rb_interleavings.specs.CallsInWorld.{RecordOutcome, BadFlags, NoRoom, Made, WorkerReserves, WorkerOutputs, answer_to_reserve, held_after_reserve, answer_to_output, MemoryRefused, granted_at}
+use Rattle.rb_interleavings.specs.CallsInWorld.{RecordOutcome, BadFlags, NoRoom, Made, WorkerReserves, WorkerOutputs, answer_to_reserve, held_after_reserve, answer_to_output, Unlogged, granted_at}
 use Rattle.rb_interleavings.specs.Turns.{TurnEvent, Went, Ended, Idle, GivingBack, output_event, worker_after, event_of, GetsAnswer, GivesRecordBack, MakesCall, ExecutesStep, TakesWorkerTurn, WorldStep}
 use Rattle.rb_interleavings.specs.declared.actor.Actor.TheVariants.{Worker}
 use Rattle.rb_world.specs.declared.world_record.WorldRecord.{WorldRecord}
 use Rattle.rb_world.specs.declared.turn_done.TurnDone.{TurnDone}
 use Rattle.rb_world.specs.declared.turn_done.TurnDone.TheVariants as turn
-use Rattle.rb_world.specs.WorldValue.{WorldValue, place_of, status_of_phase, held_by, worker_of, no_worker, no_ring, world_of}
+use Rattle.rb_world.specs.WorldValue.{WholeWorld, place_of, status_of_phase, held_by, worker_of, no_worker, no_ring, shown_world}
 use Rattle.rb_world.specs.TurnsDone.{TellsEvent}
 use Rattle.rb_world.specs.inner.WorkerTurn.{IsWorkerTurn, GoesOnWith, AnswersReserve, AnswersOutput, AnswersGivenBack, AnswersQuery}
 use Rattle.rb_world.proofs.ShownWorlds.{shown-book, set-get, at-default}
@@ -59,15 +59,15 @@ length-set [] w m = refl
 length-set (n ∷ ms) ℕ.zero m = refl
 length-set (n ∷ ms) (ℕ.suc w) m = ap ℕ.suc (length-set ms w m)
 
-module _ (body : WorldValue) (w : ℕ) (m : MachineState WorldRecord) (inside : w < length body.machines) where
-  worker-at : (j : ℕ) → (world_of (record body { machines = set body.machines w m })).workers j ≡ table_with w (worker_of m) (world_of body).workers j
+module _ (body : WholeWorld) (w : ℕ) (m : MachineState WorldRecord) (inside : w < length body.machines) where
+  worker-at : (j : ℕ) → (shown_world (record body { machines = set body.machines w m })).workers j ≡ table_with w (worker_of m) (shown_world body).workers j
   worker-at j = ap (λ l. get_or l j no_worker) (map-set body.machines w m) ∙ elim (cases_eq j w) [
     | inl same ↦ rw (eq-eqb j w same) (ap (λ i. get_or (set (map worker_of body.machines) w (worker_of m)) i no_worker) same ∙ get_or-set_same (map worker_of body.machines) w (worker_of m) no_worker (subst (λ n. w < n) (sym (length-map body.machines)) inside))
     | inr else ↦ rw (ne_eqb j w else) (get_or-set_other (map worker_of body.machines) w j (worker_of m) no_worker else)
   ]
 
   -- one worker is another
-  pub shown-worker : world_of (record body { machines = set body.machines w m }) ≡ with_worker w (worker_of m) (world_of body)
+  pub shown-worker : shown_world (record body { machines = set body.machines w m }) ≡ with_worker w (worker_of m) (shown_world body)
   shown-worker = λ i. record {
     worker_count = length-set body.machines w m i;
     workers = λ j. worker-at j i;
@@ -78,45 +78,45 @@ module _ (body : WorldValue) (w : ℕ) (m : MachineState WorldRecord) (inside : 
   }
 
 -- one ring and one worker are others
-pub shown-both : (body : WorldValue) (r : ℕ) (s : WorldRing) (w : ℕ) (m : MachineState WorldRecord) → r < length body.rings → w < length body.machines
-    → world_of (record { rings = set body.rings r s; machines = set body.machines w m }) ≡ with_ring r s (with_worker w (worker_of m) (world_of body))
+pub shown-both : (body : WholeWorld) (r : ℕ) (s : WorldRing) (w : ℕ) (m : MachineState WorldRecord) → r < length body.rings → w < length body.machines
+    → shown_world (record { rings = set body.rings r s; machines = set body.machines w m }) ≡ with_ring r s (with_worker w (worker_of m) (shown_world body))
 shown-both body r s w m low inside = shown-book (record body { machines = set body.machines w m }) r s low ∙ ap (with_ring r s) (shown-worker body w m inside)
 
 -- a worker that runs does what its program means
-executes-turn : (body : WorldValue) (w : ℕ) (old : MachineState WorldRecord) (effect : StepEffect) (event : TurnEvent) (after : World) → w < length body.machines → old ≡ get_or body.machines w old → old.phase ≡ phase.Ready
-    → next_step old.program.program old.state ≡ effect → ExecutesStep w effect (world_of body) event after → WorldStep (world_of body) (Worker w) event after
+executes-turn : (body : WholeWorld) (w : ℕ) (old : MachineState WorldRecord) (effect : StepEffect) (event : TurnEvent) (after : World) → w < length body.machines → old ≡ get_or body.machines w old → old.phase ≡ phase.Ready
+    → next_step old.program.program old.state ≡ effect → ExecutesStep w effect (shown_world body) event after → WorldStep (shown_world body) (Worker w) event after
 executes-turn body w old effect event after inside is ready step does =
-    let here : (world_of body).workers w ≡ worker_of old = get-map body.machines w old inside is in
-    let runs : ((world_of body).workers w).status ≡ Running = ap (λ (x : WorkerState). x.status) here ∙ ap status_of_phase ready in
-    let steps : next_step ((world_of body).workers w).subject.program ((world_of body).workers w).state ≡ effect = ap (λ (x : WorkerState). next_step x.subject.program x.state) here ∙ step in
-    subst (λ status. TakesWorkerTurn w status (world_of body) event after) (sym runs) (subst (λ e. ExecutesStep w e (world_of body) event after) (sym steps) does)
+    let here : (shown_world body).workers w ≡ worker_of old = get-map body.machines w old inside is in
+    let runs : ((shown_world body).workers w).status ≡ Running = ap (λ (x : WorkerState). x.status) here ∙ ap status_of_phase ready in
+    let steps : next_step ((shown_world body).workers w).subject.program ((shown_world body).workers w).state ≡ effect = ap (λ (x : WorkerState). next_step x.subject.program x.state) here ∙ step in
+    subst (λ status. TakesWorkerTurn w status (shown_world body) event after) (sym runs) (subst (λ e. ExecutesStep w e (shown_world body) event after) (sym steps) does)
 
 module _ (w : ℕ) (rings : List WorldRing) (old new : MachineState WorldRecord) (ready : old.phase ≡ phase.Ready) where
   -- an instruction that is no call
   pub went-turn : next_step old.program.program old.state ≡ Goes new.state → new.phase ≡ phase.Ready → new.program ≡ old.program → ((id : ℕ) → held_by new id ≡ held_by old id) → IsWorkerTurn w old rings turn.Went new rings
   went-turn step after program held = λ machines inside is.
-      let body : WorldValue = record { rings = rings; machines = machines } in
-      let here : (world_of body).workers w ≡ worker_of old = get-map machines w old inside is in
-      let y : worker_of new ≡ record ((world_of body).workers w) { state = new.state } = (λ i. record { subject = program i; state = new.state; held = λ id. held id i; status = (ap status_of_phase (after ∙ sym ready)) i }) ∙ ap (λ (x : WorkerState). record x { state = new.state }) (sym here) in
-      (Went, tt, executes-turn body w old (Goes new.state) Went _ inside is ready step (refl, shown-worker body w new inside ∙ ap (λ x. with_worker w x (world_of body)) y))
+      let body : WholeWorld = record { rings = rings; machines = machines } in
+      let here : (shown_world body).workers w ≡ worker_of old = get-map machines w old inside is in
+      let y : worker_of new ≡ record ((shown_world body).workers w) { state = new.state } = (λ i. record { subject = program i; state = new.state; held = λ id. held id i; status = (ap status_of_phase (after ∙ sym ready)) i }) ∙ ap (λ (x : WorkerState). record x { state = new.state }) (sym here) in
+      (Went, tt, executes-turn body w old (Goes new.state) Went _ inside is ready step (refl, shown-worker body w new inside ∙ ap (λ x. with_worker w x (shown_world body)) y))
 
   -- the end of the program
   pub ended-turn : (n : ℕ) → next_step old.program.program old.state ≡ Ends n → new.phase ≡ phase.Exited n → new.program ≡ old.program → new.records ≡ old.records → new.state ≡ old.state → IsWorkerTurn w old rings (turn.Finished n) new rings
   ended-turn n step after program records state = λ machines inside is.
-      let body : WorldValue = record { rings = rings; machines = machines } in
-      let here : (world_of body).workers w ≡ worker_of old = get-map machines w old inside is in
-      let y : worker_of new ≡ record ((world_of body).workers w) { status = Finished n } = (λ i. record { subject = program i; state = state i; held = λ id. option_map place_of (held_record id (records i)); status = (ap status_of_phase after) i }) ∙ ap (λ (x : WorkerState). record x { status = Finished n }) (sym here) in
-      (Ended n, refl, executes-turn body w old (Ends n) (Ended n) _ inside is ready step (refl, shown-worker body w new inside ∙ ap (λ x. with_worker w x (world_of body)) y))
+      let body : WholeWorld = record { rings = rings; machines = machines } in
+      let here : (shown_world body).workers w ≡ worker_of old = get-map machines w old inside is in
+      let y : worker_of new ≡ record ((shown_world body).workers w) { status = Finished n } = (λ i. record { subject = program i; state = state i; held = λ id. option_map place_of (held_record id (records i)); status = (ap status_of_phase after) i }) ∙ ap (λ (x : WorkerState). record x { status = Finished n }) (sym here) in
+      (Ended n, refl, executes-turn body w old (Ends n) (Ended n) _ inside is ready step (refl, shown-worker body w new inside ∙ ap (λ x. with_worker w x (shown_world body)) y))
 
 -- a worker that does not run
 pub idle-turn : (w : ℕ) (rings : List WorldRing) (old : MachineState WorldRecord) → old.phase ≢ phase.Ready → IsWorkerTurn w old rings turn.Idle old rings
 idle-turn w rings old still = λ machines inside is.
-    let body : WorldValue = record { rings = rings; machines = machines } in
-    let here : ((world_of body).workers w).status ≡ status_of_phase old.phase = ap (λ (x : WorkerState). x.status) (get-map machines w old inside is) in
-    let same : world_of (record { rings = rings; machines = set machines w old }) ≡ world_of body = ap (λ l. world_of (record { rings = rings; machines = l })) (ap (set machines w) is ∙ set-get machines w old) in
-    (Idle, tt, subst (λ status. TakesWorkerTurn w status (world_of body) Idle (world_of (record { rings = rings; machines = set machines w old }))) (sym here) (by_phase body (world_of (record { rings = rings; machines = set machines w old })) old.phase still same))
+    let body : WholeWorld = record { rings = rings; machines = machines } in
+    let here : ((shown_world body).workers w).status ≡ status_of_phase old.phase = ap (λ (x : WorkerState). x.status) (get-map machines w old inside is) in
+    let same : shown_world (record { rings = rings; machines = set machines w old }) ≡ shown_world body = ap (λ l. shown_world (record { rings = rings; machines = l })) (ap (set machines w) is ∙ set-get machines w old) in
+    (Idle, tt, subst (λ status. TakesWorkerTurn w status (shown_world body) Idle (shown_world (record { rings = rings; machines = set machines w old }))) (sym here) (by_phase body (shown_world (record { rings = rings; machines = set machines w old })) old.phase still same))
   where
-    by_phase : (body : WorldValue) (after : World) (p : Phase) → p ≢ phase.Ready → after ≡ world_of body → TakesWorkerTurn w (status_of_phase p) (world_of body) Idle after
+    by_phase : (body : WholeWorld) (after : World) (p : Phase) → p ≢ phase.Ready → after ≡ shown_world body → TakesWorkerTurn w (status_of_phase p) (shown_world body) Idle after
     by_phase body after phase.Ready still e = absurd (still refl)
     by_phase body after (phase.Waiting kind) still e = (refl, e)
     by_phase body after (phase.Exited n) still e = (refl, e)
@@ -126,56 +126,56 @@ idle-turn w rings old still = λ machines inside is.
 
 module _ (w : ℕ) (rings : List WorldRing) (old mid new : MachineState WorldRecord) (r : ℕ) (s s' : WorldRing) (ready : old.phase ≡ phase.Ready) (program : mid.program ≡ old.program) (low : r < length rings) (there : s ≡ get_or rings r s) where
   module _ (machines : List (MachineState WorldRecord)) (inside : w < length machines) (is : old ≡ get_or machines w old) where
-    abbrev body : WorldValue
+    abbrev body : WholeWorld
     body = record { rings = rings; machines = machines }
 
     abbrev after : World
-    after = world_of (record { rings = set rings r s'; machines = set machines w new })
+    after = shown_world (record { rings = set rings r s'; machines = set machines w new })
 
-    here : (world_of body).workers w ≡ worker_of old
+    here : (shown_world body).workers w ≡ worker_of old
     here = get-map machines w old inside is
 
-    book-here : s ≡ (world_of body).rings r
+    book-here : s ≡ (shown_world body).rings r
     book-here = (at-default rings r s (no_ring (length machines)) low there)
 
     answered-turn : (call : HelperCall) (answer : HelperAnswer) (on : TurnEvent) (held held' : HeldRecords) → held ≡ held' → GoesOnWith (pending_call_of call) answer held mid new
-        → GetsAnswer w call mid.state answer on held' r s' (world_of body) (event_of on (resume (pending_call_of call) answer mid.state)) after
+        → GetsAnswer w call mid.state answer on held' r s' (shown_world body) (event_of on (resume (pending_call_of call) answer mid.state)) after
     answered-turn call answer on held held' same goes = record {
       told = refl;
-      world = shown-both body r s' w new low inside ∙ ap (λ x. with_ring r s' (with_worker w x (world_of body))) (goes ∙ ap (worker_after (resume (pending_call_of call) answer mid.state)) y);
+      world = shown-both body r s' w new low inside ∙ ap (λ x. with_ring r s' (with_worker w x (shown_world body))) (goes ∙ ap (worker_after (resume (pending_call_of call) answer mid.state)) y);
     }
       where
-        y : ◌≡◌ {A = WorkerState} (record (worker_of mid) { held = held; status = Running }) (record ((world_of body).workers w) { held = held'; state = mid.state })
+        y : ◌≡◌ {A = WorkerState} (record (worker_of mid) { held = held; status = Running }) (record ((shown_world body).workers w) { held = held'; state = mid.state })
         y = (λ i. record { subject = program i; state = mid.state; held = same i; status = (ap status_of_phase (sym ready)) i }) ∙ ap (λ (x : WorkerState). record x { held = held'; state = mid.state }) (sym here)
 
-  kept-held : mid.records ≡ old.records → (machines : List (MachineState WorldRecord)) (inside : w < length machines) (is : old ≡ get_or machines w old) → held_by mid ≡ ((world_of (body machines inside is)).workers w).held
+  kept-held : mid.records ≡ old.records → (machines : List (MachineState WorldRecord)) (inside : w < length machines) (is : old ≡ get_or machines w old) → held_by mid ≡ ((shown_world (body machines inside is)).workers w).held
   kept-held records machines inside is = ap (λ (rs : Held). λ id. option_map place_of (held_record id rs)) records ∙ ap (λ (x : WorkerState). x.held) (sym (here machines inside is))
 
   pub reserve-turn : (len flags : ℕ) (call : HelperCall) → next_step old.program.program old.state ≡ Asks call mid.state → call ≡ Reserve mid.state.unit r len flags → mid.records ≡ left_by call old.records → AnswersReserve w r len flags mid s new s'
       → IsWorkerTurn w old rings turn.Went new (set rings r s')
   reserve-turn len flags call step shows records (outcome, reserves, goes) = λ machines inside is.
-      let same : held_by mid ≡ ((world_of (body machines inside is)).workers w).held = kept-held (records ∙ ap (λ c. left_by c old.records) shows) machines inside is in (
+      let same : held_by mid ≡ ((shown_world (body machines inside is)).workers w).held = kept-held (records ∙ ap (λ c. left_by c old.records) shows) machines inside is in (
         Went,
         tt,
         executes-turn (body machines inside is) w old (Asks (Reserve mid.state.unit r len flags) mid.state) Went _ inside is ready (step ∙ ap (λ c. Asks c mid.state) shows) (
           outcome,
           s',
           subst (λ b. WorkerReserves w len flags outcome b s') (book-here machines inside is) reserves,
-          subst (λ event. GetsAnswer w (Reserve mid.state.unit r len flags) mid.state (answer_to_reserve outcome) Went (held_after_reserve mid.state.unit r outcome ((world_of (body machines inside is)).workers w).held) r s' (world_of (body machines inside is)) event (after machines inside is)) (goes-by outcome)
+          subst (λ event. GetsAnswer w (Reserve mid.state.unit r len flags) mid.state (answer_to_reserve outcome) Went (held_after_reserve mid.state.unit r outcome ((shown_world (body machines inside is)).workers w).held) r s' (shown_world (body machines inside is)) event (after machines inside is)) (goes-by outcome)
               (answered-turn machines inside is (Reserve mid.state.unit r len flags) (answer_to_reserve outcome) Went _ _ (ap (held_after_reserve mid.state.unit r outcome) same) goes),
         ),
       )
     where
       goes-by : (outcome : RecordOutcome) → event_of Went (resume (asked.Reserve len) (answer_to_reserve outcome) mid.state) ≡ Went
       goes-by BadFlags = refl
-      goes-by MemoryRefused = refl
+      goes-by Unlogged = refl
       goes-by NoRoom = refl
       goes-by (Made p k) = refl
 
   pub output-turn : (flags : ℕ) (call : HelperCall) (bytes : List ℕ) → next_step old.program.program old.state ≡ Asks call mid.state → mid.output ≡ Some bytes → call ≡ Output r bytes flags → mid.records ≡ left_by call old.records → AnswersOutput w flags mid s new s'
       → IsWorkerTurn w old rings turn.Went new (set rings r s')
   output-turn flags call bytes step lent shows records with_answer = λ machines inside is.
-      let same : held_by mid ≡ ((world_of (body machines inside is)).workers w).held = kept-held (records ∙ ap (λ c. left_by c old.records) shows) machines inside is in
+      let same : held_by mid ≡ ((shown_world (body machines inside is)).workers w).held = kept-held (records ∙ ap (λ c. left_by c old.records) shows) machines inside is in
       let a = with_answer bytes lent in (
         output_event r bytes a.0,
         tells a.0,
@@ -183,33 +183,33 @@ module _ (w : ℕ) (rings : List WorldRing) (old mid new : MachineState WorldRec
           a.0,
           s',
           subst (λ b. WorkerOutputs w bytes flags a.0 b s') (book-here machines inside is) a.1,
-          subst (λ event. GetsAnswer w (Output r bytes flags) mid.state (answer_to_output a.0) (output_event r bytes a.0) ((world_of (body machines inside is)).workers w).held r s' (world_of (body machines inside is)) event (after machines inside is)) (goes-by a.0)
+          subst (λ event. GetsAnswer w (Output r bytes flags) mid.state (answer_to_output a.0) (output_event r bytes a.0) ((shown_world (body machines inside is)).workers w).held r s' (shown_world (body machines inside is)) event (after machines inside is)) (goes-by a.0)
               (answered-turn machines inside is (Output r bytes flags) (answer_to_output a.0) (output_event r bytes a.0) _ _ same a.2),
         ),
       )
     where
       goes-by : (outcome : RecordOutcome) → event_of (output_event r bytes outcome) (resume asked.Output (answer_to_output outcome) mid.state) ≡ output_event r bytes outcome
       goes-by BadFlags = refl
-      goes-by MemoryRefused = refl
+      goes-by Unlogged = refl
       goes-by NoRoom = refl
       goes-by (Made p k) = refl
 
       tells : (outcome : RecordOutcome) → TellsEvent turn.Went (output_event r bytes outcome)
       tells BadFlags = tt
-      tells MemoryRefused = tt
+      tells Unlogged = tt
       tells NoRoom = tt
       tells (Made p k) = tt
 
   pub query-turn : (what : ℕ) (call : HelperCall) → next_step old.program.program old.state ≡ Asks call mid.state → call ≡ Query r what → mid.records ≡ left_by call old.records → s' ≡ s → AnswersQuery what mid s new
       → IsWorkerTurn w old rings turn.Went new (set rings r s')
   query-turn what call step shows records unchanged goes = λ machines inside is.
-      let same : held_by mid ≡ ((world_of (body machines inside is)).workers w).held = kept-held (records ∙ ap (λ c. left_by c old.records) shows) machines inside is in
+      let same : held_by mid ≡ ((shown_world (body machines inside is)).workers w).held = kept-held (records ∙ ap (λ c. left_by c old.records) shows) machines inside is in
       let answer : WorldRing → HelperAnswer = λ b. Told (query_answer b.ring.setup b.ring.history what) in (
         Went,
         tt,
         executes-turn (body machines inside is) w old (Asks (Query r what) mid.state) Went _ inside is ready (step ∙ ap (λ c. Asks c mid.state) shows)
-            (subst (λ b. GetsAnswer w (Query r what) mid.state (Told (query_answer b.ring.setup b.ring.history what)) Went ((world_of (body machines inside is)).workers w).held r b (world_of (body machines inside is)) Went (after machines inside is)) (book-here machines inside is)
-            (subst (λ b. GetsAnswer w (Query r what) mid.state (Told (query_answer s.ring.setup s.ring.history what)) Went ((world_of (body machines inside is)).workers w).held r b (world_of (body machines inside is)) Went (after machines inside is)) unchanged
+            (subst (λ b. GetsAnswer w (Query r what) mid.state (Told (query_answer b.ring.setup b.ring.history what)) Went ((shown_world (body machines inside is)).workers w).held r b (shown_world (body machines inside is)) Went (after machines inside is)) (book-here machines inside is)
+            (subst (λ b. GetsAnswer w (Query r what) mid.state (Told (query_answer s.ring.setup s.ring.history what)) Went ((shown_world (body machines inside is)).workers w).held r b (shown_world (body machines inside is)) Went (after machines inside is)) unchanged
             (answered-turn machines inside is (Query r what) (Told (query_answer s.ring.setup s.ring.history what)) Went _ _ same goes))),
       )
 
@@ -225,15 +225,15 @@ module _ (w : ℕ) (rings : List WorldRing) (old mid new : MachineState WorldRec
 
   given-turn : AnswersGivenBack gives owned mid s new s'
       → (machines : List (MachineState WorldRecord)) → w < length machines → old ≡ get_or machines w old
-      → (event : TurnEvent) × TellsEvent turn.Went event × GivesRecordBack gives hands w call mid.state id owned.reservation.bytes (((world_of (record { rings = rings; machines = machines })).workers w).held id) (world_of (record { rings = rings; machines = machines })) event (world_of (record { rings = set rings owned.ring s'; machines = set machines w new }))
+      → (event : TurnEvent) × TellsEvent turn.Went event × GivesRecordBack gives hands w call mid.state id owned.reservation.bytes (((shown_world (record { rings = rings; machines = machines })).workers w).held id) (shown_world (record { rings = rings; machines = machines })) event (shown_world (record { rings = set rings owned.ring s'; machines = set machines w new }))
   given-turn (g, goes) = λ machines inside is.
-      let world = world_of (record { rings = rings; machines = machines }) in
+      let world = shown_world (record { rings = rings; machines = machines }) in
       let there_now : world.workers w ≡ worker_of old = get-map machines w old inside is in
       let held_is : (world.workers w).held id ≡ Some (place_of owned) = ap (λ (x : WorkerState). x.held id) there_now ∙ ap (option_map place_of) found in
       let same : held_by mid ≡ table_with id None (world.workers w).held = (λ i j. gone j i) ∙ ap (λ (x : WorkerState). table_with id None x.held) (sym there_now) in (
         event_of (hands (place_of owned) owned.reservation.bytes) (resume (pending_call_of call) TakenAnswer mid.state),
         subst (λ k. TellsEvent turn.Went (event_of (hands (place_of owned) owned.reservation.bytes) (resume k TakenAnswer mid.state))) (sym kind) tells,
-        subst (λ held. GivesRecordBack gives hands w call mid.state id owned.reservation.bytes held world (event_of (hands (place_of owned) owned.reservation.bytes) (resume (pending_call_of call) TakenAnswer mid.state)) (world_of (record { rings = set rings owned.ring s'; machines = set machines w new }))) (sym held_is) (
+        subst (λ held. GivesRecordBack gives hands w call mid.state id owned.reservation.bytes held world (event_of (hands (place_of owned) owned.reservation.bytes) (resume (pending_call_of call) TakenAnswer mid.state)) (shown_world (record { rings = set rings owned.ring s'; machines = set machines w new }))) (sym held_is) (
           TakenAnswer,
           s',
           subst (λ b. gives (granted_at (place_of owned) w owned.reservation.bytes) TakenAnswer b s') (book-here w rings old mid new owned.ring s s' ready program low there machines inside is)

@@ -1,18 +1,19 @@
 -- How worlds are opened: when they may be, and what they are then (own).
 use Rattle.std.specs.Prelude.{ℕ, ◌≡◌, ◌≤◌, List, [], All, length, map}
 use Rattle.std.specs.List.{AllZip}
-use Rattle.rb_history.specs.RingModel.{fresh, IsRingSize, IsStartPosition, IsWorkerCount}
+use Rattle.rb_history.specs.RingModel.{IsRingSize, IsStartPosition, IsWorkerCount}
+use Rattle.rb_chapter.specs.Chapters.{IsChapterRoom}
+use Rattle.rb_chapter_ring.specs.OpenedRing as chapter_ring
 use Rattle.rb_semantics.specs.ProgramStates.{entry_program_state}
 use Rattle.rb_interp.specs.MachineState.{MachineState}
 use Rattle.rb_interp.specs.declared.step.Phase.TheVariants.{Ready}
-use Rattle.rb_interleavings.specs.Worlds.{WorldRing}
 use Rattle.rb_interleavings.specs.OpeningWorld.{BeginsVerified}
 use Rattle.rb_world.specs.declared.opening.RingSetup.{RingSetup}
 use Rattle.rb_world.specs.declared.opening.WorkerSetup.{WorkerSetup}
 use Rattle.rb_world.specs.declared.world_fault.WorldOpenFault.{WorldOpenFault}
 use Rattle.rb_world.specs.declared.world_fault.WorldOpenFault.TheVariants as fault
 use Rattle.rb_world.specs.declared.world_record.WorldRecord.{WorldRecord}
-use Rattle.rb_world.specs.WorldValue.{WorldValue, worker_of}
+use Rattle.rb_world.specs.WorldValue.{KeptRing, WorldValue, worker_of}
 
 -- a ring's size and start are within their bounds
 pub record IsRingSetup (s : RingSetup) : Type 0 where
@@ -22,6 +23,10 @@ pub record IsRingSetup (s : RingSetup) : Type 0 where
 -- each ring's are
 abbrev pub AreRings : List RingSetup → Type 0
 AreRings rings = All IsRingSetup rings
+
+-- each ring's chapters have a lawful room
+abbrev pub HaveRooms : List RingSetup → Type 0
+HaveRooms rings = All (λ s. IsChapterRoom s.room) rings
 
 -- each context is as long as its program was verified for
 abbrev pub HaveContexts : List WorkerSetup → Type 0
@@ -37,6 +42,7 @@ pub record MayOpen (rings : List RingSetup) (workers : List WorkerSetup) : Type 
   pub contexts : HaveContexts workers
   pub ring_count : HaveRings (length rings) workers
   pub worker_count : IsWorkerCount (length workers)
+  pub rooms : HaveRooms rings
 
 -- why it is not: the first of these that applies; want of memory is told only where the world may be opened
 abbrev pub IsOpenRefusal : List RingSetup → List WorkerSetup → WorldOpenFault → Type 0
@@ -45,11 +51,17 @@ IsOpenRefusal rings workers fault.ContextLength = AreRings rings × ¬ HaveConte
 IsOpenRefusal rings workers fault.Rings = AreRings rings × HaveContexts workers × ¬ HaveRings (length rings) workers
 IsOpenRefusal rings workers fault.Workers =
     AreRings rings × HaveContexts workers × HaveRings (length rings) workers × ¬ IsWorkerCount (length workers)
+IsOpenRefusal rings workers fault.Chapter =
+    AreRings rings × HaveContexts workers × HaveRings (length rings) workers × IsWorkerCount (length workers) × ¬ HaveRooms rings
 IsOpenRefusal rings workers fault.Memory = MayOpen rings workers
 
--- a ring for so many workers, with nothing in it
-abbrev pub opened_ring : ℕ → RingSetup → WorldRing
-opened_ring workers s = record { ring = fresh s.size s.start workers; taken = [] }
+-- a ring for so many workers, with nothing in it, in its first chapter
+abbrev pub opened_ring : ℕ → RingSetup → KeptRing
+opened_ring workers s = record {
+  ring = chapter_ring.opened_ring s.room (record { size = s.size; start = s.start; workers = workers });
+  chapters = [];
+  taken = [];
+}
 
 -- a machine is at the first instruction of a worker's program, over its context, and holds no record
 pub record IsStarted (x : WorkerSetup) (m : MachineState WorldRecord) : Type 0 where

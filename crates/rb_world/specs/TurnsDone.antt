@@ -1,11 +1,15 @@
 -- What a turn answers of what happened in it (own).
-use Rattle.std.specs.Prelude.{ℕ, ◌≡◌}
+use Rattle.std.specs.Prelude.{ℕ, ◌≡◌, List, [], ◌∷◌, ◌++◌, map, slice_set}
+use Rattle.std.specs.List.{slice_index_or}
 use Rattle.rb_history.specs.declared.answers.Taken.TheVariants.{Event, Skipped as SkippedRecord, BusyFront, Empty}
+use Rattle.rb_chapter.specs.Chapters.{Chapter}
+use Rattle.rb_chapter.specs.ChapterCalls.{HandsOut}
 use Rattle.rb_interleavings.specs.declared.actor.Actor.{Actor}
-use Rattle.rb_interleavings.specs.Turns.{TurnEvent, Went, HandedOver, Ended, Idle, Took, NoMemory, WorldStep}
+use Rattle.rb_interleavings.specs.declared.actor.Actor.TheVariants.{Keeper}
+use Rattle.rb_interleavings.specs.Turns.{TurnEvent, Went, HandedOver, Ended, Idle, Took, HandedChapter, NoMemory, WorldStep}
 use Rattle.rb_world.specs.declared.turn_done.TurnDone.{TurnDone}
 use Rattle.rb_world.specs.declared.turn_done.TurnDone.TheVariants as answer
-use Rattle.rb_world.specs.WorldValue.{WorldValue, world_of}
+use Rattle.rb_world.specs.WorldValue.{KeptRing, WorldValue, WholeWorld, whole_world, shown_world, no_kept_ring}
 
 -- the answer tells the event
 abbrev pub TellsEvent : TurnDone → TurnEvent → Type 0
@@ -17,9 +21,33 @@ TellsEvent answer.Took (Took (Event p w k bytes)) = Unit {0}
 TellsEvent answer.Skipped (Took (SkippedRecord p n)) = Unit {0}
 TellsEvent answer.BusyFront (Took BusyFront) = Unit {0}
 TellsEvent answer.Empty (Took Empty) = Unit {0}
+TellsEvent (answer.Chapter n) HandedChapter = Unit {0}
 TellsEvent answer.Memory NoMemory = Unit {0}
 TellsEvent _ _ = ⊥
 
 -- a turn of an actor is one turn of the world
+abbrev pub IsWholeTurn : Actor → WholeWorld → TurnDone → WholeWorld → Type 0
+IsWholeTurn actor old done new = (event : TurnEvent) × TellsEvent done event × WorldStep (shown_world old) actor event (shown_world new)
+
 abbrev pub IsTurnOf : Actor → WorldValue → TurnDone → WorldValue → Type 0
-IsTurnOf actor old done new = (event : TurnEvent) × TellsEvent done event × WorldStep (world_of old) actor event (world_of new)
+IsTurnOf actor old done new = IsWholeTurn actor (whole_world old) done (whole_world new)
+
+-- ---- what becomes of the chapters
+
+-- the chapters of a ring: those that were handed out, and the one that it keeps, whatever its entries
+abbrev pub chapters_of : KeptRing → List Chapter × Chapter
+chapters_of s = (s.chapters, record s.ring.chapter { entries = [] })
+
+-- the ring handed its chapter out, which has this number, and the world keeps it; nothing else changed
+pub record TurnsChapter (number : ℕ) (old new : KeptRing) : Type 0 where
+  pub number_is : number ≡ old.ring.chapter.number
+  pub handed_out : HandsOut old.ring new.ring old.ring.chapter
+  pub kept : new.chapters ≡ old.chapters ++ old.ring.chapter ∷ []
+  pub taken_same : new.taken ≡ old.taken
+
+-- a keeper that answers a chapter's number handed that chapter out, and a keeper without memory did nothing; the turns of others leave
+-- each ring in its chapter
+abbrev pub TurnsChaptersOf : Actor → TurnDone → List KeptRing → List KeptRing → Type 0
+TurnsChaptersOf (Keeper r) (answer.Chapter n) old new = (s : KeptRing) × TurnsChapter n (slice_index_or old r no_kept_ring) s × (new ≡ slice_set old r s)
+TurnsChaptersOf (Keeper r) done old new = new ≡ old
+TurnsChaptersOf actor done old new = map chapters_of new ≡ map chapters_of old

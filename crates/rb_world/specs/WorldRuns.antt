@@ -2,7 +2,7 @@
 use Rattle.std.specs.Prelude.{ℕ, All, List, [], ◌∷◌, Option, Some, None}
 use Rattle.std.specs.List.{AllZip}
 use Rattle.rb_interleavings.specs.declared.actor.Actor.{Actor}
-use Rattle.rb_interleavings.specs.Worlds.{WorkerStatus, Running, WorkerState}
+use Rattle.rb_interleavings.specs.Worlds.{WorkerStatus, Running, Finished, WorkerState}
 use Rattle.rb_interleavings.specs.Turns.{TurnEvent, WorldRun}
 use Rattle.rb_world.specs.declared.turn_done.TurnDone.{TurnDone}
 use Rattle.rb_world.specs.declared.world_fault.WorldFault.{WorldFault}
@@ -32,3 +32,11 @@ unit_by status unit = None
 
 abbrev pub next_unit : WorkerState → Option ℕ
 next_unit x = unit_by x.status x.state.unit
+
+-- what a worker's program ended with
+abbrev pub result_by : WorkerStatus → Option ℕ
+result_by (Finished n) = Some n
+result_by status = None
+
+abbrev pub result_of : WorkerState → Option ℕ
+result_of x = result_by x.status

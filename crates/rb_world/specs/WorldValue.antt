@@ -1,21 +1,43 @@
 -- What contracts see of a world, and the world of the definitions that it shows (own).
 use Rattle.std.specs.Prelude.{ℕ, ◌<◌, List, [], Some, None, Option, option_map, length, map}
 use Rattle.std.specs.List.{slice_index_or}
+use Rattle.rb_history.specs.declared.answers.Taken.{Taken}
 use Rattle.rb_history.specs.RingModel.{fresh}
+use Rattle.rb_chapter.specs.Chapters.{Chapter, joined}
+use Rattle.rb_chapter.specs.ChapterRing.{ChapterRing, whole_ring}
+use Rattle.rb_chapter_ring.specs.OpenedRing.{opened_ring}
 use Rattle.rb_semantics.specs.ProgramStates.{entry_program_state}
 use Rattle.rb_interp.specs.MachineState.{MachineState}
 use Rattle.rb_interp.specs.StoredMemory.{held_record}
 use Rattle.rb_interp.specs.declared.step.Phase.{Phase}
 use Rattle.rb_interp.specs.declared.step.Phase.TheVariants as phase
 use Rattle.rb_interleavings.specs.declared.actor.Actor.{Actor}
-use Rattle.rb_interleavings.specs.declared.actor.Actor.TheVariants.{Worker, Consumer}
+use Rattle.rb_interleavings.specs.declared.actor.Actor.TheVariants.{Worker, Consumer, Keeper}
 use Rattle.rb_interleavings.specs.Worlds.{RecordPlace, HeldRecords, WorkerStatus, Running, Finished, Halted, Strayed, WorkerState, WorldRing, World}
 use Rattle.rb_world.specs.declared.world_record.WorldRecord.{WorldRecord}
 
--- a machine of each worker, and each ring with what was taken of it
+-- a ring, the chapters that it handed out, oldest first, and what was taken of it
+pub record KeptRing : Type 0 where
+  pub ring : ChapterRing
+  pub chapters : List Chapter
+  pub taken : List Taken
+
+-- its whole history: that of the chapters that were handed out, and then that of the one that it keeps
+abbrev pub world_ring : KeptRing → WorldRing
+world_ring s = record { ring = whole_ring (joined s.chapters) s.ring; taken = s.taken }
+
+-- a machine of each worker, and each ring
 pub record WorldValue : Type 0 where
+  pub rings : List KeptRing
+  pub machines : List (MachineState WorldRecord)
+
+-- the same, each ring with its whole history
+pub record WholeWorld : Type 0 where
   pub rings : List WorldRing
   pub machines : List (MachineState WorldRecord)
+
+abbrev pub whole_world : WorldValue → WholeWorld
+whole_world v = record { rings = map world_ring v.rings; machines = v.machines }
 
 -- where a record stands
 abbrev pub place_of : WorldRecord → RecordPlace
@@ -40,19 +62,30 @@ worker_of m = record { subject = m.program; state = m.state; held = held_by m; s
 abbrev pub no_worker : WorkerState
 no_worker = record { subject = record { program = []; ctx_len = 0; rings = 0 }; state = entry_program_state []; held = λ id. None; status = Finished 0 }
 
--- a ring that is not there
+-- rings that are not there
+abbrev pub no_kept_ring : KeptRing
+no_kept_ring = record { ring = opened_ring 8 (record { size = 4096; start = 0; workers = 1 }); chapters = []; taken = [] }
+
 abbrev pub no_ring : ℕ → WorldRing
 no_ring workers = record { ring = fresh 4096 0 workers; taken = [] }
 
 -- the world of the definitions
-abbrev pub world_of : WorldValue → World
-world_of v = record {
+abbrev pub shown_world : WholeWorld → World
+shown_world v = record {
   worker_count = length v.machines;
   workers = λ w. slice_index_or (map worker_of v.machines) w no_worker;
   rings = λ r. slice_index_or v.rings r (no_ring (length v.machines));
 }
 
+abbrev pub world_of : WorldValue → World
+world_of v = shown_world (whole_world v)
+
+-- the ring of a number
+abbrev pub ring_at : WorldValue → ℕ → KeptRing
+ring_at v r = slice_index_or v.rings r no_kept_ring
+
 -- the actor is there
 abbrev pub IsThere : WorldValue → Actor → Type 0
 IsThere v (Worker w) = w < length v.machines
 IsThere v (Consumer r) = r < length v.rings
+IsThere v (Keeper r) = r < length v.rings

@@ -1,18 +1,20 @@
-//! A ring of a world, and what its consumer took of it.
+//! A ring of a world, the chapters that it handed out, and what its consumer took of it.
 
 use crate::ring_answers;
 use crate::turn_done::TurnDone;
 use crate::world_record::WorldRecord;
+use rb_chapter::Chapter;
+use rb_chapter_ring::RingState;
 use rb_history::Taken;
 use rb_interp::{Answer, Machine};
-use rb_ring::RingState;
-use std::alloc::Global;
+use std::alloc::{AllocError, Global};
 use std::marker::Model;
 
-// A ring, and what its consumer took of it, in order.
+// A ring, the chapters that it handed out, oldest first, and what its consumer took of it, in order.
 #[derive(Drop)]
 pub(crate) struct ConsumedRing {
     pub(crate) ring: RingState,
+    pub(crate) chapters: Vec<Chapter>,
     pub(crate) taken: Vec<Taken>,
 }
 
@@ -20,23 +22,39 @@ impl Model for ConsumedRing {
     ghost use Rattle.std.specs.Coded.{codes};
     ghost use Rattle.rb_history.specs.RingModel.{contents_code};
     ghost use Rattle.rb_history.specs.contracts.entries.Entry as entry;
-    ghost use Rattle.rb_interleavings.specs.Worlds.{WorldRing};
+    ghost use Rattle.rb_history.specs.contracts.tally.Tally as tally_row;
+    ghost use Rattle.rb_chapter.specs.Chapters.{joined};
+    ghost use Rattle.rb_chapter.specs.WholeHistory.{IsKept};
+    ghost use Rattle.rb_world.specs.WorldValue.{KeptRing};
 
-    ghost Value = { WorldRing };
+    ghost Value = { KeptRing };
 
-    ghost coded = { Prim.hlevel (codes, contents_code, entry.the_row.coded) };
+    ghost coded = { Prim.hlevel (codes, contents_code, entry.the_row.coded, tally_row.the_row.coded) };
 
-    ghost view = { λ s. record { ring = s.ring; taken = s.taken.items } };
+    ghost view = { λ s. record { ring = s.ring; chapters = s.chapters.items; taken = s.taken.items } };
+
+    ghost invariant = { λ s. IsKept (joined s.chapters.items) s.ring.chapter };
 }
 
 impl ConsumedRing {
     ghost use Rattle.std.specs.Prelude.{◌≡◌, ◌<◌, ℕ};
     ghost use Rattle.rb_history.specs.Calls.{HoldsReservation};
+    ghost use Rattle.rb_chapter.specs.Chapters.{joined};
+    ghost use Rattle.rb_chapter.specs.WholeHistory.{IsKept};
     ghost use Rattle.rb_interleavings.specs.CallsInWorld.{WorkerSubmits, WorkerDiscards};
     ghost use Rattle.rb_interp.specs.declared.step.Phase.TheVariants as phase;
     ghost use Rattle.rb_semantics.specs.declared.pending_call.PendingCall.TheVariants as asked;
-    ghost use Rattle.rb_world.specs.inner.WorkerTurn.{TakesOnce, AnswersReserve, AnswersOutput, AnswersGivenBack, AnswersQuery};
+    ghost use Rattle.rb_world.specs.inner.WorkerTurn.{TakesOnce, KeepsChapter, AnswersReserve, AnswersOutput, AnswersGivenBack, AnswersQuery};
     ghost use Rattle.rb_world.specs.inner.FittingWorlds.{AreOwn};
+    ghost use Rattle.rb_world.specs.TurnsDone.{chapters_of};
+    ghost use Rattle.rb_world.specs.WorldValue.{world_ring};
+
+    // What every ring is: its chapter goes on where those that were handed out end.
+    pub(crate) fn facts(&self)
+        ensures kept { IsKept (joined self.now.chapters) self.now.ring.chapter }
+    {
+        let _ = &self.ring;
+    }
 
     // Answers the reserve of a worker that waits.
     pub(crate) fn answer_reserve(
@@ -48,12 +66,12 @@ impl ConsumedRing {
         len: u32,
         flags: u64,
     )
-        requires worker { w < self.old.ring.setup.workers }
+        requires worker { w < self.old.ring.chapter.opening.setup.workers }
         requires waits { machine.old.phase ≡ phase.Waiting (asked.Reserve len) }
-        ensures answered { AnswersReserve w r len flags machine.old self.old machine.new self.new }
+        ensures answered { AnswersReserve w r len flags machine.old (world_ring self.old) machine.new (world_ring self.new) }
         ensures own { (rings : ℕ) → r < rings → AreOwn w rings machine.old.records → AreOwn w rings machine.new.records }
         ensures program { machine.new.program ≡ machine.old.program }
-        ensures same_ring { self.new.ring.setup ≡ self.old.ring.setup }
+        ensures chapters { chapters_of self.new ≡ chapters_of self.old }
     {
         machine.facts();
         machine.record_facts();
@@ -74,12 +92,12 @@ impl ConsumedRing {
         w: u32,
         flags: u64,
     )
-        requires worker { w < self.old.ring.setup.workers }
+        requires worker { w < self.old.ring.chapter.opening.setup.workers }
         requires waits { machine.old.phase ≡ phase.Waiting asked.Output }
-        ensures answered { AnswersOutput w flags machine.old self.old machine.new self.new }
+        ensures answered { AnswersOutput w flags machine.old (world_ring self.old) machine.new (world_ring self.new) }
         ensures records { machine.new.records ≡ machine.old.records }
         ensures program { machine.new.program ≡ machine.old.program }
-        ensures same_ring { self.new.ring.setup ≡ self.old.ring.setup }
+        ensures chapters { chapters_of self.new ≡ chapters_of self.old }
     {
         let code = ring_answers::output(&mut self.ring, alloc, w, machine.output(), flags);
         machine.answer(Answer::Code(code));
@@ -92,12 +110,12 @@ impl ConsumedRing {
         owned: WorldRecord,
         flags: u64,
     )
-        requires busy { HoldsReservation self.old.ring owned.reservation }
+        requires busy { HoldsReservation (world_ring self.old).ring owned.reservation }
         requires waits { machine.old.phase ≡ phase.Waiting asked.GiveBack }
-        ensures answered { AnswersGivenBack WorkerSubmits owned machine.old self.old machine.new self.new }
+        ensures answered { AnswersGivenBack WorkerSubmits owned machine.old (world_ring self.old) machine.new (world_ring self.new) }
         ensures records { machine.new.records ≡ machine.old.records }
         ensures program { machine.new.program ≡ machine.old.program }
-        ensures same_ring { self.new.ring.setup ≡ self.old.ring.setup }
+        ensures chapters { chapters_of self.new ≡ chapters_of self.old }
     {
         match self.ring.submit(owned.reservation, flags) {
             Ok(_) => {
@@ -115,12 +133,12 @@ impl ConsumedRing {
         owned: WorldRecord,
         flags: u64,
     )
-        requires busy { HoldsReservation self.old.ring owned.reservation }
+        requires busy { HoldsReservation (world_ring self.old).ring owned.reservation }
         requires waits { machine.old.phase ≡ phase.Waiting asked.GiveBack }
-        ensures answered { AnswersGivenBack WorkerDiscards owned machine.old self.old machine.new self.new }
+        ensures answered { AnswersGivenBack WorkerDiscards owned machine.old (world_ring self.old) machine.new (world_ring self.new) }
         ensures records { machine.new.records ≡ machine.old.records }
         ensures program { machine.new.program ≡ machine.old.program }
-        ensures same_ring { self.new.ring.setup ≡ self.old.ring.setup }
+        ensures chapters { chapters_of self.new ≡ chapters_of self.old }
     {
         match self.ring.discard(owned.reservation, flags) {
             Ok(_) => {
@@ -134,7 +152,7 @@ impl ConsumedRing {
     // Answers the query of a worker that waits.
     pub(crate) fn answer_query(&self, machine: &mut Machine<'_, &[u8], WorldRecord>, what: u64)
         requires waits { machine.old.phase ≡ phase.Waiting asked.Query }
-        ensures answered { AnswersQuery what machine.old self.now machine.new }
+        ensures answered { AnswersQuery what machine.old (world_ring self.now) machine.new }
         ensures records { machine.new.records ≡ machine.old.records }
         ensures program { machine.new.program ≡ machine.old.program }
     {
@@ -143,8 +161,8 @@ impl ConsumedRing {
 
     // One take of the ring's consumer; `Memory` where the list of what was taken can't grow.
     pub(crate) fn consume(&mut self) -> TurnDone
-        ensures taken { TakesOnce self.old result self.new }
-        ensures same_ring { self.new.ring.setup ≡ self.old.ring.setup }
+        ensures taken { TakesOnce (world_ring self.old) result (world_ring self.new) }
+        ensures chapters { chapters_of self.new ≡ chapters_of self.old }
     {
         if self.taken.reserve(1).is_err() {
             return TurnDone::Memory;
@@ -165,4 +183,32 @@ impl ConsumedRing {
             }
         }
     }
+
+    // Hands the ring's chapter out, and keeps it; `Memory` where there is none for the next chapter.
+    pub(crate) fn hand_out(&mut self, alloc: Global) -> TurnDone
+        ensures turned { KeepsChapter self.old result self.new }
+        ensures same_history { world_ring self.new ≡ world_ring self.old }
+    {
+        if self.chapters.reserve(1).is_err() {
+            return TurnDone::Memory;
+        }
+        let Ok(next) = next_chapter(alloc, &self.ring) else {
+            return TurnDone::Memory;
+        };
+        match self.ring.hand_out(next) {
+            Ok(chapter) => {
+                let number = chapter.number();
+                self.chapters.push_reserved(chapter);
+                TurnDone::Chapter(number)
+            }
+            Err(_) => TurnDone::Memory,
+        }
+    }
+}
+
+// An empty chapter of the ring's room and workers.
+fn next_chapter(alloc: Global, ring: &RingState) -> Result<Chapter, AllocError> {
+    ring.facts();
+    let chapter = ring.chapter();
+    Chapter::new(alloc, chapter.room(), chapter.opening().workers())
 }

@@ -1,6 +1,7 @@
 //! Verified programs and ring buffers in turns, without a thread or a lock: every interleaving of their steps can be run, and
-//! seen. A `World` has a machine for each worker and a consumer for each ring; a `turn` of a worker executes one instruction,
-//! a call included, and a `turn` of a consumer makes one take. Calls answer as bpf-helpers(7) has it for bpf_ringbuf_reserve,
+//! seen. A `World` has a machine for each worker, and a consumer and a keeper for each ring; a `turn` of a worker executes one
+//! instruction, a call included, a `turn` of a consumer makes one take, and a `turn` of a keeper hands the ring's chapter out, which the
+//! world keeps. Calls answer as bpf-helpers(7) has it for bpf_ringbuf_reserve,
 //! bpf_ringbuf_submit, bpf_ringbuf_discard, bpf_ringbuf_output and bpf_ringbuf_query, over rings after Linux
 //! Documentation/bpf/ringbuf.rst.
 //!
@@ -10,7 +11,7 @@
 //!
 //! ```text
 //! let worker = WorkerSetup { program: &program, context: &[] };
-//! let ring = RingSetup { size: 4096, start: 0 };
+//! let ring = RingSetup { size: 4096, start: 0, room: 65_536 };
 //! let mut world = World::new(alloc, [ring].as_slice(), [worker, worker].as_slice())?;
 //! for _ in 0..4 {
 //!     world.turn(Actor::Worker(0));       // comes to its reservation

@@ -3,24 +3,27 @@
 ghost use Rattle.std.specs.Prelude.{◌≡◌, ◌↔◌, IsTrue, OnOk, IfOk, IfErr, length, map};
 ghost use Rattle.std.specs.List.{AllZip};
 ghost use Rattle.rb_history.specs.RingModel.{IsWorkerCount};
-ghost use Rattle.rb_world.specs.OpenedWorlds.{IsRingSetup, AreRings, HaveContexts, HaveRings, MayOpen, IsOpenRefusal, IsStarted, opened_ring};
+ghost use Rattle.rb_chapter.specs.Chapters.{IsChapterRoom};
+ghost use Rattle.rb_world.specs.OpenedWorlds.{IsRingSetup, AreRings, HaveRooms, HaveContexts, HaveRings, MayOpen, IsOpenRefusal, IsStarted, opened_ring};
 
 use crate::consumed_ring::ConsumedRing;
 use crate::world_fault::WorldOpenFault;
 use crate::world_record::WorldRecord;
+use rb_chapter_ring::RingState;
 use rb_history::{is_size, is_start};
 use rb_interp::Machine;
-use rb_ring::RingState;
 use rb_verifier::Verified;
 use std::alloc::{AllocError, Global};
 
-/// The size of a ring and its start, both in bytes.
+/// The size of a ring and its start, both in bytes, and the room of its chapters.
 #[derive(Clone, Copy, Debug, PartialEq, Eq)]
 pub struct RingSetup {
     /// A power of two from 4,096 to 67,108,864.
     pub size: u64,
     /// The first position: a multiple of 8, at most 2^61.
     pub start: u64,
+    /// How many entries a chapter of the ring's history has room for: 8 to 1,048,576.
+    pub room: u32,
 }
 
 /// The program of a worker, and its context.
@@ -48,6 +51,28 @@ fn are_rings(rings: &[RingSetup]) -> bool
 {
     for setup in rings {
         if !is_ring(*setup) {
+            return false;
+        }
+    }
+    true
+}
+
+// Whether a chapter may have so much room.
+fn is_room(room: u32) -> bool
+    ensures { IsTrue result ↔ IsChapterRoom room }
+{
+    if room < 8 {
+        return false;
+    }
+    room <= 1_048_576
+}
+
+// Whether each ring's chapters may have the room that is asked for.
+fn have_rooms(rings: &[RingSetup]) -> bool
+    ensures { IsTrue result ↔ HaveRooms rings.now }
+{
+    for setup in rings {
+        if !is_room(setup.room) {
             return false;
         }
     }
@@ -104,6 +129,9 @@ pub(crate) fn check_setups(
     if workers.len() > 256 {
         return Err(WorldOpenFault::Workers);
     }
+    if !have_rooms(rings) {
+        return Err(WorldOpenFault::Chapter);
+    }
     Ok(())
 }
 
@@ -114,16 +142,18 @@ pub(crate) fn open_rings(
     workers: u32,
 ) -> Result<Vec<ConsumedRing>, AllocError>
     requires setups { AreRings rings.now }
+    requires rooms { HaveRooms rings.now }
     requires workers { IsWorkerCount workers }
     ensures opened { IfOk result (λ opened. opened.items ≡ map (opened_ring workers) rings.now) }
 {
     let mut opened = Vec::new(alloc);
     for setup in rings {
-        let Ok(ring) = RingState::new(alloc, setup.size, setup.start, workers) else {
+        let Ok(ring) = RingState::new(alloc, setup.size, setup.start, workers, setup.room) else {
             return Err(AllocError);
         };
         opened.push(ConsumedRing {
             ring,
+            chapters: Vec::new(alloc),
             taken: Vec::new(alloc),
         })?;
     }

@@ -1,12 +1,13 @@
 //! The answers of one ring to the calls of a program.
 
 ghost use Rattle.std.specs.Prelude.{◌<◌, ◌≡◌, negsuc, IfSome};
-ghost use Rattle.rb_history.specs.RingModel.{StandsFor};
-ghost use Rattle.rb_world.specs.inner.RingAnswers.{IsReserved, IsOutput};
+ghost use Rattle.rb_chapter.specs.ChapterCalls.{IsSameChapter};
+ghost use Rattle.rb_chapter.specs.ChapterRing.{StandsForChapter};
+ghost use Rattle.rb_world.specs.inner.RingAnswers.{IsReserved, IsOutput, IsWholeAnswer};
 
-use rb_history::{Reservation, ReserveFault};
+use rb_chapter_ring::{ReserveFault, RingState};
+use rb_history::Reservation;
 use rb_lend::{Lent, Sheet};
-use rb_ring::RingState;
 use std::alloc::Global;
 
 // Reserves a record of `len` bytes for a worker: none where the flags are not 0, where there is no room, or where memory is
@@ -18,9 +19,9 @@ pub(crate) fn reserve(
     len: u32,
     flags: u64,
 ) -> Option<Reservation>
-    requires worker { worker < ring.old.setup.workers }
-    ensures reserved { IsReserved ring.old ring.new worker len flags result }
-    ensures same_ring { ring.new.setup ≡ ring.old.setup }
+    requires worker { worker < ring.old.chapter.opening.setup.workers }
+    ensures reserved { IsWholeAnswer (λ old new. IsReserved old new worker len flags result) ring.old ring.new }
+    ensures same_chapter { IsSameChapter ring.old ring.new }
 {
     if flags != 0 {
         return None;
@@ -28,15 +29,10 @@ pub(crate) fn reserve(
     let Ok(sheet) = Sheet::new(alloc, len) else {
         return None;
     };
-    match ring.reserve(worker, len, sheet) {
-        Ok(reservation) => {
-            ring.facts();
-            Some(reservation)
-        }
-        Err((ReserveFault::Full, _)) => {
-            ring.facts();
-            None
-        }
+    let answer = ring.reserve(worker, len, sheet);
+    ring.facts();
+    match answer {
+        Ok(reservation) => Some(reservation),
         Err(_) => None,
     }
 }
@@ -49,9 +45,9 @@ pub(crate) fn output(
     bytes: &[u8],
     flags: u64,
 ) -> i64
-    requires worker { worker < ring.old.setup.workers }
-    ensures given { IsOutput ring.old ring.new worker bytes.now flags result }
-    ensures same_ring { ring.new.setup ≡ ring.old.setup }
+    requires worker { worker < ring.old.chapter.opening.setup.workers }
+    ensures given { IsWholeAnswer (λ old new. IsOutput old new worker bytes.now flags result) ring.old ring.new }
+    ensures same_chapter { IsSameChapter ring.old ring.new }
 {
     if flags > 3 {
         return -22;
@@ -74,7 +70,7 @@ pub(crate) fn output(
 // The code of an output that a ring refused.
 fn refused(ring: &RingState, fault: ReserveFault) -> i64
     ensures code { result ≡ negsuc 10 }
-    ensures stands { StandsFor ring.now }
+    ensures stands { StandsForChapter ring.now }
 {
     let _ = fault;
     ring.facts();

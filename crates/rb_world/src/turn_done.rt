@@ -17,6 +17,8 @@ pub enum TurnDone {
     BusyFront,
     /// The ring has no record. Nothing changed.
     Empty,
-    /// The list of what the consumer took could not grow. Nothing changed.
+    /// The keeper handed the ring's chapter out, which has this number; the world keeps it.
+    Chapter(u64),
+    /// Memory was refused, for the list of what the consumer took, or for the next chapter. Nothing changed.
     Memory,
 }

@@ -1,8 +1,10 @@
 //! One turn of a worker.
 
-ghost use Rattle.std.specs.Prelude.{◌≡◌, ◌<◌, ◌≤◌, length};
+ghost use Rattle.std.specs.Prelude.{◌≡◌, ◌<◌, ◌≤◌, length, map};
 ghost use Rattle.rb_world.specs.inner.WorkerTurn.{IsWorkerTurn};
 ghost use Rattle.rb_world.specs.inner.FittingWorlds.{AreOwn, AreBusy, AreOpenTo, setups_of};
+ghost use Rattle.rb_world.specs.TurnsDone.{chapters_of};
+ghost use Rattle.rb_world.specs.WorldValue.{world_ring};
 
 use crate::consumed_ring::ConsumedRing;
 use crate::turn_done::TurnDone;
@@ -17,14 +19,14 @@ pub(crate) fn work(
     alloc: Global,
     w: u32,
 ) -> TurnDone
-    requires rings { AreOpenTo w (setups_of rings.old.items) }
+    requires rings { AreOpenTo w (setups_of (map world_ring rings.old.items)) }
     requires program { machine.old.program.rings ≤ length rings.old.items }
     requires own { AreOwn w (length rings.old.items) machine.old.records }
-    requires busy { AreBusy rings.old.items machine.old.records }
-    ensures turned { IsWorkerTurn w machine.old rings.old.items result machine.new rings.new.items }
+    requires busy { AreBusy (map world_ring rings.old.items) machine.old.records }
+    ensures turned { IsWorkerTurn w machine.old (map world_ring rings.old.items) result machine.new (map world_ring rings.new.items) }
     ensures own { AreOwn w (length rings.new.items) machine.new.records }
     ensures program { machine.new.program ≡ machine.old.program }
-    ensures rings { setups_of rings.new.items ≡ setups_of rings.old.items }
+    ensures chapters { map chapters_of rings.new.items ≡ map chapters_of rings.old.items }
 {
     match machine.phase() {
         Phase::Ready => {}

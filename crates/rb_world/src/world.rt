@@ -6,14 +6,16 @@ use crate::turn_done::TurnDone;
 use crate::worker_turn::work;
 use crate::world_fault::WorldOpenFault;
 use crate::world_record::WorldRecord;
+use rb_chapter::Chapter;
+use rb_chapter_ring::RingState;
 use rb_history::Taken;
 use rb_interleavings::Actor;
 use rb_interp::{Machine, Phase};
-use rb_ring::RingState;
 use std::alloc::Global;
 use std::marker::Model;
 
-/// A world of workers and rings: each worker has a machine that runs its program, and each ring a consumer. It goes on by
+/// A world of workers and rings: each worker has a machine that runs its program, and each ring a consumer and a keeper, who hands
+/// its chapters out for the world to keep. It goes on by
 /// turns, one actor at a time, in any order that the caller likes; nothing waits, and there is no thread and no lock.
 ///
 /// Contracts see the machines, the rings with what was taken of them, and the world of the definitions that these show.
@@ -25,30 +27,34 @@ pub struct World<'p> {
 }
 
 impl<'p> Model for World<'p> {
-    ghost use Rattle.rb_world.specs.WorldValue.{WorldValue};
+    ghost use Rattle.rb_world.specs.WorldValue.{WorldValue, whole_world};
     ghost use Rattle.rb_world.specs.inner.FittingWorlds.{IsSoundWorld};
     ghost use Rattle.std.specs.Coded.{codes};
     ghost use Rattle.rb_history.specs.RingModel.{contents_code};
     ghost use Rattle.rb_history.specs.contracts.entries.Entry as entry;
+    ghost use Rattle.rb_history.specs.contracts.tally.Tally as tally_row;
 
     ghost Value = { WorldValue };
 
-    ghost coded = { Prim.hlevel (codes, contents_code, entry.the_row.coded) };
+    ghost coded = { Prim.hlevel (codes, contents_code, entry.the_row.coded, tally_row.the_row.coded) };
 
     ghost view = { λ w. record { rings = w.rings.items; machines = w.machines.items } };
 
-    ghost invariant = { λ w. IsSoundWorld (record { rings = w.rings.items; machines = w.machines.items }) };
+    ghost invariant = { λ w. IsSoundWorld (whole_world (record { rings = w.rings.items; machines = w.machines.items })) };
 }
 
 impl<'p> World<'p> {
     ghost use Rattle.std.specs.Prelude.{◌≡◌, ◌<◌, ◌↔◌, IsTrue, OnOk, IfOk, IfErr, length};
-    ghost use Rattle.rb_interleavings.specs.declared.actor.Actor.TheVariants.{Worker, Consumer};
+    ghost use Rattle.rb_interleavings.specs.declared.actor.Actor.TheVariants.{Worker, Consumer, Keeper};
     ghost use Rattle.rb_interleavings.specs.EveryInterleaving.{IsReachedWorld};
     ghost use Rattle.rb_interleavings.specs.OpeningWorld.{IsOpeningWorld};
     ghost use Rattle.rb_world.specs.OpenedWorlds.{IsOpenedWorld, IsOpenRefusal, MayOpen};
-    ghost use Rattle.rb_world.specs.WorldRuns.{next_unit};
-    ghost use Rattle.rb_world.specs.TurnsDone.{IsTurnOf};
-    ghost use Rattle.rb_world.specs.WorldValue.{IsThere, world_of};
+    ghost use Rattle.rb_world.specs.WorldRuns.{next_unit, result_of};
+    ghost use Rattle.rb_world.specs.TurnsDone.{IsTurnOf, TurnsChaptersOf, chapters_of};
+    ghost use Rattle.rb_chapter.specs.Chapters.{joined};
+    ghost use Rattle.rb_chapter.specs.ChapterRing.{whole_ring};
+    ghost use Rattle.rb_chapter.specs.WholeHistory.{IsKept};
+    ghost use Rattle.rb_world.specs.WorldValue.{IsThere, ring_at, world_of};
 
     /// A world with these rings, of which nothing was taken, and these workers, each at the first instruction of its program.
     ///
@@ -91,7 +97,7 @@ impl<'p> World<'p> {
     {
         match actor {
             Actor::Worker(w) => (w as usize) < self.machines.len(),
-            Actor::Consumer(r) => (r as usize) < self.rings.len(),
+            Actor::Consumer(r) | Actor::Keeper(r) => (r as usize) < self.rings.len(),
         }
     }
 
@@ -103,12 +109,24 @@ impl<'p> World<'p> {
         self.rings[r as usize].taken.as_slice()
     }
 
-    /// A ring, whose positions `query` tells, its counts `counts` and its history `history`.
+    /// A ring, whose positions `query` tells, its counts `counts` and its chapter `chapter`. What it tells of its history is that of all its
+    /// chapters.
     pub fn ring(&self, r: u32) -> &RingState
         requires ring { r < length self.now.rings }
-        ensures { result.now ≡ ((world_of self.now).rings r).ring }
+        ensures ring { result.now ≡ (ring_at self.now r).ring }
+        ensures whole { whole_ring (joined (ring_at self.now r).chapters) result.now ≡ ((world_of self.now).rings r).ring }
+        ensures kept { IsKept (joined (ring_at self.now r).chapters) result.now.chapter }
     {
+        self.rings[r as usize].facts();
         &self.rings[r as usize].ring
+    }
+
+    /// The chapters that a ring handed out, oldest first. Its history is theirs, and then that of the chapter that it keeps.
+    pub fn chapters(&self, r: u32) -> &[Chapter]
+        requires ring { r < length self.now.rings }
+        ensures { result.now ≡ (ring_at self.now r).chapters }
+    {
+        self.rings[r as usize].chapters.as_slice()
     }
 
     /// The unit of a worker's next instruction, and none once the worker is finished.
@@ -123,6 +141,17 @@ impl<'p> World<'p> {
         }
     }
 
+    /// What a worker's program ended with, and none while it runs.
+    pub fn result(&self, w: u32) -> Option<u64>
+        requires worker { w < length self.now.machines }
+        ensures { result ≡ result_of ((world_of self.now).workers w) }
+    {
+        match self.machines[w as usize].phase() {
+            Phase::Exited(value) => Some(value),
+            _ => None,
+        }
+    }
+
     // The allocator that the world was opened with.
     pub(crate) fn allocator(&self) -> Global {
         self.alloc
@@ -132,16 +161,29 @@ impl<'p> World<'p> {
     fn turn_consumer(&mut self, r: u32) -> TurnDone
         requires ring { r < length self.old.rings }
         ensures turned { IsTurnOf (Consumer r) self.old result self.new }
+        ensures chapters { TurnsChaptersOf (Consumer r) result self.old.rings self.new.rings }
         ensures workers { length self.new.machines ≡ length self.old.machines }
         ensures rings { length self.new.rings ≡ length self.old.rings }
     {
         self.rings[r as usize].consume()
     }
 
+    // The keeper of a ring hands its chapter out.
+    fn turn_keeper(&mut self, r: u32) -> TurnDone
+        requires ring { r < length self.old.rings }
+        ensures turned { IsTurnOf (Keeper r) self.old result self.new }
+        ensures chapters { TurnsChaptersOf (Keeper r) result self.old.rings self.new.rings }
+        ensures workers { length self.new.machines ≡ length self.old.machines }
+        ensures rings { length self.new.rings ≡ length self.old.rings }
+    {
+        self.rings[r as usize].hand_out(self.alloc)
+    }
+
     // One turn of a worker: its next instruction, and where that is a call its answer.
     fn turn_worker(&mut self, w: u32) -> TurnDone
         requires worker { w < length self.old.machines }
         ensures turned { IsTurnOf (Worker w) self.old result self.new }
+        ensures chapters { TurnsChaptersOf (Worker w) result self.old.rings self.new.rings }
         ensures workers { length self.new.machines ≡ length self.old.machines }
         ensures rings { length self.new.rings ≡ length self.old.rings }
     {
@@ -155,16 +197,19 @@ impl<'p> World<'p> {
     }
 
     /// One turn of an actor. A worker that is not finished executes one instruction, and a call is answered at once by its
-    /// ring; a consumer makes one take. It takes constant time, but for the bytes of a record and the growth of what is kept.
+    /// ring; a consumer makes one take; a keeper hands the ring's chapter out, which the world keeps. It takes constant time, but for the
+    /// bytes of a record, the growth of what is kept, and a keeper's turn, which takes the memory of a chapter.
     pub fn turn(&mut self, actor: Actor) -> TurnDone
         requires there { IsThere self.old actor }
         ensures turned { IsTurnOf actor self.old result self.new }
+        ensures chapters { TurnsChaptersOf actor result self.old.rings self.new.rings }
         ensures workers { length self.new.machines ≡ length self.old.machines }
         ensures rings { length self.new.rings ≡ length self.old.rings }
     {
         match actor {
             Actor::Worker(w) => self.turn_worker(w),
             Actor::Consumer(r) => self.turn_consumer(r),
+            Actor::Keeper(r) => self.turn_keeper(r),
         }
     }
 }

@@ -17,6 +17,9 @@ pub enum WorldOpenFault {
     /// The number of workers is not 1 to 256.
     #[error("the number of workers is not 1 to 256")]
     Workers,
+    /// The room of a ring's chapters is not 8 to 1,048,576 entries.
+    #[error("the room of a chapter is not 8 to 1048576")]
+    Chapter,
     /// A growth was refused: there is no memory for the world.
     #[error("out of memory")]
     Memory,

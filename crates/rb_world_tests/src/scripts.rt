@@ -1,6 +1,6 @@
 //! A worked script, with the answers that were worked out by hand.
 
-use crate::worlds::{SUBMIT_42, is_event, opened, ring_0, verified};
+use crate::worlds::{SUBMIT_42, is_event, opened, ring_0, turn, verified};
 use rb_history::Counts;
 use rb_world::{Actor, TurnDone, WorkerSetup};
 
@@ -50,4 +50,27 @@ fn a_busy_record_stops_the_consumer(rt: HostRuntime) {
         && is_event(&rt, &world, 1, (16, 1, 0, &FORTY_TWO))
         && ring_0(&rt, &world) == (32, 32, counts);
     assert!(rt; holds);
+}
+
+// A run answers what the turns of its actors answer, one by one.
+#[test]
+fn a_run_answers_as_its_turns_do(rt: HostRuntime) {
+    let program = verified(&rt, rt.alloc(), SUBMIT_42, 0, 1);
+    let worker = WorkerSetup {
+        program: &program,
+        context: &[],
+    };
+    let mut world = opened(&rt, rt.alloc(), [worker, worker].as_slice());
+    let mut other = opened(&rt, rt.alloc(), [worker, worker].as_slice());
+    let mut actors = Vec::new(rt.alloc());
+    let mut answers = Vec::new(rt.alloc());
+    for n in 0..26 {
+        let (actor, _) = script(n);
+        actors.push(actor).expect(&rt, "memory");
+        answers
+            .push(turn(&rt, &mut other, actor))
+            .expect(&rt, "memory");
+    }
+    let report = world.run(&actors).expect(&rt, "a run");
+    assert!(rt; report.turns.as_slice() == answers.as_slice());
 }

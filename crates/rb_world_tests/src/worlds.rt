@@ -35,11 +35,22 @@ pub fn verified(rt: &impl Abort, alloc: Global, text: &str, context: u32, rings:
     verify(alloc, shape, context, rings).expect(rt, "a verified program")
 }
 
-/// A world with one ring of 4,096 bytes from 0.
+/// A world with one ring of 4,096 bytes from 0, whose chapters have room for 65,536 entries.
 pub fn opened<'p>(rt: &impl Abort, alloc: Global, workers: &[WorkerSetup<'p>]) -> World<'p> {
+    opened_with(rt, alloc, workers, 65_536)
+}
+
+/// The same, whose chapters have so much room.
+pub fn opened_with<'p>(
+    rt: &impl Abort,
+    alloc: Global,
+    workers: &[WorkerSetup<'p>],
+    room: u32,
+) -> World<'p> {
     let ring = RingSetup {
         size: 4096,
         start: 0,
+        room,
     };
     World::new(alloc, [ring].as_slice(), workers).expect(rt, "a world")
 }

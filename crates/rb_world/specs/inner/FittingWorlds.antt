@@ -8,7 +8,7 @@ use Rattle.rb_interp.specs.StoredMemory.{held_record, record_bytes_in}
 use Rattle.rb_interleavings.specs.Worlds.{WorldRing}
 use Rattle.rb_interleavings.specs.EveryInterleaving.{IsReachedWorld}
 use Rattle.rb_world.specs.declared.world_record.WorldRecord.{WorldRecord}
-use Rattle.rb_world.specs.WorldValue.{WorldValue, world_of}
+use Rattle.rb_world.specs.WorldValue.{WholeWorld, shown_world}
 
 -- the records of a worker were granted to it, at rings that are there
 abbrev pub AreOwn : (w rings : ℕ) → List (ℕ × WorldRecord) → Type 0
@@ -31,12 +31,12 @@ abbrev pub AreOpenTo : ℕ → List Setup → Type 0
 AreOpenTo w setups = AllByRecursion (λ u. w < u.workers) setups
 
 -- the rings are for these workers, every program knows rings that are there, and every worker has records of its own
-pub record IsFitting (v : WorldValue) : Type 0 where
+pub record IsFitting (v : WholeWorld) : Type 0 where
   pub rings : AreFor (length v.machines) (setups_of v.rings)
   pub programs : (w : ℕ) (m : MachineState WorldRecord) → w < length v.machines → m ≡ slice_index_or v.machines w m → m.program.rings ≤ length v.rings
   pub own : (w : ℕ) (m : MachineState WorldRecord) → w < length v.machines → m ≡ slice_index_or v.machines w m → AreOwn w (length v.rings) m.records
 
 -- and turns led here from an opening of verified programs
-pub record IsSoundWorld (v : WorldValue) : Type 0 where
+pub record IsSoundWorld (v : WholeWorld) : Type 0 where
   pub fitting : IsFitting v
-  pub reached : IsReachedWorld (world_of v)
+  pub reached : IsReachedWorld (shown_world v)

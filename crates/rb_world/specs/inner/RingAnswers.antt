@@ -1,7 +1,10 @@
 -- What a real ring answers, as the answers of a world's ring have it.
 use Rattle.std.specs.Prelude.{ℕ, ℤ, ◌≡◌, List, [], Option, Some, None, replicate}
 use Rattle.rb_history.specs.ReservationModel.{Granted}
+use Rattle.rb_history.specs.declared.entries.Entry.{Entry}
 use Rattle.rb_history.specs.RingModel.{Ring}
+use Rattle.rb_chapter.specs.ChapterRing.{ChapterRing, whole_ring}
+use Rattle.rb_chapter.specs.WholeHistory.{IsKept}
 use Rattle.rb_semantics.specs.HelperCalls.{Code}
 use Rattle.rb_interleavings.specs.Worlds.{WorldRing}
 use Rattle.rb_interleavings.specs.CallsInWorld.{RecordOutcome, Made, WorkerReserves, WorkerOutputs, answer_to_output}
@@ -24,3 +27,9 @@ IsReserved old new w len flags given = (outcome : RecordOutcome) × GivesRecord 
 -- an output of a worker came out so
 abbrev pub IsOutput : Ring → Ring → (w : ℕ) → List ℕ → (flags : ℕ) → ℤ → Type 0
 IsOutput old new w bytes flags code = (outcome : RecordOutcome) × (answer_to_output outcome ≡ Code code) × WorkerOutputs w bytes flags outcome (untaken_ring old) (untaken_ring new)
+
+-- ---- the ring that keeps a chapter
+
+-- whatever came before the chapter, the whole ring came from the one state to the other so, and keeps its chapter
+abbrev pub IsWholeAnswer : (Ring → Ring → Type 0) → ChapterRing → ChapterRing → Type 0
+IsWholeAnswer answer old new = (earlier : List Entry) → IsKept earlier old.chapter → IsKept earlier new.chapter × answer (whole_ring earlier old) (whole_ring earlier new)

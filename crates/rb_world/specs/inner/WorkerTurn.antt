@@ -13,9 +13,10 @@ use Rattle.rb_interleavings.specs.Worlds.{HeldRecords, Running, WorldRing}
 use Rattle.rb_interleavings.specs.CallsInWorld.{RecordOutcome, WorkerReserves, WorkerOutputs, answer_to_reserve, held_after_reserve, answer_to_output}
 use Rattle.rb_interleavings.specs.Turns.{TurnEvent, Took, NoMemory, GivingBack, worker_after, taken_by}
 use Rattle.rb_world.specs.declared.turn_done.TurnDone.{TurnDone}
+use Rattle.rb_world.specs.declared.turn_done.TurnDone.TheVariants as turn
 use Rattle.rb_world.specs.declared.world_record.WorldRecord.{WorldRecord}
-use Rattle.rb_world.specs.WorldValue.{held_by, worker_of}
-use Rattle.rb_world.specs.TurnsDone.{TellsEvent, IsTurnOf}
+use Rattle.rb_world.specs.WorldValue.{KeptRing, held_by, worker_of}
+use Rattle.rb_world.specs.TurnsDone.{TellsEvent, IsWholeTurn, TurnsChapter}
 
 -- ---- a take
 
@@ -28,13 +29,21 @@ DoesTake _ old new = ⊥
 abbrev pub TakesOnce : WorldRing → TurnDone → WorldRing → Type 0
 TakesOnce old done new = (event : TurnEvent) × TellsEvent done event × DoesTake event old new
 
+-- ---- a keeper's turn
+
+-- what a keeper did to a ring
+abbrev pub KeepsChapter : KeptRing → TurnDone → KeptRing → Type 0
+KeepsChapter old (turn.Chapter n) new = TurnsChapter n old new
+KeepsChapter old turn.Memory new = new ≡ old
+KeepsChapter old done new = ⊥
+
 -- ---- a worker's turn
 
 -- a machine's turn is the turn of a worker, wherever the machine stands as that worker's
 abbrev pub IsWorkerTurn : ℕ → MachineState WorldRecord → List WorldRing → TurnDone → MachineState WorldRecord → List WorldRing → Type 0
 IsWorkerTurn w old rings done new rings' =
     (machines : List (MachineState WorldRecord)) → w < length machines → old ≡ slice_index_or machines w old
-    → IsTurnOf (Worker w) (record { rings = rings; machines = machines }) done (record { rings = rings'; machines = slice_set machines w new })
+    → IsWholeTurn (Worker w) (record { rings = rings; machines = machines }) done (record { rings = rings'; machines = slice_set machines w new })
 
 -- a machine that waited got an answer of the kind, goes on, and holds these records
 abbrev pub GoesOnWith : PendingCall → HelperAnswer → HeldRecords → MachineState WorldRecord → MachineState WorldRecord → Type 0

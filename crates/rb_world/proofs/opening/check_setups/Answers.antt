@@ -33,4 +33,14 @@ returns-clause-allowed c = record {
   contexts = c.have_contexts.ensures.0 c.if-not-have_contexts.false;
   ring_count = c.have_rings.ensures.0 c.if-not-have_rings.false;
   worker_count = (some-element _ (sym c.if-is_empty.ensures), c.if-workers-gt256.false);
+  rooms = c.have_rooms.ensures.0 c.if-not-have_rooms.false;
 }
+
+pub returns-then-not-have_rooms-clause-refused : goal.returns-then-not-have_rooms-clause-refused
+returns-then-not-have_rooms-clause-refused c = (
+  c.are_rings.ensures.0 c.if-not-are_rings.false,
+  c.have_contexts.ensures.0 c.if-not-have_contexts.false,
+  c.have_rings.ensures.0 c.if-not-have_rings.false,
+  (some-element _ (sym c.if-is_empty.ensures), c.if-workers-gt256.false),
+  λ h. let t = c.have_rooms.ensures.1 h in let f = c.if-not-have_rooms.true in cc,
+)

@@ -1,17 +1,10 @@
-use Rattle.std.proofs.Common.{replicate}
-use Rattle.rb_history.specs.Calls.{Grants}
-use Rattle.rb_interleavings.specs.CallsInWorld.{Made}
-use Rattle.rb_world.proofs.RingAnswers.{moved, granted-is}
+use Rattle.rb_world.proofs.WholeCalls.{reserve-made, reserve-refused}
 use Rattle.rb_world.proofs.ring_answers.reserve.Goals as goal
 
-pub returns-in-Ok-reserve-clause-reserved : goal.returns-in-Ok-reserve-clause-reserved
-returns-in-Ok-reserve-clause-reserved c =
-    let r = c.in-Ok-reserve.reservation in
-    ((
-      Made r.pos r.serial,
-      granted-is r c.args.worker (replicate c.args.len 0) c.in-Ok-reserve.ensures.worker c.in-Ok-reserve.ensures.zeros,
-      (
-        c.if-flags-ne0.false,
-        moved (λ v v'. Grants v v' c.args.worker c.args.len r.pos r.serial) c.args.ring.now c.reserve.new.self c.in-Ok-reserve.ensures.granted c.facts.ensures.stands,
-      ),
-    ))
+pub returns-in-Ok-answer-clause-reserved : goal.returns-in-Ok-answer-clause-reserved
+returns-in-Ok-answer-clause-reserved c =
+    reserve-made c.args.ring.now c.reserve-answer.new.self c.args.worker c.args.len c.args.flags c.in-Ok-answer.reservation c.requires.worker c.if-flags-ne0.false c.facts.ensures.stands c.in-Ok-answer.ensures.granted c.in-Ok-answer.ensures.worker
+    c.in-Ok-answer.ensures.zeros
+
+pub returns-clause-reserved : goal.returns-clause-reserved
+returns-clause-reserved c = reserve-refused c.args.ring.now c.reserve-answer.new.self c.args.worker c.args.len c.args.flags _ c.requires.worker c.if-flags-ne0.false c.facts.ensures.stands c.in-Err.ensures.refused

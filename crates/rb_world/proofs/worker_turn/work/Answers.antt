@@ -1,4 +1,4 @@
-use Rattle.std.proofs.Common.{rules, ◌≡◌, ◌<◌, ◌≤◌, length, set, refl, sym, ap, subst, ◌∙◌, arith}
+use Rattle.std.proofs.Common.{rules, ◌≡◌, ◌<◌, ◌≤◌, length, map, set, refl, sym, ap, subst, ◌∙◌, arith}
 use Rattle.rb_semantics.specs.HelperCalls.{Submit, Discard}
 use Rattle.rb_semantics.specs.Instructions.{Asks, next_step}
 use Rattle.rb_semantics.specs.Soundness.{IsLawful}
@@ -11,23 +11,25 @@ use Rattle.rb_interleavings.specs.CallsInWorld.{WorkerSubmits, WorkerDiscards}
 use Rattle.rb_interleavings.specs.Turns.{submit_event, discard_event}
 use Rattle.rb_world.specs.declared.world_record.WorldRecord.{WorldRecord}
 use Rattle.rb_world.specs.declared.turn_done.TurnDone.TheVariants as turn
-use Rattle.rb_world.specs.WorldValue.{place_of}
+use Rattle.rb_world.specs.WorldValue.{place_of, world_ring}
+use Rattle.rb_world.specs.TurnsDone.{chapters_of}
 use Rattle.rb_world.specs.inner.WorkerTurn.{IsWorkerTurn}
 use Rattle.rb_world.specs.inner.FittingWorlds.{AreOwn}
 use Rattle.rb_world.proofs.ShownWorlds.{set-get}
 use Rattle.rb_world.proofs.HeldByWorkers.{seal, own-rewritten, own-given}
 use Rattle.rb_world.proofs.WorkerTurns.{same-shown, went-turn, ended-turn, idle-turn, reserve-turn, output-turn, query-turn, give-turn}
-use Rattle.rb_world.proofs.MachineAnswers.{lawful-of, open-at, setups-set, set-length}
+use Rattle.rb_world.proofs.MachineAnswers.{lawful-of, open-at, set-length}
+use Rattle.rb_world.proofs.WholeLists.{map-length, map-low, map-there, map-set, map-set-same}
 use Rattle.rb_world.proofs.worker_turn.work.Goals as goal
 
 pub returns-in_default-clause-turned : goal.returns-in_default-clause-turned
-returns-in_default-clause-turned c = idle-turn c.args.w c.args.rings.now.items c.args.machine.now (λ e. c.in_default.not-Ready (c.phase.ensures ∙ e))
+returns-in_default-clause-turned c = idle-turn c.args.w (map world_ring c.args.rings.now.items) c.args.machine.now (λ e. c.in_default.not-Ready (c.phase.ensures ∙ e))
 
 pub returns-in-Went-clause-turned : goal.returns-in-Went-clause-turned
 returns-in-Went-clause-turned c =
     let old = c.args.machine.now in
     let mid = c.step.new.self in
-    let rings = c.args.rings.now.items in
+    let rings = map world_ring c.args.rings.now.items in
     let ready : old.phase ≡ phase.Ready = sym c.phase.ensures ∙ c.in-Ready.is in
     let st = c.in-Went.ensures.stepped in
     went-turn c.args.w rings old mid ready st.0 st.1 c.in-Went.ensures.program (same-shown place_of _ (λ r w. refl) old.records mid.records c.in-Went.ensures.records)
@@ -40,7 +42,7 @@ pub returns-in-Exit-clause-turned : goal.returns-in-Exit-clause-turned
 returns-in-Exit-clause-turned c =
     let old = c.args.machine.now in
     let mid = c.step.new.self in
-    let rings = c.args.rings.now.items in
+    let rings = map world_ring c.args.rings.now.items in
     let ready : old.phase ≡ phase.Ready = sym c.phase.ensures ∙ c.in-Ready.is in
     let st = c.in-Exit.ensures.stepped in
     ended-turn c.args.w rings old mid ready c.in-Exit.n st.0 st.1 c.in-Exit.ensures.program c.in-Exit.ensures.records c.in-Exit.ensures.state
@@ -95,7 +97,7 @@ answer_reserve-requires-clause-worker c =
     let known : c.in-Call-Reserve.ring < old.program.rings = lawful.0 in
     let there : old.program.rings ≤ length rings = c.requires.program in
     let low : c.in-Call-Reserve.ring < length rings = omega arith in
-    open-at c.args.w rings c.in-Call-Reserve.ring c.index_mut.result.now c.requires.rings low c.index_mut.ensures.value
+    open-at c.args.w (map world_ring rings) c.in-Call-Reserve.ring (world_ring c.index_mut.result.now) c.requires.rings (map-low world_ring rings c.in-Call-Reserve.ring low) (map-there world_ring rings c.in-Call-Reserve.ring c.index_mut.result.now c.index_mut.ensures.value)
 
 pub answer_output-requires-clause-worker : goal.answer_output-requires-clause-worker
 answer_output-requires-clause-worker c =
@@ -108,7 +110,7 @@ answer_output-requires-clause-worker c =
     let known : c.in-Call-Output.ring < old.program.rings = lawful in
     let there : old.program.rings ≤ length rings = c.requires.program in
     let low : c.in-Call-Output.ring < length rings = omega arith in
-    open-at c.args.w rings c.in-Call-Output.ring c.index_mut-in-Call-Output.result.now c.requires.rings low c.index_mut-in-Call-Output.ensures.value
+    open-at c.args.w (map world_ring rings) c.in-Call-Output.ring (world_ring c.index_mut-in-Call-Output.result.now) c.requires.rings (map-low world_ring rings c.in-Call-Output.ring low) (map-there world_ring rings c.in-Call-Output.ring c.index_mut-in-Call-Output.result.now c.index_mut-in-Call-Output.ensures.value)
 
 pub returns-in-Call-Reserve-clause-turned : goal.returns-in-Call-Reserve-clause-turned
 returns-in-Call-Reserve-clause-turned c =
@@ -121,8 +123,9 @@ returns-in-Call-Reserve-clause-turned c =
     let known : c.in-Call-Reserve.ring < old.program.rings = lawful.0 in
     let there : old.program.rings ≤ length rings = c.requires.program in
     let low : c.in-Call-Reserve.ring < length rings = omega arith in
-    reserve-turn c.args.w rings old mid c.answer_reserve.new.machine c.in-Call-Reserve.ring c.index_mut.result.now c.answer_reserve.new.self ready c.in-Call-Reserve.ensures.program low c.index_mut.ensures.value
-    c.in-Call-Reserve.len c.in-Call-Reserve.flags st.0 st.1 st.2 st.4 c.answer_reserve.ensures.answered
+    subst (IsWorkerTurn c.args.w old (map world_ring rings) turn.Went c.answer_reserve.new.machine) (sym (map-set world_ring rings c.in-Call-Reserve.ring c.answer_reserve.new.self))
+    (reserve-turn c.args.w (map world_ring rings) old mid c.answer_reserve.new.machine c.in-Call-Reserve.ring (world_ring c.index_mut.result.now) (world_ring c.answer_reserve.new.self) ready c.in-Call-Reserve.ensures.program (map-low world_ring rings c.in-Call-Reserve.ring low) (map-there world_ring rings c.in-Call-Reserve.ring c.index_mut.result.now c.index_mut.ensures.value)
+    c.in-Call-Reserve.len c.in-Call-Reserve.flags st.0 st.1 st.2 st.4 c.answer_reserve.ensures.answered)
 
 pub returns-in-Call-Reserve-clause-own : goal.returns-in-Call-Reserve-clause-own
 returns-in-Call-Reserve-clause-own c =
@@ -139,8 +142,8 @@ returns-in-Call-Reserve-clause-own c =
     subst (λ n. AreOwn c.args.w n c.answer_reserve.new.machine.records) (sym (set-length rings c.in-Call-Reserve.ring c.answer_reserve.new.self))
     (c.answer_reserve.ensures.own (length rings) low (subst (AreOwn c.args.w (length rings)) (sym records) c.requires.own))
 
-pub returns-in-Call-Reserve-clause-rings : goal.returns-in-Call-Reserve-clause-rings
-returns-in-Call-Reserve-clause-rings c = setups-set c.args.rings.now.items c.in-Call-Reserve.ring c.index_mut.result.now c.answer_reserve.new.self c.index_mut.ensures.value c.answer_reserve.ensures.same_ring
+pub returns-in-Call-Reserve-clause-chapters : goal.returns-in-Call-Reserve-clause-chapters
+returns-in-Call-Reserve-clause-chapters c = map-set-same chapters_of c.args.rings.now.items c.in-Call-Reserve.ring c.index_mut.result.now c.answer_reserve.new.self c.index_mut.ensures.value c.answer_reserve.ensures.chapters
 
 pub returns-in-Call-Output-clause-turned : goal.returns-in-Call-Output-clause-turned
 returns-in-Call-Output-clause-turned c =
@@ -153,11 +156,12 @@ returns-in-Call-Output-clause-turned c =
     let known : c.in-Call-Output.ring < old.program.rings = lawful in
     let there : old.program.rings ≤ length rings = c.requires.program in
     let low : c.in-Call-Output.ring < length rings = omega arith in
-    output-turn c.args.w rings old mid c.answer_output.new.machine c.in-Call-Output.ring c.index_mut-in-Call-Output.result.now c.answer_output.new.self ready c.in-Call-Output.ensures.program low c.index_mut-in-Call-Output.ensures.value
-    c.in-Call-Output.flags st.0 st.2.0 st.1 st.2.1 st.2.2 st.4 c.answer_output.ensures.answered
+    subst (IsWorkerTurn c.args.w old (map world_ring rings) turn.Went c.answer_output.new.machine) (sym (map-set world_ring rings c.in-Call-Output.ring c.answer_output.new.self))
+    (output-turn c.args.w (map world_ring rings) old mid c.answer_output.new.machine c.in-Call-Output.ring (world_ring c.index_mut-in-Call-Output.result.now) (world_ring c.answer_output.new.self) ready c.in-Call-Output.ensures.program (map-low world_ring rings c.in-Call-Output.ring low) (map-there world_ring rings c.in-Call-Output.ring c.index_mut-in-Call-Output.result.now c.index_mut-in-Call-Output.ensures.value)
+    c.in-Call-Output.flags st.0 st.2.0 st.1 st.2.1 st.2.2 st.4 c.answer_output.ensures.answered)
 
-pub returns-in-Call-Output-clause-rings : goal.returns-in-Call-Output-clause-rings
-returns-in-Call-Output-clause-rings c = setups-set c.args.rings.now.items c.in-Call-Output.ring c.index_mut-in-Call-Output.result.now c.answer_output.new.self c.index_mut-in-Call-Output.ensures.value c.answer_output.ensures.same_ring
+pub returns-in-Call-Output-clause-chapters : goal.returns-in-Call-Output-clause-chapters
+returns-in-Call-Output-clause-chapters c = map-set-same chapters_of c.args.rings.now.items c.in-Call-Output.ring c.index_mut-in-Call-Output.result.now c.answer_output.new.self c.index_mut-in-Call-Output.ensures.value c.answer_output.ensures.chapters
 
 pub returns-in-Call-Query-clause-turned : goal.returns-in-Call-Query-clause-turned
 returns-in-Call-Query-clause-turned c =
@@ -168,13 +172,16 @@ returns-in-Call-Query-clause-turned c =
     let st = subst (λ (q : request.Request WorldRecord). StepsTo (λ (x : WorldRecord). x.reservation.bytes) (next_step c.args.machine.now.program.program c.args.machine.now.state) c.args.machine.now.records (Call q) c.step.new.self) c.in-Call-Query.field-0-is c.in-Call-Query.ensures.stepped in
     let lawful = subst (IsLawful old.program) st.2 (lawful-of old st.0 mid.state ready c.facts.ensures st.1) in
     let known : c.in-Call-Query.ring < old.program.rings = lawful in
-    let there : old.program.rings ≤ length rings = c.requires.program in
+    let enough : old.program.rings ≤ length rings = c.requires.program in
     let low : c.in-Call-Query.ring < length rings = omega arith in
     let s = c.index.result.now in
+    let r = c.in-Call-Query.ring in
+    let whole = map world_ring rings in
+    let there = map-there world_ring rings r s c.index.ensures in
     let new = c.answer_query.new.machine in
-    let same : set rings c.in-Call-Query.ring s ≡ rings = ap (set rings c.in-Call-Query.ring) c.index.ensures ∙ set-get rings c.in-Call-Query.ring s in
-    subst (λ l. IsWorkerTurn c.args.w old rings turn.Went new l) same
-    (query-turn c.args.w rings old mid new c.in-Call-Query.ring s s ready c.in-Call-Query.ensures.program low c.index.ensures c.in-Call-Query.what st.0 st.1 st.2 st.4 refl c.answer_query.ensures.answered)
+    let same : set whole r (world_ring s) ≡ whole = ap (set whole r) there ∙ set-get whole r (world_ring s) in
+    subst (λ l. IsWorkerTurn c.args.w old whole turn.Went new l) same
+    (query-turn c.args.w whole old mid new r (world_ring s) (world_ring s) ready c.in-Call-Query.ensures.program (map-low world_ring rings r low) there c.in-Call-Query.what st.0 st.1 st.2 st.4 refl c.answer_query.ensures.answered)
 
 pub returns-in-Call-Submit-clause-turned : goal.returns-in-Call-Submit-clause-turned
 returns-in-Call-Submit-clause-turned c =
@@ -187,9 +194,10 @@ returns-in-Call-Submit-clause-turned c =
     let flags = c.in-Call-Submit.flags in
     let shows = st.2 in
     let mine = c.requires.own shows.0 owned shows.1 in
-    give-turn c.args.w rings old mid c.answer_submit.new.machine owned c.index_mut-in-Call-Submit.result.now c.answer_submit.new.self ready c.in-Call-Submit.ensures.program mine.0 c.index_mut-in-Call-Submit.ensures.value
+    subst (IsWorkerTurn c.args.w old (map world_ring rings) turn.Went c.answer_submit.new.machine) (sym (map-set world_ring rings owned.ring c.answer_submit.new.self))
+    (give-turn c.args.w (map world_ring rings) old mid c.answer_submit.new.machine owned (world_ring c.index_mut-in-Call-Submit.result.now) (world_ring c.answer_submit.new.self) ready c.in-Call-Submit.ensures.program (map-low world_ring rings owned.ring mine.0) (map-there world_ring rings owned.ring c.index_mut-in-Call-Submit.result.now c.index_mut-in-Call-Submit.ensures.value)
     WorkerSubmits submit_event (Submit shows.0 owned.reservation.bytes flags) shows.0 refl tt shows.1 (st.4 ∙ ap (λ call. left_by call old.records) shows.2) mine.1
-    (st.1 ∙ ap (λ call. Asks call mid.state) shows.2) (λ world event after g. g) c.answer_submit.ensures.answered
+    (st.1 ∙ ap (λ call. Asks call mid.state) shows.2) (λ world event after g. g) c.answer_submit.ensures.answered)
 
 pub returns-in-Call-Submit-clause-own : goal.returns-in-Call-Submit-clause-own
 returns-in-Call-Submit-clause-own c =
@@ -200,8 +208,8 @@ returns-in-Call-Submit-clause-own c =
     subst (λ n. AreOwn c.args.w n c.answer_submit.new.machine.records) (sym (set-length rings c.in-Call-Submit.owned.ring c.answer_submit.new.self))
     (subst (AreOwn c.args.w (length rings)) (sym (c.answer_submit.ensures.records ∙ (st.4 ∙ ap (λ call. left_by call old.records) shows.2))) (own-given c.args.w (length rings) shows.0 old.records c.requires.own))
 
-pub returns-in-Call-Submit-clause-rings : goal.returns-in-Call-Submit-clause-rings
-returns-in-Call-Submit-clause-rings c = setups-set c.args.rings.now.items c.in-Call-Submit.owned.ring c.index_mut-in-Call-Submit.result.now c.answer_submit.new.self c.index_mut-in-Call-Submit.ensures.value c.answer_submit.ensures.same_ring
+pub returns-in-Call-Submit-clause-chapters : goal.returns-in-Call-Submit-clause-chapters
+returns-in-Call-Submit-clause-chapters c = map-set-same chapters_of c.args.rings.now.items c.in-Call-Submit.owned.ring c.index_mut-in-Call-Submit.result.now c.answer_submit.new.self c.index_mut-in-Call-Submit.ensures.value c.answer_submit.ensures.chapters
 
 pub returns-in-Call-Discard-clause-turned : goal.returns-in-Call-Discard-clause-turned
 returns-in-Call-Discard-clause-turned c =
@@ -214,9 +222,10 @@ returns-in-Call-Discard-clause-turned c =
     let flags = c.in-Call-Discard.flags in
     let shows = st.2 in
     let mine = c.requires.own shows.0 owned shows.1 in
-    give-turn c.args.w rings old mid c.answer_discard.new.machine owned c.index_mut-in-Call-Discard.result.now c.answer_discard.new.self ready c.in-Call-Discard.ensures.program mine.0 c.index_mut-in-Call-Discard.ensures.value
+    subst (IsWorkerTurn c.args.w old (map world_ring rings) turn.Went c.answer_discard.new.machine) (sym (map-set world_ring rings owned.ring c.answer_discard.new.self))
+    (give-turn c.args.w (map world_ring rings) old mid c.answer_discard.new.machine owned (world_ring c.index_mut-in-Call-Discard.result.now) (world_ring c.answer_discard.new.self) ready c.in-Call-Discard.ensures.program (map-low world_ring rings owned.ring mine.0) (map-there world_ring rings owned.ring c.index_mut-in-Call-Discard.result.now c.index_mut-in-Call-Discard.ensures.value)
     WorkerDiscards discard_event (Discard shows.0 owned.reservation.bytes flags) shows.0 refl tt shows.1 (st.4 ∙ ap (λ call. left_by call old.records) shows.2) mine.1
-    (st.1 ∙ ap (λ call. Asks call mid.state) shows.2) (λ world event after g. g) c.answer_discard.ensures.answered
+    (st.1 ∙ ap (λ call. Asks call mid.state) shows.2) (λ world event after g. g) c.answer_discard.ensures.answered)
 
 pub returns-in-Call-Discard-clause-own : goal.returns-in-Call-Discard-clause-own
 returns-in-Call-Discard-clause-own c =
@@ -227,5 +236,21 @@ returns-in-Call-Discard-clause-own c =
     subst (λ n. AreOwn c.args.w n c.answer_discard.new.machine.records) (sym (set-length rings c.in-Call-Discard.owned.ring c.answer_discard.new.self))
     (subst (AreOwn c.args.w (length rings)) (sym (c.answer_discard.ensures.records ∙ (st.4 ∙ ap (λ call. left_by call old.records) shows.2))) (own-given c.args.w (length rings) shows.0 old.records c.requires.own))
 
-pub returns-in-Call-Discard-clause-rings : goal.returns-in-Call-Discard-clause-rings
-returns-in-Call-Discard-clause-rings c = setups-set c.args.rings.now.items c.in-Call-Discard.owned.ring c.index_mut-in-Call-Discard.result.now c.answer_discard.new.self c.index_mut-in-Call-Discard.ensures.value c.answer_discard.ensures.same_ring
+pub returns-in-Call-Discard-clause-chapters : goal.returns-in-Call-Discard-clause-chapters
+returns-in-Call-Discard-clause-chapters c = map-set-same chapters_of c.args.rings.now.items c.in-Call-Discard.owned.ring c.index_mut-in-Call-Discard.result.now c.answer_discard.new.self c.index_mut-in-Call-Discard.ensures.value c.answer_discard.ensures.chapters
+
+pub answer_submit-requires-clause-busy : goal.answer_submit-requires-clause-busy
+answer_submit-requires-clause-busy c =
+    let rings = c.args.rings.now.items in
+    let st = subst (λ (q : request.Request WorldRecord). StepsTo (λ (x : WorldRecord). x.reservation.bytes) (next_step c.args.machine.now.program.program c.args.machine.now.state) c.args.machine.now.records (Call q) c.step.new.self) c.in-Call-Submit.field-0-is c.in-Call-Submit.ensures.stepped in
+    let owned = c.in-Call-Submit.owned in
+    let s = c.index_mut-in-Call-Submit.result.now in
+    c.requires.busy st.2.0 owned (world_ring s) st.2.1 (map-there world_ring rings owned.ring s c.index_mut-in-Call-Submit.ensures.value)
+
+pub answer_discard-requires-clause-busy : goal.answer_discard-requires-clause-busy
+answer_discard-requires-clause-busy c =
+    let rings = c.args.rings.now.items in
+    let st = subst (λ (q : request.Request WorldRecord). StepsTo (λ (x : WorldRecord). x.reservation.bytes) (next_step c.args.machine.now.program.program c.args.machine.now.state) c.args.machine.now.records (Call q) c.step.new.self) c.in-Call-Discard.field-0-is c.in-Call-Discard.ensures.stepped in
+    let owned = c.in-Call-Discard.owned in
+    let s = c.index_mut-in-Call-Discard.result.now in
+    c.requires.busy st.2.0 owned (world_ring s) st.2.1 (map-there world_ring rings owned.ring s c.index_mut-in-Call-Discard.ensures.value)

@@ -1,9 +1,14 @@
-use Rattle.std.proofs.Common.{◌≡◌, refl, sym, subst, to_z, of_z, w64}
+use Rattle.std.proofs.Common.{◌≡◌, refl, sym, ap, subst, ◌∙◌, to_z, of_z, w64}
 use Rattle.std.specs.Prelude.{ℤ}
-use Rattle.rb_interleavings.specs.CallsInWorld.{RecordOutcome, BadFlags, NoRoom, Made, answer_to_output, MemoryRefused}
+use Rattle.rb_interleavings.specs.CallsInWorld.{RecordOutcome, BadFlags, NoRoom, Made, answer_to_output, Unlogged}
 use Rattle.rb_semantics.specs.declared.pending_call.PendingCall.TheVariants as asked
 use Rattle.rb_semantics.specs.HelperCalls.{Code}
+use Rattle.rb_chapter.specs.Chapters.{joined}
+use Rattle.rb_chapter.specs.ChapterRing.{whole_ring}
+use Rattle.rb_world.specs.WorldValue.{KeptRing, world_ring}
+use Rattle.rb_world.specs.TurnsDone.{chapters_of}
 use Rattle.rb_world.specs.inner.RingAnswers.{IsOutput}
+use Rattle.rb_world.proofs.WholeCalls.{same-chapters}
 use Rattle.rb_world.proofs.MachineAnswers.{output-answered}
 use Rattle.rb_world.proofs.consumed_ring.ConsumedRing.answer_output.Goals as goal
 
@@ -13,13 +18,25 @@ read a b e same = let is : a ≡ b = cc in subst (λ n. to_z w64 (of_z w64 n) �
 
 code-back : (outcome : RecordOutcome) (code : ℤ) → answer_to_output outcome ≡ Code code → to_z w64 (of_z w64 code) ≡ code
 code-back BadFlags code e = read _ code e refl
-code-back MemoryRefused code e = read _ code e refl
+code-back Unlogged code e = read _ code e refl
 code-back NoRoom code e = read _ code e refl
 code-back (Made p k) code e = read _ code e refl
 
 pub returns-clause-answered : goal.returns-clause-answered
 returns-clause-answered c =
+    let s : KeptRing = record { ring = c.self.inside.ring; chapters = c.self.inside.chapters.items; taken = c.self.inside.taken.items } in
+    let v = whole_ring (joined s.chapters) s.ring in
+    let v' = whole_ring (joined s.chapters) c.output-code.new.ring in
     let code = c.output-code.result in
-    let back : to_z w64 (of_z w64 code) ≡ code = code-back c.output-code.ensures.given.0 code c.output-code.ensures.given.1 in
-    output-answered c.args.w c.args.self.now c.self.inside.ring c.output-code.new.ring c.self.inside.taken.items c.self.view_is c.args.machine.now c.answer.new.self c.answer.ensures.program c.args.flags c.output.result.now (to_z w64 (of_z w64 code))
-    (subst (λ n. IsOutput c.self.inside.ring c.output-code.new.ring c.args.w c.output.result.now c.args.flags n) (sym back) c.output-code.ensures.given) c.output.ensures (c.answer.ensures.goes_on asked.Output c.requires.waits) c.answer.ensures.records
+    let given = (c.output-code.ensures.given (joined s.chapters) c.self.invariant).1 in
+    let back : to_z w64 (of_z w64 code) ≡ code = code-back given.0 code given.1 in
+    output-answered c.args.w (world_ring c.args.self.now) v v' s.taken (ap world_ring c.self.view_is) c.args.machine.now c.answer.new.self c.answer.ensures.program c.args.flags c.output.result.now (to_z w64 (of_z w64 code))
+    (subst (λ n. IsOutput v v' c.args.w c.output.result.now c.args.flags n) (sym back) given) c.output.ensures (c.answer.ensures.goes_on asked.Output c.requires.waits) c.answer.ensures.records
+
+pub invariant_of-self : goal.invariant_of-self
+invariant_of-self c = (c.output-code.ensures.given (joined c.self.inside.chapters.items) c.self.invariant).0
+
+pub returns-clause-chapters : goal.returns-clause-chapters
+returns-clause-chapters c =
+    let s : KeptRing = record { ring = c.self.inside.ring; chapters = c.self.inside.chapters.items; taken = c.self.inside.taken.items } in
+    same-chapters s c.output-code.new.ring s.taken c.output-code.ensures.same_chapter ∙ ap chapters_of c.self.view_is

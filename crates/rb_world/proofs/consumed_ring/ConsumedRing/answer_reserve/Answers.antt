@@ -1,10 +1,15 @@
-use Rattle.std.proofs.Common.{Some, None, sym, subst}
+use Rattle.std.proofs.Common.{Some, None, sym, ap, subst, ◌∙◌}
 use Rattle.rb_semantics.specs.declared.pending_call.PendingCall.TheVariants as asked
 use Rattle.rb_interp.specs.MachineState.{MachineState}
 use Rattle.rb_world.specs.declared.world_record.WorldRecord.{WorldRecord}
 use Rattle.rb_world.specs.inner.WorkerTurn.{AnswersReserve}
 use Rattle.rb_world.specs.inner.FittingWorlds.{AreOwn}
+use Rattle.rb_chapter.specs.Chapters.{joined}
+use Rattle.rb_chapter.specs.ChapterRing.{whole_ring}
+use Rattle.rb_world.specs.WorldValue.{KeptRing, world_ring}
+use Rattle.rb_world.specs.TurnsDone.{chapters_of}
 use Rattle.rb_world.specs.inner.RingAnswers.{IsReserved}
+use Rattle.rb_world.proofs.WholeCalls.{same-chapters}
 use Rattle.rb_world.proofs.HeldByWorkers.{own-granted}
 use Rattle.rb_world.proofs.MachineAnswers.{reserve-granted, reserve-refused, given-parts, no-record}
 use Rattle.rb_world.proofs.consumed_ring.ConsumedRing.answer_reserve.Goals.{in-Some, in-None}
@@ -14,30 +19,38 @@ pub returns-clause-answered : goal.returns-clause-answered
 returns-clause-answered c = elim c.match-reserve.branch [
   | in-Some w ↦
       let x = w.in-Some.reservation in
-      let v = c.self.inside.ring in
-      let v' = c.reserve.new.ring in
-      let h : IsReserved v v' c.args.w c.args.len c.args.flags (Some x) = subst (λ o. IsReserved v v' c.args.w c.args.len c.args.flags o) w.in-Some.is c.reserve.ensures.reserved in
+      let v = whole_ring (joined c.self.inside.chapters.items) c.self.inside.ring in
+      let v' = whole_ring (joined c.self.inside.chapters.items) c.reserve.new.ring in
+      let h : IsReserved v v' c.args.w c.args.len c.args.flags (Some x) = subst (λ o. IsReserved v v' c.args.w c.args.len c.args.flags o) w.in-Some.is (c.reserve.ensures.reserved (joined c.self.inside.chapters.items) c.self.invariant).1 in
       let none = no-record c.args.machine.now c.args.len (record { ring = c.args.r; reservation = x }) c.requires.waits c.facts.ensures c.record_facts.ensures (given-parts v v' c.args.w c.args.len c.args.flags x h).1 in
-      subst (λ (m : MachineState WorldRecord). AnswersReserve c.args.w c.args.r c.args.len c.args.flags c.args.machine.now c.args.self.now m (record { ring = v'; taken = c.self.inside.taken.items })) (sym w.machine-is)
-      (reserve-granted c.args.w c.args.self.now v v' c.self.inside.taken.items c.self.view_is c.args.machine.now w.answer.new.self w.answer.ensures.program c.args.r c.args.len c.args.flags x h none (w.answer.ensures.goes_on (asked.Reserve c.args.len) c.requires.waits) w.answer.ensures.records)
+      subst (λ (m : MachineState WorldRecord). AnswersReserve c.args.w c.args.r c.args.len c.args.flags c.args.machine.now (world_ring c.args.self.now) m (record { ring = v'; taken = c.self.inside.taken.items })) (sym w.machine-is)
+      (reserve-granted c.args.w (world_ring c.args.self.now) v v' c.self.inside.taken.items (ap world_ring c.self.view_is) c.args.machine.now w.answer.new.self w.answer.ensures.program c.args.r c.args.len c.args.flags x h none (w.answer.ensures.goes_on (asked.Reserve c.args.len) c.requires.waits) w.answer.ensures.records)
   | in-None w ↦
-      let v = c.self.inside.ring in
-      let v' = c.reserve.new.ring in
-      let h : IsReserved v v' c.args.w c.args.len c.args.flags None = subst (λ o. IsReserved v v' c.args.w c.args.len c.args.flags o) w.in-None.is c.reserve.ensures.reserved in
-      subst (λ (m : MachineState WorldRecord). AnswersReserve c.args.w c.args.r c.args.len c.args.flags c.args.machine.now c.args.self.now m (record { ring = v'; taken = c.self.inside.taken.items })) (sym w.machine-is)
-      (reserve-refused c.args.w c.args.self.now v v' c.self.inside.taken.items c.self.view_is c.args.machine.now w.answer-in-None.new.self w.answer-in-None.ensures.program c.args.r c.args.len c.args.flags h (w.answer-in-None.ensures.goes_on (asked.Reserve c.args.len) c.requires.waits) w.answer-in-None.ensures.records)
+      let v = whole_ring (joined c.self.inside.chapters.items) c.self.inside.ring in
+      let v' = whole_ring (joined c.self.inside.chapters.items) c.reserve.new.ring in
+      let h : IsReserved v v' c.args.w c.args.len c.args.flags None = subst (λ o. IsReserved v v' c.args.w c.args.len c.args.flags o) w.in-None.is (c.reserve.ensures.reserved (joined c.self.inside.chapters.items) c.self.invariant).1 in
+      subst (λ (m : MachineState WorldRecord). AnswersReserve c.args.w c.args.r c.args.len c.args.flags c.args.machine.now (world_ring c.args.self.now) m (record { ring = v'; taken = c.self.inside.taken.items })) (sym w.machine-is)
+      (reserve-refused c.args.w (world_ring c.args.self.now) v v' c.self.inside.taken.items (ap world_ring c.self.view_is) c.args.machine.now w.answer-in-None.new.self w.answer-in-None.ensures.program c.args.r c.args.len c.args.flags h (w.answer-in-None.ensures.goes_on (asked.Reserve c.args.len) c.requires.waits) w.answer-in-None.ensures.records)
 ]
 
 pub returns-clause-own : goal.returns-clause-own
 returns-clause-own c rings low own = elim c.match-reserve.branch [
   | in-Some w ↦
       let x = w.in-Some.reservation in
-      let v = c.self.inside.ring in
-      let v' = c.reserve.new.ring in
-      let h : IsReserved v v' c.args.w c.args.len c.args.flags (Some x) = subst (λ o. IsReserved v v' c.args.w c.args.len c.args.flags o) w.in-Some.is c.reserve.ensures.reserved in
+      let v = whole_ring (joined c.self.inside.chapters.items) c.self.inside.ring in
+      let v' = whole_ring (joined c.self.inside.chapters.items) c.reserve.new.ring in
+      let h : IsReserved v v' c.args.w c.args.len c.args.flags (Some x) = subst (λ o. IsReserved v v' c.args.w c.args.len c.args.flags o) w.in-Some.is (c.reserve.ensures.reserved (joined c.self.inside.chapters.items) c.self.invariant).1 in
       let parts = given-parts v v' c.args.w c.args.len c.args.flags x h in
       let none = no-record c.args.machine.now c.args.len (record { ring = c.args.r; reservation = x }) c.requires.waits c.facts.ensures c.record_facts.ensures parts.1 in
       subst (λ (m : MachineState WorldRecord). AreOwn c.args.w rings m.records) (sym w.machine-is) (subst (AreOwn c.args.w rings) (sym w.answer.ensures.records)
       (own-granted c.args.w rings c.args.machine.now.state.unit (record { ring = c.args.r; reservation = x }) c.args.machine.now.records none low parts.0 own))
   | in-None w ↦ subst (λ (m : MachineState WorldRecord). AreOwn c.args.w rings m.records) (sym w.machine-is) (subst (AreOwn c.args.w rings) (sym w.answer-in-None.ensures.records) own)
 ]
+
+pub invariant_of-self : goal.invariant_of-self
+invariant_of-self c = (c.reserve.ensures.reserved (joined c.self.inside.chapters.items) c.self.invariant).0
+
+pub returns-clause-chapters : goal.returns-clause-chapters
+returns-clause-chapters c =
+    let s : KeptRing = record { ring = c.self.inside.ring; chapters = c.self.inside.chapters.items; taken = c.self.inside.taken.items } in
+    same-chapters s c.reserve.new.ring s.taken c.reserve.ensures.same_chapter ∙ ap chapters_of c.self.view_is

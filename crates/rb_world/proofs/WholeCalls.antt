@@ -1,0 +1,153 @@
+-- The calls of a ring that keeps a chapter, as calls of the ring with its whole history.
+use Rattle.std.proofs.Common.{◌≡◌, ◌≢◌, ℕ, ◌<◌, ◌≤◌, List, [], ◌∷◌, ◌++◌, Some, None, length, map, replicate, refl, sym, ap, subst, ◌∙◌, append-nil, append_assoc}
+use Rattle.std.specs.Prelude.{pos, negsuc}
+use Rattle.rb_history.specs.declared.entries.Entry.{Entry}
+use Rattle.rb_history.specs.declared.answers.Taken.{Taken}
+use Rattle.rb_history.specs.NoticesAndQueries.{query_answer}
+use Rattle.rb_history.specs.History.{grants}
+use Rattle.rb_history.specs.ReservationModel.{Granted}
+use Rattle.rb_history.specs.RingModel.{Ring, StandsFor}
+use Rattle.rb_history.specs.Calls as ring
+use Rattle.rb_chapter.specs.Chapters.{Chapter, joined}
+use Rattle.rb_chapter.specs.ChapterRing.{ChapterRing, StandsForChapter, whole_ring}
+use Rattle.rb_chapter.specs.ChapterCalls.{IsSameChapter, HoldsReservationFrom, Grants, FindsFull, Outputs, Submits, Discards, Strays, Takes, HandsOut}
+use Rattle.rb_chapter.specs.CountedFrom.{query_answer_from}
+use Rattle.rb_chapter.specs.WholeHistory.{IsKept}
+use Rattle.rb_chapter.proofs.Alike.{stands-alike, calls-alike}
+use Rattle.rb_chapter.proofs.Keeping.{calls-keep}
+use Rattle.rb_chapter.proofs.Stands.{goes-on}
+use Rattle.rb_chapter_ring.specs.RingFaults.{RefusesInChapter}
+use Rattle.rb_chapter_ring.specs.declared.faults.ReserveFault.{ReserveFault}
+use Rattle.rb_chapter_ring.specs.declared.faults.ReserveFault.TheVariants.{Full, Flags, ChapterFull, Foreign}
+use Rattle.rb_interleavings.specs.Worlds.{WorldRing}
+use Rattle.rb_interleavings.specs.CallsInWorld.{RingSteps, BadFlags, Unlogged, NoRoom, Made}
+use Rattle.rb_world.specs.WorldValue.{KeptRing, world_ring}
+use Rattle.rb_world.specs.TurnsDone.{TurnsChapter, chapters_of}
+use Rattle.rb_world.specs.inner.RingAnswers.{untaken_ring, IsReserved, IsOutput, IsWholeAnswer}
+
+moved : (P : Ring → Ring → Type 0) (old new : Ring) → P old new → StandsFor new → RingSteps P [] (untaken_ring old) (untaken_ring new)
+moved P old new p stands = record { stepped = p; stands = stands; taken_are = refl }
+
+granted-is : (r : Granted) (w : ℕ) (bytes : List ℕ) → r.worker ≡ w → r.bytes ≡ bytes → r ≡ record { pos = r.pos; worker = w; serial = r.serial; bytes = bytes }
+granted-is r w bytes e f = ap (λ v. record r { worker = v }) e ∙ ap (λ b. record { pos = r.pos; worker = w; serial = r.serial; bytes = b }) f
+
+-- the whole ring stands for its history
+pub stands-whole : (earlier : List Entry) (v : ChapterRing) → IsKept earlier v.chapter → StandsForChapter v → StandsFor (whole_ring earlier v)
+stands-whole earlier v kept stands = (stands-alike earlier v kept.continues).0 stands
+
+-- ---- a record is asked for
+
+module _ (old new : ChapterRing) (w : ℕ) where
+  pub reserve-bad : (len flags : ℕ) → flags ≢ 0 → new ≡ old → IsWholeAnswer (λ v v'. IsReserved v v' w len flags None) old new
+  reserve-bad len flags bad same = λ earlier kept. (subst (λ (v : ChapterRing). IsKept earlier v.chapter) (sym same) kept, (BadFlags, tt, (bad, ap (λ v. untaken_ring (whole_ring earlier v)) same)))
+
+  pub reserve-unlogged : (len flags : ℕ) → flags ≡ 0 → new ≡ old → IsWholeAnswer (λ v v'. IsReserved v v' w len flags None) old new
+  reserve-unlogged len flags none same = λ earlier kept. (subst (λ (v : ChapterRing). IsKept earlier v.chapter) (sym same) kept, (Unlogged, tt, (none, ap (λ v. untaken_ring (whole_ring earlier v)) same)))
+
+  pub reserve-made : (len flags : ℕ) (r : Granted) → w < old.chapter.opening.setup.workers → flags ≡ 0 → StandsForChapter new → Grants old new w len r.pos r.serial → r.worker ≡ w → r.bytes ≡ replicate len 0 → IsWholeAnswer (λ v v'. IsReserved v v' w len flags (Some r)) old new
+  reserve-made len flags r there none stands grants mine zeros = λ earlier kept.
+      let kept_on = (calls-keep earlier old new kept).grants w len r.pos r.serial there grants in
+      let whole = ((calls-alike earlier old new kept.continues).grants w len r.pos r.serial there).0 grants in (
+        kept_on,
+        (
+          Made r.pos r.serial,
+          granted-is r w (replicate len 0) mine zeros,
+          (none, moved (λ v v'. ring.Grants v v' w len r.pos r.serial) (whole_ring earlier old) (whole_ring earlier new) whole.2 (stands-whole earlier new kept_on stands)),
+        ),
+      )
+
+  full-kept : (n : ℕ) → w < old.chapter.opening.setup.workers → StandsForChapter new → FindsFull old new w n → IsWholeAnswer (λ v v'. RingSteps (λ u u'. ring.FindsFull u u' w n) [] (untaken_ring v) (untaken_ring v')) old new
+  full-kept n there stands full = λ earlier kept.
+      let kept_on = (calls-keep earlier old new kept).finds_full w n there full in
+      let whole = ((calls-alike earlier old new kept.continues).finds_full w n).0 full in
+      (kept_on, moved (λ v v'. ring.FindsFull v v' w n) (whole_ring earlier old) (whole_ring earlier new) whole.2 (stands-whole earlier new kept_on stands))
+
+  pub reserve-refused : (len flags : ℕ) (fault : ReserveFault) → w < old.chapter.opening.setup.workers → flags ≡ 0 → StandsForChapter new → RefusesInChapter old new w len fault → IsWholeAnswer (λ v v'. IsReserved v v' w len flags None) old new
+  reserve-refused len flags Full there none stands h = λ earlier kept. let full = full-kept len there stands h earlier kept in (full.0, (NoRoom, tt, (none, full.1)))
+  reserve-refused len flags Flags there none stands h = reserve-unlogged len flags none h
+  reserve-refused len flags ChapterFull there none stands h = reserve-unlogged len flags none h.same
+  reserve-refused len flags Foreign there none stands h = absurd h
+
+  pub output-bad : (bytes : List ℕ) (flags : ℕ) → 3 < flags → new ≡ old → IsWholeAnswer (λ v v'. IsOutput v v' w bytes flags (negsuc 21)) old new
+  output-bad bytes flags bad same = λ earlier kept. (subst (λ (v : ChapterRing). IsKept earlier v.chapter) (sym same) kept, (BadFlags, refl, (bad, ap (λ v. untaken_ring (whole_ring earlier v)) same)))
+
+  pub output-unlogged : (bytes : List ℕ) (flags : ℕ) → flags ≤ 3 → new ≡ old → IsWholeAnswer (λ v v'. IsOutput v v' w bytes flags (negsuc 10)) old new
+  output-unlogged bytes flags few same = λ earlier kept. (subst (λ (v : ChapterRing). IsKept earlier v.chapter) (sym same) kept, (Unlogged, refl, (few, ap (λ v. untaken_ring (whole_ring earlier v)) same)))
+
+  pub output-made : (bytes : List ℕ) (flags : ℕ) → w < old.chapter.opening.setup.workers → flags ≤ 3 → StandsForChapter new → Outputs old new w bytes → IsWholeAnswer (λ v v'. IsOutput v v' w bytes flags (pos 0)) old new
+  output-made bytes flags there few stands outputs = λ earlier kept.
+      let kept_on = (calls-keep earlier old new kept).outputs w bytes there outputs in
+      let whole = ((calls-alike earlier old new kept.continues).outputs w bytes there).0 outputs in (
+        kept_on,
+        (
+          Made (ring.producer_now (whole_ring earlier old)) (grants w (whole_ring earlier old).history),
+          refl,
+          (few, refl, refl, moved (λ v v'. ring.Outputs v v' w bytes) (whole_ring earlier old) (whole_ring earlier new) whole.2 (stands-whole earlier new kept_on stands)),
+        ),
+      )
+
+  pub output-refused : (n : ℕ) (bytes : List ℕ) (flags : ℕ) (fault : ReserveFault) → w < old.chapter.opening.setup.workers → flags ≤ 3 → n ≡ length bytes → StandsForChapter new → RefusesInChapter old new w n fault → IsWholeAnswer (λ v v'. IsOutput v v' w bytes flags (negsuc 10)) old new
+  output-refused n bytes flags Full there few long stands h = λ earlier kept. let full = full-kept (length bytes) there stands (subst (λ m. FindsFull old new w m) long h) earlier kept in (full.0, (NoRoom, refl, (few, full.1)))
+  output-refused n bytes flags Flags there few long stands h = output-unlogged bytes flags few h
+  output-refused n bytes flags ChapterFull there few long stands h = output-unlogged bytes flags few h.same
+  output-refused n bytes flags Foreign there few long stands h = absurd h
+
+-- ---- records that are given back, and takes
+
+module _ (s : KeptRing) (new : ChapterRing) (kept : IsKept (joined s.chapters) s.ring.chapter) where
+  abbrev after : KeptRing
+  after = record s { ring = new }
+
+  pub submit-steps : (r : Granted) → StandsForChapter new → Submits s.ring new r → RingSteps (λ v v'. ring.Submits v v' r) [] (world_ring s) (world_ring after)
+  submit-steps r stands h = record {
+    stepped = (((calls-alike (joined s.chapters) s.ring new kept.continues).submits r).0 h).1;
+    stands = stands-whole (joined s.chapters) new ((calls-keep (joined s.chapters) s.ring new kept).submits r h) stands;
+    taken_are = sym (append-nil s.taken);
+  }
+
+  pub discard-steps : (r : Granted) → StandsForChapter new → Discards s.ring new r → RingSteps (λ v v'. ring.Discards v v' r) [] (world_ring s) (world_ring after)
+  discard-steps r stands h = record {
+    stepped = (((calls-alike (joined s.chapters) s.ring new kept.continues).discards r).0 h).1;
+    stands = stands-whole (joined s.chapters) new ((calls-keep (joined s.chapters) s.ring new kept).discards r h) stands;
+    taken_are = sym (append-nil s.taken);
+  }
+
+  -- a busy record is not handed back
+  pub no-stray : (r : Granted) → Strays s.ring new r → ring.HoldsReservation (world_ring s).ring r → ⊥
+  no-stray r h busy = (((calls-alike (joined s.chapters) s.ring new kept.continues).strays r).0 h).1.not_busy busy
+
+  pub take-stands : (found : Taken) → StandsForChapter new → Takes s.ring new found → ring.Takes (world_ring s).ring (world_ring after).ring found × StandsFor (world_ring after).ring
+  take-stands found stands h = (
+    (((calls-alike (joined s.chapters) s.ring new kept.continues).takes found).0 h).1,
+    stands-whole (joined s.chapters) new ((calls-keep (joined s.chapters) s.ring new kept).takes found h) stands,
+  )
+
+pub query-whole : (s : KeptRing) (what : ℕ) → IsKept (joined s.chapters) s.ring.chapter → query_answer_from s.ring.chapter.opening s.ring.chapter.entries what ≡ query_answer (world_ring s).ring.setup (world_ring s).ring.history what
+query-whole s what kept =
+    let c = s.ring.chapter in
+    ((goes-on c.opening.setup (joined s.chapters) c.opening kept.continues.earlier_legal kept.continues.opened c.entries).1 kept.continues.legal).query what
+
+-- ---- chapters
+
+pub same-chapters : (s : KeptRing) (new : ChapterRing) (taken : List Taken) → IsSameChapter s.ring new → chapters_of (record { ring = new; chapters = s.chapters; taken = taken }) ≡ chapters_of s
+same-chapters s new taken same = ap (λ (c : Chapter). (s.chapters, record c { entries = [] })) same
+
+joined-more : (cs : List Chapter) (c : Chapter) → joined (cs ++ c ∷ []) ≡ joined cs ++ c.entries
+joined-more [] c = append-nil c.entries
+joined-more (d ∷ cs) c = ap (λ l. d.entries ++ l) (joined-more cs c) ∙ sym (append_assoc d.entries (joined cs) c.entries)
+
+module _ (s : KeptRing) (new : ChapterRing) (kept : IsKept (joined s.chapters) s.ring.chapter) (out : Chapter) (h : HandsOut s.ring new out) where
+  pub out-kept : IsKept (joined (s.chapters ++ out ∷ [])) new.chapter
+  out-kept = subst (λ l. IsKept l new.chapter) (sym (joined-more s.chapters out)) ((calls-keep (joined s.chapters) s.ring new kept).hands_out out h)
+
+  pub out-same : world_ring (record s { ring = new; chapters = s.chapters ++ out ∷ [] }) ≡ world_ring s
+  out-same = ap (λ (v : Ring). record { ring = v; taken = s.taken })
+      (ap (λ l. whole_ring l new) (joined-more s.chapters out) ∙ (((calls-alike (joined s.chapters) s.ring new kept.continues).hands_out out).0 h).1)
+
+  pub out-turned : TurnsChapter out.number s (record s { ring = new; chapters = s.chapters ++ out ∷ [] })
+  out-turned = record {
+    number_is = ap (λ (c : Chapter). c.number) h.next.out_is;
+    handed_out = subst (λ c. HandsOut s.ring new c) h.next.out_is h;
+    kept = ap (λ c. s.chapters ++ c ∷ []) h.next.out_is;
+    taken_same = refl;
+  }

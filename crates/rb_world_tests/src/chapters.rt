@@ -1,0 +1,84 @@
+//! Worlds whose keepers hand chapters out.
+
+use crate::worlds::{SUBMIT_42, is_event, opened_with, ring_0, turn, turns, verified};
+use rb_history::Counts;
+use rb_world::{Actor, TurnDone, WorkerSetup, World};
+use std::process::Abort;
+
+const FORTY_TWO: [u8; 8] = [42, 0, 0, 0, 0, 0, 0, 0];
+
+// The numbers of the chapters that ring 0 handed out and how many entries each has, and then those of the one that it keeps.
+fn chapters(rt: &impl Abort, world: &World<'_>) -> [(u64, u32); 2] {
+    if !world.has(Actor::Keeper(0)) {
+        rt.panic("no ring")
+    }
+    let kept = world.ring(0).chapter();
+    match world.chapters(0).first() {
+        Some(chapter) => [
+            (chapter.number(), chapter.used()),
+            (kept.number(), kept.used()),
+        ],
+        None => rt.panic("no chapter"),
+    }
+}
+
+// What a worker is at, and what it ended with.
+fn state(rt: &impl Abort, world: &World<'_>) -> (Option<u32>, Option<u64>) {
+    if !world.has(Actor::Worker(0)) {
+        rt.panic("no worker")
+    }
+    (world.at(0), world.result(0))
+}
+
+// The record is reserved in the first chapter and submitted and taken in the second; a chapter of room 8 takes no third record.
+#[test]
+fn a_record_outlives_its_chapter(rt: HostRuntime) {
+    let program = verified(&rt, rt.alloc(), SUBMIT_42, 0, 1);
+    let worker = WorkerSetup {
+        program: &program,
+        context: &[],
+    };
+    let mut world = opened_with(&rt, rt.alloc(), [worker].as_slice(), 8);
+    turns(&rt, &mut world, Actor::Worker(0), 4);
+    assert!(rt; state(&rt, &world) == (Some(5), None));
+    assert!(rt; turn(&rt, &mut world, Actor::Keeper(0)) == TurnDone::Chapter(0));
+    assert!(rt; turns(&rt, &mut world, Actor::Worker(0), 7) == TurnDone::Finished(0));
+    assert!(rt; state(&rt, &world) == (None, Some(0)));
+    assert!(rt; turn(&rt, &mut world, Actor::Consumer(0)) == TurnDone::Took);
+    let counts = Counts {
+        made: 1,
+        refused: 0,
+        consumed: 1,
+        discarded: 0,
+        waiting: 0,
+        busy: 0,
+    };
+    let holds = is_event(&rt, &world, 0, (0, 0, 0, &FORTY_TWO))
+        && ring_0(&rt, &world) == (16, 16, counts)
+        && chapters(&rt, &world) == [(0, 1), (1, 2)];
+    assert!(rt; holds);
+}
+
+// With two busy records a chapter of room 8 is full: the third worker gets null, which is not logged.
+#[test]
+fn a_full_chapter_gives_no_record(rt: HostRuntime) {
+    let program = verified(&rt, rt.alloc(), SUBMIT_42, 0, 1);
+    let worker = WorkerSetup {
+        program: &program,
+        context: &[],
+    };
+    let mut world = opened_with(&rt, rt.alloc(), [worker, worker, worker].as_slice(), 8);
+    for w in 0..3 {
+        turns(&rt, &mut world, Actor::Worker(w), 4);
+    }
+    let counts = Counts {
+        made: 2,
+        refused: 0,
+        consumed: 0,
+        discarded: 0,
+        waiting: 0,
+        busy: 2,
+    };
+    assert!(rt; ring_0(&rt, &world) == (32, 0, counts));
+    assert!(rt; turns(&rt, &mut world, Actor::Worker(2), 3) == TurnDone::Finished(0));
+}
