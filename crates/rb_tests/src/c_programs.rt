@@ -1,4 +1,4 @@
-//! The programs of examples/c as jobs over contexts that take each branch, at two rings of 4,096 bytes.
+//! The programs of examples/c, optimised and not, as jobs over contexts that take each branch, at two rings of 4,096 bytes.
 
 ghost use Rattle.std.specs.Prelude.{◌≡◌};
 ghost use Rattle.rb_ledger.specs.Seats.{IsSameConsumerSeat};
@@ -6,7 +6,7 @@ ghost use Rattle.rb_seats.specs.SeatHelpers.{IsAt};
 
 use rb_cfg::shape;
 use rb_decode::from_text;
-use rb_examples::{EVENT, REFUSED, SAMPLING, SIZE_CLASS, STACK_OUTPUT, TWO_RINGS};
+use rb_examples as programs;
 use rb_history::Taken;
 use rb_jobs::{Gate, Job, JobAnswer, run_job};
 use rb_ledger::{ConsumerSeat, Seat, SharedRing, open};
@@ -130,9 +130,17 @@ fn ended<R: Wait + Abort>(rt: &R, alloc: Global, program: &str, numbers: &[u64])
     text
 }
 
+// Each program as clang makes it optimised (-O2), and as it makes it without (-O0), where pointers are kept on the stack.
+const EVENT: [&str; 2] = [programs::EVENT, programs::EVENT_O0];
+const REFUSED: [&str; 2] = [programs::REFUSED, programs::REFUSED_O0];
+const SAMPLING: [&str; 2] = [programs::SAMPLING, programs::SAMPLING_O0];
+const SIZE_CLASS: [&str; 2] = [programs::SIZE_CLASS, programs::SIZE_CLASS_O0];
+const STACK_OUTPUT: [&str; 2] = [programs::STACK_OUTPUT, programs::STACK_OUTPUT_O0];
+const TWO_RINGS: [&str; 2] = [programs::TWO_RINGS, programs::TWO_RINGS_O0];
+
 #[test]
 fn programs_from_c(rt: HostRuntime) {
-    let rows: [(&str, &[u64], &str); 14] = [
+    let rows: [([&str; 2], &[u64], &str); 14] = [
         (
             EVENT,
             &[0x0102_0304_0506_0708, 0x2122_2324_1112_1314],
@@ -201,7 +209,9 @@ fn programs_from_c(rt: HostRuntime) {
              0000000000000000000000000000000000000000000000000000000000000000",
         ),
     ];
-    for (program, numbers, wanted) in rows {
-        assert_eq!(rt; ended(&rt, rt.alloc(), program, numbers).as_str(), wanted);
+    for (programs, numbers, wanted) in rows {
+        for program in programs {
+            assert_eq!(rt; ended(&rt, rt.alloc(), program, numbers).as_str(), wanted);
+        }
     }
 }
