@@ -40,7 +40,7 @@ fn explains(rt: HostRuntime) {
         rt.alloc(),
         &["explain"],
         "9500000000000000",
-        "   0: 9500000000000000                  exit\n   ^\nV1: An instruction reads only registers that hold something on every path to it. Set the register first; r1 to r5 hold nothing after a call, and r0 nothing after a submit or a discard: keep what is needed in r6 to r9.\n",
+        "   0: 9500000000000000                  exit\n   ^\nV1: An instruction reads only registers that hold something on every path to it. Set the register first; r1 to r5 hold nothing after a call, and r0 nothing after a submit or a discard: keep what is needed in r6 to r9, or on the stack. A pointer on the stack is loaded by its eight bytes at once.\n",
         "refused verify V1 unit 0\n",
     );
 }
