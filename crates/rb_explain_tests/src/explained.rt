@@ -4,8 +4,8 @@ use crate::llvm_programs::ROWS;
 use rb_cfg::{ShapeFault, ShapeFaultKind};
 use rb_decode::{DecodeFault, DecodeKind};
 use rb_examples::{
-    EVENT, EXIT_ZERO, OUTPUT_CONTEXT, REFUSED, SAMPLING, SIZE_CLASS, STACK_OUTPUT, SUBMIT_42,
-    TWO_RINGS,
+    EVENT, EVENT_O0, EXIT_ZERO, OUTPUT_CONTEXT, REFUSED, REFUSED_O0, SAMPLING, SAMPLING_O0,
+    SIZE_CLASS, SIZE_CLASS_O0, STACK_OUTPUT, STACK_OUTPUT_O0, SUBMIT_42, TWO_RINGS, TWO_RINGS_O0,
 };
 use rb_explain::{Explanation, Reason, explain};
 use rb_refs::Rule;
@@ -137,19 +137,25 @@ fn kept_reservation(rt: HostRuntime) {
     assert_eq!(rt; explanation.text.as_str(), wanted);
 }
 
-// Each stored program is accepted, and its last line is the exit.
+// Each stored program is accepted, what clang makes without optimising too, and its last line is the exit.
 #[test]
 fn stored_programs(rt: HostRuntime) {
     let programs = [
         EVENT,
+        EVENT_O0,
         EXIT_ZERO,
         OUTPUT_CONTEXT,
         REFUSED,
+        REFUSED_O0,
         SAMPLING,
+        SAMPLING_O0,
         SIZE_CLASS,
+        SIZE_CLASS_O0,
         STACK_OUTPUT,
+        STACK_OUTPUT_O0,
         SUBMIT_42,
         TWO_RINGS,
+        TWO_RINGS_O0,
     ];
     for program in programs {
         let explanation = explained(&rt, rt.alloc(), program);

@@ -1,9 +1,10 @@
 //! The shared types, and the laws called once.
 
 use rb_semantics::{
-    MemoryRegion, PendingCall, Value, bytes_written_are_read, pointers_are_not_read,
-    pointers_stored_are_found, pointers_stored_leave_zeros, programs_can_start, runs_call_once,
-    runs_end_well, steps_are_sound, verified_programs_end_well, writes_take_pointers_out,
+    MemoryRegion, PendingCall, Value, bytes_written_are_read, plain_annotations_are_valid,
+    pointers_are_not_read, pointers_stored_are_found, pointers_stored_leave_zeros,
+    programs_can_start, runs_call_once, runs_end_well, steps_are_sound, verified_programs_end_well,
+    writes_take_pointers_out,
 };
 
 #[test]
@@ -33,6 +34,7 @@ fn laws_can_be_called() {
     runs_end_well();
     verified_programs_end_well();
     runs_call_once();
+    plain_annotations_are_valid();
     bytes_written_are_read();
     writes_take_pointers_out();
     pointers_stored_are_found();

@@ -16,4 +16,5 @@ mod Calling
 mod Sound
 mod Running
 mod Worked
+mod PlainPrograms
 pub mod Laws

@@ -1,6 +1,7 @@
 pub mod StackPointers
 pub mod ProgramMemory
 pub mod MemoryLaws
+pub mod PlainPrograms
 pub mod ProgramStates
 pub mod HelperCalls
 pub mod Instructions

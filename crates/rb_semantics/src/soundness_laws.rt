@@ -1,5 +1,6 @@
 //! The laws on the meaning of verified programs.
 
+ghost use Rattle.rb_semantics.specs.PlainPrograms.{PlainAnnotationsAreValid};
 ghost use Rattle.rb_semantics.specs.RunEndings.{ProgramsCanStart, RunsCallOnce, RunsEndWell, VerifiedProgramsEndWell};
 ghost use Rattle.rb_semantics.specs.Soundness.{StepsAreSound};
 
@@ -29,4 +30,10 @@ pub fn verified_programs_end_well()
 /// From such a state a run makes no more calls than there are CALL instructions from its unit on.
 pub fn runs_call_once()
     ensures { RunsCallOnce }
+{}
+
+/// What the table of verification accepted while no pointer was kept on the stack, it accepts: an annotation that is valid by the
+/// rows by which a load gives a number and a store takes one, and that says of each place of the stack that it has data, is valid.
+pub fn plain_annotations_are_valid()
+    ensures { PlainAnnotationsAreValid }
 {}

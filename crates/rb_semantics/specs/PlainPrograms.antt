@@ -1,0 +1,81 @@
+-- Programs that keep no pointer on the stack, and the law that the table of verification accepts each of them that the rows without kept
+-- pointers accept: a load gives a number, a store takes one, and the bytes of an output are looked at no further (own profile).
+use Rattle.std.specs.Prelude.{◌≡◌, ◌<◌, ℕ, ℤ, pos, List, Option, Some, Result, Ok}
+use Rattle.rb_insn.specs.declared.insn.Insn.{Insn}
+use Rattle.rb_insn.specs.declared.insn.Insn.TheVariants.{Call, Load, LoadSigned, StoreImmediate, StoreRegister}
+use Rattle.rb_insn.specs.declared.reg.Reg.{Reg}
+use Rattle.rb_insn.specs.Sizes.{byte_count, signed_byte_count}
+use Rattle.rb_decode.specs.Program.{unit_count, slot_at}
+use Rattle.rb_cfg.specs.Edges.{Edge, edge_target}
+use Rattle.rb_refs.specs.declared.helper.Helper.{Helper}
+use Rattle.rb_refs.specs.declared.helper.Helper.TheVariants as helper
+use Rattle.rb_refs.specs.declared.limits.Limits.{Limits}
+use Rattle.rb_refs.specs.declared.rule.Rule.{Rule}
+use Rattle.rb_refs.specs.declared.rule.Rule.TheVariants as rule
+use Rattle.rb_refs.specs.declared.state.AbsState.{AbsState}
+use Rattle.rb_refs.specs.declared.state.Effect.{Effect}
+use Rattle.rb_refs.specs.declared.value.Abs.{Abs}
+use Rattle.rb_refs.specs.declared.value.Abs.TheVariants.{Number}
+use Rattle.rb_refs.specs.ValueChecks.{◌>>=◌, check_writable, check_tested, check_not_context, check_inside, check_number, check_ring, check_part_pointer, check_known_size}
+use Rattle.rb_refs.specs.HelperChecks.{helper_of, after_answer, check_call}
+use Rattle.rb_refs.specs.KeptPointers.{all_data}
+use Rattle.rb_refs.specs.AbstractStates.{Below, value_in, effect_on_both, entry_state}
+use Rattle.rb_refs.specs.VerifierChecks.{abstract_step, assignment_effect}
+use Rattle.rb_verifier.specs.Annotation.{Annotation, along_edge, IsValid}
+
+-- a load of so many bytes gives a number
+abbrev pub plain_load : Limits → Reg → Reg → ℤ → ℕ → AbsState → Result Effect Rule
+plain_load limits dst base offset len s = do
+  _ ← check_writable dst
+  _ ← check_tested (value_in s base.number)
+  _ ← check_inside limits s.held (value_in s base.number) offset len
+  Ok (assignment_effect dst Number s)
+
+-- a store of so many bytes takes a number
+abbrev pub plain_store : Limits → Reg → ℤ → ℕ → Abs → AbsState → Result Effect Rule
+plain_store limits base offset len v s = do
+  _ ← check_tested (value_in s base.number)
+  _ ← check_not_context (value_in s base.number)
+  _ ← check_inside limits s.held (value_in s base.number) offset len
+  _ ← check_number rule.PointerStored v
+  Ok (effect_on_both s)
+
+-- output(ring, data, size, flags)
+abbrev pub plain_output : Limits → AbsState → Result Effect Rule
+plain_output limits s = do
+  _ ← check_ring (value_in s 1)
+  _ ← check_tested (value_in s 2)
+  _ ← check_part_pointer (value_in s 2)
+  size ← check_known_size (value_in s 3)
+  _ ← check_inside limits s.held (value_in s 2) (pos 0) size
+  _ ← check_number rule.HelperArgument (value_in s 4)
+  Ok (effect_on_both (after_answer Number s))
+
+abbrev pub plain_call : Limits → ℕ → Option Helper → AbsState → Result Effect Rule
+plain_call limits unit (Some helper.Output) s = plain_output limits s
+plain_call limits unit called s = check_call limits unit called s
+
+-- the table without kept pointers: all other rows are the same
+abbrev pub plain_step : Limits → ℕ → Insn → AbsState → Result Effect Rule
+plain_step limits unit (Load size dst base offset) s = plain_load limits dst base offset (byte_count size) s
+plain_step limits unit (LoadSigned size dst base offset) s = plain_load limits dst base offset (signed_byte_count size) s
+plain_step limits unit (StoreImmediate size base offset k) s = plain_store limits base offset (byte_count size) Number s
+plain_step limits unit (StoreRegister size base offset src) s = plain_store limits base offset (byte_count size) (value_in s src.number) s
+plain_step limits unit (Call number) s = plain_call limits unit (helper_of number) s
+plain_step limits unit insn s = abstract_step limits unit insn s
+
+-- the checks of that table hold at a unit, and along each edge the effect is below the next unit's state
+pub record HoldsPlainly (limits : Limits) (a : Annotation) (bound unit : ℕ) (insn : Insn) : Type 0 where
+  pub effect : Effect
+  pub checks : plain_step limits unit insn (a unit) ≡ Ok effect
+  pub edges : (along : Edge) (to : ℕ) → edge_target unit insn along ≡ Some to → to < bound → Below (along_edge along effect) (a to)
+
+-- an annotation that is valid by that table, and says of each place that it has data
+pub record IsPlainlyValid (limits : Limits) (program : List Insn) (a : Annotation) : Type 0 where
+  pub places : (unit : ℕ) → (a unit).places ≡ all_data
+  pub entry : 0 < unit_count program → Below entry_state (a 0)
+  pub each : (unit : ℕ) (insn : Insn) → unit < unit_count program → slot_at program unit ≡ Some insn → HoldsPlainly limits a (unit_count program) unit insn
+
+-- it is valid by the whole table too
+abbrev pub PlainAnnotationsAreValid : Type 0
+PlainAnnotationsAreValid = (limits : Limits) (program : List Insn) (a : Annotation) → IsPlainlyValid limits program a → IsValid limits program a
