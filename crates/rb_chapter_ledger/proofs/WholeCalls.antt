@@ -27,24 +27,24 @@ use Rattle.rb_chapter_ledger.proofs.ChapterSteps.{handed-out-whole}
 -- ---- at one point
 
 module _ (earlier : List Entry) (old new : ChapterRing) (is : ContinuesHistory earlier old.chapter) where
-  said : IsSameFrom old.chapter.opening.setup earlier old.chapter.opening old.chapter.entries
+  pub said : IsSameFrom old.chapter.opening.setup earlier old.chapter.opening old.chapter.entries
   said = (goes-on old.chapter.opening.setup earlier old.chapter.opening is.earlier_legal is.opened old.chapter.entries).1 is.legal
 
-  consumer-same : consumer_now old ≡ whole_consumer_now (whole_ring earlier old)
+  pub consumer-same : consumer_now old ≡ whole_consumer_now (whole_ring earlier old)
   consumer-same = ap (λ (o : Opening). o.consumer) said.stands
 
-  due-same : {A : Type 0} (p flags : ℕ) → A ↔ IsDue (consumer_now old) p flags → A ↔ IsDue (whole_consumer_now (whole_ring earlier old)) p flags
+  pub due-same : {A : Type 0} (p flags : ℕ) → A ↔ IsDue (consumer_now old) p flags → A ↔ IsDue (whole_consumer_now (whole_ring earlier old)) p flags
   due-same {A} p flags is_due = subst (λ c. A ↔ IsDue c p flags) consumer-same is_due
 
-  submits-whole : (r : Granted) (flags : ℕ) (answer : Result Notice Stray) → SubmitsInChapter r flags answer old new → SubmitsAt r flags answer (whole_ring earlier old) (whole_ring earlier new)
+  pub submits-whole : (r : Granted) (flags : ℕ) (answer : Result Notice Stray) → SubmitsInChapter r flags answer old new → SubmitsAt r flags answer (whole_ring earlier old) (whole_ring earlier new)
   submits-whole r flags (Ok n) a = let whole = ((calls-alike earlier old new is).submits r).0 a.0 in (whole.1, due-same r.pos flags a.1)
   submits-whole r flags (Err s) a = let whole = ((calls-alike earlier old new is).strays r).0 a in whole.1
 
-  discards-whole : (r : Granted) (flags : ℕ) (answer : Result Notice Stray) → DiscardsInChapter r flags answer old new → DiscardsAt r flags answer (whole_ring earlier old) (whole_ring earlier new)
+  pub discards-whole : (r : Granted) (flags : ℕ) (answer : Result Notice Stray) → DiscardsInChapter r flags answer old new → DiscardsAt r flags answer (whole_ring earlier old) (whole_ring earlier new)
   discards-whole r flags (Ok n) a = let whole = ((calls-alike earlier old new is).discards r).0 a.0 in (whole.1, due-same r.pos flags a.1)
   discards-whole r flags (Err s) a = let whole = ((calls-alike earlier old new is).strays r).0 a in whole.1
 
-  takes-whole : (t : Taken) → TakesInChapter t old new → TakesAt t (whole_ring earlier old) (whole_ring earlier new)
+  pub takes-whole : (t : Taken) → TakesInChapter t old new → TakesAt t (whole_ring earlier old) (whole_ring earlier new)
   takes-whole t a =
       let calls = calls-alike earlier old new is in
       let whole = (calls.takes t).0 a.0 in
@@ -52,13 +52,13 @@ module _ (earlier : List Entry) (old new : ChapterRing) (is : ContinuesHistory e
       let all = calls.all_taken in
       (whole.1, (λ x. busy.0 (a.1.0 x), λ y. a.1.1 (busy.1 y)), (λ x. all.0 (a.2.0 x), λ y. a.2.1 (all.1 y)))
 
-  queries-whole : (what answer : ℕ) → QueriesInChapter what answer old new → Queries what answer (whole_ring earlier old) (whole_ring earlier new)
+  pub queries-whole : (what answer : ℕ) → QueriesInChapter what answer old new → Queries what answer (whole_ring earlier old) (whole_ring earlier new)
   queries-whole what answer a = (ap (whole_ring earlier) a.0, a.1 ∙ said.query what)
 
 -- ---- from what a role had seen to what it has seen
 
 module _ (role : Role) (before after : Book) (call : ChapterRing → ChapterRing → Type 0) (whole : Ring → Ring → Type 0) where
-  call-whole : ((earlier : List Entry) (old new : ChapterRing) → ContinuesHistory earlier old.chapter → call old new → whole (whole_ring earlier old) (whole_ring earlier new)) → LockedChapterCall role before after (InOneChapter call) → LockedCall role before after whole
+  pub call-whole : ((earlier : List Entry) (old new : ChapterRing) → ContinuesHistory earlier old.chapter → call old new → whole (whole_ring earlier old) (whole_ring earlier new)) → LockedChapterCall role before after (InOneChapter call) → LockedCall role before after whole
   call-whole alike t = record {
     point = whole_of t.point;
     left = whole_of t.left;
@@ -70,7 +70,7 @@ module _ (role : Role) (before after : Book) (call : ChapterRing → ChapterRing
   }
 
   -- a worker of the ring that was seen is one of the ring's
-  with-worker : (w : ℕ) → w < before.setup.workers → LockedChapterCall role before after (InOneChapter call) → LockedChapterCall role before after (InOneChapter (λ old new. (w < old.chapter.opening.setup.workers) × call old new))
+  pub with-worker : (w : ℕ) → w < before.setup.workers → LockedChapterCall role before after (InOneChapter call) → LockedChapterCall role before after (InOneChapter (λ old new. (w < old.chapter.opening.setup.workers) × call old new))
   with-worker w low t = record {
     point = t.point;
     left = t.left;
@@ -81,7 +81,7 @@ module _ (role : Role) (before after : Book) (call : ChapterRing → ChapterRing
     seen = t.seen;
   }
 
-  any-chapter : (handed_out : List Chapter) → LockedChapterCall role before after (InKnownChapter handed_out call) → LockedChapterCall role before after (InOneChapter call)
+  pub any-chapter : (handed_out : List Chapter) → LockedChapterCall role before after (InKnownChapter handed_out call) → LockedChapterCall role before after (InOneChapter call)
   any-chapter handed_out t = record { point = t.point; left = t.left; goes_on = t.goes_on; was_ring = t.was_ring; called = t.called.1; is_ring = t.is_ring; seen = t.seen }
 
 module _ (before after : Book) (handed_out : List Chapter) (c : Chapter) (t : LockedChapterCall Consumer before after (HandsOutNext handed_out c)) where

@@ -1,0 +1,10 @@
+mod LockedSteps
+mod ChapterPassing
+mod WholeAnswers
+mod WorkerPassing
+mod ConsumerPassing
+mod AnswersMeet
+mod SeatNumbers
+mod TakenNumbers
+mod OpenedSeats
+mod GatheredSeats

@@ -1,0 +1,16 @@
+use Rattle.std.proofs.Common.{◌≡◌, vec_len}
+use Rattle.std.specs.List.{All}
+use Rattle.crossbeam_queue.specs.Passes.{view, IsSamePass}
+use Rattle.rb_ledger.specs.inner.SeatRoles.{roles_of, HasOwnCounts}
+use Rattle.rb_shared_ring.proofs.GatheredSeats.{HasGathered}
+use Rattle.rb_shared_ring.proofs.closing.gather.Given as goal
+
+abbrev pub invariant-loop-seat : goal.invariant-loop-seat
+invariant-loop-seat l =
+    IsSamePass l.initial.pass l.pass
+    × HasGathered l.seats.items (view l.pass) (view l.initial.pass) (roles_of l.initial.seats.items)
+    × All (λ s. s.ring ≡ l.initial.pass.table_id) l.seats.items
+    × (All HasOwnCounts l.seats.items → All HasOwnCounts l.initial.seats.items)
+
+abbrev pub decreases-loop-seat : goal.decreases-loop-seat
+decreases-loop-seat l = vec_len l.seats

@@ -1,0 +1,5 @@
+use Rattle.rb_chapter_ledger.proofs.ChapterLock.{begins}
+use Rattle.rb_shared_ring.proofs.lock.new_lock.Goals as goal
+
+pub ruled-requires-clause-rule : goal.ruled-requires-clause-rule
+ruled-requires-clause-rule c = begins

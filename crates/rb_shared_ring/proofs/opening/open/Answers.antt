@@ -1,0 +1,50 @@
+use Rattle.std.proofs.Common.{◌≡◌, ◌-◌, ◌++◌, ◌∙◌, ◌<◌, [], ap, sym, subst, refl, append-nil, arith}
+use Rattle.std.specs.FinMap.{empty}
+use Rattle.rb_chapter.specs.ChapterRing.{ChapterRing}
+use Rattle.rb_chapter_ledger.specs.ChapteredRing.{chaptered_ring, IsChapteredRing}
+use Rattle.rb_ledger.specs.Roles.{Book}
+use Rattle.rb_ledger.specs.Seats.{IsBook, fresh_book, fresh_seat, fresh_seats}
+use Rattle.rb_ledger.proofs.Opens.{seats-more}
+use Rattle.rb_shared_ring.proofs.OpenedSeats.{first-ring, opened-book, next-worker}
+use Rattle.rb_shared_ring.proofs.opening.open.Goals as goal
+
+pub new_seat-seat-requires-clause-role : goal.new_seat-seat-requires-clause-role
+new_seat-seat-requires-clause-role g c = (next-worker (fresh_book c.args.size c.args.start c.args.workers) _ _ _ _ c.loop-worker-test.true c.loop-worker.invariant.1).first_is
+
+pub new_seat-seat-requires-clause-nothing : goal.new_seat-seat-requires-clause-nothing
+new_seat-seat-requires-clause-nothing g c =
+    let n = next-worker (fresh_book c.args.size c.args.start c.args.workers) _ _ _ _ c.loop-worker-test.true c.loop-worker.invariant.1 in
+    ap (λ (b : Book). b.history) n.seen_is
+
+pub new_seat-seat-requires-clause-book : goal.new_seat-seat-requires-clause-book
+new_seat-seat-requires-clause-book g c =
+    let n = next-worker (fresh_book c.args.size c.args.start c.args.workers) _ _ _ _ c.loop-worker-test.true c.loop-worker.invariant.1 in
+    let opened = c.in_ok-state.ensures.opened in
+    let book = opened-book _ _ _ _ _ opened (first-ring _ _ _ opened c.facts_of.ensures.kept).0 in
+    (subst IsBook (sym n.seen_is) book, subst (λ (b : Book). c.loop-worker.worker < b.setup.workers) (sym n.seen_is) c.loop-worker-test.true)
+
+pub loop-worker-preserved : goal.loop-worker-preserved
+loop-worker-preserved g c =
+    let b = fresh_book c.args.size c.args.start c.args.workers in
+    let i = c.loop-worker.invariant in
+    let s = c.new_seat-seat.ensures.same in
+    let n = next-worker b _ _ _ _ c.loop-worker-test.true i.1 in (
+      (s.0 ∙ i.0.0, s.1 ∙ i.0.1, s.2 ∙ i.0.2),
+      c.new_seat-seat.ensures.rest ∙ n.rest_is,
+      seats-more c.args.tag _ _ b _ _ _ _ _ _ c.loop-worker-test.true refl (c.new_seat-seat.ensures.seat ∙ (λ k. fresh_seat c.args.tag (i.0.0 k) c.loop-worker.worker (n.seen_is k))) c.in-Ok-push.ensures.items i.2,
+    )
+
+pub put_first-requires-clause-opened : goal.put_first-requires-clause-opened
+put_first-requires-clause-opened g c =
+    subst (λ (x : ChapterRing). IsChapteredRing (chaptered_ring [] x) × (x.contents ≡ empty)) (sym c.in-Ok-new.ensures.ok) (first-ring _ _ _ c.in_ok-state.ensures.opened c.facts_of.ensures.kept)
+
+pub returns-clause-seats : goal.returns-clause-seats
+returns-clause-seats g c =
+    let b = fresh_book c.args.size c.args.start c.args.workers in
+    let i = c.loop-worker.invariant in
+    let none : c.args.workers - c.loop-worker.worker ≡ 0 = omega (arith, c.loop-worker-test.false) in
+    let table : c.new_consumer-consumer.new.pass.table_id ≡ c.in-Ok.lock.table.shared.table_id = c.new_consumer-consumer.ensures.same.0 ∙ c.put_first.ensures.same.0 ∙ c.in-Ok.ensures.pass.0 in
+    sym (append-nil c.loop-worker.seats.items)
+    ∙ ap (λ k. c.loop-worker.seats.items ++ fresh_seats c.args.tag c.new_consumer-consumer.new.pass.table_id b c.loop-worker.worker k) (sym none)
+    ∙ i.2
+    ∙ ap (λ t. fresh_seats c.args.tag t b 0 c.args.workers) table

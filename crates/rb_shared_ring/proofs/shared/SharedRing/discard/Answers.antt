@@ -1,0 +1,21 @@
+use Rattle.std.proofs.Common.{◌∙◌, sym, subst}
+use Rattle.crossbeam_queue.specs.Passes.{view}
+use Rattle.rb_ledger.specs.Roles.Role.{Worker}
+use Rattle.rb_ledger.specs.Seats.{WorkerSeat, Ties}
+use Rattle.rb_chapter_ledger.specs.LockedChapterCalls.{LockedChapterCall, InOneChapter, DiscardsInChapter}
+use Rattle.rb_shared_ring.specs.inner.SeatPasses.{seen_by}
+use Rattle.rb_shared_ring.proofs.SeatNumbers.{book-in, tied-low, discard-tied}
+use Rattle.rb_shared_ring.proofs.shared.SharedRing.discard.Goals as goal
+
+pub after_discard-me-inside-requires : goal.after_discard-me-inside-requires
+after_discard-me-inside-requires g c = record { discarded = (tied-low _ _ _ c.me.invariant.1.book c.me.invariant.1.ties).discarded }
+
+pub invariant_of-me : goal.invariant_of-me
+invariant_of-me g c =
+    let e = c.discard_with-answer.ensures in
+    let i = c.me.invariant in
+    let ties = discard-tied c.me.inside.worker c.me.inside.tally _ _ i.1.ties c.args.reservation c.args.flags c.discard_with-answer.result (sym c.worker.ensures.value ∙ c.if-worker-me.false) e.call in
+    (e.same.2 ∙ i.0, record { idle = e.idle; book = book-in _ _ _ _ e.call; ties = subst (λ t. Ties c.me.inside.worker t (seen_by (view c.discard_with-answer.new.pass))) (sym c.after_discard-me-inside.ensures.counted) ties })
+
+pub returns-clause-call : goal.returns-clause-call
+returns-clause-call g c = λ _ _. subst (λ (s : WorkerSeat). LockedChapterCall (Worker s.worker) s.seen (seen_by (view c.discard_with-answer.new.pass)) (InOneChapter (DiscardsInChapter c.args.reservation c.args.flags c.discard_with-answer.result))) c.me.view_is c.discard_with-answer.ensures.call

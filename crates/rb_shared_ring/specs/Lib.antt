@@ -1,0 +1,4 @@
+pub mod SharedCalls
+pub mod SharedSeats
+pub mod BoundSeats
+pub mod inner

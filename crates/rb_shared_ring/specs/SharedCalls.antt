@@ -1,0 +1,67 @@
+-- What the calls on a shared ring over chapters do and answer, beside those that rb_chapter_ledger defines; and what an answer adds to a
+-- seat's numbers and bytes (own).
+use Rattle.std.specs.Prelude.{◌≡◌, ◌≢◌, ℕ, ◌+◌, ◌≤◌, ◌<◌, ◌↔◌, List, length, replicate, Result, Ok, Err}
+use Rattle.std.specs.FinMap.{insert}
+use Rattle.rb_history.specs.declared.answers.Notice.{Notice}
+use Rattle.rb_history.specs.declared.answers.Notice.TheVariants.{Due}
+use Rattle.rb_history.specs.declared.tally.Tally.{Tally}
+use Rattle.rb_history.specs.ReservationModel.{Granted}
+use Rattle.rb_history.specs.NoticesAndQueries.{IsDue}
+use Rattle.rb_history.specs.RingModel.{Contents}
+use Rattle.rb_chapter.specs.CountedFrom.{tally_from}
+use Rattle.rb_chapter.specs.ChapterRing.{ChapterRing}
+use Rattle.rb_chapter.specs.ChapterCalls.{Grants, Outputs, producer_now, consumer_now}
+use Rattle.rb_chapter_ring.specs.declared.faults.ReserveFault.{ReserveFault}
+use Rattle.rb_chapter_ring.specs.declared.faults.ReserveFault.TheVariants.{Full, Flags, ChapterFull, Foreign}
+use Rattle.rb_chapter_ring.specs.OpenedRing.{told_counts}
+use Rattle.rb_chapter_ring.specs.RingFaults.{RefusesInChapter}
+use Rattle.rb_ledger.specs.declared.audit.Audit.{Audit}
+use Rattle.rb_ledger.specs.Seats.{WorkerSeat}
+
+-- ---- the calls, as their arguments and answers say
+
+-- a record is granted where the ring has room for it and the chapter for all that it will log. It is Full, and logged, where the ring has no
+-- room and the refusal may be logged. Else it is ChapterFull, and nothing changes
+abbrev pub ReservesInChapter : ℕ → ℕ → Result Granted (ReserveFault × List ℕ) → ChapterRing → ChapterRing → Type 0
+ReservesInChapter w n (Ok r) old new = Grants old new w n r.pos r.serial × (r.worker ≡ w) × (r.bytes ≡ replicate n 0)
+ReservesInChapter w n (Err e) old new = RefusesInChapter old new w n e.0 × (e.0 ≢ Flags)
+
+abbrev pub OutputsInChapter : ℕ → List ℕ → ℕ → Result Notice (ReserveFault × List ℕ) → ChapterRing → ChapterRing → Type 0
+OutputsInChapter w bytes flags (Ok notice) old new = Outputs old new w bytes × ((notice ≡ Due) ↔ IsDue (consumer_now old) (producer_now old) flags) × (flags ≤ 3)
+OutputsInChapter w bytes flags (Err e) old new = RefusesInChapter old new w (length bytes) e.0 × ((e.0 ≡ Flags) ↔ (3 < flags))
+
+-- the positions, the counts of the whole history, and the numbers of the worker's entries there. Of the refusals of all workers it tells
+-- 2^64 - 1 at most
+pub record AuditsInChapter (w : ℕ) (a : Audit) (old new : ChapterRing) : Type 0 where
+  pub producer_is : a.producer ≡ producer_now old
+  pub consumer_is : a.consumer ≡ consumer_now old
+  pub counts_are : a.counts ≡ told_counts old
+  pub own_is : a.own ≡ tally_from old.chapter.opening w old.chapter.entries
+  pub same : new ≡ old
+
+-- the answer is this refusal
+abbrev pub IsRefusedInChapterAs : {T : Type 0} → ReserveFault → Result T (ReserveFault × List ℕ) → Type 0
+IsRefusedInChapterAs fault (Ok _) = ⊥
+IsRefusedInChapterAs fault (Err e) = e.0 ≡ fault
+
+-- ---- what an answer adds to a seat's numbers and bytes
+
+-- a refusal that is logged is counted
+abbrev pub refused_in_chapter_by : Tally → ReserveFault → Tally
+refused_in_chapter_by t Full = record t { refused = t.refused + 1 }
+refused_in_chapter_by t Flags = t
+refused_in_chapter_by t ChapterFull = t
+refused_in_chapter_by t Foreign = t
+
+abbrev pub reserved_in_chapter_by : Tally → Result Granted (ReserveFault × List ℕ) → Tally
+reserved_in_chapter_by t (Ok r) = record t { made = t.made + 1 }
+reserved_in_chapter_by t (Err e) = refused_in_chapter_by t e.0
+
+abbrev pub output_in_chapter_by : Tally → Result Notice (ReserveFault × List ℕ) → Tally
+output_in_chapter_by t (Ok _) = record t { made = t.made + 1; submitted = t.submitted + 1 }
+output_in_chapter_by t (Err e) = refused_in_chapter_by t e.0
+
+-- an output adds its bytes, at the position where its record stands
+abbrev pub sent_by_chapter_output : Contents → ℕ → List ℕ → Result Notice (ReserveFault × List ℕ) → Contents
+sent_by_chapter_output sent p bytes (Ok _) = insert sent p bytes
+sent_by_chapter_output sent p bytes (Err e) = sent

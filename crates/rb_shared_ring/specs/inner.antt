@@ -1,0 +1,3 @@
+pub mod SeatPasses
+pub mod LentState
+pub mod SeatsKeep

@@ -1,0 +1,83 @@
+//! An audit: a ring's positions and counts at one moment.
+
+ghost use Rattle.std.specs.Prelude.{◌≡◌, ◌≢◌, ◌↔◌, ◌<◌, IfOk, IsErr, None, length, slice_index_or};
+ghost use Rattle.crossbeam_queue.specs.Passes.{view, IsPassOf, IsSamePass, ruled_capacity};
+ghost use Rattle.rb_chapter.specs.Opening.{no_tally};
+ghost use Rattle.rb_ledger.specs.Roles.Role.{Worker};
+ghost use Rattle.rb_ledger.specs.Seats.{IsSameSeat};
+ghost use Rattle.rb_chapter_ledger.specs.LockedChapterCalls.{LockedChapterCall, InOneChapter};
+ghost use Rattle.rb_shared_ring.specs.SharedCalls.{AuditsInChapter};
+ghost use Rattle.rb_shared_ring.specs.inner.SeatPasses.{seen_by, bytes_by, IsIdleIn};
+
+use crate::lock::{Lock, RingPass};
+use crate::locked_calls::with_state;
+use crate::shared::SharedRing;
+use crate::worker_seat::Seat;
+use rb_chapter_ring::RingState;
+use rb_history::Tally;
+use rb_ledger::{Audit, Foreign};
+use std::sync::Wait;
+
+// The ring's positions and counts, and the numbers of a worker's entries. In constant time.
+fn audit_of(state: &RingState, worker: u32) -> Audit
+    requires worker { worker < state.now.chapter.opening.setup.workers }
+    ensures audit { AuditsInChapter worker result state.now state.now }
+{
+    let closing = state.chapter().closing();
+    Audit {
+        producer: closing.producer(),
+        consumer: closing.consumer(),
+        counts: state.counts(),
+        own: tally_in(closing.tallies(), worker),
+    }
+}
+
+// The totals of the worker.
+fn tally_in(tallies: &[Tally], worker: u32) -> Tally
+    requires worker { worker < length tallies.now }
+    ensures tally { result ≡ slice_index_or tallies.now worker no_tally }
+{
+    tallies[worker as usize]
+}
+
+// An audit for the worker whose pass it is.
+fn audit_with<R: Wait>(rt: &R, lock: &Lock, pass: &mut RingPass, worker: u32) -> Audit
+    requires pass { IsPassOf lock.now pass.old × (ruled_capacity lock.now ≡ 1) }
+    requires idle { IsIdleIn (Worker worker) (view pass.old) }
+    ensures same { IsSamePass pass.old pass.new }
+    ensures idle { IsIdleIn (Worker worker) (view pass.new) }
+    ensures call { LockedChapterCall (Worker worker) (seen_by (view pass.old)) (seen_by (view pass.new)) (InOneChapter (AuditsInChapter worker result)) }
+    ensures bytes { bytes_by (view pass.new) ≡ bytes_by (view pass.old) }
+{
+    with_state(
+        rt,
+        lock,
+        pass,
+        |state|
+            requires worker { worker < state.old.chapter.opening.setup.workers }
+            ensures call { AuditsInChapter worker result state.old state.new }
+        { audit_of(state, worker) },
+    )
+}
+
+impl SharedRing {
+    /// The ring's positions and counts at one moment, and the numbers of the entries of the seat's worker, all of the whole history. Of the
+    /// refusals of all workers it tells 2^64 - 1 at most. In constant time: the ring keeps all of them.
+    pub fn audit<R: Wait>(&self, rt: &R, me: &mut Seat) -> Result<Audit, Foreign>
+        requires ring { me.old.tag ≡ self.now.tag → me.old.ring ≡ self.now.ring }
+        ensures foreign { IsErr result ↔ (me.old.tag ≢ self.now.tag) }
+        ensures unchanged { me.old.tag ≢ self.now.tag → me.new ≡ me.old }
+        ensures seat { IsSameSeat me.old me.new }
+        ensures released { (me.old.out ≡ None) × (me.new.out ≡ None) }
+        ensures call { IfOk result (λ a. LockedChapterCall (Worker me.old.worker) me.old.seen me.new.seen (InOneChapter (AuditsInChapter me.old.worker a))) }
+        ensures own { IfOk result (λ a. a.own ≡ me.old.tally) }
+        ensures tally { me.new.tally ≡ me.old.tally }
+        ensures sent { me.new.sent ≡ me.old.sent }
+    {
+        if me.tag != self.tag {
+            return Err(Foreign);
+        }
+        let worker = me.worker;
+        Ok(audit_with(rt, &self.lock, &mut me.pass, worker))
+    }
+}

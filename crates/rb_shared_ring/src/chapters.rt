@@ -1,0 +1,155 @@
+//! The consumer hands chapters out.
+
+ghost use Rattle.std.specs.Prelude.{◌≡◌, ◌≢◌, ◌<◌, ◌^◌, ◌↔◌, ◌++◌, ◌∷◌, [], IfOk, IfErr, IsErr, OnErr, IsTrue, None, length};
+ghost use Rattle.crossbeam_queue.specs.Passes.{view, IsPassOf, IsSamePass, ruled_capacity};
+ghost use Rattle.rb_chapter_ring.specs.OpenedRing.{MayGoOnIn};
+ghost use Rattle.rb_chapter.specs.ChapterCalls.{HandsOut};
+ghost use Rattle.rb_ledger.specs.Roles.Role.{Consumer};
+ghost use Rattle.rb_chapter_ledger.specs.ChapterSeats.{IsFitChapter};
+ghost use Rattle.rb_chapter_ledger.specs.LockedChapterCalls.{LockedChapterCall, InKnownChapter, TellsUsed, HandsOutNext};
+ghost use Rattle.rb_shared_ring.specs.SharedSeats.{IsSameChapterConsumer, TakesNothing, IsHandFault};
+ghost use Rattle.rb_shared_ring.specs.inner.SeatPasses.{seen_by, bytes_by, room_by, handed_out_by, IsIdleIn};
+
+use crate::consumer_seat::ConsumerSeat;
+use crate::lock::{Lock, RingPass};
+use crate::locked_calls::with_state;
+use crate::shared::SharedRing;
+use rb_chapter::Chapter;
+use rb_chapter_ring::RingState;
+use rb_ledger::Foreign;
+use std::sync::Wait;
+use thiserror::Error;
+
+/// Why no chapter was handed out: the first of these that applies, in this order.
+#[derive(Clone, Copy, Debug, Error, PartialEq, Eq)]
+pub enum HandFault {
+    /// The seat is another ring's. Nothing changed.
+    #[error("the seat is another ring's")]
+    Foreign,
+    /// The chapter that was handed in has entries, another room or other workers than the ring's, or the last number was reached. Nothing
+    /// changed.
+    #[error("the chapter does not fit the ring")]
+    Unfit,
+}
+
+// `RingState::hand_out`, for the consumer, of a chapter in which the ring may go on.
+fn hand_out_with<R: Wait>(rt: &R, lock: &Lock, pass: &mut RingPass, empty: Chapter) -> Chapter
+    requires pass { IsPassOf lock.now pass.old × (ruled_capacity lock.now ≡ 1) }
+    requires idle { IsIdleIn Consumer (view pass.old) }
+    requires no_entries { empty.entries ≡ [] }
+    requires room { empty.room ≡ room_by (view pass.old) }
+    requires workers { empty.opening.setup.workers ≡ (seen_by (view pass.old)).setup.workers }
+    requires next_number { length (handed_out_by (view pass.old)) < 2 ^ 62 }
+    ensures same { IsSamePass pass.old pass.new }
+    ensures idle { IsIdleIn Consumer (view pass.new) }
+    ensures call { LockedChapterCall Consumer (seen_by (view pass.old)) (seen_by (view pass.new)) (HandsOutNext (handed_out_by (view pass.old)) result) }
+    ensures bytes { bytes_by (view pass.new) ≡ bytes_by (view pass.old) }
+    ensures room { room_by (view pass.new) ≡ room_by (view pass.old) }
+    ensures chapters { handed_out_by (view pass.new) ≡ handed_out_by (view pass.old) ++ result ∷ [] }
+{
+    with_state(
+        rt,
+        lock,
+        pass,
+        |state|
+            requires fits { MayGoOnIn state.old empty }
+            ensures hands_out { HandsOut state.old state.new result }
+        { next_chapter(state, empty) },
+    )
+}
+
+// Hands the ring's chapter out, which goes on in a chapter that fits.
+fn next_chapter(state: &mut RingState, empty: Chapter) -> Chapter
+    requires fits { MayGoOnIn state.old empty }
+    ensures hands_out { HandsOut state.old state.new result }
+{
+    match state.hand_out(empty) {
+        Ok(chapter) => chapter,
+        Err(_) => unreachable!(),
+    }
+}
+
+// How many entries the ring's chapter has, and how many it owes.
+fn used_with<R: Wait>(rt: &R, lock: &Lock, pass: &mut RingPass) -> (u32, u32)
+    requires pass { IsPassOf lock.now pass.old × (ruled_capacity lock.now ≡ 1) }
+    requires idle { IsIdleIn Consumer (view pass.old) }
+    ensures same { IsSamePass pass.old pass.new }
+    ensures idle { IsIdleIn Consumer (view pass.new) }
+    ensures call { LockedChapterCall Consumer (seen_by (view pass.old)) (seen_by (view pass.new)) (InKnownChapter (handed_out_by (view pass.old)) (TellsUsed result.0 result.1)) }
+    ensures bytes { bytes_by (view pass.new) ≡ bytes_by (view pass.old) }
+    ensures room { room_by (view pass.new) ≡ room_by (view pass.old) }
+    ensures chapters { handed_out_by (view pass.new) ≡ handed_out_by (view pass.old) }
+{
+    with_state(
+        rt,
+        lock,
+        pass,
+        |state|
+            ensures call { TellsUsed result.0 result.1 state.old state.new }
+        { (state.chapter().used(), state.chapter().owed()) },
+    )
+}
+
+impl ConsumerSeat {
+    // Whether the ring may go on in the chapter.
+    fn is_fit(&self, empty: &Chapter) -> bool
+        ensures exact { IsTrue result ↔ IsFitChapter self.now empty.now }
+    {
+        empty.used() == 0
+            && empty.room() == self.room
+            && empty.opening().workers() == self.workers
+            && self.chapters < 1 << 62
+    }
+}
+
+impl SharedRing {
+    /// Hands the ring's chapter out as it is, and goes on in `empty`, which becomes the next one: it begins with what the old one stands for.
+    /// The chapter's number is how many were handed out before. `Foreign` comes first, then `Unfit`; both hand `empty` back. In
+    /// time linear in the records that were not taken and the workers, and without memory. The lock is held meanwhile.
+    pub fn hand_out<R: Wait>(
+        &self,
+        rt: &R,
+        me: &mut ConsumerSeat,
+        empty: Chapter,
+    ) -> Result<Chapter, (HandFault, Chapter)>
+        requires ring { me.old.tag ≡ self.now.tag → me.old.ring ≡ self.now.ring }
+        ensures foreign { IsHandFault HandFault.Foreign result ↔ (me.old.tag ≢ self.now.tag) }
+        ensures unfit { IsHandFault HandFault.Unfit result ↔ ((me.old.tag ≡ self.now.tag) × ¬ IsFitChapter me.old empty) }
+        ensures handed_back { IfErr result (λ e. e.1 ≡ empty) }
+        ensures unchanged { OnErr result (me.new ≡ me.old) }
+        ensures seat { IsSameChapterConsumer me.old me.new }
+        ensures numbers { TakesNothing me.old me.new }
+        ensures released { (me.old.out ≡ None) × (me.new.out ≡ None) }
+        ensures call { IfOk result (λ c. LockedChapterCall Consumer me.old.seen me.new.seen (HandsOutNext me.old.handed_out c)) }
+        ensures chapters { IfOk result (λ c. me.new.handed_out ≡ me.old.handed_out ++ c ∷ []) }
+        ensures number { IfOk result (λ c. c.number ≡ length me.old.handed_out) }
+    {
+        if me.tag != self.tag {
+            return Err((HandFault::Foreign, empty));
+        }
+        if !me.is_fit(&empty) {
+            return Err((HandFault::Unfit, empty));
+        }
+        let chapter = hand_out_with(rt, &self.lock, &mut me.pass, empty);
+        me.chapters += 1;
+        Ok(chapter)
+    }
+
+    /// How many entries the ring's chapter has, and how many more its records ask for: two for each busy one, its end and its take, and one for
+    /// each other. A record is granted where both and 3 are at most the chapter's room.
+    pub fn used<R: Wait>(&self, rt: &R, me: &mut ConsumerSeat) -> Result<(u32, u32), Foreign>
+        requires ring { me.old.tag ≡ self.now.tag → me.old.ring ≡ self.now.ring }
+        ensures foreign { IsErr result ↔ (me.old.tag ≢ self.now.tag) }
+        ensures unchanged { me.old.tag ≢ self.now.tag → me.new ≡ me.old }
+        ensures seat { IsSameChapterConsumer me.old me.new }
+        ensures numbers { TakesNothing me.old me.new }
+        ensures chapters { me.new.handed_out ≡ me.old.handed_out }
+        ensures released { (me.old.out ≡ None) × (me.new.out ≡ None) }
+        ensures call { IfOk result (λ n. LockedChapterCall Consumer me.old.seen me.new.seen (InKnownChapter me.old.handed_out (TellsUsed n.0 n.1))) }
+    {
+        if me.tag != self.tag {
+            return Err(Foreign);
+        }
+        Ok(used_with(rt, &self.lock, &mut me.pass))
+    }
+}

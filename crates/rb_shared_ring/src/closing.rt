@@ -1,0 +1,185 @@
+//! A shared ring over chapters is closed once all its seats are handed in.
+
+ghost use Rattle.std.specs.Prelude.{◌≡◌, ◌↔◌, ◌++◌, ◌∷◌, [], List, IfOk, IfErr, IsOk, IsTrue, All, true};
+ghost use Rattle.crossbeam_queue.specs.Passes.{view, IsPassOf, IsSamePass};
+ghost use Rattle.rb_chapter.specs.ChapterRing.{StandsForChapter};
+ghost use Rattle.rb_chapter.specs.ChapterCalls.{producer_now, consumer_now};
+ghost use Rattle.rb_chapter_ring.specs.OpenedRing.{told_counts};
+ghost use Rattle.rb_ledger.specs.Seats.{are_tagged, has_seat, HasAll};
+ghost use Rattle.rb_ledger.specs.inner.SeatRoles.{roles_of, HasOwnCounts};
+ghost use Rattle.rb_chapter_ledger.specs.ChapterKnowledge.{ChapterKnowledge, chapter_view, whole_knowledge};
+ghost use Rattle.rb_chapter_ledger.specs.ChapterClosing.{IsClosedByChapters};
+
+use crate::consumer_seat::ConsumerSeat;
+use crate::lock::{JoinRoles, Lock, RingPass, take_out};
+use crate::shared::SharedRing;
+use crate::worker_seat::Seat;
+use rb_chapter::Chapter;
+use rb_chapter_ring::RingState;
+use rb_history::Counts;
+use std::marker::Model;
+use std::sync::Wait;
+
+/// A closed ring, from which its tag, its last chapter, the counts and both positions are read. Contracts see which shared ring it was,
+/// and the ring of one thread that it was at the end.
+#[derive(Drop)]
+pub struct Closing {
+    ring: SharedRing,
+    state: Box<RingState>,
+}
+
+impl Model for Closing {
+    ghost use Rattle.std.specs.Coded.{codes};
+    ghost use Rattle.atomic_table.specs.Seated.{table_id_coded};
+    ghost use Rattle.rb_history.specs.RingModel.{contents_code};
+    ghost use Rattle.rb_history.specs.contracts.entries.Entry as entry;
+    ghost use Rattle.rb_history.specs.contracts.tally.Tally as tally_row;
+    ghost use Rattle.rb_chapter_ledger.specs.ChapterClosing.{ClosedChapterRing};
+
+    ghost Value = { ClosedChapterRing };
+
+    ghost coded = { Prim.hlevel (codes, contents_code, table_id_coded, entry.the_row.coded, tally_row.the_row.coded) };
+
+    ghost view = { λ c. record { shared = c.ring; at_end = c.state.value } };
+}
+
+impl Closing {
+    /// The number of the ring that was closed, as the caller of `open` gave it.
+    pub fn tag(&self) -> u64
+        ensures tag { result ≡ self.now.shared.tag }
+    {
+        self.ring.tag()
+    }
+
+    /// The ring's last chapter. Its own `closing` has the totals: each worker's four, and how many records were consumed and skipped.
+    pub fn chapter(&self) -> &Chapter
+        ensures chapter { result.now ≡ self.now.at_end.chapter }
+    {
+        self.state.chapter()
+    }
+
+    /// The counts of the whole history. Of the refusals it tells 2^64 - 1 at most. In constant time.
+    pub fn counts(&self) -> Counts
+        ensures counts { result ≡ told_counts self.now.at_end }
+    {
+        self.state.as_ref().counts()
+    }
+
+    /// The producer position.
+    pub fn producer(&self) -> u64
+        ensures position { result ≡ producer_now self.now.at_end }
+    {
+        self.chapter().closing().producer()
+    }
+
+    /// The consumer position.
+    pub fn consumer(&self) -> u64
+        ensures position { result ≡ consumer_now self.now.at_end }
+    {
+        self.chapter().closing().consumer()
+    }
+}
+
+/// The ring was not closed, since a seat is missing or is another ring's. All that was handed in is handed back unchanged.
+#[derive(Drop)]
+pub struct NotAll {
+    /// The ring, which goes on.
+    pub ring: SharedRing,
+    /// The seats that were handed in.
+    pub seats: Vec<Seat>,
+    /// The consumer's seat.
+    pub consumer: ConsumerSeat,
+}
+
+// Whether all seats have this tag.
+fn are_all_tagged(seats: &[Seat], tag: u64) -> bool
+    ensures { result ≡ are_tagged tag seats.now }
+{
+    for seat in seats {
+        if seat.tag() != tag {
+            return false;
+        }
+    }
+    true
+}
+
+// Whether the worker has a seat among these.
+fn has_seat_of(seats: &[Seat], worker: u32) -> bool
+    ensures { result ≡ has_seat worker seats.now }
+{
+    for seat in seats {
+        if seat.worker() == worker {
+            return true;
+        }
+    }
+    false
+}
+
+// Whether each worker has a seat among these.
+fn has_all(seats: &[Seat], workers: u32) -> bool
+    ensures { IsTrue result ↔ HasAll workers seats.now }
+{
+    for worker in 0..workers {
+        if !has_seat_of(seats, worker) {
+            return false;
+        }
+    }
+    true
+}
+
+// Takes the seats' roles into the pass.
+fn gather(lock: &Lock, pass: &mut RingPass, mut seats: Vec<Seat>)
+    requires pass { IsPassOf lock.now pass.old }
+    requires seats { All (λ s. s.ring ≡ pass.old.table_id) seats.items }
+    ensures same { IsSamePass pass.old pass.new }
+    ensures knows { (workers : List ChapterKnowledge) × (view pass.new ≡ chapter_view (workers ++ (view pass.old).knows) (view pass.old).out) × (whole_knowledge workers ≡ roles_of seats.items) }
+    ensures ties { All HasOwnCounts seats.items }
+{
+    while let Some(seat) = seats.pop() {
+        let own = seat.into_pass();
+        lock.absorb::<JoinRoles>(pass, own);
+    }
+}
+
+// Takes the state out by a pass that has taken in all roles.
+fn collect<R: Wait>(rt: &R, lock: &Lock, seats: Vec<Seat>, consumer: ConsumerSeat) -> Box<RingState>
+    requires consumer { consumer.ring ≡ lock.now.table.shared.table_id }
+    requires seats { All (λ s. s.ring ≡ consumer.ring) seats.items }
+    requires all { HasAll consumer.seen.setup.workers seats.items }
+    ensures closed { IsClosedByChapters result.value seats.items consumer }
+{
+    let mut pass = consumer.into_pass();
+    gather(lock, &mut pass, seats);
+    take_out(rt, lock, &mut pass)
+}
+
+impl SharedRing {
+    /// Closes this ring, given all its seats and its consumer, and returns it with its last chapter. If a seat is missing, or a seat or
+    /// the consumer is foreign, all of them are handed back.
+    pub fn close<R: Wait>(
+        self,
+        rt: &R,
+        seats: Vec<Seat>,
+        consumer: ConsumerSeat,
+    ) -> Result<Closing, NotAll>
+        requires seats { All (λ s. s.tag ≡ self.tag → s.ring ≡ self.ring) seats.items }
+        requires consumer { consumer.tag ≡ self.tag → consumer.ring ≡ self.ring }
+        ensures all { IsOk result ↔ ((consumer.tag ≡ self.tag) × (are_tagged self.tag seats.items ≡ true) × HasAll consumer.seen.setup.workers seats.items) }
+        ensures back { IfErr result (λ e. (e.ring ≡ self) × (e.seats.items ≡ seats.items) × (e.consumer ≡ consumer)) }
+        ensures which { IfOk result (λ c. c.shared ≡ self) }
+        ensures closed { IfOk result (λ c. IsClosedByChapters c.at_end seats.items consumer) }
+    {
+        if consumer.tag() != self.tag
+            || !are_all_tagged(&seats, self.tag)
+            || !has_all(&seats, consumer.workers())
+        {
+            return Err(NotAll {
+                ring: self,
+                seats,
+                consumer,
+            });
+        }
+        let state = collect(rt, &self.lock, seats, consumer);
+        Ok(Closing { ring: self, state })
+    }
+}

@@ -1,0 +1,163 @@
+//! The consumer's seat at a shared ring over chapters.
+
+ghost use Rattle.std.specs.Prelude.{◌≡◌, [], ◌∷◌, None, length};
+ghost use Rattle.crossbeam_queue.specs.Passes.{view, IsPassOf, IsSamePass};
+ghost use Rattle.rb_ledger.specs.Roles.Role.{Consumer};
+ghost use Rattle.rb_ledger.specs.Seats.{IsBook, ConsumerTies};
+ghost use Rattle.rb_chapter_ledger.specs.ChapterKnowledge.{chapter_view};
+ghost use Rattle.rb_chapter_ledger.specs.ChapterClosing.{consumer_knowledge};
+ghost use Rattle.rb_chapter_ledger.specs.ChapterLockSteps.{first_chapter_role, other_chapter_roles, opening_role};
+ghost use Rattle.rb_chapter_ledger.specs.ChapterSeats.{fresh_chapter_consumer};
+ghost use Rattle.rb_shared_ring.specs.inner.SeatPasses.{seen_by, room_by};
+
+use crate::lock::{Lock, RingPass, SplitFirstRole};
+use std::marker::Model;
+
+/// The consumer's seat at a shared ring: the right to take records and to hand chapters out, and the consumer's numbers. It can't be cloned, so
+/// a ring has one; it may be sent to another thread. Contracts also see the whole history up to the seat's last call, the bytes that it
+/// took, by position, and the chapters that were handed out, oldest first.
+#[derive(Drop)]
+pub struct ConsumerSeat {
+    pub(crate) tag: u64,
+    pub(crate) workers: u32,
+    pub(crate) room: u32,
+    pub(crate) chapters: u64,
+    pub(crate) consumed: u64,
+    pub(crate) skipped: u64,
+    pub(crate) position: u64,
+    pub(crate) pass: RingPass,
+}
+
+impl Model for ConsumerSeat {
+    ghost use Rattle.std.specs.Prelude.{◌≡◌, []};
+    ghost use Rattle.std.specs.Coded.{codes};
+    ghost use Rattle.atomic_table.specs.Seated.{table_id_coded};
+    ghost use Rattle.crossbeam_queue.specs.Passes.{view as known_by};
+    ghost use Rattle.rb_history.specs.RingModel.{contents_code};
+    ghost use Rattle.rb_history.specs.contracts.entries.Entry as entry;
+    ghost use Rattle.rb_history.specs.contracts.tally.Tally as tally_row;
+    ghost use Rattle.rb_chapter_ledger.specs.ChapterSeats.{ChapterConsumerSeat};
+    ghost use Rattle.rb_shared_ring.specs.inner.SeatPasses.{seen_by, bytes_by, room_by, handed_out_by};
+    ghost use Rattle.rb_shared_ring.specs.inner.SeatsKeep.{KeepsConsumer, CountsTakes};
+
+    ghost Value = { ChapterConsumerSeat };
+
+    ghost coded = { Prim.hlevel (codes, contents_code, table_id_coded, entry.the_row.coded, tally_row.the_row.coded) };
+
+    ghost view = { λ s. record {
+      tag = s.tag;
+      ring = s.pass.table_id;
+      room = room_by (known_by s.pass);
+      consumed = s.consumed;
+      skipped = s.skipped;
+      position = s.position;
+      seen = seen_by (known_by s.pass);
+      got = bytes_by (known_by s.pass);
+      handed_out = handed_out_by (known_by s.pass);
+      out = (known_by s.pass).out;
+    } };
+
+    ghost invariant = { λ s. (s.pass.me.1 ≡ []) × KeepsConsumer (known_by s.pass) s.workers s.room s.chapters × CountsTakes (known_by s.pass) s.consumed s.skipped s.position };
+}
+
+impl ConsumerSeat {
+    /// What holds of each consumer's seat: what it has seen is legal, its numbers are those of the takes there, its position is the
+    /// consumer position, and it does not have the ring's state out of the lock.
+    pub fn facts(&self)
+        ensures book { IsBook self.now.seen }
+        ensures ties { ConsumerTies self.now.consumed self.now.skipped self.now.position self.now.seen }
+        ensures released { self.now.out ≡ None }
+    {
+        let _ = &self.tag;
+    }
+
+    /// The number of the ring that the seat was opened with, as its caller gave it.
+    pub fn tag(&self) -> u64
+        ensures tag { result ≡ self.now.tag }
+    {
+        self.tag
+    }
+
+    /// How many entries each chapter of the ring has room for.
+    pub fn room(&self) -> u32
+        ensures room { result ≡ self.now.room }
+    {
+        self.room
+    }
+
+    /// How many workers the ring has.
+    pub fn workers(&self) -> u32
+        ensures workers { result ≡ self.now.seen.setup.workers }
+    {
+        self.workers
+    }
+
+    /// How many chapters were handed out, which is the number of the ring's own.
+    pub fn chapters(&self) -> u64
+        ensures chapters { result ≡ length self.now.handed_out }
+    {
+        self.chapters
+    }
+
+    /// How many events were taken.
+    pub fn consumed(&self) -> u64
+        ensures consumed { result ≡ self.now.consumed }
+    {
+        self.consumed
+    }
+
+    /// How many discarded records were skipped.
+    pub fn skipped(&self) -> u64
+        ensures skipped { result ≡ self.now.skipped }
+    {
+        self.skipped
+    }
+
+    /// The consumer position: the start and the spans of all records that were taken, discarded ones included.
+    pub fn position(&self) -> u64
+        ensures position { result ≡ self.now.position }
+    {
+        self.position
+    }
+
+    // The seat's pass, which is the consumer's role and what it has seen and got.
+    pub(crate) fn into_pass(self) -> RingPass
+        ensures ring { (result.table_id ≡ self.ring) × (result.me.1 ≡ []) }
+        ensures knows { view result ≡ chapter_view (consumer_knowledge self ∷ []) None }
+        ensures ties { ConsumerTies self.consumed self.skipped self.position self.seen }
+    {
+        self.pass
+    }
+}
+
+/// Splits the pass's first role off, as the seat of a consumer that has taken nothing.
+pub(crate) fn new_consumer(
+    lock: &Lock,
+    pass: &mut RingPass,
+    tag: u64,
+    workers: u32,
+    start: u64,
+    room: u32,
+) -> ConsumerSeat
+    requires pass { IsPassOf lock.now pass.old }
+    requires role { first_chapter_role (view pass.old).knows ≡ opening_role Consumer (seen_by (view pass.old)) (room_by (view pass.old)) ∷ [] }
+    requires nothing { (seen_by (view pass.old)).history ≡ [] }
+    requires book { IsBook (seen_by (view pass.old)) }
+    requires workers { (seen_by (view pass.old)).setup.workers ≡ workers }
+    requires start { (seen_by (view pass.old)).setup.start ≡ start }
+    requires room { room_by (view pass.old) ≡ room }
+    ensures same { IsSamePass pass.old pass.new }
+    ensures rest { view pass.new ≡ chapter_view (other_chapter_roles (view pass.old).knows) (view pass.old).out }
+    ensures seat { result ≡ fresh_chapter_consumer tag pass.old.table_id room (seen_by (view pass.old)) }
+{
+    ConsumerSeat {
+        tag,
+        workers,
+        room,
+        chapters: 0,
+        consumed: 0,
+        skipped: 0,
+        position: start,
+        pass: lock.another::<SplitFirstRole>(pass),
+    }
+}

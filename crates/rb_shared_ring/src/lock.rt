@@ -1,0 +1,196 @@
+//! The lock of a shared ring over chapters: a queue of one place, with the ring's state in it, or nothing while a thread has the state.
+//! Each seat has a pass, which is its right to use the lock.
+
+ghost use Rattle.std.specs.Prelude.{◌≡◌, [], Some, None, IfOk};
+ghost use Rattle.std.specs.FinMap.{empty};
+ghost use Rattle.crossbeam_queue.specs.Passes.{view, IsPassOf, IsSamePass, ruled_capacity};
+ghost use Rattle.rb_chapter_ledger.specs.ChapteredRing.{chaptered_ring, IsChapteredRing};
+ghost use Rattle.rb_chapter_ledger.specs.ChapterKnowledge.{chapter_view};
+ghost use Rattle.rb_chapter_ledger.specs.ChapterLockSteps.{TakesChapterState, PutsChapterState, OpensChapterState, MayPutChapter, unopened_chapters};
+
+use crossbeam_queue::protocol::{Join, Lesson, Outcome, Protocol, Split};
+use crossbeam_queue::{Pass, RuledArrayQueue};
+use rb_chapter_ring::RingState;
+use rb_ledger::WaitBackoff;
+use std::alloc::{AllocError, Global};
+use std::marker::Model;
+use std::sync::Wait;
+
+/// What a pass knows: its roles, and the state while it has it out. It exists in proofs alone; no value of it is made.
+pub struct PassKnowledge;
+
+impl Model for PassKnowledge {
+    ghost use Rattle.std.specs.Coded.{codes};
+    ghost use Rattle.std.specs.Prelude.{None, []};
+    ghost use Rattle.rb_history.specs.RingModel.{contents_code};
+    ghost use Rattle.rb_history.specs.contracts.entries.Entry as entry;
+    ghost use Rattle.rb_history.specs.contracts.tally.Tally as tally_row;
+    ghost use Rattle.rb_chapter_ledger.specs.ChapterKnowledge.{ChapterPassView, chapter_view};
+
+    ghost Value = { ChapterPassView };
+
+    ghost coded = { Prim.hlevel (codes, contents_code, entry.the_row.coded, tally_row.the_row.coded) };
+
+    ghost view = { λ k. chapter_view [] None };
+}
+
+/// A ring's state while it is in the lock. It is on the heap, so that taking it out and putting it back moves a pointer.
+#[derive(Drop)]
+pub struct LockedState {
+    ring: Box<RingState>,
+}
+
+impl Model for LockedState {
+    ghost use Rattle.std.specs.Coded.{codes};
+    ghost use Rattle.rb_history.specs.RingModel.{contents_code};
+    ghost use Rattle.rb_history.specs.contracts.entries.Entry as entry;
+    ghost use Rattle.rb_history.specs.contracts.tally.Tally as tally_row;
+    ghost use Rattle.rb_chapter.specs.ChapterRing.{ChapterRing};
+
+    ghost Value = { ChapterRing };
+
+    ghost coded = { Prim.hlevel (codes, contents_code, entry.the_row.coded, tally_row.the_row.coded) };
+
+    ghost view = { λ r. r.ring.value };
+}
+
+/// The lock's rule over chapters, which each step of each thread keeps.
+pub struct LockRule;
+
+impl Protocol<LockedState, PassKnowledge> for LockRule {
+    ghost use Rattle.std.specs.Prelude.{[], Some};
+    ghost use Rattle.rb_chapter_ledger.specs.ChapterKnowledge.{chapter_view};
+    ghost use Rattle.rb_chapter_ledger.specs.ChapterLockRule.{KeepsChapterLockRule};
+    ghost use Rattle.rb_chapter_ledger.specs.ChapterLockSteps.{unopened_chapters};
+
+    ghost holds = { KeepsChapterLockRule };
+
+    ghost first = { chapter_view [] (Some unopened_chapters) };
+}
+
+// The step in which a pass takes the state out.
+struct TakeOut;
+
+impl Outcome<LockedState, PassKnowledge> for TakeOut {
+    ghost use Rattle.rb_chapter_ledger.specs.ChapterLockSteps.{TakesChapterState};
+
+    ghost then = { TakesChapterState };
+}
+
+impl Lesson<LockedState, PassKnowledge> for TakeOut {
+    ghost fact = { λ v items. Unit {0} };
+}
+
+// The step in which a pass puts the state back after a call.
+struct PutBack;
+
+impl Outcome<LockedState, PassKnowledge> for PutBack {
+    ghost use Rattle.rb_chapter_ledger.specs.ChapterLockSteps.{PutsChapterState};
+
+    ghost then = { PutsChapterState };
+}
+
+impl Lesson<LockedState, PassKnowledge> for PutBack {
+    ghost use Rattle.std.specs.Prelude.{◌≡◌, []};
+
+    ghost fact = { λ v items. items ≡ [] };
+}
+
+// The step in which the opening pass puts the first state in.
+struct PutFirst;
+
+impl Outcome<LockedState, PassKnowledge> for PutFirst {
+    ghost use Rattle.rb_chapter_ledger.specs.ChapterLockSteps.{OpensChapterState};
+
+    ghost then = { OpensChapterState };
+}
+
+impl Lesson<LockedState, PassKnowledge> for PutFirst {
+    ghost use Rattle.std.specs.Prelude.{◌≡◌, []};
+
+    ghost fact = { λ v items. items ≡ [] };
+}
+
+/// Splits a pass's first role off, as a pass of its own.
+pub struct SplitFirstRole;
+
+impl Split<PassKnowledge> for SplitFirstRole {
+    ghost use Rattle.std.specs.Prelude.{None};
+    ghost use Rattle.rb_chapter_ledger.specs.ChapterKnowledge.{chapter_view};
+    ghost use Rattle.rb_chapter_ledger.specs.ChapterLockSteps.{first_chapter_role, other_chapter_roles};
+
+    ghost left = { λ v. chapter_view (other_chapter_roles v.knows) v.out };
+
+    ghost right = { λ v. chapter_view (first_chapter_role v.knows) None };
+}
+
+/// Joins another pass's roles to a pass's own, in front of them.
+pub struct JoinRoles;
+
+impl Join<PassKnowledge> for JoinRoles {
+    ghost use Rattle.std.specs.Prelude.{None, [], ◌++◌};
+    ghost use Rattle.rb_chapter_ledger.specs.ChapterKnowledge.{chapter_view};
+
+    ghost both = { λ v w. chapter_view (w.knows ++ v.knows) v.out };
+
+    ghost spent = { chapter_view [] None };
+}
+
+/// A seat's right to use the lock, and what it has seen and sent or got.
+pub type RingPass = Pass<LockedState, PassKnowledge>;
+
+/// The queue of one place that holds a ring's state.
+pub type Lock = RuledArrayQueue<LockedState, PassKnowledge, LockRule>;
+
+/// A lock without a state, and the pass that puts the first one in.
+pub(crate) fn new_lock(alloc: Global) -> Result<(Lock, RingPass), AllocError>
+    ensures capacity { IfOk result (λ l. ruled_capacity l.0 ≡ 1) }
+    ensures pass { IfOk result (λ l. IsPassOf l.0 l.1) }
+    ensures unopened { IfOk result (λ l. view l.1 ≡ chapter_view [] (Some unopened_chapters)) }
+{
+    Lock::ruled(alloc, 1)
+}
+
+/// Takes the state out, once it is there. A thread that finds the queue empty waits, for longer each time, and looks again.
+pub(crate) fn take_out<R: Wait>(rt: &R, lock: &Lock, pass: &mut RingPass) -> Box<RingState>
+    requires pass { IsPassOf lock.now pass.old }
+    requires free { (view pass.old).out ≡ None }
+    ensures same { IsSamePass pass.old pass.new }
+    ensures took { TakesChapterState (view pass.old) result.value (view pass.new) }
+{
+    let mut wait_backoff = WaitBackoff::new();
+    for _ in rt.forever() {
+        if let Some(state) = lock.pop_as::<TakeOut, R>(rt, pass) {
+            return state.ring;
+        }
+        wait_backoff.wait();
+    }
+    unreachable!()
+}
+
+/// Puts the state back, after a call of the pass's one role.
+pub(crate) fn put_back<R: Wait>(rt: &R, lock: &Lock, pass: &mut RingPass, state: Box<RingState>)
+    requires pass { IsPassOf lock.now pass.old × (ruled_capacity lock.now ≡ 1) }
+    requires step { MayPutChapter (view pass.old) state.value }
+    ensures same { IsSamePass pass.old pass.new }
+    ensures put { PutsChapterState (view pass.old) state.value (view pass.new) }
+{
+    let resting = LockedState { ring: state };
+    if lock.push_as::<PutBack, R>(rt, pass, resting).is_err() {
+        unreachable!()
+    }
+}
+
+/// Puts the first state in. From then on the pass has the roles of the consumer and of all workers.
+pub(crate) fn put_first<R: Wait>(rt: &R, lock: &Lock, pass: &mut RingPass, state: Box<RingState>)
+    requires pass { IsPassOf lock.now pass.old × (ruled_capacity lock.now ≡ 1) }
+    requires unopened { view pass.old ≡ chapter_view [] (Some unopened_chapters) }
+    requires opened { IsChapteredRing (chaptered_ring [] state.value) × (state.value.contents ≡ empty) }
+    ensures same { IsSamePass pass.old pass.new }
+    ensures put { OpensChapterState (view pass.old) state.value (view pass.new) }
+{
+    let resting = LockedState { ring: state };
+    if lock.push_as::<PutFirst, R>(rt, pass, resting).is_err() {
+        unreachable!()
+    }
+}

@@ -1,0 +1,56 @@
+//! A shared ring over chapters is opened, with a seat for each worker and one for the consumer.
+
+ghost use Rattle.std.specs.Prelude.{◌≡◌, ◌↔◌, IfOk, IsErrOf};
+ghost use Rattle.rb_history.specs.RingModel.{IsRingSize, IsStartPosition, IsWorkerCount};
+ghost use Rattle.rb_chapter.specs.Chapters.{IsChapterRoom};
+ghost use Rattle.rb_ledger.specs.Seats.{fresh_book, fresh_seats};
+ghost use Rattle.rb_chapter_ledger.specs.ChapterSeats.{fresh_chapter_consumer};
+
+use crate::consumer_seat::{ConsumerSeat, new_consumer};
+use crate::lock::{new_lock, put_first};
+use crate::locked_calls::facts_of;
+use crate::shared::SharedRing;
+use crate::worker_seat::{Seat, new_seat};
+use rb_chapter_ring::{OpenFault, RingState};
+use std::alloc::Global;
+use std::sync::Wait;
+
+/// A shared ring for 1 to 256 workers, with a seat for each, in the order of their numbers, and the consumer's. Each chapter of its history has
+/// room for `room` entries, 8 to 1,048,576. The tag is the caller's number for the ring, and all seats have it. Of the `OpenFault`s that
+/// apply the first is returned; `Memory` is the last. It takes all memory that the ring and its seats will ever need.
+pub fn open<R: Wait>(
+    rt: &R,
+    alloc: Global,
+    tag: u64,
+    size: u64,
+    start: u64,
+    workers: u32,
+    room: u32,
+) -> Result<(SharedRing, Vec<Seat>, ConsumerSeat), OpenFault>
+    ensures tag { IfOk result (λ o. o.0.tag ≡ tag) }
+    ensures seats { IfOk result (λ o. o.1.items ≡ fresh_seats tag o.0.ring (fresh_book size start workers) 0 workers) }
+    ensures consumer { IfOk result (λ o. o.2 ≡ fresh_chapter_consumer tag o.0.ring room (fresh_book size start workers)) }
+    ensures size { IsErrOf result OpenFault.Size ↔ ¬ IsRingSize size }
+    ensures start { IsErrOf result OpenFault.Start ↔ (IsRingSize size × ¬ IsStartPosition start) }
+    ensures workers { IsErrOf result OpenFault.Workers ↔ (IsRingSize size × IsStartPosition start × ¬ IsWorkerCount workers) }
+    ensures chapter { IsErrOf result OpenFault.Chapter ↔ (IsRingSize size × IsStartPosition start × IsWorkerCount workers × ¬ IsChapterRoom room) }
+{
+    let state = RingState::new(alloc, size, start, workers, room)?;
+    facts_of(&state);
+    let Ok((lock, mut pass)) = new_lock(alloc) else {
+        return Err(OpenFault::Memory);
+    };
+    let Ok(state) = Box::new(alloc, state) else {
+        return Err(OpenFault::Memory);
+    };
+    put_first(rt, &lock, &mut pass, state);
+    let consumer = new_consumer(&lock, &mut pass, tag, workers, start, room);
+    let mut seats = Vec::new(alloc);
+    for worker in 0..workers {
+        let seat = new_seat(&lock, &mut pass, tag, worker);
+        let Ok(()) = seats.push(seat) else {
+            return Err(OpenFault::Memory);
+        };
+    }
+    Ok((SharedRing { tag, lock }, seats, consumer))
+}

@@ -1,0 +1,205 @@
+//! The consumer takes records, one or many.
+
+ghost use Rattle.std.specs.Prelude.{◌≡◌, ◌≢◌, ◌+◌, ◌<◌, ◌≤◌, ◌^◌, ◌↔◌, ◌++◌, IfOk, OnOk, IsErr, None, length, vec_len, vec_capacity};
+ghost use Rattle.crossbeam_queue.specs.Passes.{view, IsPassOf, IsSamePass, ruled_capacity};
+ghost use Rattle.rb_history.specs.ManyTakes.{pushed};
+ghost use Rattle.rb_chapter_ring.specs.ManyTakes.{TakesManyInChapter};
+ghost use Rattle.rb_ledger.specs.Roles.Role.{Consumer};
+ghost use Rattle.rb_ledger.specs.LockedCalls.{got_by, events_in, skips_in, span_in, IsTakenAt};
+ghost use Rattle.rb_ledger.specs.ManyTakes.{events_among, skips_among, span_among, AreTakenFrom, got_by_all};
+ghost use Rattle.rb_chapter_ledger.specs.LockedChapterCalls.{LockedChapterCall, InKnownChapter, TakesInChapter};
+ghost use Rattle.rb_shared_ring.specs.SharedSeats.{IsSameChapterConsumer};
+ghost use Rattle.rb_shared_ring.specs.inner.SeatPasses.{seen_by, bytes_by, room_by, handed_out_by, IsIdleIn};
+
+use crate::consumer_seat::ConsumerSeat;
+use crate::lock::{Lock, RingPass, put_back, take_out};
+use crate::locked_calls::{facts_of, with_state};
+use crate::shared::SharedRing;
+use rb_header::span;
+use rb_history::Taken;
+use rb_ledger::Foreign;
+use std::sync::Wait;
+
+// `RingState::take`, for the consumer.
+fn take_with<R: Wait>(rt: &R, lock: &Lock, pass: &mut RingPass) -> Taken
+    requires pass { IsPassOf lock.now pass.old × (ruled_capacity lock.now ≡ 1) }
+    requires idle { IsIdleIn Consumer (view pass.old) }
+    ensures same { IsSamePass pass.old pass.new }
+    ensures idle { IsIdleIn Consumer (view pass.new) }
+    ensures call { LockedChapterCall Consumer (seen_by (view pass.old)) (seen_by (view pass.new)) (InKnownChapter (handed_out_by (view pass.old)) (TakesInChapter result)) }
+    ensures bytes { bytes_by (view pass.new) ≡ got_by (bytes_by (view pass.old)) result }
+    ensures room { room_by (view pass.new) ≡ room_by (view pass.old) }
+    ensures chapters { handed_out_by (view pass.new) ≡ handed_out_by (view pass.old) }
+{
+    with_state(
+        rt,
+        lock,
+        pass,
+        |state|
+            ensures call { TakesInChapter result state.old state.new }
+        { state.take() },
+    )
+}
+
+// `RingState::take_many`, for the consumer. The lock is held for all of its takes, and for nothing else.
+fn take_many_with<R: Wait>(
+    rt: &R,
+    lock: &Lock,
+    pass: &mut RingPass,
+    n: usize,
+    out: &mut Vec<Taken>,
+) -> usize
+    requires pass { IsPassOf lock.now pass.old × (ruled_capacity lock.now ≡ 1) }
+    requires idle { IsIdleIn Consumer (view pass.old) }
+    requires room { vec_len out.old + n ≤ vec_capacity out.old }
+    ensures same { IsSamePass pass.old pass.new }
+    ensures idle { IsIdleIn Consumer (view pass.new) }
+    ensures call { LockedChapterCall Consumer (seen_by (view pass.old)) (seen_by (view pass.new)) (InKnownChapter (handed_out_by (view pass.old)) (TakesManyInChapter n (pushed out.old.items out.new.items))) }
+    ensures bytes { bytes_by (view pass.new) ≡ got_by_all (bytes_by (view pass.old)) (pushed out.old.items out.new.items) }
+    ensures room { room_by (view pass.new) ≡ room_by (view pass.old) }
+    ensures chapters { handed_out_by (view pass.new) ≡ handed_out_by (view pass.old) }
+    ensures kept { out.new.items ≡ out.old.items ++ pushed out.old.items out.new.items }
+    ensures count { result ≡ length (pushed out.old.items out.new.items) }
+    ensures capacity { vec_capacity out.new ≡ vec_capacity out.old }
+{
+    let mut held = take_out(rt, lock, pass);
+    let state = held.as_mut();
+    let count = state.take_many(n, out);
+    facts_of(state);
+    put_back(rt, lock, pass, held);
+    count
+}
+
+impl SharedRing {
+    /// Takes the record at the consumer position: returns a submitted one with its bytes, and skips a discarded one; both raise a count of
+    /// the seat and move its position. A busy record stops it, whatever is behind.
+    pub fn take<R: Wait>(&self, rt: &R, me: &mut ConsumerSeat) -> Result<Taken, Foreign>
+        requires ring { me.old.tag ≡ self.now.tag → me.old.ring ≡ self.now.ring }
+        ensures foreign { IsErr result ↔ (me.old.tag ≢ self.now.tag) }
+        ensures unchanged { me.old.tag ≢ self.now.tag → me.new ≡ me.old }
+        ensures seat { IsSameChapterConsumer me.old me.new }
+        ensures chapters { me.new.handed_out ≡ me.old.handed_out }
+        ensures released { (me.old.out ≡ None) × (me.new.out ≡ None) }
+        ensures call { IfOk result (λ t. LockedChapterCall Consumer me.old.seen me.new.seen (InKnownChapter me.old.handed_out (TakesInChapter t))) }
+        ensures place { IfOk result (λ t. IsTakenAt me.old.position t) }
+        ensures position { IfOk result (λ t. me.new.position ≡ me.old.position + span_in t) }
+        ensures consumed { IfOk result (λ t. me.new.consumed ≡ me.old.consumed + events_in t) }
+        ensures skipped { IfOk result (λ t. me.new.skipped ≡ me.old.skipped + skips_in t) }
+        ensures got { IfOk result (λ t. me.new.got ≡ got_by me.old.got t) }
+    {
+        if me.tag != self.tag {
+            return Err(Foreign);
+        }
+        let answer = take_with(rt, &self.lock, &mut me.pass);
+        me.consumed += events(&answer);
+        me.skipped += skips(&answer);
+        me.position += span_taken(&answer);
+        Ok(answer)
+    }
+
+    /// Takes up to `n` records, as so many calls of `take` with nothing between them, pushes each that was handed out or skipped onto
+    /// `out`, and returns how many they are. It stops before the first take that finds a busy record or none. The lock is held once, for
+    /// these takes alone, each of which takes constant time; no memory is taken. `Foreign` comes first, and leaves `out` as it was.
+    /// (Linux Documentation/bpf/ringbuf.rst: records are consumed in the order of their reservation.)
+    pub fn take_many<R: Wait>(
+        &self,
+        rt: &R,
+        me: &mut ConsumerSeat,
+        n: usize,
+        out: &mut Vec<Taken>,
+    ) -> Result<usize, Foreign>
+        requires ring { me.old.tag ≡ self.now.tag → me.old.ring ≡ self.now.ring }
+        requires room { vec_len out.old + n ≤ vec_capacity out.old }
+        ensures foreign { IsErr result ↔ (me.old.tag ≢ self.now.tag) }
+        ensures unchanged { me.old.tag ≢ self.now.tag → me.new ≡ me.old }
+        ensures none_pushed { me.old.tag ≢ self.now.tag → out.new ≡ out.old }
+        ensures seat { IsSameChapterConsumer me.old me.new }
+        ensures chapters { me.new.handed_out ≡ me.old.handed_out }
+        ensures released { (me.old.out ≡ None) × (me.new.out ≡ None) }
+        ensures kept { out.new.items ≡ out.old.items ++ pushed out.old.items out.new.items }
+        ensures capacity { vec_capacity out.new ≡ vec_capacity out.old }
+        ensures count { IfOk result (λ count. count ≡ length (pushed out.old.items out.new.items)) }
+        ensures call { OnOk result (LockedChapterCall Consumer me.old.seen me.new.seen (InKnownChapter me.old.handed_out (TakesManyInChapter n (pushed out.old.items out.new.items)))) }
+        ensures place { OnOk result (AreTakenFrom me.old.position (pushed out.old.items out.new.items)) }
+        ensures position { OnOk result (me.new.position ≡ me.old.position + span_among (pushed out.old.items out.new.items)) }
+        ensures consumed { OnOk result (me.new.consumed ≡ me.old.consumed + events_among (pushed out.old.items out.new.items)) }
+        ensures skipped { OnOk result (me.new.skipped ≡ me.old.skipped + skips_among (pushed out.old.items out.new.items)) }
+        ensures got { OnOk result (me.new.got ≡ got_by_all me.old.got (pushed out.old.items out.new.items)) }
+    {
+        if me.tag != self.tag {
+            return Err(Foreign);
+        }
+        let before = out.len();
+        let count = take_many_with(rt, &self.lock, &mut me.pass, n, out);
+        let moves = moves_of(&out[before..]);
+        let Moves {
+            events,
+            skips,
+            span,
+        } = moves;
+        me.consumed += events;
+        me.skipped += skips;
+        me.position += span;
+        Ok(count)
+    }
+}
+
+// What some takes add to the consumer's numbers.
+struct Moves {
+    events: u64,
+    skips: u64,
+    span: u64,
+}
+
+// What these answers of `take` add.
+fn moves_of(answers: &[Taken]) -> Moves
+    requires events { events_among answers.now < 2 ^ 64 }
+    requires skips { skips_among answers.now < 2 ^ 64 }
+    requires span { span_among answers.now < 2 ^ 64 }
+    ensures events { result.events ≡ events_among answers.now }
+    ensures skips { result.skips ≡ skips_among answers.now }
+    ensures span { result.span ≡ span_among answers.now }
+{
+    let mut moves = Moves {
+        events: 0,
+        skips: 0,
+        span: 0,
+    };
+    for answer in answers {
+        moves.events += events(answer);
+        moves.skips += skips(answer);
+        moves.span += span_taken(answer);
+    }
+    moves
+}
+
+// How many events an answer of `take` is.
+fn events(answer: &Taken) -> u64
+    ensures events { result ≡ events_in answer.now }
+{
+    match answer {
+        Taken::Event(_, _, _, _) => 1,
+        _ => 0,
+    }
+}
+
+// How many records an answer of `take` passed over.
+fn skips(answer: &Taken) -> u64
+    ensures skips { result ≡ skips_in answer.now }
+{
+    match answer {
+        Taken::Skipped(_, _) => 1,
+        _ => 0,
+    }
+}
+
+// How far an answer of `take` moves the consumer position.
+fn span_taken(answer: &Taken) -> u64
+    ensures span { result ≡ span_in answer.now }
+{
+    match answer {
+        Taken::Event(_, _, _, sheet) => span(sheet.len()),
+        Taken::Skipped(_, n) => span(*n),
+        _ => 0,
+    }
+}

@@ -1,0 +1,87 @@
+//! What an answer adds to a seat's numbers.
+
+ghost use Rattle.std.specs.Prelude.{◌≡◌, ◌<◌, ◌≤◌, ◌^◌};
+ghost use Rattle.rb_chapter_ring.specs.declared.faults.ReserveFault.TheVariants.{Full as FaultFull};
+ghost use Rattle.rb_ledger.specs.LockedCalls.{submitted_by, discarded_by};
+ghost use Rattle.rb_shared_ring.specs.SharedCalls.{IsRefusedInChapterAs, refused_in_chapter_by, reserved_in_chapter_by, output_in_chapter_by};
+
+use rb_chapter_ring::ReserveFault;
+use rb_history::{Notice, Reservation, Stray, Tally};
+use rb_lend::Sheet;
+
+// After a refusal.
+fn after_fault(tally: Tally, fault: ReserveFault) -> Tally
+    requires fits { fault ≡ FaultFull → tally.refused < 2 ^ 62 }
+    ensures counted { result ≡ refused_in_chapter_by tally fault }
+{
+    match fault {
+        ReserveFault::Full => Tally {
+            refused: tally.refused + 1,
+            ..tally
+        },
+        _ => tally,
+    }
+}
+
+/// After a reservation that was answered so.
+pub(crate) fn after_reserve(
+    tally: Tally,
+    answer: &Result<Reservation, (ReserveFault, Sheet)>,
+) -> Tally
+    requires made { tally.made ≤ 2 ^ 62 }
+    requires refused { IsRefusedInChapterAs FaultFull answer.now → tally.refused < 2 ^ 62 }
+    ensures counted { result ≡ reserved_in_chapter_by tally answer.now }
+{
+    match answer {
+        Ok(_) => Tally {
+            made: tally.made + 1,
+            ..tally
+        },
+        Err(refused) => after_fault(tally, refused.0),
+    }
+}
+
+/// After an output that was answered so.
+pub(crate) fn after_output(tally: Tally, answer: &Result<Notice, (ReserveFault, Sheet)>) -> Tally
+    requires made { tally.made ≤ 2 ^ 62 }
+    requires submitted { tally.submitted ≤ 2 ^ 62 }
+    requires refused { IsRefusedInChapterAs FaultFull answer.now → tally.refused < 2 ^ 62 }
+    ensures counted { result ≡ output_in_chapter_by tally answer.now }
+{
+    match answer {
+        Ok(_) => Tally {
+            made: tally.made + 1,
+            submitted: tally.submitted + 1,
+            ..tally
+        },
+        Err(refused) => after_fault(tally, refused.0),
+    }
+}
+
+/// After a submit that was answered so.
+pub(crate) fn after_submit(tally: Tally, answer: &Result<Notice, Stray>) -> Tally
+    requires submitted { tally.submitted ≤ 2 ^ 62 }
+    ensures counted { result ≡ submitted_by tally answer.now }
+{
+    match answer {
+        Ok(_) => Tally {
+            submitted: tally.submitted + 1,
+            ..tally
+        },
+        Err(_) => tally,
+    }
+}
+
+/// After a discard that was answered so.
+pub(crate) fn after_discard(tally: Tally, answer: &Result<Notice, Stray>) -> Tally
+    requires discarded { tally.discarded ≤ 2 ^ 62 }
+    ensures counted { result ≡ discarded_by tally answer.now }
+{
+    match answer {
+        Ok(_) => Tally {
+            discarded: tally.discarded + 1,
+            ..tally
+        },
+        Err(_) => tally,
+    }
+}

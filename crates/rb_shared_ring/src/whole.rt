@@ -1,0 +1,93 @@
+//! A closed ring and its chapters are bound to the whole history.
+
+ghost use Rattle.std.specs.Prelude.{◌≡◌, ◌↔◌, ◌++◌, ◌∷◌, [], List, IfOk, IfErr};
+ghost use Rattle.rb_chapter.specs.Chapters.{Chapter};
+ghost use Rattle.rb_chapter.specs.WholeHistory.{IsBound};
+ghost use Rattle.rb_chapter_ledger.specs.ChapterClosing.{AreNumberedFrom, AreOpenedInTurn};
+ghost use Rattle.rb_shared_ring.specs.BoundSeats.{IsNotBound, TiesAllSeats, GathersAllSeats};
+
+use crate::closing::Closing;
+use rb_chapter::Chapter;
+use rb_chapter_ledger::{BindFault, bind_chapters};
+use rb_history::Entry;
+use std::alloc::Global;
+use std::marker::Model;
+
+/// A closed ring with its whole history: the entries of all chapters, joined.
+#[derive(Drop)]
+pub struct Whole {
+    closing: Closing,
+    history: Vec<Entry>,
+}
+
+impl Model for Whole {
+    ghost use Rattle.std.specs.Prelude.{List};
+    ghost use Rattle.std.specs.Coded.{codes};
+    ghost use Rattle.atomic_table.specs.Seated.{table_id_coded};
+    ghost use Rattle.rb_history.specs.RingModel.{contents_code};
+    ghost use Rattle.rb_history.specs.contracts.entries.Entry as entry;
+    ghost use Rattle.rb_history.specs.contracts.tally.Tally as tally_row;
+    ghost use Rattle.rb_chapter.specs.Chapters.{Chapter};
+    ghost use Rattle.rb_chapter.specs.WholeHistory.{IsBound};
+    ghost use Rattle.rb_chapter_ledger.specs.ChapterClosing.{BoundRing};
+
+    ghost Value = { BoundRing };
+
+    ghost coded = { Prim.hlevel (codes, contents_code, table_id_coded, entry.the_row.coded, tally_row.the_row.coded) };
+
+    ghost view = { λ w. record { closed = w.closing; history = w.history.items } };
+
+    ghost invariant = { λ w. (chapters : List Chapter) × IsBound chapters w.closing.at_end.chapter w.history.items };
+}
+
+impl Whole {
+    /// What holds of each whole history: it has the entries of some chapters and then those of the last one, is legal, and is what the last
+    /// chapter stands for.
+    pub fn facts(&self)
+        ensures bound { (chapters : List Chapter) × IsBound chapters self.now.closed.at_end.chapter self.now.history }
+    {
+        let _ = &self.history;
+    }
+
+    /// The closed ring, with its last chapter.
+    pub fn closing(&self) -> &Closing
+        ensures closed { result.now ≡ self.now.closed }
+    {
+        &self.closing
+    }
+
+    /// The whole history, oldest entry first.
+    pub fn history(&self) -> &[Entry]
+        ensures entries { result.now ≡ self.now.history }
+    {
+        self.history.as_slice()
+    }
+}
+
+impl Closing {
+    /// Joins the entries of chapters and of the ring's last one, behind them, to the whole history. Of the faults that apply the first is
+    /// returned, and all is handed back. Whatever chapters were bound, all seats with which the ring was closed tie to the history; where
+    /// they are those that the ring handed out, it is the ring's whole history, and all are gathered. In time linear in the entries, and in
+    /// each chapter's untaken records and workers.
+    pub fn bind(
+        self,
+        alloc: Global,
+        chapters: Vec<Chapter>,
+    ) -> Result<Whole, (BindFault, Closing, Vec<Chapter>)>
+        ensures number { IsNotBound BindFault.Number result ↔ ¬ AreNumberedFrom 0 (chapters.items ++ self.at_end.chapter ∷ []) }
+        ensures opening { IsNotBound BindFault.Opening result ↔ (AreNumberedFrom 0 (chapters.items ++ self.at_end.chapter ∷ []) × ¬ AreOpenedInTurn (chapters.items ++ self.at_end.chapter ∷ [])) }
+        ensures handed_back { IfErr result (λ e. (e.1 ≡ self) × (e.2.items ≡ chapters.items)) }
+        ensures closed { IfOk result (λ w. w.closed ≡ self) }
+        ensures bound { IfOk result (λ w. IsBound chapters.items self.at_end.chapter w.history) }
+        ensures tied { IfOk result (λ w. TiesAllSeats self.at_end w.history) }
+        ensures gathered { IfOk result (λ w. GathersAllSeats self.at_end chapters.items w.history) }
+    {
+        match bind_chapters(alloc, &chapters, self.chapter()) {
+            Ok(history) => Ok(Whole {
+                closing: self,
+                history,
+            }),
+            Err(fault) => Err((fault, self, chapters)),
+        }
+    }
+}
