@@ -172,6 +172,16 @@ fn places_after_a_step(rt: HostRuntime) {
     }
 }
 
+/// What an output of so many bytes at this offset of the stack is refused for.
+fn output_fault(rt: &impl Abort, alloc: Global, offset: i64, size: u64) -> Option<StepFault> {
+    let mut state = keeping(rt, alloc);
+    state.values[1] = Abs::Ring(0);
+    state.values[2] = Abs::Stack(offset);
+    state.values[3] = Abs::Known(size);
+    state.values[4] = Abs::Number;
+    step(ENVIRONMENT, UNIT, &Insn::Call { helper: 130 }, &state).err()
+}
+
 #[test]
 fn an_output_hands_over_data(rt: HostRuntime) {
     const ROWS: [(i64, u64, Option<StepFault>); 6] = [
@@ -182,14 +192,12 @@ fn an_output_hands_over_data(rt: HostRuntime) {
         (-8, 0, None),
         (-512, 512, Some(StepFault::Rule(Rule::Unreadable))),
     ];
-    let mut state = keeping(&rt, rt.alloc());
-    state.values[1] = Abs::Ring(0);
-    state.values[4] = Abs::Number;
     for (offset, size, fault) in ROWS {
-        state.values[2] = Abs::Stack(offset);
-        state.values[3] = Abs::Known(size);
-        let answer = step(ENVIRONMENT, UNIT, &Insn::Call { helper: 130 }, &state);
-        assert_eq!(rt; answer.err(), fault, "{offset} {size}");
+        assert_eq!(rt;
+            output_fault(&rt, rt.alloc(), offset, size),
+            fault,
+            "{offset} {size}"
+        );
     }
 }
 
