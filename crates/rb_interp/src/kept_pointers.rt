@@ -3,7 +3,7 @@
 ghost use Rattle.std.specs.Prelude.{◌≡◌, ◌<◌, length, filter, IfSome, IfNone, false, true, slice_index_or};
 ghost use Rattle.rb_refs.specs.StackPlaces.{touches};
 ghost use Rattle.rb_semantics.specs.StackPointers.{is_pointer_among, pointer_at};
-ghost use Rattle.rb_interp.specs.inner.KeptPointers.{pointers_of, entry_left, beginning_at};
+ghost use Rattle.rb_interp.specs.inner.KeptPointers.{pointers_of, entry_left};
 
 use arrayvec::ArrayVec;
 use rb_semantics::{MemoryRegion, Value};
@@ -26,21 +26,20 @@ impl Default for KeptPointer {
 }
 
 /// The pointers on the stack, at most one at each of its 64 places. Contracts see them under their places, the newest first.
-/// The entries are made at the first store of a pointer, so that a program which stores none pays for none.
 #[derive(Drop)]
 pub(crate) struct KeptPointers {
-    entries: Option<ArrayVec<KeptPointer, 64>>,
+    entries: ArrayVec<KeptPointer, 64>,
 }
 
 impl Model for KeptPointers {
     ghost use Rattle.rb_semantics.specs.StackPointers.{StackPointers};
-    ghost use Rattle.rb_interp.specs.inner.KeptPointers.{pointers_in, AreAtPlaces};
+    ghost use Rattle.rb_interp.specs.inner.KeptPointers.{pointers_of, AreAtPlaces};
 
     ghost Value = { StackPointers };
 
-    ghost view = { λ k. pointers_in k.entries };
+    ghost view = { λ k. pointers_of k.entries.items };
 
-    ghost invariant = { λ k. AreAtPlaces 64 (pointers_in k.entries) };
+    ghost invariant = { λ k. AreAtPlaces 64 (pointers_of k.entries.items) };
 }
 
 /// Whether a place has one of the `len` bytes from byte `at` on.
@@ -85,16 +84,6 @@ fn kept_at(entries: &[KeptPointer], place: usize) -> Option<Value>
     None
 }
 
-/// What the entries keep at the place that begins at a byte of the stack, where one does.
-fn kept_from(entries: &[KeptPointer], byte: i64) -> Option<Value>
-    ensures { result ≡ beginning_at byte (pointers_of entries.now) }
-{
-    if byte < 0 || byte % 8 != 0 {
-        return None;
-    }
-    kept_at(entries, (byte / 8) as usize)
-}
-
 impl KeptPointers {
     ghost use Rattle.std.specs.Prelude.{◌≡◌, ◌<◌, [], ◌∷◌, None};
     ghost use Rattle.rb_semantics.specs.StackPointers.{pointer_at};
@@ -104,7 +93,9 @@ impl KeptPointers {
     pub(crate) fn new() -> KeptPointers
         ensures { result ≡ [] }
     {
-        KeptPointers { entries: None }
+        KeptPointers {
+            entries: ArrayVec::new(),
+        }
     }
 
     /// The pointer at the place that begins at a byte of the stack, where one does.
@@ -112,10 +103,10 @@ impl KeptPointers {
     pub(crate) fn beginning(&self, byte: i64) -> Option<Value>
         ensures { result ≡ beginning_at byte self.now }
     {
-        match &self.entries {
-            None => None,
-            Some(entries) => kept_from(entries.as_slice(), byte),
+        if self.entries.is_empty() || byte < 0 || byte % 8 != 0 {
+            return None;
         }
+        kept_at(self.entries.as_slice(), (byte / 8) as usize)
     }
 
     /// The `len` bytes from byte `at` of a part on are written: no place of the stack that has one of them has a pointer then.
@@ -124,10 +115,7 @@ impl KeptPointers {
         ensures { self.new ≡ pointers_written part at len self.old }
     {
         match part {
-            MemoryRegion::Stack => match &mut self.entries {
-                None => {}
-                Some(entries) => remove_touched(entries, at, len),
-            },
+            MemoryRegion::Stack => remove_touched(&mut self.entries, at, len),
             MemoryRegion::Context => {}
             MemoryRegion::Record(_) => {}
         }
@@ -139,12 +127,6 @@ impl KeptPointers {
         requires empty { pointer_at place self.old ≡ None }
         ensures { self.new ≡ (place, value) ∷ self.old }
     {
-        if self.entries.is_none() {
-            self.entries = Some(ArrayVec::new());
-        }
-        match &mut self.entries {
-            Some(entries) => entries.insert(0, KeptPointer { place, value }),
-            None => unreachable!(),
-        }
+        self.entries.insert(0, KeptPointer { place, value });
     }
 }

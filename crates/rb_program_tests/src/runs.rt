@@ -2,6 +2,7 @@
 
 mod calls;
 mod held_records;
+mod kept_pointers;
 mod rows;
 
 use rb_cfg::shape;
