@@ -7,12 +7,11 @@ use Rattle.rb_history.specs.RingModel.{Contents}
 use Rattle.rb_chapter.specs.Chapters.{Chapter, joined}
 use Rattle.rb_chapter.specs.ChapterRing.{ChapterRing, whole_ring}
 use Rattle.rb_chapter.specs.ChapterCalls.{IsSameChapter, HandsOut}
-use Rattle.rb_chapter.specs.WholeHistory.{ContinuesHistory, IsKept}
+use Rattle.rb_chapter.specs.WholeHistory.{IsKept}
 use Rattle.rb_chapter.proofs.Alike.{calls-alike}
 use Rattle.rb_chapter.proofs.Keeping.{calls-keep}
 use Rattle.rb_chapter_ring.specs.ManyTakes.{TakesEachInChapter, TakesManyInChapter}
 use Rattle.rb_ledger.specs.Ledger.{IsRing}
-use Rattle.rb_ledger.specs.Roles.{book_of}
 use Rattle.rb_ledger.specs.Roles.Role.{Consumer}
 use Rattle.rb_ledger.specs.RoleKnowledge.{role_knowledge}
 use Rattle.rb_ledger.specs.inner.AddedBytes.{bytes_after}
@@ -22,7 +21,7 @@ use Rattle.rb_ledger.specs.ManyTakes.{got_by_all}
 use Rattle.rb_ledger.proofs.Calls.{put-same, put-taken}
 use Rattle.rb_ledger.proofs.ManyTakes.{put-many, after-many}
 use Rattle.rb_ledger.proofs.Passing.{after-same, after-take}
-use Rattle.rb_chapter_ledger.specs.ChapteredRing.{ChapteredRing, chaptered_ring, whole_of, IsChapteredRing}
+use Rattle.rb_chapter_ledger.specs.ChapteredRing.{ChapteredRing, chaptered_ring, whole_of}
 use Rattle.rb_chapter_ledger.specs.ChapterKnowledge.{ChapterPassView, chapter_view}
 use Rattle.rb_chapter_ledger.specs.ChapterLockSteps.{TakesChapterState, MayPutChapter, PutsChapterState, chapter_view_after_put}
 use Rattle.rb_chapter_ledger.specs.LockedChapterCalls.{LockedChapterCall, InKnownChapter, TakesInChapter, TellsUsed, HandsOutNext}
@@ -151,7 +150,6 @@ module _ (v : ChapterPassView) (r new : ChapterRing) (out : ChapterPassView) (id
         let h = held-in Consumer v r out idle took in
         let has = h.was_ring.has_chapters in
         let is = here-hands h in
-        let more : List Chapter = h.taken.handed_out ++ h.taken.ring.chapter ∷ [] in
         let same : whole_of (chaptered_ring (h.taken.handed_out ++ h.taken.ring.chapter ∷ []) new) ≡ whole_of h.taken = handed-out-whole h.taken new c has is in
         let chapters : h.taken.handed_out ++ h.taken.ring.chapter ∷ [] ≡ handed_out_by v ++ c ∷ [] = λ i. known h i ++ sym is.next.out_is i ∷ [] in
         let back : after ≡ chapter_view (record {

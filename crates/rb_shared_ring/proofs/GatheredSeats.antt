@@ -1,6 +1,5 @@
 -- All seats and the consumer are gathered.
-use Rattle.std.proofs.Common.{◌≡◌, List, [], ◌∷◌, ◌++◌, None, refl, ap, ◌∙◌, subst}
-use Rattle.rb_chapter.specs.ChapterRing.{ChapterRing}
+use Rattle.std.proofs.Common.{◌≡◌, List, [], ◌∷◌, ◌++◌, None, refl, ap, ◌∙◌}
 use Rattle.rb_ledger.specs.Roles.Role.{Worker}
 use Rattle.rb_ledger.specs.RoleKnowledge.{RoleKnowledge, PassView, role_knowledge, pass_view}
 use Rattle.rb_ledger.specs.Seats.{WorkerSeat}

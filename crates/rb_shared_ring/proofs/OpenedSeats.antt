@@ -2,8 +2,7 @@
 use Rattle.std.proofs.Common.{◌≡◌, ℕ, suc, ◌+◌, ◌-◌, ◌<◌, [], ◌∷◌, None, refl, sym, ap, ◌∙◌, subst, arith}
 use Rattle.std.specs.FinMap.{empty}
 use Rattle.rb_history.specs.RoomRule.{Setup}
-use Rattle.rb_chapter.specs.Opening.{Opening}
-use Rattle.rb_chapter.specs.Chapters.{Chapter, empty_ring}
+use Rattle.rb_chapter.specs.Chapters.{empty_ring}
 use Rattle.rb_chapter.specs.ChapterRing.{ChapterRing}
 use Rattle.rb_chapter_ring.specs.OpenedRing.{opened_ring}
 use Rattle.rb_ledger.specs.Roles.{Book, book_of}

@@ -1,5 +1,5 @@
 -- A worker's numbers after each call on a shared ring over chapters.
-use Rattle.std.proofs.Common.{◌≡◌, ℕ, ◌+◌, ◌<◌, ◌≤◌, ◌^◌, ◌++◌, List, length, sym, ap, ◌∙◌, subst, arith, Result, Ok, Err, IfOk}
+use Rattle.std.proofs.Common.{◌≡◌, ℕ, ◌<◌, ◌≤◌, ◌^◌, ◌++◌, List, length, sym, ap, ◌∙◌, subst, arith, Result, Ok, Err, IfOk}
 use Rattle.rb_history.specs.declared.entries.Entry.{Entry}
 use Rattle.rb_history.specs.declared.answers.Notice.{Notice}
 use Rattle.rb_history.specs.declared.answers.Stray.{Stray}
@@ -8,7 +8,7 @@ use Rattle.rb_history.specs.ReservationModel.{Granted}
 use Rattle.rb_history.specs.WorkerCounts.{tally_of, numbers_below}
 use Rattle.rb_history.proofs.Settled.{settled-most}
 use Rattle.rb_history.proofs.Tallies.{grants-low}
-use Rattle.rb_chapter.specs.Opening.{Opening, tally_at}
+use Rattle.rb_chapter.specs.Opening.{tally_at}
 use Rattle.rb_chapter.specs.CountedFrom.{tally_from}
 use Rattle.std.proofs.lemmas.List.{length-map}
 use Rattle.rb_chapter.specs.Chapters.{Chapter, joined, closing_of}

@@ -1,5 +1,5 @@
 -- The consumer's numbers after each call on a shared ring over chapters.
-use Rattle.std.proofs.Common.{◌≡◌, ℕ, ◌+◌, ◌*◌, ◌<◌, ◌≤◌, ◌^◌, List, [], ◌∷◌, ◌++◌, length, refl, sym, ap, ◌∙◌, subst, arith, length-append}
+use Rattle.std.proofs.Common.{◌≡◌, ℕ, ◌+◌, ◌*◌, ◌≤◌, ◌^◌, List, [], ◌∷◌, length, sym, ap, ◌∙◌, subst, arith}
 use Rattle.rb_header.specs.Span.{span}
 use Rattle.rb_history.specs.declared.answers.Taken.{Taken}
 use Rattle.rb_history.specs.declared.answers.Taken.TheVariants.{Event, Skipped, BusyFront, Empty}
@@ -14,11 +14,11 @@ use Rattle.rb_chapter_ring.specs.ManyTakes.{TakesManyInChapter}
 use Rattle.rb_ledger.specs.Roles.{Book, book_of}
 use Rattle.rb_ledger.specs.Roles.Role.{Consumer}
 use Rattle.rb_ledger.specs.Seats.{IsBook, ConsumerTies}
-use Rattle.rb_ledger.specs.LockedCalls.{LockedCall, TakesAt, events_in, skips_in, span_in, IsTakenAt}
+use Rattle.rb_ledger.specs.LockedCalls.{LockedCall, events_in, skips_in, span_in, IsTakenAt}
 use Rattle.rb_ledger.specs.ManyTakes.{events_among, skips_among, span_among, AreTakenFrom}
 use Rattle.rb_ledger.proofs.Seated.{taker-goes-on, take-ties, take-place, take-setup}
 use Rattle.rb_ledger.proofs.ManyTakes.{many-ties, many-places, many-setup}
-use Rattle.rb_chapter_ledger.specs.ChapteredRing.{ChapteredRing, whole_of}
+use Rattle.rb_chapter_ledger.specs.ChapteredRing.{whole_of}
 use Rattle.rb_chapter_ledger.specs.LockedChapterCalls.{LockedChapterCall, InKnownChapter, TakesInChapter, TellsUsed, HandsOutNext}
 use Rattle.rb_chapter_ledger.proofs.Chain.{binds-continue}
 use Rattle.rb_chapter_ledger.proofs.WholeCalls.{each-call-is-whole}

@@ -1,5 +1,5 @@
 -- The calls by a ring's chapter, with their answers, are those of the ring with its whole history.
-use Rattle.std.proofs.Common.{◌≡◌, ◌≢◌, ◌↔◌, ℕ, ◌<◌, List, [], ◌∷◌, ◌++◌, length, refl, sym, ap, ◌∙◌, subst, inl, inr, Result, Ok, Err}
+use Rattle.std.proofs.Common.{◌≡◌, ◌≢◌, ◌↔◌, ℕ, ◌<◌, List, length, refl, sym, ap, ◌∙◌, subst, Result, Ok, Err}
 use Rattle.rb_history.specs.declared.entries.Entry.{Entry}
 use Rattle.rb_history.specs.declared.answers.Notice.{Notice}
 use Rattle.rb_history.specs.declared.answers.Notice.TheVariants.{Due}
@@ -11,20 +11,17 @@ use Rattle.rb_history.specs.declared.answers.ReserveFault.{ReserveFault as Whole
 use Rattle.rb_history.specs.declared.answers.ReserveFault.TheVariants.{Full as WholeFull, Memory, Flags as WholeFlags, Foreign as WholeForeign}
 use Rattle.rb_history.specs.declared.tally.Tally.{Tally}
 use Rattle.rb_history.specs.ReservationModel.{Granted}
-use Rattle.rb_history.specs.ManyTakes.{HasRecord, TakesEach, TakesMany}
 use Rattle.rb_history.specs.RingModel.{Contents}
-use Rattle.rb_history.specs.Calls.{Refuses, Takes as WholeTakes, producer_now as whole_producer_now, consumer_now as whole_consumer_now}
+use Rattle.rb_history.specs.Calls.{Refuses, producer_now as whole_producer_now, consumer_now as whole_consumer_now}
 use Rattle.rb_chapter.specs.Opening.{Opening}
 use Rattle.rb_chapter.specs.Chapters.{Chapter}
 use Rattle.rb_chapter.specs.ChapterRing.{ChapterRing, whole_ring}
 use Rattle.rb_chapter.specs.ChapterCalls.{IsSameChapter, Logs, Takes, producer_now}
-use Rattle.rb_chapter.specs.WholeHistory.{ContinuesHistory, IsKept}
+use Rattle.rb_chapter.specs.WholeHistory.{ContinuesHistory}
 use Rattle.rb_chapter.proofs.Alike.{calls-alike}
-use Rattle.rb_chapter.proofs.Keeping.{calls-keep}
 use Rattle.rb_chapter_ring.specs.declared.faults.ReserveFault.{ReserveFault}
 use Rattle.rb_chapter_ring.specs.declared.faults.ReserveFault.TheVariants.{Full, Flags, ChapterFull, Foreign}
 use Rattle.rb_chapter_ring.specs.RingFaults.{RefusesInChapter}
-use Rattle.rb_chapter_ring.specs.ManyTakes.{TakesEachInChapter, TakesManyInChapter}
 use Rattle.rb_ledger.specs.LockedCalls.{Reserves, OutputsAt, reserved_by, output_by, sent_by_output}
 use Rattle.rb_chapter_ledger.specs.LockedChapterCalls.{SubmitsInChapter, DiscardsInChapter}
 use Rattle.rb_chapter_ledger.proofs.WholeCalls.{said, due-same}

@@ -3,7 +3,7 @@ use Rattle.std.proofs.Common.{◌≡◌, ℕ, ◌<◌, List, length, drop, refl,
 use Rattle.rb_history.specs.declared.answers.Notice.{Notice}
 use Rattle.rb_history.specs.declared.answers.Stray.{Stray}
 use Rattle.rb_history.specs.ReservationModel.{Granted}
-use Rattle.rb_history.specs.RingModel.{Ring, Contents}
+use Rattle.rb_history.specs.RingModel.{Contents}
 use Rattle.rb_chapter.specs.Chapters.{joined}
 use Rattle.rb_chapter.specs.ChapterRing.{ChapterRing}
 use Rattle.rb_chapter.specs.ChapterCalls.{IsSameChapter, producer_now}
@@ -27,7 +27,7 @@ use Rattle.rb_chapter_ledger.proofs.WholeCalls.{submits-whole, discards-whole, q
 use Rattle.rb_shared_ring.specs.inner.SeatPasses.{seen_by, bytes_by, IsIdleIn}
 use Rattle.rb_shared_ring.specs.inner.LentState.{IsKeptRing}
 use Rattle.rb_shared_ring.specs.SharedCalls.{ReservesInChapter, OutputsInChapter, AuditsInChapter, sent_by_chapter_output}
-use Rattle.rb_shared_ring.proofs.ChapterPassing.{HeldChapter, held-in, may-put-in, idle-in, bytes-in, is-locked-in, left_by}
+use Rattle.rb_shared_ring.proofs.ChapterPassing.{HeldChapter, held-in, may-put-in, idle-in, bytes-in, is-locked-in}
 use Rattle.rb_shared_ring.proofs.WholeAnswers.{whole_answer, stays, same-reserved, same-output, same-submitted, same-discarded, reserves-whole, outputs-whole, producer-same, sent-output}
 
 -- what a worker's call leaves
@@ -37,13 +37,6 @@ pub record LeavesWorker (w : ℕ) (v after : ChapterPassView) (sent : Contents) 
   pub bytes : bytes_by after ≡ sent
 
 module _ (w : ℕ) (v : ChapterPassView) (r new : ChapterRing) (out : ChapterPassView) (idle : IsIdleIn (Worker w) v) (took : TakesChapterState v r out) (kept : IsKeptRing new) where
-  held : HeldChapter (Worker w) v r out
-  held = held-in (Worker w) v r out idle took
-
-  -- the worker is one of the ring's
-  pub worker-in : w < r.chapter.opening.setup.workers
-  worker-in = let h = held-in (Worker w) v r out idle took in subst (λ (x : ChapterRing). w < x.chapter.opening.setup.workers) h.ring_is h.is_role
-
   -- the step of the whole ring that a call is
   abbrev StepsFrom : (h : HeldChapter (Worker w) v r out) → Type 0
   StepsFrom h = IsRing (whole_of (chaptered_ring h.taken.handed_out new))

@@ -16,7 +16,6 @@ use Rattle.rb_chapter_ring.specs.declared.faults.ReserveFault.TheVariants.{Full,
 use Rattle.rb_chapter_ring.specs.OpenedRing.{told_counts}
 use Rattle.rb_chapter_ring.specs.RingFaults.{RefusesInChapter}
 use Rattle.rb_ledger.specs.declared.audit.Audit.{Audit}
-use Rattle.rb_ledger.specs.Seats.{WorkerSeat}
 
 -- ---- the calls, as their arguments and answers say
 
