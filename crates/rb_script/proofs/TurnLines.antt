@@ -1,0 +1,164 @@
+-- The lines of turns, one after the other.
+use Rattle.std.specs.Prelude.{slice_get}
+use Rattle.std.proofs.Common.{◌≡◌, ℕ, ◌+◌, ◌-◌, ◌<◌, Some, None, arith, List, [], ◌∷◌, ◌++◌, length, take, get_or, refl, sym, ap, subst, ◌∙◌, append-nil, append_assoc}
+use Rattle.std.specs.List.{AllZip}
+use Rattle.std.proofs.lemmas.List.{take_more}
+use Rattle.rb_history.specs.declared.answers.Taken.{Taken}
+use Rattle.rb_history.specs.declared.answers.Taken.TheVariants.{Event, Skipped, BusyFront, Empty}
+use Rattle.rb_interleavings.specs.declared.actor.Actor.{Actor}
+use Rattle.rb_interleavings.specs.declared.actor.Actor.TheVariants.{Worker, Consumer, Keeper}
+use Rattle.rb_interleavings.specs.Worlds.{WorldRing, World, table_with, with_ring}
+use Rattle.rb_interleavings.specs.Turns.{TurnEvent, Went, HandedOver, Ended, GotStuck, GotBack, Idle, Took, HandedChapter, NoMemory, WorldStep, WorldRun, TakesConsumerTurn, taken_by}
+use Rattle.std.proofs.lemmas.Bool.{eq-eqb}
+use Rattle.rb_interleavings.proofs.WholeRuns.{run-push}
+use Rattle.rb_world.specs.declared.turn_done.TurnDone.{TurnDone}
+use Rattle.rb_world.specs.declared.turn_done.TurnDone.TheVariants as turn
+use Rattle.rb_world.specs.WorldValue.{WorldValue, world_of, IsThere}
+use Rattle.rb_world.specs.TurnsDone.{TellsEvent, IsTurnOf}
+use Rattle.rb_script.specs.OutputLines.{take_line}
+use Rattle.rb_script.specs.Simulation.{turn_text, turns_text, WritesRun}
+use Rattle.rb_script.specs.inner.ShownTurns.{last_line, consumer_text, keeper_text, shown_text}
+
+-- the same actors are there in a world of as many workers and rings
+pub there-still : (old new : WorldValue) (actor : Actor) → length new.machines ≡ length old.machines → length new.rings ≡ length old.rings → IsThere old actor → IsThere new actor
+there-still old new (Worker w) workers rings there = subst (λ n. w < n) (sym workers) there
+there-still old new (Consumer r) workers rings there = subst (λ n. r < n) (sym rings) there
+there-still old new (Keeper r) workers rings there = subst (λ n. r < n) (sym rings) there
+
+pub last-pushed : (r : ℕ) (taken : List Taken) (found : Taken) → last_line r (taken ++ found ∷ []) ≡ take_line r found
+last-pushed r [] found = refl
+last-pushed r (t ∷ []) found = refl
+last-pushed r (t ∷ u ∷ taken) found = last-pushed r (u ∷ taken) found
+
+-- the line of the element at the last place
+last-at : (r : ℕ) (taken : List Taken) (i : ℕ) (found : Taken) → ℕ.suc i ≡ length taken → Some found ≡ slice_get taken i → last_line r taken ≡ take_line r found
+last-at r [] i found n e = absurd (omega arith)
+last-at r (t ∷ []) ℕ.zero found n e = let same : found ≡ t = cc in ap (take_line r) (sym same)
+last-at r (t ∷ []) (ℕ.suc i) found n e = absurd (omega arith)
+last-at r (t ∷ u ∷ taken) ℕ.zero found n e = absurd (omega arith)
+last-at r (t ∷ u ∷ taken) (ℕ.suc i) found n e = last-at r (u ∷ taken) i found (omega arith) e
+
+pub last-found : (r : ℕ) (taken : List Taken) (found : Taken) → Some found ≡ slice_get taken (length taken - 1) → last_line r taken ≡ take_line r found
+last-found r [] found e = absurd (let no : Some found ≡ None = e in cc)
+last-found r (t ∷ taken) found e = last-at r (t ∷ taken) (length (t ∷ taken) - 1) found (omega arith) e
+
+-- what was taken of the ring behind a take
+taken-now : (old new : World) (r : ℕ) (found : Taken) → TakesConsumerTurn r old (Took found) new → (new.rings r).taken ≡ (old.rings r).taken ++ taken_by found
+taken-now old new r found (b, m, e) = ap (λ (world : World). (world.rings r).taken) e ∙ (ap (λ (s : WorldRing). s.taken) (placed-here-now b) ∙ m.taken_are)
+  where
+    placed-here-now : (b : WorldRing) → table_with r b old.rings r ≡ b
+    placed-here-now b = rw (eq-eqb r r refl) refl
+
+module _ (r : ℕ) (old new : World) where
+  took-shown : (done : TurnDone) (found : Taken) → TellsEvent done (Took found) → TakesConsumerTurn r old (Took found) new → consumer_text r done (new.rings r).taken ≡ take_line r found
+  took-shown turn.Went (Event p w k bytes) tells step = absurd tells
+  took-shown (turn.Finished n) (Event p w k bytes) tells step = absurd tells
+  took-shown turn.Idle (Event p w k bytes) tells step = absurd tells
+  took-shown turn.Took (Event p w k bytes) tells step = ap (last_line r) (taken-now old new r (Event p w k bytes) step) ∙ last-pushed r (old.rings r).taken (Event p w k bytes)
+  took-shown turn.Skipped (Event p w k bytes) tells step = absurd tells
+  took-shown turn.BusyFront (Event p w k bytes) tells step = absurd tells
+  took-shown turn.Empty (Event p w k bytes) tells step = absurd tells
+  took-shown (turn.Chapter n) (Event p w k bytes) tells step = absurd tells
+  took-shown turn.Memory (Event p w k bytes) tells step = absurd tells
+  took-shown turn.Went (Skipped p m) tells step = absurd tells
+  took-shown (turn.Finished n) (Skipped p m) tells step = absurd tells
+  took-shown turn.Idle (Skipped p m) tells step = absurd tells
+  took-shown turn.Took (Skipped p m) tells step = absurd tells
+  took-shown turn.Skipped (Skipped p m) tells step = ap (last_line r) (taken-now old new r (Skipped p m) step) ∙ last-pushed r (old.rings r).taken (Skipped p m)
+  took-shown turn.BusyFront (Skipped p m) tells step = absurd tells
+  took-shown turn.Empty (Skipped p m) tells step = absurd tells
+  took-shown (turn.Chapter n) (Skipped p m) tells step = absurd tells
+  took-shown turn.Memory (Skipped p m) tells step = absurd tells
+  took-shown turn.Went BusyFront tells step = absurd tells
+  took-shown (turn.Finished n) BusyFront tells step = absurd tells
+  took-shown turn.Idle BusyFront tells step = absurd tells
+  took-shown turn.Took BusyFront tells step = absurd tells
+  took-shown turn.Skipped BusyFront tells step = absurd tells
+  took-shown turn.BusyFront BusyFront tells step = refl
+  took-shown turn.Empty BusyFront tells step = absurd tells
+  took-shown (turn.Chapter n) BusyFront tells step = absurd tells
+  took-shown turn.Memory BusyFront tells step = absurd tells
+  took-shown turn.Went Empty tells step = absurd tells
+  took-shown (turn.Finished n) Empty tells step = absurd tells
+  took-shown turn.Idle Empty tells step = absurd tells
+  took-shown turn.Took Empty tells step = absurd tells
+  took-shown turn.Skipped Empty tells step = absurd tells
+  took-shown turn.BusyFront Empty tells step = absurd tells
+  took-shown turn.Empty Empty tells step = refl
+  took-shown (turn.Chapter n) Empty tells step = absurd tells
+  took-shown turn.Memory Empty tells step = absurd tells
+
+  none-shown : (done : TurnDone) → TellsEvent done NoMemory → consumer_text r done (new.rings r).taken ≡ []
+  none-shown turn.Went tells = absurd tells
+  none-shown (turn.Finished n) tells = absurd tells
+  none-shown turn.Idle tells = absurd tells
+  none-shown turn.Took tells = absurd tells
+  none-shown turn.Skipped tells = absurd tells
+  none-shown turn.BusyFront tells = absurd tells
+  none-shown turn.Empty tells = absurd tells
+  none-shown (turn.Chapter n) tells = absurd tells
+  none-shown turn.Memory tells = refl
+
+  keeper-shown : (done : TurnDone) (event : TurnEvent) → TellsEvent done event → keeper_text r done ≡ turn_text (Keeper r) done event
+  keeper-shown turn.Went event tells = refl
+  keeper-shown (turn.Finished n) event tells = refl
+  keeper-shown turn.Idle event tells = refl
+  keeper-shown turn.Took event tells = refl
+  keeper-shown turn.Skipped event tells = refl
+  keeper-shown turn.BusyFront event tells = refl
+  keeper-shown turn.Empty event tells = refl
+  keeper-shown (turn.Chapter n) event tells = refl
+  keeper-shown turn.Memory event tells = refl
+
+-- the line by what is seen is the line of what happened
+pub shown-is : (actor : Actor) (old new : World) (done : TurnDone) (event : TurnEvent) → TellsEvent done event → WorldStep old actor event new → shown_text actor done new ≡ turn_text actor done event
+shown-is (Worker w) old new done event tells step = refl
+shown-is (Keeper r) old new done event tells step = keeper-shown r old new done event tells
+shown-is (Consumer r) old new done (Took found) tells step = took-shown r old new done found tells step
+shown-is (Consumer r) old new done NoMemory tells step = none-shown r old new done tells
+shown-is (Consumer r) old new done Went tells step = absurd step
+shown-is (Consumer r) old new done (HandedOver s p bytes) tells step = absurd step
+shown-is (Consumer r) old new done (Ended n) tells step = absurd step
+shown-is (Consumer r) old new done GotStuck tells step = absurd step
+shown-is (Consumer r) old new done GotBack tells step = absurd step
+shown-is (Consumer r) old new done Idle tells step = absurd step
+shown-is (Consumer r) old new done HandedChapter tells step = absurd step
+
+-- ---- one more turn
+
+tell-push : (dones : List TurnDone) (events : List TurnEvent) (done : TurnDone) (event : TurnEvent) → AllZip TellsEvent dones events → TellsEvent done event → AllZip TellsEvent (dones ++ done ∷ []) (events ++ event ∷ [])
+tell-push [] [] done event h t = (t, tt)
+tell-push [] (e ∷ events) done event h t = absurd h
+tell-push (d ∷ dones) [] done event h t = absurd h
+tell-push (d ∷ dones) (e ∷ events) done event h t = (h.0, tell-push dones events done event h.1 t)
+
+text-push : (old new : World) (actors : List Actor) (dones : List TurnDone) (events : List TurnEvent) (actor : Actor) (done : TurnDone) (event : TurnEvent) → AllZip TellsEvent dones events → WorldRun old actors events new
+    → turns_text (actors ++ actor ∷ []) (dones ++ done ∷ []) (events ++ event ∷ []) ≡ turns_text actors dones events ++ turn_text actor done event
+text-push old new [] [] [] actor done event told run = append-nil (turn_text actor done event)
+text-push old new [] (d ∷ dones) [] actor done event told run = absurd told
+text-push old new [] dones (e ∷ events) actor done event told run = absurd run
+text-push old new (a ∷ actors) dones [] actor done event told run = absurd run
+text-push old new (a ∷ actors) [] (e ∷ events) actor done event told run = absurd told
+text-push old new (a ∷ actors) (d ∷ dones) (e ∷ events) actor done event told run =
+    ap (λ l. turn_text a d e ++ l) (text-push run.0 new actors dones events actor done event told.1 run.2) ∙ sym (append_assoc (turn_text a d e) (turns_text actors dones events) (turn_text actor done event))
+
+pub writes-none : (v : WorldValue) (text : List ℕ) → WritesRun [] v v text text
+writes-none v text = record { dones = []; events = []; told = tt; run = refl; text_is = sym (append-nil text) }
+
+pub writes-more : (actors : List Actor) (i : ℕ) (d : Actor) (old mid new : WorldValue) (before between after : List ℕ) (done : TurnDone) → i < length actors → WritesRun (take i actors) old mid before between → IsTurnOf (get_or actors i d) mid done new
+    → after ≡ between ++ shown_text (get_or actors i d) done (world_of new) → WritesRun (take (i + 1) actors) old new before after
+writes-more actors i d old mid new before between after done low w turned wrote =
+    let actor = get_or actors i d in
+    let event = turned.0 in
+    subst (λ l. WritesRun l old new before after) (sym (take_more actors i d low)) (record {
+      dones = w.dones ++ done ∷ [];
+      events = w.events ++ event ∷ [];
+      told = tell-push w.dones w.events done event w.told turned.1;
+      run = run-push (world_of old) (world_of mid) (world_of new) (take i actors) w.events actor event w.run turned.2;
+      text_is =
+          wrote
+          ∙ (ap (λ t. between ++ t) (shown-is actor (world_of mid) (world_of new) done event turned.1 turned.2)
+          ∙ (ap (λ t. t ++ turn_text actor done event) w.text_is
+          ∙ (append_assoc before (turns_text (take i actors) w.dones w.events) (turn_text actor done event)
+          ∙ ap (λ t. before ++ t) (sym (text-push (world_of old) (world_of mid) (take i actors) w.dones w.events actor done event w.told w.run)))));
+    })

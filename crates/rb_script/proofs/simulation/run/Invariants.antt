@@ -1,0 +1,6 @@
+use Rattle.std.proofs.Common.{take}
+use Rattle.rb_script.specs.Simulation.{WritesRun}
+use Rattle.rb_script.proofs.simulation.run.Given as goal
+
+abbrev pub invariant-loop-actor : goal.invariant-loop-actor
+invariant-loop-actor l = WritesRun (take l.actor-index l.actors) l.initial.world l.world l.initial.text.items l.text.items

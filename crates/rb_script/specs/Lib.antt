@@ -1,0 +1,3 @@
+pub mod OutputLines
+pub mod Simulation
+pub mod inner

@@ -1,0 +1,22 @@
+//! Scripts of worlds: rings, workers with their programs, and the turns that they take, one line each. A script is read as a whole;
+//! then its programs are verified, its turns are run in a `World`, and a line is written for each take and each chapter, and at the end
+//! for each worker and each ring. Records follow Linux Documentation/bpf/ringbuf.rst, and calls bpf-helpers(7).
+//!
+//! ```text
+//! ring 4096 0          a ring: its size, its start, and the room of its chapters, 65536 where none is given
+//! worker 1851..        a worker: its program in hex, and its context in hex where it has one
+//! w 0 4                four turns of worker 0
+//! k 0                  the keeper of ring 0 hands its chapter out
+//! c 0                  one take of ring 0: `take 0 busy`
+//! ```
+#![tactic(auto)]
+
+mod output_lines;
+mod programs;
+mod script;
+mod script_fault;
+mod script_line;
+mod simulation;
+
+pub use script::{Script, ScriptWorker};
+pub use script_fault::ScriptFault;
