@@ -20,6 +20,11 @@ const SUBMIT_42: &str = "1851000000000000 0000000000000000 b702000008000000 b703
     8500000083000000 1500040000000000 7a0000002a000000 bf01000000000000
     b702000000000000 8500000084000000 b700000000000000 9500000000000000";
 
+// The same, where the answer is kept on the stack and loaded again.
+const KEEP_AND_SUBMIT_42: &str = "1851000000000000 0000000000000000 b702000008000000 b703000000000000
+    8500000083000000 7b0af8ff00000000 79a6f8ff00000000 1506040000000000 7a0600002a000000 bf61000000000000
+    b702000000000000 8500000084000000 b700000000000000 9500000000000000";
+
 // A program, verified for a context of 16 bytes and one ring.
 fn verified(rt: &impl Abort, alloc: Global, text: &str) -> Verified {
     let program = from_text(alloc, text).expect(rt, "a program");
@@ -87,6 +92,17 @@ fn submit_42_executes_each_instruction_once(rt: HostRuntime) {
     assert_eq!(rt; submitted.as_slice(), [42, 0, 0, 0, 0, 0, 0, 0].as_slice());
     let (count, submitted) = executed(&rt, rt.alloc(), &program, false);
     assert_eq!(rt; count, 7);
+    assert!(rt; submitted.is_empty());
+}
+
+#[test]
+fn a_kept_answer_executes_each_instruction_once(rt: HostRuntime) {
+    let program = verified(&rt, rt.alloc(), KEEP_AND_SUBMIT_42);
+    let (count, submitted) = executed(&rt, rt.alloc(), &program, true);
+    assert_eq!(rt; count, 13);
+    assert_eq!(rt; submitted.as_slice(), [42, 0, 0, 0, 0, 0, 0, 0].as_slice());
+    let (count, submitted) = executed(&rt, rt.alloc(), &program, false);
+    assert_eq!(rt; count, 9);
     assert!(rt; submitted.is_empty());
 }
 
