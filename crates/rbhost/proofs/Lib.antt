@@ -13,5 +13,6 @@ mod RingPass
 mod Running
 mod Sending
 mod Sizes
+mod TapeGiven
 mod TapeReads
 mod WorkerTasks

@@ -11,17 +11,17 @@ use Rattle.rb_workers.specs.declared.opened.Opened.{Opened}
 use Rattle.rb_workers.specs.Opened.{IsOpened, AreOpened, workers_of}
 use Rattle.rb_workers.specs.Reports.{IsReport}
 use Rattle.rb_workers.specs.SeatRows.{seat_rows}
+use Rattle.rb_workers.specs.Sink.{SinkItem}
 use Rattle.rb_workers.specs.Settled.{EachSettled, EndsSettled}
 use Rattle.rb_workers.specs.declared.opened.Report.{Report}
 use Rattle.rb_workers.proofs.Numbered.{seats_length}
 use Rattle.rb_workers.proofs.Settling.{settled_together}
 use Rattle.rbhost.specs.Acceptance.{IsAccepted, IsRightFault}
-use Rattle.rbhost.specs.RunCommand.{IsRightJobsFault, IsRightRingFault, RunsWorkers, null_position, null_takes}
+use Rattle.rbhost.specs.RunCommand.{IsRightJobsFault, IsRightRingFault, RunsWorkers}
 use Rattle.rbhost.specs.WorkerJobs.{tasks_of_workers}
 use Rattle.rbhost.specs.declared.jobs_fault.JobsFault.{JobsFault}
 use Rattle.rbhost.specs.declared.jobs_fault.JobsFault.TheVariants.{Program, Size, Start, Workers}
 use Rattle.rbhost.specs.declared.run_command.JobsRequest.{JobsRequest}
-use Rattle.rbhost.specs.declared.run_command.NullSink.{NullSink}
 
 module _ {S : Type 0} (position : S → ℕ) (workers : ℕ) (one : Opened S) (opened : List (Opened S)) (is : opened ≡ one ∷ []) (is_opened : IsOpened position workers one) where
   -- one ring may be run
@@ -41,26 +41,26 @@ one_settled one opened is settled =
     (settled_together (length one.seats.items) (one.seats.items ∷ []) (All-cons (All HasSettledAll) one.seats.items [] settled (All-nil (All HasSettledAll))))
 
 -- what such a run is, put together of what its calls say
-module _ (subject : Subject) (request : JobsRequest) (workers : ℕ) (one : Opened NullSink) (opened : List (Opened NullSink)) (jobs : List Job) (report : Report NullSink) where
+module _ {S : Type 0} (position : S → ℕ) (takes : S → SinkItem → S → Type 0) (sink : S) (subject : Subject) (request : JobsRequest) (workers : ℕ) (one : Opened S) (opened : List (Opened S)) (jobs : List Job) (report : Report S) where
   pub ran_workers :
       workers ≡ request.workers → opened ≡ one ∷ []
       → one.seats.items ≡ fresh_seats 0 one.ring.ring (fresh_book request.size request.start workers) 0 workers
       → one.consumer ≡ fresh_consumer 0 one.ring.ring (fresh_book request.size request.start workers)
-      → one.sink.position ≡ request.start → All HasSettledAll one.seats.items
+      → one.sink ≡ sink → All HasSettledAll one.seats.items
       → map task_of jobs ≡ tasks_of_workers subject workers request.jobs
-      → IsReport null_position null_takes opened jobs report
+      → IsReport position takes opened jobs report
       → (report.strays ≡ 0 → EachSettled (workers_of opened) (seat_rows opened) → All EndsSettled report.rings.items)
-      → RunsWorkers subject request report
-  ran_workers as_many is seats consumer sink nothing_made tasks reported settled = record {
+      → RunsWorkers position takes sink subject request report
+  ran_workers as_many is seats consumer same_sink nothing_made tasks reported settled = record {
     opened = one;
     jobs = jobs;
     just_opened = record {
       seats_are = subst (λ n. one.seats.items ≡ fresh_seats 0 one.ring.ring (fresh_book request.size request.start n) 0 n) as_many seats;
       consumer_is = subst (λ n. one.consumer ≡ fresh_consumer 0 one.ring.ring (fresh_book request.size request.start n)) as_many consumer;
-      sink_begins = sink;
+      sink_is = same_sink;
     };
     tasks_are = subst (λ n. map task_of jobs ≡ tasks_of_workers subject n request.jobs) as_many tasks;
-    reported = subst (λ o. IsReport null_position null_takes o jobs report) is reported;
+    reported = subst (λ o. IsReport position takes o jobs report) is reported;
     settled = λ none. settled none (one_settled one opened is nothing_made);
   }
 

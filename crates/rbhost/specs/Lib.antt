@@ -11,5 +11,6 @@ pub mod Transfer
 pub mod WorkerJobs
 pub mod ReportLines
 pub mod RunCommand
+pub mod TapedRun
 pub mod PayloadReads
 pub mod inner

@@ -16,12 +16,14 @@ use crate::options::{Request, parse};
 use crate::run_command::run;
 use crate::tape::tape;
 use crate::tape_refusal::TapeRefusal;
+use crate::taped_run::run_to_file;
 use clap::Error;
 use clap::error::ErrorKind;
 use std::alloc::Global;
 use std::convert::AsStr;
 use std::fmt::Display;
 use std::io::{BufReader, Read, Write};
+use std::rt::Files;
 use std::sync::Wait;
 use std::thread::Threads;
 
@@ -30,7 +32,7 @@ use std::thread::Threads;
 /// goes to `err` before anything is read or written. Help and the version, where they are asked for, go to `out`.
 ///
 /// `feed` and `explain` wait for nobody. `check` and `run` hold a ring's lock for each call, and `run` starts threads.
-pub fn command<T: Threads + Wait + Sync, S: AsStr, R: Read, W: Write, E: Write>(
+pub fn command<T, F: Write + Send + Drop, S: AsStr, R: Read, W: Write, E: Write>(
     rt: &T,
     alloc: Global,
     words: &[S],
@@ -38,6 +40,8 @@ pub fn command<T: Threads + Wait + Sync, S: AsStr, R: Read, W: Write, E: Write>(
     out: &mut W,
     err: &mut E,
 ) -> u8
+where
+    T: Threads + Wait + Sync + Files<File = F>,
     ensures status { result ≤ 2 }
     ensures usage { result ≡ 2 → Keeps (R.remaining input.old) (R.remaining input.new) × Keeps (W.contents out.old) (W.contents out.new) }
 {
@@ -54,7 +58,13 @@ pub fn command<T: Threads + Wait + Sync, S: AsStr, R: Read, W: Write, E: Write>(
         }
         Ok(Request::Check(bounds)) => status_of(check(rt, alloc, input, out, bounds), err),
         Ok(Request::Explain(bounds)) => status_of(explain(alloc, input, out, bounds), err),
-        Ok(Request::Run(wanted)) => status_of(run(rt, alloc, input, out, wanted), err),
+        Ok(Request::Run { jobs, tape: None }) => status_of(run(rt, alloc, input, out, jobs), err),
+        Ok(
+            Request::Run {
+                jobs,
+                tape: Some(path),
+            },
+        ) => status_of(run_to_file(rt, alloc, input, out, jobs, path), err),
         Err(error) => print_usage(&error, out, err),
     }
 }

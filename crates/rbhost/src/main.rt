@@ -3,9 +3,10 @@
 //! `feed` puts payloads through a ring and writes the bytes that a reader of the kernel's ring buffer maps (ringbuf.rst). `tape` reads
 //! them back. `check` decodes and verifies a program (RFC 9669), runs it once over fresh rings, and prints the records that it left. `explain` prints what
 //! the verifier knows before each instruction, or why a program is refused. `run` has workers
-//! run a verified program on threads over one ring, and prints what each counted.
+//! run a verified program on threads over one ring, and prints what each counted; what the ring's consumer took it writes to a file as a tape, where
+//! one is asked for.
 //!
-//! What is promised is on `command`, `feed`, `check`, `explain` and `run`: which statuses there are, what `feed` read and wrote by its answer,
+//! What is promised is on `command`, `feed`, `check`, `explain`, `run` and `run_taped`: which statuses there are, what `feed` read and wrote by its answer,
 //! and that the result printed by `check` is one that the program's meaning gives.
 #![tactic(auto)]
 
@@ -31,6 +32,8 @@ mod run_command;
 mod tape;
 mod tape_lines;
 mod tape_refusal;
+mod tape_sink;
+mod taped_run;
 #[cfg(test)]
 mod tests;
 mod transfer;

@@ -13,22 +13,32 @@ use std::convert::AsStr;
 
 /// A command with its options.
 #[derive(Clone, Copy, Debug, PartialEq, Eq)]
-pub enum Request {
+pub enum Request<'a> {
     /// Writes the tape of payloads: the ring's size and its first position, and how often writing goes on after a write that failed.
-    Feed { size: u64, start: u64, retries: u32 },
+    Feed {
+        size: u64,
+        start: u64,
+        retries: u32,
+    },
     /// Prints the records of a tape: the ring's size and its first position.
-    Tape { size: u64, start: u64 },
+    Tape {
+        size: u64,
+        start: u64,
+    },
     /// Verifies a program and runs it once.
     Check(Bounds),
     /// Explains a program.
     Explain(Bounds),
-    /// Verifies a program and runs it as jobs on threads.
-    Run(JobsRequest),
+    /// Verifies a program and runs it as jobs on threads, and writes what they sent as a tape to the file of this name, where there is one.
+    Run {
+        jobs: JobsRequest,
+        tape: Option<&'a str>,
+    },
 }
 
 /// The command that these words name, which follow the program's name on the command line. An error is help or the version that was
 /// asked for, wrong usage, or out of memory.
-pub fn parse<S: AsStr>(alloc: Global, words: &[S]) -> Result<Request, Error> {
+pub fn parse<'a, S: AsStr>(alloc: Global, words: &'a [S]) -> Result<Request<'a>, Error> {
     let mut program = program(alloc)?;
     let matches = program.try_get_matches_from_mut(words)?;
     match matches.subcommand() {
@@ -43,12 +53,10 @@ pub fn parse<S: AsStr>(alloc: Global, words: &[S]) -> Result<Request, Error> {
         }),
         Some(("check", options)) => Ok(Request::Check(bounds(alloc, &mut program, options)?)),
         Some(("explain", options)) => Ok(Request::Explain(bounds(alloc, &mut program, options)?)),
-        Some(("run", options)) => Ok(Request::Run(JobsRequest {
-            workers: number(alloc, &mut program, options, "workers")?,
-            jobs: bounded(alloc, &mut program, options, "jobs", 1, 1_000_000)?,
-            size: number(alloc, &mut program, options, "size")?,
-            start: number(alloc, &mut program, options, "start")?,
-        })),
+        Some(("run", options)) => Ok(Request::Run {
+            jobs: jobs_request(alloc, &mut program, options)?,
+            tape: options.get_str("tape"),
+        }),
         _ => Err(program.error(ErrorKind::MissingSubcommand, "no command was given")?),
     }
 }
@@ -62,6 +70,20 @@ fn bounds(
     Ok(Bounds {
         ctx_len: bounded(alloc, program, options, "ctx", 0, 65_536)?,
         rings: bounded(alloc, program, options, "rings", 0, 16)?,
+    })
+}
+
+// What is run, and over which ring.
+fn jobs_request(
+    alloc: Global,
+    program: &mut Command<'_>,
+    options: &ArgMatches<'_>,
+) -> Result<JobsRequest, Error> {
+    Ok(JobsRequest {
+        workers: number(alloc, program, options, "workers")?,
+        jobs: bounded(alloc, program, options, "jobs", 1, 1_000_000)?,
+        size: number(alloc, program, options, "size")?,
+        start: number(alloc, program, options, "start")?,
     })
 }
 
@@ -130,7 +152,8 @@ fn run<'a>(alloc: Global) -> Result<Command<'a>, AllocError> {
         .arg(workers(alloc))?
         .arg(jobs(alloc))?
         .arg(size(alloc))?
-        .arg(start(alloc))
+        .arg(start(alloc))?
+        .arg(tape_file(alloc))
 }
 
 fn workers<'a>(alloc: Global) -> Arg<'a> {
@@ -144,6 +167,12 @@ fn jobs<'a>(alloc: Global) -> Arg<'a> {
         .value_name("J")
         .required(true)
         .help("How often each worker runs the program: 1 to 1000000")
+}
+
+fn tape_file<'a>(alloc: Global) -> Arg<'a> {
+    option(alloc, "tape").value_name("FILE").help(
+        "A file that the tape of all that the ring's consumer takes is written to",
+    )
 }
 
 fn ctx<'a>(alloc: Global) -> Arg<'a> {

@@ -1,7 +1,7 @@
 //! A verified program from its text.
 
 ghost use Rattle.std.specs.Prelude.{◌≡◌, ◌≢◌, ◌≤◌, ◌↔◌, Err, IfErr, IfOk, IfSome, IsErr, IsUtf8};
-ghost use Rattle.rbhost.specs.Acceptance.{IsAccepted, IsRightFault, fault_of_text, fault_of_shape};
+ghost use Rattle.rbhost.specs.Acceptance.{IsAccepted, IsRightFault, IsRightProgramFault, fault_of_text, fault_of_shape};
 ghost use Rattle.rbhost.specs.inner.MachineFaults.{IsMachineFault};
 
 use rb_cfg::{ShapeFault, ShapeFaultKind, shape};
@@ -69,6 +69,21 @@ pub fn accept(alloc: Global, text: &str, bounds: Bounds) -> Result<Verified, Pro
         }),
         Err(Refusal::Memory) => Err(ProgramFault::Memory),
     }
+}
+
+/// The verified program whose text is the input, as `accept` says; `Text` where the input is no UTF-8.
+pub fn read_program<R: Read>(
+    alloc: Global,
+    input: &mut R,
+    bounds: Bounds,
+) -> Result<Verified, ProgramFault>
+    ensures accepted { IfOk result (λ program. IfSome (R.remaining input.old) (λ text. IsAccepted text bounds.ctx_len bounds.rings program)) }
+    ensures rings { IfOk result (λ program. program.rings ≡ bounds.rings) }
+    ensures refused { IfErr result (λ fault. IfSome (R.remaining input.old) (λ text. IsRightProgramFault text bounds.ctx_len bounds.rings fault)) }
+{
+    let bytes = read_all(alloc, input)?;
+    let text = text_of(bytes.as_slice())?;
+    accept(alloc, text, bounds)
 }
 
 /// All bytes of the input.

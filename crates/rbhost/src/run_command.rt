@@ -1,25 +1,33 @@
 //! A program from its text, run as jobs on threads over one ring.
 
-ghost use Rattle.std.specs.Prelude.{◌≡◌, ◌≢◌, IfErr, IfOk, IfSome, OnOk};
-ghost use Rattle.std.specs.Io.KnownBytes.{Keeps};
+ghost use Rattle.std.specs.Prelude.{◌≡◌, ◌≢◌, ◌⊎◌, [], ◌∷◌, vec_len, IfErr, IfOk, IfSome, OnOk};
+ghost use Rattle.std.specs.Io.KnownBytes.{Appends, Keeps};
 ghost use Rattle.rb_history.specs.RingModel.{IsRingSize, IsStartPosition, IsWorkerCount};
+ghost use Rattle.rbhost.specs.ReportLines.{report_text};
 ghost use Rattle.rbhost.specs.RunCommand.{IsRightJobsFault, IsRightRingFault, PrintsRun, RunsWorkers};
 ghost use Rattle.rbhost.specs.inner.OpeningFaults.{fault_of_opening};
 
 use crate::device::write_whole;
 use crate::gate::OpenGate;
 use crate::jobs_fault::JobsFault;
-use crate::program::{Bounds, ProgramFault, accept, read_all, text_of};
+use crate::program::{Bounds, ProgramFault, read_program};
 use crate::report_lines::text_of_report;
 use crate::worker_jobs::{CONTEXT, contexts_of, jobs_of};
 use rb_header::span;
+use rb_history::check_setup;
 use rb_ledger::OpenFault;
 use rb_verifier::Verified;
 use rb_workers::{JobFault, Opened, Report, Sink, run_jobs};
-use std::alloc::Global;
+use std::alloc::{AllocError, Global};
 use std::io::{Read, Write};
 use std::sync::Wait;
 use std::thread::Threads;
+
+/// What a program of jobs is verified for: contexts of 16 bytes and one ring.
+pub const JOB_BOUNDS: Bounds = Bounds {
+    ctx_len: CONTEXT as u32,
+    rings: 1,
+};
 
 /// What is run, and over which ring.
 #[derive(Clone, Copy, Debug, PartialEq, Eq)]
@@ -73,45 +81,61 @@ pub fn run<T: Threads + Wait + Sync, R: Read, W: Write>(
     out: &mut W,
     request: JobsRequest,
 ) -> Result<(), JobsFault>
-    ensures printed { OnOk result (IfSome (R.remaining input.old) (λ text. PrintsRun text request (W.contents out.old) (W.contents out.new))) }
+    ensures printed { OnOk result (PrintsRun (R.remaining input.old) request (W.contents out.old) (W.contents out.new)) }
     ensures bounds { OnOk result (IsRingSize request.size × IsStartPosition request.start × IsWorkerCount request.workers) }
     ensures refused { IfErr result (λ fault. IfSome (R.remaining input.old) (λ text. IsRightJobsFault text request fault)) }
     ensures nothing_printed { IfErr result (λ fault. fault ≢ JobsFault.Program ProgramFault.Device → Keeps (W.contents out.old) (W.contents out.new)) }
 {
-    let bytes = read_all(alloc, input)?;
-    let text = text_of(bytes.as_slice())?;
-    let program = accept(
-        alloc,
-        text,
-        Bounds {
-            ctx_len: CONTEXT as u32,
-            rings: 1,
-        },
-    )?;
-    let report = run_program(rt, alloc, &program, request)?;
+    let program = read_program(alloc, input, JOB_BOUNDS)?;
+    let sink = NullSink {
+        position: request.start,
+    };
+    match run_and_print(rt, alloc, &program, out, request, sink) {
+        Ok(_report) => Ok(()),
+        Err(fault) => Err(fault),
+    }
+}
+
+/// Runs the program as `run` does, with a sink that is given what the ring's consumer takes; it comes back in the report.
+pub fn run_and_print<T: Threads + Wait + Sync, W: Write, S: Sink + Send + Drop>(
+    rt: &T,
+    alloc: Global,
+    program: &Verified,
+    out: &mut W,
+    request: JobsRequest,
+    sink: S,
+) -> Result<Report<S>, JobsFault>
+    requires one_ring { program.now.rings ≡ 1 }
+    requires begins { S.position_of sink ≡ request.start }
+    ensures ran { IfOk result (RunsWorkers S.position_of S.takes sink program.now request) }
+    ensures printed { IfOk result (λ report. Appends (W.contents out.old) (W.contents out.new) (report_text report)) }
+    ensures bounds { OnOk result (IsRingSize request.size × IsStartPosition request.start × IsWorkerCount request.workers) }
+    ensures refused { IfErr result (λ fault. (fault ≡ JobsFault.Program ProgramFault.Device) ⊎ IsRightRingFault request fault) }
+    ensures nothing_printed { IfErr result (λ fault. fault ≢ JobsFault.Program ProgramFault.Device → Keeps (W.contents out.old) (W.contents out.new)) }
+{
+    let report = run_program(rt, alloc, program, request, sink)?;
     let printed = text_of_report(alloc, &report)?;
     match write_whole(out, printed.as_bytes()) {
-        Ok(()) => Ok(()),
+        Ok(()) => Ok(report),
         Err(_) => Err(JobsFault::Program(ProgramFault::Device)),
     }
 }
 
-// Runs the program on each worker so often, over one ring, whose records are given up as they are taken.
-fn run_program<T: Threads + Wait + Sync>(
+// Runs the program on each worker so often, over one ring, whose records are given to the sink as they are taken.
+fn run_program<T: Threads + Wait + Sync, S: Sink + Send + Drop>(
     rt: &T,
     alloc: Global,
     program: &Verified,
     request: JobsRequest,
-) -> Result<Report<NullSink>, JobsFault>
+    sink: S,
+) -> Result<Report<S>, JobsFault>
     requires one_ring { program.now.rings ≡ 1 }
-    ensures ran { IfOk result (RunsWorkers program.now request) }
+    requires begins { S.position_of sink ≡ request.start }
+    ensures ran { IfOk result (RunsWorkers S.position_of S.takes sink program.now request) }
     ensures bounds { IfOk result (λ _. IsRingSize request.size × IsStartPosition request.start × IsWorkerCount request.workers) }
     ensures refused { IfErr result (IsRightRingFault request) }
 {
     let workers = u32::try_from(request.workers).unwrap_or(u32::MAX);
-    let sink = NullSink {
-        position: request.start,
-    };
     let one = match Opened::open(rt, alloc, 0, request.size, request.start, workers, sink) {
         Ok(one) => one,
         Err(fault) => return Err(open_fault(fault)),
@@ -119,7 +143,7 @@ fn run_program<T: Threads + Wait + Sync>(
     one.consumer.facts();
     let contexts = contexts_of(alloc, workers, request.jobs)?;
     let jobs = jobs_of(alloc, program, contexts.as_slice())?;
-    let Ok(opened) = vec![in alloc; one] else {
+    let Ok(opened) = list_of_one(alloc, one) else {
         return Err(JobsFault::Program(ProgramFault::Memory));
     };
     match run_jobs(rt, alloc, opened, jobs.as_slice(), &OpenGate) {
@@ -127,6 +151,29 @@ fn run_program<T: Threads + Wait + Sync>(
         Err((JobFault::Memory, _)) => Err(JobsFault::Program(ProgramFault::Memory)),
         Err((JobFault::UnknownRing, _)) => unreachable!(),
         Err((JobFault::UnknownWorker, _)) => unreachable!(),
+    }
+}
+
+// A list of this alone. `AllocError` where there is no memory for it.
+fn list_of_one<A: Drop>(alloc: Global, one: A) -> Result<Vec<A>, AllocError>
+    ensures items { IfOk result (λ list. list.items ≡ one ∷ []) }
+    ensures len { IfOk result (λ list. vec_len list ≡ 1) }
+{
+    let mut list = Vec::new(alloc);
+    list.push(one)?;
+    Ok(list)
+}
+
+/// The number of workers, where a ring may be opened with these numbers; else the refusal that opening it gives.
+pub fn check_ring(request: JobsRequest) -> Result<u32, JobsFault>
+    ensures bounds { OnOk result (IsRingSize request.size × IsStartPosition request.start × IsWorkerCount request.workers) }
+    ensures workers { IfOk result (λ workers. workers ≡ request.workers) }
+    ensures refused { IfErr result (IsRightRingFault request) }
+{
+    let workers = u32::try_from(request.workers).unwrap_or(u32::MAX);
+    match check_setup(request.size, request.start, workers) {
+        Ok(()) => Ok(workers),
+        Err(fault) => Err(open_fault(fault)),
     }
 }
 

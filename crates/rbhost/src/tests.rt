@@ -8,3 +8,4 @@ mod feed_command;
 mod feed_retries;
 mod run_command;
 mod tape_command;
+mod taped_run;

@@ -4,8 +4,10 @@ use super::endings::{ended, is_wrong_usage};
 use super::fakes::{Sink, Source, Trouble};
 use crate::command::command;
 use std::alloc::Global;
+use std::fs::File;
 use std::io::ErrorKind;
 use std::process::Abort;
+use std::rt::Files;
 use std::sync::Wait;
 use std::thread::Threads;
 
@@ -213,7 +215,7 @@ fn check_is_used_wrongly(rt: HostRuntime) {
 }
 
 // What is told of a reader that fails behind the program, and of a writer that has room for so many bytes, or can't be flushed.
-fn told_of_trouble<T: Abort + Threads + Wait + Sync>(
+fn told_of_trouble<T: Abort + Threads + Wait + Sync + Files<File = File>>(
     rt: &T,
     alloc: Global,
     mut reader: Source<'_>,

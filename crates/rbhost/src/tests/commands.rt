@@ -4,13 +4,15 @@ use super::endings::is_wrong_usage;
 use super::fakes::{Sink, Source, Trouble};
 use crate::command::command;
 use std::alloc::Global;
+use std::fs::File;
 use std::io::ErrorKind;
 use std::process::Abort;
+use std::rt::Files;
 use std::sync::Wait;
 use std::thread::Threads;
 
 // What a command on an input ends with: the status and what was told on the error output as text, and the bytes that were printed.
-fn fed<T: Abort + Threads + Wait + Sync>(
+fn fed<T: Abort + Threads + Wait + Sync + Files<File = File>>(
     rt: &T,
     alloc: Global,
     words: &[&str],
@@ -116,7 +118,11 @@ fn wrong_usage(rt: HostRuntime) {
 }
 
 // Whether the words print a help that ends in one line feed, and nothing is read or told.
-fn is_help<T: Threads + Wait + Sync>(rt: &T, alloc: Global, words: &[&str]) -> bool {
+fn is_help<T: Threads + Wait + Sync + Files<File = File>>(
+    rt: &T,
+    alloc: Global,
+    words: &[&str],
+) -> bool {
     let mut reader = Source::new(&[1], 5);
     let mut text = Vec::new(alloc);
     let mut told = Vec::new(alloc);
@@ -139,7 +145,7 @@ fn help(rt: HostRuntime) {
 }
 
 // What `feed` ends with over this reader and writers with so much room, and how many bytes it wrote.
-fn fed_with<T: Abort + Threads + Wait + Sync>(
+fn fed_with<T: Abort + Threads + Wait + Sync + Files<File = File>>(
     rt: &T,
     alloc: Global,
     mut reader: Source<'_>,

@@ -3,12 +3,14 @@
 use super::fakes::Source;
 use crate::command::command;
 use std::alloc::Global;
+use std::fs::File;
 use std::process::Abort;
+use std::rt::Files;
 use std::sync::Wait;
 use std::thread::Threads;
 
 /// The status, what was told on the error output, and what was printed, which is text too.
-pub(crate) fn ended<T: Abort + Threads + Wait + Sync>(
+pub(crate) fn ended<T: Abort + Threads + Wait + Sync + Files<File = File>>(
     rt: &T,
     alloc: Global,
     words: &[&str],
@@ -18,7 +20,7 @@ pub(crate) fn ended<T: Abort + Threads + Wait + Sync>(
 }
 
 /// The same, over this reader.
-pub(crate) fn ended_over<T: Abort + Threads + Wait + Sync>(
+pub(crate) fn ended_over<T: Abort + Threads + Wait + Sync + Files<File = File>>(
     rt: &T,
     alloc: Global,
     words: &[&str],
@@ -33,7 +35,7 @@ pub(crate) fn ended_over<T: Abort + Threads + Wait + Sync>(
 }
 
 /// Whether the words were told to be wrong, before anything was read or printed.
-pub(crate) fn is_wrong_usage<T: Threads + Wait + Sync>(
+pub(crate) fn is_wrong_usage<T: Threads + Wait + Sync + Files<File = File>>(
     rt: &T,
     alloc: Global,
     words: &[&str],
@@ -46,4 +48,12 @@ pub(crate) fn is_wrong_usage<T: Threads + Wait + Sync>(
         && printed.is_empty()
         && told.as_slice().starts_with(b"error: ")
         && reader.rest.len() == 1
+}
+
+/// The number at a place of a line's words; none is the greatest.
+pub(crate) fn number(line: &str, place: usize) -> u64 {
+    match line.split(' ').nth(place) {
+        Some(word) => word.parse().unwrap_or(u64::MAX),
+        None => u64::MAX,
+    }
 }

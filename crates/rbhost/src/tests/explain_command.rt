@@ -3,12 +3,14 @@
 use super::fakes::Source;
 use crate::command::command;
 use std::alloc::Global;
+use std::fs::File;
 use std::process::Abort;
+use std::rt::Files;
 use std::sync::Wait;
 use std::thread::Threads;
 
 // Runs the command on a text, and compares the status and both outputs.
-fn explained<T: Abort + Threads + Wait + Sync>(
+fn explained<T: Abort + Threads + Wait + Sync + Files<File = File>>(
     rt: &T,
     alloc: Global,
     words: &[&str],

@@ -5,8 +5,10 @@ use crate::command::command;
 use crate::feed::feed;
 use crate::feed_fault::FeedFault;
 use std::alloc::Global;
+use std::fs::File;
 use std::io::ErrorKind;
 use std::process::Abort;
+use std::rt::Files;
 use std::sync::Wait;
 use std::thread::Threads;
 
@@ -51,7 +53,7 @@ fn one_write_fails(rt: HostRuntime) {
 }
 
 // The same by the command: its status, what it told, and what went out.
-fn told<T: Abort + Threads + Wait + Sync>(
+fn told<T: Abort + Threads + Wait + Sync + Files<File = File>>(
     rt: &T,
     alloc: Global,
     fails_at: usize,

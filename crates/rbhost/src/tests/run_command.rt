@@ -1,6 +1,6 @@
 //! The command `run`, with all that it prints.
 
-use super::endings::{ended, is_wrong_usage};
+use super::endings::{ended, is_wrong_usage, number};
 
 // r0 = 0, and exit.
 const EXIT_ZERO: &str = "b700000000000000 9500000000000000";
@@ -43,14 +43,6 @@ fn runs_that_leave_one_outcome(rt: HostRuntime) {
             wanted,
             "of {words:?}"
         );
-    }
-}
-
-// The number at a place of a line's words; none is the greatest.
-fn number(line: &str, place: usize) -> u64 {
-    match line.split(' ').nth(place) {
-        Some(word) => word.parse().unwrap_or(u64::MAX),
-        None => u64::MAX,
     }
 }
 
@@ -230,7 +222,7 @@ fn programs_are_refused_before_rings(rt: HostRuntime) {
 
 #[test]
 fn run_is_used_wrongly(rt: HostRuntime) {
-    let wrong: [&[&str]; 6] = [
+    let wrong: [&[&str]; 7] = [
         &["run", "--jobs", "1", "--size", "4096"],
         &["run", "--workers", "1", "--size", "4096"],
         &["run", "--workers", "1", "--jobs", "1"],
@@ -245,6 +237,16 @@ fn run_is_used_wrongly(rt: HostRuntime) {
             "4096",
         ],
         &["run", "--workers", "one", "--jobs", "1", "--size", "4096"],
+        &[
+            "run",
+            "--workers",
+            "1",
+            "--jobs",
+            "1",
+            "--size",
+            "4096",
+            "--tape",
+        ],
     ];
     for words in wrong {
         assert!(rt; is_wrong_usage(&rt, rt.alloc(), words), "of {words:?}");

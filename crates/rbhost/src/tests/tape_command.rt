@@ -6,8 +6,10 @@ use crate::tape::tape;
 use crate::tape_refusal::TapeRefusal;
 use rb_reader::TapeKind;
 use std::alloc::Global;
+use std::fs::File;
 use std::io::ErrorKind;
 use std::process::Abort;
+use std::rt::Files;
 use std::sync::Wait;
 use std::thread::Threads;
 
@@ -17,7 +19,7 @@ const ONE_RECORD: [u8; 16] = [8, 0, 0, 0, 0, 0, 0, 0, 0x2a, 0, 0, 0, 0, 0, 0, 0]
 const WORDS: [&str; 3] = ["tape", "--size", "4096"];
 
 // Whether the tape gives this ending, read in pieces of 1, of 7 and of 4,096 bytes.
-fn gives<T: Abort + Threads + Wait + Sync>(
+fn gives<T: Abort + Threads + Wait + Sync + Files<File = File>>(
     rt: &T,
     alloc: Global,
     bytes: &[u8],
@@ -76,7 +78,7 @@ fn cut_tapes(rt: HostRuntime) {
 }
 
 // What the tape gives with the bit of this number changed.
-fn with_bit_changed<T: Abort + Threads + Wait + Sync>(
+fn with_bit_changed<T: Abort + Threads + Wait + Sync + Files<File = File>>(
     rt: &T,
     alloc: Global,
     number: usize,

@@ -1,0 +1,20 @@
+use Rattle.std.proofs.Common.{◌≡◌, true, false, subst}
+use Rattle.std.specs.Io.KnownBytes.{append_known}
+use Rattle.rbhost.specs.TapedRun.{TapesRun}
+use Rattle.rbhost.specs.declared.buffered.Buffered.{Buffered}
+use Rattle.rbhost.proofs.taped_run.run_to_file.Goals as goal
+
+pub returns-clause-printed : goal.returns-clause-printed
+returns-clause-printed g c =
+    let contents = λ (b : Buffered g.row.F.Denot). append_known (g.F.Write.contents b.writer) b.waiting.items in
+    let tape = c.in_ok-tape.tape in
+    let left = c.in_ok-written.written.writer in
+    record {
+      subject = c.in_ok-program.program;
+      accepted = c.in_ok-program.ensures.accepted;
+      writer = tape;
+      left = left;
+      taped =
+          subst (λ whole. TapesRun contents tape c.in_ok-program.program c.args.request (g.W.Write.contents c.args.out.now) (g.W.Write.contents c.run_taped.new.out) whole left)
+          c.if-not-written.false c.in_ok-written.ensures.taped;
+    }
