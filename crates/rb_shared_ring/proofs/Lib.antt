@@ -8,3 +8,4 @@ mod SeatNumbers
 mod TakenNumbers
 mod OpenedSeats
 mod GatheredSeats
+mod WholeLaws

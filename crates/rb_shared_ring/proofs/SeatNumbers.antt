@@ -30,7 +30,8 @@ use Rattle.rb_chapter_ledger.specs.LockedChapterCalls.{LockedChapterCall, InOneC
 use Rattle.rb_chapter_ledger.proofs.Chain.{binds-continue}
 use Rattle.rb_chapter_ledger.proofs.WholeCalls.{said, call-whole, with-worker, each-call-is-whole}
 use Rattle.rb_shared_ring.specs.SharedCalls.{ReservesInChapter, OutputsInChapter, AuditsInChapter, IsRefusedInChapterAs, reserved_in_chapter_by, output_in_chapter_by}
-use Rattle.rb_shared_ring.proofs.WholeAnswers.{whole_answer, tally-reserved, tally-output, reserves-whole, outputs-whole}
+use Rattle.rb_shared_ring.specs.AnswersOverAll.{whole_answer}
+use Rattle.rb_shared_ring.proofs.WholeAnswers.{tally-reserved, tally-output, reserves-whole, outputs-whole}
 
 -- what a seat has seen is a book of the ring
 pub book-in : (role : Role) (b a : Book) (Call : ChapteredRing → ChapteredRing → Type 0) → LockedChapterCall role b a Call → IsBook a

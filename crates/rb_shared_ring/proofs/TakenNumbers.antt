@@ -51,6 +51,21 @@ pub record AreTakerNumbers (c s p e k m : ℕ) (a b : Book) : Type 0 where
 consumer-low : (r : Ring) (a : Book) → a ≡ book_of r → r.consumer ≡ consumer_of r.setup.start r.history → r.consumer ≤ r.producer → r.producer ≤ 2 ^ 62 → consumer_of a.setup.start a.history ≤ 2 ^ 62
 consumer-low r a seen is low high = subst (λ (x : Book). consumer_of x.setup.start x.history ≤ 2 ^ 62) (sym seen) (omega (arith, is, low, high))
 
+-- many takes over the whole history
+pub many-turn : (b a : Book) (handed_out : List Chapter) (n : ℕ) (ts : List Taken) → LockedChapterCall Consumer b a (InKnownChapter handed_out (TakesManyInChapter n ts)) → LockedCall Consumer b a (TakesMany n ts)
+many-turn b a handed_out n ts call =
+    let has = call.was_ring.has_chapters in
+    let is : IsKept (joined call.point.handed_out) call.point.ring.chapter = record { continues = binds-continue call.point.handed_out call.point.ring.chapter has.binds; room = has.room } in
+    record {
+      point = whole_of call.point;
+      left = whole_of call.left;
+      goes_on = call.goes_on;
+      was_ring = call.was_ring.is_ring;
+      called = subst (λ hs. TakesMany n ts (whole_of call.point) (whole_of (record { handed_out = hs; ring = call.left.ring }))) (sym call.called.1.0) (many-whole (joined call.point.handed_out) call.point.ring call.left.ring n ts is call.called.1.1);
+      is_ring = call.is_ring.is_ring;
+      seen = call.seen;
+    }
+
 module _ (c s p : ℕ) (b a : Book) (ties : ConsumerTies c s p b) (spaced : 8 * (c + s) ≤ p) where
   numbers : (e k m : ℕ) → ConsumerTies (c + e) (s + k) (p + m) a → 8 * (e + k) ≤ m → consumer_of a.setup.start a.history ≤ 2 ^ 62 → a.setup ≡ b.setup → AreTakerNumbers c s p e k m a b
   numbers e k m now more low setup = record {
@@ -72,29 +87,15 @@ module _ (c s p : ℕ) (b a : Book) (ties : ConsumerTies c s p b) (spaced : 8 * 
   take-stood handed_out t call = take-place c s p b a t ((each-call-is-whole b a).takes handed_out t call) ties
 
   -- many takes
-  many-turn : (handed_out : List Chapter) (n : ℕ) (ts : List Taken) → LockedChapterCall Consumer b a (InKnownChapter handed_out (TakesManyInChapter n ts)) → LockedCall Consumer b a (TakesMany n ts)
-  many-turn handed_out n ts call =
-      let has = call.was_ring.has_chapters in
-      let is : IsKept (joined call.point.handed_out) call.point.ring.chapter = record { continues = binds-continue call.point.handed_out call.point.ring.chapter has.binds; room = has.room } in
-      record {
-        point = whole_of call.point;
-        left = whole_of call.left;
-        goes_on = call.goes_on;
-        was_ring = call.was_ring.is_ring;
-        called = subst (λ hs. TakesMany n ts (whole_of call.point) (whole_of (record { handed_out = hs; ring = call.left.ring }))) (sym call.called.1.0) (many-whole (joined call.point.handed_out) call.point.ring call.left.ring n ts is call.called.1.1);
-        is_ring = call.is_ring.is_ring;
-        seen = call.seen;
-      }
-
   pub many-counts : (handed_out : List Chapter) (n : ℕ) (ts : List Taken) → LockedChapterCall Consumer b a (InKnownChapter handed_out (TakesManyInChapter n ts)) → AreTakerNumbers c s p (events_among ts) (skips_among ts) (span_among ts) a b
   many-counts handed_out n ts call =
-      let turn = many-turn handed_out n ts call in
+      let turn = many-turn b a handed_out n ts call in
       let left = turn.is_ring in
       numbers (events_among ts) (skips_among ts) (span_among ts) (many-ties c s p b a n ts turn ties) (spaced-all ts)
       (consumer-low turn.left a turn.seen left.stands.consumer_is left.bounded.consumer left.bounded.producer) (many-setup c s p b a n ts turn ties)
 
   pub many-stood : (handed_out : List Chapter) (n : ℕ) (ts : List Taken) → LockedChapterCall Consumer b a (InKnownChapter handed_out (TakesManyInChapter n ts)) → AreTakenFrom p ts
-  many-stood handed_out n ts call = many-places c s p b a n ts (many-turn handed_out n ts call) ties
+  many-stood handed_out n ts call = many-places c s p b a n ts (many-turn b a handed_out n ts call) ties
 
   -- the ring is as it was
   same-counts : LockedCall Consumer b a (λ old new. new ≡ old) → ConsumerTies c s p a × (a.setup ≡ b.setup)

@@ -7,7 +7,6 @@ use Rattle.rb_history.specs.NoticesAndQueries.{IsDue}
 use Rattle.rb_history.specs.declared.answers.Stray.{Stray}
 use Rattle.rb_history.specs.declared.answers.Taken.{Taken}
 use Rattle.rb_history.specs.declared.answers.Taken.TheVariants.{Event, Skipped, BusyFront, Empty}
-use Rattle.rb_history.specs.declared.answers.ReserveFault.{ReserveFault as WholeFault}
 use Rattle.rb_history.specs.declared.answers.ReserveFault.TheVariants.{Full as WholeFull, Memory, Flags as WholeFlags, Foreign as WholeForeign}
 use Rattle.rb_history.specs.declared.tally.Tally.{Tally}
 use Rattle.rb_history.specs.ReservationModel.{Granted}
@@ -25,19 +24,10 @@ use Rattle.rb_chapter_ring.specs.RingFaults.{RefusesInChapter}
 use Rattle.rb_ledger.specs.LockedCalls.{Reserves, OutputsAt, reserved_by, output_by, sent_by_output}
 use Rattle.rb_chapter_ledger.specs.LockedChapterCalls.{SubmitsInChapter, DiscardsInChapter}
 use Rattle.rb_chapter_ledger.proofs.WholeCalls.{said, due-same}
+use Rattle.rb_shared_ring.specs.AnswersOverAll.{whole_fault, whole_answer}
 use Rattle.rb_shared_ring.specs.SharedCalls.{ReservesInChapter, OutputsInChapter, reserved_in_chapter_by, output_in_chapter_by, sent_by_chapter_output}
 
--- ---- answers: over the whole history a chapter without room is one more refusal that changes nothing
-
-abbrev pub whole_fault : ReserveFault → WholeFault
-whole_fault Full = WholeFull
-whole_fault Flags = WholeFlags
-whole_fault ChapterFull = Memory
-whole_fault Foreign = WholeForeign
-
-abbrev pub whole_answer : {A : Type 0} → Result A (ReserveFault × List ℕ) → Result A (WholeFault × List ℕ)
-whole_answer (Ok a) = Ok a
-whole_answer (Err e) = Err (whole_fault e.0, e.1)
+-- ---- answers
 
 tally-refused : (t : Tally) (f : ReserveFault) (b : List ℕ) → reserved_by t (Err (whole_fault f, b)) ≡ reserved_in_chapter_by t (Err (f, b))
 tally-refused t Full b = refl

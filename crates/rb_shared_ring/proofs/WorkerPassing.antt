@@ -28,7 +28,8 @@ use Rattle.rb_shared_ring.specs.inner.SeatPasses.{seen_by, bytes_by, IsIdleIn}
 use Rattle.rb_shared_ring.specs.inner.LentState.{IsKeptRing}
 use Rattle.rb_shared_ring.specs.SharedCalls.{ReservesInChapter, OutputsInChapter, AuditsInChapter, sent_by_chapter_output}
 use Rattle.rb_shared_ring.proofs.ChapterPassing.{HeldChapter, held-in, may-put-in, idle-in, bytes-in, is-locked-in}
-use Rattle.rb_shared_ring.proofs.WholeAnswers.{whole_answer, stays, same-reserved, same-output, same-submitted, same-discarded, reserves-whole, outputs-whole, producer-same, sent-output}
+use Rattle.rb_shared_ring.specs.AnswersOverAll.{whole_answer}
+use Rattle.rb_shared_ring.proofs.WholeAnswers.{stays, same-reserved, same-output, same-submitted, same-discarded, reserves-whole, outputs-whole, producer-same, sent-output}
 
 -- what a worker's call leaves
 pub record LeavesWorker (w : ℕ) (v after : ChapterPassView) (sent : Contents) (Call : ChapterRing → ChapterRing → Type 0) : Type 0 where

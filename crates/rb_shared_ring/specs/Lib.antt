@@ -1,4 +1,5 @@
 pub mod SharedCalls
+pub mod AnswersOverAll
 pub mod SharedSeats
 pub mod BoundSeats
 pub mod inner

@@ -3,9 +3,23 @@
 //!
 //! Whatever the threads do, all calls are in one history, of which each seat has seen a beginning: the entries of the chapters that were handed
 //! out, then those of the chapter under the lock (`rb_chapter_ledger` has the definitions, with a drawing, and the laws). `SharedRing` says
-//! what each call promises.
+//! what each call promises, `Closing::bind` what holds once all seats are back and the chapters are bound.
+//!
+//! ```text
+//! let (ring, mut seats, mut consumer) = open(rt, alloc, 7, 4096, 0, 1, 8)?;  // tag 7, 4096 bytes, one worker, chapters of 8 entries
+//! let mut seat = seats.pop()?;
+//! let record = ring.reserve(rt, &mut seat, 8, Sheet::new(alloc, 8)?)?;
+//! ring.submit(rt, &mut seat, record, 0)?;
+//! ring.used(rt, &mut consumer)?;                                             // (2, 1): two entries, and a take is owed
+//! let chapter = ring.hand_out(rt, &mut consumer, Chapter::new(alloc, 8, 1)?)?;
+//! ring.take(rt, &mut consumer)?;                                             // Taken::Event(0, 0, 0, ..), in chapter 1
+//! seats.push(seat)?;
+//! let closing = ring.close(rt, seats, consumer)?;                            // its last chapter is number 1
+//! closing.bind(alloc, chapters)?.history();                                  // three entries, where `chapters` has the one handed out
+//! ```
 #![tactic(auto)]
 
+mod answer_laws;
 mod audit;
 mod chapters;
 mod closing;
@@ -19,6 +33,7 @@ mod tally;
 mod whole;
 mod worker_seat;
 
+pub use answer_laws::each_answer_is_whole;
 pub use chapters::HandFault;
 pub use closing::{Closing, NotAll};
 pub use consumer_seat::ConsumerSeat;

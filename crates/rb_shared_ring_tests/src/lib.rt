@@ -6,6 +6,8 @@ mod binding;
 #[cfg(test)]
 mod chapters;
 #[cfg(test)]
+mod example;
+#[cfg(test)]
 mod rings_with_seats;
 #[cfg(test)]
 mod worker_calls;
