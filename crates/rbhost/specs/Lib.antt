@@ -13,3 +13,4 @@ pub mod ReportLines
 pub mod RunCommand
 pub mod PayloadReads
 pub mod inner
+pub mod Simulated

@@ -24,6 +24,8 @@ pub enum Request {
     Explain(Bounds),
     /// Verifies a program and runs it as jobs on threads.
     Run(JobsRequest),
+    /// Runs a script of workers and rings in turns.
+    Sim,
 }
 
 /// The command that these words name, which follow the program's name on the command line. An error is help or the version that was
@@ -49,6 +51,7 @@ pub fn parse<S: AsStr>(alloc: Global, words: &[S]) -> Result<Request, Error> {
             size: number(alloc, &mut program, options, "size")?,
             start: number(alloc, &mut program, options, "start")?,
         })),
+        Some(("sim", _)) => Ok(Request::Sim),
         _ => Err(program.error(ErrorKind::MissingSubcommand, "no command was given")?),
     }
 }
@@ -77,7 +80,8 @@ fn program<'a>(alloc: Global) -> Result<Command<'a>, AllocError> {
         .subcommand(tape(alloc)?)?
         .subcommand(check(alloc)?)?
         .subcommand(explain(alloc)?)?
-        .subcommand(run(alloc)?)
+        .subcommand(run(alloc)?)?
+        .subcommand(sim(alloc)?)
 }
 
 fn feed<'a>(alloc: Global) -> Result<Command<'a>, AllocError> {
@@ -131,6 +135,16 @@ fn run<'a>(alloc: Global) -> Result<Command<'a>, AllocError> {
         .arg(jobs(alloc))?
         .arg(size(alloc))?
         .arg(start(alloc))
+}
+
+fn sim<'a>(alloc: Global) -> Result<Command<'a>, AllocError> {
+    Ok(
+        Command::new(alloc, "sim")
+            .about("Runs a script of workers and rings in turns, without threads")
+            .after_help(
+                "Example: printf 'ring 4096 0\\nworker b7000000000000009500000000000000\\nw 0 2\\n' | rbhost sim",
+            ),
+    )
 }
 
 fn workers<'a>(alloc: Global) -> Arg<'a> {

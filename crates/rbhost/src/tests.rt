@@ -7,4 +7,5 @@ mod fakes;
 mod feed_command;
 mod feed_retries;
 mod run_command;
+mod sim_command;
 mod tape_command;
