@@ -1,3 +1,4 @@
+pub mod Scripts
 pub mod OutputLines
 pub mod Simulation
 pub mod inner

@@ -1,6 +1,7 @@
 //! A script: rings, workers, and the turns that they take.
 
-ghost use Rattle.std.specs.Prelude.{◌≤◌, length};
+ghost use Rattle.std.specs.Prelude.{◌≤◌, length, IfOk, OnOk};
+ghost use Rattle.rb_script.specs.Scripts.{HasWorker, IsWithinLimits};
 
 use crate::script_fault::ScriptFault;
 use crate::script_line::{ScriptLine, line_of};
@@ -37,7 +38,10 @@ impl<'a> Script<'a> {
     /// Reads a whole script. Each line ends by a line feed, which the last one need not have. The fault is that of the first line that
     /// is no line of a script or may not stand there: rings and workers stand before the first turn, at most 16 rings and 256 workers, and
     /// at least one worker; a turn is that of a worker or a ring that is there; and there are 1,000,000 turns at most.
-    pub fn read(alloc: Global, input: &'a [u8]) -> Result<Script<'a>, ScriptFault> {
+    pub fn read(alloc: Global, input: &'a [u8]) -> Result<Script<'a>, ScriptFault>
+        ensures limits { IfOk result IsWithinLimits }
+        ensures worker { IfOk result HasWorker }
+    {
         let mut script = Script {
             rings: Vec::new(alloc),
             workers: Vec::new(alloc),
@@ -58,7 +62,10 @@ impl<'a> Script<'a> {
     }
 
     // Adds a line.
-    fn add(&mut self, alloc: Global, number: usize, line: &'a [u8]) -> Result<(), ScriptFault> {
+    fn add(&mut self, alloc: Global, number: usize, line: &'a [u8]) -> Result<(), ScriptFault>
+        requires limits { IsWithinLimits self.old }
+        ensures limits { OnOk result (IsWithinLimits self.new) }
+    {
         match line_of(line) {
             Some(ScriptLine::Ring(setup)) => self.add_ring(number, setup),
             Some(ScriptLine::Worker(program, context)) => {
@@ -70,7 +77,10 @@ impl<'a> Script<'a> {
     }
 
     // Adds a ring.
-    fn add_ring(&mut self, number: usize, setup: RingSetup) -> Result<(), ScriptFault> {
+    fn add_ring(&mut self, number: usize, setup: RingSetup) -> Result<(), ScriptFault>
+        requires limits { IsWithinLimits self.old }
+        ensures limits { OnOk result (IsWithinLimits self.new) }
+    {
         if !self.actors.is_empty() || self.rings.len() >= 16 {
             return Err(ScriptFault::Line(number));
         }
@@ -87,7 +97,10 @@ impl<'a> Script<'a> {
         number: usize,
         program: &'a str,
         context: &str,
-    ) -> Result<(), ScriptFault> {
+    ) -> Result<(), ScriptFault>
+        requires limits { IsWithinLimits self.old }
+        ensures limits { OnOk result (IsWithinLimits self.new) }
+    {
         if !self.actors.is_empty() || self.workers.len() >= 256 {
             return Err(ScriptFault::Line(number));
         }
@@ -119,14 +132,18 @@ impl<'a> Script<'a> {
     }
 
     // Adds turns of an actor.
-    fn add_turns(&mut self, number: usize, actor: Actor, count: u64) -> Result<(), ScriptFault> {
+    fn add_turns(&mut self, number: usize, actor: Actor, count: u64) -> Result<(), ScriptFault>
+        requires limits { IsWithinLimits self.old }
+        ensures limits { OnOk result (IsWithinLimits self.new) }
+    {
         if self.workers.is_empty() || !self.has(actor) {
             return Err(ScriptFault::Line(number));
         }
         if count == 0 || count > TURNS || self.actors.len() as u64 + count > TURNS {
             return Err(ScriptFault::Line(number));
         }
-        for _ in 0..count {
+        for added in 0..count {
+            let _ = added;
             if self.actors.push(actor).is_err() {
                 return Err(ScriptFault::Memory);
             }

@@ -14,3 +14,4 @@ pub mod RunCommand
 pub mod TapedRun
 pub mod PayloadReads
 pub mod inner
+pub mod Simulated

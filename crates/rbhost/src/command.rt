@@ -14,6 +14,7 @@ use crate::feed::feed;
 use crate::feed_fault::FeedFault;
 use crate::options::{Request, parse};
 use crate::run_command::run;
+use crate::sim::sim;
 use crate::tape::tape;
 use crate::tape_refusal::TapeRefusal;
 use crate::taped_run::run_to_file;
@@ -31,7 +32,7 @@ use std::thread::Threads;
 /// the program ends with: 0; 1 where it was refused, with a line on `err` that begins with `refused `; 2 for wrong usage, which
 /// goes to `err` before anything is read or written. Help and the version, where they are asked for, go to `out`.
 ///
-/// `feed` and `explain` wait for nobody. `check` and `run` hold a ring's lock for each call, and `run` starts threads.
+/// `feed`, `tape`, `explain` and `sim` wait for nobody. `check` and `run` hold a ring's lock for each call, and `run` starts threads.
 pub fn command<T, F: Write + Send + Drop, S: AsStr, R: Read, W: Write, E: Write>(
     rt: &T,
     alloc: Global,
@@ -65,6 +66,7 @@ where
                 tape: Some(path),
             },
         ) => status_of(run_to_file(rt, alloc, input, out, jobs, path), err),
+        Ok(Request::Sim) => status_of(sim(alloc, input, out), err),
         Err(error) => print_usage(&error, out, err),
     }
 }

@@ -1,10 +1,10 @@
-//! A host for eBPF programs that write into BPF ring buffers, as a program with five commands.
+//! A host for eBPF programs that write into BPF ring buffers, as a program with six commands.
 //!
 //! `feed` puts payloads through a ring and writes the bytes that a reader of the kernel's ring buffer maps (ringbuf.rst). `tape` reads
 //! them back. `check` decodes and verifies a program (RFC 9669), runs it once over fresh rings, and prints the records that it left. `explain` prints what
 //! the verifier knows before each instruction, or why a program is refused. `run` has workers
 //! run a verified program on threads over one ring, and prints what each counted; what the ring's consumer took it writes to a file as a tape, where
-//! one is asked for.
+//! one is asked for. `sim` runs a script of workers and rings in turns, without threads.
 //!
 //! What is promised is on `command`, `feed`, `check`, `explain`, `run` and `run_taped`: which statuses there are, what `feed` read and wrote by its answer,
 //! and that the result printed by `check` is one that the program's meaning gives.
@@ -29,6 +29,7 @@ mod record_lines;
 mod report_lines;
 mod retries;
 mod run_command;
+mod sim;
 mod tape;
 mod tape_lines;
 mod tape_refusal;

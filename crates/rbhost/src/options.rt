@@ -34,6 +34,8 @@ pub enum Request<'a> {
         jobs: JobsRequest,
         tape: Option<&'a str>,
     },
+    /// Runs a script of workers and rings in turns.
+    Sim,
 }
 
 /// The command that these words name, which follow the program's name on the command line. An error is help or the version that was
@@ -57,6 +59,7 @@ pub fn parse<'a, S: AsStr>(alloc: Global, words: &'a [S]) -> Result<Request<'a>,
             jobs: jobs_request(alloc, &mut program, options)?,
             tape: options.get_str("tape"),
         }),
+        Some(("sim", _)) => Ok(Request::Sim),
         _ => Err(program.error(ErrorKind::MissingSubcommand, "no command was given")?),
     }
 }
@@ -99,7 +102,8 @@ fn program<'a>(alloc: Global) -> Result<Command<'a>, AllocError> {
         .subcommand(tape(alloc)?)?
         .subcommand(check(alloc)?)?
         .subcommand(explain(alloc)?)?
-        .subcommand(run(alloc)?)
+        .subcommand(run(alloc)?)?
+        .subcommand(sim(alloc)?)
 }
 
 fn feed<'a>(alloc: Global) -> Result<Command<'a>, AllocError> {
@@ -154,6 +158,16 @@ fn run<'a>(alloc: Global) -> Result<Command<'a>, AllocError> {
         .arg(size(alloc))?
         .arg(start(alloc))?
         .arg(tape_file(alloc))
+}
+
+fn sim<'a>(alloc: Global) -> Result<Command<'a>, AllocError> {
+    Ok(
+        Command::new(alloc, "sim")
+            .about("Runs a script of workers and rings in turns, without threads")
+            .after_help(
+                "Example: printf 'ring 4096 0\\nworker b7000000000000009500000000000000\\nw 0 2\\n' | rbhost sim",
+            ),
+    )
 }
 
 fn workers<'a>(alloc: Global) -> Arg<'a> {

@@ -7,5 +7,6 @@ mod fakes;
 mod feed_command;
 mod feed_retries;
 mod run_command;
+mod sim_command;
 mod tape_command;
 mod taped_run;
