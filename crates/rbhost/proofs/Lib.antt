@@ -1,5 +1,6 @@
 mod Answering
 mod Checking
+mod Digits
 mod Draining
 mod Explaining
 mod Feeding

@@ -5,3 +5,4 @@ pub mod OpeningFaults
 pub mod TapePrinting
 pub mod PayloadSteps
 pub mod LengthReads
+pub mod HexDigits

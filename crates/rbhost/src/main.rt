@@ -21,6 +21,7 @@ mod feed;
 mod feed_fault;
 mod fresh_rings;
 mod gate;
+mod hex_digits;
 mod jobs_fault;
 mod options;
 mod payloads;

@@ -7,6 +7,7 @@ ghost use Rattle.rbhost.specs.TapeText.{tape_line};
 ghost use Rattle.rbhost.specs.inner.TapePrinting.{PrintsLine, PrintsNext};
 
 use crate::device::write_out;
+use crate::hex_digits::write_digits;
 use crate::tape_refusal::TapeRefusal;
 use itoa::Buffer;
 use rb_reader::{Feed, Record};
@@ -82,8 +83,6 @@ fn push_hex(line: &mut Vec<u8>, bytes: &[u8]) -> Result<(), AllocError>
     }
     let end = line.len();
     line.resize(end + 2 * bytes.len(), 0)?;
-    let Ok(()) = hex::encode_to_slice(bytes, &mut line[end..]) else {
-        unreachable!()
-    };
+    write_digits(bytes, &mut line[end..]);
     Ok(())
 }

@@ -1,13 +1,14 @@
 //! Runs whose records are written as a tape.
 
+ghost use Rattle.std.specs.Prelude.{◌≡◌};
+
 use super::endings::{ended, number};
 use super::fakes::{Sink, Trouble};
-use crate::program::{ProgramFault, read_program};
-use crate::run_command::{JOB_BOUNDS, JobsRequest};
+use crate::program::read_program;
+use crate::run_command::{JOB_BOUNDS, JobsRequest, check_ring};
 use crate::taped_run::{WrittenTape, run_taped};
 use rb_examples::OUTPUT_CONTEXT;
 use rb_verifier::Verified;
-use std::alloc::Global;
 use std::fs::File;
 use std::io::ErrorKind;
 use std::process::Abort;
@@ -16,7 +17,9 @@ use std::sync::Wait;
 use std::thread::Threads;
 
 // The program of examples/output_context.hex, which outputs the first eight bytes of its context: its worker's number.
-fn output_context(rt: &(impl Abort + AllocGlobal)) -> Verified {
+fn output_context(rt: &(impl Abort + AllocGlobal)) -> Verified
+    ensures rings { result.rings ≡ 1 }
+{
     let mut text = OUTPUT_CONTEXT.as_bytes();
     match read_program(rt.alloc(), &mut text, JOB_BOUNDS) {
         Ok(program) => program,
@@ -37,6 +40,9 @@ fn run_over<T: Abort + AllocGlobal + Threads + Wait + Sync + Files<File = File>>
         jobs,
         size,
         start: 8,
+    };
+    let Ok(_workers) = check_ring(request) else {
+        rt.panic("no ring");
     };
     let mut out = Vec::new(rt.alloc());
     let program = output_context(rt);
