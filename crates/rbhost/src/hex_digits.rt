@@ -1,5 +1,4 @@
-//! Bytes as hex digits. A loop over plain arithmetic, which compilers turn into vector instructions: a table of digits costs some six times as
-//! much.
+//! Bytes as hex digits, by a loop over plain arithmetic, which a compiler may turn into vector instructions.
 
 ghost use Rattle.std.specs.Prelude.{◌≡◌, ◌<◌, ◌*◌, length};
 ghost use Rattle.hex.specs.Hex.{encode_lower};
