@@ -1,7 +1,6 @@
 //! What the tests share: calls that end the test where they are not answered as they have to be.
 
 ghost use Rattle.std.specs.Prelude.{◌≡◌, length};
-ghost use Rattle.rb_chapter.specs.Chapters.{empty_chapter};
 
 use rb_chapter::Chapter;
 use rb_chapter_ring::{ReserveFault, RingState};
@@ -10,7 +9,10 @@ use rb_lend::{Lent, Sheet};
 use std::alloc::Global;
 use std::process::Abort;
 
-/// A ring of 4,096 bytes from `start`, for this many workers.
+/// The size in bytes of each ring.
+pub(crate) const SIZE: u64 = 4096;
+
+/// A ring that begins at `start`, for this many workers, whose chapters have room for `room` entries.
 pub(crate) fn ring(
     rt: &impl Abort,
     alloc: Global,
@@ -18,7 +20,7 @@ pub(crate) fn ring(
     workers: u32,
     room: u32,
 ) -> RingState {
-    match RingState::new(alloc, 4096, start, workers, room) {
+    match RingState::new(alloc, SIZE, start, workers, room) {
         Ok(ring) => ring,
         Err(_) => rt.panic("the ring is refused"),
     }

@@ -7,7 +7,6 @@ use rb_chapter::Chapter;
 use rb_chapter_ledger::bind_chapters;
 use rb_chapter_ring::{OpenFault, ReserveFault, RingState};
 use rb_history::{Counts, Entry, Notice, Taken};
-use rb_lend::{Lent, Sheet};
 use std::alloc::Global;
 use std::process::Abort;
 
@@ -100,7 +99,7 @@ fn a_full_chapter_makes_room_for_the_next(rt: HostRuntime) {
     joins(&rt, rt.alloc(), first, &ring, &history);
 }
 
-// A chapter of this room, for this many workers, has to be handed back as it was.
+// The chapter has to be handed back as it was, and nothing of the ring may change.
 fn does_not_fit(rt: &impl Abort, ring: &mut RingState, chapter: Chapter) {
     let (room, workers) = (chapter.room(), chapter.opening().workers());
     let before = (ring.chapter().number(), used(ring));

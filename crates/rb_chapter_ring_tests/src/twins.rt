@@ -4,7 +4,7 @@
 ghost use Rattle.std.specs.Prelude.{◌≡◌, ◌≢◌, vec_len, vec_capacity};
 
 use super::draw::{Draw, WORKERS};
-use super::rings::{filled, handed_out, output, refused, reserved, ring, used};
+use super::rings::{SIZE, filled, handed_out, output, refused, reserved, ring, used};
 use rb_chapter::Chapter;
 use rb_chapter_ledger::bind_chapters;
 use rb_chapter_ring::{ReserveFault, RingState};
@@ -14,8 +14,6 @@ use rb_ring_list::RingState as ListState;
 use std::alloc::Global;
 use std::collections::VecDeque;
 use std::process::Abort;
-
-const SIZE: u64 = 4096;
 
 const START: u64 = 4088;
 
@@ -129,10 +127,10 @@ impl Twins {
     fn finds_chapter_full(&mut self, rt: &impl Abort, alloc: Global, worker: u32, n: u32)
         ensures { self.new.list ≡ self.old.list }
     {
-        let before = used(&self.ring);
+        let before = (used(&self.ring), self.ring.counts());
         let fault = refused(rt, alloc, &mut self.ring, worker, n);
         assert_eq!(rt; fault, ReserveFault::ChapterFull, "{n} bytes");
-        assert_eq!(rt; used(&self.ring), before);
+        assert_eq!(rt; (used(&self.ring), self.ring.counts()), before);
     }
 
     fn reserve(&mut self, rt: &impl Abort, alloc: Global, draw: &mut Draw)
@@ -158,9 +156,11 @@ impl Twins {
         let n = length(draw);
         let flags = u64::from(draw.below(5));
         if flags < 4 && is_chapter_full(&self.ring, &self.list, n) {
+            let before = (used(&self.ring), self.ring.counts());
             let sheet = filled(rt, alloc, n, 1);
             let one = output_told(output(rt, &mut self.ring, worker, sheet, flags));
             assert_eq!(rt; one, Err(None), "output of {n}");
+            assert_eq!(rt; (used(&self.ring), self.ring.counts()), before);
         } else {
             let byte = draw.below(256) as u8;
             let sheet = filled(rt, alloc, n, byte);
@@ -227,7 +227,7 @@ impl Twins {
         self.chapters.push(chapter).expect(rt, "memory");
     }
 
-    // One drawn command, or a chapter handed out: so often as one in `pages` commands.
+    // One drawn command. Before one in `pages` of them the chapter is handed out.
     fn step(&mut self, rt: &impl Abort, alloc: Global, draw: &mut Draw, pages: u32)
         requires pages { pages ≢ 0 }
         requires workers { self.old.list.setup.workers ≡ 3 }
@@ -312,7 +312,7 @@ fn one_run(
     twins.joins(rt, alloc);
 }
 
-// Twice so many commands as this at a chapter's room, with a chapter handed out after one in `pages` commands.
+// Twice this many commands at a chapter's room. Before one in `pages` of them a chapter is handed out.
 fn agree_at(rt: &impl Abort, alloc: Global, room: u32, commands: u32, pages: u32)
     requires { pages ≢ 0 }
 {
