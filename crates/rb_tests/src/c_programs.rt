@@ -132,10 +132,15 @@ fn ended<R: Wait + Abort>(rt: &R, alloc: Global, program: &str, numbers: &[u64])
 
 // Each program as clang makes it optimised (-O2), and as it makes it without (-O0), where pointers are kept on the stack.
 const EVENT: [&str; 2] = [programs::EVENT, programs::EVENT_O0];
+
 const REFUSED: [&str; 2] = [programs::REFUSED, programs::REFUSED_O0];
+
 const SAMPLING: [&str; 2] = [programs::SAMPLING, programs::SAMPLING_O0];
+
 const SIZE_CLASS: [&str; 2] = [programs::SIZE_CLASS, programs::SIZE_CLASS_O0];
+
 const STACK_OUTPUT: [&str; 2] = [programs::STACK_OUTPUT, programs::STACK_OUTPUT_O0];
+
 const TWO_RINGS: [&str; 2] = [programs::TWO_RINGS, programs::TWO_RINGS_O0];
 
 #[test]
