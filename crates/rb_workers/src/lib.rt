@@ -20,13 +20,10 @@ mod ring_close;
 mod run_buffers;
 mod sink;
 mod threads;
-mod used_sheets;
+pub mod used_sheets;
 mod workers;
 
 pub use jobs_run::run_jobs;
 pub use opened::{Ended, JobFault, Opened, Report};
 pub use rb_jobs::{Gate, Job};
 pub use sink::Sink;
-
-#[cfg(test)]
-mod tests;

@@ -8,14 +8,16 @@ use rb_seats::{SHORT, Stock};
 use std::sync::Wait;
 
 /// How many used sheets wait at most.
-pub(crate) const PLACES: usize = 64;
+pub const PLACES: usize = 64;
 
 /// The sheets of taken records, until a worker needs one. One that finds no place is handed back, and so is a short one, which is not
 /// worth a place.
 #[derive(Drop)]
-pub(crate) struct UsedSheets<'q, R> {
-    pub(crate) rt: &'q R,
-    pub(crate) sheets: &'q ArrayQueue<Sheet>,
+pub struct UsedSheets<'q, R> {
+    /// What waiting for the queue goes through.
+    pub rt: &'q R,
+    /// Where they wait.
+    pub sheets: &'q ArrayQueue<Sheet>,
 }
 
 impl<'q, R: Wait> Stock for UsedSheets<'q, R> {

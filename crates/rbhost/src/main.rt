@@ -6,42 +6,12 @@
 //! run a verified program on threads over one ring, and prints what each counted; what the ring's consumer took it writes to a file as a tape, where
 //! one is asked for. `sim` runs a script of workers and rings in turns, without threads.
 //!
-//! What is promised is on `command`, `feed`, `check`, `explain`, `run` and `run_taped`: which statuses there are, what `feed` read and wrote by its answer,
-//! and that the result printed by `check` is one that the program's meaning gives.
+//! What is promised is on the public calls of the crates below: `command` (rb_command_line) says which statuses there are, `feed` and `tape`
+//! (rb_tape_commands) what was read and written by their answers, `explain` (rb_loader) what was explained, `check`, `run` and `run_taped`
+//! (rb_run_commands) that what is printed is what the rings handed out, and `sim` (rb_sim_command) that its lines are those of a world's turns.
 #![tactic(auto)]
 
-mod buffered;
-mod check;
-mod check_fault;
-mod command;
-mod device;
-mod drain;
-mod explain;
-mod feed;
-mod feed_fault;
-mod fresh_rings;
-mod gate;
-mod hex_digits;
-mod jobs_fault;
-mod options;
-mod payloads;
-mod program;
-mod record_lines;
-mod report_lines;
-mod retries;
-mod run_command;
-mod sim;
-mod tape;
-mod tape_lines;
-mod tape_refusal;
-mod tape_sink;
-mod taped_run;
-#[cfg(test)]
-mod tests;
-mod transfer;
-mod worker_jobs;
-
-use command::command;
+use rb_command_line::command;
 use std::process::ExitCode;
 use std::{env, io};
 

@@ -1,0 +1,10 @@
+//! The command line of `rbhost`: which command its words name, and which status it ends with.
+//!
+//! For the program, and for tests of it over readers and writers in memory. What is promised: a status of 0 to 2, and that wrong usage
+//! reads and prints nothing.
+#![tactic(auto)]
+
+mod dispatch;
+mod options;
+
+pub use dispatch::command;

@@ -1,0 +1,276 @@
+//! What the words of the command line ask for.
+
+ghost use Rattle.std.specs.Prelude.{◌<◌, ◌≤◌, ◌^◌, IfOk};
+ghost use Rattle.std.specs.Option.{SomeIff};
+ghost use Rattle.std.specs.Str.Parse.{IsNumeral, digits_value};
+
+use clap::{Arg, ArgAction, ArgMatches, Command, Error};
+use clap::error::ErrorKind;
+use rb_loader::Bounds;
+use rb_run_commands::JobsRequest;
+use std::alloc::{AllocError, Global};
+use std::convert::AsStr;
+
+/// A command with its options.
+#[derive(Clone, Copy, Debug, PartialEq, Eq)]
+pub enum Request<'a> {
+    /// Writes the tape of payloads: the ring's size and its first position, and how often writing goes on after a write that failed.
+    Feed {
+        size: u64,
+        start: u64,
+        retries: u32,
+    },
+    /// Prints the records of a tape: the ring's size and its first position.
+    Tape {
+        size: u64,
+        start: u64,
+    },
+    /// Verifies a program and runs it once.
+    Check(Bounds),
+    /// Explains a program.
+    Explain(Bounds),
+    /// Verifies a program and runs it as jobs on threads, and writes what they sent as a tape to the file of this name, where there is one.
+    Run {
+        jobs: JobsRequest,
+        tape: Option<&'a str>,
+    },
+    /// Runs a script of workers and rings in turns.
+    Sim,
+}
+
+/// The command that these words name, which follow the program's name on the command line. An error is help or the version that was
+/// asked for, wrong usage, or out of memory.
+pub fn parse<'a, S: AsStr>(alloc: Global, words: &'a [S]) -> Result<Request<'a>, Error> {
+    let mut program = program(alloc)?;
+    let matches = program.try_get_matches_from_mut(words)?;
+    match matches.subcommand() {
+        Some(("feed", options)) => Ok(Request::Feed {
+            size: number(alloc, &mut program, options, "size")?,
+            start: number(alloc, &mut program, options, "start")?,
+            retries: bounded(alloc, &mut program, options, "retry", 0, 100)?,
+        }),
+        Some(("tape", options)) => Ok(Request::Tape {
+            size: number(alloc, &mut program, options, "size")?,
+            start: number(alloc, &mut program, options, "start")?,
+        }),
+        Some(("check", options)) => Ok(Request::Check(bounds(alloc, &mut program, options)?)),
+        Some(("explain", options)) => Ok(Request::Explain(bounds(alloc, &mut program, options)?)),
+        Some(("run", options)) => Ok(Request::Run {
+            jobs: jobs_request(alloc, &mut program, options)?,
+            tape: options.get_str("tape"),
+        }),
+        Some(("sim", _)) => Ok(Request::Sim),
+        _ => Err(program.error(ErrorKind::MissingSubcommand, "no command was given")?),
+    }
+}
+
+// What a program is verified for.
+fn bounds(
+    alloc: Global,
+    program: &mut Command<'_>,
+    options: &ArgMatches<'_>,
+) -> Result<Bounds, Error> {
+    Ok(Bounds {
+        ctx_len: bounded(alloc, program, options, "ctx", 0, 65_536)?,
+        rings: bounded(alloc, program, options, "rings", 0, 16)?,
+    })
+}
+
+// What is run, and over which ring.
+fn jobs_request(
+    alloc: Global,
+    program: &mut Command<'_>,
+    options: &ArgMatches<'_>,
+) -> Result<JobsRequest, Error> {
+    Ok(JobsRequest {
+        workers: number(alloc, program, options, "workers")?,
+        jobs: bounded(alloc, program, options, "jobs", 1, 1_000_000)?,
+        size: number(alloc, program, options, "size")?,
+        start: number(alloc, program, options, "start")?,
+    })
+}
+
+// What the command line may say.
+fn program<'a>(alloc: Global) -> Result<Command<'a>, AllocError> {
+    Command::new(alloc, "rbhost")
+        .version("0.1.0")
+        .bin_name("rbhost")?
+        .about("A host for eBPF programs that write into BPF ring buffers")
+        .no_binary_name(true)
+        .subcommand_required(true)
+        .subcommand(feed(alloc)?)?
+        .subcommand(tape(alloc)?)?
+        .subcommand(check(alloc)?)?
+        .subcommand(explain(alloc)?)?
+        .subcommand(run(alloc)?)?
+        .subcommand(sim(alloc)?)
+}
+
+fn feed<'a>(alloc: Global) -> Result<Command<'a>, AllocError> {
+    Command::new(alloc, "feed")
+        .about(
+            "Writes the tape of payloads, each read as a length in four bytes and that many bytes",
+        )
+        .after_help("Example: printf '\\001\\000\\000\\000*' | rbhost feed --size 4096")
+        .arg(size(alloc))?
+        .arg(start(alloc))?
+        .arg(retry(alloc))
+}
+
+fn tape<'a>(alloc: Global) -> Result<Command<'a>, AllocError> {
+    Command::new(alloc, "tape")
+        .about("Reads a tape, and prints a line for each of its records")
+        .after_help(
+            "Example: printf '\\001\\000\\000\\000*' | rbhost feed --size 4096 | rbhost tape --size 4096",
+        )
+        .arg(size(alloc))?
+        .arg(start(alloc))
+}
+
+fn check<'a>(alloc: Global) -> Result<Command<'a>, AllocError> {
+    Command::new(alloc, "check")
+        .about("Verifies a program, given as text in hex, and runs it once")
+        .after_help("Example: tools/bpf-hex examples/c/event.c | rbhost check")
+        .arg(ctx(alloc))?
+        .arg(rings(alloc))
+}
+
+fn explain<'a>(alloc: Global) -> Result<Command<'a>, AllocError> {
+    Command::new(alloc, "explain")
+        .about(
+            "Explains a program, given as text in hex: what is known before each instruction, or what is wrong and how to mend it",
+        )
+        .after_help("Example: tools/bpf-hex examples/c/event.c | rbhost explain")
+        .arg(ctx(alloc))?
+        .arg(rings(alloc))
+}
+
+fn run<'a>(alloc: Global) -> Result<Command<'a>, AllocError> {
+    Command::new(alloc, "run")
+        .about(
+            "Verifies a program, given as text in hex, and runs it as jobs on threads over one ring",
+        )
+        .after_help(
+            "Example: rbhost run --workers 4 --jobs 100 --size 4096 < examples/submit_42.hex",
+        )
+        .arg(workers(alloc))?
+        .arg(jobs(alloc))?
+        .arg(size(alloc))?
+        .arg(start(alloc))?
+        .arg(tape_file(alloc))
+}
+
+fn sim<'a>(alloc: Global) -> Result<Command<'a>, AllocError> {
+    Ok(
+        Command::new(alloc, "sim")
+            .about("Runs a script of workers and rings in turns, without threads")
+            .after_help(
+                "Example: printf 'ring 4096 0\\nworker b7000000000000009500000000000000\\nw 0 2\\n' | rbhost sim",
+            ),
+    )
+}
+
+fn workers<'a>(alloc: Global) -> Arg<'a> {
+    option(alloc, "workers").value_name("W").required(true).help(
+        "How many workers there are, each on a thread of its own: 1 to 256",
+    )
+}
+
+fn jobs<'a>(alloc: Global) -> Arg<'a> {
+    option(alloc, "jobs")
+        .value_name("J")
+        .required(true)
+        .help("How often each worker runs the program: 1 to 1000000")
+}
+
+fn tape_file<'a>(alloc: Global) -> Arg<'a> {
+    option(alloc, "tape").value_name("FILE").help(
+        "A file that the tape of all that the ring's consumer takes is written to",
+    )
+}
+
+fn ctx<'a>(alloc: Global) -> Arg<'a> {
+    option(alloc, "ctx")
+        .value_name("N")
+        .default_value("16")
+        .help("The length of the context in bytes, at most 65536")
+}
+
+fn rings<'a>(alloc: Global) -> Arg<'a> {
+    option(alloc, "rings")
+        .value_name("N")
+        .default_value("1")
+        .help("How many rings the program knows, at most 16")
+}
+
+fn size<'a>(alloc: Global) -> Arg<'a> {
+    option(alloc, "size").value_name("N").required(true).help(
+        "The ring's size in bytes: a power of two from 4096 to 67108864",
+    )
+}
+
+fn start<'a>(alloc: Global) -> Arg<'a> {
+    option(alloc, "start")
+        .value_name("P")
+        .default_value("0")
+        .help("The ring's first position: a multiple of 8")
+}
+
+fn retry<'a>(alloc: Global) -> Arg<'a> {
+    option(alloc, "retry")
+        .value_name("N")
+        .default_value("0")
+        .help("How often writing goes on after a write that failed, at most 100")
+}
+
+// An option with a value.
+fn option<'a>(alloc: Global, name: &'a str) -> Arg<'a> {
+    Arg::new(alloc, name).long(name).action(ArgAction::Set)
+}
+
+// The number that an option has.
+fn number(
+    alloc: Global,
+    program: &mut Command<'_>,
+    options: &ArgMatches<'_>,
+    name: &str,
+) -> Result<u64, Error> {
+    match options.get_str(name).and_then(decimal) {
+        Some(number) => Ok(number),
+        None => {
+            let message = format!(in alloc;
+                "the value of '--{name}' is no decimal number below 2^64"
+            )?;
+            Err(program.error(ErrorKind::ValueValidation, message.as_str())?)
+        }
+    }
+}
+
+// The number that an option has, which is bounded.
+fn bounded(
+    alloc: Global,
+    program: &mut Command<'_>,
+    options: &ArgMatches<'_>,
+    name: &str,
+    least: u32,
+    most: u32,
+) -> Result<u32, Error>
+    ensures { IfOk result (λ n. (least ≤ n) × (n ≤ most)) }
+{
+    let number = number(alloc, program, options, name)?;
+    if u64::from(least) <= number && number <= u64::from(most) {
+        return Ok(number as u32);
+    }
+    let message = format!(in alloc; "the value of '--{name}' is not {least} to {most}")?;
+    Err(program.error(ErrorKind::ValueValidation, message.as_str())?)
+}
+
+// The number that decimal digits spell, if it is below 2^64. `parse` alone would take a plus in front.
+fn decimal(text: &str) -> Option<u64>
+    ensures { SomeIff result (IsNumeral 10 text.now × (digits_value 10 text.now < 2 ^ 64)) (digits_value 10 text.now) }
+{
+    if text.as_bytes().first() == Some(&b'+') {
+        return None;
+    }
+    text.parse().ok()
+}

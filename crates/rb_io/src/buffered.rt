@@ -1,0 +1,101 @@
+//! A writer behind a buffer.
+
+use crate::device::write_out;
+use crate::outgoing::Outgoing;
+use std::alloc::{AllocError, Global};
+use std::io;
+use std::io::{Error, ErrorKind, Write};
+use std::marker::Model;
+
+/// How many bytes are gathered before they are handed on: as many as a pipe holds (pipe(7)).
+const CAPACITY: usize = 65_536;
+
+/// Gathers what is written to it, and hands it on once the buffer is full, or by `hand_out` or `flush`. Unlike std's it takes an interrupted write for
+/// one that failed, and nothing goes out when it is dropped: after a write that failed, all that did not go out waits for the next one.
+#[derive(Drop)]
+pub struct Buffered<W> {
+    writer: W,
+    waiting: Vec<u8>,
+}
+
+impl<W> Model for Buffered<W> {
+    ghost use Rattle.rb_io.specs.Gathered.{Gathered};
+
+    ghost Value = { Gathered W };
+
+    ghost view = { λ b. record { writer = b.writer; waiting = b.waiting.items } };
+}
+
+impl<W: Write> Buffered<W> {
+    ghost use Rattle.std.specs.Prelude.{◌≡◌, ◌≤◌, [], IfOk, OnOk};
+    ghost use Rattle.std.specs.Io.{WritesAtMost};
+    ghost use Rattle.std.specs.Io.KnownBytes.{Keeps, WriteAppends, append_known};
+
+    /// A buffer in front of the writer; the error is want of memory.
+    pub fn new(alloc: Global, writer: W) -> Result<Buffered<W>, AllocError>
+    where
+        W: Drop,
+        ensures writer { IfOk result (λ b. b.writer ≡ writer) }
+        ensures empty { IfOk result (λ b. b.waiting ≡ []) }
+    {
+        let waiting = Vec::with_capacity(alloc, CAPACITY)?;
+        Ok(Buffered { writer, waiting })
+    }
+
+    // Hands on what waits, until a write fails or takes nothing.
+    fn hand_on(&mut self) -> io::Result<()>
+        ensures bytes { Keeps (append_known (W.contents self.old.writer) self.old.waiting) (append_known (W.contents self.new.writer) self.new.waiting) }
+        ensures empty { OnOk result (self.new.waiting ≡ []) }
+    {
+        let sent = write_out(&mut self.writer, self.waiting.as_slice());
+        let is_all = sent == self.waiting.len();
+        self.waiting.drain(..sent);
+        if !is_all {
+            return Err(Error::from(ErrorKind::WriteZero));
+        }
+        Ok(())
+    }
+
+    // Writes a piece that the buffer has no room for.
+    #[cold]
+    #[inline(never)]
+    fn write_behind(&mut self, piece: &[u8]) -> io::Result<usize>
+        ensures bound { WritesAtMost result piece.now }
+        ensures bytes { WriteAppends (append_known (W.contents self.old.writer) self.old.waiting) (append_known (W.contents self.new.writer) self.new.waiting) result piece.now }
+    {
+        self.hand_on()?;
+        if piece.len() > CAPACITY {
+            return self.writer.write(piece);
+        }
+        self.waiting.extend_from_slice(piece)?;
+        Ok(piece.len())
+    }
+}
+
+impl<W: Write> Write for Buffered<W> {
+    ghost use Rattle.std.specs.Io.KnownBytes.{append_known};
+
+    ghost contents = { λ b. append_known (W.contents b.writer) b.waiting };
+
+    #[inline(always)]
+    fn write(&mut self, piece: &[u8]) -> io::Result<usize> {
+        if piece.len() > self.waiting.capacity() - self.waiting.len() {
+            return self.write_behind(piece);
+        }
+        self.waiting.extend_from_slice(piece)?;
+        Ok(piece.len())
+    }
+
+    fn flush(&mut self) -> io::Result<()> {
+        self.hand_out()
+    }
+}
+
+impl<W: Write> Outgoing for Buffered<W> {
+    ghost waiting = { λ b. b.waiting };
+
+    fn hand_out(&mut self) -> io::Result<()> {
+        self.hand_on()?;
+        self.writer.flush()
+    }
+}

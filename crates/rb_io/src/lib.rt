@@ -1,0 +1,14 @@
+//! Reading and writing for commands: whole pieces over any reader and any writer, a writer behind a buffer, and the words in which lines
+//! of output are told (`specs/Lines.antt`).
+//!
+//! For whoever writes a command of the program. What is promised: which bytes were read or went out, by each answer, an interrupted call
+//! counted as one that failed; and that what a buffer gathered was handed on where its `hand_out` or `flush` answers Ok.
+#![tactic(auto)]
+
+mod buffered;
+mod device;
+mod outgoing;
+
+pub use buffered::Buffered;
+pub use device::{DeviceFault, read_full, write_out, write_whole};
+pub use outgoing::Outgoing;

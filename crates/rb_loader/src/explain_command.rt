@@ -1,0 +1,55 @@
+//! The explanation of a program's text.
+
+ghost use Rattle.std.specs.Prelude.{◌≡◌, None, IfErr, IfSome, OnOk};
+ghost use Rattle.rb_verifier.specs.Subject.{Subject};
+ghost use Rattle.rb_loader.specs.Acceptance.{IsAccepted};
+ghost use Rattle.rb_loader.specs.Explained.{ExplainsRefusal, PrintsExplanation, fault_of_reason};
+
+use crate::program::{Bounds, ProgramFault, read_all, shape_fault, text_of};
+use rb_decode::DecodeFault;
+use rb_explain::Reason;
+use rb_io::write_whole;
+use std::alloc::Global;
+use std::io::{Read, Write};
+
+/// Explains the program whose text is the input: of an accepted one each instruction with what the verifier knows before it, of a
+/// refused one the units around its first fault, and how programs mend it. The explanation is printed before a refusal is answered.
+/// Input that is no UTF-8 is `Text`, without an explanation.
+pub fn explain<R: Read, W: Write>(
+    alloc: Global,
+    input: &mut R,
+    out: &mut W,
+    bounds: Bounds,
+) -> Result<(), ProgramFault>
+    ensures accepted { OnOk result (IfSome (R.remaining input.old) (λ text. (subject : Subject) × IsAccepted text bounds.ctx_len bounds.rings subject)) }
+    ensures explained { OnOk result (IfSome (R.remaining input.old) (λ text. PrintsExplanation text bounds.ctx_len bounds.rings None (W.contents out.old) (W.contents out.new))) }
+    ensures refused { IfErr result (λ fault. IfSome (R.remaining input.old) (λ text. ExplainsRefusal text bounds.ctx_len bounds.rings (W.contents out.old) (W.contents out.new) fault)) }
+{
+    let bytes = read_all(alloc, input)?;
+    let text = text_of(bytes.as_slice())?;
+    let Ok(explanation) = rb_explain::explain(alloc, text, bounds.ctx_len, bounds.rings) else {
+        return Err(ProgramFault::Memory);
+    };
+    let Ok(()) = write_whole(out, explanation.text.as_bytes()) else {
+        return Err(ProgramFault::Device);
+    };
+    match explanation.reason {
+        Some(reason) => Err(fault_of(reason)),
+        None => Ok(()),
+    }
+}
+
+// Why a program is refused, as a fault of a program.
+fn fault_of(reason: Reason) -> ProgramFault
+    ensures { result ≡ fault_of_reason reason }
+{
+    match reason {
+        Reason::Text => ProgramFault::Text,
+        Reason::Decode(DecodeFault { unit, kind }) => ProgramFault::Decode { kind, unit },
+        Reason::Shape(fault) => shape_fault(fault),
+        Reason::Rule { unit, rule } => ProgramFault::Verify {
+            rule: u32::from(rule.number()),
+            unit,
+        },
+    }
+}

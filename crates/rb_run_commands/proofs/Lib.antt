@@ -1,0 +1,8 @@
+mod Checking
+mod Draining
+mod Fresh
+mod Printing
+mod Running
+mod Sizes
+mod TapeGiven
+mod WorkerTasks

@@ -1,0 +1,62 @@
+-- Texts that grow by lines.
+use Rattle.std.proofs.Common.{◌≡◌, ℕ, ◌+◌, ◌<◌, ◌++◌, List, [], ◌∷◌, Result, Ok, Err, get_or, length, take, refl, sym, ap, ◌∙◌, append_assoc}
+use Rattle.std.proofs.lemmas.List.{flat_map_more, take_more}
+use Rattle.std.specs.List.{flat_map}
+use Rattle.std.specs.Prelude.{OnOk, codes}
+use Rattle.std.specs.Fmt.{decimal}
+use Rattle.rb_history.specs.declared.answers.Taken.{Taken}
+use Rattle.rb_history.specs.declared.answers.Taken.TheVariants.{Event}
+use Rattle.rb_history.specs.declared.answers.Counts.{Counts}
+use Rattle.rb_history.specs.declared.tally.Tally.{Tally}
+use Rattle.rb_io.specs.Lines.{hex_text, line}
+use Rattle.rb_run_commands.specs.Printed.{record_line}
+use Rattle.rb_workers.specs.declared.opened.Ended.{Ended}
+use Rattle.rb_run_commands.specs.ReportLines.{closing_lines, counts_line, tally_line}
+
+-- the text of an event's line, as it is put together
+pieces : (ring pos worker serial len : List ℕ) (hex : List ℕ)
+    → codes "ring " ++ (ring ++ (codes " pos " ++ (pos ++ (codes " worker " ++ (worker ++ (codes " serial " ++ (serial ++ (codes " len " ++ (len ++ (codes " " ++ hex))))))))))
+    ≡ codes "ring " ++ ring ++ codes " pos " ++ pos ++ codes " worker " ++ worker ++ codes " serial " ++ serial ++ codes " len " ++ len ++ codes " " ++ hex
+pieces ring pos worker serial len hex = simp append_assoc refl
+
+-- the line of an event was written, from the hex of its bytes and from their number
+pub event_written : {A B : Type 0} (answer : Result A B) (old new hex bytes : List ℕ) (ring pos worker serial len : ℕ) (taken : Taken)
+    → taken ≡ Event pos worker serial bytes → hex ≡ hex_text bytes → len ≡ length bytes
+    → OnOk answer (new ≡ old ++ line (codes "ring " ++ (decimal ring ++ (codes " pos " ++ (decimal pos ++ (codes " worker " ++ (decimal worker ++ (codes " serial " ++ (decimal serial ++ (codes " len " ++ (decimal len ++ (codes " " ++ hex))))))))))))
+    → OnOk answer (new ≡ old ++ record_line ring taken)
+event_written (Ok a) old new hex bytes ring pos worker serial len taken is shows counts wrote =
+    rw is (rw (sym shows, sym counts) (wrote ∙ ap (λ t. old ++ line t) (pieces (decimal ring) (decimal pos) (decimal worker) (decimal serial) (decimal len) hex)))
+event_written (Err e) old new hex bytes ring pos worker serial len taken is shows counts wrote = tt
+
+-- the text of a seat's line, as it is put together
+tally_pieces : (worker made refused submitted discarded : List ℕ)
+    → codes "worker " ++ (worker ++ (codes " made " ++ (made ++ (codes " refused " ++ (refused ++ (codes " submitted " ++ (submitted ++ (codes " discarded " ++ (discarded ++ 10 ∷ [])))))))))
+    ≡ line (codes "worker " ++ worker ++ codes " made " ++ made ++ codes " refused " ++ refused ++ codes " submitted " ++ submitted ++ codes " discarded " ++ discarded)
+tally_pieces worker made refused submitted discarded = simp append_assoc refl
+
+pub tally_written : {A B : Type 0} (answer : Result A B) (old new : List ℕ) (worker : ℕ) (t : Tally)
+    → OnOk answer (new ≡ old ++ (codes "worker " ++ (decimal worker ++ (codes " made " ++ (decimal t.made ++ (codes " refused " ++ (decimal t.refused ++ (codes " submitted " ++ (decimal t.submitted ++ (codes " discarded " ++ (decimal t.discarded ++ 10 ∷ [])))))))))))
+    → OnOk answer (new ≡ old ++ tally_line worker t)
+tally_written (Ok a) old new worker t wrote = wrote ∙ ap (λ l. old ++ l) (tally_pieces (decimal worker) (decimal t.made) (decimal t.refused) (decimal t.submitted) (decimal t.discarded))
+tally_written (Err e) old new worker t wrote = tt
+
+-- the text of the line of a ring's counts, as it is put together
+counts_pieces : (made consumed discarded waiting busy : List ℕ)
+    → codes "ring made " ++ (made ++ (codes " consumed " ++ (consumed ++ (codes " discarded " ++ (discarded ++ (codes " waiting " ++ (waiting ++ (codes " busy " ++ (busy ++ 10 ∷ [])))))))))
+    ≡ line (codes "ring made " ++ made ++ codes " consumed " ++ consumed ++ codes " discarded " ++ discarded ++ codes " waiting " ++ waiting ++ codes " busy " ++ busy)
+counts_pieces made consumed discarded waiting busy = simp append_assoc refl
+
+pub counts_written : {A B : Type 0} (answer : Result A B) (old new : List ℕ) (c : Counts)
+    → OnOk answer (new ≡ old ++ (codes "ring made " ++ (decimal c.made ++ (codes " consumed " ++ (decimal c.consumed ++ (codes " discarded " ++ (decimal c.discarded ++ (codes " waiting " ++ (decimal c.waiting ++ (codes " busy " ++ (decimal c.busy ++ 10 ∷ [])))))))))))
+    → OnOk answer (new ≡ old ++ counts_line c)
+counts_written (Ok a) old new c wrote = wrote ∙ ap (λ l. old ++ l) (counts_pieces (decimal c.made) (decimal c.consumed) (decimal c.discarded) (decimal c.waiting) (decimal c.busy))
+counts_written (Err e) old new c wrote = tt
+
+-- the lines of one ring more
+pub closing_written : {S : Type 0} (old new : List ℕ) (rings : List (Ended S)) (i : ℕ) (ended : Ended S) → i < length rings → ended ≡ get_or rings i ended → old ≡ flat_map closing_lines (take i rings) → new ≡ old ++ closing_lines ended
+    → new ≡ flat_map closing_lines (take (i + 1) rings)
+closing_written old new rings i ended below is before wrote =
+    wrote
+    ∙ (ap (λ t. t ++ closing_lines ended) before
+    ∙ (flat_map_more closing_lines [] (take i rings) ended
+    ∙ ap (flat_map closing_lines) (ap (λ e. take i rings ++ e ∷ []) is ∙ sym (take_more rings i ended below))))

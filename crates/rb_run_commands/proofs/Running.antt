@@ -1,0 +1,77 @@
+-- A run over one ring that was just opened.
+use Rattle.std.proofs.Common.{◌≡◌, ◌≤◌, ℕ, List, Result, Ok, Err, arith, [], ◌∷◌, length, map, refl, ap, sym, ◌∙◌, subst, inr}
+use Rattle.std.specs.Prelude.{All}
+use Rattle.std.specs.Result.{OkIff, result_unwrap_or}
+use Rattle.std.proofs.lemmas.List.Elements.{All-nil, All-cons}
+use Rattle.rb_jobs.specs.Jobs.{task_of}
+use Rattle.rb_jobs.specs.declared.job.Job.{Job}
+use Rattle.rb_ledger.specs.Seats.{HasSettledAll, WorkerSeat, fresh_book, fresh_consumer, fresh_seats}
+use Rattle.rb_verifier.specs.Subject.{Subject}
+use Rattle.rb_workers.specs.declared.opened.Opened.{Opened}
+use Rattle.rb_workers.specs.Opened.{IsOpened, AreOpened, workers_of}
+use Rattle.rb_workers.specs.Reports.{IsReport}
+use Rattle.rb_workers.specs.SeatRows.{seat_rows}
+use Rattle.rb_workers.specs.Sink.{SinkItem}
+use Rattle.rb_workers.specs.Settled.{EachSettled, EndsSettled}
+use Rattle.rb_workers.specs.declared.opened.Report.{Report}
+use Rattle.rb_workers.proofs.Numbered.{seats_length}
+use Rattle.rb_workers.proofs.Settling.{settled_together}
+use Rattle.rb_loader.specs.Acceptance.{IsAccepted, IsRightFault}
+use Rattle.rb_run_commands.specs.RunCommand.{IsRightJobsFault, IsRightRingFault, RunsWorkers}
+use Rattle.rb_run_commands.specs.WorkerJobs.{tasks_of_workers}
+use Rattle.rb_run_commands.specs.declared.jobs_fault.JobsFault.{JobsFault}
+use Rattle.rb_run_commands.specs.declared.jobs_fault.JobsFault.TheVariants.{Program, Size, Start, Workers}
+use Rattle.rb_run_commands.specs.declared.run_command.JobsRequest.{JobsRequest}
+
+module _ {S : Type 0} (position : S → ℕ) (workers : ℕ) (one : Opened S) (opened : List (Opened S)) (is : opened ≡ one ∷ []) (is_opened : IsOpened position workers one) where
+  -- one ring may be run
+  pub one_opened : AreOpened position opened
+  one_opened =
+      let count = seats_length position workers one is_opened in
+      subst (AreOpened position) (sym is)
+      (All-cons (IsOpened position (length one.seats.items)) one [] (subst (λ n. IsOpened position n one) (sym count) is_opened) (All-nil (IsOpened position (length one.seats.items))))
+
+  pub one_count : workers_of opened ≡ workers
+  one_count = subst (λ o. workers_of o ≡ workers) (sym is) (seats_length position workers one is_opened)
+
+-- its seats have made nothing
+pub one_settled : {S : Type 0} (one : Opened S) (opened : List (Opened S)) → opened ≡ one ∷ [] → All HasSettledAll one.seats.items → EachSettled (workers_of opened) (seat_rows opened)
+one_settled one opened is settled =
+    subst (λ o. EachSettled (workers_of o) (seat_rows o)) (sym is)
+    (settled_together (length one.seats.items) (one.seats.items ∷ []) (All-cons (All HasSettledAll) one.seats.items [] settled (All-nil (All HasSettledAll))))
+
+-- what such a run is, put together of what its calls say
+module _ {S : Type 0} (position : S → ℕ) (takes : S → SinkItem → S → Type 0) (sink : S) (subject : Subject) (request : JobsRequest) (workers : ℕ) (one : Opened S) (opened : List (Opened S)) (jobs : List Job) (report : Report S) where
+  pub ran_workers :
+      workers ≡ request.workers → opened ≡ one ∷ []
+      → one.seats.items ≡ fresh_seats 0 one.ring.ring (fresh_book request.size request.start workers) 0 workers
+      → one.consumer ≡ fresh_consumer 0 one.ring.ring (fresh_book request.size request.start workers)
+      → one.sink ≡ sink → All HasSettledAll one.seats.items
+      → map task_of jobs ≡ tasks_of_workers subject workers request.jobs
+      → IsReport position takes opened jobs report
+      → (report.strays ≡ 0 → EachSettled (workers_of opened) (seat_rows opened) → All EndsSettled report.rings.items)
+      → RunsWorkers position takes sink subject request report
+  ran_workers as_many is seats consumer same_sink nothing_made tasks reported settled = record {
+    opened = one;
+    jobs = jobs;
+    just_opened = record {
+      seats_are = subst (λ n. one.seats.items ≡ fresh_seats 0 one.ring.ring (fresh_book request.size request.start n) 0 n) as_many seats;
+      consumer_is = subst (λ n. one.consumer ≡ fresh_consumer 0 one.ring.ring (fresh_book request.size request.start n)) as_many consumer;
+      sink_is = same_sink;
+    };
+    tasks_are = subst (λ n. map task_of jobs ≡ tasks_of_workers subject n request.jobs) as_many tasks;
+    reported = subst (λ o. IsReport position takes o jobs report) is reported;
+    settled = λ none. settled none (one_settled one opened is nothing_made);
+  }
+
+-- an accepted program is refused for what its ring is refused for
+pub ring_refused : (text : List ℕ) (request : JobsRequest) (fault : JobsFault) (subject : Subject) → IsAccepted text 16 1 subject → IsRightRingFault request fault → IsRightJobsFault text request fault
+ring_refused text request (Program fault) subject accepted right = inr (subst (IsRightFault text 16 1) (sym right) tt)
+ring_refused text request Size subject accepted right = ((subject, accepted), right)
+ring_refused text request Start subject accepted right = ((subject, accepted), right)
+ring_refused text request Workers subject accepted right = ((subject, accepted), right)
+
+-- a number that was cut to 32 bits, and is small, was not cut
+pub same_number : {E : Type 0} (cut : Result ℕ E) (Fits : Type 0) (whole got : ℕ) → OkIff cut Fits whole → got ≡ result_unwrap_or cut 4294967295 → got ≤ 256 → got ≡ whole
+same_number (Ok n) Fits whole got is unwrapped few = unwrapped ∙ is.1
+same_number (Err e) Fits whole got is unwrapped few = let most : got ≡ 4294967295 = unwrapped in absurd (omega (arith, most, few))

@@ -1,0 +1,197 @@
+-- What a sink wrote of the records that it was given, and what a run wrote of what its ring gave.
+use Rattle.std.proofs.Common.{◌≡◌, ℕ, ◌+◌, ◌<◌, ◌≤◌, Bool, true, false, List, [], ◌∷◌, ◌++◌, length, take, drop, map, Option, refl, sym, ap, ◌∙◌, subst, arith, append_assoc, append-nil, take-append-drop}
+use Rattle.std.specs.Prelude.{◌≢◌, All, not, Result, Ok, Err, OnOk, OnErr, is_err}
+use Rattle.std.proofs.lemmas.Bool.{true≢false}
+use Rattle.std.proofs.lemmas.List.{length-drop, drop_all}
+use Rattle.std.proofs.lemmas.List.Elements.{All-nil, All-cons}
+use Rattle.std.specs.Io.KnownBytes.{Appends, Keeps}
+use Rattle.std.proofs.KnownBytes.{Appends-nil, Appends-trans, Appends-kept}
+use Rattle.rb_header.specs.TapeBytes.{Item, item_bytes, item_span, tape}
+use Rattle.rb_header.proofs.Laws.{length-item_bytes, tape-append}
+use Rattle.rb_verifier.specs.Subject.{Subject}
+use Rattle.rb_workers.specs.Reports.{RingEnds, RingsEnd}
+use Rattle.rb_workers.specs.Sink.{SinkItem, TakesAll, sink_position, tape_item, takes_in}
+use Rattle.rb_workers.specs.declared.opened.Ended.{Ended}
+use Rattle.rb_workers.specs.declared.opened.Opened.{Opened}
+use Rattle.rb_workers.specs.declared.opened.Report.{Report}
+use Rattle.rb_ledger.specs.Seats.{WorkerSeat}
+use Rattle.rb_run_commands.specs.RunCommand.{RunsWorkers}
+use Rattle.rb_run_commands.specs.TapedRun.{SinkTape, TapesRing, WritesOn, first_tape, tape_position, tape_takes}
+use Rattle.rb_run_commands.specs.declared.run_command.JobsRequest.{JobsRequest}
+
+front_empty : (xs ys : List ℕ) → xs ++ ys ≡ [] → xs ≡ []
+front_empty [] ys e = refl
+front_empty (x ∷ xs) ys e = absurd (let l = ap length e in omega (arith, l))
+
+-- ---- one record
+
+one_tape : (size : ℕ) (item : Item) → tape size (item ∷ []) ≡ item_bytes size item
+one_tape size item = append-nil (item_bytes size item)
+
+some_bytes : (size : ℕ) (item : Item) → tape size (item ∷ []) ≢ []
+some_bytes size item e = let l = ap length (sym (one_tape size item) ∙ e) in let n = length-item_bytes size item in absurd (omega (arith, l, n))
+
+-- a sink's tape, by its parts
+abbrev pub sink_tape : {W : Type 0} → W → ℕ → ℕ → Bool → SinkTape W
+sink_tape writer size position failed = record { writer = writer; size = size; position = position; failed = failed }
+
+module _ {W : Type 0} (contents : W → Option (List ℕ)) (writer : W) (size before after : ℕ) (item : Item) where
+  -- the tape had ended
+  pub gives_up : (ended : Bool) → ended ≡ true → WritesOn contents (sink_tape writer size before ended) (item ∷ []) (sink_tape writer size after ended)
+  gives_up ended is = record {
+    out = [];
+    missing = [];
+    wrote = Appends-nil (contents writer);
+    size_same = refl;
+    nothing = λ _. (refl, is);
+    beginning = λ sound. absurd (true≢false (sym is ∙ sound));
+    all_out = λ _. refl;
+    not_all_out = λ sound _. absurd (true≢false (sym is ∙ sound));
+  }
+
+  -- the tape ends before the record
+  pub ends_before : (ended : Bool) → ended ≡ false → WritesOn contents (sink_tape writer size before ended) (item ∷ []) (sink_tape writer size after true)
+  ends_before ended is = record {
+    out = [];
+    missing = tape size (item ∷ []);
+    wrote = Appends-nil (contents writer);
+    size_same = refl;
+    nothing = λ _. (refl, refl);
+    beginning = λ _. refl;
+    all_out = λ whole. absurd (true≢false whole);
+    not_all_out = λ _ _. some_bytes size item;
+  }
+
+  -- the record is written, or some of it
+  pub writes_record : {A E : Type 0} (later : W) (ended failed : Bool) (sent : ℕ) (answer : Result A E) → ended ≡ false → failed ≡ is_err answer
+      → Appends (contents writer) (contents later) (take sent (item_bytes size item)) → OnOk answer (sent ≡ item_span item) → OnErr answer (sent < item_span item)
+      → WritesOn contents (sink_tape writer size before ended) (item ∷ []) (sink_tape later size after failed)
+  writes_record {A} {E} later ended failed sent answer sound is went all short = record {
+    out = take sent (item_bytes size item);
+    missing = drop sent (item_bytes size item);
+    wrote = went;
+    size_same = refl;
+    nothing = λ before_that. absurd (true≢false (sym before_that ∙ sound));
+    beginning = λ _. take-append-drop sent (item_bytes size item) ∙ sym (one_tape size item);
+    all_out = λ whole. by_answer answer is all short whole;
+    not_all_out = λ _ broken none. by_short answer is short broken none;
+  }
+    where
+      by_answer : (r : Result A E) → failed ≡ is_err r → OnOk r (sent ≡ item_span item) → OnErr r (sent < item_span item) → failed ≡ false → drop sent (item_bytes size item) ≡ []
+      by_answer (Ok _) f out part whole = drop_all sent (item_bytes size item) (let n = length-item_bytes size item in omega (arith, n, out))
+      by_answer (Err _) f out part whole = absurd (true≢false (sym f ∙ whole))
+
+      by_short : (r : Result A E) → failed ≡ is_err r → OnErr r (sent < item_span item) → failed ≡ true → drop sent (item_bytes size item) ≡ [] → ⊥
+      by_short (Ok _) f part broken none = absurd (true≢false (sym broken ∙ f))
+      by_short (Err _) f part broken none =
+          let n = length-item_bytes size item in
+          let l = length-drop sent (item_bytes size item) in
+          let z = ap length none in
+          absurd (omega (arith, n, l, z, part))
+
+module _ {W : Type 0} (contents : W → Option (List ℕ)) where
+  -- ---- one record after another
+
+  nothing_yet : (sink : SinkTape W) → WritesOn contents sink [] sink
+  nothing_yet sink = record {
+    out = [];
+    missing = [];
+    wrote = Appends-nil (contents sink.writer);
+    size_same = refl;
+    nothing = λ ended. (refl, ended);
+    beginning = λ _. refl;
+    all_out = λ _. refl;
+    not_all_out = λ sound ended. absurd (true≢false (sym ended ∙ sound));
+  }
+
+  goes_on : (a b c : SinkTape W) (is js : List Item) → WritesOn contents a is b → WritesOn contents b js c → WritesOn contents a (is ++ js) c
+  goes_on a b c is js one two = by b.failed refl
+    where
+      by : (ended : Bool) → b.failed ≡ ended → WritesOn contents a (is ++ js) c
+      by false sound = record {
+        out = one.out ++ two.out;
+        missing = two.missing;
+        wrote = Appends-trans (contents a.writer) (contents b.writer) (contents c.writer) one.out two.out one.wrote two.wrote;
+        size_same = two.size_same ∙ one.size_same;
+        nothing = λ ended. absurd (true≢false (sym (one.nothing ended).1 ∙ sound));
+        beginning = λ before.
+            append_assoc one.out two.out two.missing
+            ∙ (ap (λ l. one.out ++ l) (two.beginning sound ∙ ap (λ n. tape n js) one.size_same)
+            ∙ (ap (λ l. l ++ tape a.size js) (sym (append-nil one.out) ∙ (ap (λ l. one.out ++ l) (sym (one.all_out sound)) ∙ one.beginning before)) ∙ sym (tape-append a.size is js)));
+        all_out = two.all_out;
+        not_all_out = λ _ ended. two.not_all_out sound ended;
+      }
+      by true ended =
+          let silent = two.nothing ended in
+          let same : one.out ++ two.out ≡ one.out = ap (λ l. one.out ++ l) silent.0 ∙ append-nil one.out in
+          record {
+            out = one.out ++ two.out;
+            missing = one.missing ++ tape a.size js;
+            wrote = Appends-trans (contents a.writer) (contents b.writer) (contents c.writer) one.out two.out one.wrote two.wrote;
+            size_same = two.size_same ∙ one.size_same;
+            nothing = λ before. (same ∙ (one.nothing before).0, silent.1);
+            beginning = λ before.
+                ap (λ l. l ++ (one.missing ++ tape a.size js)) same
+                ∙ (sym (append_assoc one.out one.missing (tape a.size js)) ∙ (ap (λ l. l ++ tape a.size js) (one.beginning before) ∙ sym (tape-append a.size is js)));
+            all_out = λ whole. absurd (true≢false (sym silent.1 ∙ whole));
+            not_all_out = λ before _ none. one.not_all_out before ended (front_empty one.missing (tape a.size js) none);
+          }
+
+  -- what a sink was given item by item
+  the_tape_of_what_is_given : (items : List SinkItem) (old new : SinkTape W) → TakesAll (tape_takes contents) old items new → WritesOn contents old (map tape_item items) new
+  the_tape_of_what_is_given [] old new same = subst (λ s. WritesOn contents old [] s) (sym same) (nothing_yet old)
+  the_tape_of_what_is_given (item ∷ items) old new given =
+      goes_on old given.0 new (tape_item item ∷ []) (map tape_item items) given.1 (the_tape_of_what_is_given items given.0 new given.2)
+
+-- ---- the run
+
+-- one ring was opened, so one ended
+pub one_ended : {S : Type 0} (position : S → ℕ) (takes : S → SinkItem → S → Type 0) (o : Opened S) (es : List (Ended S)) (seats : List (List WorkerSeat)) → RingsEnd position takes (o ∷ []) es seats
+    → (e : Ended S) × (row : List WorkerSeat) × (es ≡ e ∷ []) × RingEnds position takes o e row
+one_ended position takes o [] seats ends = absurd ends
+one_ended position takes o (e ∷ es) [] ends = absurd ends
+one_ended position takes o (e ∷ []) (row ∷ []) ends = (e, row, refl, ends.0)
+one_ended position takes o (e ∷ []) (row ∷ other ∷ more) ends = absurd ends.1
+one_ended position takes o (e ∷ other ∷ es) (row ∷ []) ends = absurd ends.1
+one_ended position takes o (e ∷ other ∷ es) (row ∷ next ∷ more) ends = absurd ends.1
+
+last_of_one : {A : Type 0} (front : List A) (x y : A) → x ∷ [] ≡ front ++ y ∷ [] → y ≡ x
+last_of_one [] x y e = cc
+last_of_one (z ∷ []) x y e = absurd (let l = ap length e in omega (arith, l))
+last_of_one (z ∷ w ∷ front) x y e = absurd (let l = ap length e in omega (arith, l))
+
+module _ {W : Type 0} (contents : W → Option (List ℕ)) (writer left : W) (subject : Subject) (request : JobsRequest) (report : Report (SinkTape W)) (ran : RunsWorkers tape_position (tape_takes contents) (first_tape writer request) subject request report) where
+  ending : (e : Ended (SinkTape W)) × (row : List WorkerSeat) × (report.rings.items ≡ e ∷ []) × RingEnds tape_position (tape_takes contents) ran.opened e row
+  ending = one_ended tape_position (tape_takes contents) ran.opened report.rings.items ran.reported.seats ran.reported.rings_end
+
+  pub one_ring : length report.rings.items ≡ 1
+  one_ring = ap length ending.2
+
+  -- what the sink of the ring that was taken out of the report wrote
+  pub ring_taped : (front : List (Ended (SinkTape W))) (ended : Ended (SinkTape W)) (whole : Bool) → report.rings.items ≡ front ++ ended ∷ [] → (whole ≡ true → ended.sink.failed ≡ false)
+      → Keeps (contents ended.sink.writer) (contents left) → All (TapesRing request.size whole (contents writer) (contents left)) report.rings.items
+  ring_taped front ended whole is sound kept =
+      let e = ending.0 in
+      let ends = ending.3 in
+      let same : ended ≡ e = last_of_one front e ended (sym ending.2 ∙ is) in
+      let given = ends.sink_given in
+      let wrote = the_tape_of_what_is_given contents given.items (first_tape writer request) e.sink (subst (λ s. TakesAll (tape_takes contents) s given.items e.sink) ran.just_opened.sink_is given.given) in
+      subst (All (TapesRing request.size whole (contents writer) (contents left))) (sym ending.2)
+      (All-cons (TapesRing request.size whole (contents writer) (contents left)) e [] (record {
+        seats = ending.1;
+        consumer = ends.consumer;
+        items = given.items;
+        out = wrote.out;
+        missing = wrote.missing;
+        closed = ends.closed;
+        taken_are = given.taken_are ∙ ap (λ (c : _). takes_in c.seen.history ++ map sink_position given.items) ran.just_opened.consumer_is;
+        records_are = given.records_are;
+        wrote = Appends-kept (contents writer) (contents e.sink.writer) (contents left) wrote.out wrote.wrote (subst (λ (x : Ended (SinkTape W)). Keeps (contents x.sink.writer) (contents left)) same kept);
+        beginning = wrote.beginning refl;
+        all_out = λ is_whole. wrote.all_out (ap (λ (x : Ended (SinkTape W)). x.sink.failed) (sym same) ∙ sound is_whole);
+      }) (All-nil (TapesRing request.size whole (contents writer) (contents left))))
+
+-- a tape that is whole has not failed
+pub has_not_failed : (whole told failed : Bool) → whole ≡ not told → told ≡ failed → whole ≡ true → failed ≡ false
+has_not_failed whole true failed is says holds = absurd (true≢false (sym holds ∙ is))
+has_not_failed whole false failed is says holds = sym says

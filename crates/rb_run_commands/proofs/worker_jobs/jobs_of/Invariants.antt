@@ -1,0 +1,7 @@
+use Rattle.std.proofs.Common.{◌≡◌, map, take}
+use Rattle.rb_jobs.specs.Jobs.{task_of}
+use Rattle.rb_run_commands.specs.inner.JobContexts.{task_over}
+use Rattle.rb_run_commands.proofs.worker_jobs.jobs_of.Given as goal
+
+abbrev pub invariant-loop-own : goal.invariant-loop-own
+invariant-loop-own l = map task_of l.jobs.items ≡ map (task_over l.program) (take l.own-index l.contexts)

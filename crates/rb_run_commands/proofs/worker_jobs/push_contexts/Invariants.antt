@@ -1,0 +1,6 @@
+use Rattle.std.proofs.Common.{◌≡◌, ◌++◌}
+use Rattle.rb_run_commands.specs.inner.JobContexts.{worker_contexts}
+use Rattle.rb_run_commands.proofs.worker_jobs.push_contexts.Given as goal
+
+abbrev pub invariant-loop-job : goal.invariant-loop-job
+invariant-loop-job l = l.contexts.items ≡ l.fn.contexts.items ++ worker_contexts l.job l.worker

@@ -1,0 +1,9 @@
+pub mod Check
+pub mod DrainedRings
+pub mod FreshRings
+pub mod Printed
+pub mod ReportLines
+pub mod RunCommand
+pub mod TapedRun
+pub mod WorkerJobs
+pub mod inner

@@ -1,0 +1,29 @@
+-- What `check` prints of a program's run, as bytes (own).
+use Rattle.std.specs.Prelude.{ℕ, ◌+◌, List, [], ◌∷◌, ◌++◌, codes, length}
+use Rattle.std.specs.Fmt.{decimal}
+use Rattle.std.specs.List.{flat_map}
+use Rattle.rb_io.specs.Lines.{hex_text, line}
+use Rattle.rb_history.specs.declared.answers.Taken.{Taken}
+use Rattle.rb_history.specs.declared.answers.Taken.TheVariants.{Event, Skipped, BusyFront, Empty}
+
+-- the line of a record that was taken of the ring of this number: a submitted one with its bytes, a discarded one with its length
+abbrev pub record_line : ℕ → Taken → List ℕ
+record_line ring (Event pos worker serial bytes) =
+    line (codes "ring " ++ decimal ring ++ codes " pos " ++ decimal pos ++ codes " worker " ++ decimal worker ++ codes " serial " ++ decimal serial
+    ++ codes " len " ++ decimal (length bytes) ++ codes " " ++ hex_text bytes)
+record_line ring (Skipped pos len) = line (codes "ring " ++ decimal ring ++ codes " pos " ++ decimal pos ++ codes " len " ++ decimal len ++ codes " discarded")
+record_line ring BusyFront = []
+record_line ring Empty = []
+
+-- the lines of the records of one ring
+abbrev pub ring_lines : ℕ → List Taken → List ℕ
+ring_lines ring records = flat_map (record_line ring) records
+
+-- the lines of the records of each ring, the rings numbered on from this one
+abbrev pub lines_from : ℕ → List (List Taken) → List ℕ
+lines_from ring [] = []
+lines_from ring (records ∷ more) = ring_lines ring records ++ lines_from (ring + 1) more
+
+-- of a program that ended with this value, and left these records in each ring
+abbrev pub run_text : ℕ → List (List Taken) → List ℕ
+run_text value records = line (codes "accepted") ++ line (codes "result " ++ decimal value) ++ lines_from 0 records

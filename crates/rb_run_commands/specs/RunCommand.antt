@@ -1,0 +1,83 @@
+-- What `run` does with the text of a program: its workers run it as jobs over a ring that was just opened, and it prints what the report says
+-- (own).
+use Rattle.std.specs.Prelude.{◌≡◌, ◌+◌, ℕ, All, List, [], ◌∷◌, map, Option, IfSome}
+use Rattle.std.specs.Io.KnownBytes.{Appends}
+use Rattle.rb_header.specs.TapeBytes.{item_span}
+use Rattle.rb_history.specs.RingModel.{IsRingSize, IsStartPosition, IsWorkerCount}
+use Rattle.rb_jobs.specs.Jobs.{task_of}
+use Rattle.rb_jobs.specs.declared.job.Job.{Job}
+use Rattle.rb_ledger.specs.Roles.{Book}
+use Rattle.rb_ledger.specs.Seats.{fresh_book, fresh_consumer, fresh_seats}
+use Rattle.rb_verifier.specs.Subject.{Subject}
+use Rattle.rb_workers.specs.Reports.{IsReport}
+use Rattle.rb_workers.specs.Settled.{EndsSettled}
+use Rattle.rb_workers.specs.Sink.{SinkItem, tape_item}
+use Rattle.rb_workers.specs.declared.opened.Opened.{Opened}
+use Rattle.rb_workers.specs.declared.opened.Report.{Report}
+use Rattle.rb_loader.specs.Acceptance.{IsAccepted, IsRightProgramFault}
+use Rattle.rb_run_commands.specs.ReportLines.{report_text}
+use Rattle.rb_run_commands.specs.WorkerJobs.{tasks_of_workers}
+use Rattle.rb_run_commands.specs.declared.jobs_fault.JobsFault.{JobsFault}
+use Rattle.rb_run_commands.specs.declared.jobs_fault.JobsFault.TheVariants.{Program, Size, Start, Workers}
+use Rattle.rb_loader.specs.declared.program.ProgramFault.TheVariants.{Memory}
+use Rattle.rb_run_commands.specs.declared.run_command.JobsRequest.{JobsRequest}
+use Rattle.rb_run_commands.specs.declared.run_command.NullSink.{NullSink}
+
+-- ---- the run
+
+-- the position of a sink that gives up its records
+abbrev pub null_position : NullSink → ℕ
+null_position sink = sink.position
+
+-- it passes over each
+abbrev pub null_takes : NullSink → SinkItem → NullSink → Type 0
+null_takes old item new = new.position ≡ old.position + item_span (tape_item item)
+
+-- it begins where the ring does
+abbrev pub first_null : JobsRequest → NullSink
+first_null request = record { position = request.start }
+
+-- the history of the ring that is asked for, as it begins
+abbrev pub first_book : JobsRequest → Book
+first_book request = fresh_book request.size request.start request.workers
+
+-- the ring was just opened, with the size, the start and the workers that are asked for, and with this sink
+pub record IsJustOpened {S : Type 0} (sink : S) (request : JobsRequest) (o : Opened S) : Type 0 where
+  pub seats_are : o.seats.items ≡ fresh_seats 0 o.ring.ring (first_book request) 0 request.workers
+  pub consumer_is : o.consumer ≡ fresh_consumer 0 o.ring.ring (first_book request)
+  pub sink_is : o.sink ≡ sink
+
+-- each worker ran the program as often as is asked for, over one ring that was just opened with this sink, and this is the report on these jobs
+-- and this ring; where no job had a record handed back, the ring ends with none that is busy
+pub record RunsWorkers {S : Type 0} (position : S → ℕ) (takes : S → SinkItem → S → Type 0) (sink : S) (subject : Subject) (request : JobsRequest) (report : Report S) : Type 0 where
+  pub opened : Opened S
+  pub jobs : List Job
+  pub just_opened : IsJustOpened sink request opened
+  pub tasks_are : map task_of jobs ≡ tasks_of_workers subject request.workers request.jobs
+  pub reported : IsReport position takes (opened ∷ []) jobs report
+  pub settled : report.strays ≡ 0 → All EndsSettled report.rings.items
+
+-- ---- what is printed
+
+-- a program that the input spells, where that is known, was run so for contexts of 16 bytes and one ring, and what the report says was printed,
+-- and nothing else
+pub record PrintsRun (input : Option (List ℕ)) (request : JobsRequest) (before after : Option (List ℕ)) : Type 0 where
+  pub subject : Subject
+  pub report : Report NullSink
+  pub accepted : IfSome input (λ text. IsAccepted text 16 1 subject)
+  pub ran : RunsWorkers null_position null_takes (first_null request) subject request report
+  pub printed : Appends before after (report_text report)
+
+-- ---- what is refused
+
+-- the first of the ring's numbers that is out of bounds, or else memory
+abbrev pub IsRightRingFault : JobsRequest → JobsFault → Type 0
+IsRightRingFault request (Program fault) = fault ≡ Memory
+IsRightRingFault request Size = ¬ IsRingSize request.size
+IsRightRingFault request Start = IsRingSize request.size × ¬ IsStartPosition request.start
+IsRightRingFault request Workers = IsRingSize request.size × IsStartPosition request.start × ¬ IsWorkerCount request.workers
+
+-- the first fault of the input as a program's text, and else that of the ring
+abbrev pub IsRightJobsFault : List ℕ → JobsRequest → JobsFault → Type 0
+IsRightJobsFault input request (Program fault) = IsRightProgramFault input 16 1 fault
+IsRightJobsFault input request fault = ((subject : Subject) × IsAccepted input 16 1 subject) × IsRightRingFault request fault

@@ -1,0 +1,84 @@
+-- What `run --tape` writes: the tape of all that the ring's consumer took, up to the first write that fails (own; the tape's bytes are
+-- rb_header's).
+use Rattle.std.specs.Prelude.{◌≡◌, ◌≢◌, ℕ, Bool, true, false, All, IfSome, List, [], ◌∷◌, ◌++◌, map, Option}
+use Rattle.std.specs.Io.KnownBytes.{Appends, append_known}
+use Rattle.rb_header.specs.TapeBytes.{Item, tape}
+use Rattle.rb_ledger.specs.Headline.{IsClosed}
+use Rattle.rb_ledger.specs.Seats.{WorkerSeat, ConsumerSeatValue}
+use Rattle.rb_verifier.specs.Subject.{Subject}
+use Rattle.rb_workers.specs.Sink.{SinkItem, IsRecordIn, sink_position, takes_in, tape_item}
+use Rattle.rb_workers.specs.declared.opened.Ended.{Ended}
+use Rattle.rb_workers.specs.declared.opened.Report.{Report}
+use Rattle.rb_loader.specs.Acceptance.{IsAccepted}
+use Rattle.rb_run_commands.specs.ReportLines.{report_text}
+use Rattle.rb_run_commands.specs.RunCommand.{RunsWorkers}
+use Rattle.rb_io.specs.Gathered.{Gathered}
+use Rattle.rb_run_commands.specs.declared.run_command.JobsRequest.{JobsRequest}
+
+-- ---- the sink
+
+-- a tape that a sink writes: the writer below, the ring's size, where the next record stands, and whether the tape ended with a record that did
+-- not go out whole
+pub record SinkTape (W : Type 0) : Type 0 where
+  pub writer : W
+  pub size : ℕ
+  pub position : ℕ
+  pub failed : Bool
+
+-- before the first record
+abbrev pub first_tape : {W : Type 0} → W → JobsRequest → SinkTape W
+first_tape writer request = record { writer = writer; size = request.size; position = request.start; failed = false }
+
+abbrev pub tape_position : {W : Type 0} → SinkTape W → ℕ
+tape_position sink = sink.position
+
+-- Over these records a beginning of their tape went out, all of it where the tape has not failed, and not all of it where it failed
+-- meanwhile; behind a failure nothing goes out. `contents` are the bytes that a writer has, where they are known.
+pub record WritesOn {W : Type 0} (contents : W → Option (List ℕ)) (old : SinkTape W) (items : List Item) (new : SinkTape W) : Type 0 where
+  pub out : List ℕ
+  pub missing : List ℕ
+  pub wrote : Appends (contents old.writer) (contents new.writer) out
+  pub size_same : new.size ≡ old.size
+  pub nothing : old.failed ≡ true → (out ≡ []) × (new.failed ≡ true)
+  pub beginning : old.failed ≡ false → out ++ missing ≡ tape old.size items
+  pub all_out : new.failed ≡ false → missing ≡ []
+  pub not_all_out : old.failed ≡ false → new.failed ≡ true → missing ≢ []
+
+-- what taking one item makes of such a sink
+abbrev pub tape_takes : {W : Type 0} → (W → Option (List ℕ)) → SinkTape W → SinkItem → SinkTape W → Type 0
+tape_takes contents old item new = WritesOn contents old (tape_item item ∷ []) new
+
+-- ---- the run
+
+-- A beginning of the tape of all that the closed ring's history took went out, from the first record on and in order, and all of it where the
+-- tape is whole. The items are the history's records, with the bytes that the consumer got, which are those that the seats sent.
+pub record TapesRing {S : Type 0} (size : ℕ) (whole : Bool) (before after : Option (List ℕ)) (ended : Ended S) : Type 0 where
+  pub seats : List WorkerSeat
+  pub consumer : ConsumerSeatValue
+  pub items : List SinkItem
+  pub out : List ℕ
+  pub missing : List ℕ
+  pub closed : IsClosed ended.closing.at_end seats consumer
+  pub taken_are : takes_in ended.closing.at_end.history ≡ map sink_position items
+  pub records_are : All (IsRecordIn ended.closing.at_end.history consumer.got) items
+  pub wrote : Appends before after out
+  pub beginning : out ++ missing ≡ tape size (map tape_item items)
+  pub all_out : whole ≡ true → missing ≡ []
+
+-- the program was run with such a sink, what the report says was printed, and nothing else, and what the ring's consumer took was written as a
+-- tape
+pub record TapesRun {W : Type 0} (contents : W → Option (List ℕ)) (writer : W) (subject : Subject) (request : JobsRequest) (before after : Option (List ℕ)) (whole : Bool) (left : W) : Type 0 where
+  pub report : Report (SinkTape W)
+  pub ran : RunsWorkers tape_position (tape_takes contents) (first_tape writer request) subject request report
+  pub printed : Appends before after (report_text report)
+  pub taped : All (TapesRing request.size whole (contents writer) (contents left)) report.rings.items
+
+-- a program that the input spells, where that is known, was run so, and all of its tape went through a buffer, in which nothing waits any more,
+-- to a writer whose bytes are known to nobody
+pub record PrintsTaped (F : Type 0) (contents : F → Option (List ℕ)) (input : Option (List ℕ)) (request : JobsRequest) (before after : Option (List ℕ)) : Type 0 where
+  pub subject : Subject
+  pub accepted : IfSome input (λ text. IsAccepted text 16 1 subject)
+  pub writer : Gathered F
+  pub left : Gathered F
+  pub taped : TapesRun (λ b. append_known (contents b.writer) b.waiting) writer subject request before after true left
+  pub handed_on : left.waiting ≡ []

@@ -1,0 +1,2 @@
+pub mod JobContexts
+pub mod OpeningFaults

@@ -1,0 +1,74 @@
+//! What `run` prints of its report: a line for each worker, one for the ring, and one for the strays.
+
+ghost use Rattle.std.specs.Prelude.{◌≡◌, ◌++◌, IfOk, OnOk, string_bytes};
+ghost use Rattle.rb_run_commands.specs.ReportLines.{closing_lines, counts_line, report_text, tally_line, tally_lines_from};
+
+use rb_history::Counts;
+use rb_ledger::Tally;
+use rb_workers::{Ended, Report};
+use std::alloc::{AllocError, Global};
+
+/// The text of a report: for each ring a line `worker W made M refused R submitted S discarded D` for each worker, from worker 0 on, and
+/// `ring made M consumed C discarded D waiting W busy B`; then `strays N`. `AllocError` where there is no memory for it.
+pub fn text_of_report<S>(alloc: Global, report: &Report<S>) -> Result<String, AllocError>
+    ensures text { IfOk result (λ text. string_bytes text ≡ report_text report.now) }
+{
+    let mut text = String::new(alloc);
+    for ended in &report.rings {
+        push_ended(&mut text, ended)?;
+    }
+    writeln!(text, "strays {}", report.strays)?;
+    Ok(text)
+}
+
+// The lines of a ring more.
+fn push_ended<S>(text: &mut String, ended: &Ended<S>) -> Result<(), AllocError>
+    ensures lines { OnOk result (string_bytes text.new ≡ string_bytes text.old ++ closing_lines ended.now) }
+{
+    push_tallies(text, ended.tallies.as_slice())?;
+    push_counts(text, ended.closing.counts())
+}
+
+// The lines of the workers' seats more, from worker 0 on.
+fn push_tallies(text: &mut String, tallies: &[Tally]) -> Result<(), AllocError>
+    ensures lines { OnOk result (string_bytes text.new ≡ string_bytes text.old ++ tally_lines_from 0 tallies.now) }
+{
+    for worker in 0..tallies.len() {
+        push_tally(text, worker, tallies[worker])?;
+    }
+    Ok(())
+}
+
+// The line of a worker's seat more.
+fn push_tally(text: &mut String, worker: usize, tally: Tally) -> Result<(), AllocError>
+    ensures line { OnOk result (string_bytes text.new ≡ string_bytes text.old ++ tally_line worker tally) }
+{
+    let Tally {
+        made,
+        refused,
+        submitted,
+        discarded,
+    } = tally;
+    writeln!(
+        text,
+        "worker {worker} made {made} refused {refused} submitted {submitted} discarded {discarded}"
+    )
+}
+
+// The line of a ring's counts more.
+fn push_counts(text: &mut String, counts: Counts) -> Result<(), AllocError>
+    ensures line { OnOk result (string_bytes text.new ≡ string_bytes text.old ++ counts_line counts) }
+{
+    let Counts {
+        made,
+        refused: _,
+        consumed,
+        discarded,
+        waiting,
+        busy,
+    } = counts;
+    writeln!(
+        text,
+        "ring made {made} consumed {consumed} discarded {discarded} waiting {waiting} busy {busy}"
+    )
+}

@@ -1,0 +1,190 @@
+//! A program from its text, run as jobs on threads over one ring.
+
+ghost use Rattle.std.specs.Prelude.{◌≡◌, ◌≢◌, ◌⊎◌, [], ◌∷◌, vec_len, IfErr, IfOk, IfSome, OnOk};
+ghost use Rattle.std.specs.Io.KnownBytes.{Appends, Keeps};
+ghost use Rattle.rb_history.specs.RingModel.{IsRingSize, IsStartPosition, IsWorkerCount};
+ghost use Rattle.rb_run_commands.specs.ReportLines.{report_text};
+ghost use Rattle.rb_run_commands.specs.RunCommand.{IsRightJobsFault, IsRightRingFault, PrintsRun, RunsWorkers};
+ghost use Rattle.rb_run_commands.specs.inner.OpeningFaults.{fault_of_opening};
+
+use crate::gate::OpenGate;
+use crate::jobs_fault::JobsFault;
+use crate::report_lines::text_of_report;
+use crate::worker_jobs::{CONTEXT, contexts_of, jobs_of};
+use rb_header::span;
+use rb_history::check_setup;
+use rb_io::write_whole;
+use rb_ledger::OpenFault;
+use rb_loader::{Bounds, ProgramFault, read_program};
+use rb_verifier::Verified;
+use rb_workers::{JobFault, Opened, Report, Sink, run_jobs};
+use std::alloc::{AllocError, Global};
+use std::io::{Read, Write};
+use std::sync::Wait;
+use std::thread::Threads;
+
+/// What a program of jobs is verified for: contexts of 16 bytes and one ring.
+pub const JOB_BOUNDS: Bounds = Bounds {
+    ctx_len: CONTEXT as u32,
+    rings: 1,
+};
+
+/// What is run, and over which ring.
+#[derive(Clone, Copy, Debug, PartialEq, Eq)]
+pub struct JobsRequest {
+    /// How many workers there are.
+    pub workers: u64,
+    /// How often each worker runs the program.
+    pub jobs: u32,
+    /// The ring's size in bytes.
+    pub size: u64,
+    /// The ring's first position.
+    pub start: u64,
+}
+
+/// Gives up all records that it is given.
+#[derive(Drop)]
+struct NullSink {
+    position: u64,
+}
+
+impl Sink for NullSink {
+    ghost use Rattle.std.specs.Prelude.{◌≡◌, ◌+◌, ℕ};
+    ghost use Rattle.rb_header.specs.TapeBytes.{item_span};
+    ghost use Rattle.rb_workers.specs.Sink.{SinkItem, tape_item};
+
+    ghost position_of = { λ s. s.position };
+
+    ghost takes = { λ old item new. new.position ≡ old.position + item_span (tape_item item) };
+
+    fn position(&self) -> u64 {
+        self.position
+    }
+
+    fn event(&mut self, pos: u64, _worker: u32, _serial: u64, bytes: &[u8]) {
+        self.position = pos + span(bytes.len() as u32);
+    }
+
+    fn skipped(&mut self, pos: u64, n: u32) {
+        self.position = pos + span(n);
+    }
+}
+
+/// Verifies the program whose text is the input for one ring and contexts of 16 bytes, and has each worker run it so often, each on a thread
+/// of its own, over one ring. A job's context is the worker's number and the job's, each in eight bytes, the lowest first. Prints what each
+/// seat counted, and what the closed ring did, once all have ended. Input that is no UTF-8 is `Text`; the program's refusals come before those
+/// of size, start and workers. Nothing is printed where the program or the ring is refused or memory runs out.
+pub fn run<T: Threads + Wait + Sync, R: Read, W: Write>(
+    rt: &T,
+    alloc: Global,
+    input: &mut R,
+    out: &mut W,
+    request: JobsRequest,
+) -> Result<(), JobsFault>
+    ensures printed { OnOk result (PrintsRun (R.remaining input.old) request (W.contents out.old) (W.contents out.new)) }
+    ensures bounds { OnOk result (IsRingSize request.size × IsStartPosition request.start × IsWorkerCount request.workers) }
+    ensures refused { IfErr result (λ fault. IfSome (R.remaining input.old) (λ text. IsRightJobsFault text request fault)) }
+    ensures nothing_printed { IfErr result (λ fault. fault ≢ JobsFault.Program ProgramFault.Device → Keeps (W.contents out.old) (W.contents out.new)) }
+{
+    let program = read_program(alloc, input, JOB_BOUNDS)?;
+    let sink = NullSink {
+        position: request.start,
+    };
+    match run_and_print(rt, alloc, &program, out, request, sink) {
+        Ok(_report) => Ok(()),
+        Err(fault) => Err(fault),
+    }
+}
+
+/// Runs the program as `run` does, with a sink that is given what the ring's consumer takes; it comes back in the report.
+pub fn run_and_print<T: Threads + Wait + Sync, W: Write, S: Sink + Send + Drop>(
+    rt: &T,
+    alloc: Global,
+    program: &Verified,
+    out: &mut W,
+    request: JobsRequest,
+    sink: S,
+) -> Result<Report<S>, JobsFault>
+    requires one_ring { program.now.rings ≡ 1 }
+    requires begins { S.position_of sink ≡ request.start }
+    ensures ran { IfOk result (RunsWorkers S.position_of S.takes sink program.now request) }
+    ensures printed { IfOk result (λ report. Appends (W.contents out.old) (W.contents out.new) (report_text report)) }
+    ensures bounds { OnOk result (IsRingSize request.size × IsStartPosition request.start × IsWorkerCount request.workers) }
+    ensures refused { IfErr result (λ fault. (fault ≡ JobsFault.Program ProgramFault.Device) ⊎ IsRightRingFault request fault) }
+    ensures nothing_printed { IfErr result (λ fault. fault ≢ JobsFault.Program ProgramFault.Device → Keeps (W.contents out.old) (W.contents out.new)) }
+{
+    let report = run_program(rt, alloc, program, request, sink)?;
+    let printed = text_of_report(alloc, &report)?;
+    match write_whole(out, printed.as_bytes()) {
+        Ok(()) => Ok(report),
+        Err(_) => Err(JobsFault::Program(ProgramFault::Device)),
+    }
+}
+
+// Runs the program on each worker so often, over one ring, whose records are given to the sink as they are taken.
+fn run_program<T: Threads + Wait + Sync, S: Sink + Send + Drop>(
+    rt: &T,
+    alloc: Global,
+    program: &Verified,
+    request: JobsRequest,
+    sink: S,
+) -> Result<Report<S>, JobsFault>
+    requires one_ring { program.now.rings ≡ 1 }
+    requires begins { S.position_of sink ≡ request.start }
+    ensures ran { IfOk result (RunsWorkers S.position_of S.takes sink program.now request) }
+    ensures bounds { IfOk result (λ _. IsRingSize request.size × IsStartPosition request.start × IsWorkerCount request.workers) }
+    ensures refused { IfErr result (IsRightRingFault request) }
+{
+    let workers = u32::try_from(request.workers).unwrap_or(u32::MAX);
+    let one = match Opened::open(rt, alloc, 0, request.size, request.start, workers, sink) {
+        Ok(one) => one,
+        Err(fault) => return Err(open_fault(fault)),
+    };
+    one.consumer.facts();
+    let contexts = contexts_of(alloc, workers, request.jobs)?;
+    let jobs = jobs_of(alloc, program, contexts.as_slice())?;
+    let Ok(opened) = list_of_one(alloc, one) else {
+        return Err(JobsFault::Program(ProgramFault::Memory));
+    };
+    match run_jobs(rt, alloc, opened, jobs.as_slice(), &OpenGate) {
+        Ok(report) => Ok(report),
+        Err((JobFault::Memory, _)) => Err(JobsFault::Program(ProgramFault::Memory)),
+        Err((JobFault::UnknownRing, _)) => unreachable!(),
+        Err((JobFault::UnknownWorker, _)) => unreachable!(),
+    }
+}
+
+// A list of this alone. `AllocError` where there is no memory for it.
+fn list_of_one<A: Drop>(alloc: Global, one: A) -> Result<Vec<A>, AllocError>
+    ensures items { IfOk result (λ list. list.items ≡ one ∷ []) }
+    ensures len { IfOk result (λ list. vec_len list ≡ 1) }
+{
+    let mut list = Vec::new(alloc);
+    list.push(one)?;
+    Ok(list)
+}
+
+/// The number of workers, where a ring may be opened with these numbers; else the refusal that opening it gives.
+pub fn check_ring(request: JobsRequest) -> Result<u32, JobsFault>
+    ensures bounds { OnOk result (IsRingSize request.size × IsStartPosition request.start × IsWorkerCount request.workers) }
+    ensures workers { IfOk result (λ workers. workers ≡ request.workers) }
+    ensures refused { IfErr result (IsRightRingFault request) }
+{
+    let workers = u32::try_from(request.workers).unwrap_or(u32::MAX);
+    match check_setup(request.size, request.start, workers) {
+        Ok(()) => Ok(workers),
+        Err(fault) => Err(open_fault(fault)),
+    }
+}
+
+// Why the ring was not opened.
+fn open_fault(fault: OpenFault) -> JobsFault
+    ensures { result ≡ fault_of_opening fault }
+{
+    match fault {
+        OpenFault::Size => JobsFault::Size,
+        OpenFault::Start => JobsFault::Start,
+        OpenFault::Workers => JobsFault::Workers,
+        OpenFault::Memory => JobsFault::Program(ProgramFault::Memory),
+    }
+}

@@ -1,0 +1,83 @@
+//! The jobs of a run: each worker runs the program so often, each time over a context of its own.
+
+ghost use Rattle.std.specs.Prelude.{◌≡◌, ◌++◌, IfOk, OnOk, map};
+ghost use Rattle.rb_jobs.specs.Jobs.{task_of};
+ghost use Rattle.rb_run_commands.specs.WorkerJobs.{job_context};
+ghost use Rattle.rb_run_commands.specs.inner.JobContexts.{contexts_of_workers, task_over, worker_contexts};
+
+use byteorder::{ByteOrder, LittleEndian};
+use rb_verifier::Verified;
+use rb_workers::Job;
+use std::alloc::{AllocError, Global};
+
+/// The length of a job's context in bytes: the worker's and the job's number, each in eight bytes, the lowest first.
+pub const CONTEXT: usize = 16;
+
+/// Whose job it is, and the bytes of its context.
+#[derive(Clone, Copy)]
+pub struct JobContext {
+    /// The worker that runs the job.
+    pub worker: u32,
+    /// The job's context.
+    pub bytes: [u8; CONTEXT],
+}
+
+/// The contexts of so many jobs of each of so many workers, worker by worker, each worker's in the order of their numbers.
+/// `AllocError` where there is no memory for them.
+pub fn contexts_of(alloc: Global, workers: u32, jobs: u32) -> Result<Vec<JobContext>, AllocError>
+    ensures contexts { IfOk result (λ contexts. contexts.items ≡ contexts_of_workers workers jobs) }
+{
+    let mut contexts = Vec::new(alloc);
+    for worker in 0..workers {
+        push_contexts(&mut contexts, worker, jobs)?;
+    }
+    Ok(contexts)
+}
+
+// The contexts of one worker's jobs more.
+fn push_contexts(contexts: &mut Vec<JobContext>, worker: u32, jobs: u32) -> Result<(), AllocError>
+    ensures contexts { OnOk result (contexts.new.items ≡ contexts.old.items ++ worker_contexts jobs worker) }
+{
+    for job in 0..jobs {
+        let own = JobContext {
+            worker,
+            bytes: context_of(worker, job),
+        };
+        let Ok(()) = contexts.push(own) else {
+            return Err(AllocError);
+        };
+    }
+    Ok(())
+}
+
+// The worker's and the job's number, each in eight bytes, the lowest first.
+fn context_of(worker: u32, job: u32) -> [u8; CONTEXT]
+    ensures context { result ≡ job_context worker job }
+{
+    let mut context = [0; CONTEXT];
+    LittleEndian::write_u64(&mut context[..8], u64::from(worker));
+    LittleEndian::write_u64(&mut context[8..], u64::from(job));
+    context
+}
+
+/// A job of the program over each of the contexts, in their order. `AllocError` where there is no memory for them.
+pub fn jobs_of<'j>(
+    alloc: Global,
+    program: &'j Verified,
+    contexts: &'j [JobContext],
+) -> Result<Vec<Job<'j>>, AllocError>
+    ensures jobs { IfOk result (λ jobs. map task_of jobs.items ≡ map (task_over program.now) contexts.now) }
+{
+    let mut jobs = Vec::new(alloc);
+    for own in contexts {
+        let job = Job {
+            worker: own.worker,
+            program,
+            ctx: own.bytes.as_slice(),
+        };
+        let Ok(()) = jobs.push(job) else {
+            return Err(AllocError);
+        };
+    }
+    Ok(jobs)
+}

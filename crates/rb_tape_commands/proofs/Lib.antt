@@ -1,0 +1,8 @@
+mod Answering
+mod Digits
+mod Feeding
+mod Inputs
+mod PayloadReads
+mod RingPass
+mod Sending
+pub mod TapeReads

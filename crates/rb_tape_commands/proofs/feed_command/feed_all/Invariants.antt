@@ -1,0 +1,23 @@
+use Rattle.std.proofs.Common.{◌≡◌, ◌+◌, ◌-◌, ◌*◌, ◌≤◌, ◌^◌, false, List, ℕ, [], length}
+use Rattle.rb_header.specs.TapeBytes.{end_of}
+use Rattle.rb_history.specs.Calls.{AllTaken, producer_now}
+use Rattle.rb_tape_commands.specs.Feed.{FeedsAll}
+use Rattle.rb_tape_commands.specs.inner.FeedRuns.{feed_run}
+use Rattle.rb_tape_commands.specs.Input.{events_from}
+use Rattle.rb_tape_commands.proofs.feed_command.feed_all.Given as goal
+
+-- the payloads so far were read, and their tape was written; in the ring each was taken, and the positions are one
+abbrev pub invariant-loop-payload : goal.invariant-loop-payload
+invariant-loop-payload g l = record {
+  size : l.tape.size ≡ l.size;
+  finished : l.tape.unfinished ≡ false;
+  setup : l.ring.setup ≡ record { size = l.size; start = l.start; workers = 1 };
+  all_taken : AllTaken l.ring;
+  position : l.tape.position ≡ producer_now l.ring;
+  low : l.start + 8 * l.number ≤ l.tape.position;
+  high : l.tape.position ≤ 2 ^ 62;
+  passed : (payloads : List (List ℕ)) × FeedsAll (feed_run l.size l.start (g.R.Read.remaining l.fn.reader) (g.R.Read.remaining l.reader) (g.W.Write.contents l.fn.tape.writer) (g.W.Write.contents l.tape.writer)) payloads [] × (l.number ≡ length payloads) × (l.tape.position ≡ end_of l.start (events_from l.start payloads));
+}
+
+abbrev pub decreases-loop-payload : goal.decreases-loop-payload
+decreases-loop-payload g l = 2 ^ 62 - l.tape.position

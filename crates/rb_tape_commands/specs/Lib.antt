@@ -1,0 +1,6 @@
+pub mod Feed
+pub mod Input
+pub mod PayloadReads
+pub mod TapeText
+pub mod Transfer
+pub mod inner

@@ -1,0 +1,71 @@
+-- What `tape` prints of a tape, and what it answers (own; the tape's bytes are those of rb_header, its faults those of rb_reader).
+use Rattle.std.specs.Prelude.{ℕ, ◌≡◌, ◌-◌, List, [], ◌++◌, codes, length, Option, None, Some, IfNone, IfSome, Result, Ok, Err}
+use Rattle.std.specs.Fmt.{decimal}
+use Rattle.std.specs.List.{flat_map}
+use Rattle.std.specs.Io.KnownBytes.{Appends, Keeps}
+use Rattle.rb_header.specs.TapeBytes.{Item, end_of}
+use Rattle.rb_header.specs.TapeBytes.Item.{Event, Skip}
+use Rattle.rb_reader.specs.declared.fault.TapeKind.{TapeKind}
+use Rattle.rb_reader.specs.TapeReading.{Reading, reading_from, IsToldAtEnd}
+use Rattle.rb_reader.specs.LongestTape.{IsTapeAndRest, IsLongestList}
+use Rattle.rb_io.specs.Lines.{hex_text, line}
+use Rattle.rb_tape_commands.specs.declared.tape_refusal.TapeRefusal.{TapeRefusal}
+use Rattle.rb_tape_commands.specs.declared.tape_refusal.TapeRefusal.TheVariants.{Size, Start, Record, Memory, Device}
+
+-- ---- the lines
+
+-- the line of a record: an event with its bytes in hex, a discarded record with its length. That of the event 2a at 0 is `pos 0 len 1 2a`
+abbrev pub tape_line : Item → List ℕ
+tape_line (Event pos bytes) = line (codes "pos " ++ decimal pos ++ codes " len " ++ decimal (length bytes) ++ codes " " ++ hex_text bytes)
+tape_line (Skip pos len) = line (codes "pos " ++ decimal pos ++ codes " len " ++ decimal len ++ codes " discarded")
+
+-- the lines of records, in their order
+abbrev pub tape_lines : List Item → List ℕ
+tape_lines items = flat_map tape_line items
+
+-- ---- what is printed of a whole input
+
+-- the reader of the rest that stands behind these items
+abbrev pub reading_behind : ℕ → ℕ → List Item → List ℕ → Reading
+reading_behind size start items rest = record (reading_from size start rest) { position = end_of start items }
+
+-- The lines of the longest list of items whose tape begins the input were printed, and nothing else; behind them nothing is left, or this
+-- fault is told there. Its offset is the number of the input's bytes before it.
+pub record PrintsTape (size start : ℕ) (input : List ℕ) (fault : Option (TapeKind × ℕ)) (before after : Option (List ℕ)) : Type 0 where
+  pub items : List Item
+  pub rest : List ℕ
+  pub splits : IsTapeAndRest size start input items rest
+  pub longest : IsLongestList size start input items
+  pub printed : Appends before after (tape_lines items)
+  pub whole : IfNone fault (rest ≡ [])
+  pub told : IfSome fault (λ f. IsToldAtEnd (reading_behind size start items rest) f.0 × (f.1 ≡ end_of start items - start))
+
+-- the input is the tape of some items, and nothing else
+abbrev pub IsTape : ℕ → ℕ → List ℕ → Type 0
+IsTape size start input = (items : List Item) × IsTapeAndRest size start input items []
+
+-- a beginning of the lines of some first records of the input was printed
+pub record PrintsSome (size start : ℕ) (input : List ℕ) (before after : Option (List ℕ)) : Type 0 where
+  pub items : List Item
+  pub rest : List ℕ
+  pub splits : IsTapeAndRest size start input items rest
+  pub out : List ℕ
+  pub missing : List ℕ
+  pub printed : Appends before after out
+  pub beginning : out ++ missing ≡ tape_lines items
+
+-- the lines of some first records of the input were printed, and nothing else
+pub record PrintsFirst (size start : ℕ) (input : List ℕ) (before after : Option (List ℕ)) : Type 0 where
+  pub items : List Item
+  pub rest : List ℕ
+  pub splits : IsTapeAndRest size start input items rest
+  pub printed : Appends before after (tape_lines items)
+
+-- what an answer says of the input and of what was printed
+abbrev pub TapeAnswer : ℕ → ℕ → List ℕ → Option (List ℕ) → Option (List ℕ) → Result (Unit {0}) TapeRefusal → Type 0
+TapeAnswer size start input before after (Ok _) = PrintsTape size start input None before after
+TapeAnswer size start input before after (Err (Record kind offset)) = PrintsTape size start input (Some (kind, offset)) before after
+TapeAnswer size start input before after (Err Size) = Keeps before after
+TapeAnswer size start input before after (Err Start) = Keeps before after
+TapeAnswer size start input before after (Err Memory) = PrintsFirst size start input before after
+TapeAnswer size start input before after (Err Device) = PrintsSome size start input before after

@@ -1,0 +1,21 @@
+//! The commands `feed` and `tape`: payloads through a ring onto a tape (ringbuf.rst has a record's header), and a tape's records as lines.
+//!
+//! For `rbhost`, and for whoever wants either over readers and writers of his own. What is promised: what `feed` read and wrote, by its
+//! answer, and that `tape` prints the lines of the longest list of records whose tape begins its input, and tells the first fault behind
+//! them.
+#![tactic(auto)]
+
+mod feed_command;
+mod feed_fault;
+mod hex_digits;
+mod payloads;
+mod retries;
+mod tape_command;
+mod tape_lines;
+mod tape_refusal;
+mod transfer;
+
+pub use feed_command::feed;
+pub use feed_fault::FeedFault;
+pub use tape_command::tape;
+pub use tape_refusal::TapeRefusal;

@@ -1,0 +1,62 @@
+//! Reading payloads.
+
+ghost use Rattle.std.specs.Prelude.{◌≡◌};
+ghost use Rattle.std.specs.Int.{w32, to_le_bytes};
+ghost use Rattle.rb_tape_commands.specs.PayloadReads.{FindsNext};
+ghost use Rattle.rb_tape_commands.specs.inner.LengthReads.{FindsLength};
+
+use crate::feed_fault::FeedFault;
+use rb_header::span;
+use rb_io::read_full;
+use rb_lend::{Lent, Sheet};
+use std::io::Read;
+
+// The number whose bytes these are, the lowest first.
+fn number_of(field: &[u8; 4]) -> u32
+    ensures { to_le_bytes w32 result ≡ field.now }
+{
+    u32::from_le_bytes(*field)
+}
+
+// Reads the length of the payload of this number, or finds that the input ends before it.
+fn read_length<R: Read>(reader: &mut R, number: u64) -> Result<Option<u32>, FeedFault>
+    ensures { FindsLength number (R.remaining reader.old) (R.remaining reader.new) result }
+{
+    let mut field = [0; 4];
+    let Ok(count) = read_full(reader, &mut field) else {
+        return Err(FeedFault::Device);
+    };
+    match count {
+        0 => Ok(None),
+        4 => Ok(Some(number_of(&field))),
+        _ => Err(FeedFault::Ends(number)),
+    }
+}
+
+/// Reads the payload of this number into the sheet, or finds that the input ends before it. A payload whose record is too
+/// long for a ring of `size` bytes is refused from its length alone.
+pub fn next_payload<R: Read>(
+    reader: &mut R,
+    spare: Sheet,
+    size: u64,
+    number: u64,
+) -> Result<Option<Sheet>, FeedFault>
+    ensures { FindsNext size number (R.remaining reader.old) (R.remaining reader.new) result }
+{
+    let Some(len) = read_length(reader, number)? else {
+        return Ok(None);
+    };
+    if span(len) >= size {
+        return Err(FeedFault::Fit(number));
+    }
+    let Ok(mut sheet) = spare.renew(len) else {
+        return Err(FeedFault::Memory);
+    };
+    let Ok(count) = read_full(reader, sheet.bytes_mut()) else {
+        return Err(FeedFault::Device);
+    };
+    if count < len as usize {
+        return Err(FeedFault::Ends(number));
+    }
+    Ok(Some(sheet))
+}

@@ -1,0 +1,96 @@
+//! A tape in, a line for each of its records out.
+
+ghost use Rattle.std.specs.Prelude.{◌≡◌, ◌≢◌, ◌↔◌, [], None, Err, IfSome, IsErrOf, OnOk};
+ghost use Rattle.rb_history.specs.RingModel.{IsRingSize, IsStartPosition};
+ghost use Rattle.rb_reader.specs.TapeReading.{reading_from};
+ghost use Rattle.rb_tape_commands.specs.inner.TapePrinting.{EndsTape};
+ghost use Rattle.rb_tape_commands.specs.TapeText.{TapeAnswer};
+
+use crate::tape_lines::print_next;
+use crate::tape_refusal::TapeRefusal;
+use rb_history::OpenFault;
+use rb_io::Outgoing;
+use rb_reader::Feed;
+use std::alloc::Global;
+use std::io::{Read, Write};
+
+/// How many bytes are read at a time: a page.
+const PIECE: usize = 4096;
+
+/// Reads a tape of a ring of `size` bytes whose first record stands at `start`, in pieces of at most 4,096 bytes, and prints a line for
+/// each record: `pos P len N HEX`, an empty payload as `-`, or `pos P len N discarded`. The records are the longest list whose tape begins
+/// the input. `Record` where bytes are left behind them, with what is wrong there.
+///
+/// `Size` and `Start` come before anything is read. Whatever is returned, the lines of the records before were printed and handed on, unless
+/// the output itself failed. The output is called for each record: buffer it.
+pub fn tape<R: Read, W: Outgoing>(
+    alloc: Global,
+    input: &mut R,
+    out: &mut W,
+    size: u64,
+    start: u64,
+) -> Result<(), TapeRefusal>
+    ensures answer { IfSome (R.remaining input.old) (λ tape. TapeAnswer size start tape (W.contents out.old) (W.contents out.new) result) }
+    ensures handed_on { W.waiting out.old ≡ [] → result ≢ Err TapeRefusal.Device → W.waiting out.new ≡ [] }
+    ensures size { IsErrOf result TapeRefusal.Size ↔ ¬ IsRingSize size }
+    ensures start { IsErrOf result TapeRefusal.Start ↔ (IsRingSize size × ¬ IsStartPosition start) }
+    ensures bounds { OnOk result (IsRingSize size × IsStartPosition start) }
+{
+    let mut feed = match Feed::new(alloc, size, start) {
+        Ok(feed) => feed,
+        Err(OpenFault::Size) => return Err(TapeRefusal::Size),
+        Err(OpenFault::Start) => return Err(TapeRefusal::Start),
+        Err(OpenFault::Workers) => unreachable!(),
+        Err(OpenFault::Memory) => unreachable!(),
+    };
+    let mut line = Vec::new(alloc);
+    let printed = print_pieces(&mut feed, input, out, &mut line);
+    match out.hand_out() {
+        Ok(()) => printed,
+        Err(_) => Err(TapeRefusal::Device),
+    }
+}
+
+// Piece after piece, until the input ends or a record is refused.
+fn print_pieces<R: Read, W: Write>(
+    feed: &mut Feed,
+    input: &mut R,
+    out: &mut W,
+    line: &mut Vec<u8>,
+) -> Result<(), TapeRefusal>
+    requires size { IsRingSize feed.old.size }
+    requires fresh { feed.old ≡ reading_from feed.old.size feed.old.start [] }
+    ensures answer { IfSome (R.remaining input.old) (λ tape. TapeAnswer feed.old.size feed.old.start tape (W.contents out.old) (W.contents out.new) result) }
+    ensures no_bounds { (result ≢ Err TapeRefusal.Size) × (result ≢ Err TapeRefusal.Start) }
+{
+    let mut piece = [0; PIECE];
+    'pieces: for _ in 0..u64::MAX {
+        let count = match input.read(&mut piece) {
+            Ok(count) => count,
+            Err(_) => return Err(TapeRefusal::Device),
+        };
+        if count == 0 {
+            return end_of_input(feed);
+        }
+        if feed.feed(&piece[..count]).is_err() {
+            return Err(TapeRefusal::Memory);
+        }
+        'records: while print_next(feed, out, line)? {}
+    }
+    // No input has so many pieces.
+    Err(TapeRefusal::Device)
+}
+
+// Whether the tape may end where the input does.
+fn end_of_input(feed: &Feed) -> Result<(), TapeRefusal>
+    requires no_fault { feed.now.told ≡ None }
+    ensures ends { EndsTape feed.now result }
+{
+    match feed.end() {
+        Ok(()) => Ok(()),
+        Err(fault) => Err(TapeRefusal::Record {
+            kind: fault.kind,
+            offset: fault.offset,
+        }),
+    }
+}

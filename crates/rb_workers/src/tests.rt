@@ -1,6 +1,0 @@
-//! Worked runs of jobs.
-
-mod given;
-mod refused;
-mod runs;
-mod sheets;

@@ -1,0 +1,11 @@
+//! Tests of jobs on threads, by public calls alone: runs that come to a report, runs that are refused, and sheets that are used again.
+#![tactic(auto)]
+
+#[cfg(test)]
+mod given;
+#[cfg(test)]
+mod refused;
+#[cfg(test)]
+mod runs;
+#[cfg(test)]
+mod sheets;

@@ -1,0 +1,139 @@
+//! Runs that are refused.
+
+ghost use Rattle.std.specs.Prelude.{◌≡◌};
+ghost use Rattle.rb_workers.specs.Opened.{AreOpened};
+
+use crate::given::{SUBMIT_42, Counter, Free, job, one_ring, verified};
+use rb_ledger::OpenFault;
+use rb_workers::{Gate, Job, JobFault, Opened, run_jobs};
+use std::alloc::Global;
+use std::process::Abort;
+use std::sync::Wait;
+use std::sync::atomic::Ordering;
+use std::thread::Threads;
+
+const CONTEXT: [u8; 16] = [0; 16];
+
+// The fault of a run that is refused, and the rings that came back.
+fn refused<R: Threads + Wait + Sync + Abort, G: Gate + Sync>(
+    rt: &R,
+    alloc: Global,
+    rings: Vec<Opened<Counter>>,
+    jobs: &[Job<'_>],
+    gate: &G,
+) -> (JobFault, Vec<Opened<Counter>>)
+    requires { AreOpened (λ c. c.position) rings.items }
+{
+    match run_jobs(rt, alloc, rings, jobs, gate) {
+        Ok(_) => rt.panic("a report"),
+        Err(refusal) => refusal,
+    }
+}
+
+// Whether this is one ring with so many seats that have made nothing.
+fn is_untouched<A: Abort>(rt: &A, rings: &[Opened<Counter>], seats: usize) {
+    assert_eq!(rt; rings.len(), 1);
+    for one in rings {
+        assert_eq!(rt; one.seats.len(), seats);
+        assert_eq!(rt; (one.consumer.position(), one.sink.position), (0, 0));
+        for seat in &one.seats {
+            assert_eq!(rt; (seat.made(), seat.refused()), (0, 0));
+        }
+    }
+}
+
+#[test]
+fn an_unknown_ring_is_told_before_an_unknown_worker(rt: HostRuntime) {
+    let alloc = rt.alloc();
+    let program = verified(&rt, alloc, SUBMIT_42, 2);
+    let jobs = [job(5, &program, &CONTEXT)];
+    let gate = Free::new();
+    let (fault, back) = refused(&rt, alloc, one_ring(&rt, alloc, 2), &jobs, &gate);
+    assert_eq!(rt; fault, JobFault::UnknownRing);
+    is_untouched(&rt, &back, 2);
+    assert_eq!(rt; gate.others.load(Ordering::SeqCst), 0);
+}
+
+#[test]
+fn an_unknown_worker_is_told(rt: HostRuntime) {
+    let alloc = rt.alloc();
+    let program = verified(&rt, alloc, SUBMIT_42, 1);
+    let jobs = [job(1, &program, &CONTEXT), job(2, &program, &CONTEXT)];
+    let gate = Free::new();
+    let (fault, back) = refused(&rt, alloc, one_ring(&rt, alloc, 2), &jobs, &gate);
+    assert_eq!(rt; fault, JobFault::UnknownWorker);
+    is_untouched(&rt, &back, 2);
+    assert_eq!(rt; gate.first.load(Ordering::SeqCst), 0);
+}
+
+// Runs the jobs until there was memory, thrice at most.
+fn run_again<R: Threads + Wait + Sync + Abort>(
+    rt: &R,
+    alloc: Global,
+    first: Vec<Opened<Counter>>,
+    jobs: &[Job<'_>],
+) -> (u64, usize)
+    requires { AreOpened (λ c. c.position) first.items }
+{
+    let gate = Free::new();
+    let mut rings = first;
+    for _ in 0..3 {
+        match run_jobs(rt, alloc, rings, jobs, &gate) {
+            Ok(report) => return (report.strays, report.rings.len()),
+            Err((fault, back)) => {
+                assert_eq!(rt; fault, JobFault::Memory);
+                rings = back;
+            }
+        }
+    }
+    rt.panic("no memory thrice")
+}
+
+#[test]
+fn what_comes_back_without_memory_runs_again(rt: HostRuntime) {
+    let alloc = rt.alloc();
+    let program = verified(&rt, alloc, SUBMIT_42, 1);
+    let jobs = [job(0, &program, &CONTEXT), job(1, &program, &CONTEXT)];
+    let ended = run_again(&rt, alloc, one_ring(&rt, alloc, 2), &jobs);
+    assert_eq!(rt; ended, (0, 1));
+}
+
+// Why no such ring is opened.
+fn open_fault<R: Wait + Abort>(rt: &R, alloc: Global, size: u64, workers: u32) -> OpenFault {
+    match Opened::open(rt, alloc, 7, size, 0, workers, Counter::new()) {
+        Ok(_) => rt.panic("a ring"),
+        Err(fault) => fault,
+    }
+}
+
+#[test]
+fn a_ring_opens_within_bounds_alone(rt: HostRuntime) {
+    let rows = [
+        (4095, 1, OpenFault::Size),
+        (4096, 0, OpenFault::Workers),
+        (4096, 257, OpenFault::Workers),
+    ];
+    for (size, workers, want) in rows {
+        assert_eq!(rt;
+            open_fault(&rt, rt.alloc(), size, workers),
+            want,
+            "at {size} {workers}"
+        );
+    }
+}
+
+#[test]
+fn faults_have_names(rt: HostRuntime) {
+    let rows = [
+        (
+            JobFault::UnknownRing,
+            "a program knows more rings than there are",
+        ),
+        (JobFault::UnknownWorker, "a job is of an unknown worker"),
+        (JobFault::Memory, "out of memory"),
+    ];
+    for (fault, want) in rows {
+        let text = format!(in rt.alloc(); "{fault}").expect(&rt, "memory");
+        assert_eq!(rt; text.as_str(), want);
+    }
+}

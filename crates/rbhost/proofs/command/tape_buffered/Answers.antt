@@ -1,5 +1,0 @@
-use Rattle.rbhost.proofs.TapeReads.{whole_tape}
-use Rattle.rbhost.proofs.command.tape_buffered.Goals as goal
-
-pub returns-clause-whole : goal.returns-clause-whole
-returns-clause-whole g c = whole_tape c.args.size c.args.start _ _ _ c.tape.result c.tape.ensures.answer

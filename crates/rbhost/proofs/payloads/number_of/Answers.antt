@@ -1,5 +1,0 @@
-use Rattle.std.proofs.lemmas.Nat.{le_bytes_4}
-use Rattle.rbhost.proofs.payloads.number_of.Goals as goal
-
-pub returns : goal.returns
-returns c = le_bytes_4 c.args.field.now _ c.told-field c.fits-field c.from_le_bytes.ensures

@@ -1,5 +1,0 @@
-use Rattle.rbhost.proofs.PayloadReads.{length_read}
-use Rattle.rbhost.proofs.payloads.read_length.Goals as goal
-
-pub returns-in-4 : goal.returns-in-4
-returns-in-4 g c = (c.number_of.type_inv, length_read _ _ c.read_full.new.buf c.in-Ok.count c.number_of.result c.read_full.auto.buf c.in-4.is c.number_of.ensures c.in-Ok.ensures.bytes)

@@ -1,5 +1,0 @@
-use Rattle.rbhost.proofs.Printing.{counts_written}
-use Rattle.rbhost.proofs.report_lines.push_counts.Goals as goal
-
-pub returns : goal.returns
-returns c = record { line = counts_written _ _ _ c.args.counts c.writeln.ensures.bytes }

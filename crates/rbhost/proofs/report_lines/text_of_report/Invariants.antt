@@ -1,7 +1,0 @@
-use Rattle.std.proofs.Common.{◌≡◌, string_bytes, take}
-use Rattle.std.specs.List.{flat_map}
-use Rattle.rbhost.specs.ReportLines.{closing_lines}
-use Rattle.rbhost.proofs.report_lines.text_of_report.Given as goal
-
-abbrev pub invariant-loop-ended : goal.invariant-loop-ended
-invariant-loop-ended g l = string_bytes l.text ≡ flat_map closing_lines (take l.ended-index l.report.rings.items)

@@ -1,6 +1,0 @@
-use Rattle.std.proofs.Common.{◌≡◌}
-use Rattle.rbhost.specs.inner.JobContexts.{contexts_of_workers}
-use Rattle.rbhost.proofs.worker_jobs.contexts_of.Given as goal
-
-abbrev pub invariant-loop-worker : goal.invariant-loop-worker
-invariant-loop-worker l = l.contexts.items ≡ contexts_of_workers l.worker l.jobs

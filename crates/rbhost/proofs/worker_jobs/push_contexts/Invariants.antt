@@ -1,6 +1,0 @@
-use Rattle.std.proofs.Common.{◌≡◌, ◌++◌}
-use Rattle.rbhost.specs.inner.JobContexts.{worker_contexts}
-use Rattle.rbhost.proofs.worker_jobs.push_contexts.Given as goal
-
-abbrev pub invariant-loop-job : goal.invariant-loop-job
-invariant-loop-job l = l.contexts.items ≡ l.fn.contexts.items ++ worker_contexts l.job l.worker

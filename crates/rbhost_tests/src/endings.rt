@@ -1,0 +1,59 @@
+//! What commands end with, as one text or one answer.
+
+use crate::fakes::Source;
+use rb_command_line::command;
+use std::alloc::Global;
+use std::fs::File;
+use std::process::Abort;
+use std::rt::Files;
+use std::sync::Wait;
+use std::thread::Threads;
+
+/// The status, what was told on the error output, and what was printed, which is text too.
+pub(crate) fn ended<T: Abort + Threads + Wait + Sync + Files<File = File>>(
+    rt: &T,
+    alloc: Global,
+    words: &[&str],
+    input: &[u8],
+) -> String {
+    ended_over(rt, alloc, words, Source::new(input, 7))
+}
+
+/// The same, over this reader.
+pub(crate) fn ended_over<T: Abort + Threads + Wait + Sync + Files<File = File>>(
+    rt: &T,
+    alloc: Global,
+    words: &[&str],
+    mut reader: Source<'_>,
+) -> String {
+    let mut printed = Vec::new(alloc);
+    let mut told = Vec::new(alloc);
+    let status = command(rt, alloc, words, &mut reader, &mut printed, &mut told);
+    let printed = str::from_utf8(printed.as_slice()).expect(rt, "text");
+    let told = str::from_utf8(told.as_slice()).expect(rt, "text");
+    format!(in alloc; "{status} {told}{printed}").expect(rt, "memory")
+}
+
+/// Whether the words were told to be wrong, before anything was read or printed.
+pub(crate) fn is_wrong_usage<T: Threads + Wait + Sync + Files<File = File>>(
+    rt: &T,
+    alloc: Global,
+    words: &[&str],
+) -> bool {
+    let mut reader = Source::new(&[1], 5);
+    let mut printed = Vec::new(alloc);
+    let mut told = Vec::new(alloc);
+    let status = command(rt, alloc, words, &mut reader, &mut printed, &mut told);
+    status == 2
+        && printed.is_empty()
+        && told.as_slice().starts_with(b"error: ")
+        && reader.rest.len() == 1
+}
+
+/// The number at a place of a line's words; none is the greatest.
+pub(crate) fn number(line: &str, place: usize) -> u64 {
+    match line.split(' ').nth(place) {
+        Some(word) => word.parse().unwrap_or(u64::MAX),
+        None => u64::MAX,
+    }
+}

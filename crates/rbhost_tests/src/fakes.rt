@@ -1,0 +1,165 @@
+//! Readers and writers that give and take little at a time, and fail.
+
+use rb_io::Outgoing;
+use std::alloc::Global;
+use std::io::{Error, ErrorKind, Read, Result, Write};
+
+/// Gives its bytes, at most `most` at a time, and then the end, or fails if it has a `fault`.
+#[derive(Drop)]
+pub struct Source<'a> {
+    pub rest: &'a [u8],
+    pub most: usize,
+    pub fault: Option<ErrorKind>,
+}
+
+impl<'a> Source<'a> {
+    pub(crate) fn new(bytes: &'a [u8], most: usize) -> Source<'a> {
+        Source {
+            rest: bytes,
+            most,
+            fault: None,
+        }
+    }
+
+    pub(crate) fn failing(bytes: &'a [u8], fault: ErrorKind) -> Source<'a> {
+        Source {
+            rest: bytes,
+            most: 3,
+            fault: Some(fault),
+        }
+    }
+}
+
+impl Read for Source<'_> {
+    fn read(&mut self, buf: &mut [u8]) -> Result<usize> {
+        if self.rest.is_empty() {
+            return match self.fault {
+                None => Ok(0),
+                Some(kind) => Err(Error::from(kind)),
+            };
+        }
+        let n = self.rest.len().min(buf.len()).min(self.most);
+        let (front, rest) = self.rest.split_at(n);
+        buf[..n].copy_from_slice(front);
+        self.rest = rest;
+        Ok(n)
+    }
+}
+
+/// What a `Sink` does when its room is used up.
+#[derive(Clone, Copy)]
+pub enum Trouble {
+    TakesNothing,
+    Fails(ErrorKind),
+}
+
+/// Takes bytes, at most `most` at a time, until `room` is used up.
+#[derive(Drop)]
+pub struct Sink {
+    pub taken: Vec<u8>,
+    pub flushed: usize,
+    pub room: usize,
+    pub most: usize,
+    pub trouble: Trouble,
+    pub flush_fails: bool,
+}
+
+impl Sink {
+    pub(crate) fn new(alloc: Global, room: usize, most: usize, trouble: Trouble) -> Sink {
+        Sink {
+            taken: Vec::new(alloc),
+            flushed: 0,
+            room,
+            most,
+            trouble,
+            flush_fails: false,
+        }
+    }
+
+    /// One that takes all.
+    pub(crate) fn open(alloc: Global) -> Sink {
+        Sink::new(alloc, usize::MAX, usize::MAX, Trouble::TakesNothing)
+    }
+}
+
+impl Write for Sink {
+    fn write(&mut self, buf: &[u8]) -> Result<usize> {
+        let n = buf.len().min(self.most).min(self.room);
+        if n == 0 && !buf.is_empty() {
+            return match self.trouble {
+                Trouble::TakesNothing => Ok(0),
+                Trouble::Fails(kind) => Err(Error::from(kind)),
+            };
+        }
+        self.taken.extend_from_slice(&buf[..n])?;
+        self.room -= n;
+        Ok(n)
+    }
+
+    fn flush(&mut self) -> Result<()> {
+        if self.flush_fails {
+            return Err(Error::from(ErrorKind::BrokenPipe));
+        }
+        self.flushed = self.taken.len();
+        Ok(())
+    }
+}
+
+impl Outgoing for Sink {
+    ghost use Rattle.std.specs.Prelude.{[]};
+
+    ghost waiting = { λ _. [] };
+
+    fn hand_out(&mut self) -> Result<()> {
+        self.flush()
+    }
+}
+
+/// Takes one byte a write, but for the write of number `fails_at`, counted from 1, which fails.
+#[derive(Drop)]
+pub struct OneFailure {
+    pub taken: Vec<u8>,
+    pub writes: usize,
+    pub fails_at: usize,
+    pub trouble: Trouble,
+}
+
+impl OneFailure {
+    pub(crate) fn new(alloc: Global, fails_at: usize, trouble: Trouble) -> OneFailure {
+        OneFailure {
+            taken: Vec::new(alloc),
+            writes: 0,
+            fails_at,
+            trouble,
+        }
+    }
+}
+
+impl Write for OneFailure {
+    fn write(&mut self, buf: &[u8]) -> Result<usize> {
+        let n = buf.len().min(1);
+        self.writes = self.writes.saturating_add(n);
+        if self.writes == self.fails_at && n > 0 {
+            return match self.trouble {
+                Trouble::TakesNothing => Ok(0),
+                Trouble::Fails(kind) => Err(Error::from(kind)),
+            };
+        }
+        self.taken.extend_from_slice(&buf[..n])?;
+        Ok(n)
+    }
+
+    fn flush(&mut self) -> Result<()> {
+        Ok(())
+    }
+}
+
+impl Outgoing for OneFailure {
+    ghost use Rattle.std.specs.Prelude.{[]};
+
+    ghost waiting = { λ _. [] };
+
+    fn hand_out(&mut self) -> Result<()> {
+        self.flush()
+    }
+}

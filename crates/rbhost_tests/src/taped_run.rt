@@ -1,0 +1,177 @@
+//! Runs whose records are written as a tape.
+
+ghost use Rattle.std.specs.Prelude.{◌≡◌};
+
+use crate::endings::{ended, number};
+use crate::fakes::{Sink, Trouble};
+use rb_examples::OUTPUT_CONTEXT;
+use rb_loader::read_program;
+use rb_run_commands::{JOB_BOUNDS, JobsRequest, WrittenTape, check_ring, run_taped};
+use rb_verifier::Verified;
+use std::fs::File;
+use std::io::ErrorKind;
+use std::process::Abort;
+use std::rt::Files;
+use std::sync::Wait;
+use std::thread::Threads;
+
+// The program of examples/output_context.hex, which outputs the first eight bytes of its context: its worker's number.
+fn output_context(rt: &(impl Abort + AllocGlobal)) -> Verified
+    ensures rings { result.rings ≡ 1 }
+{
+    let mut text = OUTPUT_CONTEXT.as_bytes();
+    match read_program(rt.alloc(), &mut text, JOB_BOUNDS) {
+        Ok(program) => program,
+        Err(_) => rt.panic("no program"),
+    }
+}
+
+// What is printed by a run of so many workers and jobs whose tape goes to this writer, and the tape.
+fn run_over<T: Abort + AllocGlobal + Threads + Wait + Sync + Files<File = File>>(
+    rt: &T,
+    workers: u64,
+    jobs: u32,
+    size: u64,
+    tape: Sink,
+) -> (String, WrittenTape<Sink>) {
+    let request = JobsRequest {
+        workers,
+        jobs,
+        size,
+        start: 8,
+    };
+    let Ok(_workers) = check_ring(request) else {
+        rt.panic("no ring");
+    };
+    let mut out = Vec::new(rt.alloc());
+    let program = output_context(rt);
+    let Ok(written) = run_taped(rt, rt.alloc(), &program, &mut out, tape, request) else {
+        rt.panic("refused");
+    };
+    let Ok(printed) = String::from_utf8(out) else {
+        rt.panic("no text");
+    };
+    (printed, written)
+}
+
+// How many of a tape's lines are of a record of eight bytes that tells this worker's number.
+fn records_of(rt: &(impl Abort + AllocGlobal), lines: &str, worker: u64) -> u64 {
+    let end = format!(in rt.alloc(); " len 8 0{worker}00000000000000").expect(rt, "memory");
+    let mut count = 0u64;
+    for line in lines.lines() {
+        if line.ends_with(end.as_str()) {
+            count = count.saturating_add(1);
+        }
+    }
+    count
+}
+
+#[test]
+fn each_record_that_was_taken_is_on_the_tape(rt: HostRuntime) {
+    let (printed, written) = run_over(&rt, 4, 1000, 65_536, Sink::open(rt.alloc()));
+    let words = ["tape", "--size", "65536", "--start", "8"];
+    let lines = ended(&rt, rt.alloc(), &words, written.writer.taken.as_slice());
+    let mut counted = 0u64;
+    for (worker, line) in printed.as_str().lines().take(4).enumerate() {
+        let records = records_of(&rt, lines.as_str(), worker as u64);
+        assert_eq!(rt; records, number(line, 7), "of {worker}");
+        counted = counted.saturating_add(records);
+    }
+    let ring = printed.as_str().lines().nth(4).unwrap_or("");
+    let all = lines.as_str().lines().count() as u64;
+    assert_eq!(rt;
+        (written.is_whole, counted, all),
+        (true, number(ring, 4), number(ring, 4))
+    );
+}
+
+// The tape of three records of worker 0.
+const THREE: [u8; 48] = [
+    8, 0, 0, 0, 0, 0, 0, 0, 0, 0, 0, 0, 0, 0, 0, 0, //
+    8, 0, 0, 0, 0, 0, 0, 0, 0, 0, 0, 0, 0, 0, 0, 0, //
+    8, 0, 0, 0, 0, 0, 0, 0, 0, 0, 0, 0, 0, 0, 0, 0, //
+];
+
+const THREE_PRINTED: &str = "worker 0 made 3 refused 0 submitted 3 discarded 0
+ring made 3 consumed 3 discarded 0 waiting 0 busy 0
+strays 0
+";
+
+// Wherever a write fails, the tape ends there, and the run goes on.
+#[test]
+fn writes_that_fail(rt: HostRuntime) {
+    for trouble in [
+        Trouble::TakesNothing,
+        Trouble::Fails(ErrorKind::StorageFull),
+    ] {
+        for room in 0..49usize {
+            let tape = Sink::new(rt.alloc(), room, 3, trouble);
+            let (printed, written) = run_over(&rt, 1, 3, 4096, tape);
+            assert_eq!(rt;
+                (
+                    printed.as_str(),
+                    written.is_whole,
+                    written.writer.taken.as_slice()
+                ),
+                (THREE_PRINTED, room == 48, &THREE[..room]),
+                "after {room}"
+            );
+        }
+    }
+}
+
+#[test]
+fn a_flush_that_fails(rt: HostRuntime) {
+    let mut tape = Sink::open(rt.alloc());
+    tape.flush_fails = true;
+    let (printed, written) = run_over(&rt, 1, 3, 4096, tape);
+    assert_eq!(rt;
+        (printed.as_str(), written.is_whole),
+        (THREE_PRINTED, false)
+    );
+}
+
+// What the command ends with, with a tape in this file and so many workers.
+fn taped<T: Abort + AllocGlobal + Threads + Wait + Sync + Files<File = File>>(
+    rt: &T,
+    path: &str,
+    workers: &str,
+    program: &str,
+) -> String {
+    let words = [
+        "run",
+        "--jobs",
+        "3",
+        "--size",
+        "4096",
+        "--workers",
+        workers,
+        "--tape",
+        path,
+    ];
+    ended(rt, rt.alloc(), &words, program.as_bytes())
+}
+
+// A file that can't be made is told behind the refusals of the program and the ring, and before anything is printed; one that can't be written
+// behind what is printed.
+#[test]
+fn files_of_tapes(rt: HostRuntime) {
+    let whole = format!(in rt.alloc(); "0 {THREE_PRINTED}").expect(&rt, "memory");
+    let not_whole = format!(in rt.alloc(); "1 refused device\n{THREE_PRINTED}").expect(
+        &rt, "memory",
+    );
+    let rows = [
+        ("/dev/null", "1", OUTPUT_CONTEXT, whole.as_str()),
+        ("/dev/full", "1", OUTPUT_CONTEXT, not_whole.as_str()),
+        ("", "1", OUTPUT_CONTEXT, "1 refused device\n"),
+        ("", "0", OUTPUT_CONTEXT, "1 refused workers\n"),
+        ("", "0", "95", "1 refused decode Length unit 0\n"),
+    ];
+    for (path, workers, program, wanted) in rows {
+        assert_eq!(rt;
+            taped(&rt, path, workers, program).as_str(),
+            wanted,
+            "of {path}"
+        );
+    }
+}
