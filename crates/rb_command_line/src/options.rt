@@ -4,8 +4,8 @@ ghost use Rattle.std.specs.Prelude.{◌<◌, ◌≤◌, ◌^◌, IfOk};
 ghost use Rattle.std.specs.Option.{SomeIff};
 ghost use Rattle.std.specs.Str.Parse.{IsNumeral, digits_value};
 
-use clap::{Arg, ArgAction, ArgMatches, Command, Error};
 use clap::error::ErrorKind;
+use clap::{Arg, ArgAction, ArgMatches, Command, Error};
 use rb_loader::Bounds;
 use rb_run_commands::JobsRequest;
 use std::alloc::{AllocError, Global};
