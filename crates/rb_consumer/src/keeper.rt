@@ -112,6 +112,16 @@ impl Keeper {
         }
     }
 
+    /// Its chapter: the one that it was made of, or the last that it lent.
+    pub fn into_chapter(self) -> Chapter
+        ensures chapter { result ≡ self.chapter }
+    {
+        match self.kept {
+            Some(chapter) => chapter,
+            None => unreachable!(),
+        }
+    }
+
     // Whether the ring may go on in the chapter as the next turn hands it in.
     fn is_fit(&self, me: &ConsumerSeat) -> bool
         ensures exact { IsTrue result ↔ IsFitChapter me.now (handed_in self.now) }
