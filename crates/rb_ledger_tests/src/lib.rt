@@ -6,9 +6,9 @@ mod bound_chapters;
 #[cfg(test)]
 mod closing;
 #[cfg(test)]
-mod consumer;
-#[cfg(test)]
 mod example;
+#[cfg(test)]
+mod many_takes;
 #[cfg(test)]
 mod rows;
 #[cfg(test)]
