@@ -1,2 +1,3 @@
 pub mod LastEvents
 pub mod RecordParts
+pub mod KeeperTurns

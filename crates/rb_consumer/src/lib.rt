@@ -26,10 +26,12 @@
 mod batch;
 mod batch_items;
 mod item;
+mod keeper;
 mod piece;
 mod tape_writer;
 
 pub use batch::Batch;
 pub use batch_items::{Events, Items};
 pub use item::{Event, Item};
+pub use keeper::Keeper;
 pub use tape_writer::{DeviceFault, TapeWriter};
