@@ -12,8 +12,17 @@ use Rattle.rb_ledger.specs.declared.shared.Foreign.{Foreign}
 use Rattle.rb_ledger.specs.Roles.{Book}
 use Rattle.rb_ledger.specs.Roles.Role.{Consumer}
 use Rattle.rb_ledger.specs.LockedCalls.{LockedCall}
+use Rattle.rb_chapter.specs.Chapters.{Chapter}
+use Rattle.rb_chapter_ring.specs.ManyTakes.{TakesManyInChapter}
+use Rattle.rb_chapter_ledger.specs.LockedChapterCalls.{LockedChapterCall, InKnownChapter}
+use Rattle.rb_shared_ring.specs.AnswersOverAll.{EachAnswerIsWhole}
 use Rattle.rb_consumer.specs.Batches.{AreRecords, IsBatch, is_event, GivesLastEvent}
 use Rattle.rb_consumer.specs.inner.LastEvents.{IsLastEvent}
+
+-- the call by the ring's chapter, as the call on the ring with its whole history
+pub whole-call : (r : Result ℕ Foreign) (handed_out : List Chapter) (n : ℕ) (ts : List Taken) (b a : Book) → EachAnswerIsWhole → OnOk r (LockedChapterCall Consumer b a (InKnownChapter handed_out (TakesManyInChapter n ts))) → OnOk r (LockedCall Consumer b a (TakesMany n ts))
+whole-call (Ok k) handed_out n ts b a law call = (law b a).takes_many handed_out n ts call
+whole-call (Err e) handed_out n ts b a law call = tt
 
 pub records-each : (old new : Ring) (ts : List Taken) → TakesEach old ts new → AreRecords ts
 records-each old new [] each = tt

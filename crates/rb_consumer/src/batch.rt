@@ -3,9 +3,11 @@
 ghost use Rattle.std.specs.Prelude.{◌≡◌, ◌≢◌, ◌+◌, ◌≤◌, ◌↔◌, [], IsErr, IfOk, IfSome, IfNone, OnOk, None, filter, length};
 ghost use Rattle.rb_history.specs.ManyTakes.{TakesMany};
 ghost use Rattle.rb_ledger.specs.Roles.Role.{Consumer};
-ghost use Rattle.rb_ledger.specs.Seats.{IsSameConsumerSeat};
 ghost use Rattle.rb_ledger.specs.LockedCalls.{LockedCall};
 ghost use Rattle.rb_ledger.specs.ManyTakes.{events_among, skips_among, span_among, AreTakenFrom, got_by_all};
+ghost use Rattle.rb_chapter_ring.specs.ManyTakes.{TakesManyInChapter};
+ghost use Rattle.rb_chapter_ledger.specs.LockedChapterCalls.{LockedChapterCall, InKnownChapter};
+ghost use Rattle.rb_shared_ring.specs.SharedSeats.{IsSameChapterConsumer};
 ghost use Rattle.rb_header.specs.TapeBytes.{AreItemsFrom, end_of};
 ghost use Rattle.rb_consumer.specs.Batches.{AreRecords, Recycles, is_event};
 ghost use Rattle.rb_consumer.specs.Items.{tape_items};
@@ -13,8 +15,8 @@ ghost use Rattle.rb_consumer.specs.inner.LastEvents.{IsLastEvent};
 
 use crate::batch_items::{Events, Items};
 use rb_history::Taken;
-use rb_ledger::{ConsumerSeat, Foreign, SharedRing};
 use rb_lend::Sheet;
+use rb_shared_ring::{ConsumerSeat, Foreign, SharedRing, each_answer_is_whole};
 use std::alloc::{AllocError, Global};
 use std::marker::Model;
 use std::sync::Wait;
@@ -60,10 +62,12 @@ impl Batch {
         ensures unchanged { me.old.tag ≢ ring.now.tag → me.new ≡ me.old }
         ensures batch_unchanged { me.old.tag ≢ ring.now.tag → self.new ≡ self.old }
         ensures capacity { self.new.capacity ≡ self.old.capacity }
-        ensures seat { IsSameConsumerSeat me.old me.new }
+        ensures seat { IsSameChapterConsumer me.old me.new }
+        ensures chapters { me.new.handed_out ≡ me.old.handed_out }
         ensures released { (me.old.out ≡ None) × (me.new.out ≡ None) }
         ensures count { IfOk result (λ count. count ≡ length self.new.taken) }
-        ensures call { OnOk result (LockedCall Consumer me.old.seen me.new.seen (TakesMany self.old.capacity self.new.taken)) }
+        ensures call { OnOk result (LockedChapterCall Consumer me.old.seen me.new.seen (InKnownChapter me.old.handed_out (TakesManyInChapter self.old.capacity self.new.taken))) }
+        ensures whole { OnOk result (LockedCall Consumer me.old.seen me.new.seen (TakesMany self.old.capacity self.new.taken)) }
         ensures setup { OnOk result (me.new.seen.setup ≡ me.old.seen.setup) }
         ensures place { OnOk result (AreTakenFrom me.old.position self.new.taken) }
         ensures stand { OnOk result (AreItemsFrom me.old.seen.setup.size me.old.position (tape_items self.new.taken)) }
@@ -74,6 +78,7 @@ impl Batch {
         ensures got { OnOk result (me.new.got ≡ got_by_all me.old.got self.new.taken) }
     {
         me.facts();
+        each_answer_is_whole();
         if me.tag() != ring.tag() {
             return Err(Foreign);
         }

@@ -1,0 +1,7 @@
+//! Tests of rb_consumer's calls on rings that keep their history by chapters.
+#![tactic(auto)]
+
+#[cfg(test)]
+mod keepers;
+#[cfg(test)]
+mod rings_in_chapters;
