@@ -28,6 +28,12 @@ pub records-each : (old new : Ring) (ts : List Taken) → TakesEach old ts new �
 records-each old new [] each = tt
 records-each old new (t ∷ ts) each = (each.2, records-each each.0 new ts each.3)
 
+-- the same of what came into an empty batch
+pub whole-fill : (r : Result ℕ Foreign) (handed_out : List Chapter) (n capacity : ℕ) (before after : List Taken) (b a : Book) → EachAnswerIsWhole → OnOk r (LockedChapterCall Consumer b a (InKnownChapter handed_out (TakesManyInChapter n (pushed before after)))) → before ≡ [] → n ≡ capacity → OnOk r (LockedCall Consumer b a (TakesMany capacity after))
+whole-fill (Ok k) handed_out n capacity before after b a law call none same =
+    subst (λ m. LockedCall Consumer b a (TakesMany m after)) same (subst (λ x. LockedCall Consumer b a (TakesMany n (pushed x after))) none ((law b a).takes_many handed_out n (pushed before after) call))
+whole-fill (Err e) handed_out n capacity before after b a law call none same = tt
+
 -- a batch that was empty and then filled
 pub filled : (r : Result ℕ Foreign) (capacity n : ℕ) (before after : List Taken) (b a : Book) → (IsErr r → ⊥) → OnOk r (LockedCall Consumer b a (TakesMany n (pushed before after))) → before ≡ [] → n ≤ capacity → IsBatch (record { capacity = capacity; taken = after })
 filled (Ok k) capacity n before after b a fine call none le =
