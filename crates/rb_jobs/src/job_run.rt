@@ -7,7 +7,7 @@ ghost use Rattle.rb_jobs.specs.Jobs.{JobRan, JobRanCounted, task_of};
 use crate::gated_helpers::GatedHelpers;
 use crate::job::{Gate, Job, JobAnswer};
 use rb_interp::run;
-use rb_ledger::{Seat, SharedRing};
+use rb_shared_ring::{Seat, SharedRing};
 use rb_seats::{SeatHelpers, Stock};
 use std::alloc::{AllocError, Global};
 use std::sync::Wait;
