@@ -1,8 +1,7 @@
 -- A turn of a keeper gives the sink the chapter that was handed out, and takes nothing.
-use Rattle.std.proofs.Common.{◌≡◌, ℕ, List, [], ◌∷◌, ◌++◌, true, refl, ap, sym, ◌∙◌, subst, append-nil, arith}
+use Rattle.std.proofs.Common.{◌≡◌, ℕ, List, [], ◌∷◌, ◌++◌, refl, ap, sym, ◌∙◌, subst, append-nil, arith}
 use Rattle.std.proofs.lemmas.List.Elements.{All-nil, All-cons}
 use Rattle.std.specs.FinMap.{get}
-use Rattle.rb_history.specs.RoomRule.{Setup}
 use Rattle.rb_chapter.specs.Chapters.{Chapter as RingChapter}
 use Rattle.rb_ledger.specs.Roles.{Book, BeginsWith, book_of}
 use Rattle.rb_ledger.specs.Roles.Role.{Consumer}
@@ -12,7 +11,6 @@ use Rattle.rb_chapter_ledger.specs.ChapterSeats.{ChapterConsumerSeat}
 use Rattle.rb_chapter_ledger.proofs.WholeCalls.{each-call-is-whole}
 use Rattle.rb_shared_ring.specs.SharedSeats.{IsSameChapterConsumer, TakesNothing}
 use Rattle.rb_consumer.specs.Turns.{TurnsChapter}
-use Rattle.rb_workers.specs.Opened.{IsKeeperFor}
 use Rattle.rb_workers.specs.Sink.{SinkItem, IsRecordIn, takes_in}
 use Rattle.rb_workers.specs.Sink.SinkItem.{Chapter}
 use Rattle.rb_workers.specs.inner.ConsumerTasks.{HasGiven, IsSameConsumer}
@@ -68,20 +66,4 @@ module _ (margin : ℕ) (old new : ChapterConsumerSeat) where
         moved = omega (arith, position);
         passed = one_item new.position (Chapter c) tt;
         keeps = λ p below. ap (λ m. get m p) nothing.got_same;
-      }
-
-  -- ---- the keeper
-
-  -- the chapter that was lent is of the ring, so it may be used again
-  pub lent_fits : (c : RingChapter) (cs : List RingChapter) (now : ℕ) → TurnsChapter margin old new (c ∷ cs) → c.room ≡ old.room → IsSameConsumer old new → IsKeeperFor new (record { chapter = c; margin = now; is_lent = true })
-  lent_fits c cs now t room same =
-      let hand = t.hands_out.1 in
-      let workers = λ (r : Setup). r.workers in
-      record {
-        no_entries = refl;
-        room_same = room ∙ sym same.room_same;
-        workers_same =
-            ap (λ (x : RingChapter). x.opening.setup.workers) hand.called.hands_out.next.out_is
-            ∙ (ap workers hand.goes_on.setup_same
-            ∙ (ap workers (nothing_begins old.seen t.looked (looks (c ∷ cs) t)).setup_same ∙ sym (ap workers same.begins.setup_same)));
       }

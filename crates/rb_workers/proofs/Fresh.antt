@@ -62,10 +62,10 @@ all_opened position count (o ∷ more) all =
 
 -- a room that is not out of bounds
 pub room_within : (room : ℕ) → ((IsChapterRoom room → ⊥) → ⊥) → IsChapterRoom room
-room_within room not_out = (at_most 8 room (λ no. not_out (λ is. no is.0)), at_most room 1048576 (λ no. not_out (λ is. no is.1)))
+room_within room not_out = (at_most 8 room (λ low. not_out (λ is. low is.0)), at_most room 1048576 (λ high. not_out (λ is. high is.1)))
   where
     at_most : (a b : ℕ) → ((a ≤ b → ⊥) → ⊥) → a ≤ b
-    at_most a b no = ⊎_elim (λ is. omega (arith, is.1)) (λ above. absurd (no (λ le. omega (arith, above.1, le)))) (leb_tells a b)
+    at_most a b never = ⊎_elim (λ is. is.1) (λ above. absurd (never (λ le. omega (arith, above.1, le)))) (leb_tells a b)
 
 -- seats that have made nothing
 pub fresh_settled : (tag : ℕ) (ring : TableId) (seen : Book) (first n : ℕ) → All HasSettledAll (fresh_seats tag ring seen first n)

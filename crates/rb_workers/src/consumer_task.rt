@@ -81,7 +81,8 @@ fn turn_chapter<R: Wait, S: Sink>(
 {
     match keeper.turn(rt, ring, consumer) {
         Ok(Some(chapter)) => sink.chapter(chapter),
-        Ok(None) | Err(_) => {}
+        Ok(None) => {}
+        Err(_) => {}
     }
 }
 
