@@ -1,5 +1,5 @@
 -- What is in a batch.
-use Rattle.std.proofs.Common.{◌≡◌, ℕ, zero, suc, ◌≤◌, List, [], ◌∷◌, ◌++◌, length, take, drop, refl, sym, ap, ◌∙◌, subst, arith, add-one}
+use Rattle.std.proofs.Common.{◌≡◌, ℕ, zero, suc, ◌≤◌, List, [], ◌∷◌, ◌++◌, take, drop, refl, sym, ap, ◌∙◌, subst, arith, add-one}
 use Rattle.std.specs.Prelude.{filter, Result, Ok, Err, IsErr, OnOk}
 use Rattle.std.specs.List.{slice_index_or as get_or, remove}
 use Rattle.std.proofs.Math.Seq.{drop-cons}
@@ -19,30 +19,22 @@ use Rattle.rb_shared_ring.specs.AnswersOverAll.{EachAnswerIsWhole}
 use Rattle.rb_consumer.specs.Batches.{AreRecords, IsBatch, is_event, GivesLastEvent}
 use Rattle.rb_consumer.specs.inner.LastEvents.{IsLastEvent}
 
--- the call by the ring's chapter, as the call on the ring with its whole history
-pub whole-call : (r : Result ℕ Foreign) (handed_out : List Chapter) (n : ℕ) (ts : List Taken) (b a : Book) → EachAnswerIsWhole → OnOk r (LockedChapterCall Consumer b a (InKnownChapter handed_out (TakesManyInChapter n ts))) → OnOk r (LockedCall Consumer b a (TakesMany n ts))
-whole-call (Ok k) handed_out n ts b a law call = (law b a).takes_many handed_out n ts call
-whole-call (Err e) handed_out n ts b a law call = tt
-
 pub records-each : (old new : Ring) (ts : List Taken) → TakesEach old ts new → AreRecords ts
 records-each old new [] each = tt
 records-each old new (t ∷ ts) each = (each.2, records-each each.0 new ts each.3)
 
--- the same of what came into an empty batch
-pub whole-fill : (r : Result ℕ Foreign) (handed_out : List Chapter) (n capacity : ℕ) (before after : List Taken) (b a : Book) → EachAnswerIsWhole → OnOk r (LockedChapterCall Consumer b a (InKnownChapter handed_out (TakesManyInChapter n (pushed before after)))) → before ≡ [] → n ≡ capacity → OnOk r (LockedCall Consumer b a (TakesMany capacity after))
-whole-fill (Ok k) handed_out n capacity before after b a law call none same =
-    subst (λ m. LockedCall Consumer b a (TakesMany m after)) same (subst (λ x. LockedCall Consumer b a (TakesMany n (pushed x after))) none ((law b a).takes_many handed_out n (pushed before after) call))
-whole-fill (Err e) handed_out n capacity before after b a law call none same = tt
+-- what came into an empty batch, by the ring's chapter, is what came on the ring with its whole history
+pub whole-fill : (r : Result ℕ Foreign) (handed_out : List Chapter) (n : ℕ) (before after : List Taken) (b a : Book) → EachAnswerIsWhole
+    → OnOk r (LockedChapterCall Consumer b a (InKnownChapter handed_out (TakesManyInChapter n (pushed before after)))) → before ≡ [] → OnOk r (LockedCall Consumer b a (TakesMany n after))
+whole-fill (Ok k) handed_out n before after b a law call none =
+    subst (λ x. LockedCall Consumer b a (TakesMany n (pushed x after))) none ((law b a).takes_many handed_out n (pushed before after) call)
+whole-fill (Err e) handed_out n before after b a law call none = tt
 
--- a batch that was empty and then filled
-pub filled : (r : Result ℕ Foreign) (capacity n : ℕ) (before after : List Taken) (b a : Book) → (IsErr r → ⊥) → OnOk r (LockedCall Consumer b a (TakesMany n (pushed before after))) → before ≡ [] → n ≤ capacity → IsBatch (record { capacity = capacity; taken = after })
-filled (Ok k) capacity n before after b a fine call none le =
-    let same : pushed before after ≡ after = ap (λ x. pushed x after) none in
-    record {
-      records = subst AreRecords same (records-each call.point call.left (pushed before after) call.called.each);
-      within = subst (λ ts. length ts ≤ capacity) same (omega (arith, call.called.within));
-    }
-filled (Err e) capacity n before after b a fine call none le = absurd (fine refl)
+-- a batch that was filled
+pub filled : (r : Result ℕ Foreign) (capacity n : ℕ) (taken : List Taken) (b a : Book) → (IsErr r → ⊥) → OnOk r (LockedCall Consumer b a (TakesMany n taken)) → n ≤ capacity → IsBatch (record { capacity = capacity; taken = taken })
+filled (Ok k) capacity n taken b a fine call le =
+    record { records = records-each call.point call.left taken call.called.each; within = omega (arith, call.called.within) }
+filled (Err e) capacity n taken b a fine call le = absurd (fine refl)
 
 records-drop : (ts : List Taken) (n : ℕ) → AreRecords ts → AreRecords (drop n ts)
 records-drop ts zero all = all

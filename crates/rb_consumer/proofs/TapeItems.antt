@@ -85,10 +85,9 @@ module _ (c s p : ℕ) (b a : Book) (n : ℕ) (ts : List Taken) (turn : LockedCa
 
 -- ---- after the call
 
-pub stand-after : (r : Result ℕ Foreign) (c s p : ℕ) (b a : Book) (n : ℕ) (before after : List Taken) → OnOk r (LockedCall Consumer b a (TakesMany n (pushed before after))) → before ≡ [] → ConsumerTies c s p b → OnOk r (AreItemsFrom b.setup.size p (tape_items after))
-stand-after (Ok k) c s p b a n before after call none ties =
-    subst (λ x. AreItemsFrom b.setup.size p (tape_items (pushed x after))) none (taken-stand c s p b a n (pushed before after) call ties)
-stand-after (Err e) c s p b a n before after call none ties = tt
+pub stand-after : (r : Result ℕ Foreign) (c s p : ℕ) (b a : Book) (n : ℕ) (ts : List Taken) → OnOk r (LockedCall Consumer b a (TakesMany n ts)) → ConsumerTies c s p b → OnOk r (AreItemsFrom b.setup.size p (tape_items ts))
+stand-after (Ok k) c s p b a n ts call ties = taken-stand c s p b a n ts call ties
+stand-after (Err e) c s p b a n ts call ties = tt
 
 pub ends-after : (r : Result ℕ Foreign) (p end : ℕ) (before after : List Taken) → OnOk r (end ≡ p + span_among (pushed before after)) → before ≡ [] → OnOk r (end ≡ end_of p (tape_items after))
 ends-after (Ok k) p end before after is none = is ∙ ap (λ x. p + span_among (pushed x after)) none ∙ ap (λ n. p + n) (spans-same after)

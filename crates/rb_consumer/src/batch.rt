@@ -49,7 +49,8 @@ impl Batch {
     }
 
     /// Gives up what is in the batch, and takes records under one holding of the ring's lock until the batch is full, the front is busy or
-    /// the ring is empty; returns how many they are. `Foreign` where the seat is another ring's: then nothing changed. It takes no memory.
+    /// the ring is empty; returns how many they are. It is one `take_many` by the chapter under the lock (`call`), and so it
+    /// is on the ring with its whole history (`whole`). `Foreign` where the seat is another ring's: then nothing changed. It takes no memory.
     /// (Linux Documentation/bpf/ringbuf.rst: records are consumed in the order of their reservation.)
     pub fn fill<R: Wait>(
         &mut self,

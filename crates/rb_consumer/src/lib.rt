@@ -1,15 +1,14 @@
-//! What a ring's consumer does with what it takes. A `Batch` takes many records under one holding of the ring's lock and lends them; a
-//! `TapeWriter` writes records as a tape, one behind the other, to any writer (`rb_header` has the tape's bytes; a record's header is that
-//! of Linux Documentation/bpf/ringbuf.rst). It is for programs that hand on what they take. A `Keeper` hands the chapters of a ring of
-//! `rb_shared_ring` out in turn, so that the ring runs without end in the memory of two chapters.
+//! What a ring's consumer does with what it takes. A `Batch` takes many records of a ring of `rb_shared_ring` under one holding of its lock
+//! and lends them; a `TapeWriter` writes records as a tape, one behind the other, to any writer (`rb_header` has the tape's bytes; a
+//! record's header is that of Linux Documentation/bpf/ringbuf.rst); a `Keeper` hands the ring's chapters out in turn, so that the ring runs
+//! without end in the memory of two chapters. It is for programs that hand on what they take.
 //!
 //! Proved: what a `Batch` lends is what its one `take_many` took, in order and with nothing left out, so positions follow each other and
 //! the seat's numbers rise by them; fewer records than the capacity only where the front was busy then, or no record was left. All that a
 //! batch was filled with may go on a tape that stands at the consumer position before. What a `put` wrote is the first `sent()` bytes of
 //! its record, and `resume` writes the rest; `put_all` writes the tape of the records before the one that it answers, and the first
-//! `sent()` bytes of that one; each for any writer that tells its bytes. A keeper hands a ring's chapter out exactly
-//! where it has entries and, with its margin, no room for one grant more; it lends that chapter as it was under the lock, and keeps
-//! it for the next turn.
+//! `sent()` bytes of that one; each for any writer that tells its bytes. A keeper hands a ring's chapter out exactly where it has entries and,
+//! with its margin, no room for one grant more; it lends that chapter as it was under the lock, and keeps it for the next turn.
 //!
 //! ```text
 //! let mut batch = Batch::with_capacity(alloc, 64)?;
@@ -22,13 +21,13 @@
 //! }
 //!
 //! let mut keeper = Keeper::with_margin(Chapter::new(alloc, 65_536, 1)?, 4096);
-//! if let Some(chapter) = keeper.turn(rt, &chaptered_ring, &mut its_consumer)? {
+//! if let Some(chapter) = keeper.turn(rt, &ring, &mut consumer)? {
 //!     keep(chapter.entries());
 //! }
 //! ```
 //!
-//! Its calls are tested in consumer.rt and threads.rt of rb_ledger_tests, the example by `a_batch_is_written_as_a_tape`;
-//! keepers in rb_consumer_tests. `fill` and `turn` may wait for other threads, and no proof says that they return.
+//! Its calls are tested in rb_consumer_tests, the example by `a_batch_is_written_as_a_tape`. `fill` and `turn` may wait for
+//! other threads, and no proof says that they return.
 #![tactic(auto)]
 
 mod batch;

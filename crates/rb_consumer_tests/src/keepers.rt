@@ -33,7 +33,7 @@ fn four_turns<R: Wait + Abort>(
     alloc: Global,
     margin: u32,
 ) -> [Result<Option<(u64, u32)>, HandFault>; 4] {
-    let (ring, mut seat, mut consumer) = opened(rt, alloc, 1);
+    let (ring, mut seat, mut consumer) = opened(rt, alloc, 1, 8);
     let mut keeper = Keeper::with_margin(empty(rt, alloc, 8), margin);
     let mut turns = [Ok(None); 4];
     for i in 0..4 {
@@ -59,7 +59,7 @@ fn one_chapter_serves_turn_after_turn(rt: HostRuntime) {
 
 #[test]
 fn lent_chapters_and_the_last_are_bound(rt: HostRuntime) {
-    let (ring, mut seat, mut consumer) = opened(&rt, rt.alloc(), 1);
+    let (ring, mut seat, mut consumer) = opened(&rt, rt.alloc(), 1, 8);
     let mut chapters = Vec::new(rt.alloc());
     for number in 0..3 {
         passed(&rt, rt.alloc(), &ring, &mut seat, &mut consumer);
@@ -79,8 +79,8 @@ fn lent_chapters_and_the_last_are_bound(rt: HostRuntime) {
 
 #[test]
 fn a_keeper_that_does_not_fit_is_told_so(rt: HostRuntime) {
-    let (ring, mut seat, mut consumer) = opened(&rt, rt.alloc(), 1);
-    let (_other, _other_seat, mut foreign) = opened(&rt, rt.alloc(), 2);
+    let (ring, mut seat, mut consumer) = opened(&rt, rt.alloc(), 1, 8);
+    let (_other, _other_seat, mut foreign) = opened(&rt, rt.alloc(), 2, 8);
     let mut keeper = Keeper::with_margin(empty(&rt, rt.alloc(), 8), 3);
     assert_eq!(rt; turned(&rt, &mut keeper, &ring, &mut consumer), Ok(None));
     let mut wide = Keeper::new(empty(&rt, rt.alloc(), 9));

@@ -2,6 +2,10 @@
 #![tactic(auto)]
 
 #[cfg(test)]
+mod batches;
+#[cfg(test)]
 mod keepers;
 #[cfg(test)]
 mod rings_in_chapters;
+#[cfg(test)]
+mod threads;

@@ -1,4 +1,4 @@
-//! What the tests share: rings with one seat whose chapters have room for 8 entries, and calls that end the test where they are refused.
+//! What the tests share: rings with one seat, and calls that end the test where they are refused.
 
 ghost use Rattle.std.specs.Prelude.{◌≡◌, length};
 ghost use Rattle.rb_chapter.specs.Chapters.{IsChapterRoom};
@@ -6,23 +6,25 @@ ghost use Rattle.rb_ledger.specs.Seats.{IsSameSeat};
 ghost use Rattle.rb_shared_ring.specs.SharedSeats.{IsSameChapterConsumer};
 
 use rb_chapter::Chapter;
-use rb_history::Taken;
-use rb_lend::Sheet;
+use rb_history::{Reservation, Taken};
+use rb_lend::{Lent, Sheet};
 use rb_shared_ring::{Closing, ConsumerSeat, Seat, SharedRing, open};
 use std::alloc::Global;
 use std::process::Abort;
 use std::sync::Wait;
 
-/// A ring of 4,096 bytes from position 0, with its two seats.
+/// A ring of 4,096 bytes from position 0, with its two seats, whose chapters have this room.
 pub(super) fn opened<R: Wait + Abort>(
     rt: &R,
     alloc: Global,
     tag: u64,
+    room: u32,
 ) -> (SharedRing, Seat, ConsumerSeat)
     ensures ring { (result.1.ring ≡ result.0.ring) × (result.2.ring ≡ result.0.ring) }
     ensures tags { (result.0.tag ≡ tag) × (result.1.tag ≡ tag) × (result.2.tag ≡ tag) }
+    ensures consumer { (result.2.seen.setup.size ≡ 4096) × (result.2.position ≡ 0) }
 {
-    let Ok((ring, mut seats, consumer)) = open(rt, alloc, tag, 4096, 0, 1, 8) else {
+    let Ok((ring, mut seats, consumer)) = open(rt, alloc, tag, 4096, 0, 1, room) else {
         rt.panic("no ring")
     };
     match seats.pop() {
@@ -38,7 +40,68 @@ pub(super) fn empty(rt: &impl Abort, alloc: Global, room: u32) -> Chapter
     Chapter::new(alloc, room, 1).expect(rt, "memory")
 }
 
-/// A record of 8 bytes that is submitted at once and taken: three entries.
+/// Eight times this byte.
+pub(super) fn sheet_of(rt: &impl Abort, alloc: Global, byte: u8) -> Sheet
+    ensures { length result ≡ 8 }
+{
+    let mut sheet = Sheet::new(alloc, 8).expect(rt, "memory");
+    sheet.bytes_mut().fill(byte);
+    sheet
+}
+
+/// A record that is submitted at once.
+pub(super) fn sent<R: Wait + Abort>(
+    rt: &R,
+    alloc: Global,
+    ring: &SharedRing,
+    seat: &mut Seat,
+    byte: u8,
+)
+    requires { seat.old.ring ≡ ring.now.ring }
+    ensures { IsSameSeat seat.old seat.new }
+{
+    if ring
+        .output(rt, seat, sheet_of(rt, alloc, byte), 0)
+        .is_err()
+    {
+        rt.panic("a refused output")
+    }
+}
+
+/// A record that is busy.
+pub(super) fn held<R: Wait + Abort>(
+    rt: &R,
+    alloc: Global,
+    ring: &SharedRing,
+    seat: &mut Seat,
+) -> Reservation
+    requires { seat.old.ring ≡ ring.now.ring }
+    ensures { IsSameSeat seat.old seat.new }
+{
+    match ring.reserve(rt, seat, 8, sheet_of(rt, alloc, 0)) {
+        Ok(reservation) => reservation,
+        Err(_) => rt.panic("not granted"),
+    }
+}
+
+/// A record that was discarded.
+pub(super) fn given_up<R: Wait + Abort>(
+    rt: &R,
+    alloc: Global,
+    ring: &SharedRing,
+    seat: &mut Seat,
+)
+    requires { seat.old.ring ≡ ring.now.ring }
+    ensures { IsSameSeat seat.old seat.new }
+{
+    let reservation = held(rt, alloc, ring, seat);
+    match ring.discard(rt, seat, reservation, 0) {
+        Ok(_) => {}
+        Err(_) => rt.panic("a stray discard"),
+    }
+}
+
+/// A record that is submitted at once and taken: three entries.
 pub(super) fn passed<R: Wait + Abort>(
     rt: &R,
     alloc: Global,
@@ -51,10 +114,7 @@ pub(super) fn passed<R: Wait + Abort>(
     ensures seat { IsSameSeat seat.old seat.new }
     ensures consumer { IsSameChapterConsumer consumer.old consumer.new }
 {
-    let sheet = Sheet::new(alloc, 8).expect(rt, "memory");
-    if ring.output(rt, seat, sheet, 0).is_err() {
-        rt.panic("a refused output")
-    }
+    sent(rt, alloc, ring, seat, 1);
     match ring.take(rt, consumer) {
         Ok(Taken::Event(_, _, _, _)) => {}
         _ => rt.panic("no event"),

@@ -6,8 +6,6 @@ mod bound_chapters;
 #[cfg(test)]
 mod closing;
 #[cfg(test)]
-mod consumer;
-#[cfg(test)]
 mod example;
 #[cfg(test)]
 mod rows;

@@ -1,9 +1,8 @@
-//! Real threads: four producers and a consumer, which takes records one by one or by batches. All loops end once the records are there.
+//! Real threads: four producers and a consumer, which takes records one by one. All loops end once the records are there.
 
 ghost use Rattle.std.specs.Prelude.{◌≡◌, ◌<◌, ◌^◌, ℕ, All, IfOk};
 ghost use Rattle.rb_ledger.specs.Seats.{IsSameSeat, IsSameConsumerSeat};
 
-use rb_consumer::Batch;
 use rb_history::Taken;
 use rb_ledger::{ConsumerSeat, Seat, SharedRing, open};
 use rb_lend::{Lent, Sheet};
@@ -74,13 +73,6 @@ fn add(sums: &mut Sums, worker: u32, serial: u64, bytes: &[u8]) {
     sums.bytes[w] = sums.bytes[w].saturating_add(u64::from(byte));
 }
 
-// How a consumer takes: a record at a time, or batches, each of which is filled under one holding of the lock.
-#[derive(Drop)]
-enum Taking {
-    Single,
-    Batches(Batch),
-}
-
 // Takes a record, and tells whether there was one.
 fn take_one<R: Wait>(
     rt: &R,
@@ -100,40 +92,17 @@ fn take_one<R: Wait>(
     }
 }
 
-// Takes a batch, and tells whether there was a record.
-fn take_batch<R: Wait>(
-    rt: &R,
-    ring: &SharedRing,
-    consumer: &mut ConsumerSeat,
-    batch: &mut Batch,
-    sums: &mut Sums,
-) -> bool
-    requires { consumer.old.ring ≡ ring.now.ring }
-    ensures { IsSameConsumerSeat consumer.old consumer.new }
-{
-    let filled = batch.fill(rt, ring, consumer);
-    for event in batch.events() {
-        add(sums, event.worker, event.serial, event.bytes);
-    }
-    filled != Ok(0)
-}
-
 fn consume<R: Wait>(
     rt: &R,
     ring: &SharedRing,
     consumer: &mut ConsumerSeat,
-    taking: &mut Taking,
     sums: &mut Sums,
 )
     requires { consumer.old.ring ≡ ring.now.ring }
     ensures { IsSameConsumerSeat consumer.old consumer.new }
 {
     for _ in rt.forever() {
-        let took = match taking {
-            Taking::Single => take_one(rt, ring, consumer, sums),
-            Taking::Batches(batch) => take_batch(rt, ring, consumer, batch, sums),
-        };
-        if !took {
+        if !take_one(rt, ring, consumer, sums) {
             thread::yield_now();
         }
         if consumer.consumed() >= u64::from(WORKERS * RECORDS) {
@@ -166,7 +135,6 @@ fn run<R: Threads + Wait + Sync>(
     ring: &SharedRing,
     seats: &mut [Seat],
     consumer: &mut ConsumerSeat,
-    taking: &mut Taking,
     sums: &mut Sums,
 )
     requires seats { All (λ s. s.ring ≡ ring.now.ring) seats.old }
@@ -179,7 +147,7 @@ fn run<R: Threads + Wait + Sync>(
         &mut ||
             requires { consumer.now.ring ≡ ring.now.ring }
             ensures { IsSameConsumerSeat consumer.entry.now consumer.exit.now }
-        { consume(rt, ring, consumer, taking, sums) },
+        { consume(rt, ring, consumer, sums) },
         &mut ||
             requires { All (λ s. s.ring ≡ ring.now.ring) seats.now }
             ensures { All (λ s. s.ring ≡ ring.entry.now.ring) seats.exit.now }
@@ -218,7 +186,6 @@ fn four_producers_and_a_consumer(rt: HostRuntime) {
         &ring,
         seats.as_mut_slice(),
         &mut consumer,
-        &mut Taking::Single,
         &mut sums,
     );
     assert_eq!(rt; sums.events, [10_000; 4]);
@@ -240,30 +207,4 @@ fn four_producers_and_a_consumer(rt: HostRuntime) {
         (closing.producer(), closing.consumer()),
         (640_000, 640_000)
     );
-}
-
-#[test]
-fn four_producers_and_batches_of_64(rt: HostRuntime) {
-    let alloc = rt.alloc();
-    let Ok((ring, mut seats, mut consumer)) = open(&rt, alloc, 3, 4096, 0, 4) else {
-        rt.panic("no ring")
-    };
-    let Ok(batch) = Batch::with_capacity(alloc, 64) else {
-        rt.panic("no memory for a batch")
-    };
-    assert!(rt; sends(&batch));
-    let mut sums = no_sums();
-    run(
-        &rt,
-        alloc,
-        &ring,
-        seats.as_mut_slice(),
-        &mut consumer,
-        &mut Taking::Batches(batch),
-        &mut sums,
-    );
-    assert_eq!(rt; sums.events, [10_000; 4]);
-    assert_eq!(rt; (sums.out_of_order, sums.other_bytes), (0, 0));
-    assert_eq!(rt; (consumer.consumed(), consumer.skipped()), (40_000, 0));
-    assert_eq!(rt; consumer.position(), 640_000);
 }

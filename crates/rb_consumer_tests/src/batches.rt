@@ -1,17 +1,16 @@
 //! What a consumer does with what it takes: batches of records, and their tape.
 
-ghost use Rattle.std.specs.Prelude.{◌≡◌, length};
+ghost use Rattle.std.specs.Prelude.{◌≡◌};
 ghost use Rattle.rb_header.specs.TapeBytes.{AreItemsFrom};
-ghost use Rattle.rb_ledger.specs.Seats.{IsSameSeat};
 ghost use Rattle.rb_consumer.specs.Items.{tape_items};
 
+use super::rings_in_chapters::{given_up, held, opened, sent};
 use rb_consumer::{Batch, DeviceFault, Event, Item, TapeWriter};
-use rb_ledger::{ConsumerSeat, Foreign, Reservation, Seat, SharedRing, open};
-use rb_lend::{Lent, Sheet};
+use rb_lend::Lent;
+use rb_shared_ring::Foreign;
 use std::alloc::Global;
 use std::io::{Error, ErrorKind, Result, Write};
 use std::process::Abort;
-use std::sync::Wait;
 
 // A writer in memory that takes one byte a write, and fails once, at this write. Writes count from 1.
 #[derive(Drop)]
@@ -45,68 +44,6 @@ impl Write for OneByteWriter {
     }
 }
 
-// A ring for one worker, with its seats.
-fn opened<R: Wait + Abort>(rt: &R, alloc: Global, tag: u64) -> (SharedRing, Seat, ConsumerSeat)
-    ensures ring { (result.1.ring ≡ result.0.ring) × (result.2.ring ≡ result.0.ring) }
-    ensures tags { (result.0.tag ≡ tag) × (result.1.tag ≡ tag) × (result.2.tag ≡ tag) }
-    ensures consumer { (result.2.seen.setup.size ≡ 4096) × (result.2.position ≡ 0) }
-{
-    let Ok((ring, mut seats, consumer)) = open(rt, alloc, tag, 4096, 0, 1) else {
-        rt.panic("no ring");
-    };
-    let Some(seat) = seats.pop() else {
-        rt.panic("no seat");
-    };
-    (ring, seat, consumer)
-}
-
-// Eight times this byte.
-fn sheet_of(rt: &impl Abort, alloc: Global, byte: u8) -> Sheet
-    ensures { length result ≡ 8 }
-{
-    match Sheet::new(alloc, 8) {
-        Ok(mut sheet) => {
-            sheet.bytes_mut().fill(byte);
-            sheet
-        }
-        Err(_) => rt.panic("no memory for a sheet"),
-    }
-}
-
-// A record that is submitted at once.
-fn sent<R: Wait + Abort>(rt: &R, alloc: Global, ring: &SharedRing, seat: &mut Seat, byte: u8)
-    requires { seat.old.ring ≡ ring.now.ring }
-    ensures { IsSameSeat seat.old seat.new }
-{
-    match ring.output(rt, seat, sheet_of(rt, alloc, byte), 0) {
-        Ok(_) => {}
-        Err(_) => rt.panic("a refused output"),
-    }
-}
-
-// A record that is busy.
-fn held<R: Wait + Abort>(rt: &R, alloc: Global, ring: &SharedRing, seat: &mut Seat) -> Reservation
-    requires { seat.old.ring ≡ ring.now.ring }
-    ensures { IsSameSeat seat.old seat.new }
-{
-    match ring.reserve(rt, seat, 8, sheet_of(rt, alloc, 0)) {
-        Ok(reservation) => reservation,
-        Err(_) => rt.panic("not granted"),
-    }
-}
-
-// A record that was discarded.
-fn given_up<R: Wait + Abort>(rt: &R, alloc: Global, ring: &SharedRing, seat: &mut Seat)
-    requires { seat.old.ring ≡ ring.now.ring }
-    ensures { IsSameSeat seat.old seat.new }
-{
-    let reservation = held(rt, alloc, ring, seat);
-    match ring.discard(rt, seat, reservation, 0) {
-        Ok(_) => {}
-        Err(_) => rt.panic("a stray discard"),
-    }
-}
-
 fn batch(rt: &impl Abort, alloc: Global, n: usize) -> Batch {
     match Batch::with_capacity(alloc, n) {
         Ok(batch) => batch,
@@ -117,7 +54,7 @@ fn batch(rt: &impl Abort, alloc: Global, n: usize) -> Batch {
 #[test]
 fn a_batch_ends_before_a_busy_record(rt: HostRuntime) {
     for (capacity, wanted) in [(8, 2), (1, 1), (0, 0)] {
-        let (ring, mut seat, mut consumer) = opened(&rt, rt.alloc(), 1);
+        let (ring, mut seat, mut consumer) = opened(&rt, rt.alloc(), 1, 64);
         sent(&rt, rt.alloc(), &ring, &mut seat, 7);
         sent(&rt, rt.alloc(), &ring, &mut seat, 9);
         let _busy = held(&rt, rt.alloc(), &ring, &mut seat);
@@ -130,8 +67,8 @@ fn a_batch_ends_before_a_busy_record(rt: HostRuntime) {
 
 #[test]
 fn a_batch_lends_what_was_taken(rt: HostRuntime) {
-    let (ring, mut seat, mut consumer) = opened(&rt, rt.alloc(), 1);
-    let (_other, _seat, mut stranger) = opened(&rt, rt.alloc(), 2);
+    let (ring, mut seat, mut consumer) = opened(&rt, rt.alloc(), 1, 64);
+    let (_other, _seat, mut stranger) = opened(&rt, rt.alloc(), 2, 64);
     sent(&rt, rt.alloc(), &ring, &mut seat, 7);
     given_up(&rt, rt.alloc(), &ring, &mut seat);
     let mut batch = batch(&rt, rt.alloc(), 4);
@@ -161,7 +98,7 @@ fn a_batch_lends_what_was_taken(rt: HostRuntime) {
 
 #[test]
 fn a_discarded_record_is_written_as_zeros(rt: HostRuntime) {
-    let (ring, mut seat, mut consumer) = opened(&rt, rt.alloc(), 1);
+    let (ring, mut seat, mut consumer) = opened(&rt, rt.alloc(), 1, 64);
     given_up(&rt, rt.alloc(), &ring, &mut seat);
     let mut batch = batch(&rt, rt.alloc(), 1);
     assert_eq!(rt; batch.fill(&rt, &ring, &mut consumer), Ok(1));
@@ -232,7 +169,7 @@ fn written(rt: &impl Abort, batch: &Batch, writer: OneByteWriter) -> TapeWriter<
 
 #[test]
 fn a_batch_is_written_as_a_tape(rt: HostRuntime) {
-    let (ring, mut seat, mut consumer) = opened(&rt, rt.alloc(), 1);
+    let (ring, mut seat, mut consumer) = opened(&rt, rt.alloc(), 1, 64);
     sent(&rt, rt.alloc(), &ring, &mut seat, 7);
     given_up(&rt, rt.alloc(), &ring, &mut seat);
     let mut batch = batch(&rt, rt.alloc(), 64);
