@@ -79,3 +79,9 @@ returns-clause-workers g c =
     let h = i.8 k d below in
     let z : length (get_or c.loop-task.workers k d).seats.items ≡ 0 = omega (arith, h.4, i.2) in
     (h.0, h.1, h.2, sym (empty_front _ _ _ h.3 z))
+
+pub return_ring-requires-clause-some : goal.return_ring-requires-clause-some
+return_ring-requires-clause-some g c = λ k d below.
+    let h = c.loop-task.invariant.8 k d (omega (arith, below, c.loop-task.auto.workers)) in
+    let ok = (get_or c.loop-task.workers k d).seats.ok.0 in
+    omega (arith, h.4, ok, c.in-Some-pop.ensures.len)
