@@ -65,6 +65,25 @@ impl Chapter {
         })
     }
 
+    /// Another chapter with the same number, room, opening and entries, and memory of its own; the error is want of memory. In time linear in
+    /// the entries, the untaken records and the workers.
+    pub fn try_clone(&self, alloc: Global) -> Result<Chapter, AllocError>
+        ensures same { IfOk result (λ c. c ≡ self.now) }
+    {
+        let mut entries = Vec::with_capacity(alloc, self.room as usize)?;
+        entries.extend_from_slice(self.entries.as_slice())?;
+        let opening = self.opening.try_clone(alloc, self.room)?;
+        let closing = self.closing.try_clone(alloc, self.room)?;
+        Ok(Chapter {
+            number: self.number,
+            room: self.room,
+            opening,
+            entries,
+            closing,
+            owed: self.owed,
+        })
+    }
+
     /// Makes it the chapter that `new` gives for its room and workers. In time linear in the workers.
     pub fn clear(&mut self)
         ensures empty { self.new ≡ empty_chapter self.old.room self.old.opening.setup.workers }

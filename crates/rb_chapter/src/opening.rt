@@ -170,6 +170,24 @@ impl Opening {
         copy(self.tallies.as_mut_slice(), other.tallies.as_slice());
     }
 
+    // Another that says the same, with room for `room` records at least.
+    pub(crate) fn try_clone(&self, alloc: Global, room: u32) -> Result<Opening, AllocError>
+        ensures same { IfOk result (λ o. o.opening ≡ self.now.opening) }
+        ensures room { IfOk result (λ o. room ≤ o.room) }
+        ensures passed { IfOk result (λ o. o.passed ≡ 0) }
+    {
+        let mut records = Vec::with_capacity(alloc, room as usize)?;
+        records.extend_from_slice(self.records())?;
+        let mut tallies = Vec::with_capacity(alloc, self.tallies.len())?;
+        tallies.extend_from_slice(self.tallies())?;
+        Ok(Opening {
+            numbers: self.numbers,
+            records,
+            first: 0,
+            tallies,
+        })
+    }
+
     // Counts a refusal of the worker.
     pub(crate) fn add_refusal(&mut self, worker: u32)
         requires worker { worker < self.old.opening.setup.workers }

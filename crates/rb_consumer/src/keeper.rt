@@ -87,6 +87,7 @@ impl Keeper {
         ensures turn { IfOk result (λ lent. TurnsChapter self.old.margin me.old me.new (chapters_lent lent)) }
         ensures chapters { IfOk result (λ lent. me.new.handed_out ≡ me.old.handed_out ++ chapters_lent lent) }
         ensures number { IfOk result (λ lent. IfSome lent (λ c. c.now.number ≡ length me.old.handed_out)) }
+        ensures room { IfOk result (λ lent. IfSome lent (λ c. c.now.room ≡ me.old.room)) }
     {
         me.facts();
         if me.tag() != ring.tag() {
@@ -159,6 +160,7 @@ fn hand_out_due<R: Wait>(
     ensures chapters { me.new.handed_out ≡ me.old.handed_out ++ chapters_out result }
     ensures same { IfErr result (λ c. c ≡ kept) }
     ensures number { IfOk result (λ c. c.number ≡ length me.old.handed_out) }
+    ensures room { IfOk result (λ c. c.room ≡ me.old.room) }
 {
     me.facts();
     let (entries, more) = match ring.used(rt, me) {

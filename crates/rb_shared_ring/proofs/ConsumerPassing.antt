@@ -140,6 +140,12 @@ module _ (v : ChapterPassView) (r new : ChapterRing) (out : ChapterPassView) (id
     here-hands : (h : HeldChapter Consumer v r out) → HandsOut h.taken.ring new c
     here-hands h = subst (λ x. HandsOut x new c) (sym h.ring_is) hands
 
+    -- it has the room that the consumer knows
+    pub handed-room : c.room ≡ room_by v
+    handed-room =
+        let h = held-in Consumer v r out idle took in
+        ap (λ (x : Chapter). x.room) (here-hands h).next.out_is ∙ sym (h.knows refl).0
+
     pub put-next : MayPutChapter out new
     put-next =
         let h = held-in Consumer v r out idle took in

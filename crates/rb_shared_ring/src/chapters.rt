@@ -46,6 +46,7 @@ fn hand_out_with<R: Wait>(rt: &R, lock: &Lock, pass: &mut RingPass, empty: Chapt
     ensures bytes { bytes_by (view pass.new) ≡ bytes_by (view pass.old) }
     ensures room { room_by (view pass.new) ≡ room_by (view pass.old) }
     ensures chapters { handed_out_by (view pass.new) ≡ handed_out_by (view pass.old) ++ result ∷ [] }
+    ensures old_room { result.room ≡ room_by (view pass.old) }
 {
     with_state(
         rt,
@@ -123,6 +124,7 @@ impl SharedRing {
         ensures call { IfOk result (λ c. LockedChapterCall Consumer me.old.seen me.new.seen (HandsOutNext me.old.handed_out c)) }
         ensures chapters { IfOk result (λ c. me.new.handed_out ≡ me.old.handed_out ++ c ∷ []) }
         ensures number { IfOk result (λ c. c.number ≡ length me.old.handed_out) }
+        ensures room { IfOk result (λ c. c.room ≡ me.old.room) }
     {
         if me.tag != self.tag {
             return Err((HandFault::Foreign, empty));

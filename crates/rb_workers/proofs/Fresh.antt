@@ -1,11 +1,15 @@
 -- A ring that was just opened may be run.
-use Rattle.std.proofs.Common.{List, ◌≡◌, ℕ, zero, suc, ◌+◌, [], ◌∷◌, ◌++◌, map, refl, ap, sym, ◌∙◌, subst, arith}
+use Rattle.std.proofs.Common.{List, ◌≡◌, ℕ, zero, suc, ◌+◌, [], ◌∷◌, ◌++◌, false, map, refl, ap, sym, ◌∙◌, subst, ◌≤◌, ⊎_elim, arith}
 use Rattle.std.specs.Prelude.{All}
+use Rattle.std.proofs.lemmas.Bool.Decides.{leb_tells}
 use Rattle.std.proofs.lemmas.List.Elements.{All-cons}
 use Rattle.atomic_table.specs.Seated.{TableId}
 use Rattle.rb_ledger.specs.Roles.{Book}
 use Rattle.rb_history.specs.WorkerCounts.{numbers_below}
-use Rattle.rb_ledger.specs.Seats.{Shared, HasSettledAll, WorkerSeat, ConsumerSeatValue, fresh_book, fresh_seat, fresh_seats, fresh_consumer}
+use Rattle.rb_chapter.specs.Chapters.{IsChapterRoom, empty_chapter}
+use Rattle.rb_ledger.specs.Seats.{Shared, HasSettledAll, WorkerSeat, fresh_book, fresh_seat, fresh_seats}
+use Rattle.rb_chapter_ledger.specs.ChapterSeats.{ChapterConsumerSeat, fresh_chapter_consumer}
+use Rattle.rb_consumer.specs.Keepers.{KeeperValue, handed_in}
 use Rattle.rb_seats.specs.SeatHelpers.{IsAt}
 use Rattle.rb_workers.specs.declared.opened.Opened.{Opened}
 use Rattle.rb_workers.specs.Opened.{AreOpened, IsOpened}
@@ -31,17 +35,23 @@ fresh_at : (shared : Shared) (seen : Book) (first n : ℕ) → All (IsAt shared)
 fresh_at shared seen first zero = λ k d below. absurd (omega arith)
 fresh_at shared seen first (suc n) = All-cons (IsAt shared) (fresh_seat shared.tag shared.ring first seen) (fresh_seats shared.tag shared.ring seen (first + 1) n) (refl, refl) (fresh_at shared seen (first + 1) n)
 
-pub fresh_opened : {S : Type 0} (position : S → ℕ) (tag size start workers : ℕ) (o : Opened S) → o.ring.tag ≡ tag → o.seats.items ≡ fresh_seats tag o.ring.ring (fresh_book size start workers) 0 workers
-    → o.consumer ≡ fresh_consumer tag o.ring.ring (fresh_book size start workers) → position o.sink ≡ start → IsOpened position workers o
-fresh_opened position tag size start workers o tagged seats consumer begins =
+pub fresh_opened : {S : Type 0} (position : S → ℕ) (tag size start workers room margin : ℕ) (o : Opened S) → o.ring.tag ≡ tag → o.seats.items ≡ fresh_seats tag o.ring.ring (fresh_book size start workers) 0 workers
+    → o.consumer ≡ fresh_chapter_consumer tag o.ring.ring room (fresh_book size start workers) → o.keeper ≡ record { chapter = empty_chapter room workers; margin = margin; is_lent = false }
+    → position o.sink ≡ start → IsOpened position workers o
+fresh_opened position tag size start workers room margin o tagged seats consumer keeper begins =
     let book = fresh_book size start workers in
     record {
       numbered = ap (map (λ (s : WorkerSeat). s.worker)) seats ∙ fresh_numbers tag o.ring.ring book workers;
       seats_at = subst (All (IsAt o.ring)) (sym seats) (subst (λ t. All (IsAt o.ring) (fresh_seats t o.ring.ring book 0 workers)) tagged (fresh_at o.ring book 0 workers));
-      as_many = ap (λ (c : ConsumerSeatValue). c.seen.setup.workers) consumer;
-      consumer_tag = ap (λ (c : ConsumerSeatValue). c.tag) consumer ∙ sym tagged;
-      consumer_at = ap (λ (c : ConsumerSeatValue). c.ring) consumer;
-      sink_follows = begins ∙ sym (ap (λ (c : ConsumerSeatValue). c.position) consumer);
+      as_many = ap (λ (c : ChapterConsumerSeat). c.seen.setup.workers) consumer;
+      consumer_tag = ap (λ (c : ChapterConsumerSeat). c.tag) consumer ∙ sym tagged;
+      consumer_at = ap (λ (c : ChapterConsumerSeat). c.ring) consumer;
+      keeper_fits = record {
+        no_entries = ap (λ (k : KeeperValue). (handed_in k).entries) keeper;
+        room_same = ap (λ (k : KeeperValue). (handed_in k).room) keeper ∙ sym (ap (λ (c : ChapterConsumerSeat). c.room) consumer);
+        workers_same = ap (λ (k : KeeperValue). (handed_in k).opening.setup.workers) keeper ∙ sym (ap (λ (c : ChapterConsumerSeat). c.seen.setup.workers) consumer);
+      };
+      sink_follows = begins ∙ sym (ap (λ (c : ChapterConsumerSeat). c.position) consumer);
     }
 
 -- rings for the same workers may be run together
@@ -49,6 +59,13 @@ pub all_opened : {S : Type 0} (position : S → ℕ) (count : ℕ) (opened : Lis
 all_opened position count [] all = λ k d below. absurd (omega arith)
 all_opened position count (o ∷ more) all =
     subst (λ n. All (IsOpened position n) (o ∷ more)) (sym (seats_length position count o (all_first (IsOpened position count) (o ∷ more) more o refl all))) all
+
+-- a room that is not out of bounds
+pub room_within : (room : ℕ) → ((IsChapterRoom room → ⊥) → ⊥) → IsChapterRoom room
+room_within room not_out = (at_most 8 room (λ low. not_out (λ is. low is.0)), at_most room 1048576 (λ high. not_out (λ is. high is.1)))
+  where
+    at_most : (a b : ℕ) → ((a ≤ b → ⊥) → ⊥) → a ≤ b
+    at_most a b never = ⊎_elim (λ is. is.1) (λ above. absurd (never (λ le. omega (arith, above.1, le)))) (leb_tells a b)
 
 -- seats that have made nothing
 pub fresh_settled : (tag : ℕ) (ring : TableId) (seen : Book) (first n : ℕ) → All HasSettledAll (fresh_seats tag ring seen first n)

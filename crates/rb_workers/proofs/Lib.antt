@@ -5,6 +5,7 @@ pub mod Parts
 pub mod Whole
 pub mod Numbered
 pub mod SinkItems
+pub mod ChapterTurns
 pub mod Giving
 pub mod Merges
 pub mod Same

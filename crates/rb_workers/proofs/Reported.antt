@@ -10,7 +10,11 @@ use Rattle.rb_ledger.specs.Roles.{Book, BeginsWith, book_of}
 use Rattle.rb_ledger.specs.Roles.Role.{Consumer, Worker as WorkerRole}
 use Rattle.rb_ledger.proofs.Beginnings.{begins_through, extended_begins}
 use Rattle.rb_seats.specs.SeatLaws.{SeatBegins}
-use Rattle.rb_ledger.specs.Seats.{WorkerSeat, IsSameSeat, IsSameConsumerSeat}
+use Rattle.rb_ledger.specs.Seats.{WorkerSeat, IsSameSeat}
+use Rattle.rb_chapter.specs.Chapters.{joined}
+use Rattle.rb_chapter_ledger.proofs.Chain.{binds-continue}
+use Rattle.rb_chapter_ledger.proofs.WholeCalls.{consumer-same}
+use Rattle.rb_shared_ring.specs.SharedSeats.{IsSameChapterConsumer}
 use Rattle.rb_jobs.specs.declared.job.Job.{Job}
 use Rattle.rb_jobs.specs.declared.job.JobAnswer.{JobAnswer}
 use Rattle.rb_workers.specs.declared.opened.Opened.{Opened}
@@ -20,8 +24,8 @@ use Rattle.rb_workers.specs.declared.workers.Worker.{Worker}
 use Rattle.rb_workers.specs.inner.RingEnds.{Closes}
 use Rattle.rb_workers.specs.JobRuns.{own_jobs, is_stray}
 use Rattle.rb_workers.specs.inner.WorkerRuns.{RunsJobs, RunsOwnJobs, own_answers}
-use Rattle.rb_workers.specs.Opened.{AreOpened, IsOpened, SinkGetsTaken, workers_of}
-use Rattle.rb_workers.specs.Reports.{RingsEnd, IsHandedBack, IsReport, RunsFirst, has_unknown_ring, has_unknown_worker}
+use Rattle.rb_workers.specs.Opened.{AreOpened, IsKeeperFor, IsOpened, SinkGetsTaken, workers_of}
+use Rattle.rb_workers.specs.Reports.{RingsEnd, ring_at_end, IsHandedBack, IsReport, RunsFirst, has_unknown_ring, has_unknown_worker}
 use Rattle.rb_workers.specs.Sink.{SinkItem}
 use Rattle.rb_workers.specs.SeatRows.{seat_rows, worker_column}
 use Rattle.rb_workers.specs.inner.WorkerRuns.{HasRun}
@@ -43,7 +47,7 @@ all_begin b opened seats begins ties =
 
 -- each ring that was closed with what came back is one that was opened
 pub rings_end : {S : Type 0} (position : S → ℕ) (takes : S → SinkItem → S → Type 0) (opened back : List (Opened S)) (ended : List (Ended S)) (count : ℕ) → All (IsOpened position count) back → map (λ o. o.ring) back ≡ map (λ o. o.ring) opened
-    → AllZip (AllZip IsSameSeat) (seat_rows opened) (seat_rows back) → AllZip (λ o b. IsSameConsumerSeat o.consumer b.consumer) opened back → AllZip (λ o b. BeginsWith b.consumer.seen o.consumer.seen) opened back
+    → AllZip (AllZip IsSameSeat) (seat_rows opened) (seat_rows back) → AllZip (λ o b. IsSameChapterConsumer o.consumer b.consumer) opened back → AllZip (λ o b. BeginsWith b.consumer.seen o.consumer.seen) opened back
     → AllZip (AllZip SeatBegins) (seat_rows opened) (seat_rows back) → AllZip (SinkGetsTaken takes) opened back → AllZip Closes back ended → RingsEnd position takes opened ended (seat_rows back)
 rings_end position takes [] [] [] count all rings seats consumers begins seen given closes = tt
 rings_end position takes [] [] (e ∷ es) count all rings seats consumers begins seen given closes = absurd closes
@@ -52,17 +56,22 @@ rings_end position takes (o ∷ os) [] ended count all rings seats consumers beg
 rings_end position takes (o ∷ os) (b ∷ bs) [] count all rings seats consumers begins seen given closes = absurd closes
 rings_end position takes (o ∷ os) (b ∷ bs) (e ∷ es) count all rings seats consumers begins seen given closes =
     let is = all_first (IsOpened position count) (b ∷ bs) bs b refl all in
-    let c = closes.0 in (
+    let c = closes.0 in
+    let whole = ring_at_end b.consumer e in
+    let closed = c.closed.closed in
+    let last = e.closing.at_end in
+    let goes_on = binds-continue b.consumer.handed_out last.chapter c.closed.has_chapters.binds in (
       record {
         consumer = b.consumer;
         which = c.which ∙ list_head b.ring o.ring (map (λ x. x.ring) bs) (map (λ x. x.ring) os) rings;
         closed = c.closed;
-        begins = begins_through _ _ _ begins.0 (extended_begins Consumer _ _ c.closed.consumer_goes_on);
-        seats_begin = all_begin (book_of e.closing.at_end) o.seats.items b.seats.items seen.0 c.closed.seats_tie;
+        begins = begins_through _ _ _ begins.0 (extended_begins Consumer _ _ closed.consumer_goes_on);
+        seats_begin = all_begin (book_of whole) o.seats.items b.seats.items seen.0 closed.seats_tie;
         same_seats = seats.0;
         same_consumer = consumers.0;
-        sink_given = gets_at_close takes o.consumer.seen.history b.consumer.seen (book_of e.closing.at_end) b.consumer.got o.sink b.sink e.sink c.closed.consumer_goes_on c.same_sink given.0;
-        sink_follows = ap position c.same_sink ∙ (is.sink_follows ∙ c.closed.consumer_ties.position_is);
+        keeper_fits = subst (IsKeeperFor b.consumer) (sym c.same_keeper) is.keeper_fits;
+        sink_given = gets_at_close takes o.consumer b.consumer (book_of whole) o.sink b.sink e.sink closed.consumer_goes_on c.same_sink given.0;
+        sink_follows = ap position c.same_sink ∙ (is.sink_follows ∙ (closed.consumer_ties.position_is ∙ sym (consumer-same (joined b.consumer.handed_out) last last goes_on)));
         tallies_are = c.tallies_are;
       },
       rings_end position takes os bs es count (all_rest (IsOpened position count) (b ∷ bs) bs b refl all) (list_tail b.ring o.ring (map (λ x. x.ring) bs) (map (λ x. x.ring) os) rings) seats.1 consumers.1 begins.1 seen.1 given.1 closes.1,

@@ -5,7 +5,8 @@ use Rattle.std.specs.List.{AllZip}
 use Rattle.std.proofs.lemmas.List.Elements.{AllZip-get_or, All-cons}
 use Rattle.rb_history.specs.RoomRule.{Setup}
 use Rattle.rb_ledger.specs.Roles.{BeginsWith}
-use Rattle.rb_ledger.specs.Seats.{Shared, WorkerSeat, IsSameSeat, IsSameConsumerSeat}
+use Rattle.rb_ledger.specs.Seats.{Shared, WorkerSeat, IsSameSeat}
+use Rattle.rb_shared_ring.specs.SharedSeats.{IsSameChapterConsumer}
 use Rattle.rb_ledger.proofs.Beginnings.{begins_with_all}
 use Rattle.rb_seats.specs.SeatLaws.{SeatBegins}
 use Rattle.rb_seats.proofs.Lists.{zip_self}
@@ -54,6 +55,7 @@ again position takes count o b is ring consumed same =
       as_many = ap (λ (x : Setup). x.workers) consumed.0.begins.setup_same ∙ is.as_many;
       consumer_tag = consumed.0.tag_same ∙ (is.consumer_tag ∙ ap (λ (r : Shared). r.tag) (sym ring));
       consumer_at = consumed.0.ring_same ∙ (is.consumer_at ∙ ap (λ (r : Shared). r.ring) (sym ring));
+      keeper_fits = consumed.3;
       sink_follows = consumed.1;
     }
 
@@ -79,11 +81,11 @@ count_same [] (b ∷ bs) same = absurd same
 count_same (o ∷ os) [] same = absurd same
 count_same (o ∷ os) (b ∷ bs) same = sym (zip_length IsSameSeat o.seats.items b.seats.items same.0)
 
-takers_same : {S : Type 0} (position : S → ℕ) (takes : S → SinkItem → S → Type 0) (opened back : List (Opened S)) → AllZip (IsConsumed position takes) opened back → AllZip (λ o b. IsSameConsumerSeat o.consumer b.consumer) opened back
+takers_same : {S : Type 0} (position : S → ℕ) (takes : S → SinkItem → S → Type 0) (opened back : List (Opened S)) → AllZip (IsConsumed position takes) opened back → AllZip (λ o b. IsSameChapterConsumer o.consumer b.consumer) opened back
 takers_same position takes [] [] consumed = tt
 takers_same position takes [] (b ∷ bs) consumed = absurd consumed
 takers_same position takes (o ∷ os) [] consumed = absurd consumed
-takers_same position takes (o ∷ os) (b ∷ bs) consumed = (record { tag_same = consumed.0.0.tag_same; ring_same = consumed.0.0.ring_same }, takers_same position takes os bs consumed.1)
+takers_same position takes (o ∷ os) (b ∷ bs) consumed = (record { tag_same = consumed.0.0.tag_same; ring_same = consumed.0.0.ring_same; room_same = consumed.0.0.room_same }, takers_same position takes os bs consumed.1)
 
 takers_begin : {S : Type 0} (position : S → ℕ) (takes : S → SinkItem → S → Type 0) (opened back : List (Opened S)) → AllZip (IsConsumed position takes) opened back → AllZip (λ o b. BeginsWith b.consumer.seen o.consumer.seen) opened back
 takers_begin position takes [] [] consumed = tt
@@ -140,9 +142,9 @@ unchanged {S} position takes opened jobs all =
     each [] = tt
     each (x ∷ xs) = (same_seats x, each xs)
 
-    consumers : (xs : List (Opened S)) → AllZip (λ o b. IsSameConsumerSeat o.consumer b.consumer) xs xs
+    consumers : (xs : List (Opened S)) → AllZip (λ o b. IsSameChapterConsumer o.consumer b.consumer) xs xs
     consumers [] = tt
-    consumers (x ∷ xs) = (record { tag_same = refl; ring_same = refl }, consumers xs)
+    consumers (x ∷ xs) = (record { tag_same = refl; ring_same = refl; room_same = refl }, consumers xs)
 
     begins : (xs : List (Opened S)) → AllZip (λ o b. BeginsWith b.consumer.seen o.consumer.seen) xs xs
     begins [] = tt

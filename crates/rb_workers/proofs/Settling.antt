@@ -6,13 +6,22 @@ use Rattle.std.specs.Prelude.{slice_get}
 use Rattle.std.specs.List.{All, count_by}
 use Rattle.rb_ledger.specs.Seats.{WorkerSeat, IsSameSeat, SettlesWithin, HasSettledAll}
 use Rattle.rb_ledger.proofs.Laws.{once-closed}
+use Rattle.rb_history.specs.declared.answers.Counts.{Counts}
+use Rattle.rb_history.specs.Counting.{counts_of}
+use Rattle.rb_chapter.specs.Chapters.{Chapter, joined}
+use Rattle.rb_chapter.specs.ChapterRing.{ChapterRing}
+use Rattle.rb_chapter_ring.specs.OpenedRing.{told_counts}
+use Rattle.rb_chapter_ledger.specs.ChapteredRing.{HasChapters, chaptered_ring, whole_of}
+use Rattle.rb_chapter_ledger.specs.ChapterSeats.{whole_consumer}
+use Rattle.rb_chapter_ledger.proofs.Chain.{binds-continue}
+use Rattle.rb_chapter_ledger.proofs.WholeCalls.{said}
 use Rattle.rb_seats.specs.SeatHelpers.{made_in, submitted_in, discarded_in}
 use Rattle.rb_jobs.specs.declared.job.Job.{Job}
 use Rattle.rb_workers.specs.declared.opened.Opened.{Opened}
 use Rattle.rb_workers.specs.declared.opened.Ended.{Ended}
 use Rattle.rb_workers.specs.declared.opened.Report.{Report}
 use Rattle.rb_workers.specs.Opened.{AreOpened, IsOpened, workers_of}
-use Rattle.rb_workers.specs.Reports.{IsReport, RingsEnd}
+use Rattle.rb_workers.specs.Reports.{IsReport, RingsEnd, ring_at_end}
 use Rattle.rb_workers.specs.SeatRows.{worker_column, seat_rows}
 use Rattle.rb_workers.specs.Sink.{SinkItem}
 use Rattle.rb_workers.specs.JobRuns.{is_stray}
@@ -89,6 +98,10 @@ settled_together count (row ∷ seats) all k below =
 
 -- ---- closed rings
 
+-- the busy records that a closed ring tells are those of its whole history
+busy_told : (handed_out : List Chapter) (last : ChapterRing) → HasChapters (chaptered_ring handed_out last) → (told_counts last).busy ≡ (counts_of (whole_of (chaptered_ring handed_out last)).history).busy
+busy_told handed_out last has = ap (λ (n : Counts). n.busy) (said (joined handed_out) last last (binds-continue handed_out last.chapter has.binds)).counts
+
 rings_within : {S : Type 0} (position : S → ℕ) (takes : S → SinkItem → S → Type 0) (opened : List (Opened S)) (ended : List (Ended S)) (seats : List (List WorkerSeat)) → RingsEnd position takes opened ended seats → All (All SettlesWithin) seats
 rings_within position takes [] [] [] ends = All-nil (All SettlesWithin)
 rings_within position takes [] [] (row ∷ more) ends = absurd ends
@@ -99,7 +112,7 @@ rings_within position takes (o ∷ os) [] (row ∷ more) ends = absurd ends
 rings_within position takes (o ∷ os) (e ∷ es) [] ends = absurd ends
 rings_within position takes (o ∷ os) (e ∷ es) (row ∷ more) ends =
     let ring = ends.0 in
-    All-cons (All SettlesWithin) row more (once-closed e.closing.at_end row ring.consumer ring.closed).within (rings_within position takes os es more ends.1)
+    All-cons (All SettlesWithin) row more (once-closed (ring_at_end ring.consumer e) row (whole_consumer ring.consumer) ring.closed.closed).within (rings_within position takes os es more ends.1)
 
 rings_settled : {S : Type 0} (position : S → ℕ) (takes : S → SinkItem → S → Type 0) (opened : List (Opened S)) (ended : List (Ended S)) (seats : List (List WorkerSeat)) → RingsEnd position takes opened ended seats → All (All HasSettledAll) seats → All EndsSettled ended
 rings_settled position takes [] [] [] ends settled = All-nil EndsSettled
@@ -114,7 +127,7 @@ rings_settled position takes (o ∷ os) (e ∷ es) (row ∷ more) ends settled =
     let here = All-head (All HasSettledAll) row more settled in
     let one : EndsSettled e = record {
       tallies_even = All-same IsEven e.tallies.items (map (λ (s : WorkerSeat). s.tally) row) ring.tallies_are (All-map IsEven (λ (s : WorkerSeat). s.tally) row here);
-      none_busy = (once-closed e.closing.at_end row ring.consumer ring.closed).none_busy.0 here;
+      none_busy = busy_told ring.consumer.handed_out e.closing.at_end ring.closed.has_chapters ∙ (once-closed (ring_at_end ring.consumer e) row (whole_consumer ring.consumer) ring.closed.closed).none_busy.0 here;
     } in
     All-cons EndsSettled e es one (rings_settled position takes os es more ends.1 (All-tail (All HasSettledAll) row more settled))
 

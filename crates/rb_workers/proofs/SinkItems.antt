@@ -1,7 +1,6 @@
--- What a consumer's thread gives to its sink is what was taken.
-use Rattle.std.proofs.Common.{◌≡◌, ℕ, ◌+◌, ◌<◌, ◌||◌, Bool, true, false, cond, List, [], ◌∷◌, ◌++◌, Some, length, map, refl, ap, sym, ◌∙◌, subst, append-nil, append_assoc, arith}
+-- What a consumer's thread gives to its sink is what was taken and handed out.
+use Rattle.std.proofs.Common.{◌≡◌, ℕ, ◌+◌, ◌<◌, ◌≤◌, ◌||◌, Bool, true, false, cond, List, [], ◌∷◌, ◌++◌, Some, length, refl, ap, sym, ◌∙◌, subst, append-nil, append_assoc, arith}
 use Rattle.std.proofs.lemmas.Bool.{true≢false}
-use Rattle.std.proofs.lemmas.List.{map-append}
 use Rattle.std.proofs.lemmas.List.Elements.{All-nil, All-cons, All-append, All-weaker, All-head, All-tail, Contains-append_left, filter_map-append}
 use Rattle.std.proofs.lemmas.List.Folds.{list_any-append}
 use Rattle.std.specs.Prelude.{All}
@@ -24,13 +23,18 @@ use Rattle.rb_history.specs.ManyTakes.{HasRecord, TakesEach, TakesMany}
 use Rattle.rb_history.proofs.Lists.{sum_by-cons}
 use Rattle.rb_ledger.specs.LockedCalls.{LockedCall, got_by, span_in, IsTakenAt}
 use Rattle.rb_ledger.specs.ManyTakes.{span_among, AreTakenFrom, got_by_all}
-use Rattle.rb_ledger.specs.Seats.{ConsumerSeatValue, IsSameConsumerSeat}
+use Rattle.rb_chapter.specs.Chapters.{Chapter as RingChapter}
+use Rattle.rb_chapter_ledger.specs.ChapterSeats.{ChapterConsumerSeat}
+use Rattle.rb_shared_ring.specs.SharedSeats.{IsSameChapterConsumer}
 use Rattle.rb_ledger.proofs.Beginnings.{begins_through, begins_with_all, call_begins, logged_begins}
 use Rattle.rb_ledger.proofs.ManyTakes.{takes_of, logs-each}
 use Rattle.rb_workers.specs.declared.consumer_task.ConsumerTask.{ConsumerTask}
-use Rattle.rb_workers.specs.Sink.{SinkItem, GetsTaken, IsRecordIn, TakesAll, sink_position, takes_in, take_of}
-use Rattle.rb_workers.specs.Sink.SinkItem.{Event, Skip}
-use Rattle.rb_workers.specs.inner.ConsumerTasks.{Consumed, HasGiven, IsSameConsumer, items_among}
+use Rattle.rb_consumer.specs.Keepers.{KeeperValue}
+use Rattle.rb_history.specs.RoomRule.{Setup}
+use Rattle.rb_workers.specs.Opened.{IsKeeperFor}
+use Rattle.rb_workers.specs.Sink.{SinkItem, GetsTaken, IsRecordIn, TakesAll, sink_position, sink_chapter, positions_among, chapters_among, takes_in, take_of}
+use Rattle.rb_workers.specs.Sink.SinkItem.{Event, Skip, Chapter}
+use Rattle.rb_workers.specs.inner.ConsumerTasks.{Consumed, HasGiven, IsBefore, IsSameConsumer, items_among}
 
 -- ---- a longer history
 
@@ -41,9 +45,10 @@ discarded_on : (h more : List Entry) (p : ℕ) → is_discarded_at h p ≡ true 
 discarded_on h more p is = list_any-append (is_discard p) h more ∙ ap (λ b. b || list_any (is_discard p) more) is
 
 -- a record of a history is one of each longer history, where the bytes there are the same
-record_on : (h more : List Entry) (got now : Contents) (item : SinkItem) → get now (sink_position item) ≡ get got (sink_position item) → IsRecordIn h got item → IsRecordIn (h ++ more) now item
-record_on h more got now (Event p w k bytes) same is = (Contains-append_left h more (Res w k (length bytes) p) is.0, submitted_on h more p is.1, same ∙ is.2)
-record_on h more got now (Skip p n) same is = ((is.0.0, (is.0.1.0, Contains-append_left h more (Res is.0.0 is.0.1.0 n p) is.0.1.1)), discarded_on h more p is.1)
+record_on : (h more : List Entry) (got now : Contents) (at : ℕ) (item : SinkItem) → IsBefore at item → ((p : ℕ) → p < at → get now p ≡ get got p) → IsRecordIn h got item → IsRecordIn (h ++ more) now item
+record_on h more got now at (Event p w k bytes) before same is = (Contains-append_left h more (Res w k (length bytes) p) is.0, submitted_on h more p is.1, same p before ∙ is.2)
+record_on h more got now at (Chapter c) before same is = tt
+record_on h more got now at (Skip p n) before same is = ((is.0.0, (is.0.1.0, Contains-append_left h more (Res is.0.0 is.0.1.0 n p) is.0.1.1)), discarded_on h more p is.1)
 
 -- entries that are not the consumer's take nothing
 none_taken : (before behind : List Entry) → NoneOwn Consumer before behind → takes_in behind ≡ []
@@ -67,26 +72,32 @@ taken_all takes a b c (item ∷ first) more one two = (one.0, one.1, taken_all t
 
 -- ---- what was given
 
-pub nothing_given : {S : Type 0} (takes : S → SinkItem → S → Type 0) (seat : ConsumerSeatValue) (sink : S) → HasGiven takes seat seat sink sink
+pub nothing_given : {S : Type 0} (takes : S → SinkItem → S → Type 0) (seat : ChapterConsumerSeat) (sink : S) → HasGiven takes seat seat sink sink
 nothing_given takes seat sink =
     record {
-      gets = record { items = []; taken_are = sym (append-nil (takes_in seat.seen.history)); records_are = All-nil (IsRecordIn seat.seen.history seat.got); given = refl };
+      gets = record { items = []; taken_are = sym (append-nil (takes_in seat.seen.history)); records_are = All-nil (IsRecordIn seat.seen.history seat.got); chapters_are = sym (append-nil seat.handed_out); given = refl };
       moved = omega arith;
-      passed = All-nil (λ item. sink_position item < seat.position);
+      passed = All-nil (IsBefore seat.position);
       keeps = λ p below. refl;
     }
 
-records_on : (h more now : List Entry) (got kept : Contents) (at : ℕ) (items : List SinkItem) → now ≡ h ++ more → All (λ item. sink_position item < at) items
+records_on : (h more now : List Entry) (got kept : Contents) (at : ℕ) (items : List SinkItem) → now ≡ h ++ more → All (IsBefore at) items
     → ((p : ℕ) → p < at → get kept p ≡ get got p) → All (IsRecordIn h got) items → All (IsRecordIn now kept) items
 records_on h more now got kept at [] is below keeps records = All-nil (IsRecordIn now kept)
 records_on h more now got kept at (item ∷ items) is below keeps records =
     All-cons (IsRecordIn now kept) item items
     (subst (λ l. IsRecordIn l kept item) (sym is)
-    (record_on h more got kept item (keeps (sink_position item) (All-head (λ item. sink_position item < at) item items below)) (All-head (IsRecordIn h got) item items records)))
-    (records_on h more now got kept at items is (All-tail (λ item. sink_position item < at) item items below) keeps (All-tail (IsRecordIn h got) item items records))
+    (record_on h more got kept at item (All-head (IsBefore at) item items below) keeps (All-head (IsRecordIn h got) item items records)))
+    (records_on h more now got kept at items is (All-tail (IsBefore at) item items below) keeps (All-tail (IsRecordIn h got) item items records))
+
+-- what stands before a position stands before each later one
+before_later : (at end : ℕ) → at ≤ end → (item : SinkItem) → IsBefore at item → IsBefore end item
+before_later at end later (Event p w k bytes) before = omega (arith, later, before)
+before_later at end later (Skip p n) before = omega (arith, later, before)
+before_later at end later (Chapter c) before = tt
 
 -- what was given, and then more
-pub given_on : {S : Type 0} (takes : S → SinkItem → S → Type 0) (a b c : ConsumerSeatValue) (x y z : S) → BeginsWith c.seen b.seen → HasGiven takes a b x y → HasGiven takes b c y z → HasGiven takes a c x z
+pub given_on : {S : Type 0} (takes : S → SinkItem → S → Type 0) (a b c : ChapterConsumerSeat) (x y z : S) → BeginsWith c.seen b.seen → HasGiven takes a b x y → HasGiven takes b c y z → HasGiven takes a c x z
 given_on takes a b c x y z begins one two =
     let first = one.gets.items in
     let more = two.gets.items in
@@ -96,17 +107,20 @@ given_on takes a b c x y z begins one two =
         items = first ++ more;
         taken_are =
             two.gets.taken_are
-            ∙ (ap (λ l. l ++ map sink_position more) one.gets.taken_are ∙ (append_assoc (takes_in a.seen.history) (map sink_position first) (map sink_position more) ∙ ap (λ l. takes_in a.seen.history ++ l) (sym (map-append sink_position first more))));
+            ∙ (ap (λ l. l ++ positions_among more) one.gets.taken_are ∙ (append_assoc (takes_in a.seen.history) (positions_among first) (positions_among more) ∙ ap (λ l. takes_in a.seen.history ++ l) (sym (filter_map-append sink_position first more))));
         records_are =
             All-append (IsRecordIn c.seen.history c.got) first more
             (records_on b.seen.history begins.behind c.seen.history b.got c.got b.position first begins.history_is one.passed two.keeps one.gets.records_are)
             two.gets.records_are;
+        chapters_are =
+            two.gets.chapters_are
+            ∙ (ap (λ l. l ++ chapters_among more) one.gets.chapters_are ∙ (append_assoc a.handed_out (chapters_among first) (chapters_among more) ∙ ap (λ l. a.handed_out ++ l) (sym (filter_map-append sink_chapter first more))));
         given = taken_all takes x y z first more one.gets.given two.gets.given;
       };
       moved = let m = one.moved in omega (arith, m, moved);
       passed =
-          All-append (λ item. sink_position item < c.position) first more
-          (All-weaker (λ item. sink_position item < b.position) (λ item. sink_position item < c.position) (λ item below. omega (arith, below, moved)) first one.passed)
+          All-append (IsBefore c.position) first more
+          (All-weaker (IsBefore b.position) (IsBefore c.position) (before_later b.position c.position moved) first one.passed)
           two.passed;
       keeps = λ p below. two.keeps p (let m = one.moved in omega (arith, below, m)) ∙ one.keeps p below;
     }
@@ -138,25 +152,25 @@ get_before m p q b below = get-insert nat_cmp_total m p b q ∙ ap (λ t. cond t
 wide : (n : ℕ) → 0 < span n
 wide n = omega arith
 
-one_item : (at : ℕ) (item : SinkItem) → sink_position item < at → All (λ i. sink_position i < at) (item ∷ [])
-one_item at item below = All-cons (λ i. sink_position i < at) item [] below (All-nil (λ i. sink_position i < at))
+pub one_item : (at : ℕ) (item : SinkItem) → IsBefore at item → All (IsBefore at) (item ∷ [])
+one_item at item below = All-cons (IsBefore at) item [] below (All-nil (IsBefore at))
 
-takes_stay_same : (old new : ConsumerSeatValue) (point : Ring) → ExtendsSeen Consumer old.seen (book_of point) → new.seen.history ≡ point.history → takes_in new.seen.history ≡ takes_in old.seen.history
+takes_stay_same : (old new : ChapterConsumerSeat) (point : Ring) → ExtendsSeen Consumer old.seen (book_of point) → new.seen.history ≡ point.history → takes_in new.seen.history ≡ takes_in old.seen.history
 takes_stay_same old new point goes same = ap takes_in same ∙ takes_stay old.seen (book_of point) goes
 
 -- nothing was taken
-still : {S : Type 0} (takes : S → SinkItem → S → Type 0) (old new : ConsumerSeatValue) (x y : S) → takes_in new.seen.history ≡ takes_in old.seen.history → new.position ≡ old.position + 0 → new.got ≡ old.got → y ≡ x → HasGiven takes old new x y
-still takes old new x y taken position got given =
+pub still : {S : Type 0} (takes : S → SinkItem → S → Type 0) (old new : ChapterConsumerSeat) (x y : S) → takes_in new.seen.history ≡ takes_in old.seen.history → new.position ≡ old.position + 0 → new.got ≡ old.got → new.handed_out ≡ old.handed_out → y ≡ x → HasGiven takes old new x y
+still takes old new x y taken position got chapters given =
     record {
-      gets = record { items = []; taken_are = taken ∙ sym (append-nil (takes_in old.seen.history)); records_are = All-nil (IsRecordIn new.seen.history new.got); given = given };
+      gets = record { items = []; taken_are = taken ∙ sym (append-nil (takes_in old.seen.history)); records_are = All-nil (IsRecordIn new.seen.history new.got); chapters_are = chapters ∙ sym (append-nil old.handed_out); given = given };
       moved = omega (arith, position);
-      passed = All-nil (λ item. sink_position item < new.position);
+      passed = All-nil (IsBefore new.position);
       keeps = λ p below. ap (λ m. get m p) got;
     }
 
-given_by : {S : Type 0} (takes : S → SinkItem → S → Type 0) (t : Taken) (old new : ConsumerSeatValue) (point left : Ring) (x y : S) → ExtendsSeen Consumer old.seen (book_of point) → Takes point left t → HasRecord t
-    → new.seen ≡ book_of left → IsTakenAt old.position t → new.position ≡ old.position + span_in t → new.got ≡ got_by old.got t → TakesAll takes x (items_among (t ∷ [])) y → HasGiven takes old new x y
-given_by takes (TakenEvent p w k bytes) old new point left x y goes taken found seen place position got given =
+given_by : {S : Type 0} (takes : S → SinkItem → S → Type 0) (t : Taken) (old new : ChapterConsumerSeat) (point left : Ring) (x y : S) → ExtendsSeen Consumer old.seen (book_of point) → Takes point left t → HasRecord t
+    → new.seen ≡ book_of left → IsTakenAt old.position t → new.position ≡ old.position + span_in t → new.got ≡ got_by old.got t → new.handed_out ≡ old.handed_out → TakesAll takes x (items_among (t ∷ [])) y → HasGiven takes old new x y
+given_by takes (TakenEvent p w k bytes) old new point left x y goes taken found seen place position got chapters given =
     let now : new.seen.history ≡ point.history ++ Take p ∷ [] = ap (λ (b : Book). b.history) seen ∙ taken.logged.history_is in
     let moved : old.position < new.position = omega (arith, position, wide (length bytes)) in
     let item = Event p w k bytes in
@@ -171,13 +185,14 @@ given_by takes (TakenEvent p w k bytes) old new point left x y goes taken found 
           ap (λ m. get m p) got ∙ get_here old.got p bytes,
         )
             (All-nil (IsRecordIn new.seen.history new.got));
+        chapters_are = chapters ∙ sym (append-nil old.handed_out);
         given = given;
       };
       moved = omega (arith, moved);
       passed = one_item new.position item (omega (arith, moved, place));
       keeps = λ q below. ap (λ m. get m q) got ∙ get_before old.got p q bytes (omega (arith, below, place));
     }
-given_by takes (Skipped p n) old new point left x y goes taken found seen place position got given =
+given_by takes (Skipped p n) old new point left x y goes taken found seen place position got chapters given =
     let now : new.seen.history ≡ point.history ++ Take p ∷ [] = ap (λ (b : Book). b.history) seen ∙ taken.logged.history_is in
     let moved : old.position < new.position = omega (arith, position, wide n) in
     let item = Skip p n in
@@ -192,19 +207,20 @@ given_by takes (Skipped p n) old new point left x y goes taken found seen place 
           ap (λ h. is_discarded_at h p) now ∙ discarded_on point.history (Take p ∷ []) p discarded,
         )
             (All-nil (IsRecordIn new.seen.history new.got));
+        chapters_are = chapters ∙ sym (append-nil old.handed_out);
         given = given;
       };
       moved = omega (arith, moved);
       passed = one_item new.position item (omega (arith, moved, place));
       keeps = λ q below. ap (λ m. get m q) got;
     }
-given_by takes BusyFront old new point left x y goes taken found seen place position got given = absurd found
-given_by takes Empty old new point left x y goes taken found seen place position got given = absurd found
+given_by takes BusyFront old new point left x y goes taken found seen place position got chapters given = absurd found
+given_by takes Empty old new point left x y goes taken found seen place position got chapters given = absurd found
 
 -- ---- many takes
 
 -- the consumer's seat after one take of many
-abbrev seat_after : ConsumerSeatValue → Ring → Taken → ConsumerSeatValue
+abbrev seat_after : ChapterConsumerSeat → Ring → Taken → ChapterConsumerSeat
 seat_after c left t = record c { seen = book_of left; position = c.position + span_in t; got = got_by c.got t }
 
 -- what was seen at the last take has nothing behind it
@@ -221,79 +237,89 @@ split_first takes (Skipped p n) ts x z found given = (given.0, (given.0, given.1
 split_first takes BusyFront ts x z found given = absurd found
 split_first takes Empty ts x z found given = absurd found
 
-each_given : {S : Type 0} (takes : S → SinkItem → S → Type 0) (ts : List Taken) (old new : ConsumerSeatValue) (point left : Ring) (x y : S) → ExtendsSeen Consumer old.seen (book_of point) → TakesEach point ts left
-    → new.seen ≡ book_of left → AreTakenFrom old.position ts → new.position ≡ old.position + span_among ts → new.got ≡ got_by_all old.got ts → TakesAll takes x (items_among ts) y → HasGiven takes old new x y
-each_given takes [] old new point left x y goes each seen place position got given =
-    still takes old new x y (takes_stay_same old new point goes (ap (λ (b : Book). b.history) seen ∙ ap (λ (r : Ring). r.history) each)) (omega (arith, position)) got given
-each_given takes (t ∷ ts) old new point left x y goes each seen place position got given =
+each_given : {S : Type 0} (takes : S → SinkItem → S → Type 0) (ts : List Taken) (old new : ChapterConsumerSeat) (point left : Ring) (x y : S) → ExtendsSeen Consumer old.seen (book_of point) → TakesEach point ts left
+    → new.seen ≡ book_of left → AreTakenFrom old.position ts → new.position ≡ old.position + span_among ts → new.got ≡ got_by_all old.got ts → new.handed_out ≡ old.handed_out → TakesAll takes x (items_among ts) y → HasGiven takes old new x y
+each_given takes [] old new point left x y goes each seen place position got chapters given =
+    still takes old new x y (takes_stay_same old new point goes (ap (λ (b : Book). b.history) seen ∙ ap (λ (r : Ring). r.history) each)) (omega (arith, position)) got chapters given
+each_given takes (t ∷ ts) old new point left x y goes each seen place position got chapters given =
     let next = each.0 in
     let mid = seat_after old next t in
     let cut = split_first takes t ts x y each.2 given in
     given_on takes old mid new x cut.0 y
     (subst (λ b. BeginsWith b (book_of next)) (sym seen) (each_begins next left ts each.3))
-    (given_by takes t old mid point next x cut.0 goes each.1 each.2 refl place.0 refl refl cut.1)
-    (each_given takes ts mid new next left cut.0 y (nothing_behind next) each.3 seen place.1 (omega (arith, position, sum_by-cons span_in t ts)) got cut.2)
+    (given_by takes t old mid point next x cut.0 goes each.1 each.2 refl place.0 refl refl refl cut.1)
+    (each_given takes ts mid new next left cut.0 y (nothing_behind next) each.3 seen place.1 (omega (arith, position, sum_by-cons span_in t ts)) got chapters cut.2)
 
 -- ---- consumers' threads
 
 -- takes under one holding of the lock, whose items the sink was given
-pub consumed_many : {S : Type 0} (position : S → ℕ) (takes : S → SinkItem → S → Type 0) (n : ℕ) (ts : List Taken) (old new : ConsumerTask S) → IsSameConsumerSeat old.consumer new.consumer
-    → LockedCall Consumer old.consumer.seen new.consumer.seen (TakesMany n ts) → AreTakenFrom old.consumer.position ts → new.consumer.position ≡ old.consumer.position + span_among ts
-    → new.consumer.got ≡ got_by_all old.consumer.got ts → position new.sink ≡ new.consumer.position → new.returned_seats ≡ old.returned_seats
-    → TakesAll takes old.sink (items_among ts) new.sink → Consumed position takes old new
-consumed_many position takes n ts old new same call place moved got follows seats given = (
-  record { tag_same = same.tag_same; ring_same = same.ring_same; begins = call_begins Consumer old.consumer.seen new.consumer.seen (TakesMany n ts) (λ a b called. each_begins a b ts called.each) call },
-  follows,
-  seats,
-  each_given takes ts old.consumer new.consumer call.point call.left old.sink new.sink call.goes_on call.called.each call.seen place moved got given,
-)
+pub many_given : {S : Type 0} (takes : S → SinkItem → S → Type 0) (n : ℕ) (ts : List Taken) (old new : ChapterConsumerSeat) (x y : S) → LockedCall Consumer old.seen new.seen (TakesMany n ts) → AreTakenFrom old.position ts
+    → new.position ≡ old.position + span_among ts → new.got ≡ got_by_all old.got ts → new.handed_out ≡ old.handed_out → TakesAll takes x (items_among ts) y → HasGiven takes old new x y
+many_given takes n ts old new x y call place moved got chapters given = each_given takes ts old new call.point call.left x y call.goes_on call.called.each call.seen place moved got chapters given
 
--- another task with the same consumer, sink and seats
-pub consumed_same : {S : Type 0} (position : S → ℕ) (takes : S → SinkItem → S → Type 0) (old new now : ConsumerTask S) → now.consumer ≡ new.consumer → now.sink ≡ new.sink → now.returned_seats ≡ new.returned_seats
+-- and by which it is the same consumer
+pub same_by_many : (n : ℕ) (ts : List Taken) (old new : ChapterConsumerSeat) → IsSameChapterConsumer old new → LockedCall Consumer old.seen new.seen (TakesMany n ts) → IsSameConsumer old new
+same_by_many n ts old new same call =
+    record { tag_same = same.tag_same; ring_same = same.ring_same; room_same = same.room_same; begins = call_begins Consumer old.seen new.seen (TakesMany n ts) (λ a b called. each_begins a b ts called.each) call }
+
+-- the same consumer, later and later
+pub same_on : (a b c : ChapterConsumerSeat) → IsSameConsumer a b → IsSameConsumer b c → IsSameConsumer a c
+same_on a b c one two =
+    record { tag_same = two.tag_same ∙ one.tag_same; ring_same = two.ring_same ∙ one.ring_same; room_same = two.room_same ∙ one.room_same; begins = begins_through a.seen b.seen c.seen one.begins two.begins }
+
+-- a keeper is one for the consumer's ring, later too
+pub keeper_on : (old new : ChapterConsumerSeat) (k : KeeperValue) → IsSameConsumer old new → IsKeeperFor old k → IsKeeperFor new k
+keeper_on old new k same is = record {
+  no_entries = is.no_entries;
+  room_same = is.room_same ∙ sym same.room_same;
+  workers_same = is.workers_same ∙ sym (ap (λ (r : Setup). r.workers) same.begins.setup_same);
+}
+
+-- another task with the same consumer, keeper, sink and seats
+pub consumed_same : {S : Type 0} (position : S → ℕ) (takes : S → SinkItem → S → Type 0) (old new now : ConsumerTask S) → now.consumer ≡ new.consumer → now.keeper ≡ new.keeper → now.sink ≡ new.sink → now.returned_seats ≡ new.returned_seats
     → Consumed position takes old new → Consumed position takes old now
-consumed_same {S} position takes old new now consumer sink seats is = (
+consumed_same {S} position takes old new now consumer keeper sink seats is = (
   subst (IsSameConsumer old.consumer) (sym consumer) is.0,
-  ap position sink ∙ is.1 ∙ sym (ap (λ (c : ConsumerSeatValue). c.position) consumer),
+  ap position sink ∙ is.1 ∙ sym (ap (λ (c : ChapterConsumerSeat). c.position) consumer),
   seats ∙ is.2,
-  subst (λ (c : ConsumerSeatValue). HasGiven takes old.consumer c old.sink now.sink) (sym consumer) (subst (λ (s : S). HasGiven takes old.consumer new.consumer old.sink s) (sym sink) is.3),
+  subst (λ (c : ChapterConsumerSeat). HasGiven takes old.consumer c old.sink now.sink) (sym consumer) (subst (λ (s : S). HasGiven takes old.consumer new.consumer old.sink s) (sym sink) is.3),
+  subst (λ (c : ChapterConsumerSeat). IsKeeperFor c now.keeper) (sym consumer) (subst (IsKeeperFor new.consumer) (sym keeper) is.4),
 )
 
-pub consumed_none : {S : Type 0} (position : S → ℕ) (takes : S → SinkItem → S → Type 0) (task : ConsumerTask S) → position task.sink ≡ task.consumer.position → Consumed position takes task task
-consumed_none position takes task follows =
-    (record { tag_same = refl; ring_same = refl; begins = begins_with_all task.consumer.seen }, follows, refl, nothing_given takes task.consumer task.sink)
+pub consumed_none : {S : Type 0} (position : S → ℕ) (takes : S → SinkItem → S → Type 0) (task : ConsumerTask S) → position task.sink ≡ task.consumer.position → IsKeeperFor task.consumer task.keeper → Consumed position takes task task
+consumed_none position takes task follows keeper =
+    (record { tag_same = refl; ring_same = refl; room_same = refl; begins = begins_with_all task.consumer.seen }, follows, refl, nothing_given takes task.consumer task.sink, keeper)
 
 -- what was taken, and then more
 pub consumed_on : {S : Type 0} (position : S → ℕ) (takes : S → SinkItem → S → Type 0) (a b c : ConsumerTask S) → Consumed position takes a b → Consumed position takes b c → Consumed position takes a c
-consumed_on position takes a b c one two = (
-  record {
-    tag_same = two.0.tag_same ∙ one.0.tag_same;
-    ring_same = two.0.ring_same ∙ one.0.ring_same;
-    begins = begins_through a.consumer.seen b.consumer.seen c.consumer.seen one.0.begins two.0.begins;
-  },
-  two.1,
-  two.2 ∙ one.2,
-  given_on takes a.consumer b.consumer c.consumer a.sink b.sink c.sink two.0.begins one.3 two.3,
-)
+consumed_on position takes a b c one two =
+    (same_on a.consumer b.consumer c.consumer one.0 two.0, two.1, two.2 ∙ one.2, given_on takes a.consumer b.consumer c.consumer a.sink b.sink c.sink two.0.begins one.3 two.3, two.4)
 
 -- ---- rings
 
 -- the same, under other names
-pub gets_same : {S : Type 0} (takes : S → SinkItem → S → Type 0) (c c' d d' : ConsumerSeatValue) (x x' y y' : S) → c' ≡ c → d' ≡ d → x' ≡ x → y' ≡ y
-    → GetsTaken takes c.seen.history d.seen.history d.got x y → GetsTaken takes c'.seen.history d'.seen.history d'.got x' y'
+pub gets_same : {S : Type 0} (takes : S → SinkItem → S → Type 0) (c c' d d' : ChapterConsumerSeat) (x x' y y' : S) → c' ≡ c → d' ≡ d → x' ≡ x → y' ≡ y
+    → GetsTaken takes c d d.seen.history x y → GetsTaken takes c' d' d'.seen.history x' y'
 gets_same takes c c' d d' x x' y y' ec ed ex ey gets =
-    subst (λ s. GetsTaken takes c'.seen.history d'.seen.history d'.got s y') (sym ex)
-    (subst (λ s. GetsTaken takes c'.seen.history d'.seen.history d'.got x s) (sym ey)
-    (subst (λ (v : ConsumerSeatValue). GetsTaken takes v.seen.history d'.seen.history d'.got x y) (sym ec)
-    (subst (λ (v : ConsumerSeatValue). GetsTaken takes c.seen.history v.seen.history v.got x y) (sym ed) gets)))
+    subst (λ s. GetsTaken takes c' d' d'.seen.history s y') (sym ex)
+    (subst (λ s. GetsTaken takes c' d' d'.seen.history x s) (sym ey)
+    (subst (λ (v : ChapterConsumerSeat). GetsTaken takes v d' d'.seen.history x y) (sym ec)
+    (subst (λ (v : ChapterConsumerSeat). GetsTaken takes c v v.seen.history x y) (sym ed) gets)))
+
+record_in_longer : (h more : List Entry) (got : Contents) (item : SinkItem) → IsRecordIn h got item → IsRecordIn (h ++ more) got item
+record_in_longer h more got (Event p w k bytes) is = record_on h more got got (p + 1) (Event p w k bytes) (omega arith) (λ q below. refl) is
+record_in_longer h more got (Skip p n) is = record_on h more got got (p + 1) (Skip p n) (omega arith) (λ q below. refl) is
+record_in_longer h more got (Chapter c) is = tt
 
 -- what no take adds to, the sink keeps
-pub gets_at_close : {S : Type 0} (takes : S → SinkItem → S → Type 0) (before : List Entry) (seen closed : Book) (got : Contents) (x y z : S) → ExtendsSeen Consumer seen closed → z ≡ y
-    → GetsTaken takes before seen.history got x y → GetsTaken takes before closed.history got x z
-gets_at_close takes before seen closed got x y z goes same gets =
+pub gets_at_close : {S : Type 0} (takes : S → SinkItem → S → Type 0) (before seat : ChapterConsumerSeat) (closed : Book) (x y z : S) → ExtendsSeen Consumer seat.seen closed → z ≡ y
+    → GetsTaken takes before seat seat.seen.history x y → GetsTaken takes before seat closed.history x z
+gets_at_close takes before seat closed x y z goes same gets =
     record {
       items = gets.items;
-      taken_are = takes_stay seen closed goes ∙ gets.taken_are;
-      records_are = All-weaker (IsRecordIn seen.history got) (IsRecordIn closed.history got)
-          (λ item is. subst (λ h. IsRecordIn h got item) (sym goes.history_is) (record_on seen.history goes.behind got got item refl is)) gets.items gets.records_are;
+      taken_are = takes_stay seat.seen closed goes ∙ gets.taken_are;
+      records_are = All-weaker (IsRecordIn seat.seen.history seat.got) (IsRecordIn closed.history seat.got)
+          (λ item is. subst (λ h. IsRecordIn h seat.got item) (sym goes.history_is) (record_in_longer seat.seen.history goes.behind seat.got item is)) gets.items gets.records_are;
+      chapters_are = gets.chapters_are;
       given = subst (λ s. TakesAll takes x gets.items s) (sym same) gets.given;
     }

@@ -6,7 +6,8 @@ use Rattle.std.specs.Prelude.{Bool, All, vec_capacity}
 use Rattle.std.specs.List.{AllZip}
 use Rattle.std.proofs.lemmas.Option.{slice_get-get_or}
 use Rattle.std.proofs.lemmas.List.Elements.{All-cons}
-use Rattle.rb_ledger.specs.Seats.{WorkerSeat, ConsumerSeatValue}
+use Rattle.rb_ledger.specs.Seats.{WorkerSeat}
+use Rattle.rb_chapter_ledger.specs.ChapterSeats.{ChapterConsumerSeat}
 use Rattle.rb_workers.specs.declared.consumer_task.ConsumerTask.{ConsumerTask}
 use Rattle.rb_workers.specs.declared.opened.Opened.{Opened}
 use Rattle.rb_jobs.specs.declared.job.Job.{Job}
@@ -15,8 +16,9 @@ use Rattle.rb_seats.specs.SeatHelpers.{IsAt, AtRings}
 use Rattle.rb_workers.specs.inner.ConsumerTasks.{IsSameConsumer, IsConsumerTaskOf, IsSplitOff, Consumed, IsMergedInto, IsConsumed}
 use Rattle.rb_workers.specs.JobRuns.{own_jobs}
 use Rattle.rb_workers.specs.inner.WorkerRuns.{RunsOwnJobs}
+use Rattle.rb_consumer.specs.Keepers.{KeeperValue}
 use Rattle.rb_workers.specs.SeatRows.{worker_column, seat_rows}
-use Rattle.rb_workers.specs.Opened.{IsOpened}
+use Rattle.rb_workers.specs.Opened.{IsOpened, IsKeeperFor}
 use Rattle.rb_workers.specs.Sink.{SinkItem, GetsTaken}
 use Rattle.rb_workers.proofs.SinkItems.{gets_same}
 use Rattle.rb_workers.proofs.Numbered.{seats_length}
@@ -32,6 +34,10 @@ column_at position count k (o ∷ os) all below =
     subst (λ (l : List WorkerSeat). AllZip IsAt (o.ring ∷ map (λ x. x.ring) os) l) (sym (column_cons k row (seat_rows os) (get_or row k s) (slice_get-get_or row k s inside)))
     (first.seats_at k s inside, column_at position count k os (all_rest (IsOpened position count) (o ∷ os) os o refl all) below)
 
+-- a keeper for a ring, under other names
+keeper_at : (c d : ChapterConsumerSeat) (k l : KeeperValue) → d ≡ c → l ≡ k → IsKeeperFor c k → IsKeeperFor d l
+keeper_at c d k l ec ek is = subst (λ s. IsKeeperFor s l) (sym ec) (subst (IsKeeperFor c) (sym ek) is)
+
 pub takers_at : {S : Type 0} (position : S → ℕ) (count : ℕ) (opened : List (Opened S)) (consumers : List (ConsumerTask S)) → AllZip IsSplitOff opened consumers → All (IsOpened position count) opened → AllZip (IsConsumerTaskOf position) (map (λ o. o.ring) opened) consumers
 takers_at position count [] [] parts all = tt
 takers_at position count [] (t ∷ ts) parts all = absurd parts
@@ -39,7 +45,7 @@ takers_at position count (o ∷ os) [] parts all = absurd parts
 takers_at position count (o ∷ os) (t ∷ ts) parts all =
     let first = all_first (IsOpened position count) (o ∷ os) os o refl all in
     let p = parts.0 in (
-      (ap (λ (c : ConsumerSeatValue). c.tag) p.0 ∙ first.consumer_tag, ap (λ (c : ConsumerSeatValue). c.ring) p.0 ∙ first.consumer_at, ap position p.1 ∙ (first.sink_follows ∙ sym (ap (λ (c : ConsumerSeatValue). c.position) p.0))),
+      (ap (λ (c : ChapterConsumerSeat). c.tag) p.0 ∙ first.consumer_tag, ap (λ (c : ChapterConsumerSeat). c.ring) p.0 ∙ first.consumer_at, ap position p.1 ∙ (first.sink_follows ∙ sym (ap (λ (c : ChapterConsumerSeat). c.position) p.0)), keeper_at o.consumer t.consumer o.keeper t.keeper p.0 p.4 first.keeper_fits),
       takers_at position count os ts parts.1 (all_rest (IsOpened position count) (o ∷ os) os o refl all),
     )
 
@@ -75,15 +81,16 @@ rings_length xs = length-map xs (λ o. o.ring)
 abbrev HasEnded : {S : Type 0} → (S → ℕ) → (S → SinkItem → S → Type 0) → Opened S → ConsumerTask S → Type 0
 HasEnded position takes o u =
     IsSameConsumer o.consumer u.consumer × (position u.sink ≡ u.consumer.position)
-    × GetsTaken takes o.consumer.seen.history u.consumer.seen.history u.consumer.got o.sink u.sink
+    × GetsTaken takes o.consumer u.consumer u.consumer.seen.history o.sink u.sink × IsKeeperFor u.consumer u.keeper
 
 pub ends_at : {S : Type 0} (position : S → ℕ) (takes : S → SinkItem → S → Type 0) (opened back : List (Opened S)) (consumers ended : List (ConsumerTask S)) → AllZip IsSplitOff opened consumers → AllZip (Consumed position takes) consumers ended → AllZip IsMergedInto ended back → AllZip (IsConsumed position takes) opened back
 ends_at {S} position takes opened back consumers ended parts ends from =
     zip_through (HasEnded position takes) IsMergedInto (IsConsumed position takes)
     (λ o u n h f. (
       subst (λ c. IsSameConsumer o.consumer c) (sym f.0) h.0,
-      ap position f.1 ∙ (h.1 ∙ sym (ap (λ (c : ConsumerSeatValue). c.position) f.0)),
+      ap position f.1 ∙ (h.1 ∙ sym (ap (λ (c : ChapterConsumerSeat). c.position) f.0)),
       gets_same takes o.consumer o.consumer u.consumer n.consumer o.sink o.sink u.sink n.sink refl f.0 refl f.1 h.2,
+      keeper_at u.consumer n.consumer u.keeper n.keeper f.0 f.2 h.3,
     ))
     opened ended back
     (zip_through IsSplitOff (Consumed position takes) (HasEnded position takes)
@@ -91,6 +98,7 @@ ends_at {S} position takes opened back consumers ended parts ends from =
       subst (λ c. IsSameConsumer c u.consumer) p.0 e.0,
       e.1,
       gets_same takes t.consumer o.consumer u.consumer u.consumer t.sink o.sink u.sink u.sink (sym p.0) refl (sym p.1) refl e.3.gets,
+      e.4,
     ))
     opened consumers ended parts ends)
     from

@@ -1,18 +1,28 @@
 -- What rings have to be for a run: what a caller knows of each (own).
 use Rattle.std.specs.Prelude.{◌≡◌, ℕ, List, [], ◌∷◌, All, length, map}
 use Rattle.rb_history.specs.WorkerCounts.{numbers_below}
+use Rattle.rb_chapter_ledger.specs.ChapterSeats.{ChapterConsumerSeat}
+use Rattle.rb_consumer.specs.Keepers.{KeeperValue, handed_in}
 use Rattle.rb_seats.specs.SeatHelpers.{IsAt}
 use Rattle.rb_workers.specs.declared.opened.Opened.{Opened}
 use Rattle.rb_workers.specs.Sink.{SinkItem, GetsTaken}
 
--- the seats are one of each worker, in the order of their numbers; they and the consumer are the ring's; and the sink's position is the
--- consumer's
+-- the keeper is one for the consumer's ring: the chapter that it hands in next has no entries, since those that a turn of it lent are
+-- cleared first, and the ring's room and workers
+pub record IsKeeperFor (consumer : ChapterConsumerSeat) (k : KeeperValue) : Type 0 where
+  pub no_entries : (handed_in k).entries ≡ []
+  pub room_same : (handed_in k).room ≡ consumer.room
+  pub workers_same : (handed_in k).opening.setup.workers ≡ consumer.seen.setup.workers
+
+-- the seats are one of each worker, in the order of their numbers; they, the consumer and the keeper are the ring's; and the sink's
+-- position is the consumer's
 pub record IsOpened {S : Type 0} (position : S → ℕ) (count : ℕ) (o : Opened S) : Type 0 where
   pub numbered : map (λ s. s.worker) o.seats.items ≡ numbers_below count
   pub seats_at : All (IsAt o.ring) o.seats.items
   pub as_many : o.consumer.seen.setup.workers ≡ count
   pub consumer_tag : o.consumer.tag ≡ o.ring.tag
   pub consumer_at : o.consumer.ring ≡ o.ring.ring
+  pub keeper_fits : IsKeeperFor o.consumer o.keeper
   pub sink_follows : position o.sink ≡ o.consumer.position
 
 -- how many workers there are: none where there is no ring
@@ -24,6 +34,6 @@ workers_of (o ∷ more) = length o.seats.items
 abbrev pub AreOpened : {S : Type 0} → (S → ℕ) → List (Opened S) → Type 0
 AreOpened position opened = All (IsOpened position (workers_of opened)) opened
 
--- from the one state of a ring's consumer and sink to the other, the sink was given just what the consumer took
+-- from the one state of a ring's consumer and sink to the other, the sink was given just what the consumer took and handed out
 abbrev pub SinkGetsTaken : {S : Type 0} → (S → SinkItem → S → Type 0) → Opened S → Opened S → Type 0
-SinkGetsTaken takes old new = GetsTaken takes old.consumer.seen.history new.consumer.seen.history new.consumer.got old.sink new.sink
+SinkGetsTaken takes old new = GetsTaken takes old.consumer new.consumer new.consumer.seen.history old.sink new.sink

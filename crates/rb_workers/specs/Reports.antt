@@ -3,11 +3,15 @@ use Rattle.std.specs.Prelude.{◌≡◌, All, ℕ, ◌+◌, ◌<◌, nat_lt, not
 use Rattle.std.specs.List.{AllZip, count_by, list_any, sum_by}
 use Rattle.rb_helpers.specs.declared.done.Done.{Done}
 use Rattle.rb_helpers.specs.AnsweredCalls.{AllMayAnswer, notes_of}
-use Rattle.rb_history.specs.Calls.{consumer_now}
+use Rattle.rb_history.specs.RingModel.{Ring}
+use Rattle.rb_chapter.specs.ChapterCalls.{consumer_now}
 use Rattle.rb_interp.specs.RunTraces.{RunMatches, TellsLength, TraceBalances}
 use Rattle.rb_ledger.specs.Roles.{BeginsWith, book_of}
-use Rattle.rb_ledger.specs.Headline.{IsClosed}
-use Rattle.rb_ledger.specs.Seats.{WorkerSeat, ConsumerSeatValue, IsSameSeat, IsSameConsumerSeat}
+use Rattle.rb_ledger.specs.Seats.{WorkerSeat, IsSameSeat}
+use Rattle.rb_chapter_ledger.specs.ChapteredRing.{chaptered_ring, whole_of}
+use Rattle.rb_chapter_ledger.specs.ChapterSeats.{ChapterConsumerSeat}
+use Rattle.rb_chapter_ledger.specs.ChapterClosing.{IsClosedByChapters}
+use Rattle.rb_shared_ring.specs.SharedSeats.{IsSameChapterConsumer}
 use Rattle.rb_seats.specs.SeatLaws.{SeatBegins}
 use Rattle.rb_seats.specs.SeatRecords.{record_bytes, with_record_bytes}
 use Rattle.rb_seats.specs.SeatHelpers.{makes, submits, discards, fails, call_total, made_in, refused_in, submitted_in, discarded_in}
@@ -17,7 +21,7 @@ use Rattle.rb_workers.specs.declared.opened.Ended.{Ended}
 use Rattle.rb_workers.specs.declared.opened.Report.{Report}
 use Rattle.rb_workers.specs.declared.opened.JobFault.{JobFault}
 use Rattle.rb_workers.specs.JobRuns.{JobRun, RunsInTurn, own_jobs, own_runs, is_stray}
-use Rattle.rb_workers.specs.Opened.{AreOpened, SinkGetsTaken, workers_of}
+use Rattle.rb_workers.specs.Opened.{AreOpened, IsKeeperFor, SinkGetsTaken, workers_of}
 use Rattle.rb_workers.specs.SeatRows.{seat_rows, worker_column}
 use Rattle.rb_workers.specs.Sink.{SinkItem, GetsTaken}
 
@@ -41,12 +45,12 @@ abbrev pub RunsFirst : List Job → List WorkerSeat → List WorkerSeat → Type
 RunsFirst jobs old new = (runs : List JobRun) × (left : List Job) × (jobs ≡ map (λ run. run.job) runs ++ left) × RunsInTurn runs old new
 
 -- all came back, each at its place, and may be run again: the same rings, seats and consumers; what each seat and each consumer sees begins
--- with what it had seen; each sink was given just what its ring's consumer took; and each worker ran the first of its own jobs
+-- with what it had seen; each sink was given just what its ring's consumer took and handed out; and each worker ran the first of its own jobs
 pub record IsHandedBack {S : Type 0} (position : S → ℕ) (takes : S → SinkItem → S → Type 0) (opened : List (Opened S)) (jobs : List Job) (back : List (Opened S)) : Type 0 where
   pub rings_same : map (λ o. o.ring) back ≡ map (λ o. o.ring) opened
   pub seats_same : AllZip (AllZip IsSameSeat) (seat_rows opened) (seat_rows back)
   pub seats_begin : AllZip (AllZip SeatBegins) (seat_rows opened) (seat_rows back)
-  pub consumers_same : AllZip (λ o b. IsSameConsumerSeat o.consumer b.consumer) opened back
+  pub consumers_same : AllZip (λ o b. IsSameChapterConsumer o.consumer b.consumer) opened back
   pub consumers_begin : AllZip (λ o b. BeginsWith b.consumer.seen o.consumer.seen) opened back
   pub sinks_given : AllZip (SinkGetsTaken takes) opened back
   pub runs_again : AreOpened position back
@@ -55,18 +59,24 @@ pub record IsHandedBack {S : Type 0} (position : S → ℕ) (takes : S → SinkI
 
 -- ---- reports
 
+-- the ring at its end, with its whole history: the entries of the chapters that the consumer was handed, then those of the last one
+abbrev pub ring_at_end : {S : Type 0} → ChapterConsumerSeat → Ended S → Ring
+ring_at_end consumer ended = whole_of (chaptered_ring consumer.handed_out ended.closing.at_end)
+
 -- the ring that was opened was closed, with these seats and a consumer, which are those that were opened with it; its setup is the one that
--- they had seen, and its history begins with what each of them had seen; the tallies are the seats'; and the sink is the one that was opened
--- with it: it was given just the records that the closed ring's history took since, and its position is the consumer position there
+-- they had seen, and its whole history begins with what each of them had seen; the tallies are the seats'; the keeper is one for the ring
+-- still; and the sink is the one that was opened with it: it was given just the records that the whole history took since and the chapters
+-- that were handed out since, which with the last one are a ring's, and its position is the consumer position there
 pub record RingEnds {S : Type 0} (position : S → ℕ) (takes : S → SinkItem → S → Type 0) (o : Opened S) (ended : Ended S) (seats : List WorkerSeat) : Type 0 where
-  pub consumer : ConsumerSeatValue
+  pub consumer : ChapterConsumerSeat
   pub which : ended.closing.shared ≡ o.ring
-  pub closed : IsClosed ended.closing.at_end seats consumer
-  pub begins : BeginsWith (book_of ended.closing.at_end) o.consumer.seen
-  pub seats_begin : All (λ s. BeginsWith (book_of ended.closing.at_end) s.seen) o.seats.items
+  pub closed : IsClosedByChapters ended.closing.at_end seats consumer
+  pub begins : BeginsWith (book_of (ring_at_end consumer ended)) o.consumer.seen
+  pub seats_begin : All (λ s. BeginsWith (book_of (ring_at_end consumer ended)) s.seen) o.seats.items
   pub same_seats : AllZip IsSameSeat o.seats.items seats
-  pub same_consumer : IsSameConsumerSeat o.consumer consumer
-  pub sink_given : GetsTaken takes o.consumer.seen.history ended.closing.at_end.history consumer.got o.sink ended.sink
+  pub same_consumer : IsSameChapterConsumer o.consumer consumer
+  pub keeper_fits : IsKeeperFor consumer ended.keeper
+  pub sink_given : GetsTaken takes o.consumer consumer (ring_at_end consumer ended).history o.sink ended.sink
   pub sink_follows : position ended.sink ≡ consumer_now ended.closing.at_end
   pub tallies_are : ended.tallies.items ≡ map (λ s. s.tally) seats
 

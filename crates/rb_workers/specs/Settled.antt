@@ -1,7 +1,7 @@
 -- Whether all records that were made are submitted or discarded (own).
 use Rattle.std.specs.Prelude.{◌≡◌, ℕ, ◌+◌, ◌<◌, List, All}
-use Rattle.rb_history.specs.Counting.{counts_of}
 use Rattle.rb_history.specs.declared.tally.Tally.{Tally}
+use Rattle.rb_chapter_ring.specs.OpenedRing.{told_counts}
 use Rattle.rb_ledger.specs.Seats.{WorkerSeat}
 use Rattle.rb_seats.specs.SeatHelpers.{made_in, submitted_in, discarded_in}
 use Rattle.rb_workers.specs.declared.opened.Ended.{Ended}
@@ -19,7 +19,7 @@ EachSettled count seats = (worker : ℕ) → worker < count → AreSettled (work
 abbrev pub IsEven : Tally → Type 0
 IsEven t = t.made ≡ t.submitted + t.discarded
 
--- each of the ring's seats submitted or discarded all that it made, and no record is busy
+-- each of the ring's seats submitted or discarded all that it made, and by the counts that the closed ring tells no record is busy
 pub record EndsSettled {S : Type 0} (ended : Ended S) : Type 0 where
   pub tallies_even : All IsEven ended.tallies.items
-  pub none_busy : (counts_of ended.closing.at_end.history).busy ≡ 0
+  pub none_busy : (told_counts ended.closing.at_end).busy ≡ 0

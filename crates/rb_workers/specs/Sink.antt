@@ -1,28 +1,55 @@
--- What a sink is given: the records that a ring's consumer took, one by one (own).
-use Rattle.std.specs.Prelude.{◌≡◌, ℕ, true, List, [], ◌∷◌, ◌++◌, All, Option, Some, None, length, map}
+-- What a sink is given: the records that a ring's consumer took and the chapters that it handed out, one by one (own).
+use Rattle.std.specs.Prelude.{◌≡◌, ℕ, true, List, [], ◌∷◌, ◌++◌, All, Option, Some, None, length}
 use Rattle.std.specs.List.{Contains, filter_map}
 use Rattle.std.specs.FinMap.{get}
-use Rattle.rb_header.specs.TapeBytes.{Item, item_position}
+use Rattle.rb_header.specs.Span.{span}
+use Rattle.rb_header.specs.TapeBytes.{Item}
 use Rattle.rb_header.specs.TapeBytes.Item.{Event as TapeEvent, Skip as TapeSkip}
 use Rattle.rb_history.specs.declared.entries.Entry.{Entry}
 use Rattle.rb_history.specs.declared.entries.Entry.TheVariants.{Res, Take}
 use Rattle.rb_history.specs.History.{is_submitted_at, is_discarded_at}
 use Rattle.rb_history.specs.RingModel.{Contents, HasLength}
+use Rattle.rb_chapter.specs.Chapters.{Chapter as RingChapter}
+use Rattle.rb_chapter_ledger.specs.ChapterSeats.{ChapterConsumerSeat}
 
--- an event that was taken, with the worker that made its record, the record's number among that worker's, and its bytes; or a discarded
--- record that was passed over, with its length
+-- an event that was taken, with the worker that made its record, the record's number among that worker's, and its bytes; a discarded
+-- record that was passed over, with its length; or a chapter that the ring handed out
 pub data SinkItem : Type 0 where
   Event : (position worker serial : ℕ) (bytes : List ℕ) → SinkItem
   Skip : (position len : ℕ) → SinkItem
+  Chapter : (chapter : RingChapter) → SinkItem
 
--- the item as a record of the tape
-abbrev pub tape_item : SinkItem → Item
-tape_item (Event position worker serial bytes) = TapeEvent position bytes
-tape_item (Skip position len) = TapeSkip position len
+-- the item as a record of the tape, where it is a record
+abbrev pub tape_item : SinkItem → Option Item
+tape_item (Event position worker serial bytes) = Some (TapeEvent position bytes)
+tape_item (Skip position len) = Some (TapeSkip position len)
+tape_item (Chapter chapter) = None
 
--- where the item's record stands
-abbrev pub sink_position : SinkItem → ℕ
-sink_position item = item_position (tape_item item)
+-- how far the item moves a sink's position
+abbrev pub sink_span : SinkItem → ℕ
+sink_span (Event position worker serial bytes) = span (length bytes)
+sink_span (Skip position len) = span len
+sink_span (Chapter chapter) = 0
+
+-- where the item's record stands, where it is a record
+abbrev pub sink_position : SinkItem → Option ℕ
+sink_position (Event position worker serial bytes) = Some position
+sink_position (Skip position len) = Some position
+sink_position (Chapter chapter) = None
+
+-- the positions of the records among the items, in their order
+abbrev pub positions_among : List SinkItem → List ℕ
+positions_among items = filter_map sink_position items
+
+-- the chapter that the item is, where it is one
+abbrev pub sink_chapter : SinkItem → Option RingChapter
+sink_chapter (Event position worker serial bytes) = None
+sink_chapter (Skip position len) = None
+sink_chapter (Chapter chapter) = Some chapter
+
+-- the chapters among the items, in their order
+abbrev pub chapters_among : List SinkItem → List RingChapter
+chapters_among items = filter_map sink_chapter items
 
 -- the sink took the items one by one, in this order, and so came from the one value to the other
 abbrev pub TakesAll : {S : Type 0} → (S → SinkItem → S → Type 0) → S → List SinkItem → S → Type 0
@@ -38,16 +65,19 @@ take_of _ = None
 abbrev pub takes_in : List Entry → List ℕ
 takes_in h = filter_map take_of h
 
--- The item is a record of the history: an event one that was submitted, with the worker, the serial and the length that it was granted with,
--- and its bytes are those that the consumer got there; a skip a discarded one, with the length that it was granted with.
+-- Where the item is a record, it is one of the history: an event one that was submitted, with the worker, the serial and the length that it
+-- was granted with, and its bytes are those that the consumer got there; a skip a discarded one, with the length that it was granted with.
 abbrev pub IsRecordIn : List Entry → Contents → SinkItem → Type 0
 IsRecordIn h got (Event p w k bytes) = Contains h (Res w k (length bytes) p) × (is_submitted_at h p ≡ true) × (get got p ≡ Some bytes)
 IsRecordIn h got (Skip p n) = HasLength h p n × (is_discarded_at h p ≡ true)
+IsRecordIn h got (Chapter chapter) = Unit {0}
 
--- Where the history went on from the first to the second, the sink was given just the records that were taken meanwhile, one by one and in the
--- order in which they were taken; `got` are the bytes that the consumer got by then.
-pub record GetsTaken {S : Type 0} (takes : S → SinkItem → S → Type 0) (before after : List Entry) (got : Contents) (old new : S) : Type 0 where
+-- Where the consumer's seat went on from `before` to `after`, and the whole history to this one, the sink was given just the records that
+-- were taken meanwhile, one by one, in the order in which they were taken and with the bytes that the consumer got; and just the chapters
+-- that were handed out meanwhile, each once and in order.
+pub record GetsTaken {S : Type 0} (takes : S → SinkItem → S → Type 0) (before after : ChapterConsumerSeat) (history : List Entry) (old new : S) : Type 0 where
   pub items : List SinkItem
-  pub taken_are : takes_in after ≡ takes_in before ++ map sink_position items
-  pub records_are : All (IsRecordIn after got) items
+  pub taken_are : takes_in history ≡ takes_in before.seen.history ++ positions_among items
+  pub records_are : All (IsRecordIn history after.got) items
+  pub chapters_are : after.handed_out ≡ before.handed_out ++ chapters_among items
   pub given : TakesAll takes old items new

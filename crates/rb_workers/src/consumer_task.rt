@@ -3,34 +3,40 @@
 ghost use Rattle.std.specs.Prelude.{◌≡◌, ℕ};
 ghost use Rattle.rb_header.specs.TapeBytes.{AreItemsFrom, end_of};
 ghost use Rattle.rb_consumer.specs.Items.{tape_items};
+ghost use Rattle.rb_workers.specs.Opened.{IsKeeperFor};
 ghost use Rattle.rb_workers.specs.Sink.{TakesAll};
-ghost use Rattle.rb_workers.specs.inner.ConsumerTasks.{IsConsumerTaskOf, Consumed, items_among};
+ghost use Rattle.rb_workers.specs.inner.ConsumerTasks.{IsConsumerTaskOf, IsSameConsumer, Consumed, HasGiven, items_among};
 
 use crate::sink::Sink;
-use rb_consumer::{Batch, Item, Items};
-use rb_ledger::{ConsumerSeat, Foreign, Seat, SharedRing, WaitBackoff};
+use rb_consumer::{Batch, Item, Items, Keeper};
+use rb_ledger::{Foreign, WaitBackoff};
 use rb_seats::Stock;
+use rb_shared_ring::{ConsumerSeat, Seat, SharedRing};
 use std::sync::Wait;
 use std::sync::atomic::{AtomicBool, Ordering};
 
 /// How many records a consumer takes at most under one holding of its ring's lock.
 pub(crate) const BATCH: usize = 64;
 
-/// A ring's consumer, what it gives the records to, the place to which the ring's seats come back, and the records that it took last.
+/// A ring's consumer and its keeper, what the records and chapters are given to, the place to which the ring's seats come back, and the
+/// records that were taken last.
 #[derive(Drop)]
 pub(crate) struct ConsumerTask<S> {
     pub(crate) consumer: ConsumerSeat,
+    pub(crate) keeper: Keeper,
     pub(crate) sink: S,
     pub(crate) returned_seats: Vec<Seat>,
     pub(crate) batch: Batch,
 }
 
 impl<S: Sink> ConsumerTask<S> {
-    // Takes as many records as there are and the batch has room for, gives them to the sink, and answers how many they are.
+    // Hands the ring's chapter out where it is due, then takes as many records as there are and the batch has room for. Gives all of it to the
+    // sink, and answers how many records they are.
     fn take_batch<R: Wait>(&mut self, rt: &R, ring: &SharedRing) -> usize
         requires ready { IsConsumerTaskOf S.position_of ring.now self.old }
         ensures taken { Consumed S.position_of S.takes self.old self.new }
     {
+        turn_chapter(rt, ring, &mut self.consumer, &mut self.keeper, &mut self.sink);
         match self.batch.fill(rt, ring, &mut self.consumer) {
             Ok(count) => {
                 give_all(&mut self.sink, self.batch.items());
@@ -43,6 +49,7 @@ impl<S: Sink> ConsumerTask<S> {
     // Hands the sheets of the records that were taken last to the stock. One that finds no place there is dropped.
     fn hand_on<K: Stock>(&mut self, stock: &K, count: usize)
         ensures consumer { self.new.consumer ≡ self.old.consumer }
+        ensures keeper { self.new.keeper ≡ self.old.keeper }
         ensures sink { self.new.sink ≡ self.old.sink }
         ensures seats { self.new.returned_seats ≡ self.old.returned_seats }
     {
@@ -52,6 +59,30 @@ impl<S: Sink> ConsumerTask<S> {
             };
             let _dropped = stock.put(sheet);
         }
+    }
+}
+
+// Gives the sink the ring's chapter, where it is due to be handed out. A keeper that does not fit is passed over: one for the ring does, up
+// to the last number that a chapter has.
+fn turn_chapter<R: Wait, S: Sink>(
+    rt: &R,
+    ring: &SharedRing,
+    consumer: &mut ConsumerSeat,
+    keeper: &mut Keeper,
+    sink: &mut S,
+)
+    requires ring { (consumer.old.tag ≡ ring.now.tag) × (consumer.old.ring ≡ ring.now.ring) }
+    requires keeper { IsKeeperFor consumer.old keeper.old }
+    ensures same { IsSameConsumer consumer.old consumer.new }
+    ensures setup { consumer.new.seen.setup ≡ consumer.old.seen.setup }
+    ensures stays { (consumer.new.position ≡ consumer.old.position) × (S.position_of sink.new ≡ S.position_of sink.old) }
+    ensures given { HasGiven S.takes consumer.old consumer.new sink.old sink.new }
+    ensures keeper { IsKeeperFor consumer.new keeper.new }
+{
+    match keeper.turn(rt, ring, consumer) {
+        Ok(Some(chapter)) => sink.chapter(chapter),
+        Ok(None) => {}
+        Err(_) => {}
     }
 }
 

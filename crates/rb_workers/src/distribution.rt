@@ -10,7 +10,7 @@ use crate::consumer_task::ConsumerTask;
 use crate::opened::Opened;
 use crate::workers::Worker;
 use rb_consumer::Batch;
-use rb_ledger::{Seat, SharedRing};
+use rb_shared_ring::{Seat, SharedRing};
 
 // Gives a ring's seats to the workers, one to each.
 fn distribute_ring(returned_seats: &mut Vec<Seat>, workers: &mut [Worker])
@@ -62,6 +62,7 @@ pub(crate) fn split<S: Drop>(
             ring,
             mut seats,
             consumer,
+            keeper,
             sink,
         } = one;
         let Some(batch) = batches.pop() else {
@@ -71,6 +72,7 @@ pub(crate) fn split<S: Drop>(
         rings.push_reserved(ring);
         consumers.push_reserved(ConsumerTask {
             consumer,
+            keeper,
             sink,
             returned_seats: seats,
             batch,
@@ -100,6 +102,7 @@ pub(crate) fn merge<S: Drop>(
         };
         let ConsumerTask {
             consumer,
+            keeper,
             sink,
             mut returned_seats,
             batch: _,
@@ -109,6 +112,7 @@ pub(crate) fn merge<S: Drop>(
             ring,
             seats: returned_seats,
             consumer,
+            keeper,
             sink,
         };
         if merged.insert(0, one).is_err() {

@@ -25,8 +25,8 @@ use crossbeam_queue::ArrayQueue;
 use rb_consumer::Batch;
 use rb_interp::RunFault;
 use rb_jobs::{Gate, Job, JobAnswer};
-use rb_ledger::SharedRing;
 use rb_lend::Sheet;
+use rb_shared_ring::SharedRing;
 use std::alloc::Global;
 use std::sync::Wait;
 use std::thread::Threads;
@@ -185,16 +185,20 @@ fn run_known<R: Threads + Wait + Sync, S: Sink + Send + Drop, G: Gate + Sync>(
 ///
 /// Each worker runs its own jobs in the order of the list, at its seats, one at each ring in their order: ring k of a program is the k-th,
 /// and so is ring k of the report.
-/// Each ring's consumer gives each record that it takes to the ring's sink. When all workers have ended, what is left is taken, up to the
-/// first record that is still busy. The gate is called before each helper call, and once more after a worker's last job, with the number
-/// of helper calls that the worker has finished; so a worker without jobs calls it once, with 0. Where no thread can be made its work is
-/// done on the calling thread, the workers' first.
+///
+/// Each ring's consumer gives each record that it takes to the ring's sink, and each chapter that the ring's keeper hands out: the keeper
+/// looks at the ring's chapter before records are taken. A worker that comes when the chapter has no room gets no record, and that
+/// failure is unlogged. When all workers have ended, what is left is taken, up to the first record that is still busy.
+///
+/// The gate is called before each helper call, and once more after a worker's last job, with the number of helper calls that the worker has
+/// finished; so a worker without jobs calls it once, with 0. Where no thread can be made its work is done on the calling thread, the
+/// workers' first.
 ///
 /// `UnknownRing` comes before `UnknownWorker`, both before anything runs, and all is handed back as it was. `Memory` is returned where
 /// there is none to begin, or none for a worker's next job: that worker then runs no more, the others run on, and all is handed back as
 /// it then is, with no ring closed.
 ///
-/// It takes memory for each job and each seat, and for each worker's trace and answers as it runs.
+/// It takes memory for each job and each seat, and for each worker's trace and answers as it runs. A ring takes none.
 pub fn run_jobs<R: Threads + Wait + Sync, S: Sink + Send + Drop, G: Gate + Sync>(
     rt: &R,
     alloc: Global,

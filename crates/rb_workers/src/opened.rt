@@ -1,19 +1,24 @@
 //! What jobs run over, and what comes of them.
 
-ghost use Rattle.std.specs.Prelude.{◌≡◌, ◌↔◌, All, IfOk, IsErrOf};
+ghost use Rattle.std.specs.Prelude.{◌≡◌, ◌↔◌, All, IfOk, IsErrOf, false};
 ghost use Rattle.rb_history.specs.RingModel.{IsRingSize, IsStartPosition, IsWorkerCount};
-ghost use Rattle.rb_ledger.specs.Seats.{HasSettledAll, fresh_book, fresh_consumer, fresh_seats};
+ghost use Rattle.rb_chapter.specs.Chapters.{IsChapterRoom, empty_chapter};
+ghost use Rattle.rb_ledger.specs.Seats.{HasSettledAll, fresh_book, fresh_seats};
+ghost use Rattle.rb_chapter_ledger.specs.ChapterSeats.{fresh_chapter_consumer};
 ghost use Rattle.rb_workers.specs.Opened.{IsOpened};
 
 use crate::sink::Sink;
-use rb_history::OpenFault;
+use rb_chapter::Chapter;
+use rb_consumer::Keeper;
+use rb_history::Tally;
 use rb_interp::RunFault;
-use rb_ledger::{Closing, ConsumerSeat, Seat, SharedRing, Tally, open};
+use rb_shared_ring::{Closing, ConsumerSeat, OpenFault, Seat, SharedRing, open};
 use std::alloc::Global;
 use std::sync::Wait;
 use thiserror::Error;
 
-/// A ring that was opened, with the seats of its workers in the order of their numbers, its consumer, and what takes its records.
+/// A ring that was opened, with the seats of its workers in the order of their numbers, its consumer, the keeper of the chapter in which it
+/// goes on, and what takes its records and its chapters.
 #[derive(Drop)]
 pub struct Opened<S> {
     /// The ring.
@@ -22,12 +27,17 @@ pub struct Opened<S> {
     pub seats: Vec<Seat>,
     /// The consumer's seat.
     pub consumer: ConsumerSeat,
-    /// What takes the records.
+    /// What hands the ring's chapters out in turn: its own chapter has the ring's room and workers, and no entries but those that a turn of it
+    /// lent.
+    pub keeper: Keeper,
+    /// What takes the records and the chapters.
     pub sink: S,
 }
 
 impl<S: Sink + Drop> Opened<S> {
-    /// Opens a ring, as `rb_ledger::open` does, with a sink that begins where the ring does.
+    /// Opens a ring, as `rb_shared_ring::open` does, with a sink that begins where the ring does. Its chapters have room for `room` entries, 8
+    /// to 1,048,576, and are handed out `margin` entries before that room could be used up: those that the workers may add until the
+    /// consumer comes round again.
     pub fn open<R: Wait>(
         rt: &R,
         alloc: Global,
@@ -35,26 +45,38 @@ impl<S: Sink + Drop> Opened<S> {
         size: u64,
         start: u64,
         workers: u32,
+        room: u32,
+        margin: u32,
         sink: S,
     ) -> Result<Opened<S>, OpenFault>
         requires begins { S.position_of sink ≡ start }
         ensures opened { IfOk result (IsOpened S.position_of workers) }
         ensures tag { IfOk result (λ o. o.ring.tag ≡ tag) }
         ensures seats { IfOk result (λ o. o.seats.items ≡ fresh_seats tag o.ring.ring (fresh_book size start workers) 0 workers) }
-        ensures consumer { IfOk result (λ o. o.consumer ≡ fresh_consumer tag o.ring.ring (fresh_book size start workers)) }
+        ensures consumer { IfOk result (λ o. o.consumer ≡ fresh_chapter_consumer tag o.ring.ring room (fresh_book size start workers)) }
+        ensures keeper { IfOk result (λ o. o.keeper ≡ record { chapter = empty_chapter room workers; margin = margin; is_lent = false }) }
         ensures sink { IfOk result (λ o. o.sink ≡ sink) }
         ensures nothing_made { IfOk result (λ o. All HasSettledAll o.seats.items) }
         ensures size { IsErrOf result OpenFault.Size ↔ ¬ IsRingSize size }
         ensures start { IsErrOf result OpenFault.Start ↔ (IsRingSize size × ¬ IsStartPosition start) }
         ensures workers { IsErrOf result OpenFault.Workers ↔ (IsRingSize size × IsStartPosition start × ¬ IsWorkerCount workers) }
+        ensures chapter { IsErrOf result OpenFault.Chapter ↔ (IsRingSize size × IsStartPosition start × IsWorkerCount workers × ¬ IsChapterRoom room) }
     {
-        match open(rt, alloc, tag, size, start, workers) {
-            Ok((ring, seats, consumer)) => Ok(Opened {
-                ring,
-                seats,
-                consumer,
-                sink,
-            }),
+        match open(rt, alloc, tag, size, start, workers, room) {
+            Ok((ring, seats, consumer)) => {
+                consumer.facts();
+                let Ok(chapter) = Chapter::new(alloc, room, workers) else {
+                    return Err(OpenFault::Memory);
+                };
+                let keeper = Keeper::with_margin(chapter, margin);
+                Ok(Opened {
+                    ring,
+                    seats,
+                    consumer,
+                    keeper,
+                    sink,
+                })
+            }
             Err(fault) => Err(fault),
         }
     }
@@ -77,11 +99,13 @@ pub enum JobFault {
 /// A ring at its end.
 #[derive(Drop)]
 pub struct Ended<S> {
-    /// The closed ring.
+    /// The closed ring, with its last chapter.
     pub closing: Closing,
     /// The numbers of the ring's seats, in the order of the workers.
     pub tallies: Vec<Tally>,
-    /// What took the records.
+    /// What handed the ring's chapters out: it has a chapter of the ring's room and workers, to be used again.
+    pub keeper: Keeper,
+    /// What took the records and the chapters.
     pub sink: S,
 }
 

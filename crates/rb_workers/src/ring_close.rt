@@ -8,7 +8,8 @@ ghost use Rattle.rb_workers.specs.inner.RingEnds.{Closes};
 
 use crate::opened::{Ended, Opened};
 use crate::sink::Sink;
-use rb_ledger::{Seat, Tally};
+use rb_history::Tally;
+use rb_shared_ring::Seat;
 use std::sync::Wait;
 
 // A seat's numbers.
@@ -44,6 +45,7 @@ fn close_one<R: Wait, S: Sink>(rt: &R, one: Opened<S>, row: Vec<Tally>) -> Ended
         ring,
         seats,
         consumer,
+        keeper,
         sink,
     } = one;
     let tallies = tallies_of(&seats, row);
@@ -51,6 +53,7 @@ fn close_one<R: Wait, S: Sink>(rt: &R, one: Opened<S>, row: Vec<Tally>) -> Ended
         Ok(closing) => Ended {
             closing,
             tallies,
+            keeper,
             sink,
         },
         Err(_) => unreachable!(),

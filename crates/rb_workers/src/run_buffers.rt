@@ -12,8 +12,9 @@ use crossbeam_queue::ArrayQueue;
 use rb_consumer::Batch;
 use rb_interp::RunFault;
 use rb_jobs::JobAnswer;
-use rb_ledger::{SharedRing, Tally};
+use rb_history::Tally;
 use rb_lend::Sheet;
+use rb_shared_ring::SharedRing;
 use std::alloc::{AllocError, Global};
 
 /// Empty places for all that a run moves and makes, and the workers, which have no seats yet.

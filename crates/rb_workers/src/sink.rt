@@ -1,12 +1,14 @@
-//! What records are given to.
+//! What records and chapters are given to.
 
 ghost use Rattle.std.specs.Prelude.{◌≡◌, ◌+◌, ◌<◌, ◌≤◌, ◌^◌, ℕ, length};
 ghost use Rattle.rb_header.specs.Span.{span};
 ghost use Rattle.rb_workers.specs.Sink.{SinkItem};
-ghost use Rattle.rb_workers.specs.Sink.SinkItem.{Event, Skip};
+ghost use Rattle.rb_workers.specs.Sink.SinkItem.{Event, Skip, Chapter as ChapterItem};
 
-/// What a ring's consumer gives its records to, one by one and in the order of their positions. It has a position, which moves with the
-/// consumer's.
+use rb_chapter::Chapter;
+
+/// What a ring's consumer gives its records to, one by one and in the order of their positions, and each chapter that the ring hands out. It
+/// has a position, which moves with the consumer's.
 pub trait Sink {
     ghost position_of: { Self → ℕ };
 
@@ -31,4 +33,10 @@ pub trait Sink {
         requires end { pos + span n ≤ 2 ^ 62 }
         ensures moved { position_of self.new ≡ position_of self.old + span n }
         ensures took { takes self.old (Skip pos n) self.new };
+
+    /// Looks at a chapter that the ring handed out, whole, which is cleared and used again after the call. The chapters come in the order of
+    /// their numbers; with the last one, which the closed ring has, they bind to the ring's whole history.
+    fn chapter(&mut self, chapter: &Chapter)
+        ensures stays { position_of self.new ≡ position_of self.old }
+        ensures took { takes self.old (ChapterItem chapter.now) self.new };
 }

@@ -6,8 +6,8 @@ ghost use Rattle.rb_workers.specs.JobRuns.{own_jobs};
 ghost use Rattle.rb_workers.specs.inner.WorkerRuns.{HasSpareSeat, IsOneMore, IsOneAnswerMore, IsReady, GivesBack, RunsJobs, RunsOne};
 
 use rb_jobs::{Gate, Job, JobAnswer, run_job};
-use rb_ledger::{Seat, SharedRing};
 use rb_seats::Stock;
+use rb_shared_ring::{Seat, SharedRing};
 use std::alloc::Global;
 use std::mem;
 use std::sync::Wait;

@@ -7,7 +7,7 @@ use rb_cfg::shape;
 use rb_decode::from_text;
 use rb_header::span;
 use rb_verifier::{Verified, verify};
-use rb_workers::{Gate, Job, Opened, Report, Sink, run_jobs};
+use rb_workers::{Chapter, Gate, Job, Opened, Report, Sink, run_jobs};
 use std::alloc::Global;
 use std::process::Abort;
 use std::sync::Wait;
@@ -38,12 +38,13 @@ pub(crate) const SUBMIT_FULL: &str =
     7a001000ffffffff bf01000000000000 b702000000000000 8500000084000000
     b700000000000000 9500000000000000";
 
-/// A sink that counts, for each first byte, the events that begin so and go on with zeros, and all others.
+/// A sink that counts, for each first byte, the events that begin so and go on with zeros, all others, and the chapters.
 #[derive(Drop)]
 pub(crate) struct Counter {
     pub(crate) position: u64,
     pub(crate) events: [u64; 256],
     pub(crate) others: u64,
+    pub(crate) chapters: u64,
 }
 
 impl Counter {
@@ -54,6 +55,7 @@ impl Counter {
             position: 0,
             events: [0; 256],
             others: 0,
+            chapters: 0,
         }
     }
 }
@@ -70,12 +72,11 @@ fn are_zeros(bytes: &[u8]) -> bool {
 
 impl Sink for Counter {
     ghost use Rattle.std.specs.Prelude.{◌≡◌, ◌+◌, ℕ};
-    ghost use Rattle.rb_header.specs.TapeBytes.{item_span};
-    ghost use Rattle.rb_workers.specs.Sink.{SinkItem, tape_item};
+    ghost use Rattle.rb_workers.specs.Sink.{SinkItem, sink_span};
 
     ghost position_of = { λ c. c.position };
 
-    ghost takes = { λ old item new. new.position ≡ old.position + item_span (tape_item item) };
+    ghost takes = { λ old item new. new.position ≡ old.position + sink_span item };
 
     fn position(&self) -> u64 {
         self.position
@@ -94,6 +95,10 @@ impl Sink for Counter {
     fn skipped(&mut self, pos: u64, n: u32) {
         self.others = self.others.saturating_add(1);
         self.position = pos + span(n);
+    }
+
+    fn chapter(&mut self, _: &Chapter) {
+        self.chapters = self.chapters.saturating_add(1);
     }
 }
 
@@ -190,21 +195,36 @@ pub(crate) fn job<'j>(worker: u32, program: &'j Verified, ctx: &'j [u8]) -> Job<
     }
 }
 
-// A ring of 4,096 bytes for so many workers.
-fn opened<R: Wait + Abort>(rt: &R, alloc: Global, tag: u64, workers: u32) -> Opened<Counter>
+/// How many entries a chapter has room for where a command is given no room.
+pub(crate) const ROOM: u32 = 65_536;
+
+// A ring of 4,096 bytes for so many workers, whose chapters have this room.
+fn opened<R: Wait + Abort>(
+    rt: &R,
+    alloc: Global,
+    tag: u64,
+    workers: u32,
+    room: u32,
+) -> Opened<Counter>
     ensures { IsOpened (λ c. c.position) workers result }
 {
-    match Opened::open(rt, alloc, tag, 4096, 0, workers, Counter::new()) {
+    let sink = Counter::new();
+    match Opened::open(rt, alloc, tag, 4096, 0, workers, room, room / 16, sink) {
         Ok(opened) => opened,
         Err(_) => rt.panic("no ring"),
     }
 }
 
-/// One ring, with tag 0.
-pub(crate) fn one_ring<R: Wait + Abort>(rt: &R, alloc: Global, workers: u32) -> Vec<Opened<Counter>>
+/// One ring, with tag 0, whose chapters have this room.
+pub(crate) fn one_ring<R: Wait + Abort>(
+    rt: &R,
+    alloc: Global,
+    workers: u32,
+    room: u32,
+) -> Vec<Opened<Counter>>
     ensures { AreOpened (λ c. c.position) result.items }
 {
-    let first = opened(rt, alloc, 0, workers);
+    let first = opened(rt, alloc, 0, workers, room);
     match vec![in alloc; first] {
         Ok(rings) => rings,
         Err(_) => rt.panic("no memory"),
@@ -219,8 +239,8 @@ pub(crate) fn two_rings<R: Wait + Abort>(
 ) -> Vec<Opened<Counter>>
     ensures { AreOpened (λ c. c.position) result.items }
 {
-    let first = opened(rt, alloc, 0, workers);
-    let second = opened(rt, alloc, 1, workers);
+    let first = opened(rt, alloc, 0, workers, ROOM);
+    let second = opened(rt, alloc, 1, workers, ROOM);
     match vec![in alloc; first, second] {
         Ok(rings) => rings,
         Err(_) => rt.panic("no memory"),

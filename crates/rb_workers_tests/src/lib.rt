@@ -1,6 +1,9 @@
-//! Tests of jobs on threads, by public calls alone: runs that come to a report, runs that are refused, and sheets that are used again.
+//! Tests of jobs on threads, by public calls alone: runs that come to a report, runs that are refused, chapters that rings hand out, and
+//! sheets that are used again.
 #![tactic(auto)]
 
+#[cfg(test)]
+mod chapters;
 #[cfg(test)]
 mod given;
 #[cfg(test)]

@@ -3,8 +3,8 @@
 ghost use Rattle.std.specs.Prelude.{◌≡◌};
 ghost use Rattle.rb_workers.specs.Opened.{AreOpened};
 
-use crate::given::{Counter, Free, SUBMIT_42, job, one_ring, verified};
-use rb_ledger::OpenFault;
+use crate::given::{ROOM, SUBMIT_42, Counter, Free, job, one_ring, verified};
+use rb_shared_ring::OpenFault;
 use rb_workers::{Gate, Job, JobFault, Opened, run_jobs};
 use std::alloc::Global;
 use std::process::Abort;
@@ -48,7 +48,7 @@ fn an_unknown_ring_is_told_before_an_unknown_worker(rt: HostRuntime) {
     let program = verified(&rt, alloc, SUBMIT_42, 2);
     let jobs = [job(5, &program, &CONTEXT)];
     let gate = Free::new();
-    let (fault, back) = refused(&rt, alloc, one_ring(&rt, alloc, 2), &jobs, &gate);
+    let (fault, back) = refused(&rt, alloc, one_ring(&rt, alloc, 2, ROOM), &jobs, &gate);
     assert_eq!(rt; fault, JobFault::UnknownRing);
     is_untouched(&rt, &back, 2);
     assert_eq!(rt; gate.others.load(Ordering::SeqCst), 0);
@@ -60,7 +60,7 @@ fn an_unknown_worker_is_told(rt: HostRuntime) {
     let program = verified(&rt, alloc, SUBMIT_42, 1);
     let jobs = [job(1, &program, &CONTEXT), job(2, &program, &CONTEXT)];
     let gate = Free::new();
-    let (fault, back) = refused(&rt, alloc, one_ring(&rt, alloc, 2), &jobs, &gate);
+    let (fault, back) = refused(&rt, alloc, one_ring(&rt, alloc, 2, ROOM), &jobs, &gate);
     assert_eq!(rt; fault, JobFault::UnknownWorker);
     is_untouched(&rt, &back, 2);
     assert_eq!(rt; gate.first.load(Ordering::SeqCst), 0);
@@ -94,13 +94,19 @@ fn what_comes_back_without_memory_runs_again(rt: HostRuntime) {
     let alloc = rt.alloc();
     let program = verified(&rt, alloc, SUBMIT_42, 1);
     let jobs = [job(0, &program, &CONTEXT), job(1, &program, &CONTEXT)];
-    let ended = run_again(&rt, alloc, one_ring(&rt, alloc, 2), &jobs);
+    let ended = run_again(&rt, alloc, one_ring(&rt, alloc, 2, ROOM), &jobs);
     assert_eq!(rt; ended, (0, 1));
 }
 
 // Why no such ring is opened.
-fn open_fault<R: Wait + Abort>(rt: &R, alloc: Global, size: u64, workers: u32) -> OpenFault {
-    match Opened::open(rt, alloc, 7, size, 0, workers, Counter::new()) {
+fn open_fault<R: Wait + Abort>(
+    rt: &R,
+    alloc: Global,
+    size: u64,
+    workers: u32,
+    room: u32,
+) -> OpenFault {
+    match Opened::open(rt, alloc, 7, size, 0, workers, room, 0, Counter::new()) {
         Ok(_) => rt.panic("a ring"),
         Err(fault) => fault,
     }
@@ -109,15 +115,17 @@ fn open_fault<R: Wait + Abort>(rt: &R, alloc: Global, size: u64, workers: u32) -
 #[test]
 fn a_ring_opens_within_bounds_alone(rt: HostRuntime) {
     let rows = [
-        (4095, 1, OpenFault::Size),
-        (4096, 0, OpenFault::Workers),
-        (4096, 257, OpenFault::Workers),
+        (4095, 1, 8, OpenFault::Size),
+        (4096, 0, 8, OpenFault::Workers),
+        (4096, 257, 7, OpenFault::Workers),
+        (4096, 1, 7, OpenFault::Chapter),
+        (4096, 1, 1_048_577, OpenFault::Chapter),
     ];
-    for (size, workers, want) in rows {
+    for (size, workers, room, want) in rows {
         assert_eq!(rt;
-            open_fault(&rt, rt.alloc(), size, workers),
+            open_fault(&rt, rt.alloc(), size, workers, room),
             want,
-            "at {size} {workers}"
+            "at {size} {workers} {room}"
         );
     }
 }

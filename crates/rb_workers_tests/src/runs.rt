@@ -3,16 +3,18 @@
 ghost use Rattle.std.specs.Prelude.{◌<◌};
 
 use crate::given::{
-    Counter, Free, Holding, OUTPUT_CONTEXT, OUTPUT_TO_SECOND, SUBMIT_42, job, one_ring, report,
-    two_rings, verified,
+    Counter, Free, Holding, OUTPUT_CONTEXT, OUTPUT_TO_SECOND, ROOM, SUBMIT_42, job, one_ring,
+    report, two_rings, verified,
 };
+use rb_history::Tally;
 use rb_interp::RunFault;
-use rb_ledger::Tally;
 use rb_verifier::Verified;
 use rb_workers::{Ended, Job, Opened, Report};
 use std::alloc::Global;
 use std::process::Abort;
+use std::sync::Wait;
 use std::sync::atomic::Ordering;
+use std::thread::Threads;
 
 /// A context of 16 bytes.
 const CONTEXT: [u8; 16] = [1, 0, 0, 0, 0, 0, 0, 0, 9, 10, 11, 12, 13, 14, 15, 16];
@@ -75,7 +77,8 @@ fn four_workers_submit_a_hundred_times_each(rt: HostRuntime) {
     let alloc = rt.alloc();
     let program = verified(&rt, alloc, SUBMIT_42, 1);
     let jobs = jobs_in_turn(&rt, alloc, &program, 400, 4);
-    let report = report(&rt, alloc, one_ring(&rt, alloc, 4), &jobs, &Free::new());
+    let rings = one_ring(&rt, alloc, 4, ROOM);
+    let report = report(&rt, alloc, rings, &jobs, &Free::new());
     assert_eq!(rt; (report.strays, report.unlogged), (0, 0));
     assert_eq!(rt; report.answers.len(), 400);
     for answer in &report.answers {
@@ -89,18 +92,24 @@ fn four_workers_submit_a_hundred_times_each(rt: HostRuntime) {
     is_taken(&rt, ended, made, made);
 }
 
-#[test]
-fn held_reservation(rt: HostRuntime) {
-    let alloc = rt.alloc();
-    let program = verified(&rt, alloc, SUBMIT_42, 1);
-    let jobs = jobs_in_turn(&rt, alloc, &program, 2, 2);
+// Two workers of which one holds its record while the other submits one, over chapters of this room.
+fn hold_a_reservation<R: Threads + Wait + Sync + Abort>(rt: &R, alloc: Global, room: u32) {
+    let program = verified(rt, alloc, SUBMIT_42, 1);
+    let jobs = jobs_in_turn(rt, alloc, &program, 2, 2);
     let gate = Holding::new();
-    let report = report(&rt, alloc, one_ring(&rt, alloc, 2), &jobs, &gate);
+    let report = report(rt, alloc, one_ring(rt, alloc, 2, room), &jobs, &gate);
     assert_eq!(rt; gate.late.load(Ordering::SeqCst), 0);
     assert_eq!(rt; (report.strays, report.unlogged), (0, 0));
-    let ended = first_ring(&rt, &report);
+    let ended = first_ring(rt, &report);
     assert_eq!(rt; added(ended), (2, 0, 2, 0));
-    is_taken(&rt, ended, 2, 2);
+    is_taken(rt, ended, 2, 2);
+}
+
+#[test]
+fn held_reservation(rt: HostRuntime) {
+    for room in [64, ROOM] {
+        hold_a_reservation(&rt, rt.alloc(), room);
+    }
 }
 
 // Thirty jobs of three workers: each fifth has a context that is too short.
@@ -126,7 +135,8 @@ fn answers_stand_in_the_order_of_the_jobs(rt: HostRuntime) {
     let alloc = rt.alloc();
     let program = verified(&rt, alloc, SUBMIT_42, 1);
     let jobs = jobs_with_short_ones(&rt, alloc, &program);
-    let report = report(&rt, alloc, one_ring(&rt, alloc, 3), &jobs, &Free::new());
+    let rings = one_ring(&rt, alloc, 3, ROOM);
+    let report = report(&rt, alloc, rings, &jobs, &Free::new());
     for n in 0..30 {
         let want = if n % 5 == 0 {
             Err(RunFault::ContextLength)
@@ -144,7 +154,7 @@ fn a_worker_without_jobs_comes_to_the_gate_once(rt: HostRuntime) {
     let program = verified(&rt, alloc, SUBMIT_42, 1);
     let jobs = jobs_in_turn(&rt, alloc, &program, 2, 1);
     let gate = Free::new();
-    let report = report(&rt, alloc, one_ring(&rt, alloc, 4), &jobs, &gate);
+    let report = report(&rt, alloc, one_ring(&rt, alloc, 4, ROOM), &jobs, &gate);
     assert_eq!(rt; report.strays, 0);
     assert_eq!(rt; gate.first.load(Ordering::SeqCst), 5);
     assert_eq!(rt; gate.others.load(Ordering::SeqCst), 3);

@@ -1,6 +1,6 @@
 //! Sheets that are used again.
 
-use crate::given::{Free, SUBMIT_42_LONG, SUBMIT_FULL, job, one_ring, report, verified};
+use crate::given::{ROOM, SUBMIT_42_LONG, SUBMIT_FULL, Free, job, one_ring, report, verified};
 use crossbeam_queue::ArrayQueue;
 use rb_lend::Sheet;
 use rb_seats::Stock;
@@ -62,7 +62,8 @@ fn nothing_of_a_used_sheet_is_seen(rt: HostRuntime) {
     let full = verified(&rt, alloc, SUBMIT_FULL, 1);
     let long = verified(&rt, alloc, SUBMIT_42_LONG, 1);
     let jobs = jobs_in_turn(&rt, alloc, &full, &long);
-    let report = report(&rt, alloc, one_ring(&rt, alloc, 1), &jobs, &Free::new());
+    let rings = one_ring(&rt, alloc, 1, ROOM);
+    let report = report(&rt, alloc, rings, &jobs, &Free::new());
     assert_eq!(rt; (report.strays, report.unlogged), (0, 0));
     for ended in &report.rings {
         let counts = ended.closing.counts();

@@ -4,22 +4,25 @@ use Rattle.std.specs.FinMap.{get}
 use Rattle.rb_history.specs.declared.answers.Taken.{Taken}
 use Rattle.rb_history.specs.declared.answers.Taken.TheVariants.{Event as TakenEvent, Skipped, BusyFront, Empty}
 use Rattle.rb_ledger.specs.Roles.{BeginsWith}
-use Rattle.rb_ledger.specs.Seats.{Shared, ConsumerSeatValue}
-use Rattle.rb_workers.specs.Sink.{SinkItem, GetsTaken, sink_position}
-use Rattle.rb_workers.specs.Sink.SinkItem.{Event, Skip}
+use Rattle.rb_ledger.specs.Seats.{Shared}
+use Rattle.rb_chapter_ledger.specs.ChapterSeats.{ChapterConsumerSeat}
+use Rattle.rb_workers.specs.Sink.{SinkItem, GetsTaken}
+use Rattle.rb_workers.specs.Sink.SinkItem.{Event, Skip, Chapter}
 use Rattle.rb_workers.specs.declared.opened.Opened.{Opened}
 use Rattle.rb_workers.specs.declared.consumer_task.ConsumerTask.{ConsumerTask}
-use Rattle.rb_workers.specs.Opened.{SinkGetsTaken}
+use Rattle.rb_workers.specs.Opened.{IsKeeperFor, SinkGetsTaken}
 
 -- it is the same consumer, and what it sees begins with what it had seen
-pub record IsSameConsumer (old new : ConsumerSeatValue) : Type 0 where
+pub record IsSameConsumer (old new : ChapterConsumerSeat) : Type 0 where
   pub tag_same : new.tag ≡ old.tag
   pub ring_same : new.ring ≡ old.ring
+  pub room_same : new.room ≡ old.room
   pub begins : BeginsWith new.seen old.seen
 
--- the consumer is the ring's, and the sink's position is the consumer's
+-- the consumer and the keeper are the ring's, and the sink's position is the consumer's
 abbrev pub IsConsumerTaskOf : {S : Type 0} → (S → ℕ) → Shared → ConsumerTask S → Type 0
-IsConsumerTaskOf position ring task = (task.consumer.tag ≡ ring.tag) × (task.consumer.ring ≡ ring.ring) × (position task.sink ≡ task.consumer.position)
+IsConsumerTaskOf position ring task =
+    (task.consumer.tag ≡ ring.tag) × (task.consumer.ring ≡ ring.ring) × (position task.sink ≡ task.consumer.position) × IsKeeperFor task.consumer task.keeper
 
 -- what these answers of `take` give to a sink
 abbrev pub items_among : List Taken → List SinkItem
@@ -29,30 +32,38 @@ items_among (Skipped p n ∷ ts) = Skip p n ∷ items_among ts
 items_among (BusyFront ∷ ts) = items_among ts
 items_among (Empty ∷ ts) = items_among ts
 
--- the sink was given what the consumer took; all of it stands before the consumer's position, and what the consumer had got stays
-pub record HasGiven {S : Type 0} (takes : S → SinkItem → S → Type 0) (old new : ConsumerSeatValue) (before after : S) : Type 0 where
-  pub gets : GetsTaken takes old.seen.history new.seen.history new.got before after
+-- where the item is a record, it stands before this position
+abbrev pub IsBefore : ℕ → SinkItem → Type 0
+IsBefore at (Event p w k bytes) = p < at
+IsBefore at (Skip p n) = p < at
+IsBefore at (Chapter chapter) = Unit {0}
+
+-- the sink was given what the consumer took and handed out; its records stand before the consumer's position, and what the consumer had
+-- got stays
+pub record HasGiven {S : Type 0} (takes : S → SinkItem → S → Type 0) (old new : ChapterConsumerSeat) (before after : S) : Type 0 where
+  pub gets : GetsTaken takes old new new.seen.history before after
   pub moved : old.position ≤ new.position
-  pub passed : All (λ item. sink_position item < new.position) gets.items
+  pub passed : All (IsBefore new.position) gets.items
   pub keeps : (p : ℕ) → p < old.position → get new.got p ≡ get old.got p
 
--- what a consumer's thread gives back: the same consumer, and the sink, which was given what the consumer took, and whose position is the
--- consumer's
+-- what a consumer's thread gives back: the same consumer, the sink, which was given what the consumer took and handed out, and whose
+-- position is the consumer's, and the keeper, which is one for the ring still
 abbrev pub Consumed : {S : Type 0} → (S → ℕ) → (S → SinkItem → S → Type 0) → ConsumerTask S → ConsumerTask S → Type 0
 Consumed position takes old new =
     IsSameConsumer old.consumer new.consumer × (position new.sink ≡ new.consumer.position) × (new.returned_seats ≡ old.returned_seats)
-    × HasGiven takes old.consumer new.consumer old.sink new.sink
+    × HasGiven takes old.consumer new.consumer old.sink new.sink × IsKeeperFor new.consumer new.keeper
 
 -- what a ring's thread owns of what was opened, and an empty place for the ring's seats
 abbrev pub IsSplitOff : {S : Type 0} → Opened S → ConsumerTask S → Type 0
-IsSplitOff o t = (t.consumer ≡ o.consumer) × (t.sink ≡ o.sink) × (t.returned_seats.items ≡ []) × (length o.seats.items ≤ vec_capacity t.returned_seats)
+IsSplitOff o t = (t.consumer ≡ o.consumer) × (t.sink ≡ o.sink) × (t.returned_seats.items ≡ []) × (length o.seats.items ≤ vec_capacity t.returned_seats) × (t.keeper ≡ o.keeper)
 
--- the consumer and the sink go back to what was opened
+-- the consumer, the sink and the keeper go back to what was opened
 abbrev pub IsMergedInto : {S : Type 0} → ConsumerTask S → Opened S → Type 0
-IsMergedInto t o = (o.consumer ≡ t.consumer) × (o.sink ≡ t.sink)
+IsMergedInto t o = (o.consumer ≡ t.consumer) × (o.sink ≡ t.sink) × (o.keeper ≡ t.keeper)
 
--- it is the same consumer, and the sink was given what the consumer took, and its position is the consumer's
+-- it is the same consumer, the sink was given what the consumer took and handed out, and its position is the consumer's, and the keeper is
+-- one for the ring still
 abbrev pub IsConsumed : {S : Type 0} → (S → ℕ) → (S → SinkItem → S → Type 0) → Opened S → Opened S → Type 0
 IsConsumed position takes old new =
     IsSameConsumer old.consumer new.consumer × (position new.sink ≡ new.consumer.position)
-    × SinkGetsTaken takes old new
+    × SinkGetsTaken takes old new × IsKeeperFor new.consumer new.keeper

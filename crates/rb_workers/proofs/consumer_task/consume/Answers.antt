@@ -5,7 +5,7 @@ use Rattle.rb_workers.proofs.consumer_task.consume.Goals as goal
 use Rattle.rb_workers.proofs.consumer_task.consume.Goals.{in-None, in-Some+then-count-eq0+then-over}
 
 pub loop-init : goal.loop-init
-loop-init g c = consumed_none g.S.Sink.position_of g.S.Sink.takes c.args.task.now c.requires.ready.2
+loop-init g c = consumed_none g.S.Sink.position_of g.S.Sink.takes c.args.task.now c.requires.ready.2 c.requires.ready.3
 
 pub loop-preserved-then-count-eq-BATCH : goal.loop-preserved-then-count-eq-BATCH
 loop-preserved-then-count-eq-BATCH g c =
@@ -13,7 +13,7 @@ loop-preserved-then-count-eq-BATCH g c =
     let takes = g.S.Sink.takes in
     let h = c.hand_on.ensures in
     consumed_on pos takes c.args.task.now c.loop.task c.hand_on.new.self c.loop.invariant
-    (consumed_same pos takes c.loop.task c.take_batch-count.new.self c.hand_on.new.self h.consumer h.sink h.seats c.take_batch-count.ensures.taken)
+    (consumed_same pos takes c.loop.task c.take_batch-count.new.self c.hand_on.new.self h.consumer h.keeper h.sink h.seats c.take_batch-count.ensures.taken)
 
 pub loop-preserved : goal.loop-preserved
 loop-preserved g c =
@@ -21,7 +21,7 @@ loop-preserved g c =
     let takes = g.S.Sink.takes in
     let h = c.hand_on.ensures in
     consumed_on pos takes c.args.task.now c.loop.task c.hand_on.new.self c.loop.invariant
-    (consumed_same pos takes c.loop.task c.take_batch-count.new.self c.hand_on.new.self h.consumer h.sink h.seats c.take_batch-count.ensures.taken)
+    (consumed_same pos takes c.loop.task c.take_batch-count.new.self c.hand_on.new.self h.consumer h.keeper h.sink h.seats c.take_batch-count.ensures.taken)
 
 pub returns : goal.returns
 returns g c =
@@ -34,6 +34,6 @@ returns g c =
         | in-Some+then-count-eq0+then-over w ↦
             let h = w.hand_on.ensures in
             subst (Consumed pos takes old) (sym w.task-is) (consumed_on pos takes old c.loop.task w.hand_on.new.self c.loop.invariant
-            (consumed_same pos takes c.loop.task w.take_batch-count.new.self w.hand_on.new.self h.consumer h.sink h.seats w.take_batch-count.ensures.taken))
+            (consumed_same pos takes c.loop.task w.take_batch-count.new.self w.hand_on.new.self h.consumer h.keeper h.sink h.seats w.take_batch-count.ensures.taken))
       ];
     }

@@ -19,7 +19,7 @@ loop-task-preserved g c =
     let returned_seats = c.return_ring.new.returned_seats in
     let row = returned_seats.items in
     let old = c.loop-task.merged.items in
-    let x : Opened g.row.S.Denot = record { ring = ring; seats = returned_seats; consumer = task.consumer; sink = task.sink } in
+    let x : Opened g.row.S.Denot = record { ring = ring; seats = returned_seats; consumer = task.consumer; keeper = task.keeper; sink = task.sink } in
     let bk : c.insert.new.self.items ≡ x ∷ old = let e = c.insert.ensures.items in search rules in
     let il : vec_len c.insert.new.self ≡ vec_len c.loop-task.merged + 1 = let e = c.insert.ensures.len in search rules in
     let same : length c.loop-task.workers ≡ length c.args.workers.now = c.loop-task.auto.workers in
@@ -30,7 +30,7 @@ loop-task-preserved g c =
       omega (arith, il, i.3, c.insert.ensures.capacity, c.in-Some-pop.ensures.len),
       all_front (λ (t : ConsumerTask g.row.S.Denot). (t.returned_seats.items ≡ []) × (length c.args.workers.now ≤ vec_capacity t.returned_seats)) _ _ task c.in-Some.ensures.items i.4,
       ap (λ (l : List (Opened g.row.S.Denot)). c.pop-in-Some.new.self.items ++ map (λ (o : Opened g.row.S.Denot). o.ring) l) bk ∙ unshift _ _ _ _ ring c.in-Some-pop.ensures.items i.5,
-      subst (AllZip IsMergedInto (task ∷ i.0)) (sym bk) ((refl, refl), i.6),
+      subst (AllZip IsMergedInto (task ∷ i.0)) (sym bk) ((refl, refl, refl), i.6),
       subst (All (λ (o : Opened g.row.S.Denot). length o.seats.items ≡ length c.args.workers.now)) (sym bk) (All-cons (λ (o : Opened g.row.S.Denot). length o.seats.items ≡ length c.args.workers.now) x old full i.7),
       (λ k d below.
           let h = i.8 k d below in
@@ -79,3 +79,9 @@ returns-clause-workers g c =
     let h = i.8 k d below in
     let z : length (get_or c.loop-task.workers k d).seats.items ≡ 0 = omega (arith, h.4, i.2) in
     (h.0, h.1, h.2, sym (empty_front _ _ _ h.3 z))
+
+pub return_ring-requires-clause-some : goal.return_ring-requires-clause-some
+return_ring-requires-clause-some g c = λ k d below.
+    let h = c.loop-task.invariant.8 k d (omega (arith, below, c.loop-task.auto.workers)) in
+    let ok = (get_or c.loop-task.workers k d).seats.ok.0 in
+    omega (arith, h.4, ok, c.in-Some-pop.ensures.len)

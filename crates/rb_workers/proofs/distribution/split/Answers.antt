@@ -51,7 +51,7 @@ loop-one-preserved g c =
       all_rest (λ (o : Opened g.row.S.Denot). length o.seats.items ≡ length c.args.workers.now) _ _ one steps i.4,
       c.push_reserved.ensures.items ∙ (ap (λ l. l ++ one.ring ∷ []) i.5 ∙ sym (map-append (λ (o : Opened _). o.ring) done (one ∷ []))),
       subst (AllZip IsSplitOff (done ++ one ∷ [])) (sym c.push_reserved-in-loop-one.ensures.items)
-          (zip_more IsSplitOff done c.loop-one.consumers.items one _ i.6 (refl, refl, c.distribute_ring.ensures.returned_seats.0, omega (arith, c.distribute_ring.ensures.returned_seats.1, one.seats.ok.0, one.seats.ok.1))),
+          (zip_more IsSplitOff done c.loop-one.consumers.items one _ i.6 (refl, refl, c.distribute_ring.ensures.returned_seats.0, omega (arith, c.distribute_ring.ensures.returned_seats.1, one.seats.ok.0, one.seats.ok.1), refl)),
       (let e = ap length steps in omega (arith, e, i.7, c.in-Some-pop.ensures.len)),
       (λ k d below.
           let h = i.8 k d below in

@@ -1,0 +1,259 @@
+//! Runs whose rings hand chapters out: each record comes once and in order, and the chapters bind to the whole history.
+
+ghost use Rattle.std.specs.Prelude.{◌≡◌, ◌<◌, ◌≤◌, length};
+ghost use Rattle.rb_chapter.specs.Chapters.{IsChapterRoom};
+ghost use Rattle.rb_workers.specs.Opened.{AreOpened, IsOpened};
+
+use crate::given::{Free, OUTPUT_CONTEXT, ROOM, job, verified};
+use rb_header::span;
+use rb_interp::RunFault;
+use rb_shared_ring::Closing;
+use rb_verifier::Verified;
+use rb_workers::{Chapter, Ended, Job, Opened, Report, Sink, run_jobs};
+use std::alloc::Global;
+use std::process::Abort;
+use std::sync::Wait;
+use std::thread::Threads;
+
+/// How many jobs run in each run, and how many workers there are at most.
+const JOBS: u32 = 480;
+const WORKERS: usize = 16;
+
+/// A sink that keeps each chapter, and looks at each record: it stands behind the one before, its bytes are the number of a job of its
+/// worker, behind the worker's last one, and its serial is the worker's next.
+#[derive(Drop)]
+struct Binder {
+    alloc: Global,
+    position: u64,
+    workers: u32,
+    chapters: Vec<Chapter>,
+    // By worker: the serial of its next record, and the first job of which that may be.
+    serials: [u64; WORKERS],
+    jobs: [u64; WORKERS],
+    records: u64,
+    // How many records and chapters were not as they have to be.
+    wrong: u64,
+}
+
+impl Binder {
+    fn new(alloc: Global, workers: u32) -> Binder
+        ensures { result.position ≡ 0 }
+    {
+        Binder {
+            alloc,
+            position: 0,
+            workers,
+            chapters: Vec::new(alloc),
+            serials: [0; WORKERS],
+            jobs: [0; WORKERS],
+            records: 0,
+            wrong: 0,
+        }
+    }
+
+    // Looks at a record, and remembers what its worker's next one has to be.
+    fn look(&mut self, worker: u32, serial: u64, number: u64) -> bool
+        ensures { self.new.position ≡ self.old.position }
+    {
+        let at = worker as usize;
+        if at >= WORKERS || worker >= self.workers {
+            return false;
+        }
+        let is_own = number % u64::from(self.workers) == u64::from(worker);
+        let is_next = serial == self.serials[at] && number >= self.jobs[at];
+        self.serials[at] = serial.saturating_add(1);
+        self.jobs[at] = number.saturating_add(1);
+        is_own && is_next
+    }
+}
+
+// The number that these eight bytes are, the lowest first; the largest where they are not eight, or no number of a job.
+fn number_of(bytes: &[u8]) -> u64 {
+    if bytes.len() != 8 {
+        return u64::MAX;
+    }
+    for byte in &bytes[2..] {
+        if *byte != 0 {
+            return u64::MAX;
+        }
+    }
+    u64::from(bytes[0]) + 256 * u64::from(bytes[1])
+}
+
+impl Sink for Binder {
+    ghost use Rattle.std.specs.Prelude.{◌≡◌, ◌+◌, ℕ};
+    ghost use Rattle.rb_workers.specs.Sink.{SinkItem, sink_span};
+
+    ghost position_of = { λ c. c.position };
+
+    ghost takes = { λ old item new. new.position ≡ old.position + sink_span item };
+
+    fn position(&self) -> u64 {
+        self.position
+    }
+
+    fn event(&mut self, pos: u64, worker: u32, serial: u64, bytes: &[u8]) {
+        if !self.look(worker, serial, number_of(bytes)) {
+            self.wrong = self.wrong.saturating_add(1);
+        }
+        self.records = self.records.saturating_add(1);
+        self.position = pos + span(bytes.len() as u32);
+    }
+
+    fn skipped(&mut self, pos: u64, n: u32) {
+        self.wrong = self.wrong.saturating_add(1);
+        self.position = pos + span(n);
+    }
+
+    fn chapter(&mut self, chapter: &Chapter) {
+        let is_kept = match chapter.try_clone(self.alloc) {
+            Ok(copy) => self.chapters.push(copy).is_ok(),
+            Err(_) => false,
+        };
+        if !is_kept {
+            self.wrong = self.wrong.saturating_add(1);
+        }
+    }
+}
+
+// One ring for so many workers, whose chapters have this room.
+fn one_ring<R: Wait + Abort>(
+    rt: &R,
+    alloc: Global,
+    room: u32,
+    workers: u32,
+) -> Vec<Opened<Binder>>
+    ensures { AreOpened (λ c. c.position) result.items }
+{
+    let sink = Binder::new(alloc, workers);
+    let Ok(first) = Opened::open(rt, alloc, 0, 4096, 0, workers, room, room / 16, sink) else {
+        rt.panic("no ring")
+    };
+    match vec![in alloc; first] {
+        Ok(rings) => rings,
+        Err(_) => rt.panic("no memory"),
+    }
+}
+
+// A context for each job, which begins with its number.
+fn contexts<A: Abort>(rt: &A, alloc: Global) -> Vec<[u8; 16]> {
+    let mut contexts = Vec::new(alloc);
+    for n in 0..JOBS {
+        let mut context = [0; 16];
+        context[0] = (n % 256) as u8;
+        context[1] = (n / 256 % 256) as u8;
+        contexts.push(context).expect(rt, "memory");
+    }
+    contexts
+}
+
+// A job of each context, which so many workers run in turn.
+fn jobs_in_turn<'j, A: Abort>(
+    rt: &A,
+    alloc: Global,
+    program: &'j Verified,
+    contexts: &'j [[u8; 16]],
+    workers: u32,
+) -> Vec<Job<'j>>
+    requires { 0 < workers }
+{
+    let mut jobs = Vec::new(alloc);
+    let mut worker = 0;
+    for context in contexts {
+        jobs.push(job(worker % workers, program, context))
+            .expect(rt, "memory");
+        worker = (worker + 1) % workers;
+    }
+    jobs
+}
+
+// The ring of a run of all jobs, at its end, with the answers, and how many failures are unlogged.
+fn run<R: Threads + Wait + Sync + Abort>(
+    rt: &R,
+    alloc: Global,
+    room: u32,
+    workers: u32,
+) -> Report<Binder>
+    requires { 0 < workers }
+{
+    let program = verified(rt, alloc, OUTPUT_CONTEXT, 1);
+    let contexts = contexts(rt, alloc);
+    let jobs = jobs_in_turn(rt, alloc, &program, &contexts, workers);
+    match run_jobs(rt, alloc, one_ring(rt, alloc, room, workers), &jobs, &Free::new()) {
+        Ok(report) => report,
+        Err(_) => rt.panic("no report"),
+    }
+}
+
+// How many of the answers are 0: records that were output.
+fn count_sent(answers: &[Result<u64, RunFault>]) -> u64 {
+    let mut sent: u64 = 0;
+    for answer in answers {
+        if matches!(answer, Ok(0)) {
+            sent = sent.saturating_add(1);
+        }
+    }
+    sent
+}
+
+// How many refusals the ring's history says.
+fn count_refused(ended: &Ended<Binder>) -> u64 {
+    let mut refused: u64 = 0;
+    for tally in &ended.tallies {
+        refused = refused.saturating_add(tally.refused);
+    }
+    refused
+}
+
+// Whether the chapters and the last one bind to a history of so many entries.
+fn is_bound<A: Abort>(rt: &A, alloc: Global, closing: Closing, chapters: Vec<Chapter>, entries: u64) {
+    assert_eq!(rt; closing.chapter().number(), chapters.len() as u64);
+    match closing.bind(alloc, chapters) {
+        Ok(whole) => assert_eq!(rt; whole.history().len() as u64, entries),
+        Err(_) => rt.panic("not bound"),
+    }
+}
+
+// Runs all jobs, and looks at what the ring's sink was given.
+fn each_record_comes_once<R: Threads + Wait + Sync + Abort>(
+    rt: &R,
+    alloc: Global,
+    room: u32,
+    workers: u32,
+) -> (u64, u128)
+    requires { 0 < workers }
+{
+    let mut report = run(rt, alloc, room, workers);
+    let sent = count_sent(&report.answers);
+    let unlogged = report.unlogged;
+    let Some(ended) = report.rings.pop() else {
+        rt.panic("no ring")
+    };
+    let refused = count_refused(&ended);
+    let counts = ended.closing.counts();
+    assert_eq!(rt; (ended.sink.wrong, ended.sink.records), (0, sent));
+    assert_eq!(rt; (counts.made, counts.consumed, counts.refused), (sent, sent, refused));
+    assert_eq!(rt; (counts.discarded, counts.waiting, counts.busy), (0, 0, 0));
+    assert_eq!(rt; u128::from(sent) + u128::from(refused) + unlogged, u128::from(JOBS));
+    let chapters = ended.closing.chapter().number();
+    is_bound(rt, alloc, ended.closing, ended.sink.chapters, sent.saturating_mul(3).saturating_add(refused));
+    (chapters, unlogged)
+}
+
+#[test]
+fn records_and_chapters_come_at_each_room(rt: HostRuntime) {
+    for room in [8, 64] {
+        for workers in [1, 4, 16] {
+            let (chapters, _) = each_record_comes_once(&rt, rt.alloc(), room, workers);
+            assert!(rt; chapters > 0, "room {room}, {workers} workers");
+        }
+    }
+}
+
+#[test]
+fn a_wide_chapter_is_never_full(rt: HostRuntime) {
+    for workers in [1, 4, 16] {
+        let (_, unlogged) = each_record_comes_once(&rt, rt.alloc(), ROOM, workers);
+        assert_eq!(rt; unlogged, 0, "{workers} workers");
+    }
+}
