@@ -345,9 +345,10 @@ impl RingState {
         ensures logged { Logs self.old self.new (Entry.Sub pos ∷ []) }
         ensures contents { self.new.contents ≡ insert self.old.contents pos sheet }
     {
+        // Counted first: right behind the count of a grant that is output, a compiler leaves out what the two undo of each other.
+        count_submit(&mut self.counts);
         self.chapter.log_submit(index);
         self.records[index].state = RecordState::Submitted(sheet);
-        count_submit(&mut self.counts);
     }
 
     // The busy record at an index is given up.

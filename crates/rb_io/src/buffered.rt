@@ -48,12 +48,12 @@ impl<W: Write> Buffered<W> {
         ensures empty { OnOk result (self.new.waiting ≡ []) }
     {
         let sent = write_out(&mut self.writer, self.waiting.as_slice());
-        let is_all = sent == self.waiting.len();
-        self.waiting.drain(..sent);
-        if !is_all {
-            return Err(Error::from(ErrorKind::WriteZero));
+        if sent == self.waiting.len() {
+            self.waiting.clear();
+            return Ok(());
         }
-        Ok(())
+        self.waiting.drain(..sent);
+        Err(Error::from(ErrorKind::WriteZero))
     }
 
     // Writes a piece that the buffer has no room for.

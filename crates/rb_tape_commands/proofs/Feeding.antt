@@ -94,7 +94,7 @@ module _ (size start : ℕ) (u v h g : Option (List ℕ)) (ps : List (List ℕ))
         number_is = o.0 ∙ count;
       }
   fed_one w f number position p count at small read (Ends k) o = absurd o
-  fed_one w f number position p count at small read Memory o = record { payloads = ps; more = framed p; fed = record { stand = so_far.stand; read = (passes_and w (framed p) read.read).read; wrote = Appends-kept h g f _ so_far.wrote o } }
+  fed_one w f number position p count at small read Memory o = absurd o
   fed_one w f number position p count at small read Device o =
       let item = item_bytes size (Event position p) in
       record {

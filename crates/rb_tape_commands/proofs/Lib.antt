@@ -1,4 +1,5 @@
 mod Answering
+mod ChapterPass
 mod Digits
 mod Feeding
 mod Inputs

@@ -21,10 +21,9 @@ use Rattle.rb_history.proofs.Lists.{list_any-snoc, or-false}
 use Rattle.rb_history.proofs.Steps.{mark, elsewhere, producer-res, producer-sub, producer-take, consumer-res, consumer-sub, records-res, records-sub, records-take}
 use Rattle.rb_history.proofs.Laws.{legal-front, legal-next, kept-from-legal}
 use Rattle.rb_history.proofs.Contents.{hit-yes}
-use Rattle.rb_tape_commands.specs.Transfer.{MovesOn}
 
 -- a row of records from a position to itself is empty
-empty_row : (p : ℕ) (ss : List Shown) → InRow p ss p → ss ≡ []
+pub empty_row : (p : ℕ) (ss : List Shown) → InRow p ss p → ss ≡ []
 empty_row p [] row = refl
 empty_row p (s ∷ ss) row = absurd (omega (arith, row_grows (p + span s.len) ss p row.1))
   where
@@ -100,6 +99,13 @@ module _ (r : Setup) (h : List Entry) (k n : ℕ) (at : producer_of r.start h �
 
 -- ---- the calls
 
+-- the ring is the same ring, has again no record that was not taken, and has moved on by a record of n bytes
+pub record PassesBy (old new : Ring) (n : ℕ) : Type 0 where
+  pub setup_same : new.setup ≡ old.setup
+  pub all_taken : AllTaken new
+  pub producer_is : producer_now new ≡ producer_now old + span n
+  pub bounded : producer_now old + span n ≤ 2 ^ 62
+
 -- the take handed out these bytes, as the record at the producer position from before
 abbrev pub IsPassed : Ring → List ℕ → Taken → Type 0
 IsPassed old bytes (Event p w k s) = (p ≡ producer_now old) × (s ≡ bytes)
@@ -145,7 +151,7 @@ module _ (old mid : Ring) (bytes : List ℕ) (at : AllTaken old) (o : Outputs ol
       omega (arith, a.all_taken, front_is legal, producer_is legal)
 
   -- after the event no record is left
-  moved : (new : Ring) (p w k : ℕ) (s : List ℕ) → IsLegal new.setup new.history → TakesEvent mid new p w k s → MovesOn old new (length bytes)
+  moved : (new : Ring) (p w k : ℕ) (s : List ℕ) → IsLegal new.setup new.history → TakesEvent mid new p w k s → PassesBy old new (length bytes)
   moved new p w k s l a =
       let setup : new.setup ≡ old.setup = a.logged.setup_same ∙ o.logged.setup_same in
       let legal_mid = legal-front mid.setup mid.history _ (subst (IsLegal mid.setup) a.logged.history_is (subst (λ r. IsLegal r new.history) a.logged.setup_same l)) in
@@ -163,17 +169,10 @@ module _ (old mid : Ring) (bytes : List ℕ) (at : AllTaken old) (o : Outputs ol
 -- what the output and the take of a payload come to
 pub record PassesOn (old new : Ring) (bytes : List ℕ) (t : Taken) : Type 0 where
   pub is_event : IsPassed old bytes t
-  pub moves : (p w k : ℕ) (s : List ℕ) → t ≡ Event p w k s → MovesOn old new (length bytes)
+  pub moves : (p w k : ℕ) (s : List ℕ) → t ≡ Event p w k s → PassesBy old new (length bytes)
 
 pub passes_on : (old mid new : Ring) (bytes : List ℕ) (t : Taken) → AllTaken old → Outputs old mid 0 bytes → IsLegal new.setup new.history → Takes mid new t → PassesOn old new bytes t
 passes_on old mid new bytes t at o l a = record {
   is_event = passed old mid bytes at o new t l a;
   moves = λ p w k s e. moved old mid bytes at o new p w k s l (subst (Takes mid new) e a);
 }
-
--- a payload that the ring has room for when it is empty is refused only past the last position
-pub too_far : (old : Ring) (n : ℕ) → AllTaken old → span n < old.setup.size → ¬ RingHasRoom old n → 2 ^ 62 < producer_now old + span n
-too_far old n at room none = elim (cases_lt (2 ^ 62) (producer_now old + span n)) [
-  | inl past ↦ past
-  | inr within ↦ absurd (none (record { space = omega (arith, at); limit = within }))
-]

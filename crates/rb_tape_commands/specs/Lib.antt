@@ -1,3 +1,4 @@
+pub mod ChapterTurns
 pub mod Feed
 pub mod Input
 pub mod PayloadReads

@@ -1,22 +1,22 @@
 -- A payload that goes through a ring in which every record was taken: it is output and taken at once.
 use Rattle.std.specs.Prelude.{ℕ, ◌≡◌, ◌+◌, ◌<◌, ◌≤◌, ◌^◌, List, length}
 use Rattle.rb_header.specs.Span.{span}
-use Rattle.rb_history.specs.RingModel.{Ring}
-use Rattle.rb_history.specs.Calls.{AllTaken, producer_now}
+use Rattle.rb_chapter.specs.ChapterRing.{ChapterRing}
+use Rattle.rb_chapter.specs.ChapterCalls.{AllTaken, IsSameChapter, producer_now}
 use Rattle.rb_tape_commands.specs.declared.feed_fault.FeedFault.{FeedFault}
 use Rattle.rb_tape_commands.specs.declared.feed_fault.FeedFault.TheVariants.{Size, Start, Fit, Ends, Memory, Device}
 
--- the ring is the same ring, has again no record that was not taken, and has moved on by a record of n bytes
-pub record MovesOn (old new : Ring) (n : ℕ) : Type 0 where
-  pub setup_same : new.setup ≡ old.setup
+-- the ring keeps the same chapter, has again no record that was not taken, and has moved on by a record of n bytes
+pub record MovesOn (old new : ChapterRing) (n : ℕ) : Type 0 where
+  pub same_chapter : IsSameChapter old new
   pub all_taken : AllTaken new
   pub producer_is : producer_now new ≡ producer_now old + span n
   pub bounded : producer_now old + span n ≤ 2 ^ 62
 
--- the ring refuses the payload of this number, of n bytes, at this position: it would end past 2^62, or memory ran out
+-- the ring refuses the payload of this number, of n bytes, at this position: it would end past 2^62
 abbrev pub IsRefusal : ℕ → ℕ → ℕ → FeedFault → Type 0
 IsRefusal position number n (Fit k) = (k ≡ number) × (2 ^ 62 < position + span n)
-IsRefusal position number n Memory = Unit {0}
+IsRefusal position number n Memory = ⊥
 IsRefusal position number n Size = ⊥
 IsRefusal position number n Start = ⊥
 IsRefusal position number n (Ends k) = ⊥

@@ -1,5 +1,6 @@
 pub mod FeedRuns
 pub mod HexDigits
 pub mod LengthReads
+pub mod OpenedFeed
 pub mod PayloadSteps
 pub mod TapePrinting

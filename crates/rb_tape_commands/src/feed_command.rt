@@ -1,24 +1,32 @@
 //! Payloads in, their tape out.
 
-ghost use Rattle.std.specs.Prelude.{◌≡◌, ◌≢◌, [], ◌+◌, ◌<◌, ◌≤◌, ◌↔◌, List, ℕ, Err, IsErrOf, IfOk, IfErr, IfSome, OnOk, false, length};
+ghost use Rattle.std.specs.Prelude.{◌≡◌, ◌≢◌, [], ◌+◌, ◌<◌, ◌≤◌, ◌↔◌, List, ℕ, Some, Err, IsErrOf, IfOk, IfErr, IfSome, OnOk, false, length};
 ghost use Rattle.rb_header.specs.Span.{span};
-ghost use Rattle.rb_history.specs.Calls.{AllTaken, producer_now};
-ghost use Rattle.rb_history.specs.RingModel.{IsRingSize, IsStartPosition, fresh};
+ghost use Rattle.rb_history.specs.RingModel.{IsRingSize, IsStartPosition};
+ghost use Rattle.rb_chapter.specs.ChapterRoom.{MayGrant};
+ghost use Rattle.rb_chapter.specs.ChapterCalls.{AllTaken, producer_now};
+ghost use Rattle.rb_tape_commands.specs.ChapterTurns.{IsSpareOf};
+ghost use Rattle.rb_tape_commands.specs.inner.OpenedFeed.{IsOpenedFeed};
 ghost use Rattle.rb_tape_commands.specs.Feed.{FeedResult, FeedAnswerMatches, AnswersAlone};
 ghost use Rattle.rb_tape_commands.specs.inner.PayloadSteps.{FeedsOne, IsOpeningFault};
 ghost use Rattle.rb_tape_commands.specs.Transfer.{MovesOn};
 
+use crate::chapter_turns::make_chapter_room;
 use crate::feed_fault::FeedFault;
 use crate::payloads::next_payload;
 use crate::retries::{hand_out_with_retries, put_with_retries};
 use crate::transfer::transfer_payload;
+use rb_chapter::Chapter;
+use rb_chapter_ring::{OpenFault, RingState};
 use rb_consumer::{Event, Item, TapeWriter};
-use rb_history::OpenFault;
 use rb_io::Outgoing;
 use rb_lend::{Lent, Sheet};
-use rb_ring::RingState;
 use std::alloc::Global;
 use std::io::{Read, Write};
+
+// How many entries a chapter of the ring has room for. A payload logs three, so that the ring goes on in another one before each 86th
+// payload; the two chapters' entries take 16 KiB, and stay in a processor's nearest cache.
+const ROOM: u32 = 256;
 
 // A payload through the ring and onto the tape. Its sheet comes back.
 fn feed_one<W: Write>(
@@ -29,12 +37,13 @@ fn feed_one<W: Write>(
     retries: &mut u32,
 ) -> Result<Sheet, FeedFault>
     requires all_taken { AllTaken ring.old }
-    requires worker { 0 < ring.old.setup.workers }
-    requires size { IsRingSize ring.old.setup.size }
-    requires tape_size { tape.old.size ≡ ring.old.setup.size }
+    requires chapter_room { MayGrant ring.old.chapter }
+    requires worker { 0 < ring.old.chapter.opening.setup.workers }
+    requires size { IsRingSize ring.old.chapter.opening.setup.size }
+    requires tape_size { tape.old.size ≡ ring.old.chapter.opening.setup.size }
     requires position { tape.old.position ≡ producer_now ring.old }
     requires finished { tape.old.unfinished ≡ false }
-    requires room { span (length payload) < ring.old.setup.size }
+    requires room { span (length payload) < ring.old.chapter.opening.setup.size }
     ensures fed { FeedsOne tape.old.size tape.old.position number payload (W.contents tape.old.writer) (W.contents tape.new.writer) result }
     ensures moves_on { OnOk result (MovesOn ring.old ring.new (length payload)) }
     ensures size { tape.new.size ≡ tape.old.size }
@@ -54,27 +63,28 @@ fn feed_one<W: Write>(
     Ok(payload)
 }
 
-// Payload after payload, until the input ends or one is refused: where the producer and the consumer stand then.
+// Payload after payload, until the input ends or one is refused: where the producer and the consumer stand then. Before each the ring goes
+// on in the spare chapter, where its own has no room for it.
 fn feed_all<R: Read, W: Write>(
     ring: &mut RingState,
+    spare_chapter: &mut Option<Chapter>,
     reader: &mut R,
     tape: &mut TapeWriter<W>,
     mut spare: Sheet,
     size: u64,
-    start: u64,
     retries: &mut u32,
 ) -> Result<(u64, u64), FeedFault>
     requires size { IsRingSize size }
-    requires start { IsStartPosition start }
-    requires opened { ring.old ≡ fresh size start 1 }
+    requires start { IsStartPosition tape.old.position }
+    requires opened { IsOpenedFeed ROOM size tape.old.position ring.old spare_chapter.old }
     requires tape_size { tape.old.size ≡ size }
-    requires position { tape.old.position ≡ start }
     requires finished { tape.old.unfinished ≡ false }
-    ensures fed { FeedResult (record { size = size; start = start; input_before = R.remaining reader.old; input_after = R.remaining reader.new; output_before = W.contents tape.old.writer; output_after = W.contents tape.new.writer }) result }
+    ensures fed { FeedResult (record { size = size; start = tape.old.position; input_before = R.remaining reader.old; input_after = R.remaining reader.new; output_before = W.contents tape.old.writer; output_after = W.contents tape.new.writer }) result }
     ensures no_bounds { (result ≢ Err FeedFault.Size) × (result ≢ Err FeedFault.Start) }
 {
     let mut number = 0;
     while let Some(payload) = next_payload(reader, spare, size, number)? {
+        make_chapter_room(ring, spare_chapter);
         spare = feed_one(ring, tape, payload, number, retries)?;
         number += 1;
     }
@@ -88,7 +98,8 @@ fn feed_all<R: Read, W: Write>(
 /// `Size` and `Start` come before anything is read. A payload whose record is too long for the ring is refused from its length
 /// alone. After a write or a handing on that failed, the writing goes on where it stopped, `retries` times in the whole run, and then it is
 /// `Device`. Whatever is returned, the whole tape of the payloads before was written and handed on, unless the writer itself
-/// failed. Reader and writer are called a few times for each payload: buffer them. The ring keeps three entries for each payload.
+/// failed. Reader and writer are called a few times for each payload: buffer them. No memory is taken once the ring is opened, but for a payload
+/// that is longer than all before it.
 pub fn feed<R: Read, W: Outgoing>(
     alloc: Global,
     reader: &mut R,
@@ -111,57 +122,64 @@ pub fn feed<R: Read, W: Outgoing>(
     ensures only_answer { AnswersAlone size start (R.remaining reader.old) result.0 }
 {
     match open(alloc, size, start) {
-        Ok((ring, spare)) => feed_ring(ring, reader, writer, spare, size, start, retries),
+        Ok(opened) => feed_ring(opened, reader, writer, size, start, retries),
         Err(fault) => (Err(fault), writer),
     }
 }
 
-// The ring that the payloads go through, and a sheet for them.
-fn open(alloc: Global, size: u64, start: u64) -> Result<(RingState, Sheet), FeedFault>
-    ensures opened { IfOk result (λ opened. opened.0 ≡ fresh size start 1) }
+// The ring that the payloads go through, a chapter for it to go on in, and a sheet for them.
+fn open(
+    alloc: Global,
+    size: u64,
+    start: u64,
+) -> Result<(RingState, Option<Chapter>, Sheet), FeedFault>
+    ensures opened { IfOk result (λ opened. IsOpenedFeed ROOM size start opened.0 opened.1) }
     ensures bounds { OnOk result (IsRingSize size × IsStartPosition start) }
     ensures size { IsErrOf result FeedFault.Size ↔ ¬ IsRingSize size }
     ensures start { IsErrOf result FeedFault.Start ↔ (IsRingSize size × ¬ IsStartPosition start) }
     ensures memory { IfErr result IsOpeningFault }
 {
-    let ring = match RingState::new(alloc, size, start, 1) {
+    let ring = match RingState::new(alloc, size, start, 1, ROOM) {
         Ok(ring) => ring,
         Err(OpenFault::Size) => return Err(FeedFault::Size),
         Err(OpenFault::Start) => return Err(FeedFault::Start),
-        Err(OpenFault::Workers) => unreachable!(),
+        Err(OpenFault::Workers | OpenFault::Chapter) => unreachable!(),
         Err(OpenFault::Memory) => return Err(FeedFault::Memory),
     };
+    let Ok(spare_chapter) = Chapter::new(alloc, ROOM, 1) else {
+        return Err(FeedFault::Memory);
+    };
     match Sheet::new(alloc, 0) {
-        Ok(spare) => Ok((ring, spare)),
+        Ok(spare) => Ok((ring, Some(spare_chapter), spare)),
         Err(_) => Err(FeedFault::Memory),
     }
 }
 
 // The payloads through the ring and onto the writer, which hands all of them on.
 fn feed_ring<R: Read, W: Outgoing>(
-    mut ring: RingState,
+    opened: (RingState, Option<Chapter>, Sheet),
     reader: &mut R,
     writer: W,
-    spare: Sheet,
     size: u64,
     start: u64,
     mut retries: u32,
 ) -> (Result<(u64, u64), FeedFault>, W)
     requires size { IsRingSize size }
     requires start { IsStartPosition start }
-    requires opened { ring ≡ fresh size start 1 }
+    requires opened { IsOpenedFeed ROOM size start opened.0 opened.1 }
     ensures fed { FeedResult (record { size = size; start = start; input_before = R.remaining reader.old; input_after = R.remaining reader.new; output_before = W.contents writer; output_after = W.contents result.1 }) result.0 }
     ensures handed_on { result.0 ≢ Err FeedFault.Device → W.waiting result.1 ≡ [] }
     ensures no_bounds { (result.0 ≢ Err FeedFault.Size) × (result.0 ≢ Err FeedFault.Start) }
 {
+    let (mut ring, mut spare_chapter, spare) = opened;
     let mut tape = TapeWriter::new(writer, size, start);
     let fed = feed_all(
         &mut ring,
+        &mut spare_chapter,
         reader,
         &mut tape,
         spare,
         size,
-        start,
         &mut retries,
     );
     let mut writer = tape.into_writer();

@@ -5,6 +5,7 @@
 //! them.
 #![tactic(auto)]
 
+mod chapter_turns;
 mod feed_command;
 mod feed_fault;
 mod hex_digits;

@@ -1,6 +1,6 @@
 //! Reading payloads.
 
-ghost use Rattle.std.specs.Prelude.{◌≡◌};
+ghost use Rattle.std.specs.Prelude.{◌≡◌, IfOk, length};
 ghost use Rattle.std.specs.Int.{w32, to_le_bytes};
 ghost use Rattle.rb_tape_commands.specs.PayloadReads.{FindsNext};
 ghost use Rattle.rb_tape_commands.specs.inner.LengthReads.{FindsLength};
@@ -9,6 +9,7 @@ use crate::feed_fault::FeedFault;
 use rb_header::span;
 use rb_io::read_full;
 use rb_lend::{Lent, Sheet};
+use std::alloc::AllocError;
 use std::io::Read;
 
 // The number whose bytes these are, the lowest first.
@@ -33,6 +34,19 @@ fn read_length<R: Read>(reader: &mut R, number: u64) -> Result<Option<u32>, Feed
     }
 }
 
+// The sheet as one of `len` bytes, whatever they are. One that has as many is left as it is.
+fn sheet_of(spare: Sheet, len: u32) -> Result<Sheet, AllocError>
+    ensures sized { IfOk result (λ sheet. length sheet ≡ len) }
+{
+    if spare.len() == len {
+        return Ok(spare);
+    }
+    match spare.renew(len) {
+        Ok(sheet) => Ok(sheet),
+        Err((refused, _)) => Err(refused),
+    }
+}
+
 /// Reads the payload of this number into the sheet, or finds that the input ends before it. A payload whose record is too
 /// long for a ring of `size` bytes is refused from its length alone.
 pub fn next_payload<R: Read>(
@@ -49,7 +63,7 @@ pub fn next_payload<R: Read>(
     if span(len) >= size {
         return Err(FeedFault::Fit(number));
     }
-    let Ok(mut sheet) = spare.renew(len) else {
+    let Ok(mut sheet) = sheet_of(spare, len) else {
         return Err(FeedFault::Memory);
     };
     let Ok(count) = read_full(reader, sheet.bytes_mut()) else {

@@ -16,7 +16,7 @@ FeedsOne size position number payload held held' (Err Size) = ⊥
 FeedsOne size position number payload held held' (Err Start) = ⊥
 FeedsOne size position number payload held held' (Err (Fit k)) = (k ≡ number) × (2 ^ 62 < position + span (length payload)) × Keeps held held'
 FeedsOne size position number payload held held' (Err (Ends k)) = ⊥
-FeedsOne size position number payload held held' (Err Memory) = Keeps held held'
+FeedsOne size position number payload held held' (Err Memory) = ⊥
 FeedsOne size position number payload held held' (Err Device) = IsItemAt size position (Event position payload) × (n : ℕ) × Appends held held' (take n (item_bytes size (Event position payload)))
 
 -- what the opening of a ring is refused for

@@ -1,22 +1,26 @@
 use Rattle.std.proofs.Common.{◌≡◌, ◌+◌, ◌-◌, ◌*◌, ◌≤◌, ◌^◌, false, List, ℕ, [], length}
 use Rattle.rb_header.specs.TapeBytes.{end_of}
-use Rattle.rb_history.specs.Calls.{AllTaken, producer_now}
+use Rattle.rb_chapter.specs.ChapterCalls.{AllTaken, producer_now}
+use Rattle.rb_tape_commands.specs.ChapterTurns.{IsSpareOf}
 use Rattle.rb_tape_commands.specs.Feed.{FeedsAll}
 use Rattle.rb_tape_commands.specs.inner.FeedRuns.{feed_run}
 use Rattle.rb_tape_commands.specs.Input.{events_from}
 use Rattle.rb_tape_commands.proofs.feed_command.feed_all.Given as goal
 
--- the payloads so far were read, and their tape was written; in the ring each was taken, and the positions are one
+-- the payloads so far were read, and their tape was written; in the ring each was taken, and the positions are one; before each at most one
+-- chapter was turned
 abbrev pub invariant-loop-payload : goal.invariant-loop-payload
 invariant-loop-payload g l = record {
   size : l.tape.size ≡ l.size;
   finished : l.tape.unfinished ≡ false;
-  setup : l.ring.setup ≡ record { size = l.size; start = l.start; workers = 1 };
+  setup : l.ring.chapter.opening.setup ≡ record { size = l.size; start = l.fn.tape.position; workers = 1 };
+  spare : IsSpareOf l.ring l.spare_chapter;
+  numbered : l.ring.chapter.number ≤ l.number;
   all_taken : AllTaken l.ring;
   position : l.tape.position ≡ producer_now l.ring;
-  low : l.start + 8 * l.number ≤ l.tape.position;
+  low : l.fn.tape.position + 8 * l.number ≤ l.tape.position;
   high : l.tape.position ≤ 2 ^ 62;
-  passed : (payloads : List (List ℕ)) × FeedsAll (feed_run l.size l.start (g.R.Read.remaining l.fn.reader) (g.R.Read.remaining l.reader) (g.W.Write.contents l.fn.tape.writer) (g.W.Write.contents l.tape.writer)) payloads [] × (l.number ≡ length payloads) × (l.tape.position ≡ end_of l.start (events_from l.start payloads));
+  passed : (payloads : List (List ℕ)) × FeedsAll (feed_run l.size l.fn.tape.position (g.R.Read.remaining l.fn.reader) (g.R.Read.remaining l.reader) (g.W.Write.contents l.fn.tape.writer) (g.W.Write.contents l.tape.writer)) payloads [] × (l.number ≡ length payloads) × (l.tape.position ≡ end_of l.fn.tape.position (events_from l.fn.tape.position payloads));
 }
 
 abbrev pub decreases-loop-payload : goal.decreases-loop-payload

@@ -14,6 +14,6 @@ returns-then-count-len g c =
     let test = c.if-span-size.false in
     let room : span c.in-Some.len < c.args.size = omega (arith, c.span.ensures.value) in
     let whole : length c.read_full.new.buf ≡ c.in-Some.len =
-    c.read_full.auto.buf ∙ ap length c.bytes_mut.ensures.value ∙ ap length c.in-Ok.ensures.zeros ∙ length-replicate {A = ℕ} c.in-Some.len 0 in
+    c.read_full.auto.buf ∙ ap length c.bytes_mut.ensures.value ∙ c.in-Ok.ensures.sized in
     let short = c.if-count-len.true in
     (refl, cut_read c.args.size _ _ _ c.in-Some.len c.in-Ok-read_full.count c.read_full.new.buf len.1 read.bytes len.0 room read.bound short (read.end (omega arith)))

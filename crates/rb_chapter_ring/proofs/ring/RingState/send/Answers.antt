@@ -39,7 +39,8 @@ count_submit-requires-clause-busy c =
     let a = c.self.inside in
     let i = c.self.invariant in
     let at = subst (λ (v : ChapterRing). IsBusyAt v.shown c.args.index c.args.pos (length c.args.sheet)) (sym c.self.view_is) c.requires.busy in
-    one-busy i.earlier a.chapter a.records.items a.ordinals.items a.counts i.ring c.args.index c.args.pos (length c.args.sheet) at c.index_mut.result.now c.index_mut.ensures.value
+    let there = get_or-default a.records.items c.args.index no_stored (get_or a.records.items c.args.index no_stored) (within-now i.earlier a.chapter a.records.items a.ordinals.items a.counts i.ring c.args.index c.args.pos (length c.args.sheet) at) in
+    one-busy i.earlier a.chapter a.records.items a.ordinals.items a.counts i.ring c.args.index c.args.pos (length c.args.sheet) at (get_or a.records.items c.args.index no_stored) there
 
 pub invariant_of-self : goal.invariant_of-self
 invariant_of-self c =

@@ -1,0 +1,48 @@
+//! Chapters that are turned before they are full, so that a ring runs on in the memory that it was opened with.
+
+ghost use Rattle.std.specs.Prelude.{ℕ, ◌≡◌, ◌<◌, ◌^◌, OnOk};
+ghost use Rattle.rb_chapter.specs.ChapterRoom.{MayGrant};
+ghost use Rattle.rb_chapter.specs.ChapterCalls.{AllTaken};
+ghost use Rattle.rb_tape_commands.specs.ChapterTurns.{IsSpareOf, MakesChapterRoom};
+
+use rb_chapter::Chapter;
+use rb_chapter_ring::RingState;
+
+/// Has a ring in which every record was taken go on in the spare chapter, where its own has no room for what one more record logs:
+/// its grant, its submit and its take. The old chapter is emptied, and is the next spare one.
+#[inline]
+pub fn make_chapter_room(ring: &mut RingState, spare: &mut Option<Chapter>)
+    requires all_taken { AllTaken ring.old }
+    requires number { ring.old.chapter.number < 2 ^ 62 }
+    requires spare { IsSpareOf ring.old spare.old }
+    ensures turned { MakesChapterRoom ring.old ring.new }
+    ensures room { MayGrant ring.new.chapter }
+    ensures spare { IsSpareOf ring.new spare.new }
+{
+    if !ring.chapter().may_grant() {
+        turn_chapter(ring, spare);
+    }
+}
+
+// Hands the ring's chapter out for the spare one.
+#[cold]
+#[inline(never)]
+fn turn_chapter(ring: &mut RingState, spare: &mut Option<Chapter>)
+    requires all_taken { AllTaken ring.old }
+    requires full { ¬ MayGrant ring.old.chapter }
+    requires number { ring.old.chapter.number < 2 ^ 62 }
+    requires spare { IsSpareOf ring.old spare.old }
+    ensures turned { MakesChapterRoom ring.old ring.new }
+    ensures room { MayGrant ring.new.chapter }
+    ensures spare { IsSpareOf ring.new spare.new }
+{
+    ring.facts();
+    let Some(empty) = spare.take() else {
+        unreachable!()
+    };
+    let Ok(mut full) = ring.hand_out(empty) else {
+        unreachable!()
+    };
+    full.clear();
+    *spare = Some(full);
+}
