@@ -1,11 +1,13 @@
 -- A run over one ring that was just opened.
-use Rattle.std.proofs.Common.{◌≡◌, ◌≤◌, ℕ, List, Result, Ok, Err, arith, [], ◌∷◌, length, map, refl, ap, sym, ◌∙◌, subst, inr}
+use Rattle.std.proofs.Common.{◌≡◌, ◌≤◌, ℕ, false, List, Result, Ok, Err, arith, [], ◌∷◌, length, map, refl, ap, sym, ◌∙◌, subst, inr}
 use Rattle.std.specs.Prelude.{All}
 use Rattle.std.specs.Result.{OkIff, result_unwrap_or}
 use Rattle.std.proofs.lemmas.List.Elements.{All-nil, All-cons}
 use Rattle.rb_jobs.specs.Jobs.{task_of}
 use Rattle.rb_jobs.specs.declared.job.Job.{Job}
-use Rattle.rb_ledger.specs.Seats.{HasSettledAll, WorkerSeat, fresh_book, fresh_consumer, fresh_seats}
+use Rattle.rb_chapter.specs.Chapters.{empty_chapter}
+use Rattle.rb_chapter_ledger.specs.ChapterSeats.{fresh_chapter_consumer}
+use Rattle.rb_ledger.specs.Seats.{HasSettledAll, WorkerSeat, fresh_book, fresh_seats}
 use Rattle.rb_verifier.specs.Subject.{Subject}
 use Rattle.rb_workers.specs.declared.opened.Opened.{Opened}
 use Rattle.rb_workers.specs.Opened.{IsOpened, AreOpened, workers_of}
@@ -45,18 +47,20 @@ module _ {S : Type 0} (position : S → ℕ) (takes : S → SinkItem → S → T
   pub ran_workers :
       workers ≡ request.workers → opened ≡ one ∷ []
       → one.seats.items ≡ fresh_seats 0 one.ring.ring (fresh_book request.size request.start workers) 0 workers
-      → one.consumer ≡ fresh_consumer 0 one.ring.ring (fresh_book request.size request.start workers)
+      → one.consumer ≡ fresh_chapter_consumer 0 one.ring.ring 65536 (fresh_book request.size request.start workers)
+      → one.keeper ≡ record { chapter = empty_chapter 65536 workers; margin = 32768; is_lent = false }
       → one.sink ≡ sink → All HasSettledAll one.seats.items
       → map task_of jobs ≡ tasks_of_workers subject workers request.jobs
       → IsReport position takes opened jobs report
       → (report.strays ≡ 0 → EachSettled (workers_of opened) (seat_rows opened) → All EndsSettled report.rings.items)
       → RunsWorkers position takes sink subject request report
-  ran_workers as_many is seats consumer same_sink nothing_made tasks reported settled = record {
+  ran_workers as_many is seats consumer keeper same_sink nothing_made tasks reported settled = record {
     opened = one;
     jobs = jobs;
     just_opened = record {
       seats_are = subst (λ n. one.seats.items ≡ fresh_seats 0 one.ring.ring (fresh_book request.size request.start n) 0 n) as_many seats;
-      consumer_is = subst (λ n. one.consumer ≡ fresh_consumer 0 one.ring.ring (fresh_book request.size request.start n)) as_many consumer;
+      consumer_is = subst (λ n. one.consumer ≡ fresh_chapter_consumer 0 one.ring.ring 65536 (fresh_book request.size request.start n)) as_many consumer;
+      keeper_is = subst (λ n. one.keeper ≡ record { chapter = empty_chapter 65536 n; margin = 32768; is_lent = false }) as_many keeper;
       sink_is = same_sink;
     };
     tasks_are = subst (λ n. map task_of jobs ≡ tasks_of_workers subject n request.jobs) as_many tasks;

@@ -1,22 +1,22 @@
 -- What a sink wrote of the records that it was given, and what a run wrote of what its ring gave.
-use Rattle.std.proofs.Common.{◌≡◌, ℕ, ◌+◌, ◌<◌, ◌≤◌, Bool, true, false, List, [], ◌∷◌, ◌++◌, length, take, drop, map, Option, refl, sym, ap, ◌∙◌, subst, arith, append_assoc, append-nil, take-append-drop}
+use Rattle.std.proofs.Common.{◌≡◌, ℕ, ◌+◌, ◌<◌, ◌≤◌, Bool, true, false, List, [], ◌∷◌, ◌++◌, length, take, drop, Option, refl, sym, ap, ◌∙◌, subst, arith, append_assoc, append-nil, take-append-drop}
 use Rattle.std.specs.Prelude.{◌≢◌, All, not, Result, Ok, Err, OnOk, OnErr, is_err}
 use Rattle.std.proofs.lemmas.Bool.{true≢false}
 use Rattle.std.proofs.lemmas.List.{length-drop, drop_all}
-use Rattle.std.proofs.lemmas.List.Elements.{All-nil, All-cons}
+use Rattle.std.proofs.lemmas.List.Elements.{All-nil, All-cons, filter_map-append}
 use Rattle.std.specs.Io.KnownBytes.{Appends, Keeps}
 use Rattle.std.proofs.KnownBytes.{Appends-nil, Appends-trans, Appends-kept}
 use Rattle.rb_header.specs.TapeBytes.{Item, item_bytes, item_span, tape}
 use Rattle.rb_header.proofs.Laws.{length-item_bytes, tape-append}
 use Rattle.rb_verifier.specs.Subject.{Subject}
 use Rattle.rb_workers.specs.Reports.{RingEnds, RingsEnd}
-use Rattle.rb_workers.specs.Sink.{SinkItem, TakesAll, sink_position, tape_item, takes_in}
+use Rattle.rb_workers.specs.Sink.{SinkItem, TakesAll, positions_among, tape_item, takes_in}
 use Rattle.rb_workers.specs.declared.opened.Ended.{Ended}
 use Rattle.rb_workers.specs.declared.opened.Opened.{Opened}
 use Rattle.rb_workers.specs.declared.opened.Report.{Report}
 use Rattle.rb_ledger.specs.Seats.{WorkerSeat}
 use Rattle.rb_run_commands.specs.RunCommand.{RunsWorkers}
-use Rattle.rb_run_commands.specs.TapedRun.{SinkTape, TapesRing, WritesOn, first_tape, tape_position, tape_takes}
+use Rattle.rb_run_commands.specs.TapedRun.{SinkTape, TapesRing, WritesOn, first_tape, tape_items, tape_position, tape_takes}
 use Rattle.rb_run_commands.specs.declared.run_command.JobsRequest.{JobsRequest}
 
 front_empty : (xs ys : List ℕ) → xs ++ ys ≡ [] → xs ≡ []
@@ -138,10 +138,11 @@ module _ {W : Type 0} (contents : W → Option (List ℕ)) where
           }
 
   -- what a sink was given item by item
-  the_tape_of_what_is_given : (items : List SinkItem) (old new : SinkTape W) → TakesAll (tape_takes contents) old items new → WritesOn contents old (map tape_item items) new
+  the_tape_of_what_is_given : (items : List SinkItem) (old new : SinkTape W) → TakesAll (tape_takes contents) old items new → WritesOn contents old (tape_items items) new
   the_tape_of_what_is_given [] old new same = subst (λ s. WritesOn contents old [] s) (sym same) (nothing_yet old)
   the_tape_of_what_is_given (item ∷ items) old new given =
-      goes_on old given.0 new (tape_item item ∷ []) (map tape_item items) given.1 (the_tape_of_what_is_given items given.0 new given.2)
+      subst (λ l. WritesOn contents old l new) (sym (filter_map-append tape_item (item ∷ []) items))
+      (goes_on old given.0 new (tape_items (item ∷ [])) (tape_items items) given.1 (the_tape_of_what_is_given items given.0 new given.2))
 
 -- ---- the run
 
@@ -184,7 +185,7 @@ module _ {W : Type 0} (contents : W → Option (List ℕ)) (writer left : W) (su
         out = wrote.out;
         missing = wrote.missing;
         closed = ends.closed;
-        taken_are = given.taken_are ∙ ap (λ (c : _). takes_in c.seen.history ++ map sink_position given.items) ran.just_opened.consumer_is;
+        taken_are = given.taken_are ∙ ap (λ (c : _). takes_in c.seen.history ++ positions_among given.items) ran.just_opened.consumer_is;
         records_are = given.records_are;
         wrote = Appends-kept (contents writer) (contents e.sink.writer) (contents left) wrote.out wrote.wrote (subst (λ (x : Ended (SinkTape W)). Keeps (contents x.sink.writer) (contents left)) same kept);
         beginning = wrote.beginning refl;

@@ -2,9 +2,9 @@
 use Rattle.std.specs.Prelude.{ℕ, ◌+◌, List, [], ◌∷◌, ◌++◌, codes}
 use Rattle.std.specs.Fmt.{decimal}
 use Rattle.std.specs.List.{flat_map}
-use Rattle.rb_history.specs.Counting.{counts_of}
 use Rattle.rb_history.specs.declared.answers.Counts.{Counts}
 use Rattle.rb_history.specs.declared.tally.Tally.{Tally}
+use Rattle.rb_chapter_ring.specs.OpenedRing.{told_counts}
 use Rattle.rb_workers.specs.declared.opened.Ended.{Ended}
 use Rattle.rb_workers.specs.declared.opened.Report.{Report}
 use Rattle.rb_io.specs.Lines.{line}
@@ -26,9 +26,9 @@ counts_line counts =
     line (codes "ring made " ++ decimal counts.made ++ codes " consumed " ++ decimal counts.consumed ++ codes " discarded " ++ decimal counts.discarded ++ codes " waiting " ++ decimal counts.waiting
     ++ codes " busy " ++ decimal counts.busy)
 
--- the lines of a ring at its end: what each worker's seat counted, and what the ring's history did
+-- the lines of a ring at its end: what each worker's seat counted, and what the ring did in all its chapters
 abbrev pub closing_lines : {S : Type 0} → Ended S → List ℕ
-closing_lines ended = tally_lines_from 0 ended.tallies.items ++ counts_line (counts_of ended.closing.at_end.history)
+closing_lines ended = tally_lines_from 0 ended.tallies.items ++ counts_line (told_counts ended.closing.at_end)
 
 -- the lines of each ring, and how many jobs ended with a record handed back
 abbrev pub report_text : {S : Type 0} → Report S → List ℕ

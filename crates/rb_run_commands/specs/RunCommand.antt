@@ -1,17 +1,19 @@
 -- What `run` does with the text of a program: its workers run it as jobs over a ring that was just opened, and it prints what the report says
 -- (own).
-use Rattle.std.specs.Prelude.{◌≡◌, ◌+◌, ℕ, All, List, [], ◌∷◌, map, Option, IfSome}
+use Rattle.std.specs.Prelude.{◌≡◌, ◌+◌, ℕ, false, All, List, [], ◌∷◌, map, Option, IfSome}
 use Rattle.std.specs.Io.KnownBytes.{Appends}
-use Rattle.rb_header.specs.TapeBytes.{item_span}
 use Rattle.rb_history.specs.RingModel.{IsRingSize, IsStartPosition, IsWorkerCount}
+use Rattle.rb_chapter.specs.Chapters.{empty_chapter}
+use Rattle.rb_chapter_ledger.specs.ChapterSeats.{fresh_chapter_consumer}
+use Rattle.rb_consumer.specs.Keepers.{KeeperValue}
 use Rattle.rb_jobs.specs.Jobs.{task_of}
 use Rattle.rb_jobs.specs.declared.job.Job.{Job}
 use Rattle.rb_ledger.specs.Roles.{Book}
-use Rattle.rb_ledger.specs.Seats.{fresh_book, fresh_consumer, fresh_seats}
+use Rattle.rb_ledger.specs.Seats.{fresh_book, fresh_seats}
 use Rattle.rb_verifier.specs.Subject.{Subject}
 use Rattle.rb_workers.specs.Reports.{IsReport}
 use Rattle.rb_workers.specs.Settled.{EndsSettled}
-use Rattle.rb_workers.specs.Sink.{SinkItem, tape_item}
+use Rattle.rb_workers.specs.Sink.{SinkItem, sink_span}
 use Rattle.rb_workers.specs.declared.opened.Opened.{Opened}
 use Rattle.rb_workers.specs.declared.opened.Report.{Report}
 use Rattle.rb_loader.specs.Acceptance.{IsAccepted, IsRightProgramFault}
@@ -31,7 +33,7 @@ null_position sink = sink.position
 
 -- it passes over each
 abbrev pub null_takes : NullSink → SinkItem → NullSink → Type 0
-null_takes old item new = new.position ≡ old.position + item_span (tape_item item)
+null_takes old item new = new.position ≡ old.position + sink_span item
 
 -- it begins where the ring does
 abbrev pub first_null : JobsRequest → NullSink
@@ -41,10 +43,15 @@ first_null request = record { position = request.start }
 abbrev pub first_book : JobsRequest → Book
 first_book request = fresh_book request.size request.start request.workers
 
--- the ring was just opened, with the size, the start and the workers that are asked for, and with this sink
+-- the keeper of its chapters of 65,536 entries, before any was handed out: one is once no more than half of its entries may follow
+abbrev pub first_keeper : JobsRequest → KeeperValue
+first_keeper request = record { chapter = empty_chapter 65536 request.workers; margin = 32768; is_lent = false }
+
+-- the ring was just opened, with the size, the start and the workers that are asked for and chapters of 65,536 entries, and with this sink
 pub record IsJustOpened {S : Type 0} (sink : S) (request : JobsRequest) (o : Opened S) : Type 0 where
   pub seats_are : o.seats.items ≡ fresh_seats 0 o.ring.ring (first_book request) 0 request.workers
-  pub consumer_is : o.consumer ≡ fresh_consumer 0 o.ring.ring (first_book request)
+  pub consumer_is : o.consumer ≡ fresh_chapter_consumer 0 o.ring.ring 65536 (first_book request)
+  pub keeper_is : o.keeper ≡ first_keeper request
   pub sink_is : o.sink ≡ sink
 
 -- each worker ran the program as often as is asked for, over one ring that was just opened with this sink, and this is the report on these jobs

@@ -1,12 +1,15 @@
 -- What `run --tape` writes: the tape of all that the ring's consumer took, up to the first write that fails (own; the tape's bytes are
 -- rb_header's).
-use Rattle.std.specs.Prelude.{◌≡◌, ◌≢◌, ℕ, Bool, true, false, All, IfSome, List, [], ◌∷◌, ◌++◌, map, Option}
+use Rattle.std.specs.Prelude.{◌≡◌, ◌≢◌, ℕ, Bool, true, false, All, IfSome, List, [], ◌∷◌, ◌++◌, Option}
+use Rattle.std.specs.List.{filter_map}
 use Rattle.std.specs.Io.KnownBytes.{Appends, append_known}
 use Rattle.rb_header.specs.TapeBytes.{Item, tape}
-use Rattle.rb_ledger.specs.Headline.{IsClosed}
-use Rattle.rb_ledger.specs.Seats.{WorkerSeat, ConsumerSeatValue}
+use Rattle.rb_ledger.specs.Seats.{WorkerSeat}
+use Rattle.rb_chapter_ledger.specs.ChapterClosing.{IsClosedByChapters}
+use Rattle.rb_chapter_ledger.specs.ChapterSeats.{ChapterConsumerSeat}
 use Rattle.rb_verifier.specs.Subject.{Subject}
-use Rattle.rb_workers.specs.Sink.{SinkItem, IsRecordIn, sink_position, takes_in, tape_item}
+use Rattle.rb_workers.specs.Reports.{ring_at_end}
+use Rattle.rb_workers.specs.Sink.{SinkItem, IsRecordIn, positions_among, takes_in, tape_item}
 use Rattle.rb_workers.specs.declared.opened.Ended.{Ended}
 use Rattle.rb_workers.specs.declared.opened.Report.{Report}
 use Rattle.rb_loader.specs.Acceptance.{IsAccepted}
@@ -44,25 +47,29 @@ pub record WritesOn {W : Type 0} (contents : W → Option (List ℕ)) (old : Sin
   pub all_out : new.failed ≡ false → missing ≡ []
   pub not_all_out : old.failed ≡ false → new.failed ≡ true → missing ≢ []
 
--- what taking one item makes of such a sink
+-- the records among items, as those of a tape
+abbrev pub tape_items : List SinkItem → List Item
+tape_items items = filter_map tape_item items
+
+-- what taking one item makes of such a sink; a chapter has nothing for the tape
 abbrev pub tape_takes : {W : Type 0} → (W → Option (List ℕ)) → SinkTape W → SinkItem → SinkTape W → Type 0
-tape_takes contents old item new = WritesOn contents old (tape_item item ∷ []) new
+tape_takes contents old item new = WritesOn contents old (tape_items (item ∷ [])) new
 
 -- ---- the run
 
--- A beginning of the tape of all that the closed ring's history took went out, from the first record on and in order, and all of it where the
--- tape is whole. The items are the history's records, with the bytes that the consumer got, which are those that the seats sent.
+-- A beginning of the tape of all that the closed ring's whole history took went out, from the first record on and in order, and all of it where
+-- the tape is whole. The records are the history's, with the bytes that the consumer got, which are those that the seats sent.
 pub record TapesRing {S : Type 0} (size : ℕ) (whole : Bool) (before after : Option (List ℕ)) (ended : Ended S) : Type 0 where
   pub seats : List WorkerSeat
-  pub consumer : ConsumerSeatValue
+  pub consumer : ChapterConsumerSeat
   pub items : List SinkItem
   pub out : List ℕ
   pub missing : List ℕ
-  pub closed : IsClosed ended.closing.at_end seats consumer
-  pub taken_are : takes_in ended.closing.at_end.history ≡ map sink_position items
-  pub records_are : All (IsRecordIn ended.closing.at_end.history consumer.got) items
+  pub closed : IsClosedByChapters ended.closing.at_end seats consumer
+  pub taken_are : takes_in (ring_at_end consumer ended).history ≡ positions_among items
+  pub records_are : All (IsRecordIn (ring_at_end consumer ended).history consumer.got) items
   pub wrote : Appends before after out
-  pub beginning : out ++ missing ≡ tape size (map tape_item items)
+  pub beginning : out ++ missing ≡ tape size (tape_items items)
   pub all_out : whole ≡ true → missing ≡ []
 
 -- the program was run with such a sink, what the report says was printed, and nothing else, and what the ring's consumer took was written as a

@@ -12,9 +12,10 @@ use crate::jobs_fault::JobsFault;
 use crate::report_lines::text_of_report;
 use crate::worker_jobs::{CONTEXT, contexts_of, jobs_of};
 use rb_header::span;
-use rb_history::check_setup;
+use rb_history::{OpenFault as SetupFault, check_setup};
 use rb_io::write_whole;
-use rb_ledger::OpenFault;
+use rb_chapter::Chapter;
+use rb_shared_ring::OpenFault;
 use rb_loader::{Bounds, ProgramFault, read_program};
 use rb_verifier::Verified;
 use rb_workers::{JobFault, Opened, Report, Sink, run_jobs};
@@ -42,7 +43,13 @@ pub struct JobsRequest {
     pub start: u64,
 }
 
-/// Gives up all records that it is given.
+/// How many entries a chapter of a command's ring has room for.
+const CHAPTER_ROOM: u32 = 65_536;
+
+/// How many entries early a chapter is handed out: half of its room, which the workers may use up until the consumer comes round.
+const CHAPTER_MARGIN: u32 = CHAPTER_ROOM / 2;
+
+/// Gives up all records and chapters that it is given.
 #[derive(Drop)]
 struct NullSink {
     position: u64,
@@ -50,12 +57,11 @@ struct NullSink {
 
 impl Sink for NullSink {
     ghost use Rattle.std.specs.Prelude.{◌≡◌, ◌+◌, ℕ};
-    ghost use Rattle.rb_header.specs.TapeBytes.{item_span};
-    ghost use Rattle.rb_workers.specs.Sink.{SinkItem, tape_item};
+    ghost use Rattle.rb_workers.specs.Sink.{SinkItem, sink_span};
 
     ghost position_of = { λ s. s.position };
 
-    ghost takes = { λ old item new. new.position ≡ old.position + item_span (tape_item item) };
+    ghost takes = { λ old item new. new.position ≡ old.position + sink_span item };
 
     fn position(&self) -> u64 {
         self.position
@@ -68,6 +74,8 @@ impl Sink for NullSink {
     fn skipped(&mut self, pos: u64, n: u32) {
         self.position = pos + span(n);
     }
+
+    fn chapter(&mut self, _chapter: &Chapter) {}
 }
 
 /// Verifies the program whose text is the input for one ring and contexts of 16 bytes, and has each worker run it so often, each on a thread
@@ -136,9 +144,23 @@ fn run_program<T: Threads + Wait + Sync, S: Sink + Send + Drop>(
     ensures refused { IfErr result (IsRightRingFault request) }
 {
     let workers = u32::try_from(request.workers).unwrap_or(u32::MAX);
-    let one = match Opened::open(rt, alloc, 0, request.size, request.start, workers, sink) {
+    let one = match Opened::open(
+        rt,
+        alloc,
+        0,
+        request.size,
+        request.start,
+        workers,
+        CHAPTER_ROOM,
+        CHAPTER_MARGIN,
+        sink,
+    ) {
         Ok(one) => one,
-        Err(fault) => return Err(open_fault(fault)),
+        Err(OpenFault::Size) => return Err(JobsFault::Size),
+        Err(OpenFault::Start) => return Err(JobsFault::Start),
+        Err(OpenFault::Workers) => return Err(JobsFault::Workers),
+        Err(OpenFault::Chapter) => unreachable!(),
+        Err(OpenFault::Memory) => return Err(JobsFault::Program(ProgramFault::Memory)),
     };
     one.consumer.facts();
     let contexts = contexts_of(alloc, workers, request.jobs)?;
@@ -173,18 +195,18 @@ pub fn check_ring(request: JobsRequest) -> Result<u32, JobsFault>
     let workers = u32::try_from(request.workers).unwrap_or(u32::MAX);
     match check_setup(request.size, request.start, workers) {
         Ok(()) => Ok(workers),
-        Err(fault) => Err(open_fault(fault)),
+        Err(fault) => Err(setup_fault(fault)),
     }
 }
 
-// Why the ring was not opened.
-fn open_fault(fault: OpenFault) -> JobsFault
+// Why no ring can be opened with these numbers.
+fn setup_fault(fault: SetupFault) -> JobsFault
     ensures { result ≡ fault_of_opening fault }
 {
     match fault {
-        OpenFault::Size => JobsFault::Size,
-        OpenFault::Start => JobsFault::Start,
-        OpenFault::Workers => JobsFault::Workers,
-        OpenFault::Memory => JobsFault::Program(ProgramFault::Memory),
+        SetupFault::Size => JobsFault::Size,
+        SetupFault::Start => JobsFault::Start,
+        SetupFault::Workers => JobsFault::Workers,
+        SetupFault::Memory => JobsFault::Program(ProgramFault::Memory),
     }
 }

@@ -1,5 +1,6 @@
 //! A sink that writes a tape.
 
+use rb_chapter::Chapter;
 use rb_consumer::{Event, Item, TapeWriter};
 use rb_header::span;
 use rb_workers::Sink;
@@ -108,4 +109,6 @@ impl<W: Write> Sink for TapeSink<W> {
     fn skipped(&mut self, pos: u64, n: u32) {
         self.write(&Item::Skip(pos, n), n);
     }
+
+    fn chapter(&mut self, _chapter: &Chapter) {}
 }
