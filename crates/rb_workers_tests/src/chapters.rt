@@ -1,7 +1,6 @@
 //! Runs whose rings hand chapters out: each record comes once and in order, and the chapters bind to the whole history.
 
-ghost use Rattle.std.specs.Prelude.{◌≡◌, ◌<◌, ◌≤◌, length};
-ghost use Rattle.rb_chapter.specs.Chapters.{IsChapterRoom};
+ghost use Rattle.std.specs.Prelude.{◌≡◌, ◌<◌};
 ghost use Rattle.rb_workers.specs.Opened.{AreOpened, IsOpened};
 
 use crate::given::{Free, OUTPUT_CONTEXT, ROOM, job, verified};
@@ -17,6 +16,7 @@ use std::thread::Threads;
 
 /// How many jobs run in each run, and how many workers there are at most.
 const JOBS: u32 = 480;
+
 const WORKERS: usize = 16;
 
 /// A sink that keeps each chapter, and looks at each record: it stands behind the one before, its bytes are the number of a job of its
@@ -116,19 +116,22 @@ impl Sink for Binder {
     }
 }
 
-// One ring for so many workers, whose chapters have this room.
-fn one_ring<R: Wait + Abort>(
-    rt: &R,
-    alloc: Global,
-    room: u32,
-    workers: u32,
-) -> Vec<Opened<Binder>>
-    ensures { AreOpened (λ c. c.position) result.items }
+// A ring for so many workers, whose chapters have this room.
+fn opened<R: Wait + Abort>(rt: &R, alloc: Global, room: u32, workers: u32) -> Opened<Binder>
+    ensures { IsOpened (λ c. c.position) workers result }
 {
     let sink = Binder::new(alloc, workers);
-    let Ok(first) = Opened::open(rt, alloc, 0, 4096, 0, workers, room, room / 16, sink) else {
-        rt.panic("no ring")
-    };
+    match Opened::open(rt, alloc, 0, 4096, 0, workers, room, room / 16, sink) {
+        Ok(opened) => opened,
+        Err(_) => rt.panic("no ring"),
+    }
+}
+
+// That ring alone.
+fn one_ring<R: Wait + Abort>(rt: &R, alloc: Global, room: u32, workers: u32) -> Vec<Opened<Binder>>
+    ensures { AreOpened (λ c. c.position) result.items }
+{
+    let first = opened(rt, alloc, room, workers);
     match vec![in alloc; first] {
         Ok(rings) => rings,
         Err(_) => rt.panic("no memory"),
@@ -179,7 +182,13 @@ fn run<R: Threads + Wait + Sync + Abort>(
     let program = verified(rt, alloc, OUTPUT_CONTEXT, 1);
     let contexts = contexts(rt, alloc);
     let jobs = jobs_in_turn(rt, alloc, &program, &contexts, workers);
-    match run_jobs(rt, alloc, one_ring(rt, alloc, room, workers), &jobs, &Free::new()) {
+    match run_jobs(
+        rt,
+        alloc,
+        one_ring(rt, alloc, room, workers),
+        &jobs,
+        &Free::new(),
+    ) {
         Ok(report) => report,
         Err(_) => rt.panic("no report"),
     }
@@ -206,7 +215,13 @@ fn count_refused(ended: &Ended<Binder>) -> u64 {
 }
 
 // Whether the chapters and the last one bind to a history of so many entries.
-fn is_bound<A: Abort>(rt: &A, alloc: Global, closing: Closing, chapters: Vec<Chapter>, entries: u64) {
+fn is_bound<A: Abort>(
+    rt: &A,
+    alloc: Global,
+    closing: Closing,
+    chapters: Vec<Chapter>,
+    entries: u64,
+) {
     assert_eq!(rt; closing.chapter().number(), chapters.len() as u64);
     match closing.bind(alloc, chapters) {
         Ok(whole) => assert_eq!(rt; whole.history().len() as u64, entries),
@@ -232,11 +247,23 @@ fn each_record_comes_once<R: Threads + Wait + Sync + Abort>(
     let refused = count_refused(&ended);
     let counts = ended.closing.counts();
     assert_eq!(rt; (ended.sink.wrong, ended.sink.records), (0, sent));
-    assert_eq!(rt; (counts.made, counts.consumed, counts.refused), (sent, sent, refused));
+    assert_eq!(rt;
+        (counts.made, counts.consumed, counts.refused),
+        (sent, sent, refused)
+    );
     assert_eq!(rt; (counts.discarded, counts.waiting, counts.busy), (0, 0, 0));
-    assert_eq!(rt; u128::from(sent) + u128::from(refused) + unlogged, u128::from(JOBS));
+    assert_eq!(rt;
+        u128::from(sent) + u128::from(refused) + unlogged,
+        u128::from(JOBS)
+    );
     let chapters = ended.closing.chapter().number();
-    is_bound(rt, alloc, ended.closing, ended.sink.chapters, sent.saturating_mul(3).saturating_add(refused));
+    is_bound(
+        rt,
+        alloc,
+        ended.closing,
+        ended.sink.chapters,
+        sent.saturating_mul(3).saturating_add(refused),
+    );
     (chapters, unlogged)
 }
 
