@@ -1,5 +1,5 @@
 -- What a run of the helpers over seats shows of a job.
-use Rattle.std.proofs.Common.{false, ◌≡◌, ℕ, ◌+◌, ◌^◌, ◌<◌, List, [], ◌++◌, length, ap, sym, ◌∙◌, subst, arith}
+use Rattle.std.proofs.Common.{false, ◌≡◌, ℕ, ◌^◌, ◌<◌, List, [], ◌++◌, length, ap, sym, ◌∙◌, subst, arith}
 use Rattle.std.specs.Prelude.{OnOk}
 use Rattle.rb_helpers.specs.AnsweredCalls.{AnsweredCall, notes_of}
 use Rattle.rb_interp.specs.RunTraces.{RunMatches, TellsLength, TraceBalances}

@@ -1,7 +1,8 @@
-//! The programs of examples/c, optimised and not, as jobs over contexts that take each branch, at two rings of 4,096 bytes.
+//! The programs of examples/c, optimised and not, as jobs over contexts that take each branch, at two rings of 4,096 bytes,
+//! whose chapters have room for 16 entries.
 
 ghost use Rattle.std.specs.Prelude.{◌≡◌};
-ghost use Rattle.rb_ledger.specs.Seats.{IsSameConsumerSeat};
+ghost use Rattle.rb_shared_ring.specs.SharedSeats.{IsSameChapterConsumer};
 ghost use Rattle.rb_seats.specs.SeatHelpers.{IsAt};
 
 use rb_cfg::shape;
@@ -9,9 +10,9 @@ use rb_decode::from_text;
 use rb_examples as programs;
 use rb_history::Taken;
 use rb_jobs::{Gate, Job, JobAnswer, run_job};
-use rb_ledger::{ConsumerSeat, Seat, SharedRing, open};
 use rb_lend::Lent;
 use rb_seats::NoStock;
+use rb_shared_ring::{ConsumerSeat, Seat, SharedRing, open};
 use rb_verifier::{Verified, verify};
 use std::alloc::Global;
 use std::fmt::Write;
@@ -48,12 +49,12 @@ fn verified(rt: &impl Abort, alloc: Global, text: &str, ctx_len: usize) -> Verif
     verify(alloc, shape, ctx_len as u32, 2).expect(rt, "a verified program")
 }
 
-// A ring of 4,096 bytes with one seat.
+// A ring of 4,096 bytes with one seat, and chapters of 16 entries.
 fn opened<R: Wait + Abort>(rt: &R, alloc: Global, tag: u64) -> (SharedRing, Seat, ConsumerSeat)
     ensures seat { IsAt result.0 result.1 }
     ensures consumer { result.2.ring ≡ result.0.ring }
 {
-    let Ok((ring, mut seats, consumer)) = open(rt, alloc, tag, 4096, 0, 1) else {
+    let Ok((ring, mut seats, consumer)) = open(rt, alloc, tag, 4096, 0, 1, 16) else {
         rt.panic("no ring")
     };
     match seats.pop() {
@@ -71,7 +72,7 @@ fn add_records<R: Wait + Abort>(
     consumer: &mut ConsumerSeat,
 )
     requires { consumer.old.ring ≡ ring.now.ring }
-    ensures { IsSameConsumerSeat consumer.old consumer.new }
+    ensures { IsSameChapterConsumer consumer.old consumer.new }
 {
     for _ in 0..3 {
         match ring.take(rt, consumer) {

@@ -1,7 +1,7 @@
-//! Worked jobs at one ring of 4,096 bytes, one after another.
+//! Worked jobs at one ring of 4,096 bytes, whose chapters have room for 8 entries, one after another.
 
 ghost use Rattle.std.specs.Prelude.{◌≡◌, ◌≤◌};
-ghost use Rattle.rb_ledger.specs.Seats.{IsSameConsumerSeat};
+ghost use Rattle.rb_shared_ring.specs.SharedSeats.{IsSameChapterConsumer};
 ghost use Rattle.rb_seats.specs.SeatHelpers.{AtRings, IsAt};
 
 use rb_cfg::shape;
@@ -9,9 +9,9 @@ use rb_decode::from_text;
 use rb_history::Taken;
 use rb_interp::RunFault;
 use rb_jobs::{Gate, Job, JobAnswer, jobs_give_back, run_job};
-use rb_ledger::{ConsumerSeat, Seat, SharedRing, open};
 use rb_lend::{Lent, Sheet};
 use rb_seats::NoStock;
+use rb_shared_ring::{ConsumerSeat, Seat, SharedRing, open};
 use rb_verifier::{Verified, verify};
 use std::alloc::Global;
 use std::cell::Cell;
@@ -65,12 +65,12 @@ fn verified(rt: &impl Abort, alloc: Global, text: &str) -> Verified
     verify(alloc, shape, 16, 1).expect(rt, "a verified program")
 }
 
-/// A ring of 4,096 bytes with one seat.
+/// A ring of 4,096 bytes with one seat, and chapters of 8 entries.
 fn opened<R: Wait + Abort>(rt: &R, alloc: Global) -> (SharedRing, Seat, ConsumerSeat)
     ensures seat { IsAt result.0 result.1 }
     ensures consumer { result.2.ring ≡ result.0.ring }
 {
-    let Ok((ring, mut seats, consumer)) = open(rt, alloc, 3, 4096, 0, 1) else {
+    let Ok((ring, mut seats, consumer)) = open(rt, alloc, 3, 4096, 0, 1, 8) else {
         rt.panic("no ring")
     };
     match seats.pop() {
@@ -86,7 +86,7 @@ fn taken<R: Wait + Abort>(
     consumer: &mut ConsumerSeat,
 ) -> (u32, u64, Sheet)
     requires { consumer.old.ring ≡ ring.now.ring }
-    ensures { IsSameConsumerSeat consumer.old consumer.new }
+    ensures { IsSameChapterConsumer consumer.old consumer.new }
 {
     match ring.take(rt, consumer) {
         Ok(Taken::Event(_, worker, serial, sheet)) => (worker, serial, sheet),
@@ -255,5 +255,37 @@ fn a_full_ring_gives_null_and_is_logged(rt: HostRuntime) {
     );
     assert!(rt; answer.is_ok_and(|a: JobAnswer| a.result.is_ok() && a.unlogged == 0));
     assert_eq!(rt; counts(seats.as_slice()), Some((1, 1, 0, 0)));
+    assert_eq!(rt; (calls, gate.next.get(), gate.other.get()), (1, 1, false));
+}
+
+#[test]
+fn a_full_chapter_gives_null_and_is_unlogged(rt: HostRuntime) {
+    let program = verified(&rt, rt.alloc(), SUBMIT_42);
+    let (ring, mut seat, _consumer) = opened(&rt, rt.alloc());
+    let first = Sheet::new(rt.alloc(), 8).expect(&rt, "memory");
+    assert!(rt; ring.reserve(&rt, &mut seat, 8, first).is_ok());
+    let second = Sheet::new(rt.alloc(), 8).expect(&rt, "memory");
+    assert!(rt; ring.reserve(&rt, &mut seat, 8, second).is_ok());
+    let rings = [ring];
+    let gate = CallOrder::new();
+    let mut calls = 0;
+    let job = Job {
+        worker: 7,
+        program: &program,
+        ctx: CONTEXT.as_slice(),
+    };
+    let seats = vec![in rt.alloc(); seat].expect(&rt, "memory");
+    let (answer, seats) = run_job(
+        &rt,
+        rt.alloc(),
+        rings.as_slice(),
+        seats,
+        &job,
+        &gate,
+        &NoStock,
+        &mut calls,
+    );
+    assert!(rt; answer.is_ok_and(|a: JobAnswer| a.result.is_ok() && a.unlogged == 1));
+    assert_eq!(rt; counts(seats.as_slice()), Some((2, 0, 0, 0)));
     assert_eq!(rt; (calls, gate.next.get(), gate.other.get()), (1, 1, false));
 }

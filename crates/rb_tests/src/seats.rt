@@ -1,14 +1,14 @@
-//! Worked calls of helpers over the seats of two rings of 4,096 bytes.
+//! Worked calls of helpers over the seats of two rings of 4,096 bytes, whose chapters have room for 8 entries.
 
 ghost use Rattle.std.specs.Prelude.{◌≡◌, ◌≤◌, true};
-ghost use Rattle.rb_ledger.specs.Seats.{IsSameConsumerSeat};
+ghost use Rattle.rb_shared_ring.specs.SharedSeats.{IsSameChapterConsumer};
 ghost use Rattle.rb_seats.specs.SeatHelpers.{IsAt};
 
 use rb_helpers::{Done, EAGAIN, EINVAL, Helpers};
 use rb_history::Taken;
-use rb_ledger::{ConsumerSeat, Seat, SharedRing, open};
 use rb_lend::{Lent, Sheet};
 use rb_seats::{NoStock, SeatHelpers, SeatRecord, Stock};
+use rb_shared_ring::{ConsumerSeat, Seat, SharedRing, open};
 use std::alloc::Global;
 use std::cell::Cell;
 use std::process::Abort;
@@ -18,7 +18,7 @@ fn opened<R: Wait + Abort>(rt: &R, alloc: Global, tag: u64) -> (SharedRing, Seat
     ensures seat { IsAt result.0 result.1 }
     ensures consumer { result.2.ring ≡ result.0.ring }
 {
-    let Ok((ring, mut seats, consumer)) = open(rt, alloc, tag, 4096, 0, 1) else {
+    let Ok((ring, mut seats, consumer)) = open(rt, alloc, tag, 4096, 0, 1, 8) else {
         rt.panic("no ring")
     };
     match seats.pop() {
@@ -34,7 +34,7 @@ fn taken<R: Wait + Abort>(
     consumer: &mut ConsumerSeat,
 ) -> (u64, u32, u64, Sheet)
     requires { consumer.old.ring ≡ ring.now.ring }
-    ensures { IsSameConsumerSeat consumer.old consumer.new }
+    ensures { IsSameChapterConsumer consumer.old consumer.new }
 {
     match ring.take(rt, consumer) {
         Ok(Taken::Event(pos, worker, serial, sheet)) => (pos, worker, serial, sheet),
@@ -183,6 +183,29 @@ fn a_full_ring_is_refused_in_the_history(rt: HostRuntime) {
     assert_eq!(rt; helpers.unlogged(), 0);
     let seats = helpers.into_seats();
     assert_eq!(rt; seats.first().map(counts), Some((1, 2, 0, 0)));
+}
+
+#[test]
+fn a_full_chapter_is_unlogged(rt: HostRuntime) {
+    let (ring, seat, mut consumer) = opened(&rt, rt.alloc(), 0);
+    let rings = [ring];
+    let seats = vec![in rt.alloc(); seat].expect(&rt, "memory");
+    let Ok(mut helpers) = SeatHelpers::new(&rt, rt.alloc(), rings.as_slice(), seats, 5, &NoStock)
+    else {
+        rt.panic("no memory")
+    };
+    assert!(rt; helpers.reserve(0, 8, 0).is_some());
+    assert!(rt; helpers.reserve(0, 8, 0).is_some());
+    assert_eq!(rt; rings[0].used(&rt, &mut consumer), Ok((2, 4)));
+    assert!(rt; helpers.reserve(0, 8, 0).is_none());
+    assert_eq!(rt; helpers.unlogged(), 1);
+    assert!(rt; helpers.reserve(0, 5000, 0).is_none());
+    assert_eq!(rt; helpers.unlogged(), 1);
+    assert_eq!(rt; rings[0].used(&rt, &mut consumer), Ok((3, 4)));
+    assert_eq!(rt; helpers.output(0, [5, 6].as_slice(), 0), -EAGAIN);
+    assert_eq!(rt; helpers.unlogged(), 2);
+    let seats = helpers.into_seats();
+    assert_eq!(rt; seats.first().map(counts), Some((2, 1, 0, 0)));
 }
 
 #[test]

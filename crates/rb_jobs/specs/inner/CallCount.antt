@@ -1,5 +1,5 @@
 -- How the count of calls goes on with the calls.
-use Rattle.std.proofs.Common.{◌≡◌, ℕ, ◌+◌, ◌-◌, ◌^◌, ◌<◌, ◌≤◌, min, List, [], ◌++◌, length, length-append, arith, sym, ap, subst, ◌∙◌}
+use Rattle.std.proofs.Common.{◌≡◌, ℕ, ◌^◌, ◌<◌, List, ◌++◌, length, length-append, arith}
 use Rattle.rb_jobs.specs.Jobs.{counted_on}
 
 -- so many calls were counted, from a count of 64 bits
