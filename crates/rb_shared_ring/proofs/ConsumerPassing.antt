@@ -145,6 +145,15 @@ module _ (v : ChapterPassView) (r new : ChapterRing) (out : ChapterPassView) (id
         let h = held-in Consumer v r out idle took in
         subst (λ x. MayPutChapter x new) (sym h.now) (hands-out-may-put (known_in Consumer v) h.taken new c refl h.was_ring.has_chapters h.was_ring.is_ring (here-hands h))
 
+    -- it has the room and the workers that the pass knows
+    pub handed-fits : (c.room ≡ room_by v) × (c.opening.setup.workers ≡ (seen_by v).setup.workers)
+    handed-fits =
+        let h = held-in Consumer v r out idle took in
+        let is = here-hands h in (
+          ap (λ (x : Chapter). x.room) is.next.out_is ∙ sym (h.knows refl).0,
+          ap (λ (x : Chapter). x.opening.setup.workers) is.next.out_is ∙ ap (λ (x : Setup). x.workers) h.goes_on.setup_same,
+        )
+
     pub handed-next : (after : ChapterPassView) → PutsChapterState out new after → LeavesConsumer v after (bytes_by v) (handed_out_by v ++ c ∷ []) (HandsOutNext (handed_out_by v) c)
     handed-next after put =
         let h = held-in Consumer v r out idle took in
