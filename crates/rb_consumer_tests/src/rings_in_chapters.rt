@@ -60,10 +60,7 @@ pub(super) fn sent<R: Wait + Abort>(
     requires { seat.old.ring ≡ ring.now.ring }
     ensures { IsSameSeat seat.old seat.new }
 {
-    if ring
-        .output(rt, seat, sheet_of(rt, alloc, byte), 0)
-        .is_err()
-    {
+    if ring.output(rt, seat, sheet_of(rt, alloc, byte), 0).is_err() {
         rt.panic("a refused output")
     }
 }
@@ -85,12 +82,7 @@ pub(super) fn held<R: Wait + Abort>(
 }
 
 /// A record that was discarded.
-pub(super) fn given_up<R: Wait + Abort>(
-    rt: &R,
-    alloc: Global,
-    ring: &SharedRing,
-    seat: &mut Seat,
-)
+pub(super) fn given_up<R: Wait + Abort>(rt: &R, alloc: Global, ring: &SharedRing, seat: &mut Seat)
     requires { seat.old.ring ≡ ring.now.ring }
     ensures { IsSameSeat seat.old seat.new }
 {

@@ -7,7 +7,7 @@ ghost use Rattle.rb_shared_ring.specs.SharedSeats.{IsSameChapterConsumer};
 use rb_chapter::Chapter;
 use rb_consumer::{Batch, Event, Keeper};
 use rb_lend::{Lent, Sheet};
-use rb_shared_ring::{ConsumerSeat, Seat, SharedRing, open};
+use rb_shared_ring::{Closing, ConsumerSeat, Seat, SharedRing, open};
 use std::alloc::Global;
 use std::process::Abort;
 use std::sync::Wait;
@@ -82,12 +82,7 @@ fn turn<R: Wait>(rt: &R, ring: &SharedRing, consumer: &mut ConsumerSeat, desk: &
 }
 
 // Takes a batch, and tells whether there was a record.
-fn take<R: Wait>(
-    rt: &R,
-    ring: &SharedRing,
-    consumer: &mut ConsumerSeat,
-    desk: &mut Desk,
-) -> bool
+fn take<R: Wait>(rt: &R, ring: &SharedRing, consumer: &mut ConsumerSeat, desk: &mut Desk) -> bool
     requires { consumer.old.ring ≡ ring.now.ring }
     ensures { IsSameChapterConsumer consumer.old consumer.new }
 {
@@ -157,6 +152,25 @@ fn run<R: Threads + Wait + Sync>(
     );
 }
 
+// The ring, closed once all records were taken.
+fn closed_after<R: Threads + Wait + Sync + Abort>(
+    rt: &R,
+    alloc: Global,
+    ring: SharedRing,
+    mut seats: Vec<Seat>,
+    mut consumer: ConsumerSeat,
+    desk: &mut Desk,
+) -> Closing
+    requires seats { All (λ s. s.ring ≡ ring.ring) seats.items }
+    requires consumer { consumer.ring ≡ ring.ring }
+{
+    run(rt, alloc, &ring, seats.as_mut_slice(), &mut consumer, desk);
+    match ring.close(rt, seats, consumer) {
+        Ok(closing) => closing,
+        Err(_) => rt.panic("not closed"),
+    }
+}
+
 fn sends<T: Send>(_x: &T) -> bool {
     true
 }
@@ -164,7 +178,7 @@ fn sends<T: Send>(_x: &T) -> bool {
 #[test]
 fn four_producers_and_a_keeper(rt: HostRuntime) {
     let alloc = rt.alloc();
-    let Ok((ring, mut seats, mut consumer)) = open(&rt, alloc, 3, 4096, 0, WORKERS, 64) else {
+    let Ok((ring, seats, consumer)) = open(&rt, alloc, 3, 4096, 0, WORKERS, 64) else {
         rt.panic("no ring")
     };
     let chapter = Chapter::new(alloc, 64, WORKERS).expect(&rt, "memory");
@@ -176,28 +190,20 @@ fn four_producers_and_a_keeper(rt: HostRuntime) {
         wrong: 0,
     };
     assert!(rt; sends(&desk));
-    run(
-        &rt,
-        alloc,
-        &ring,
-        seats.as_mut_slice(),
-        &mut consumer,
-        &mut desk,
-    );
+    let closing = closed_after(&rt, alloc, ring, seats, consumer, &mut desk);
     assert_eq!(rt; (desk.events, desk.wrong), ([2_500; 4], 0));
     assert!(rt; desk.chapters > 300);
     assert_eq!(rt;
-        (consumer.chapters(), consumer.consumed(), consumer.skipped()),
-        (desk.chapters, 10_000, 0)
+        (
+            closing.producer(),
+            closing.consumer(),
+            closing.chapter().number()
+        ),
+        (160_000, 160_000, desk.chapters)
     );
-    assert_eq!(rt; consumer.position(), 160_000);
-    let Ok(closing) = ring.close(&rt, seats, consumer) else {
-        rt.panic("not closed")
-    };
     let counts = closing.counts();
     assert_eq!(rt;
         (counts.made, counts.consumed, counts.waiting, counts.busy),
         (10_000, 10_000, 0, 0)
     );
-    assert_eq!(rt; closing.chapter().number(), desk.chapters);
 }

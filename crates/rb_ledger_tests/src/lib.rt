@@ -8,6 +8,8 @@ mod closing;
 #[cfg(test)]
 mod example;
 #[cfg(test)]
+mod many_takes;
+#[cfg(test)]
 mod rows;
 #[cfg(test)]
 mod threads;
