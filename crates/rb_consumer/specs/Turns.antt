@@ -11,6 +11,11 @@ use Rattle.rb_chapter_ledger.specs.LockedChapterCalls.{LockedChapterCall, InKnow
 abbrev pub IsDue : ℕ → ℕ → ℕ → ℕ → Type 0
 IsDue margin room entries more = (0 < entries) × (room < entries + more + 3 + margin)
 
+-- the chapter has the room and the workers of the seat's ring
+pub record IsOfRing (s : ChapterConsumerSeat) (c : Chapter) : Type 0 where
+  pub room_is : c.room ≡ s.room
+  pub workers_are : c.opening.setup.workers ≡ s.seen.setup.workers
+
 -- the chapters that a turn lent
 abbrev pub chapters_lent : Option (Bor Chapter) → List Chapter
 chapters_lent None = []

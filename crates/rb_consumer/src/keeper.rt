@@ -4,7 +4,7 @@ ghost use Rattle.std.specs.Prelude.{◌≡◌, ◌≢◌, ◌<◌, ◌^◌, ◌�
 ghost use Rattle.rb_chapter_ledger.specs.ChapterSeats.{IsFitChapter};
 ghost use Rattle.rb_shared_ring.specs.SharedSeats.{IsSameChapterConsumer, TakesNothing};
 ghost use Rattle.rb_shared_ring.specs.declared.chapters.HandFault.TheVariants as HandFault;
-ghost use Rattle.rb_consumer.specs.Turns.{IsDue, TurnsChapter, chapters_lent};
+ghost use Rattle.rb_consumer.specs.Turns.{IsDue, IsOfRing, TurnsChapter, chapters_lent};
 ghost use Rattle.rb_consumer.specs.inner.KeeperTurns.{chapters_out};
 
 use rb_chapter::Chapter;
@@ -67,8 +67,9 @@ impl Keeper {
 
     /// Looks at the ring's chapter, under the lock. Where it has entries, and those, what its records ask for, one grant more (3) and the
     /// margin are above its room, it is handed out as it is then, for the one that was kept, and lent until the next call: then
-    /// it is cleared and used again. Else the answer is `None`, and the keeper is as it was. `Foreign` comes first, then
-    /// `Unfit`, before the look. No memory is taken, and only a turn that hands out takes time, linear in the untaken records and the workers.
+    /// it is cleared and used again. Else the answer is `None`, and the keeper is as it was. `Foreign` comes first, then `Unfit`, before the
+    /// look; a keeper that fits a ring fits it ever after, up to the last number. No memory is taken. A turn that hands out takes
+    /// time linear in the untaken records and the workers, and any other constant time.
     pub fn turn<R: Wait>(
         &mut self,
         rt: &R,
@@ -87,7 +88,7 @@ impl Keeper {
         ensures turn { IfOk result (λ lent. TurnsChapter self.old.margin me.old me.new (chapters_lent lent)) }
         ensures chapters { IfOk result (λ lent. me.new.handed_out ≡ me.old.handed_out ++ chapters_lent lent) }
         ensures number { IfOk result (λ lent. IfSome lent (λ c. c.now.number ≡ length me.old.handed_out)) }
-        ensures room { IfOk result (λ lent. IfSome lent (λ c. c.now.room ≡ me.old.room)) }
+        ensures fits { IfOk result (λ lent. IfSome lent (λ c. IsOfRing me.old c.now)) }
     {
         me.facts();
         if me.tag() != ring.tag() {
@@ -160,7 +161,7 @@ fn hand_out_due<R: Wait>(
     ensures chapters { me.new.handed_out ≡ me.old.handed_out ++ chapters_out result }
     ensures same { IfErr result (λ c. c ≡ kept) }
     ensures number { IfOk result (λ c. c.number ≡ length me.old.handed_out) }
-    ensures room { IfOk result (λ c. c.room ≡ me.old.room) }
+    ensures fits { IfOk result (λ c. IsOfRing me.old c) }
 {
     me.facts();
     let (entries, more) = match ring.used(rt, me) {

@@ -140,16 +140,19 @@ module _ (v : ChapterPassView) (r new : ChapterRing) (out : ChapterPassView) (id
     here-hands : (h : HeldChapter Consumer v r out) → HandsOut h.taken.ring new c
     here-hands h = subst (λ x. HandsOut x new c) (sym h.ring_is) hands
 
-    -- it has the room that the consumer knows
-    pub handed-room : c.room ≡ room_by v
-    handed-room =
-        let h = held-in Consumer v r out idle took in
-        ap (λ (x : Chapter). x.room) (here-hands h).next.out_is ∙ sym (h.knows refl).0
-
     pub put-next : MayPutChapter out new
     put-next =
         let h = held-in Consumer v r out idle took in
         subst (λ x. MayPutChapter x new) (sym h.now) (hands-out-may-put (known_in Consumer v) h.taken new c refl h.was_ring.has_chapters h.was_ring.is_ring (here-hands h))
+
+    -- it has the room and the workers that the pass knows
+    pub handed-fits : (c.room ≡ room_by v) × (c.opening.setup.workers ≡ (seen_by v).setup.workers)
+    handed-fits =
+        let h = held-in Consumer v r out idle took in
+        let is = here-hands h in (
+          ap (λ (x : Chapter). x.room) is.next.out_is ∙ sym (h.knows refl).0,
+          ap (λ (x : Chapter). x.opening.setup.workers) is.next.out_is ∙ ap (λ (x : Setup). x.workers) h.goes_on.setup_same,
+        )
 
     pub handed-next : (after : ChapterPassView) → PutsChapterState out new after → LeavesConsumer v after (bytes_by v) (handed_out_by v ++ c ∷ []) (HandsOutNext (handed_out_by v) c)
     handed-next after put =

@@ -46,7 +46,8 @@ fn hand_out_with<R: Wait>(rt: &R, lock: &Lock, pass: &mut RingPass, empty: Chapt
     ensures bytes { bytes_by (view pass.new) ≡ bytes_by (view pass.old) }
     ensures room { room_by (view pass.new) ≡ room_by (view pass.old) }
     ensures chapters { handed_out_by (view pass.new) ≡ handed_out_by (view pass.old) ++ result ∷ [] }
-    ensures old_room { result.room ≡ room_by (view pass.old) }
+    ensures chapter_room { result.room ≡ room_by (view pass.old) }
+    ensures chapter_workers { result.opening.setup.workers ≡ (seen_by (view pass.old)).setup.workers }
 {
     with_state(
         rt,
@@ -125,6 +126,7 @@ impl SharedRing {
         ensures chapters { IfOk result (λ c. me.new.handed_out ≡ me.old.handed_out ++ c ∷ []) }
         ensures number { IfOk result (λ c. c.number ≡ length me.old.handed_out) }
         ensures room { IfOk result (λ c. c.room ≡ me.old.room) }
+        ensures workers { IfOk result (λ c. c.opening.setup.workers ≡ me.old.seen.setup.workers) }
     {
         if me.tag != self.tag {
             return Err((HandFault::Foreign, empty));

@@ -36,7 +36,13 @@ impl<S: Sink> ConsumerTask<S> {
         requires ready { IsConsumerTaskOf S.position_of ring.now self.old }
         ensures taken { Consumed S.position_of S.takes self.old self.new }
     {
-        turn_chapter(rt, ring, &mut self.consumer, &mut self.keeper, &mut self.sink);
+        turn_chapter(
+            rt,
+            ring,
+            &mut self.consumer,
+            &mut self.keeper,
+            &mut self.sink,
+        );
         match self.batch.fill(rt, ring, &mut self.consumer) {
             Ok(count) => {
                 give_all(&mut self.sink, self.batch.items());

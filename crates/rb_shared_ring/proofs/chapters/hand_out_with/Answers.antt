@@ -1,6 +1,6 @@
 use Rattle.rb_chapter.specs.ChapterCalls.{HandsOut}
 use Rattle.rb_shared_ring.proofs.ChapterPassing.{called-in}
-use Rattle.rb_shared_ring.proofs.ConsumerPassing.{put-next, handed-next, handed-room, goes-on-in}
+use Rattle.rb_shared_ring.proofs.ConsumerPassing.{put-next, handed-next, handed-fits, goes-on-in}
 use Rattle.rb_shared_ring.proofs.chapters.hand_out_with.Goals as goal
 
 pub with_state-requires-clause-callable : goal.with_state-requires-clause-callable
@@ -18,12 +18,5 @@ returns g c =
     let r = c.with_state.result in
     let hands = called-in (λ x y. HandsOut x y r) _ _ _ _ l.called.shows l.called.leaves l.called.met in
     let e = handed-next _ _ _ _ c.requires.idle l.took r hands _ l.put in
-    record {
-      same = c.with_state.ensures.same;
-      idle = e.idle;
-      call = e.call;
-      bytes = e.bytes;
-      room = e.room;
-      chapters = e.chapters;
-      old_room = handed-room _ _ _ _ c.requires.idle l.took r hands;
-    }
+    let fits = handed-fits _ _ _ _ c.requires.idle l.took r hands in
+    record { same = c.with_state.ensures.same; idle = e.idle; call = e.call; bytes = e.bytes; room = e.room; chapters = e.chapters; chapter_room = fits.0; chapter_workers = fits.1 }

@@ -24,7 +24,7 @@ returns g c =
     let moved : pos y ≡ now.position = c.give_all.ensures.moved ∙ (ap (λ n. end_of n (tape_items c.items.result)) at ∙ (ap (λ (l : List Taken). end_of mid.position (tape_items l)) items ∙ sym e.end)) in
     let same = same_by_many old.batch.capacity ts mid now e.seat e.whole in
     let given = many_given takes old.batch.capacity ts mid now x y e.whole e.place e.position e.got c.fill.ensures.chapters
-        (subst (λ (l : List Taken). TakesAll takes x (items_among l) y) items c.give_all.ensures.given) in
+    (subst (λ (l : List Taken). TakesAll takes x (items_among l) y) items c.give_all.ensures.given) in
     record {
       taken = (
         same_on old.consumer mid now t.same same,
