@@ -7,8 +7,8 @@ ghost use Rattle.rb_jobs.specs.Jobs.{JobRan, JobRanCounted, task_of};
 use crate::gated_helpers::GatedHelpers;
 use crate::job::{Gate, Job, JobAnswer};
 use rb_interp::run;
-use rb_ledger::{Seat, SharedRing};
 use rb_seats::{SeatHelpers, Stock};
+use rb_shared_ring::{Seat, SharedRing};
 use std::alloc::{AllocError, Global};
 use std::sync::Wait;
 

@@ -4,17 +4,20 @@ use Rattle.std.proofs.lemmas.Bool.{cases_lt}
 use Rattle.std.specs.List.{AllZip}
 use Rattle.rb_history.specs.ReservationModel.{Granted}
 use Rattle.rb_history.specs.RingModel.{Ring}
-use Rattle.rb_history.specs.Calls.{FindsFull}
+use Rattle.rb_history.specs.Calls.{FindsFull, producer_now}
+use Rattle.rb_chapter.specs.ChapterRing.{ChapterRing}
 use Rattle.rb_ledger.specs.Roles.{BeginsWith, book_of}
 use Rattle.rb_ledger.specs.Roles.Role.{Worker}
 use Rattle.rb_ledger.specs.Seats.{WorkerSeat}
-use Rattle.rb_ledger.specs.LockedCalls.{Reserves, SubmitsAt, DiscardsAt, Queries}
-use Rattle.rb_ledger.proofs.Beginnings.{begins_with_all, begins_through, extended_begins, logged_begins, same_begins, call_begins}
+use Rattle.rb_ledger.specs.LockedCalls.{Reserves, SubmitsAt, DiscardsAt, OutputsAt, Queries, output_by, sent_by_output}
+use Rattle.rb_ledger.proofs.Beginnings.{begins_with_all, begins_through, logged_begins, same_begins, call_begins}
+use Rattle.rb_shared_ring.specs.SharedCalls.{OutputsInChapter}
 use Rattle.rb_helpers.specs.AnsweredCalls.{AnsweredCall, Reserved, Submitted, Discarded, SentOut, Queried}
 use Rattle.rb_seats.specs.declared.seat_record.SeatRecord.{SeatRecord}
-use Rattle.rb_seats.specs.SeatCalls.{AtSeat, CallsSeats, OutputAnswered, RecordAnswered, SeatDiscards, SeatIsRefused, SeatSubmits, ReserveAnswered, settled_answer}
+use Rattle.rb_seats.specs.SeatCalls.{AtSeat, CallsSeats, OutputAnswered, RecordAnswered, SeatCallsRing, SeatDiscards, SeatIsRefused, SeatOutputs, SeatSubmits, ReserveAnswered, notice_of, settled_answer}
 use Rattle.rb_seats.specs.SeatLaws.{SeatsGoOn, SeatBegins}
 use Rattle.rb_seats.proofs.Lists.{zip_self, zip_through, zip_one}
+use Rattle.rb_seats.proofs.RingCalls.{called_over_all}
 
 pub begins_itself : (s : WorkerSeat) → SeatBegins s s
 begins_itself s = begins_with_all s.seen
@@ -24,10 +27,26 @@ begins_on x y z first second = begins_through x.seen y.seen z.seen first second
 
 -- ---- one seat
 
+-- it made a call of the ring, whose history goes on
+seat_begins : (b a : WorkerSeat) (ByChapter : ChapterRing → ChapterRing → Type 0) (OverAll : Ring → Ring → Type 0) → SeatCallsRing ByChapter OverAll b a
+    → ((old new : Ring) → OverAll old new → BeginsWith (book_of new) (book_of old)) → SeatBegins b a
+seat_begins b a ByChapter OverAll call goes_on = call_begins (Worker b.worker) b.seen a.seen OverAll goes_on (called_over_all b a ByChapter OverAll call)
+
+ring_full : (w n : ℕ) (old new : Ring) → FindsFull old new w n → BeginsWith (book_of new) (book_of old)
+ring_full w n old new called = logged_begins old new _ called.logged
+
+ring_grants : (w n : ℕ) (r : Granted) (old new : Ring) → Reserves w n (Ok r) old new → BeginsWith (book_of new) (book_of old)
+ring_grants w n r old new called = logged_begins old new _ called.0.logged
+
+ring_queries : (what answer : ℕ) (old new : Ring) → Queries what answer old new → BeginsWith (book_of new) (book_of old)
+ring_queries what answer old new called = same_begins old new called.0
+
 refused_begins : (n unlogged : ℕ) (b a : WorkerSeat) → SeatIsRefused n unlogged b a → SeatBegins b a
 refused_begins n unlogged b a (inl full) =
-    call_begins (Worker b.worker) b.seen a.seen (λ old new. FindsFull old new b.worker n) (λ old new called. logged_begins old new _ called.logged) full.0.0
-refused_begins n unlogged b a (inr none) = extended_begins (Worker b.worker) b.seen a.seen none.0.0
+    seat_begins b a _ _ full.0.0 (ring_full b.worker n)
+refused_begins n unlogged b a (inr (inl full)) =
+    seat_begins b a _ _ full.0.0 same_begins
+refused_begins n unlogged b a (inr (inr none)) = subst (λ (s : WorkerSeat). SeatBegins b s) (sym none.0) (begins_itself b)
 
 same_or_other : (x y : ℕ) → (x < y) ⊎ (y ≤ x) → (y < x) ⊎ (x ≤ y) → (x ≡ y) ⊎ (x ≢ y)
 same_or_other x y (inl below) other = inr (λ e. absurd (omega (arith, below, e)))
@@ -44,13 +63,20 @@ ring_discards r flags false due old new called = same_begins old new called.same
 
 submit_begins : (r : Granted) (flags : ℕ) (taken due : Bool) (b a : WorkerSeat) → (r.worker ≡ b.worker) ⊎ (r.worker ≢ b.worker) → SeatSubmits r flags taken due b a → SeatBegins b a
 submit_begins r flags taken due b a (inl own) did =
-    call_begins (Worker b.worker) b.seen a.seen (SubmitsAt r flags (settled_answer r taken due)) (ring_submits r flags taken due) (did.0 own)
+    seat_begins b a _ _ (did.0 own) (ring_submits r flags taken due)
 submit_begins r flags taken due b a (inr other) did = subst (λ (s : WorkerSeat). SeatBegins b s) (sym (did.1 other).1) (begins_itself b)
 
 discard_begins : (r : Granted) (flags : ℕ) (taken due : Bool) (b a : WorkerSeat) → (r.worker ≡ b.worker) ⊎ (r.worker ≢ b.worker) → SeatDiscards r flags taken due b a → SeatBegins b a
 discard_begins r flags taken due b a (inl own) did =
-    call_begins (Worker b.worker) b.seen a.seen (DiscardsAt r flags (settled_answer r taken due)) (ring_discards r flags taken due) (did.0 own)
+    seat_begins b a _ _ (did.0 own) (ring_discards r flags taken due)
 discard_begins r flags taken due b a (inr other) did = subst (λ (s : WorkerSeat). SeatBegins b s) (sym (did.1 other).1) (begins_itself b)
+
+sent_begins : (bytes : List ℕ) (flags : ℕ) (due : Bool) (b a : WorkerSeat) → SeatOutputs bytes flags due b a → SeatBegins b a
+sent_begins bytes flags due b a did =
+    seat_begins b a (OutputsInChapter b.worker bytes flags (Ok (notice_of due))) (λ old new.
+    OutputsAt b.worker bytes flags (Ok (notice_of due)) old new
+    × (a ≡ record b { seen = a.seen; tally = output_by b.tally (Ok (notice_of due)); sent = sent_by_output b.sent (producer_now old) bytes (Ok (notice_of due)) })) did
+    (λ old new called. logged_begins old new _ called.0.0.logged)
 
 -- ---- all seats, by one call
 
@@ -69,14 +95,14 @@ record_begins ring taken due Did old new begins answered (inr beyond) = begins_n
 reserve_begins : (ring n flags : ℕ) (answer : Option SeatRecord) (unlogged : ℕ) (old new : List WorkerSeat) → ReserveAnswered ring n flags answer unlogged old new → (0 < flags) ⊎ (flags ≤ 0) → AllZip SeatBegins old new
 reserve_begins ring n flags (Some r) unlogged old new led flagged =
     begins_at ring _ old new
-    (λ b a did. call_begins (Worker b.worker) b.seen a.seen (Reserves b.worker n (Ok r.reservation)) (λ before after called. logged_begins before after _ called.0.logged) did.0) led.3
+    (λ b a did. seat_begins b a _ _ did.0 (ring_grants b.worker n r.reservation)) led.3
 reserve_begins ring n flags None unlogged old new led (inl above) = begins_nowhere old new (led.1 (λ e. absurd (omega (arith, above, e)))).0
 reserve_begins ring n flags None unlogged old new led (inr zero) = begins_at ring _ old new (refused_begins n unlogged) (led.0 (omega (arith, zero)))
 
 output_begins : (ring : ℕ) (bytes : List ℕ) (flags : ℕ) (answer : ℤ) (due : Bool) (unlogged : ℕ) (old new : List WorkerSeat) → OutputAnswered ring bytes flags answer due unlogged old new
     → (answer ≡ pos 0) ⊎ (answer ≡ negsuc 10) ⊎ (answer ≡ negsuc 21) → AllZip SeatBegins old new
 output_begins ring bytes flags answer due unlogged old new led (inl is) =
-    begins_at ring _ old new (λ b a did. call_begins (Worker b.worker) b.seen a.seen _ (λ before after called. logged_begins before after _ called.0.0.logged) did) (led.sent is).0
+    begins_at ring (SeatOutputs bytes flags due) old new (sent_begins bytes flags due) (led.sent is).0
 output_begins ring bytes flags answer due unlogged old new led (inr (inl is)) = begins_at ring _ old new (refused_begins (length bytes) unlogged) (led.refused is).0
 output_begins ring bytes flags answer due unlogged old new led (inr (inr is)) = begins_nowhere old new (led.no_step is).0
 
@@ -92,7 +118,7 @@ call_goes_on (Discarded owned flags taken) due unlogged old new led =
     led.0 (cases_lt owned.ring (length old))
 call_goes_on (SentOut ring bytes flags answer) due unlogged old new led = output_begins ring bytes flags answer due unlogged old new led led.answer_is.1
 call_goes_on (Queried ring what answer) due unlogged old new led =
-    begins_at ring _ old new (λ b a did. call_begins (Worker b.worker) b.seen a.seen (Queries what answer) (λ before after called. same_begins before after called.0) did.0) led.0
+    begins_at ring _ old new (λ b a did. seat_begins b a _ _ did.0 (ring_queries what answer)) led.0
 
 -- ---- the law
 

@@ -3,4 +3,5 @@ pub mod Leading
 pub mod Lists
 pub mod Noting
 pub mod OneSeat
+pub mod RingCalls
 pub mod Totals

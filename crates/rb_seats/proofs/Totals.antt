@@ -94,8 +94,9 @@ rises_nowhere d unlogged old new is none makes_is fails_is submits_is discards_i
 refusal_adds : (n unlogged : ℕ) (b a : WorkerSeat) → SeatIsRefused n unlogged b a → (r : ℕ) × Adds 0 r 0 0 b a × (r + unlogged ≡ 1)
 refusal_adds n unlogged b a (inl full) =
     (1, adds_as 0 1 0 0 b a _ full.0.1 (record { tag_same = refl; ring_same = refl; worker_same = refl }, add_zero _, refl, add_zero _, add_zero _), omega (arith, full.1))
-refusal_adds n unlogged b a (inr none) =
-    (0, adds_as 0 0 0 0 b a _ none.0.1 (record { tag_same = refl; ring_same = refl; worker_same = refl }, add_zero _, add_zero _, add_zero _, add_zero _), omega (arith, none.1))
+refusal_adds n unlogged b a (inr (inl full)) =
+    (0, adds_as 0 0 0 0 b a _ full.0.1 (record { tag_same = refl; ring_same = refl; worker_same = refl }, add_zero _, add_zero _, add_zero _, add_zero _), omega (arith, full.1))
+refusal_adds n unlogged b a (inr (inr none)) = (0, adds_as 0 0 0 0 b a _ none.0 (same_seat b, add_zero _, add_zero _, add_zero _, add_zero _), omega (arith, none.1))
 
 refused_rises : (d : Done) (ring n unlogged : ℕ) (old new : List WorkerSeat) → AtSeat ring (SeatIsRefused n unlogged) old new → 0 ≡ makes d → 1 ≡ fails d → 0 ≡ submits d → 0 ≡ discards d
     → CallRises d unlogged old new
@@ -140,7 +141,7 @@ output_rises ring bytes flags answer due unlogged old new led (inl is) =
     let sent = led.sent is in
     subst (λ x. CallRises (Output ring (length bytes) flags x) unlogged old new) (sym is)
     (rises_at (Output ring (length bytes) flags (pos 0)) unlogged 1 0 1 0 ring _ old new sent.0
-    (adds_as 1 0 1 0 sent.0.before sent.0.after _ sent.0.did.called.1 (record { tag_same = refl; ring_same = refl; worker_same = refl }, refl, add_zero _, refl, add_zero _)) refl (none_added unlogged sent.1) refl refl)
+    (adds_as 1 0 1 0 sent.0.before sent.0.after _ sent.0.did.called.1.1 (record { tag_same = refl; ring_same = refl; worker_same = refl }, refl, add_zero _, refl, add_zero _)) refl (none_added unlogged sent.1) refl refl)
 output_rises ring bytes flags answer due unlogged old new led (inr (inl is)) =
     subst (λ x. CallRises (Output ring (length bytes) flags x) unlogged old new) (sym is)
     (refused_rises (Output ring (length bytes) flags (negsuc 10)) ring (length bytes) unlogged old new (led.refused is).0 refl refl refl refl)

@@ -73,7 +73,7 @@ discards _ = 0
 abbrev pub is_no_record : ℤ → Bool
 is_no_record answer = int_eq answer (neg_ℤ EAGAIN)
 
--- no record was made, since there was no room or no memory: null for flags 0, or -EAGAIN
+-- no record was made, since the ring or its chapter had no room or there was no memory: null for flags 0, or -EAGAIN
 abbrev pub fails : Done → ℕ
 fails (Reserve ring len zero false) = 1
 fails (Output ring len flags answer) = cond (is_no_record answer) 1 0

@@ -9,8 +9,8 @@ use Rattle.rb_helpers.specs.AnsweredCalls.{AnsweredCall, notes_of, AllMayAnswer}
 use Rattle.rb_seats.specs.declared.seat_record.SeatRecord.{SeatRecord}
 use Rattle.rb_seats.specs.SeatHelpers.{AtSeats, Leads, SeatsLead, makes, submits, discards, fails, call_total, made_in, refused_in, submitted_in, discarded_in}
 
--- the same seats, whose numbers rose by what these calls say; each call that failed since there was no room or no memory is refused in a
--- ring's history, or unlogged
+-- the same seats, whose numbers rose by what these calls say; each call that failed since a ring or its chapter had no room or there was no
+-- memory is refused in a ring's history, or unlogged
 pub record TotalsRise (calls : List Done) (unlogged : ℕ) (old new : List WorkerSeat) : Type 0 where
   pub same : AllZip IsSameSeat old new
   pub made_is : made_in new ≡ made_in old + call_total makes calls

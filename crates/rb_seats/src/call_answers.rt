@@ -3,8 +3,10 @@
 ghost use Rattle.std.specs.Prelude.{◌≡◌};
 ghost use Rattle.rb_seats.specs.inner.CallAnswers.{due_in, output_number, unlogged_in};
 
+use crate::no_record::NoRecord;
 use rb_helpers::{EAGAIN, EINVAL};
-use rb_history::{Notice, ReserveFault};
+use rb_history::Notice;
+use rb_shared_ring::ReserveFault;
 
 // Whether a notice is due.
 pub(crate) fn is_due<E>(answer: &Result<Notice, E>) -> bool
@@ -14,19 +16,22 @@ pub(crate) fn is_due<E>(answer: &Result<Notice, E>) -> bool
 }
 
 // Whether the call failed and no history says so.
-pub(crate) fn is_unlogged<T>(answer: &Result<T, ReserveFault>) -> bool
+pub(crate) fn is_unlogged<T>(answer: &Result<T, NoRecord>) -> bool
     ensures { result ≡ unlogged_in answer.now }
 {
-    matches!(answer, Err(ReserveFault::Memory))
+    matches!(
+        answer,
+        Err(NoRecord::NoSheet | NoRecord::Refused(ReserveFault::ChapterFull))
+    )
 }
 
 // The answer of an output.
-pub(crate) fn answer_of(answer: &Result<Notice, ReserveFault>) -> i64
+pub(crate) fn answer_of(answer: &Result<Notice, NoRecord>) -> i64
     ensures { result ≡ output_number answer.now }
 {
     match answer {
         Ok(_) => 0,
-        Err(ReserveFault::Flags) => -EINVAL,
+        Err(NoRecord::BadFlags) => -EINVAL,
         Err(_) => -EAGAIN,
     }
 }

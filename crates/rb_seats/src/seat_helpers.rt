@@ -1,21 +1,22 @@
 //! Helpers over the seats of one worker.
 
 ghost use Rattle.std.specs.Prelude.{◌≡◌, ◌≢◌, ◌↔◌, ◌⊎◌, ◌+◌, ◌<◌, ◌≤◌, pos, neg_ℤ, true, false, [], ◌∷◌, ◌++◌, IfOk, IfErr, IfSome, IsErr, IsErrOf, is_ok, is_some, length, replicate};
-ghost use Rattle.rb_history.specs.declared.answers.ReserveFault.TheVariants.{Flags};
 ghost use Rattle.rb_helpers.specs.declared.done.Done.TheVariants.{Reserve, Submit, Discard, Output, Query};
 ghost use Rattle.rb_helpers.specs.AnsweredCalls.{Reserved, Submitted, Discarded, SentOut, Queried};
 ghost use Rattle.rb_helpers.specs.ErrorNumbers.{EAGAIN, EINVAL};
+ghost use Rattle.rb_seats.specs.declared.no_record.NoRecord.TheVariants.{BadFlags};
 ghost use Rattle.rb_seats.specs.SeatCalls.{AtSeat, RecordAnswered, SeatDiscards, SeatQueries, SeatSubmits};
 ghost use Rattle.rb_seats.specs.SeatHelpers.{AtRings, CallsHelpers, Leads, has_number};
 ghost use Rattle.rb_seats.specs.inner.CallAnswers.{SeatReserves, SeatSends, due_in, with_call};
 
 use crate::call_answers::{answer_of, is_due, is_unlogged};
+use crate::no_record::NoRecord;
 use crate::seat_record::SeatRecord;
 use crate::sheets::{copied_sheet, give_back, zero_sheet};
 use crate::stock::Stock;
 use rb_helpers::{Done, Helpers};
-use rb_history::{Notice, Reservation, ReserveFault, Stray};
-use rb_ledger::{Foreign, Seat, SharedRing};
+use rb_history::{Notice, Reservation, Stray};
+use rb_shared_ring::{Foreign, Seat, SharedRing};
 use std::alloc::{AllocError, Global};
 use std::marker::Model;
 use std::sync::Wait;
@@ -110,24 +111,26 @@ impl<'h, R: Wait, S: Stock> SeatHelpers<'h, R, S> {
 
 impl<'h, R: Wait, S: Stock> SeatHelpers<'h, R, S> {
     // Reserves a record at the ring's seat, without noting the call. Its sheet is made before the ring is held.
-    fn try_reserve(&mut self, ring: u32, n: u32, flags: u64) -> Result<Reservation, ReserveFault>
+    fn try_reserve(&mut self, ring: u32, n: u32, flags: u64) -> Result<Reservation, NoRecord>
         requires ring { has_number self.old ring ≡ true }
         ensures rest { self.new ≡ record self.old { seats = self.new.seats } }
-        ensures flags { IsErrOf result Flags ↔ (flags ≢ 0) }
+        ensures flags { IsErrOf result BadFlags ↔ (flags ≢ 0) }
         ensures no_step { flags ≢ 0 → self.new.seats ≡ self.old.seats }
         ensures seat { flags ≡ 0 → AtSeat ring (SeatReserves n result) self.old.seats self.new.seats }
         ensures zeros { IfOk result (λ r. r.bytes ≡ replicate n 0) }
     {
         if flags != 0 {
-            return Err(ReserveFault::Flags);
+            return Err(NoRecord::BadFlags);
         }
-        let sheet = zero_sheet(self.alloc, self.stock, n).ok_or(ReserveFault::Memory)?;
+        let sheet = zero_sheet(self.alloc, self.stock, n).ok_or(NoRecord::NoSheet)?;
         let at = ring as usize;
+        let seat = &self.seats[at];
+        seat.facts();
         match self.rings[at].reserve(self.rt, &mut self.seats[at], n, sheet) {
             Ok(reservation) => Ok(reservation),
             Err(refused) => {
                 give_back(self.stock, refused.1);
-                Err(refused.0)
+                Err(NoRecord::Refused(refused.0))
             }
         }
     }
@@ -169,23 +172,25 @@ impl<'h, R: Wait, S: Stock> SeatHelpers<'h, R, S> {
     }
 
     // Outputs the bytes at the ring's seat, without noting the call. Its sheet is made before the ring is held.
-    fn try_output(&mut self, ring: u32, bytes: &[u8], flags: u64) -> Result<Notice, ReserveFault>
+    fn try_output(&mut self, ring: u32, bytes: &[u8], flags: u64) -> Result<Notice, NoRecord>
         requires ring { has_number self.old ring ≡ true }
         ensures rest { self.new ≡ record self.old { seats = self.new.seats } }
-        ensures flags { IsErrOf result Flags ↔ (3 < flags) }
+        ensures flags { IsErrOf result BadFlags ↔ (3 < flags) }
         ensures no_step { 3 < flags → self.new.seats ≡ self.old.seats }
         ensures seat { flags ≤ 3 → AtSeat ring (SeatSends bytes.now flags result) self.old.seats self.new.seats }
     {
         if flags > 3 {
-            return Err(ReserveFault::Flags);
+            return Err(NoRecord::BadFlags);
         }
-        let sheet = copied_sheet(self.alloc, self.stock, bytes).ok_or(ReserveFault::Memory)?;
+        let sheet = copied_sheet(self.alloc, self.stock, bytes).ok_or(NoRecord::NoSheet)?;
         let at = ring as usize;
+        let seat = &self.seats[at];
+        seat.facts();
         match self.rings[at].output(self.rt, &mut self.seats[at], sheet, flags) {
             Ok(notice) => Ok(notice),
             Err(refused) => {
                 give_back(self.stock, refused.1);
-                Err(refused.0)
+                Err(NoRecord::Refused(refused.0))
             }
         }
     }
@@ -237,8 +242,8 @@ impl<'h, R: Wait, S: Stock> Helpers for SeatHelpers<'h, R, S> {
 
     ghost leads_on = { called_on };
 
-    /// Null where flags are not 0, without memory and without a step of the ring; where there is no room, which the ring's history says; and
-    /// where memory is refused, which is unlogged.
+    /// Null where flags are not 0, without memory and without a step of the ring; where the ring has no room, which its history says; and
+    /// where its chapter has no room or memory is refused, which are unlogged.
     fn reserve(&mut self, ring: u32, n: u32, flags: u64) -> Option<SeatRecord>
         requires room { 0 < self.old.room }
         requires ring { has_number self.old ring ≡ true }
@@ -319,8 +324,9 @@ impl<'h, R: Wait, S: Stock> Helpers for SeatHelpers<'h, R, S> {
         }
     }
 
-    /// `-EINVAL` where flags are above 3, without memory and without a step of the ring; `-EAGAIN` where there is no room, which the
-    /// ring's history says, where memory is refused, and for more bytes than a record can have, which are unlogged; else 0.
+    /// `-EINVAL` where flags are above 3, without memory and without a step of the ring; `-EAGAIN` where the ring has no room, which its
+    /// history says, where its chapter has no room, where memory is refused, and for more bytes than a record can have, which are
+    /// unlogged; else 0.
     fn output(&mut self, ring: u32, bytes: &[u8], flags: u64) -> i64
         requires room { 0 < self.old.room }
         requires ring { has_number self.old ring ≡ true }

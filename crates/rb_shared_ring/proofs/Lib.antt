@@ -1,6 +1,6 @@
 mod LockedSteps
 mod ChapterPassing
-mod WholeAnswers
+pub mod WholeAnswers
 mod WorkerPassing
 mod ConsumerPassing
 mod AnswersMeet

@@ -1,6 +1,6 @@
 use Rattle.std.proofs.Common.{◌<◌, ap, arith, rules, length, refl}
 use Rattle.rb_seats.specs.SeatHelpers.{AtSeats}
-use Rattle.rb_seats.proofs.OneSeat.{is_seat, seat_there, stays_at, at_seat, seat_is}
+use Rattle.rb_seats.proofs.OneSeat.{is_seat, seat_there, stays_at, at_seat, queried_at}
 use Rattle.rb_seats.proofs.seat_helpers.SeatHelpers.try_query.Goals as goal
 
 pub index_mut-requires : goal.index_mut-requires
@@ -25,4 +25,4 @@ pub returns-clause-seat : goal.returns-clause-seat
 returns-clause-seat g c =
     let below : c.args.ring < length c.self.inside.rings.now = search rules in
     at_seat _ c.args.self.now _ _ _ _ _ (ap (λ (h : AtSeats). h.seats) c.self.view_is) c.self.invariant.0 below c.index_mut.ensures.value
-    (c.in-Ok.ensures.call, seat_is _ _ _ _ c.query.ensures.seat c.query.ensures.released c.query.ensures.tally c.query.ensures.sent)
+    (queried_at c.args.what c.in-Ok.answer _ _ c.query.ensures.seat c.query.ensures.released c.query.ensures.tally c.query.ensures.sent c.in-Ok.ensures.call)
