@@ -7,13 +7,13 @@ ghost use Rattle.rb_run_commands.specs.ReportLines.{report_text};
 ghost use Rattle.rb_run_commands.specs.RunCommand.{IsRightJobsFault, IsRightRingFault, PrintsRun, RunsWorkers};
 ghost use Rattle.rb_run_commands.specs.inner.OpeningFaults.{fault_of_opening};
 
-use crate::gate::OpenGate;
 use crate::jobs_fault::JobsFault;
 use crate::report_lines::text_of_report;
 use crate::worker_jobs::{CONTEXT, contexts_of, jobs_of};
 use rb_header::span;
 use rb_history::check_setup;
 use rb_io::write_whole;
+use rb_jobs::OpenGate;
 use rb_ledger::OpenFault;
 use rb_loader::{Bounds, ProgramFault, read_program};
 use rb_verifier::Verified;
