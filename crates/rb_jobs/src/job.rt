@@ -30,3 +30,10 @@ pub trait Gate {
     /// with which numbers, is tested and not proved.
     fn at(&self, worker: u32, call: u64);
 }
+
+/// A gate that lets each call pass.
+pub struct OpenGate;
+
+impl Gate for OpenGate {
+    fn at(&self, _worker: u32, _call: u64) {}
+}

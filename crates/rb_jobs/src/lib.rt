@@ -11,6 +11,6 @@ mod job;
 mod job_laws;
 mod job_run;
 
-pub use job::{Gate, Job, JobAnswer};
+pub use job::{Gate, Job, JobAnswer, OpenGate};
 pub use job_laws::jobs_give_back;
 pub use job_run::run_job;

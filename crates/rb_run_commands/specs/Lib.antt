@@ -1,7 +1,3 @@
-pub mod Check
-pub mod DrainedRings
-pub mod FreshRings
-pub mod Printed
 pub mod ReportLines
 pub mod RunCommand
 pub mod TapedRun

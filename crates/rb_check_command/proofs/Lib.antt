@@ -1,0 +1,5 @@
+mod Checking
+mod Draining
+mod Fresh
+mod Printing
+mod Sizes

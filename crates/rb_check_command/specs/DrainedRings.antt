@@ -1,0 +1,68 @@
+-- What is taken of rings, each up to where its producer stands. Each call is told by the ring's chapter and over its whole history: the entries
+-- of the chapters that were handed out, then those of its own (own).
+use Rattle.std.specs.Prelude.{◌≡◌, ◌+◌, List, [], ◌∷◌}
+use Rattle.std.specs.List.{AllZip}
+use Rattle.rb_history.specs.Calls.{producer_now}
+use Rattle.rb_history.specs.declared.answers.Taken.{Taken}
+use Rattle.rb_history.specs.declared.answers.Taken.TheVariants.{Event, Skipped, BusyFront, Empty}
+use Rattle.rb_ledger.specs.LockedCalls.{TakesAt, IsTakenAt, span_in, got_by}
+use Rattle.rb_ledger.specs.Roles.{Book, BeginsWith}
+use Rattle.rb_ledger.specs.Roles.Role.{Consumer, Worker}
+use Rattle.rb_ledger.specs.Seats.{Shared, WorkerSeat}
+use Rattle.rb_chapter_ledger.specs.ChapteredRing.{whole_of}
+use Rattle.rb_chapter_ledger.specs.ChapterSeats.{ChapterConsumerSeat}
+use Rattle.rb_chapter_ledger.specs.LockedChapterCalls.{LockedChapterCall, InKnownChapter, TakesInChapter}
+
+-- ---- one ring
+
+-- the consumer's seat is one of the ring
+abbrev pub IsConsumerOf : Shared → ChapterConsumerSeat → Type 0
+IsConsumerOf ring consumer = (consumer.tag ≡ ring.tag) × (consumer.ring ≡ ring.ring)
+
+-- it is a record, submitted or discarded
+abbrev pub IsRecord : Taken → Type 0
+IsRecord (Event pos worker serial bytes) = Unit {0}
+IsRecord (Skipped pos len) = Unit {0}
+IsRecord BusyFront = ⊥
+IsRecord Empty = ⊥
+
+-- the consumer took this record, which stood at its position, at one call of the ring; it handed no chapter out
+pub record TakesRecord (before : ChapterConsumerSeat) (taken : Taken) (after : ChapterConsumerSeat) : Type 0 where
+  pub is_record : IsRecord taken
+  pub call : LockedChapterCall Consumer before.seen after.seen (λ old new. InKnownChapter before.handed_out (TakesInChapter taken) old new × TakesAt taken (whole_of old) (whole_of new))
+  pub place : IsTakenAt before.position taken
+  pub moved : after.position ≡ before.position + span_in taken
+  pub got : after.got ≡ got_by before.got taken
+  pub chapters_same : after.handed_out ≡ before.handed_out
+
+-- the consumer took no record meanwhile, and handed no chapter out; it may have seen what others did
+pub record TakesNone (before after : ChapterConsumerSeat) : Type 0 where
+  pub seen : BeginsWith after.seen before.seen
+  pub stayed : after.position ≡ before.position
+  pub got_same : after.got ≡ before.got
+  pub chapters_same : after.handed_out ≡ before.handed_out
+
+-- the consumer took these records, one after another, and no other
+abbrev pub TakesEach : ChapterConsumerSeat → List Taken → ChapterConsumerSeat → Type 0
+TakesEach before [] after = TakesNone before after
+TakesEach before (taken ∷ more) after =
+    (here next : ChapterConsumerSeat) × TakesNone before here × TakesRecord here taken next × TakesEach next more after
+
+-- the consumer took these records, up to the producer position that the worker's seat was told: none is left that the worker knows of
+pub record DrainsRing (seat : WorkerSeat) (consumer : ChapterConsumerSeat) (records : List Taken) : Type 0 where
+  pub seen : Book
+  pub after : ChapterConsumerSeat
+  pub each : TakesEach consumer records after
+  pub none_left : LockedChapterCall (Worker seat.worker) seat.seen seen (λ old new. (new ≡ old) × (producer_now (whole_of old) ≡ after.position))
+
+-- ---- all rings
+
+-- each ring's consumer, in the rings' order
+abbrev pub AreConsumersOf : List Shared → List ChapterConsumerSeat → Type 0
+AreConsumersOf rings consumers = AllZip IsConsumerOf rings consumers
+
+-- the rings were drained, in their order
+abbrev pub DrainsRings : List WorkerSeat → List ChapterConsumerSeat → List (List Taken) → Type 0
+DrainsRings [] [] [] = Unit {0}
+DrainsRings (seat ∷ seats) (consumer ∷ consumers) (records ∷ more) = DrainsRing seat consumer records × DrainsRings seats consumers more
+DrainsRings _ _ _ = ⊥

@@ -1,0 +1,4 @@
+pub mod Check
+pub mod DrainedRings
+pub mod FreshRings
+pub mod Printed

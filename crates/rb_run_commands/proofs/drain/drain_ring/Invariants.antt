@@ -1,9 +1,0 @@
-use Rattle.rb_ledger.specs.Seats.{IsSameConsumerSeat}
-use Rattle.rb_run_commands.specs.DrainedRings.{TakesEach}
-use Rattle.rb_run_commands.proofs.drain.drain_ring.Given as goal
-
-abbrev pub invariant-loop : goal.invariant-loop
-invariant-loop g l = record {
-  same : IsSameConsumerSeat l.fn.consumer l.consumer;
-  each : TakesEach l.fn.consumer l.records.items l.consumer;
-}
