@@ -1,1 +1,6 @@
+mod Keywords
+mod ScriptWords
+mod ScriptLines
+mod ScriptLineEnds
+mod ScriptParts
 mod TurnLines

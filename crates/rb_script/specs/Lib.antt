@@ -1,3 +1,4 @@
+pub mod ScriptText
 pub mod Scripts
 pub mod OutputLines
 pub mod Simulation
