@@ -3,4 +3,6 @@ mod ScriptWords
 mod ScriptLines
 mod ScriptLineEnds
 mod ScriptParts
+mod WorkerPrograms
 mod TurnLines
+mod WorldEnds
