@@ -1,24 +1,8 @@
 -- The programs of a script's workers, one after the other.
-use Rattle.std.proofs.Common.{◌≡◌, ◌<◌, ◌≤◌, ◌+◌, ◌⊎◌, ℕ, List, [], ◌∷◌, ◌++◌, length, map, take, drop, get_or, Result, Ok, Err, refl, sym, ap, subst, ◌∙◌, inl, inr, append_assoc, arith}
-use Rattle.std.specs.Prelude.{IsOk}
+use Rattle.std.proofs.Common.{◌≡◌, ◌<◌, ◌+◌, ◌⊎◌, ℕ, List, [], ◌∷◌, ◌++◌, length, map, take, drop, get_or, Result, Err, refl, sym, ap, subst, ◌∙◌, inl, inr}
 use Rattle.std.specs.List.{AllZip}
 use Rattle.std.proofs.lemmas.List.{take_more, take-append-drop, drop_more, map-append}
-use Rattle.rb_insn.specs.declared.insn.Insn.{Insn}
-use Rattle.rb_insn.specs.Spelling.{SpellsAll}
-use Rattle.rb_decode.specs.Program.{IsProgram}
-use Rattle.rb_decode.specs.Text.{IsHexOf, without_white_space}
-use Rattle.rb_decode.specs.declared.fault.TextFault.{TextFault}
-use Rattle.rb_decode.specs.declared.fault.TextFault.TheVariants as text_fault
-use Rattle.rb_cfg.specs.Shape.{IsWellShaped}
-use Rattle.rb_cfg.specs.ShapeFaults.{shape_no_memory}
-use Rattle.rb_cfg.specs.declared.fault.ShapeFault.{ShapeFault}
-use Rattle.rb_cfg.specs.declared.fault.ShapeFaultKind.TheVariants as shape_fault
-use Rattle.rb_refs.specs.declared.limits.Limits.{Limits}
-use Rattle.rb_verifier.specs.Annotation.{HasValid}
-use Rattle.rb_verifier.specs.Refusals.{IsRightRefusal}
-use Rattle.rb_verifier.specs.Subject.{Subject, limits_of}
-use Rattle.rb_verifier.specs.declared.refusal.Refusal.{Refusal}
-use Rattle.rb_verifier.specs.declared.refusal.Refusal.TheVariants as refusal
+use Rattle.rb_verifier.specs.Subject.{Subject}
 use Rattle.rb_script.specs.declared.script.ScriptWorker.{ScriptWorker}
 use Rattle.rb_script.specs.declared.script_fault.ScriptFault.{ScriptFault}
 use Rattle.rb_script.specs.declared.script_fault.ScriptFault.TheVariants.{Line, Memory}
@@ -38,7 +22,7 @@ module _ (rings : ℕ) (workers : List ScriptWorker) (i : ℕ) (w : ScriptWorker
   pub programs-more : (subject : Subject) → IsProgramOf rings (worker_text w) subject → AllZip (IsProgramOf rings) (map worker_text (take (i + 1) workers)) (programs ++ subject ∷ [])
   programs-more subject is =
       let more : map worker_text (take (i + 1) workers) ≡ map worker_text (take i workers) ++ worker_text w ∷ [] =
-          ap (map worker_text) (take_more workers i w low ∙ ap (λ x. take i workers ++ x ∷ []) (sym is_at)) ∙ map-append worker_text (take i workers) (w ∷ []) in
+      ap (map worker_text) (take_more workers i w low ∙ ap (λ x. take i workers ++ x ∷ []) (sym is_at)) ∙ map-append worker_text (take i workers) (w ∷ []) in
       subst (λ l. AllZip (IsProgramOf rings) l (programs ++ subject ∷ [])) (sym more) (zip-more rings (map worker_text (take i workers)) programs (worker_text w) subject so_far is)
 
   pub programs-fault : (fault : ScriptFault) → IsFaultUnless w.line (HasProgram rings (worker_text w)) fault → IsProgramsFault rings (map worker_text workers) fault

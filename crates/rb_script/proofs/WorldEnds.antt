@@ -1,5 +1,5 @@
 -- The lines of a world at the end.
-use Rattle.std.proofs.Common.{◌≡◌, ◌≤◌, ◌+◌, ℕ, List, [], ◌∷◌, length, sym, ap, ◌∙◌, refl, arith}
+use Rattle.std.proofs.Common.{◌≡◌, ◌≤◌, ℕ, List, [], ◌∷◌, length, ap, ◌∙◌, refl, arith}
 use Rattle.std.specs.List.{AllZip}
 use Rattle.rb_history.specs.declared.answers.Counts.{Counts}
 use Rattle.rb_chapter.specs.ChapterRing.{ChapterRing}

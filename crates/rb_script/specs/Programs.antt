@@ -1,5 +1,5 @@
 -- The programs that the workers of a script run, and the first worker whose program is refused (own).
-use Rattle.std.specs.Prelude.{ℕ, ◌≡◌, ◌≤◌, List, [], ◌∷◌, ◌++◌, length}
+use Rattle.std.specs.Prelude.{ℕ, ◌≡◌, ◌≤◌, List, ◌∷◌, ◌++◌, length}
 use Rattle.std.specs.List.{AllZip}
 use Rattle.rb_insn.specs.Spelling.{SpellsAll}
 use Rattle.rb_decode.specs.Program.{IsProgram}

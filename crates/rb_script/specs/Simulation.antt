@@ -10,7 +10,6 @@ use Rattle.rb_world.specs.WorldValue.{WorldValue, world_of, ring_at}
 use Rattle.rb_world.specs.WorldRuns.{next_unit, result_of}
 use Rattle.rb_world.specs.TurnsDone.{TellsEvent}
 use Rattle.rb_world.specs.OpenedWorlds.{IsOpenedWorld}
-use Rattle.rb_world.specs.declared.opening.RingSetup.{RingSetup}
 use Rattle.rb_world.specs.declared.opening.WorkerSetup.{WorkerSetup}
 use Rattle.rb_chapter.specs.ChapterRing.{ChapterRing}
 use Rattle.rb_chapter.specs.CountedFrom.{producer_from, consumer_from}

@@ -14,5 +14,5 @@ pub loop-worker-preserved : goal.loop-worker-preserved
 loop-worker-preserved c =
     let pushed : c.push.new.self.items ≡ c.loop-worker.programs.items ++ c.in-Ok.program ∷ [] = search rules in
     subst (λ l. AllZip (IsProgramOf c.args.rings) (map worker_text (take (c.loop-worker.worker-index + 1) c.args.workers.now)) l) (sym pushed) (
-      programs-more c.args.rings c.args.workers.now c.loop-worker.worker-index c.worker-item.result c.worker-item.is c.loop-worker-test.true c.loop-worker.programs.items c.loop-worker.invariant c.in-Ok.program c.in-Ok.ensures.program
+    programs-more c.args.rings c.args.workers.now c.loop-worker.worker-index c.worker-item.result c.worker-item.is c.loop-worker-test.true c.loop-worker.programs.items c.loop-worker.invariant c.in-Ok.program c.in-Ok.ensures.program
     )

@@ -1,4 +1,4 @@
-use Rattle.std.proofs.Common.{◌≡◌, length, map, ap, rules, arith}
+use Rattle.std.proofs.Common.{length, map, ap, rules, arith}
 use Rattle.std.specs.List.{AllZip}
 use Rattle.std.proofs.lemmas.Grind.{common_steps}
 use Rattle.rb_script.specs.Programs.{IsProgramOf, IsProgramsFault}
