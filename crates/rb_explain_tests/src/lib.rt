@@ -3,6 +3,10 @@
 #![tactic(auto)]
 
 #[cfg(test)]
+mod accepted;
+#[cfg(test)]
 mod explained;
 #[cfg(test)]
 mod llvm_programs;
+#[cfg(test)]
+mod refused;

@@ -7,7 +7,7 @@ use Rattle.rb_history.specs.declared.answers.Taken.{Taken}
 use Rattle.rb_history.specs.declared.answers.Taken.TheVariants.{Event, Skipped, BusyFront, Empty}
 use Rattle.rb_interleavings.specs.declared.actor.Actor.{Actor}
 use Rattle.rb_interleavings.specs.declared.actor.Actor.TheVariants.{Worker, Consumer, Keeper}
-use Rattle.rb_interleavings.specs.Worlds.{WorldRing, World, table_with, with_ring}
+use Rattle.rb_interleavings.specs.Worlds.{WorldRing, World, table_with}
 use Rattle.rb_interleavings.specs.Turns.{TurnEvent, Went, HandedOver, Ended, GotStuck, GotBack, Idle, Took, HandedChapter, NoMemory, WorldStep, WorldRun, TakesConsumerTurn, taken_by}
 use Rattle.std.proofs.lemmas.Bool.{eq-eqb}
 use Rattle.rb_interleavings.proofs.WholeRuns.{run-push}

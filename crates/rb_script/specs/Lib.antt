@@ -1,4 +1,6 @@
+pub mod ScriptText
 pub mod Scripts
+pub mod Programs
 pub mod OutputLines
 pub mod Simulation
 pub mod inner

@@ -1,6 +1,15 @@
--- The limits of a script (own).
-use Rattle.std.specs.Prelude.{◌≤◌, length}
+-- The script that a text stands for, the limits of a script, and the first line at fault (own).
+use Rattle.std.specs.Prelude.{ℕ, ◌≡◌, ◌≤◌, ◌<◌, ◌+◌, ◌-◌, ◌⊎◌, List, [], ◌∷◌, ◌++◌, length, map, replicate, take}
+use Rattle.std.specs.List.{AllZip}
+use Rattle.rb_interleavings.specs.declared.actor.Actor.{Actor}
+use Rattle.rb_interleavings.specs.declared.actor.Actor.TheVariants.{Worker, Consumer, Keeper}
+use Rattle.rb_world.specs.declared.opening.RingSetup.{RingSetup}
 use Rattle.rb_script.specs.declared.script.Script.{Script}
+use Rattle.rb_script.specs.declared.script.ScriptWorker.{ScriptWorker}
+use Rattle.rb_script.specs.declared.script_fault.ScriptFault.{ScriptFault}
+use Rattle.rb_script.specs.declared.script_fault.ScriptFault.TheVariants.{Line, Memory}
+use Rattle.rb_script.specs.ScriptText.{Statement, Says}
+use Rattle.rb_script.specs.ScriptText.Statement.{RingOf, WorkerOf, TurnsOf}
 
 -- at most 16 rings, 256 workers and 1,000,000 turns
 pub record IsWithinLimits (s : Script) : Type 0 where
@@ -11,3 +20,94 @@ pub record IsWithinLimits (s : Script) : Type 0 where
 -- at least one worker
 abbrev pub HasWorker : Script → Type 0
 HasWorker s = 1 ≤ length s.workers.items
+
+-- ---- what the lines of a script say together
+
+-- a worker: the number of its line, the hex of its program, and the bytes of its context
+pub record WorkerText : Type 0 where
+  pub line : ℕ
+  pub program : List ℕ
+  pub context : List ℕ
+
+-- the rings, in the order of their lines
+abbrev pub rings_of : List Statement → List RingSetup
+rings_of [] = []
+rings_of (RingOf setup ∷ said) = setup ∷ rings_of said
+rings_of (WorkerOf program context ∷ said) = rings_of said
+rings_of (TurnsOf actor count ∷ said) = rings_of said
+
+-- the workers, in the order of their lines, the first of which has this number
+abbrev pub workers_of : ℕ → List Statement → List WorkerText
+workers_of number [] = []
+workers_of number (RingOf setup ∷ said) = workers_of (number + 1) said
+workers_of number (WorkerOf program context ∷ said) = record { line = number; program = program; context = context } ∷ workers_of (number + 1) said
+workers_of number (TurnsOf actor count ∷ said) = workers_of (number + 1) said
+
+-- whose the turns are, one after the other
+abbrev pub actors_of : List Statement → List Actor
+actors_of [] = []
+actors_of (RingOf setup ∷ said) = actors_of said
+actors_of (WorkerOf program context ∷ said) = actors_of said
+actors_of (TurnsOf actor count ∷ said) = replicate count actor ++ actors_of said
+
+-- ---- where a line may stand
+
+-- an actor among so many rings and workers
+abbrev pub IsAmong : (rings workers : ℕ) → Actor → Type 0
+IsAmong rings workers (Worker w) = w < workers
+IsAmong rings workers (Consumer r) = r < rings
+IsAmong rings workers (Keeper r) = r < rings
+
+-- behind lines with so many rings, workers and turns: rings and workers stand before the first turn, and turns behind a worker
+abbrev pub MayStandBehind : (rings workers turns : ℕ) → Statement → Type 0
+MayStandBehind rings workers turns (RingOf setup) = (turns ≡ 0) × (rings < 16)
+MayStandBehind rings workers turns (WorkerOf program context) = (turns ≡ 0) × (workers < 256)
+MayStandBehind rings workers turns (TurnsOf actor count) = (1 ≤ workers) × IsAmong rings workers actor × (turns + count ≤ 1000000)
+
+-- each of these may stand behind those in front of it
+abbrev pub AreInOrder : (front : List Statement) → List Statement → Type 0
+AreInOrder front [] = Unit {0}
+AreInOrder front (statement ∷ more) =
+    MayStandBehind (length (rings_of front)) (length (workers_of 1 front)) (length (actors_of front)) statement × AreInOrder (front ++ statement ∷ []) more
+
+-- ---- the script, and the first line at fault
+
+-- the lines say this, and each may stand where it does
+pub record Begins (lines : List (List ℕ)) (said : List Statement) : Type 0 where
+  pub says : AllZip Says lines said
+  pub in_order : AreInOrder [] said
+
+-- lines with which a script may begin
+abbrev pub BeginsScript : List (List ℕ) → Type 0
+BeginsScript lines = (said : List Statement) × Begins lines said
+
+-- lines of a whole script
+abbrev pub IsScript : List (List ℕ) → Type 0
+IsScript lines = (said : List Statement) × Begins lines said × (1 ≤ length (workers_of 1 said))
+
+abbrev pub worker_text : ScriptWorker → WorkerText
+worker_text worker = record { line = worker.line; program = worker.program.now; context = worker.context.items }
+
+-- the rings, the workers and the turns of a script are those that are said
+pub record IsMadeOf (said : List Statement) (s : Script) : Type 0 where
+  pub rings : s.rings.items ≡ rings_of said
+  pub workers : map worker_text s.workers.items ≡ workers_of 1 said
+  pub actors : s.actors.items ≡ actors_of said
+
+-- each line is a line of a script, and the script is what they say
+pub record StandFor (lines : List (List ℕ)) (s : Script) : Type 0 where
+  pub said : List Statement
+  pub begins : Begins lines said
+  pub made : IsMadeOf said s
+
+-- the first line at fault: a script may begin with the lines in front of it, and not with it as well; where that is no line, it is the
+-- one behind the last line of a text that names no worker
+abbrev pub IsFirstFault : List (List ℕ) → ℕ → Type 0
+IsFirstFault lines number =
+    ((1 ≤ number) × (number ≤ length lines) × BeginsScript (take (number - 1) lines) × (BeginsScript (take number lines) → ⊥))
+    ⊎ ((number ≡ length lines + 1) × BeginsScript lines × (IsScript lines → ⊥))
+
+-- a fault that is told of a text
+abbrev pub IsFaultOf : List (List ℕ) → ScriptFault → Type 0
+IsFaultOf lines (Line number) = IsFirstFault lines number
+IsFaultOf lines Memory = Unit {0}

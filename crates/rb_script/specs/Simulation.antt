@@ -1,17 +1,25 @@
--- What is written of the turns of a world (own).
-use Rattle.std.specs.Prelude.{ℕ, ◌≡◌, List, [], ◌∷◌, ◌++◌}
+-- What is written of the turns of a world and of its end, and what a script's run is (own).
+use Rattle.std.specs.Prelude.{ℕ, ◌≡◌, List, [], ◌∷◌, ◌++◌, Option, Some, None, length, map}
 use Rattle.std.specs.List.{AllZip}
 use Rattle.rb_interleavings.specs.declared.actor.Actor.{Actor}
 use Rattle.rb_interleavings.specs.declared.actor.Actor.TheVariants.{Consumer, Keeper}
 use Rattle.rb_interleavings.specs.Turns.{TurnEvent, Took, WorldRun}
 use Rattle.rb_world.specs.declared.turn_done.TurnDone.{TurnDone}
 use Rattle.rb_world.specs.declared.turn_done.TurnDone.TheVariants.{Chapter}
-use Rattle.rb_world.specs.WorldValue.{WorldValue, world_of}
+use Rattle.rb_world.specs.WorldValue.{WorldValue, world_of, ring_at}
+use Rattle.rb_world.specs.WorldRuns.{next_unit, result_of}
 use Rattle.rb_world.specs.TurnsDone.{TellsEvent}
 use Rattle.rb_world.specs.OpenedWorlds.{IsOpenedWorld}
-use Rattle.rb_world.specs.declared.opening.RingSetup.{RingSetup}
 use Rattle.rb_world.specs.declared.opening.WorkerSetup.{WorkerSetup}
-use Rattle.rb_script.specs.OutputLines.{take_line, chapter_line}
+use Rattle.rb_chapter.specs.ChapterRing.{ChapterRing}
+use Rattle.rb_chapter.specs.CountedFrom.{producer_from, consumer_from}
+use Rattle.rb_chapter_ring.specs.OpenedRing.{told_counts}
+use Rattle.rb_verifier.specs.Subject.{Subject}
+use Rattle.rb_script.specs.declared.script.Script.{Script}
+use Rattle.rb_script.specs.declared.script.ScriptWorker.{ScriptWorker}
+use Rattle.rb_script.specs.OutputLines.{take_line, chapter_line, done_line, at_line, ring_line}
+use Rattle.rb_script.specs.Programs.{IsProgramOf}
+use Rattle.rb_script.specs.Scripts.{worker_text}
 
 -- a take has a line, with what it found, and a chapter that was handed out has one, with the number that was answered
 abbrev pub turn_text : Actor → TurnDone → TurnEvent → List ℕ
@@ -33,11 +41,53 @@ pub record WritesRun (actors : List Actor) (old new : WorldValue) (before after 
   pub run : WorldRun (world_of old) actors events (world_of new)
   pub text_is : after ≡ before ++ turns_text actors dones events
 
--- a world with these rings was opened for some verified programs and their contexts, these turns were run in it, and their lines
--- were added to the text
-pub record Simulates (rings : List RingSetup) (actors : List Actor) (before after : List ℕ) : Type 0 where
-  pub workers : List WorkerSetup
+-- ---- the lines at the end
+
+-- a worker's: what its program ended with, or its next unit
+abbrev pub status_line : ℕ → (ended next : Option ℕ) → List ℕ
+status_line w (Some value) next = done_line w value
+status_line w None (Some unit) = at_line w unit
+status_line w None None = []
+
+abbrev pub worker_line : WorldValue → ℕ → List ℕ
+worker_line v w = status_line w (result_of ((world_of v).workers w)) (next_unit ((world_of v).workers w))
+
+-- a ring's: its positions and its counts
+abbrev pub ring_text : ℕ → ChapterRing → List ℕ
+ring_text r ring = ring_line r (producer_from ring.chapter.opening ring.chapter.entries) (consumer_from ring.chapter.opening ring.chapter.entries) (told_counts ring)
+
+abbrev pub ring_end_of : WorldValue → ℕ → List ℕ
+ring_end_of v r = ring_text r (ring_at v r).ring
+
+-- the lines of the numbers below this one, in their order
+abbrev pub lines_below : (ℕ → List ℕ) → ℕ → List ℕ
+lines_below line_at ℕ.zero = []
+lines_below line_at (ℕ.suc n) = lines_below line_at n ++ line_at n
+
+-- those of the workers, and then those of the rings
+abbrev pub world_text : WorldValue → List ℕ
+world_text v = lines_below (worker_line v) (length v.machines) ++ lines_below (ring_end_of v) (length v.rings)
+
+-- ---- a script
+
+-- each worker has its program and its context
+pub record AreSetups (workers : List ScriptWorker) (programs : List Subject) (setups : List WorkerSetup) : Type 0 where
+  pub programs_are : map (λ (x : WorkerSetup). x.program.now) setups ≡ programs
+  pub contexts_are : map (λ (x : WorkerSetup). x.context.now) setups ≡ map (λ (w : ScriptWorker). w.context.items) workers
+
+-- a world with the script's rings was opened for these programs and the contexts of the script's workers, the script's turns were run in
+-- it and their lines were added to the text, and these are the lines at the end
+pub record SimulatesWith (s : Script) (programs : List Subject) (before after ends : List ℕ) : Type 0 where
+  pub setups : List WorkerSetup
   pub first : WorldValue
   pub last : WorldValue
-  pub opened : IsOpenedWorld rings workers first
-  pub written : WritesRun actors first last before after
+  pub are : AreSetups s.workers.items programs setups
+  pub opened : IsOpenedWorld s.rings.items setups first
+  pub written : WritesRun s.actors.items first last before after
+  pub ends_are : ends ≡ world_text last
+
+-- the same with the programs that the texts of the script's workers are
+pub record Simulates (s : Script) (before after ends : List ℕ) : Type 0 where
+  pub programs : List Subject
+  pub accepted : AllZip (IsProgramOf (length s.rings.items)) (map worker_text s.workers.items) programs
+  pub ran : SimulatesWith s programs before after ends

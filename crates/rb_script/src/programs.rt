@@ -1,25 +1,37 @@
 //! The verified programs of a script.
 
-use crate::script::{Script, ScriptWorker};
+ghost use Rattle.std.specs.Prelude.{map, IfOk, IfErr};
+ghost use Rattle.std.specs.List.{AllZip};
+ghost use Rattle.rb_script.specs.Scripts.{worker_text};
+ghost use Rattle.rb_script.specs.Programs.{IsProgramOf, HasProgram, IsProgramsFault};
+ghost use Rattle.rb_script.specs.inner.ScriptRead.{IsFaultUnless};
+
+use crate::script::ScriptWorker;
 use crate::script_fault::ScriptFault;
 use rb_cfg::{ShapeFaultKind, shape};
 use rb_decode::{TextFault, from_text};
 use rb_verifier::{Refusal, Verified, verify};
 use std::alloc::Global;
 
-// The program of each worker, verified for the script's number of rings and the length of the worker's context. The fault is that of the
-// first one that is refused.
+// The program of each worker, verified for so many rings and the length of the worker's context. The fault is that of the first one that
+// is refused.
 pub(crate) fn programs_of(
     alloc: Global,
-    script: &Script<'_>,
-) -> Result<Vec<Verified>, ScriptFault> {
-    let rings = script.rings.len();
+    workers: &[ScriptWorker<'_>],
+    rings: usize,
+) -> Result<Vec<Verified>, ScriptFault>
+    ensures programs { IfOk result (λ programs. AllZip (IsProgramOf rings) (map worker_text workers.now) programs.items) }
+    ensures fault { IfErr result (IsProgramsFault rings (map worker_text workers.now)) }
+{
     let mut programs = Vec::new(alloc);
-    for worker in script.workers.as_slice() {
-        let program = program_of(alloc, worker, rings)?;
-        if programs.push(program).is_err() {
+    for worker in workers {
+        let program = match program_of(alloc, worker, rings) {
+            Ok(program) => program,
+            Err(fault) => return Err(fault),
+        };
+        let Ok(()) = programs.push(program) else {
             return Err(ScriptFault::Memory);
-        }
+        };
     }
     Ok(programs)
 }
@@ -29,7 +41,10 @@ fn program_of(
     alloc: Global,
     worker: &ScriptWorker<'_>,
     rings: usize,
-) -> Result<Verified, ScriptFault> {
+) -> Result<Verified, ScriptFault>
+    ensures program { IfOk result (λ program. IsProgramOf rings (worker_text worker.now) program) }
+    ensures fault { IfErr result (IsFaultUnless worker.now.line (HasProgram rings (worker_text worker.now))) }
+{
     // Beyond these no program is verified.
     if rings > 16 || worker.context.len() > 65_536 {
         return Err(ScriptFault::Line(worker.line));
@@ -39,10 +54,13 @@ fn program_of(
         Err(TextFault::Memory) => return Err(ScriptFault::Memory),
         Err(_) => return Err(ScriptFault::Line(worker.line)),
     };
+    program.facts();
     let shape = match shape(alloc, program) {
         Ok(shape) => shape,
-        Err(fault) if fault.kind == ShapeFaultKind::Memory => return Err(ScriptFault::Memory),
-        Err(_) => return Err(ScriptFault::Line(worker.line)),
+        Err(fault) => match fault.kind {
+            ShapeFaultKind::Memory => return Err(ScriptFault::Memory),
+            _ => return Err(ScriptFault::Line(worker.line)),
+        },
     };
     match verify(alloc, shape, worker.context.len() as u32, rings as u32) {
         Ok(verified) => Ok(verified),

@@ -1,7 +1,10 @@
 //! A script: rings, workers, and the turns that they take.
 
-ghost use Rattle.std.specs.Prelude.{◌≤◌, length, IfOk, OnOk};
-ghost use Rattle.rb_script.specs.Scripts.{HasWorker, IsWithinLimits};
+ghost use Rattle.std.specs.Prelude.{◌≡◌, ◌==◌, ◌≤◌, ◌<◌, ◌⊎◌, ◌∷◌, ◌↔◌, ℕ, length, position, Err, IsTrue, IfOk, IfErr, OnOk};
+ghost use Rattle.rb_script.specs.ScriptText.{lines_of};
+ghost use Rattle.rb_script.specs.ScriptText.Statement.{RingOf};
+ghost use Rattle.rb_script.specs.Scripts.{HasWorker, IsWithinLimits, IsScript, IsFirstFault, IsFaultOf, StandFor, IsAmong};
+ghost use Rattle.rb_script.specs.inner.ScriptRead.{AddsLawful, AddsWorker, AddsTurns, AddsLine, MayFollow, MayAddWorker, MayAddTurns, MayAddLine, IsFaultUnless};
 
 use crate::script_fault::ScriptFault;
 use crate::script_line::{ScriptLine, line_of};
@@ -37,23 +40,35 @@ pub struct Script<'a> {
 impl<'a> Script<'a> {
     /// Reads a whole script. Each line ends by a line feed, which the last one need not have. The fault is that of the first line that
     /// is no line of a script or may not stand there: rings and workers stand before the first turn, at most 16 rings and 256 workers, and
-    /// at least one worker; a turn is that of a worker or a ring that is there; and there are 1,000,000 turns at most.
+    /// at least one worker; a turn is that of a worker or a ring that is there; and there are 1,000,000 turns at most. Out of memory may
+    /// come in place of any other answer.
     pub fn read(alloc: Global, input: &'a [u8]) -> Result<Script<'a>, ScriptFault>
         ensures limits { IfOk result IsWithinLimits }
         ensures worker { IfOk result HasWorker }
+
+        // The script is what the lines say, and there is one exactly where each line is one of a script.
+        ensures script { IfOk result (λ s. StandFor (lines_of input.now) s) }
+        ensures only_script { IsScript (lines_of input.now) → IfErr result (λ fault. fault ≡ ScriptFault.Memory) }
+
+        // The fault is that of the first line at fault, and of no other.
+        ensures fault { IfErr result (λ fault. IsFaultOf (lines_of input.now) fault) }
+        ensures only_fault { (line : ℕ) → IsFirstFault (lines_of input.now) line
+            → (result ≡ Err (ScriptFault.Line line)) ⊎ (result ≡ Err ScriptFault.Memory) }
     {
         let mut script = Script {
             rings: Vec::new(alloc),
             workers: Vec::new(alloc),
             actors: Vec::new(alloc),
         };
-        let mut at = 0;
+        let mut rest = input;
         let mut number = 0;
-        while at < input.len() {
-            let end = line_end(input, at);
+        while !rest.is_empty() {
+            let (line, behind) = first_line(rest);
             number += 1;
-            script.add(alloc, number, &input[at..end])?;
-            at = end + 1;
+            if let Err(fault) = script.add(alloc, number, line) {
+                return Err(fault);
+            }
+            rest = behind;
         }
         if script.workers.is_empty() {
             return Err(ScriptFault::Line(number + 1));
@@ -65,6 +80,8 @@ impl<'a> Script<'a> {
     fn add(&mut self, alloc: Global, number: usize, line: &'a [u8]) -> Result<(), ScriptFault>
         requires limits { IsWithinLimits self.old }
         ensures limits { OnOk result (IsWithinLimits self.new) }
+        ensures added { OnOk result (AddsLine number line.now self.old self.new) }
+        ensures fault { IfErr result (IsFaultUnless number (MayAddLine self.old line.now)) }
     {
         match line_of(line) {
             Some(ScriptLine::Ring(setup)) => self.add_ring(number, setup),
@@ -80,6 +97,8 @@ impl<'a> Script<'a> {
     fn add_ring(&mut self, number: usize, setup: RingSetup) -> Result<(), ScriptFault>
         requires limits { IsWithinLimits self.old }
         ensures limits { OnOk result (IsWithinLimits self.new) }
+        ensures added { OnOk result (AddsLawful number (RingOf setup) self.old self.new) }
+        ensures fault { IfErr result (IsFaultUnless number (MayFollow self.old (RingOf setup))) }
     {
         if !self.actors.is_empty() || self.rings.len() >= 16 {
             return Err(ScriptFault::Line(number));
@@ -100,22 +119,24 @@ impl<'a> Script<'a> {
     ) -> Result<(), ScriptFault>
         requires limits { IsWithinLimits self.old }
         ensures limits { OnOk result (IsWithinLimits self.new) }
+        ensures added { OnOk result (AddsWorker number program.now context.now self.old self.new) }
+        ensures fault { IfErr result (IsFaultUnless number (MayAddWorker self.old program.now context.now)) }
     {
         if !self.actors.is_empty() || self.workers.len() >= 256 {
             return Err(ScriptFault::Line(number));
         }
-        let context = match hex::decode(alloc, context) {
-            Ok(context) => context,
+        let bytes = match hex::decode(alloc, context) {
+            Ok(bytes) => bytes,
             Err(FromHexError::OutOfMemory) => return Err(ScriptFault::Memory),
             Err(_) => return Err(ScriptFault::Line(number)),
         };
-        if context.len() > 65_536 {
+        if bytes.len() > 65_536 {
             return Err(ScriptFault::Line(number));
         }
         let worker = ScriptWorker {
             line: number,
             program,
-            context,
+            context: bytes,
         };
         match self.workers.push(worker) {
             Ok(()) => Ok(()),
@@ -124,7 +145,9 @@ impl<'a> Script<'a> {
     }
 
     // Whether the actor is there.
-    fn has(&self, actor: Actor) -> bool {
+    fn has(&self, actor: Actor) -> bool
+        ensures { IsTrue result ↔ IsAmong (length self.now.rings.items) (length self.now.workers.items) actor }
+    {
         match actor {
             Actor::Worker(w) => (w as usize) < self.workers.len(),
             Actor::Consumer(r) | Actor::Keeper(r) => (r as usize) < self.rings.len(),
@@ -135,6 +158,8 @@ impl<'a> Script<'a> {
     fn add_turns(&mut self, number: usize, actor: Actor, count: u64) -> Result<(), ScriptFault>
         requires limits { IsWithinLimits self.old }
         ensures limits { OnOk result (IsWithinLimits self.new) }
+        ensures added { OnOk result (AddsTurns number actor count self.old self.new) }
+        ensures fault { IfErr result (IsFaultUnless number (MayAddTurns self.old actor count)) }
     {
         if self.workers.is_empty() || !self.has(actor) {
             return Err(ScriptFault::Line(number));
@@ -152,15 +177,21 @@ impl<'a> Script<'a> {
     }
 }
 
-// Where the line that begins at a place ends: at the next line feed, or at the end.
-fn line_end(input: &[u8], at: usize) -> usize
-    requires within { at ≤ length input.now }
-    ensures behind { at ≤ result }
-    ensures within { result ≤ length input.now }
+// The first line of a text that is not empty, and what stands behind it.
+fn first_line(text: &[u8]) -> (&[u8], &[u8])
+    requires some { 1 ≤ length text.now }
+    ensures parted { lines_of text.now ≡ result.0.now ∷ lines_of result.1.now }
+    ensures shorter { length result.1.now < length text.now }
 {
-    let mut end = at;
-    while end < input.len() && input[end] != b'\n' {
-        end += 1;
+    match line_end(text) {
+        Some(end) => (&text[..end], &text[end + 1..]),
+        None => (text, &text[text.len()..]),
     }
-    end
+}
+
+// Where the first line feed stands.
+fn line_end(text: &[u8]) -> Option<usize>
+    ensures { result ≡ position (λ byte. byte == 10) text.now }
+{
+    text.iter().position(|byte| *byte == b'\n')
 }

@@ -1,5 +1,13 @@
 //! One line of a script.
 
+ghost use Rattle.std.specs.Prelude.{◌≡◌, ◌↔◌, ◌<◌, ◌^◌, ◌∷◌, ℕ, List, IsTrue, MatchOption};
+ghost use Rattle.std.specs.List.{AllPass};
+ghost use Rattle.rb_world.specs.declared.opening.RingSetup.{RingSetup};
+ghost use Rattle.rb_world.specs.OpenedWorlds.{IsRingSetup};
+ghost use Rattle.rb_chapter.specs.Chapters.{IsChapterRoom};
+ghost use Rattle.rb_script.specs.ScriptText.{Spells, SaysRing, SaysWorker, SaysTurns, is_plain as is_plain_byte, words_of};
+ghost use Rattle.rb_script.specs.inner.ScriptRead.{AreNumbersOf, IsWorkerText, IsSaid, SaysNone, IsLine, IsNoLine};
+
 use rb_history::{is_size, is_start};
 use rb_world::{Actor, RingSetup};
 
@@ -18,116 +26,155 @@ pub(crate) enum ScriptLine<'a> {
 }
 
 // The line that these bytes are, and none where they are no line of a script, or one with a number out of its bounds.
-pub(crate) fn line_of(bytes: &[u8]) -> Option<ScriptLine<'_>> {
+pub(crate) fn line_of(bytes: &[u8]) -> Option<ScriptLine<'_>>
+    ensures line { MatchOption result (IsNoLine bytes.now) (λ line. IsLine bytes.now line) }
+{
     if !is_plain(bytes) {
         return None;
     }
     let Ok(text) = str::from_utf8(bytes) else {
         return None;
     };
-    let Some((word, rest)) = text.split_once(' ') else {
+    let Some((word, words)) = text.split_once(' ') else {
         return None;
     };
+    line_with(word, words)
+}
+
+// The line of this word in front, and the words behind it.
+fn line_with<'a>(word: &str, words: &'a str) -> Option<ScriptLine<'a>>
+    ensures line { MatchOption result
+        (SaysNone (word.now ∷ words_of words.now)) (λ line. IsSaid (word.now ∷ words_of words.now) line) }
+{
     if word == "ring" {
-        return ring_of(rest);
+        let Some(setup) = ring_of(words) else {
+            return None;
+        };
+        return Some(ScriptLine::Ring(setup));
     }
     if word == "worker" {
-        return worker_of(rest);
+        let Some((program, context)) = worker_of(words) else {
+            return None;
+        };
+        return Some(ScriptLine::Worker(program, context));
     }
     if word == "w" {
-        let (number, count) = numbers_of(rest)?;
+        let Some((number, count)) = turns_of(words) else {
+            return None;
+        };
         return Some(ScriptLine::Turns(Actor::Worker(number), count));
     }
     if word == "c" {
-        let (number, count) = numbers_of(rest)?;
+        let Some((number, count)) = turns_of(words) else {
+            return None;
+        };
         return Some(ScriptLine::Turns(Actor::Consumer(number), count));
     }
     if word == "k" {
-        return keeper_of(rest);
+        let Some(number) = number_of(words) else {
+            return None;
+        };
+        return Some(ScriptLine::Turns(Actor::Keeper(number), 1));
     }
     None
 }
 
 // Whether all bytes are ASCII, and none is white space but the space.
-fn is_plain(bytes: &[u8]) -> bool {
-    for byte in bytes {
-        if !byte.is_ascii() {
-            return false;
-        }
-        if byte.is_ascii_whitespace() && *byte != b' ' {
-            return false;
-        }
-    }
-    true
+fn is_plain(bytes: &[u8]) -> bool
+    ensures { IsTrue result ↔ AllPass is_plain_byte bytes.now }
+{
+    bytes.iter().all(|byte| byte.is_ascii() && (*byte == b' ' || !byte.is_ascii_whitespace()))
 }
 
 // A ring: its size, its start, and the room of its chapters where that is given.
-fn ring_of(words: &str) -> Option<ScriptLine<'_>> {
+fn ring_of(words: &str) -> Option<RingSetup>
+    ensures ring { MatchOption result
+        ((setup : RingSetup) → SaysRing (words_of words.now) setup → IsRingSetup setup → IsChapterRoom setup.room → ⊥)
+        (λ setup. SaysRing (words_of words.now) setup × IsRingSetup setup × IsChapterRoom setup.room) }
+{
     let Some((size, rest)) = words.split_once(' ') else {
         return None;
     };
-    let (start, room) = match rest.split_once(' ') {
-        Some((start, room)) => (start, decimal(room)),
-        None => (rest, Some(ROOM)),
-    };
-    let (Some(size), Some(start), Some(room)) = (decimal(size), decimal(start), room) else {
+    match rest.split_once(' ') {
+        Some((start, room)) => setup_of(decimal(size), decimal(start), decimal(room)),
+        None => setup_of(decimal(size), decimal(rest), Some(ROOM)),
+    }
+}
+
+// The ring of these numbers, where each is there and within its bounds.
+fn setup_of(size: Option<u64>, start: Option<u64>, room: Option<u64>) -> Option<RingSetup>
+    ensures ring { MatchOption result
+        ((setup : RingSetup) → AreNumbersOf size start room setup → ⊥)
+        (λ setup. AreNumbersOf size start room setup) }
+{
+    let (Some(size), Some(start), Some(room)) = (size, start, room) else {
         return None;
     };
     if !is_size(size) || !is_start(start) || room < 8 || room > 1_048_576 {
         return None;
     }
-    Some(ScriptLine::Ring(RingSetup {
+    Some(RingSetup {
         size,
         start,
         room: room as u32,
-    }))
+    })
 }
 
 // A worker: the hex of its program, and that of its context where it has one.
-fn worker_of(words: &str) -> Option<ScriptLine<'_>> {
-    let (program, context) = match words.split_once(' ') {
-        Some((program, context)) => {
-            if context.is_empty() {
-                return None;
-            }
-            (program, context)
+fn worker_of(words: &str) -> Option<(&str, &str)>
+    ensures worker { MatchOption result
+        ((program context : List ℕ) → SaysWorker (words_of words.now) program context → ⊥)
+        (λ worker. IsWorkerText (words_of words.now) worker.0.now worker.1.now) }
+{
+    let Some((program, context)) = words.split_once(' ') else {
+        if words.is_empty() {
+            return None;
         }
-        None => (words, ""),
+        return Some((words, ""));
     };
     if program.is_empty() {
         return None;
     }
-    Some(ScriptLine::Worker(program, context))
+    if context.is_empty() {
+        return None;
+    }
+    Some((program, context))
 }
 
 // The number of a worker or a ring, and of how many turns, one where none is given.
-fn numbers_of(words: &str) -> Option<(u32, u64)> {
-    let (number, count) = match words.split_once(' ') {
-        Some((number, count)) => (number, decimal(count)),
-        None => (words, Some(1)),
+fn turns_of(words: &str) -> Option<(u32, u64)>
+    ensures turns { MatchOption result
+        ((number count : ℕ) → SaysTurns (words_of words.now) number count → number < 2 ^ 32 → count < 2 ^ 64 → ⊥)
+        (λ turns. SaysTurns (words_of words.now) turns.0 turns.1) }
+{
+    let Some((word, times)) = words.split_once(' ') else {
+        let Some(number) = number_of(words) else {
+            return None;
+        };
+        return Some((number, 1));
     };
-    let (Some(number), Some(count)) = (decimal(number), count) else {
-        return None;
-    };
-    let Ok(number) = u32::try_from(number) else {
+    let (Some(number), Some(count)) = (number_of(word), decimal(times)) else {
         return None;
     };
     Some((number, count))
 }
 
-// One turn of a keeper.
-fn keeper_of(words: &str) -> Option<ScriptLine<'_>> {
-    let Some(number) = decimal(words) else {
-        return None;
-    };
-    let Ok(number) = u32::try_from(number) else {
-        return None;
-    };
-    Some(ScriptLine::Turns(Actor::Keeper(number), 1))
+// The number of a worker or a ring.
+fn number_of(word: &str) -> Option<u32>
+    ensures number { MatchOption result
+        ((number : ℕ) → Spells word.now number → number < 2 ^ 32 → ⊥)
+        (λ number. Spells word.now number) }
+{
+    let number = decimal(word)?;
+    u32::try_from(number).ok()
 }
 
 // The number that decimal digits spell, if it is below 2^64. `parse` alone would take a plus in front.
-fn decimal(text: &str) -> Option<u64> {
+fn decimal(text: &str) -> Option<u64>
+    ensures number { MatchOption result
+        ((number : ℕ) → Spells text.now number → number < 2 ^ 64 → ⊥)
+        (λ number. Spells text.now number) }
+{
     if text.as_bytes().first() == Some(&b'+') {
         return None;
     }

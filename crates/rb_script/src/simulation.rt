@@ -1,14 +1,16 @@
 //! A script's turns, and what is written of them.
 
-ghost use Rattle.std.specs.Prelude.{◌≡◌, ◌++◌, OnOk};
+ghost use Rattle.std.specs.Prelude.{◌≡◌, ◌≤◌, ◌⊎◌, ◌++◌, ℕ, length, map, Err, IfOk, IfErr, OnOk};
 ghost use Rattle.rb_world.specs.WorldValue.{IsThere, world_of};
-ghost use Rattle.rb_interleavings.specs.declared.actor.Actor.TheVariants.{Worker};
-ghost use Rattle.rb_script.specs.Simulation.{Simulates, WritesRun};
+ghost use Rattle.rb_interleavings.specs.declared.actor.Actor.TheVariants.{Worker, Consumer};
+ghost use Rattle.rb_script.specs.Programs.{IsFirstRefused, IsProgramsFault};
+ghost use Rattle.rb_script.specs.Scripts.{worker_text};
+ghost use Rattle.rb_script.specs.Simulation.{AreSetups, Simulates, SimulatesWith, WritesRun, lines_below, worker_line, ring_end_of, world_text};
 ghost use Rattle.rb_script.specs.inner.ShownTurns.{consumer_text, keeper_text, last_line, shown_text};
 
 use crate::output_lines::{push_at, push_chapter, push_done, push_ring, push_take};
 use crate::programs::programs_of;
-use crate::script::Script;
+use crate::script::{Script, ScriptWorker};
 use crate::script_fault::ScriptFault;
 use rb_history::{CONS_POS, PROD_POS, Taken};
 use rb_verifier::Verified;
@@ -20,34 +22,55 @@ impl<'a> Script<'a> {
     /// workers and the rings at the end. A refused program is told by its line, and nothing is run or written then; where memory runs out,
     /// the lines of the turns before stand.
     pub fn simulate(&self, alloc: Global, text: &mut Vec<u8>) -> Result<Vec<u8>, ScriptFault>
-        ensures ran { OnOk result (Simulates self.now.rings.items self.now.actors.items text.old.items text.new.items) }
+        ensures ran { IfOk result (λ ends. Simulates self.now text.old.items text.new.items ends.items) }
+        ensures refused { IfErr result (IsProgramsFault (length self.now.rings.items) (map worker_text self.now.workers.items)) }
+        ensures only_refused { (line : ℕ) → IsFirstRefused (length self.now.rings.items) (map worker_text self.now.workers.items) line
+            → (result ≡ Err (ScriptFault.Line line)) ⊎ (result ≡ Err ScriptFault.Memory) }
+        ensures unwritten { (line : ℕ) → result ≡ Err (ScriptFault.Line line) → text.new.items ≡ text.old.items }
     {
-        let programs = programs_of(alloc, self)?;
-        let Ok(setups) = setups_of(alloc, self, programs.as_slice()) else {
-            return Err(ScriptFault::Memory);
+        let programs = match programs_of(alloc, self.workers.as_slice(), self.rings.len()) {
+            Ok(programs) => programs,
+            Err(fault) => return Err(fault),
         };
-        let Ok(mut world) = World::new(alloc, self.rings.as_slice(), setups.as_slice()) else {
-            return Err(ScriptFault::Memory);
-        };
-        run(&mut world, self.actors.as_slice(), text)?;
-        let mut ends = Vec::new(alloc);
-        match push_world(&world, &mut ends) {
-            Ok(()) => Ok(ends),
+        match self.simulate_with(alloc, programs.as_slice(), text) {
+            Ok(ends) => Ok(ends),
             Err(_) => Err(ScriptFault::Memory),
         }
     }
+
+    // The same, with the program of each worker.
+    fn simulate_with(
+        &self,
+        alloc: Global,
+        programs: &[Verified],
+        text: &mut Vec<u8>,
+    ) -> Result<Vec<u8>, AllocError>
+        requires alike { length programs.now ≡ length self.now.workers.items }
+        ensures ran { IfOk result (λ ends. SimulatesWith self.now programs.now text.old.items text.new.items ends.items) }
+    {
+        let setups = setups_of(alloc, self.workers.as_slice(), programs)?;
+        let Ok(mut world) = World::new(alloc, self.rings.as_slice(), setups.as_slice()) else {
+            return Err(AllocError);
+        };
+        run(&mut world, self.actors.as_slice(), text)?;
+        ends_of(alloc, &world)
+    }
 }
 
-// The workers of a script with their programs.
+// The workers with their programs.
 fn setups_of<'p>(
     alloc: Global,
-    script: &'p Script<'_>,
+    workers: &'p [ScriptWorker<'_>],
     programs: &'p [Verified],
-) -> Result<Vec<WorkerSetup<'p>>, AllocError> {
+) -> Result<Vec<WorkerSetup<'p>>, AllocError>
+    requires alike { length programs.now ≡ length workers.now }
+    ensures setups { IfOk result (λ setups. AreSetups workers.now programs.now setups.items) }
+{
     let mut setups = Vec::new(alloc);
-    for (program, worker) in programs.iter().zip(script.workers.as_slice()) {
+    for i in 0..programs.len() {
+        let worker = &workers[i];
         setups.push(WorkerSetup {
-            program,
+            program: &programs[i],
             context: worker.context.as_slice(),
         })?;
     }
@@ -55,21 +78,23 @@ fn setups_of<'p>(
 }
 
 // Runs the turns, and adds their lines. Every actor of a script is there.
-fn run(world: &mut World<'_>, actors: &[Actor], text: &mut Vec<u8>) -> Result<(), ScriptFault>
+fn run(world: &mut World<'_>, actors: &[Actor], text: &mut Vec<u8>) -> Result<(), AllocError>
     ensures written { OnOk result (WritesRun actors.now world.old world.new text.old.items text.new.items) }
+    ensures workers { length world.new.machines ≡ length world.old.machines }
+    ensures rings { length world.new.rings ≡ length world.old.rings }
 {
     for actor in actors {
         if !world.has(*actor) {
-            return Err(ScriptFault::Memory);
+            return Err(AllocError);
         }
         let end = text.len();
         let done = world.turn(*actor);
         if done == TurnDone::Memory {
-            return Err(ScriptFault::Memory);
+            return Err(AllocError);
         }
         let Ok(()) = push_turn(world, *actor, done, text) else {
             text.truncate(end);
-            return Err(ScriptFault::Memory);
+            return Err(AllocError);
         };
     }
     Ok(())
@@ -129,19 +154,42 @@ fn push_keeper(r: u32, done: TurnDone, text: &mut Vec<u8>) -> Result<(), AllocEr
     }
 }
 
-// Adds the lines of the workers and of the rings.
-fn push_world(world: &World<'_>, text: &mut Vec<u8>) -> Result<(), AllocError> {
+// The lines of the workers and of the rings.
+fn ends_of(alloc: Global, world: &World<'_>) -> Result<Vec<u8>, AllocError>
+    requires workers { length world.now.machines ≤ 256 }
+    requires rings { length world.now.rings ≤ 16 }
+    ensures lines { IfOk result (λ ends. ends.items ≡ world_text world.now) }
+{
+    let mut ends = Vec::new(alloc);
+    push_workers(world, &mut ends)?;
+    push_rings(world, &mut ends)?;
+    Ok(ends)
+}
+
+// Adds the lines of the workers.
+fn push_workers(world: &World<'_>, text: &mut Vec<u8>) -> Result<(), AllocError>
+    requires workers { length world.now.machines ≤ 256 }
+    ensures lines { OnOk result (text.new.items ≡ text.old.items ++ lines_below (worker_line world.now) (length world.now.machines)) }
+{
     for w in 0..256 {
-        if world.has(Actor::Worker(w)) {
-            push_worker(world, w, text)?;
+        if !world.has(Actor::Worker(w)) {
+            return Ok(());
         }
+        push_worker(world, w, text)?;
     }
+    Ok(())
+}
+
+// Adds the lines of the rings.
+fn push_rings(world: &World<'_>, text: &mut Vec<u8>) -> Result<(), AllocError>
+    requires rings { length world.now.rings ≤ 16 }
+    ensures lines { OnOk result (text.new.items ≡ text.old.items ++ lines_below (ring_end_of world.now) (length world.now.rings)) }
+{
     for r in 0..16 {
-        if world.has(Actor::Consumer(r)) {
-            let ring = world.ring(r);
-            let (producer, consumer) = (ring.query(PROD_POS), ring.query(CONS_POS));
-            push_ring(text, r, producer, consumer, ring.counts())?;
+        if !world.has(Actor::Consumer(r)) {
+            return Ok(());
         }
+        push_ring_end(world, r, text)?;
     }
     Ok(())
 }
@@ -149,12 +197,21 @@ fn push_world(world: &World<'_>, text: &mut Vec<u8>) -> Result<(), AllocError> {
 // Adds the line of a worker.
 fn push_worker(world: &World<'_>, w: u32, text: &mut Vec<u8>) -> Result<(), AllocError>
     requires there { IsThere world.now (Worker w) }
+    ensures line { OnOk result (text.new.items ≡ text.old.items ++ worker_line world.now w) }
 {
-    if let Some(value) = world.result(w) {
-        return push_done(text, w, value);
+    match (world.result(w), world.at(w)) {
+        (Some(value), _) => push_done(text, w, value),
+        (None, Some(unit)) => push_at(text, w, unit),
+        (None, None) => Ok(()),
     }
-    match world.at(w) {
-        Some(unit) => push_at(text, w, unit),
-        None => Ok(()),
-    }
+}
+
+// Adds the line of a ring.
+fn push_ring_end(world: &World<'_>, r: u32, text: &mut Vec<u8>) -> Result<(), AllocError>
+    requires there { IsThere world.now (Consumer r) }
+    ensures line { OnOk result (text.new.items ≡ text.old.items ++ ring_end_of world.now r) }
+{
+    let ring = world.ring(r);
+    let (producer, consumer) = (ring.query(PROD_POS), ring.query(CONS_POS));
+    push_ring(text, r, producer, consumer, ring.counts())
 }

@@ -1,9 +1,9 @@
-use Rattle.std.proofs.Common.{◌≡◌, ◌+◌, length}
+use Rattle.std.proofs.Common.{◌≡◌, ◌++◌, replicate}
 use Rattle.rb_script.proofs.script.Script.add_turns.Given as goal
 
 abbrev pub invariant-loop-added : goal.invariant-loop-added
 invariant-loop-added l = record {
   rings : l.self.rings ≡ l.initial.self.rings;
   workers : l.self.workers ≡ l.initial.self.workers;
-  turns : length l.self.actors.items ≡ length l.initial.self.actors.items + l.added;
+  turns : l.self.actors.items ≡ l.initial.self.actors.items ++ replicate l.added l.actor;
 }

@@ -1,13 +1,14 @@
-use Rattle.std.proofs.Common.{◌+◌, ◌-◌, ◌≤◌, length}
+use Rattle.std.proofs.Common.{◌+◌, ◌≤◌, length}
 use Rattle.rb_script.specs.Scripts.{IsWithinLimits}
+use Rattle.rb_script.specs.inner.ScriptRead.{HasRead}
 use Rattle.rb_script.proofs.script.Script.read.Given as goal
 
-abbrev pub invariant-loop-at : goal.invariant-loop-at
-invariant-loop-at l = record {
-  within : l.at ≤ length l.input + 1;
-  lines : l.number ≤ l.at;
+abbrev pub invariant-loop-rest : goal.invariant-loop-rest
+invariant-loop-rest l = record {
+  lines : l.number + length l.rest ≤ length l.input;
   limits : IsWithinLimits l.script;
+  read : HasRead l.input l.rest l.number l.script;
 }
 
-abbrev pub decreases-loop-at : goal.decreases-loop-at
-decreases-loop-at l = length l.input + 1 - l.at
+abbrev pub decreases-loop-rest : goal.decreases-loop-rest
+decreases-loop-rest l = length l.rest

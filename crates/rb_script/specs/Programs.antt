@@ -1,0 +1,45 @@
+-- The programs that the workers of a script run, and the first worker whose program is refused (own).
+use Rattle.std.specs.Prelude.{ℕ, ◌≡◌, ◌≤◌, List, ◌∷◌, ◌++◌, length}
+use Rattle.std.specs.List.{AllZip}
+use Rattle.rb_insn.specs.Spelling.{SpellsAll}
+use Rattle.rb_decode.specs.Program.{IsProgram}
+use Rattle.rb_decode.specs.Text.{IsHexOf, without_white_space}
+use Rattle.rb_cfg.specs.Shape.{IsWellShaped}
+use Rattle.rb_verifier.specs.Annotation.{HasValid}
+use Rattle.rb_verifier.specs.Subject.{Subject, limits_of}
+use Rattle.rb_script.specs.declared.script_fault.ScriptFault.{ScriptFault}
+use Rattle.rb_script.specs.declared.script_fault.ScriptFault.TheVariants.{Line, Memory}
+use Rattle.rb_script.specs.Scripts.{WorkerText}
+
+-- the worker's text is the bytes of this program in hex; the program is well-shaped, and has a valid annotation for so many rings and a
+-- context as long as the worker's
+pub record IsProgramOf (rings : ℕ) (worker : WorkerText) (subject : Subject) : Type 0 where
+  pub bytes : List ℕ
+  pub hex : IsHexOf (without_white_space worker.program) bytes
+  pub program : IsProgram subject.program
+  pub spelled : SpellsAll subject.program bytes
+  pub well_shaped : IsWellShaped subject.program
+  pub valid : HasValid (limits_of subject) subject.program
+  pub rings_are : subject.rings ≡ rings
+  pub context_is : subject.ctx_len ≡ length worker.context
+  pub few_rings : rings ≤ 16
+  pub short_context : length worker.context ≤ 65536
+
+-- some program is the worker's
+abbrev pub HasProgram : ℕ → WorkerText → Type 0
+HasProgram rings worker = (subject : Subject) × IsProgramOf rings worker subject
+
+-- the worker of this line is the first whose program is refused
+pub record IsFirstRefused (rings : ℕ) (workers : List WorkerText) (line : ℕ) : Type 0 where
+  pub front : List WorkerText
+  pub worker : WorkerText
+  pub behind : List WorkerText
+  pub parted : workers ≡ front ++ worker ∷ behind
+  pub accepted : (programs : List Subject) × AllZip (IsProgramOf rings) front programs
+  pub refused : HasProgram rings worker → ⊥
+  pub line_is : worker.line ≡ line
+
+-- a fault that is told of the programs
+abbrev pub IsProgramsFault : ℕ → List WorkerText → ScriptFault → Type 0
+IsProgramsFault rings workers (Line line) = IsFirstRefused rings workers line
+IsProgramsFault rings workers Memory = Unit {0}
