@@ -5,7 +5,7 @@ use Rattle.std.specs.Result.{OkIff, result_unwrap_or}
 use Rattle.std.proofs.lemmas.List.Elements.{All-nil, All-cons}
 use Rattle.rb_jobs.specs.Jobs.{task_of}
 use Rattle.rb_jobs.specs.declared.job.Job.{Job}
-use Rattle.rb_chapter.specs.Chapters.{empty_chapter}
+use Rattle.rb_chapter.specs.Chapters.{IsChapterRoom, empty_chapter}
 use Rattle.rb_chapter_ledger.specs.ChapterSeats.{fresh_chapter_consumer}
 use Rattle.rb_ledger.specs.Seats.{HasSettledAll, WorkerSeat, fresh_book, fresh_seats}
 use Rattle.rb_verifier.specs.Subject.{Subject}
@@ -24,6 +24,10 @@ use Rattle.rb_run_commands.specs.WorkerJobs.{tasks_of_workers}
 use Rattle.rb_run_commands.specs.declared.jobs_fault.JobsFault.{JobsFault}
 use Rattle.rb_run_commands.specs.declared.jobs_fault.JobsFault.TheVariants.{Program, Size, Start, Workers}
 use Rattle.rb_run_commands.specs.declared.run_command.JobsRequest.{JobsRequest}
+
+-- a chapter may have the room that a command gives it
+pub command_room : IsChapterRoom 65536
+command_room = (omega arith, omega arith)
 
 module _ {S : Type 0} (position : S → ℕ) (workers : ℕ) (one : Opened S) (opened : List (Opened S)) (is : opened ≡ one ∷ []) (is_opened : IsOpened position workers one) where
   -- one ring may be run

@@ -92,7 +92,7 @@ module _ {W : Type 0} (contents : W → Option (List ℕ)) (writer : W) (size be
 module _ {W : Type 0} (contents : W → Option (List ℕ)) where
   -- ---- one record after another
 
-  nothing_yet : (sink : SinkTape W) → WritesOn contents sink [] sink
+  pub nothing_yet : (sink : SinkTape W) → WritesOn contents sink [] sink
   nothing_yet sink = record {
     out = [];
     missing = [];

@@ -4,7 +4,7 @@ use Rattle.rb_jobs.specs.Jobs.{task_of}
 use Rattle.rb_workers.specs.Reports.{has_unknown_worker}
 use Rattle.rb_run_commands.specs.WorkerJobs.{tasks_of_workers}
 use Rattle.rb_history.specs.RingModel.{IsWorkerCount}
-use Rattle.rb_run_commands.proofs.Running.{one_opened, one_count, ran_workers, same_number}
+use Rattle.rb_run_commands.proofs.Running.{command_room, one_opened, one_count, ran_workers, same_number}
 use Rattle.rb_run_commands.proofs.WorkerTasks.{rings_known, tasks_lent, workers_known}
 use Rattle.rb_run_commands.proofs.run_command.run_program.Goals as goal
 
@@ -12,7 +12,10 @@ pub run_jobs-requires-clause-opened : goal.run_jobs-requires-clause-opened
 run_jobs-requires-clause-opened g c = λ lives outlives. one_opened _ _ c.in-Ok.one _ c.in-Ok-list_of_one.ensures.items c.in-Ok.ensures.opened
 
 pub unreachable-requires : goal.unreachable-requires
-unreachable-requires g c =
+unreachable-requires g c = (c.in-Err-Chapter.ensures.chapter.0 c.in-Err-Chapter.field-0-is).3 command_room
+
+pub unreachable-requires-in-Err-UnknownRing-default : goal.unreachable-requires-in-Err-UnknownRing-default
+unreachable-requires-in-Err-UnknownRing-default g c =
     let yes = c.in-Err-UnknownRing-default.ensures.unknown_ring.0 c.in-Err-UnknownRing-default.field-0-0-is in
     let one : vec_len c.in-Ok-list_of_one.opened ≡ 1 = c.in-Ok-list_of_one.ensures.len in
     let few : c.args.program.now.rings ≤ vec_len c.in-Ok-list_of_one.opened = omega (arith, one, c.requires.one_ring) in
