@@ -1,4 +1,4 @@
-use Rattle.std.proofs.Common.{◌≡◌, ◌≤◌, ◌∙◌, map, vec_len, ap, subst, sym, arith}
+use Rattle.std.proofs.Common.{Err, ◌≡◌, ◌≤◌, ◌∙◌, map, vec_len, ap, subst, sym, arith}
 use Rattle.std.proofs.lemmas.Bool.{true≢false}
 use Rattle.rb_jobs.specs.Jobs.{task_of}
 use Rattle.rb_workers.specs.Reports.{has_unknown_worker}
@@ -12,7 +12,7 @@ pub run_jobs-requires-clause-opened : goal.run_jobs-requires-clause-opened
 run_jobs-requires-clause-opened g c = λ lives outlives. one_opened _ _ c.in-Ok.one _ c.in-Ok-list_of_one.ensures.items c.in-Ok.ensures.opened
 
 pub unreachable-requires : goal.unreachable-requires
-unreachable-requires g c = (c.in-Err-Chapter.ensures.chapter.0 c.in-Err-Chapter.field-0-is).3 command_room
+unreachable-requires g c = (c.in-Err-Chapter.ensures.chapter.0 (ap Err c.in-Err-Chapter.field-0-is)).3 command_room
 
 pub unreachable-requires-in-Err-UnknownRing-default : goal.unreachable-requires-in-Err-UnknownRing-default
 unreachable-requires-in-Err-UnknownRing-default g c =
