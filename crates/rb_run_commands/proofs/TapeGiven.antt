@@ -1,6 +1,6 @@
 -- What a sink wrote of the records that it was given, and what a run wrote of what its ring gave.
 use Rattle.std.proofs.Common.{◌≡◌, ℕ, ◌+◌, ◌<◌, ◌≤◌, Bool, true, false, List, [], ◌∷◌, ◌++◌, length, take, drop, Option, refl, sym, ap, ◌∙◌, subst, arith, append_assoc, append-nil, take-append-drop}
-use Rattle.std.specs.Prelude.{◌≢◌, All, not, Result, Ok, Err, OnOk, OnErr, is_err}
+use Rattle.std.specs.Prelude.{◌≢◌, All, not, Result, Ok, Err, OnOk, OnErr, is_err, is_ok}
 use Rattle.std.proofs.lemmas.Bool.{true≢false}
 use Rattle.std.proofs.lemmas.List.{length-drop, drop_all}
 use Rattle.std.proofs.lemmas.List.Elements.{All-nil, All-cons, filter_map-append}
@@ -191,6 +191,11 @@ module _ {W : Type 0} (contents : W → Option (List ℕ)) (writer left : W) (su
         beginning = wrote.beginning refl;
         all_out = λ is_whole. wrote.all_out (ap (λ (x : Ended (SinkTape W)). x.sink.failed) (sym same) ∙ sound is_whole);
       }) (All-nil (TapesRing request.size whole (contents writer) (contents left))))
+
+-- what holds of an answer that is Ok
+pub holds_if_ok : {A B : Type 0} (answer : Result A B) (P : Type 0) → is_ok answer ≡ true → OnOk answer P → P
+holds_if_ok (Ok a) P yes holds = holds
+holds_if_ok (Err e) P yes holds = absurd (true≢false (sym yes))
 
 -- a tape that is whole has not failed
 pub has_not_failed : (whole told failed : Bool) → whole ≡ not told → told ≡ failed → whole ≡ true → failed ≡ false
