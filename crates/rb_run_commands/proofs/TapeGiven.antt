@@ -194,8 +194,8 @@ module _ {W : Type 0} (contents : W → Option (List ℕ)) (writer left : W) (su
 
 -- what holds of an answer that is Ok
 pub holds_if_ok : {A B : Type 0} (answer : Result A B) (P : Type 0) → is_ok answer ≡ true → OnOk answer P → P
-holds_if_ok (Ok a) P yes holds = holds
-holds_if_ok (Err e) P yes holds = absurd (true≢false (sym yes))
+holds_if_ok (Ok a) P is holds = holds
+holds_if_ok (Err e) P is holds = absurd (true≢false (sym is))
 
 -- a tape that is whole has not failed
 pub has_not_failed : (whole told failed : Bool) → whole ≡ not told → told ≡ failed → whole ≡ true → failed ≡ false
