@@ -43,7 +43,8 @@ SeatFindsFull n b a =
     SeatCallsRing (λ old new. FindsFull old new b.worker n) (λ old new. FindsAllFull old new b.worker n) b a
     × (a ≡ record b { seen = a.seen; tally = record b.tally { refused = b.tally.refused + 1 } })
 
--- at one call the ring's chapter had no room for n bytes or for their refusal: nothing was added to the history
+-- at one call the chapter had no room: for all that a record would log where the ring had room for n bytes, else for their refusal.
+-- Nothing was added to the history
 abbrev pub SeatFindsChapterFull : ℕ → WorkerSeat → WorkerSeat → Type 0
 SeatFindsChapterFull n b a = SeatCallsRing (λ old new. FindsChapterFull old new b.worker n) (λ old new. new ≡ old) b a × (a ≡ record b { seen = a.seen })
 
