@@ -345,10 +345,11 @@ impl RingState {
         ensures logged { Logs self.old self.new (Entry.Sub pos ∷ []) }
         ensures contents { self.new.contents ≡ insert self.old.contents pos sheet }
     {
-        // Counted first: right behind the count of a grant that is output, a compiler leaves out what the two undo of each other.
+        // Counted first: right behind the count of a grant that is output, a compiler leaves out what the two undo of each other. Logged
+        // last, so that the bytes' place is long written when they are taken at once.
         count_submit(&mut self.counts);
-        self.chapter.log_submit(index);
         self.records[index].state = RecordState::Submitted(sheet);
+        self.chapter.log_submit(index);
     }
 
     // The busy record at an index is given up.

@@ -43,7 +43,8 @@ fn drop_front(bytes: &mut Vec<u8>, count: usize)
     ensures { bytes.new.items ≡ drop count bytes.old.items }
 {
     if count > 0 {
-        bytes.drain(..count);
+        bytes.copy_within(count.., 0);
+        bytes.truncate(bytes.len() - count);
     }
 }
 

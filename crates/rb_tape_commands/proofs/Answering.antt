@@ -1,5 +1,5 @@
 -- What was done says what the input says, so the answer is the one for that input.
-use Rattle.std.proofs.Common.{◌≡◌, ◌≢◌, ℕ, ◌++◌, List, [], length, Option, Some, None, Result, Ok, Err, IfSome, refl, sym, ap, ◌∙◌, subst, append_assoc, append-nil, inl, inr}
+use Rattle.std.proofs.Common.{◌≡◌, ◌≢◌, ℕ, ◌++◌, List, [], Option, Some, None, Result, Ok, Err, refl, sym, ap, ◌∙◌, subst, append_assoc, append-nil, inl, inr}
 use Rattle.std.specs.Int.{w32, to_le_bytes}
 use Rattle.std.specs.Io.KnownBytes.{Keeps}
 use Rattle.std.proofs.KnownBytes.{Appends-kept, Keeps-refl, Keeps-trans}
@@ -8,7 +8,7 @@ use Rattle.rb_tape_commands.specs.Input.{framed, framed_all, events_from, Ending
 use Rattle.rb_tape_commands.specs.Input.Ending.{Whole, Unfit, Cut}
 use Rattle.rb_tape_commands.specs.inner.FeedRuns.{feed_run}
 use Rattle.rb_tape_commands.specs.inner.PayloadSteps.{IsOpeningFault}
-use Rattle.rb_tape_commands.specs.Feed.{FeedsAll, IsReadTo, FeedsThenEnds, FeedBreaksOff, FeedResult, FeedAnswerMatches, feed_answer, ends_of, IsAnswerOr, AnswersAlone}
+use Rattle.rb_tape_commands.specs.Feed.{FeedsAll, IsReadTo, FeedsThenEnds, FeedBreaksOff, FeedResult, FeedAnswerMatches, feed_answer, IsAnswerOr, AnswersAlone}
 use Rattle.rb_tape_commands.proofs.Feeding.{passes_none}
 use Rattle.rb_tape_commands.proofs.Inputs.{says_one_thing}
 use Rattle.rb_tape_commands.specs.declared.feed_fault.FeedFault.{FeedFault}

@@ -10,7 +10,7 @@ use Rattle.rb_history.specs.Legal.{IsLegal}
 use Rattle.rb_history.specs.inner.RecordRows.{InRow}
 use Rattle.rb_history.proofs.Laws.{kept-from-legal}
 use Rattle.rb_chapter.specs.CountedFrom.{producer_from, consumer_from}
-use Rattle.rb_chapter.specs.Chapters.{Chapter, empty_chapter}
+use Rattle.rb_chapter.specs.Chapters.{Chapter}
 use Rattle.rb_chapter.specs.ChapterRoom.{MayGrant, owed, owed_for}
 use Rattle.rb_chapter.specs.ChapterRing.{ChapterRing, whole_ring}
 use Rattle.rb_chapter.specs.ChapterCalls.{AllTaken, IsSameChapter, Outputs, Takes, HandsOut, ChapterRingHasRoom, producer_now, consumer_now}

@@ -1,12 +1,12 @@
 -- An input says one thing alone: its payloads are known by its bytes, and so is what comes behind them.
-use Rattle.std.proofs.Common.{◌≡◌, ℕ, ◌+◌, ◌<◌, ◌≤◌, ◌^◌, ◌++◌, List, [], ◌∷◌, length, refl, sym, ap, ◌∙◌, subst, arith, append_assoc, append-nil, inl, inr, ◌⊎◌}
+use Rattle.std.proofs.Common.{◌≡◌, ℕ, ◌+◌, ◌<◌, ◌≤◌, ◌^◌, ◌++◌, List, [], ◌∷◌, length, refl, sym, ap, ◌∙◌, subst, arith, append_assoc, inl, inr}
 use Rattle.std.proofs.lemmas.List.{length-append}
 use Rattle.std.specs.Int.{w32, to_le_bytes}
 use Rattle.rb_header.specs.Span.{span}
-use Rattle.rb_header.specs.TapeBytes.{Item, IsItemAt, AreItemsFrom, end_of, item_span}
+use Rattle.rb_header.specs.TapeBytes.{IsItemAt, AreItemsFrom, end_of}
 use Rattle.rb_header.specs.TapeBytes.Item.{Event}
 use Rattle.rb_header.proofs.Laws.{same_first_word, end_of-nil, end_of-cons}
-use Rattle.rb_tape_commands.specs.Input.{framed, framed_all, events_from, IsTooLongPayload, IsTooFarPayload, IsCutLength, IsCutPayload, Ending, Follows, InputIs}
+use Rattle.rb_tape_commands.specs.Input.{framed, framed_all, events_from, Ending, Follows, InputIs}
 use Rattle.rb_tape_commands.specs.Input.Ending.{Whole, Unfit, Cut}
 
 -- ---- one payload in front

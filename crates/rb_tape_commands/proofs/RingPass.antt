@@ -1,8 +1,6 @@
 -- A record that is output to a ring in which all were taken is the next one taken, and then all are again.
-use Rattle.std.proofs.Common.{◌≡◌, ℕ, ◌+◌, ◌<◌, ◌≤◌, ◌^◌, Bool, true, false, not, cond, ◌||◌, List, [], ◌∷◌, ◌++◌, length, map, Some, refl, sym, ap, ◌∙◌, arith, subst, append_assoc, inl, inr}
-use Rattle.std.specs.List.{filter}
-use Rattle.std.proofs.lemmas.Bool.{false_from_ne_true, eq-eqb, cases_lt}
-use Rattle.std.specs.Ordering.{nat_cmp}
+use Rattle.std.proofs.Common.{◌≡◌, ℕ, ◌+◌, ◌≤◌, ◌^◌, true, false, not, cond, List, [], ◌∷◌, ◌++◌, length, Some, refl, sym, ap, ◌∙◌, arith, subst, append_assoc}
+use Rattle.std.proofs.lemmas.Bool.{false_from_ne_true, eq-eqb}
 use Rattle.std.specs.Cmp.{nat_cmp_total}
 use Rattle.std.specs.FinMap.{get, get-insert}
 use Rattle.rb_header.specs.Span.{span}
@@ -10,15 +8,15 @@ use Rattle.rb_history.specs.declared.entries.Entry.{Entry}
 use Rattle.rb_history.specs.declared.entries.Entry.TheVariants.{Res, Sub, Take}
 use Rattle.rb_history.specs.declared.answers.Taken.{Taken}
 use Rattle.rb_history.specs.declared.answers.Taken.TheVariants.{Event, Skipped, BusyFront, Empty}
-use Rattle.rb_history.specs.History.{Shown, Status, status_of, is_submitted_at, is_discarded_at, is_taken_at, producer_of, consumer_of, grants, records, is_submit, is_discard, is_take}
+use Rattle.rb_history.specs.History.{Shown, status_of, is_submitted_at, is_discarded_at, is_taken_at, producer_of, consumer_of, grants, records, is_submit, is_discard, is_take}
 use Rattle.rb_history.specs.History.Status.{Busy, Waiting, Discarded}
 use Rattle.rb_history.specs.RoomRule.{Setup}
 use Rattle.rb_history.specs.Legal.{IsLegal}
 use Rattle.rb_history.specs.inner.RecordRows.{InRow}
 use Rattle.rb_history.specs.RingModel.{Ring}
-use Rattle.rb_history.specs.Calls.{Takes, TakesEvent, Outputs, AllTaken, RingHasRoom, producer_now, consumer_now}
+use Rattle.rb_history.specs.Calls.{Takes, TakesEvent, Outputs, AllTaken, producer_now, consumer_now}
 use Rattle.rb_history.proofs.Lists.{list_any-snoc, or-false}
-use Rattle.rb_history.proofs.Steps.{mark, elsewhere, producer-res, producer-sub, producer-take, consumer-res, consumer-sub, records-res, records-sub, records-take}
+use Rattle.rb_history.proofs.Steps.{producer-res, producer-sub, producer-take, consumer-res, consumer-sub, records-res, records-sub, records-take}
 use Rattle.rb_history.proofs.Laws.{legal-front, legal-next, kept-from-legal}
 use Rattle.rb_history.proofs.Contents.{hit-yes}
 

@@ -1,5 +1,5 @@
 -- A ring that goes on in its next chapter before its own is full, and the empty chapter that is kept beside it for that.
-use Rattle.std.specs.Prelude.{ℕ, ◌≡◌, ◌⊎◌, Option, Some}
+use Rattle.std.specs.Prelude.{◌≡◌, ◌⊎◌, Option, Some}
 use Rattle.rb_chapter.specs.Chapters.{Chapter, empty_chapter}
 use Rattle.rb_chapter.specs.ChapterRoom.{MayGrant}
 use Rattle.rb_chapter.specs.ChapterRing.{ChapterRing}

@@ -1,5 +1,5 @@
 -- A payload that goes through a ring in which every record was taken: it is output and taken at once.
-use Rattle.std.specs.Prelude.{ℕ, ◌≡◌, ◌+◌, ◌<◌, ◌≤◌, ◌^◌, List, length}
+use Rattle.std.specs.Prelude.{ℕ, ◌≡◌, ◌+◌, ◌<◌, ◌≤◌, ◌^◌}
 use Rattle.rb_header.specs.Span.{span}
 use Rattle.rb_chapter.specs.ChapterRing.{ChapterRing}
 use Rattle.rb_chapter.specs.ChapterCalls.{AllTaken, IsSameChapter, producer_now}

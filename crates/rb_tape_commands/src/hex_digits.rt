@@ -22,9 +22,7 @@ fn digit(number: u8) -> u8
     requires below { number < 16 }
     ensures value { result ≡ digit_code number }
 {
-    if number < 10 {
-        b'0' + number
-    } else {
-        b'a' - 10 + number
-    }
+    // What the letters lie behind the digits is added where it is due, which takes fewer instructions than a choice of two sums.
+    let behind = if number < 10 { 0 } else { b'a' - b'0' - 10 };
+    b'0' + number + behind
 }

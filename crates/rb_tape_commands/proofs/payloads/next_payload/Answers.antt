@@ -1,5 +1,4 @@
-use Rattle.std.proofs.Common.{◌≡◌, ◌≤◌, ◌<◌, ◌^◌, ℕ, length, refl, ap, ◌∙◌, arith}
-use Rattle.std.proofs.lemmas.List.{length-replicate}
+use Rattle.std.proofs.Common.{◌≡◌, ◌<◌, length, refl, ap, ◌∙◌, arith}
 use Rattle.rb_header.specs.Span.{span}
 use Rattle.rb_tape_commands.proofs.PayloadReads.{some_read, cut_read}
 use Rattle.rb_tape_commands.proofs.payloads.next_payload.Goals as goal
