@@ -7,6 +7,7 @@ mod Nearness
 mod Giving
 mod Comparing
 mod Feasible
+mod Forms
 pub mod Steady
 mod HeldRecords
 mod Reaching

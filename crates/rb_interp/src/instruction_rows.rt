@@ -95,6 +95,7 @@ impl<C: Context, R: Lent> Cpu<C, R> {
     }
 
     /// A load that zero-extends, or one of a pointer that is kept on the stack.
+    #[inline(always)]
     pub(crate) fn execute_load(
         &mut self,
         insn: &Insn,
@@ -151,6 +152,7 @@ impl<C: Context, R: Lent> Cpu<C, R> {
     }
 
     /// A store of a register: of a number, or of a pointer that the stack keeps.
+    #[inline(always)]
     pub(crate) fn store_register(
         &mut self,
         insn: &Insn,
@@ -197,6 +199,7 @@ impl<C: Context, R: Lent> Cpu<C, R> {
     }
 
     /// A store of a number.
+    #[inline(always)]
     pub(crate) fn store(&mut self, insn: &Insn, size: Size, base: Value, offset: i16, from: Value)
         requires unit { self.old.unit < 2 ^ 31 }
         requires near { IsNearValue base }

@@ -64,7 +64,17 @@ fn first_touched(entries: &[KeptPointer], at: usize, len: usize) -> Option<usize
 }
 
 /// Removes the entries whose places have one of the `len` bytes from byte `at` on.
+#[inline(always)]
 fn remove_touched(entries: &mut ArrayVec<KeptPointer, 64>, at: usize, len: usize)
+    ensures { entries.new.items ≡ filter (entry_left at len) entries.old.items }
+{
+    if !entries.is_empty() {
+        remove_each_touched(entries, at, len);
+    }
+}
+
+/// Looks at each of the entries, and removes those whose places have one of the `len` bytes from byte `at` on.
+fn remove_each_touched(entries: &mut ArrayVec<KeptPointer, 64>, at: usize, len: usize)
     ensures { entries.new.items ≡ filter (entry_left at len) entries.old.items }
 {
     while let Some(i) = first_touched(entries.as_slice(), at, len) {

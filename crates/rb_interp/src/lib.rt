@@ -15,6 +15,7 @@ mod kept_pointers;
 mod machine;
 mod machine_memory;
 mod offsets;
+mod operations;
 mod part_range;
 mod program_run;
 mod request;
