@@ -8,6 +8,8 @@ mod Giving
 mod Comparing
 mod Feasible
 mod Forms
+mod RegisterLaws
+mod Renumbering
 pub mod Steady
 mod HeldRecords
 mod Reaching

@@ -18,6 +18,7 @@ mod offsets;
 mod operations;
 mod part_range;
 mod program_run;
+mod registers;
 mod request;
 mod slot_table;
 mod step;
