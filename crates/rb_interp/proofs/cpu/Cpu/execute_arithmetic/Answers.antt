@@ -1,8 +1,7 @@
-use Rattle.std.proofs.Common.{◌≡◌, ◌<◌, sym, ◌∙◌, length, subst, arith}
+use Rattle.std.proofs.Common.{◌≡◌, ◌<◌, ◌∙◌, length, arith}
 use Rattle.rb_semantics.specs.ProgramStates.{State, register, operand_in}
 use Rattle.rb_semantics.specs.Instructions.{execute_arithmetic}
 use Rattle.rb_interp.specs.ShownState.{state_of}
-use Rattle.rb_interp.specs.inner.NearOffsets.{LeavesNear}
 use Rattle.rb_interp.proofs.Renumbering.{arithmetic_gives, near-meant}
 use Rattle.rb_interp.proofs.cpu.Cpu.execute_arithmetic.Goals as goal
 

@@ -1,4 +1,4 @@
-use Rattle.std.proofs.Common.{◌≡◌, sym, ◌∙◌}
+use Rattle.std.proofs.Common.{◌∙◌}
 use Rattle.rb_semantics.specs.ProgramStates.{State, register}
 use Rattle.rb_interp.specs.ShownState.{state_of}
 use Rattle.rb_interp.proofs.Renumbering.{copy_gives}

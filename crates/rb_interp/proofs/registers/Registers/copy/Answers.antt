@@ -1,9 +1,8 @@
-use Rattle.std.proofs.Common.{◌≡◌, ◌<◌, List, length, get_or, set, sym, ap, ◌∙◌, subst, arith}
-use Rattle.rb_semantics.specs.declared.value.Value.{Value}
+use Rattle.std.proofs.Common.{get_or, set, sym, ap, ◌∙◌, arith}
 use Rattle.rb_semantics.specs.declared.value.Value.TheVariants.{Nothing}
 use Rattle.rb_interp.specs.declared.registers.Kind.TheVariants as kind
-use Rattle.rb_interp.specs.inner.RegisterValues.{RegisterValues, shown_value, shown_values, renumbered, IsKeptAs}
-use Rattle.rb_interp.proofs.RegisterLaws.{value_at, value_set, number_set, kept_shown, as_many}
+use Rattle.rb_interp.specs.inner.RegisterValues.{RegisterValues, shown_values}
+use Rattle.rb_interp.proofs.RegisterLaws.{value_at, value_set}
 use Rattle.rb_interp.proofs.registers.Registers.copy.Goals as goal
 
 pub returns : goal.returns
