@@ -7,6 +7,9 @@ mod Nearness
 mod Giving
 mod Comparing
 mod Feasible
+mod Forms
+mod RegisterLaws
+mod Renumbering
 pub mod Steady
 mod HeldRecords
 mod Reaching

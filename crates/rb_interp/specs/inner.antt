@@ -4,3 +4,4 @@ pub mod SlotTable
 pub mod KeptPointers
 pub mod NearOffsets
 pub mod PendingRequests
+pub mod RegisterValues

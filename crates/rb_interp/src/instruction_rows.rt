@@ -5,7 +5,8 @@ ghost use Rattle.byteorder.specs.Endian.{little_number};
 ghost use Rattle.rb_alu.specs.ArithmeticAndJumps.{IsArithmetic, IsConditional};
 ghost use Rattle.rb_insn.specs.Sizes.{byte_count, signed_byte_count};
 ghost use Rattle.rb_semantics.specs.StackPointers.{spill_of};
-ghost use Rattle.rb_semantics.specs.ProgramStates.{fill_of, pointed, register};
+ghost use Rattle.rb_semantics.specs.ProgramStates.{fill_of, pointed, register, operand_in};
+ghost use Rattle.rb_insn.specs.declared.insn.Insn.TheVariants as kind;
 ghost use Rattle.rb_semantics.specs.Instructions.{Goes, Ends, Stuck, execute_copy, execute_compute, execute_arithmetic, execute_load, execute_fill, signed_number, execute_store, execute_spill, null_test, execute_compare, execute_exit};
 ghost use Rattle.rb_interp.specs.ShownState.{state_of};
 ghost use Rattle.rb_interp.specs.inner.NearOffsets.{IsNearValue, LeavesNear};
@@ -14,7 +15,7 @@ ghost use Rattle.rb_interp.specs.inner.KeptPointers.{IsKeepable};
 
 use crate::byte_numbers::{number_in, signed_number_in};
 use crate::cpu::Cpu;
-use crate::offsets::{behind, moved_back, moved_forward};
+use crate::offsets::behind;
 use rb_alu::{jumps, value};
 use rb_cfg::next_unit;
 use rb_insn::{BinaryOp, Condition, Insn, Operand, Reg, SignedSize, Size, Width};
@@ -22,18 +23,15 @@ use rb_lend::{Context, Lent};
 use rb_semantics::{MemoryRegion, Value};
 
 impl<C: Context, R: Lent> Cpu<C, R> {
-    /// A move of a number, a pointer or a ring.
+    /// A move of what a register holds: a number, a pointer or a ring.
     #[inline(always)]
-    pub(crate) fn execute_copy(&mut self, insn: &Insn, dst: Reg, from: Value)
+    pub(crate) fn execute_copy(&mut self, insn: &Insn, dst: Reg, src: Reg)
         requires unit { self.old.unit < 2 ^ 31 }
-        requires meant { execute_copy insn.now dst from (state_of R.bytes_of C.shown self.old) ≢ Stuck }
-        ensures goes { execute_copy insn.now dst from (state_of R.bytes_of C.shown self.old) ≡ Goes (state_of R.bytes_of C.shown self.new) }
+        requires meant { let s = state_of R.bytes_of C.shown self.old in execute_copy insn.now dst (register s src.number) s ≢ Stuck }
+        ensures goes { let s = state_of R.bytes_of C.shown self.old in execute_copy insn.now dst (register s src.number) s ≡ Goes (state_of R.bytes_of C.shown self.new) }
         ensures memory { self.new.memory ≡ self.old.memory }
     {
-        match from {
-            Value::Nothing => unreachable!(),
-            from => self.gives(insn, dst, from),
-        }
+        self.copies(insn, dst, src);
     }
 
     /// Arithmetic on two numbers.
@@ -53,7 +51,8 @@ impl<C: Context, R: Lent> Cpu<C, R> {
         }
     }
 
-    /// A sum or a difference that moves a pointer's offset, or arithmetic on two numbers.
+    /// A sum or a difference that moves a pointer's offset, or arithmetic on two numbers: the register's number changes, and its
+    /// kind is not looked at.
     #[inline(always)]
     pub(crate) fn execute_arithmetic(
         &mut self,
@@ -61,40 +60,22 @@ impl<C: Context, R: Lent> Cpu<C, R> {
         width: Width,
         op: BinaryOp,
         dst: Reg,
-        a: Value,
-        b: Value,
+        operand: Operand,
     )
         requires unit { self.old.unit < 2 ^ 31 }
-        requires arithmetic { IsArithmetic insn.now }
-        requires meant { LeavesNear dst (execute_arithmetic width op insn.now dst a b (state_of R.bytes_of C.shown self.old)) }
-        ensures goes { execute_arithmetic width op insn.now dst a b (state_of R.bytes_of C.shown self.old) ≡ Goes (state_of R.bytes_of C.shown self.new) }
+        requires insn { insn.now ≡ kind.Binary width op dst operand }
+        requires meant { let s = state_of R.bytes_of C.shown self.old in LeavesNear dst (execute_arithmetic width op insn.now dst (register s dst.number) (operand_in s operand) s) }
+        ensures goes { let s = state_of R.bytes_of C.shown self.old in execute_arithmetic width op insn.now dst (register s dst.number) (operand_in s operand) s ≡ Goes (state_of R.bytes_of C.shown self.new) }
         ensures memory { self.new.memory ≡ self.old.memory }
     {
-        let Value::Number(b) = b else { unreachable!() };
-        if let Value::Number(a) = a {
-            self.gives_number(insn, dst, value(insn, a, b));
-            return;
-        }
-        match (width, op) {
-            (Width::W64, BinaryOp::Add) => {
-                let Value::Pointer(place, offset) = a else {
-                    unreachable!()
-                };
-                let to = moved_forward(offset, b);
-                self.gives(insn, dst, Value::Pointer(place, to));
-            }
-            (Width::W64, BinaryOp::Sub) => {
-                let Value::Pointer(place, offset) = a else {
-                    unreachable!()
-                };
-                let to = moved_back(offset, b);
-                self.gives(insn, dst, Value::Pointer(place, to));
-            }
-            _ => unreachable!(),
-        }
+        self.registers.facts();
+        let b = self.operand_number(operand);
+        let a = self.registers.number(dst);
+        self.renumbers(insn, dst, value(insn, a, b));
     }
 
     /// A load that zero-extends, or one of a pointer that is kept on the stack.
+    #[inline(always)]
     pub(crate) fn execute_load(
         &mut self,
         insn: &Insn,
@@ -151,6 +132,7 @@ impl<C: Context, R: Lent> Cpu<C, R> {
     }
 
     /// A store of a register: of a number, or of a pointer that the stack keeps.
+    #[inline(always)]
     pub(crate) fn store_register(
         &mut self,
         insn: &Insn,
@@ -197,6 +179,7 @@ impl<C: Context, R: Lent> Cpu<C, R> {
     }
 
     /// A store of a number.
+    #[inline(always)]
     pub(crate) fn store(&mut self, insn: &Insn, size: Size, base: Value, offset: i16, from: Value)
         requires unit { self.old.unit < 2 ^ 31 }
         requires near { IsNearValue base }

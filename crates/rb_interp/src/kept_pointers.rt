@@ -64,7 +64,18 @@ fn first_touched(entries: &[KeptPointer], at: usize, len: usize) -> Option<usize
 }
 
 /// Removes the entries whose places have one of the `len` bytes from byte `at` on.
+#[inline(always)]
 fn remove_touched(entries: &mut ArrayVec<KeptPointer, 64>, at: usize, len: usize)
+    ensures { entries.new.items ≡ filter (entry_left at len) entries.old.items }
+{
+    if !entries.is_empty() {
+        remove_each_touched(entries, at, len);
+    }
+}
+
+/// Looks at each of the entries, and removes those whose places have one of the `len` bytes from byte `at` on.
+#[inline(never)]
+fn remove_each_touched(entries: &mut ArrayVec<KeptPointer, 64>, at: usize, len: usize)
     ensures { entries.new.items ≡ filter (entry_left at len) entries.old.items }
 {
     while let Some(i) = first_touched(entries.as_slice(), at, len) {
@@ -103,7 +114,18 @@ impl KeptPointers {
     pub(crate) fn beginning(&self, byte: i64) -> Option<Value>
         ensures { result ≡ beginning_at byte self.now }
     {
-        if self.entries.is_empty() || byte < 0 || byte % 8 != 0 {
+        if self.entries.is_empty() {
+            return None;
+        }
+        self.beginning_among(byte)
+    }
+
+    /// The same, where some are kept.
+    #[inline(never)]
+    fn beginning_among(&self, byte: i64) -> Option<Value>
+        ensures { result ≡ beginning_at byte self.now }
+    {
+        if byte < 0 || byte % 8 != 0 {
             return None;
         }
         kept_at(self.entries.as_slice(), (byte / 8) as usize)

@@ -1,4 +1,5 @@
 pub mod Annotation
+pub mod Operations
 pub mod Refusals
 pub mod Subject
 pub mod VerifiedProgram

@@ -7,11 +7,13 @@
 #![tactic(auto)]
 
 mod arrivals;
+mod operation;
 mod refusal;
 mod sweep;
 mod verification;
 mod verified;
 
+pub use operation::Operation;
 pub use refusal::Refusal;
 pub use verification::verify;
 pub use verified::Verified;

@@ -4,6 +4,7 @@ ghost use Rattle.std.specs.Prelude.{◌≡◌, ◌≤◌, IfOk, IfErr, OnOk};
 ghost use Rattle.rb_verifier.specs.Annotation.{HasValid};
 ghost use Rattle.rb_verifier.specs.Refusals.{IsRightRefusal};
 
+use crate::operation::operations_of;
 use crate::refusal::Refusal;
 use crate::sweep::annotate;
 use crate::verified::Verified;
@@ -25,5 +26,8 @@ pub fn verify(alloc: Global, shape: Shape, ctx_len: u32, rings: u32) -> Result<V
 {
     let limits = Limits { ctx_len, rings };
     let annotation = annotate(alloc, limits, &shape)?;
-    Ok(Verified::new(shape, limits, annotation))
+    let Ok(operations) = operations_of(alloc, shape.program()) else {
+        return Err(Refusal::Memory);
+    };
+    Ok(Verified::new(shape, limits, annotation, operations))
 }

@@ -5,7 +5,7 @@ use Rattle.rb_semantics.specs.StackPointers.{is_pointer_among}
 use Rattle.rb_interp.specs.declared.kept_pointers.KeptPointer.{KeptPointer}
 use Rattle.rb_interp.specs.inner.KeptPointers.{pointers_of, entry_left}
 use Rattle.rb_interp.proofs.KeptEntries.{filter_removed, none_touched}
-use Rattle.rb_interp.proofs.kept_pointers.remove_touched.Goals as goal
+use Rattle.rb_interp.proofs.kept_pointers.remove_each_touched.Goals as goal
 
 pub loop-i-preserved : goal.loop-i-preserved
 loop-i-preserved c =

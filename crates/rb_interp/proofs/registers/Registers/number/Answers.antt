@@ -1,0 +1,17 @@
+use Rattle.std.proofs.Common.{◌≡◌, get_or, sym, ap, ◌∙◌, subst, arith}
+use Rattle.rb_semantics.specs.declared.value.Value.TheVariants.{Nothing}
+use Rattle.rb_interp.specs.declared.registers.Kind.TheVariants as kind
+use Rattle.rb_interp.specs.inner.RegisterValues.{RegisterValues, shown_value, IsKeptAs}
+use Rattle.rb_interp.proofs.RegisterLaws.{value_at, kept_shown}
+use Rattle.rb_interp.proofs.registers.Registers.number.Goals as goal
+
+pub returns : goal.returns
+returns c =
+    let kinds = c.self.inside.kinds in
+    let numbers = c.self.inside.numbers in
+    let i = c.args.reg.number in
+    let told = c.self.told in
+    let bound = c.args.reg.bounded in
+    let at = value_at kinds numbers i kind.Nothing 0 (omega (arith, told, bound)) (omega (arith, told, bound)) in
+    let value : shown_value (get_or kinds i kind.Nothing) (get_or numbers i 0) ≡ get_or c.args.self.now i Nothing = sym at ∙ ap (λ (l : RegisterValues). get_or l i Nothing) c.self.view_is in
+    subst (λ j. IsKeptAs (get_or c.args.self.now i Nothing) (get_or numbers j 0)) (sym c.index.ensures.value) (subst (λ v. IsKeptAs v (get_or numbers i 0)) value (kept_shown (get_or kinds i kind.Nothing) (get_or numbers i 0)))
