@@ -23,7 +23,8 @@ pub struct Fresh {
     pub consumers: Vec<ConsumerSeat>,
 }
 
-/// So many rings of 4,096 bytes, each for one worker, with chapters of 65,536 entries. A ring's tag is its number. `AllocError` where there is no memory for them.
+/// So many rings of 4,096 bytes, each for one worker, with chapters of 65,536 entries. A ring's tag is its number. `AllocError` where there is
+/// no memory for them.
 pub fn fresh_rings<T: Wait>(rt: &T, alloc: Global, number: u32) -> Result<Fresh, AllocError>
     ensures len { IfOk result (λ f. length f.rings.items ≡ number) }
     ensures numbered { IfOk result (λ f. AreNumbered number f.rings.items) }
