@@ -17,6 +17,7 @@ mod machine_memory;
 mod offsets;
 mod operations;
 mod part_range;
+mod pointer_table;
 mod program_run;
 mod registers;
 mod request;

@@ -10,7 +10,7 @@ ghost use Rattle.rb_interp.specs.inner.SlotTable.{part_named};
 ghost use Rattle.rb_interp.specs.inner.KeptPointers.{filled, IsPlace};
 
 use crate::byte_numbers::put_number;
-use crate::kept_pointers::KeptPointers;
+use crate::pointer_table::PointerTable;
 use crate::slot_table::{SlotEntry, entry_of, without};
 use arrayvec::ArrayVec;
 use rb_insn::Size;
@@ -23,7 +23,7 @@ use std::marker::Model;
 #[derive(Drop)]
 pub(crate) struct MachineMemory<C, R> {
     parts: Parts<C, R>,
-    pointers: KeptPointers,
+    pointers: PointerTable,
     entries: ArrayVec<SlotEntry, 4>,
 }
 
@@ -45,7 +45,7 @@ impl<C, R> MachineMemory<C, R> {
     {
         MachineMemory {
             parts: Parts::new(context),
-            pointers: KeptPointers::new(),
+            pointers: PointerTable::new(),
             entries: ArrayVec::new(),
         }
     }
