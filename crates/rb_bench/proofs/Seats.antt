@@ -2,7 +2,7 @@
 use Rattle.std.proofs.Common.{◌≡◌, ℕ, zero, suc, ◌+◌, List, ◌++◌, take, drop, refl}
 use Rattle.std.specs.List.{All}
 use Rattle.std.proofs.lemmas.List.Elements.{All-nil, All-cons, All-append, All-drop, All-take}
-use Rattle.rb_ledger.specs.declared.shared.SharedRing.{SharedRing}
+use Rattle.rb_shared_ring.specs.declared.shared.SharedRing.{SharedRing}
 use Rattle.rb_ledger.specs.Roles.{Book}
 use Rattle.rb_ledger.specs.Seats.{WorkerSeat, fresh_seat, fresh_seats}
 

@@ -3,24 +3,29 @@
 ghost use Rattle.std.specs.Prelude.{◌≡◌, IfOk};
 
 use crate::fault::BenchFault;
+use rb_chapter::Chapter;
+use rb_chapter_ring::RingState;
 use rb_history::Taken;
 use rb_lend::{Lent, Sheet};
-use rb_ring::RingState;
 use std::alloc::Global;
 
 /// The size of the rings that are measured, in bytes.
 pub(crate) const SIZE: u64 = 65_536;
 
+/// How many entries each chapter of their histories has room for.
+pub(crate) const ROOM: u32 = 65_536;
+
 /// The byte that fills each record.
 pub(crate) const FILL: u8 = 42;
 
 /// Outputs and takes `records` records of `len` bytes, one after the other, and answers the sum of their first bytes. One
-/// sheet goes round.
+/// sheet goes round, and two chapters.
 pub(crate) fn output_and_take(alloc: Global, records: u32, len: u32) -> Result<u64, BenchFault> {
-    let mut ring = opened(alloc)?;
+    let (mut ring, mut spare) = opened(alloc)?;
     let mut sheet = Sheet::new(alloc, len)?;
     let mut sum: u64 = 0;
     for _ in 0..records {
+        make_chapter_room(&mut ring, &mut spare)?;
         sheet = pass(&mut ring, sheet)?;
         sum = sum.wrapping_add(first_byte(&sheet));
     }
@@ -30,8 +35,8 @@ pub(crate) fn output_and_take(alloc: Global, records: u32, len: u32) -> Result<u
 #[inline(always)]
 // One record through the ring: the sheet is filled, output and taken.
 fn pass(ring: &mut RingState, mut sheet: Sheet) -> Result<Sheet, BenchFault>
-    requires { ring.old.setup.workers ≡ 1 }
-    ensures { ring.new.setup ≡ ring.old.setup }
+    requires { ring.old.chapter.opening.setup.workers ≡ 1 }
+    ensures { ring.new.chapter.opening ≡ ring.old.chapter.opening }
 {
     sheet.bytes_mut().fill(FILL);
     if ring.output(0, sheet, 0).is_err() {
@@ -41,12 +46,13 @@ fn pass(ring: &mut RingState, mut sheet: Sheet) -> Result<Sheet, BenchFault>
 }
 
 /// Reserves, writes, submits and takes `records` records of `len` bytes, one after the other, and answers the sum of their
-/// first bytes. One sheet goes round.
+/// first bytes. One sheet goes round, and two chapters.
 pub(crate) fn reserve_and_submit(alloc: Global, records: u32, len: u32) -> Result<u64, BenchFault> {
-    let mut ring = opened(alloc)?;
+    let (mut ring, mut spare) = opened(alloc)?;
     let mut sheet = Sheet::new(alloc, len)?;
     let mut sum: u64 = 0;
     for _ in 0..records {
+        make_chapter_room(&mut ring, &mut spare)?;
         let n = sheet.len();
         let Ok(mut reservation) = ring.reserve(0, n, sheet) else {
             return Err(BenchFault::Lost);
@@ -61,20 +67,49 @@ pub(crate) fn reserve_and_submit(alloc: Global, records: u32, len: u32) -> Resul
     Ok(sum)
 }
 
-/// An empty ring for one worker.
-pub(crate) fn opened(alloc: Global) -> Result<RingState, BenchFault>
-    ensures { IfOk result (λ ring. ring.setup.workers ≡ 1) }
+/// An empty ring for one worker, and the chapter in which it goes on.
+fn opened(alloc: Global) -> Result<(RingState, Option<Chapter>), BenchFault>
+    ensures { IfOk result (λ o. o.0.chapter.opening.setup.workers ≡ 1) }
 {
-    match RingState::new(alloc, SIZE, 0, 1) {
-        Ok(ring) => Ok(ring),
-        Err(_) => Err(BenchFault::Memory),
+    let Ok(ring) = RingState::new(alloc, SIZE, 0, 1, ROOM) else {
+        return Err(BenchFault::Memory);
+    };
+    let spare = Chapter::new(alloc, ROOM, 1)?;
+    Ok((ring, Some(spare)))
+}
+
+#[inline(always)]
+// Has the ring go on in the spare chapter, where its own has no room for one more record.
+fn make_chapter_room(ring: &mut RingState, spare: &mut Option<Chapter>) -> Result<(), BenchFault>
+    ensures { ring.new.chapter.opening.setup ≡ ring.old.chapter.opening.setup }
+{
+    if ring.chapter().may_grant() {
+        return Ok(());
     }
+    turn_chapter(ring, spare)
+}
+
+#[cold]
+#[inline(never)]
+// Hands the ring's chapter out for the spare one. The old one is emptied, and is the next spare one.
+fn turn_chapter(ring: &mut RingState, spare: &mut Option<Chapter>) -> Result<(), BenchFault>
+    ensures { ring.new.chapter.opening.setup ≡ ring.old.chapter.opening.setup }
+{
+    let Some(empty) = spare.take() else {
+        return Err(BenchFault::Lost);
+    };
+    let Ok(mut full) = ring.hand_out(empty) else {
+        return Err(BenchFault::Lost);
+    };
+    full.clear();
+    *spare = Some(full);
+    Ok(())
 }
 
 #[inline(always)]
 // The bytes of the record that is taken next.
 fn next_sheet(ring: &mut RingState) -> Result<Sheet, BenchFault>
-    ensures { ring.new.setup ≡ ring.old.setup }
+    ensures { ring.new.chapter.opening ≡ ring.old.chapter.opening }
 {
     match ring.take() {
         Taken::Event(_, _, _, sheet) => Ok(sheet),

@@ -1,13 +1,16 @@
 //! Records through the ring that threads share.
 
 ghost use Rattle.std.specs.Prelude.{◌≡◌, All};
-ghost use Rattle.rb_ledger.specs.Seats.{IsSameSeat, IsSameConsumerSeat};
+ghost use Rattle.rb_ledger.specs.Seats.{IsSameSeat};
+ghost use Rattle.rb_shared_ring.specs.SharedSeats.{IsSameChapterConsumer};
 
 use crate::fault::BenchFault;
-use crate::one_thread::{FILL, SIZE};
-use rb_consumer::Batch;
-use rb_ledger::{ConsumerSeat, Seat, SharedRing, WaitBackoff, open};
+use crate::one_thread::{FILL, ROOM, SIZE};
+use rb_chapter::Chapter;
+use rb_consumer::{Batch, Keeper};
+use rb_ledger::WaitBackoff;
 use rb_lend::{Lent, Sheet};
+use rb_shared_ring::{ConsumerSeat, Seat, SharedRing, open};
 use std::alloc::Global;
 use std::sync::Wait;
 use std::thread;
@@ -15,6 +18,16 @@ use std::thread::{Threads, join_mut};
 
 // How many records the consumer takes at most under one holding of the lock.
 const BATCH: usize = 64;
+
+// A chapter is handed out when half of its room is left: what producers may add until the consumer comes round again.
+const MARGIN: u32 = ROOM / 2;
+
+// What the consumer has beside its seat: the records that it took last, and what hands the ring's chapters out.
+#[derive(Drop)]
+struct Desk {
+    batch: Batch,
+    keeper: Keeper,
+}
 
 /// What came of a run.
 #[derive(Clone, Copy, Debug, PartialEq, Eq)]
@@ -33,11 +46,13 @@ pub(crate) fn share<R: Threads + Wait + Sync>(
     producers: u32,
     each: u32,
 ) -> Result<Shared, BenchFault> {
-    let Ok((ring, mut seats, mut consumer)) = open(rt, alloc, 1, SIZE, 0, producers) else {
+    let Ok((ring, mut seats, mut consumer)) = open(rt, alloc, 1, SIZE, 0, producers, ROOM) else {
         return Err(BenchFault::Memory);
     };
-    let Ok(mut batch) = Batch::with_capacity(alloc, BATCH) else {
-        return Err(BenchFault::Memory);
+    consumer.facts();
+    let mut desk = Desk {
+        batch: Batch::with_capacity(alloc, BATCH)?,
+        keeper: Keeper::with_margin(Chapter::new(alloc, ROOM, producers)?, MARGIN),
     };
     let want = u64::from(producers) * u64::from(each);
     run(
@@ -46,7 +61,7 @@ pub(crate) fn share<R: Threads + Wait + Sync>(
         &ring,
         seats.as_mut_slice(),
         &mut consumer,
-        &mut batch,
+        &mut desk,
         each,
         want,
     );
@@ -67,21 +82,21 @@ fn run<R: Threads + Wait + Sync>(
     ring: &SharedRing,
     seats: &mut [Seat],
     consumer: &mut ConsumerSeat,
-    batch: &mut Batch,
+    desk: &mut Desk,
     each: u32,
     want: u64,
 )
     requires seats { All (λ s. s.ring ≡ ring.now.ring) seats.old }
     requires consumer { consumer.old.ring ≡ ring.now.ring }
     ensures seats { All (λ s. s.ring ≡ ring.now.ring) seats.new }
-    ensures consumer { IsSameConsumerSeat consumer.old consumer.new }
+    ensures consumer { IsSameChapterConsumer consumer.old consumer.new }
 {
     join_mut(
         rt,
         &mut ||
             requires { consumer.now.ring ≡ ring.now.ring }
-            ensures { IsSameConsumerSeat consumer.entry.now consumer.exit.now }
-        { consume(rt, ring, consumer, batch, want) },
+            ensures { IsSameChapterConsumer consumer.entry.now consumer.exit.now }
+        { consume(rt, ring, consumer, desk, want) },
         &mut ||
             requires { All (λ s. s.ring ≡ ring.now.ring) seats.now }
             ensures { All (λ s. s.ring ≡ ring.entry.now.ring) seats.exit.now }
@@ -146,24 +161,24 @@ fn filled<R: Wait>(rt: &R, alloc: Global) -> Sheet {
     unreachable!()
 }
 
-// Takes batches until so many records were handed out. After one that is not whole it waits, and for longer each time that there is no
-// record at all.
+// Takes batches until so many records were handed out, and turns the ring's chapter before each. After one that is not whole it waits, and
+// for longer each time that there is no record at all.
 fn consume<R: Wait>(
     rt: &R,
     ring: &SharedRing,
     consumer: &mut ConsumerSeat,
-    batch: &mut Batch,
+    desk: &mut Desk,
     want: u64,
 )
     requires { consumer.old.ring ≡ ring.now.ring }
-    ensures { IsSameConsumerSeat consumer.old consumer.new }
+    ensures { IsSameChapterConsumer consumer.old consumer.new }
 {
     let mut backoff = WaitBackoff::new();
     for _ in rt.forever() {
         if consumer.consumed() >= want {
             return;
         }
-        let count = batch.fill(rt, ring, consumer).unwrap_or(0);
+        let count = take(rt, ring, consumer, desk);
         if count == BATCH {
             continue;
         }
@@ -172,4 +187,13 @@ fn consume<R: Wait>(
         }
         backoff.wait();
     }
+}
+
+// Hands the ring's chapter out where it is due, takes a batch, and answers how many records it has.
+fn take<R: Wait>(rt: &R, ring: &SharedRing, consumer: &mut ConsumerSeat, desk: &mut Desk) -> usize
+    requires { consumer.old.ring ≡ ring.now.ring }
+    ensures { IsSameChapterConsumer consumer.old consumer.new }
+{
+    let _turned = desk.keeper.turn(rt, ring, consumer);
+    desk.batch.fill(rt, ring, consumer).unwrap_or(0)
 }
