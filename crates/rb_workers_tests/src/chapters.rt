@@ -161,11 +161,11 @@ fn jobs_in_turn<'j, A: Abort>(
     requires { 0 < workers }
 {
     let mut jobs = Vec::new(alloc);
-    let mut worker = 0;
+    let mut number: u32 = 0;
     for context in contexts {
-        jobs.push(job(worker % workers, program, context))
+        jobs.push(job(number % workers, program, context))
             .expect(rt, "memory");
-        worker = (worker + 1) % workers;
+        number = number.saturating_add(1);
     }
     jobs
 }
@@ -252,10 +252,8 @@ fn each_record_comes_once<R: Threads + Wait + Sync + Abort>(
         (sent, sent, refused)
     );
     assert_eq!(rt; (counts.discarded, counts.waiting, counts.busy), (0, 0, 0));
-    assert_eq!(rt;
-        u128::from(sent) + u128::from(refused) + unlogged,
-        u128::from(JOBS)
-    );
+    let jobs = u128::from(sent.saturating_add(refused)).saturating_add(unlogged);
+    assert_eq!(rt; jobs, u128::from(JOBS));
     let chapters = ended.closing.chapter().number();
     is_bound(
         rt,
