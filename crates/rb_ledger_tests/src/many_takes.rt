@@ -11,10 +11,10 @@ fn many_takes_end_before_a_busy_record(rt: HostRuntime) {
         output(&rt, rt.alloc(), &ring, &mut seat, 8, 9);
         let _busy = reserved(&rt, rt.alloc(), &ring, &mut seat, 8);
         let mut taken = Vec::with_capacity(rt.alloc(), n).expect(&rt, "memory");
-        assert_eq!(rt; ring.take_many(&rt, &mut consumer, n, &mut taken), Ok(wanted));
         assert_eq!(rt;
-            (taken.len(), consumer.consumed()),
-            (wanted, wanted as u64)
+            ring.take_many(&rt, &mut consumer, n, &mut taken),
+            Ok(wanted)
         );
+        assert_eq!(rt; (taken.len(), consumer.consumed()), (wanted, wanted as u64));
     }
 }

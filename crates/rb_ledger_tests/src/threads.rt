@@ -92,12 +92,7 @@ fn take_one<R: Wait>(
     }
 }
 
-fn consume<R: Wait>(
-    rt: &R,
-    ring: &SharedRing,
-    consumer: &mut ConsumerSeat,
-    sums: &mut Sums,
-)
+fn consume<R: Wait>(rt: &R, ring: &SharedRing, consumer: &mut ConsumerSeat, sums: &mut Sums)
     requires { consumer.old.ring ≡ ring.now.ring }
     ensures { IsSameConsumerSeat consumer.old consumer.new }
 {
