@@ -1,18 +1,34 @@
--- What `sim` prints of a script's run (own).
-use Rattle.std.specs.Prelude.{ℕ, List, [], Option}
+-- What `sim` prints of a script's run, and when it refuses the script (own).
+use Rattle.std.specs.Prelude.{ℕ, ◌⊎◌, List, [], Option, length, map}
 use Rattle.std.specs.Io.KnownBytes.{Appends}
-use Rattle.rb_interleavings.specs.declared.actor.Actor.{Actor}
-use Rattle.rb_world.specs.declared.opening.RingSetup.{RingSetup}
+use Rattle.rb_script.specs.declared.script.Script.{Script}
+use Rattle.rb_script.specs.Programs.{IsFirstRefused}
+use Rattle.rb_script.specs.ScriptText.{lines_of}
+use Rattle.rb_script.specs.Scripts.{IsFirstFault, StandFor, worker_text}
 use Rattle.rb_script.specs.Simulation.{Simulates}
+use Rattle.rb_sim_command.specs.declared.sim_command.SimFault.{SimFault}
+use Rattle.rb_sim_command.specs.declared.sim_command.SimFault.TheVariants.{Line, Memory, Device}
 
--- turns of some actors were run in a world of verified programs, and the lines of these turns were printed, and then those of its
--- workers and rings
-pub record PrintsSim (before after : Option (List ℕ)) : Type 0 where
-  pub rings : List RingSetup
-  pub actors : List Actor
+-- the script that the text stands for was run with the programs of its workers, and the lines of its turns were printed, and then those of
+-- its workers and rings
+pub record PrintsSim (text : List ℕ) (before after : Option (List ℕ)) : Type 0 where
+  pub script : Script
   pub turns : List ℕ
   pub ends : List ℕ
   pub between : Option (List ℕ)
-  pub simulated : Simulates rings actors [] turns
+  pub stands : StandFor (lines_of text) script
+  pub simulated : Simulates script [] turns ends
   pub turns_printed : Appends before between turns
   pub ends_printed : Appends between after ends
+
+-- no line of the text is at fault, and on this line is the first worker whose program is refused
+pub record IsRefusedScript (text : List ℕ) (line : ℕ) : Type 0 where
+  pub script : Script
+  pub stands : StandFor (lines_of text) script
+  pub first : IsFirstRefused (length script.rings.items) (map worker_text script.workers.items) line
+
+-- a fault that is told of the text: the first line at fault, or where none is, the first line whose program is refused
+abbrev pub IsSimFaultOf : List ℕ → SimFault → Type 0
+IsSimFaultOf text (Line line) = IsFirstFault (lines_of text) line ⊎ IsRefusedScript text line
+IsSimFaultOf text Memory = Unit {0}
+IsSimFaultOf text Device = Unit {0}

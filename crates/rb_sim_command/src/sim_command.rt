@@ -1,8 +1,8 @@
 //! A script of a world in, the lines of its turns out.
 
-ghost use Rattle.std.specs.Prelude.{OnOk};
-ghost use Rattle.std.specs.Io.KnownBytes.{Appends};
-ghost use Rattle.rb_sim_command.specs.Simulated.{PrintsSim};
+ghost use Rattle.std.specs.Prelude.{◌≡◌, ℕ, Err, IfErr, IfSome, OnOk};
+ghost use Rattle.std.specs.Io.KnownBytes.{Appends, Keeps};
+ghost use Rattle.rb_sim_command.specs.Simulated.{PrintsSim, IsSimFaultOf};
 
 use rb_io::write_whole;
 use rb_loader::{ProgramFault, read_all};
@@ -29,44 +29,49 @@ pub enum SimFault {
 /// each worker and each ring. Nothing is printed where a line is at fault or a program is refused; where memory runs out, the lines of the
 /// turns before are printed.
 pub fn sim<R: Read, W: Write>(alloc: Global, input: &mut R, out: &mut W) -> Result<(), SimFault>
-    ensures printed { OnOk result (PrintsSim (W.contents out.old) (W.contents out.new)) }
+    ensures printed { OnOk result (IfSome (R.remaining input.old) (λ text. PrintsSim text (W.contents out.old) (W.contents out.new))) }
+    ensures refused { IfErr result (λ fault. IfSome (R.remaining input.old) (λ text. IsSimFaultOf text fault)) }
+    ensures unprinted { (line : ℕ) → result ≡ Err (SimFault.Line line) → Keeps (W.contents out.old) (W.contents out.new) }
 {
     let bytes = match read_all(alloc, input) {
         Ok(bytes) => bytes,
         Err(ProgramFault::Memory) => return Err(SimFault::Memory),
         Err(_) => return Err(SimFault::Device),
     };
-    let script = match Script::read(alloc, bytes.as_slice()) {
+    sim_text(alloc, bytes.as_slice(), out)
+}
+
+// The same with the text that was read.
+fn sim_text<W: Write>(alloc: Global, text: &[u8], out: &mut W) -> Result<(), SimFault>
+    ensures printed { OnOk result (PrintsSim text.now (W.contents out.old) (W.contents out.new)) }
+    ensures refused { IfErr result (IsSimFaultOf text.now) }
+    ensures unprinted { (line : ℕ) → result ≡ Err (SimFault.Line line) → Keeps (W.contents out.old) (W.contents out.new) }
+{
+    let script = match Script::read(alloc, text) {
         Ok(script) => script,
-        Err(fault) => return Err(sim_fault(fault)),
-    };
-    let mut text = Vec::new(alloc);
-    let ends = match script.simulate(alloc, &mut text) {
-        Ok(ends) => ends,
         Err(ScriptFault::Line(line)) => return Err(SimFault::Line(line)),
+        Err(ScriptFault::Memory) => return Err(SimFault::Memory),
+    };
+    let mut turns = Vec::new(alloc);
+    let ends = match script.simulate(alloc, &mut turns) {
+        Ok(ends) => ends,
+        Err(ScriptFault::Line(refused)) => return Err(SimFault::Line(refused)),
         Err(ScriptFault::Memory) => {
-            print(out, text.as_slice())?;
+            print(out, turns.as_slice())?;
             return Err(SimFault::Memory);
         }
     };
-    print(out, text.as_slice())?;
+    print(out, turns.as_slice())?;
     print(out, ends.as_slice())
 }
 
 // Prints lines.
 fn print<W: Write>(out: &mut W, lines: &[u8]) -> Result<(), SimFault>
     ensures printed { OnOk result (Appends (W.contents out.old) (W.contents out.new) lines.now) }
+    ensures fault { IfErr result (λ fault. fault ≡ SimFault.Device) }
 {
     match write_whole(out, lines) {
         Ok(()) => Ok(()),
         Err(_) => Err(SimFault::Device),
-    }
-}
-
-// The fault of a script as one of the command.
-fn sim_fault(fault: ScriptFault) -> SimFault {
-    match fault {
-        ScriptFault::Line(line) => SimFault::Line(line),
-        ScriptFault::Memory => SimFault::Memory,
     }
 }
