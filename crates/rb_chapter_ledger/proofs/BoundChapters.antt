@@ -17,7 +17,7 @@ use Rattle.rb_chapter.proofs.Bound.{once-bound}
 use Rattle.rb_ledger.specs.Roles.{book_of}
 use Rattle.rb_ledger.specs.Seats.{WorkerSeat, Ties, ConsumerTies}
 use Rattle.rb_ledger.specs.Headline.{Accounts, IsClosed, ReservationsBalance}
-use Rattle.rb_ledger.proofs.Laws.{serials-ordered}
+use Rattle.rb_history.proofs.Serials.{serials-ordered}
 use Rattle.rb_ledger.proofs.Runs.{once-gathered}
 use Rattle.rb_chapter_ledger.specs.ChapteredRing.{chaptered_ring, whole_of}
 use Rattle.rb_chapter_ledger.specs.ChapterSeats.{ChapterConsumerSeat, whole_consumer}

@@ -9,8 +9,6 @@ use Rattle.rb_history.specs.declared.stored_records.StoredRecord.{StoredRecord}
 use Rattle.rb_history.specs.declared.stored_records.RecordState.TheVariants.{Reserved}
 use Rattle.rb_history.specs.StoredRecords.{shown_record, IsSized, contents_of}
 use Rattle.rb_history.proofs.Contents.{contents-push}
-use Rattle.rb_ring.proofs.Sizes.{eights-in}
-use Rattle.rb_ring.proofs.Walking.{row-many}
 use Rattle.rb_chapter.specs.Opening.{tally_at}
 use Rattle.rb_chapter.specs.Chapters.{Chapter, closing_of}
 use Rattle.rb_chapter.specs.CountedFrom.{HasRoomFrom, grants_from, producer_from, tally_from}
@@ -26,6 +24,7 @@ use Rattle.rb_chapter_ring.proofs.CountSteps.{counts-refusal, counts-grant}
 use Rattle.rb_chapter_ring.proofs.Keeps.{longer-legal, keeps}
 use Rattle.rb_chapter_ring.proofs.Numbering.{numbered-more}
 use Rattle.rb_chapter_ring.proofs.Rows.{rows}
+use Rattle.rb_chapter_ring.proofs.Places.{eights-in, row-many}
 
 module _ (earlier : List Entry) (c : Chapter) (stored : List StoredRecord) (ordinals : List ℕ) (counts : Counts) (g : IsRingOf earlier c stored ordinals counts) where
   pub refusal-keeps : (w n : ℕ) → w < c.opening.setup.workers → ¬ HasRoomFrom c.opening c.entries n → MayRefuse c w → IsRingOf earlier (with_entry c (Full w n)) stored ordinals (counting_refusal counts)

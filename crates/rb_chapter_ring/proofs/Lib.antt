@@ -1,4 +1,5 @@
 pub mod CountSteps
+pub mod Places
 pub mod Numbering
 pub mod Rows
 pub mod Keeps

@@ -7,9 +7,8 @@ use Rattle.rb_history.specs.inner.RecordRows.{InRow}
 use Rattle.rb_history.specs.RingModel.{IsRingSize}
 use Rattle.rb_history.specs.StoredRecords.{shown_record}
 use Rattle.rb_history.proofs.Row.{get_or-default}
-use Rattle.rb_ring.proofs.Sizes.{place-lt}
-use Rattle.rb_ring.proofs.Walking.{place-apart, row-within, row-end}
 use Rattle.rb_chapter_ring.specs.inner.ChapterRingBody.{place_of, no_stored, AreNumbered}
+use Rattle.rb_chapter_ring.proofs.Places.{place-lt, place-apart, row-within, row-end}
 
 module _ (size : ℕ) (z : IsRingSize size) (ordinals : List ℕ) (places : length ordinals ≡ size / 8) (first c p : ℕ) (stored : List StoredRecord) (row : InRow c (map shown_record stored) p) (aligned : c % 8 ≡ 0)
     (space : p ≤ c + (size - 1)) (numbered : AreNumbered size ordinals first stored) where

@@ -6,7 +6,7 @@ use Rattle.rb_history.specs.declared.answers.Taken.{Taken}
 use Rattle.rb_chapter.specs.Chapters.{Chapter, joined}
 use Rattle.rb_chapter.specs.ChapterRing.{whole_ring}
 use Rattle.rb_ledger.specs.LockedCalls.{TakesAt}
-use Rattle.rb_ledger.specs.declared.audit.Audit.{Audit}
+use Rattle.rb_shared_ring.specs.declared.audit.Audit.{Audit}
 use Rattle.rb_ledger.specs.Roles.{Book, BeginsWith}
 use Rattle.rb_ledger.specs.Roles.Role.{Consumer, Worker}
 use Rattle.rb_ledger.specs.Seats.{WorkerSeat}

@@ -8,7 +8,7 @@ use Rattle.rb_history.specs.declared.answers.Taken.{Taken}
 use Rattle.rb_history.specs.declared.answers.Taken.TheVariants.{Event}
 use Rattle.rb_history.specs.RingModel.{Ring}
 use Rattle.rb_history.specs.ManyTakes.{TakesEach, TakesMany, pushed}
-use Rattle.rb_ledger.specs.declared.shared.Foreign.{Foreign}
+use Rattle.rb_shared_ring.specs.declared.shared.Foreign.{Foreign}
 use Rattle.rb_ledger.specs.Roles.{Book}
 use Rattle.rb_ledger.specs.Roles.Role.{Consumer}
 use Rattle.rb_ledger.specs.LockedCalls.{LockedCall}

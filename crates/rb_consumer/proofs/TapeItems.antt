@@ -10,7 +10,7 @@ use Rattle.rb_history.specs.declared.answers.Taken.{Taken}
 use Rattle.rb_history.specs.declared.answers.Taken.TheVariants.{Event, Skipped, BusyFront, Empty}
 use Rattle.rb_history.specs.History.{granted_span, producer_of, consumer_of}
 use Rattle.rb_history.specs.ManyTakes.{TakesMany, pushed}
-use Rattle.rb_ledger.specs.declared.shared.Foreign.{Foreign}
+use Rattle.rb_shared_ring.specs.declared.shared.Foreign.{Foreign}
 use Rattle.rb_ledger.specs.Roles.{Book, book_of}
 use Rattle.rb_ledger.specs.Roles.Role.{Consumer}
 use Rattle.rb_ledger.specs.Seats.{ConsumerTies}

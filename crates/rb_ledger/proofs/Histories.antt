@@ -62,7 +62,3 @@ goes-further role seen b new added goes setup history none = record {
   history_is = history ∙ ap (λ h. h ++ added) goes.history_is ∙ append_assoc seen.history goes.behind added;
   none_own = none-append role seen.history goes.behind added goes.none_own (subst (λ h. NoneOwn role h added) goes.history_is none);
 }
-
--- what was seen of a legal history is legal
-pub seen-legal : (role : Role) (seen b : Book) → ExtendsSeen role seen b → IsLegal b.setup b.history → IsLegal seen.setup seen.history
-seen-legal role seen b goes l = legal-front seen.setup seen.history goes.behind (subst (λ s. IsLegal s (seen.history ++ goes.behind)) goes.setup_same (subst (IsLegal b.setup) goes.history_is l))

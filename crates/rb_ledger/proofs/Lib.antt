@@ -7,11 +7,9 @@ pub mod Calls
 pub mod Beginnings
 pub mod Passing
 pub mod Opens
-pub mod Meets
 pub mod Seated
 pub mod ManyTakes
 pub mod Settled
 pub mod Sums
 pub mod Gathers
 pub mod Runs
-pub mod Laws

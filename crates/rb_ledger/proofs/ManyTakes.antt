@@ -172,21 +172,9 @@ module _ (c s p : ℕ) (b a : Book) (n : ℕ) (ts : List Taken) (turn : LockedCa
   pub many-places : AreTakenFrom p ts
   many-places = places-each c s p turn.point turn.left ts turn.is_ring.legal point-ties turn.called.each
 
-  -- its numbers fit 64 bits
-  pub many-fits : length a.history < 2 ^ 64 → (c + events_among ts < 2 ^ 64) × (s + skips_among ts < 2 ^ 64) × (p + span_among ts < 2 ^ 64)
-  many-fits short =
-      let k = many-ties in
-      let left = turn.left in
-      let low : consumer_of a.setup.start a.history ≤ 2 ^ 62 = subst (λ (x : Book). consumer_of x.setup.start x.history ≤ 2 ^ 62) (sym turn.seen) (omega (arith, turn.is_ring.stands.consumer_is, turn.is_ring.bounded.consumer, turn.is_ring.bounded.producer)) in
-      (omega (arith, k.consumed_is, count_by-le-length (is_take_where (is_submitted_at a.history)) a.history), omega (arith, k.skipped_is, count_by-le-length (is_take_where (is_discarded_at a.history)) a.history), omega (arith, k.position_is, low))
-
   -- the ring stays the same ring
   pub many-setup : a.setup ≡ b.setup
   many-setup = ap (λ (x : Book). x.setup) turn.seen ∙ (logs-each turn.point turn.left ts turn.called.each).setup_same ∙ turn.goes_on.setup_same
-
-  -- the numbers as a call counts them
-  pub many-counted : (events skips moved : ℕ) → events ≡ events_among ts → skips ≡ skips_among ts → moved ≡ span_among ts → ConsumerTies (c + events) (s + skips) (p + moved) a
-  many-counted events skips moved e d m = subst (λ (x : ℕ × ℕ × ℕ). ConsumerTies (c + x.0) (s + x.1) (p + x.2) a) (λ i. (sym e i, sym d i, sym m i)) many-ties
 
 -- what was pushed, as the slice behind what was there
 pub slice-pushed : (before after whole : List Taken) (k : ℕ) → whole ≡ after → k ≡ length before → take (length whole - k) (drop k whole) ≡ pushed before after

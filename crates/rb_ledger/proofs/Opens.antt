@@ -12,17 +12,10 @@ use Rattle.rb_ledger.specs.SentBytes.{IsWithin}
 use Rattle.rb_ledger.specs.RoleKnowledge.{RoleKnowledge, PassView, role_knowledge, pass_view, role_count}
 use Rattle.rb_ledger.specs.Ledger.{IsRoleIn, BytesFit, Ledger, IsRing, FitsLedger}
 use Rattle.rb_ledger.specs.LockRule.{AllFit, KeepsLockRule}
-use Rattle.rb_ledger.specs.inner.LockSteps.{MayPut, PutsState, OpensState, unopened_ring, worker_roles, first_role, other_roles, knowledge_after}
+use Rattle.rb_ledger.specs.inner.LockSteps.{OpensState, unopened_ring, worker_roles}
 use Rattle.rb_ledger.specs.Seats.{WorkerSeat, fresh_seat, fresh_seats}
-use Rattle.rb_ledger.specs.inner.SeatPasses.{seen_in, pass_bytes}
-use Rattle.rb_ledger.proofs.LockRule.{puts, away, opens}
+use Rattle.rb_ledger.proofs.LockRule.{away, opens}
 use Rattle.rb_ledger.proofs.Histories.{all-seen}
-
-pub put-step : (n pass : ℕ) (v : PassView) (new : Ring) → MayPut v new → Pushes KeepsLockRule n pass v new (PutsState v new) × Learns KeepsLockRule pass v (λ items. items ≡ [])
-put-step n pass v new m =
-    let one = puts n pass m.0 (knowledge_after m.1 new m.0) m.1 new refl m.3 in
-    let P : PassView → Type 0 = λ y. Pushes KeepsLockRule n pass y new (PutsState y new) in
-    (subst P (sym m.2) one, away pass v m.1 (ap (λ (y : PassView). y.out) m.2))
 
 nothing : (all : Contents) → IsWithin empty all
 nothing all p bytes is = let none : None ≡ Some bytes = sym (get-empty nat_cmp p) ∙ is in absurd (cc)
@@ -75,21 +68,6 @@ open-step n pass v r e is_ring none =
 
 -- ---- the seats that are cut off
 
-crew-step : (b : Book) (i n : ℕ) → i < n → worker_roles b i (n - i) ≡ role_knowledge (Worker i) b empty ∷ worker_roles b (i + 1) (n - (i + 1))
-crew-step b i n h = let e : n - i ≡ suc (n - (i + 1)) = omega arith in ap (worker_roles b i) e
-
--- what the pass of `open` knows when the seat of worker i is next
-pub record Next (b : Book) (i n : ℕ) (v : PassView) : Type 0 where
-  pub first_is : first_role v.knows ≡ role_knowledge (Worker i) b empty ∷ []
-  pub seen_is : seen_in v ≡ b
-  pub bytes_are : pass_bytes v ≡ empty
-  pub rest_is : pass_view (other_roles v.knows) v.out ≡ pass_view (worker_roles b (i + 1) (n - (i + 1))) None
-
-pub next-seat : (b : Book) (i n : ℕ) (v : PassView) → i < n → v ≡ pass_view (worker_roles b i (n - i)) None → Next b i n v
-next-seat b i n v h is =
-    let e : v ≡ pass_view (role_knowledge (Worker i) b empty ∷ worker_roles b (i + 1) (n - (i + 1))) None = is ∙ ap (λ ks. pass_view ks None) (crew-step b i n h) in
-    subst (Next b i n) (sym e) (record { first_is = refl; seen_is = refl; bytes_are = refl; rest_is = refl })
-
 seats-step : (tag : ℕ) (ring : TableId) (b : Book) (i n : ℕ) → i < n → fresh_seats tag ring b i (n - i) ≡ fresh_seat tag ring i b ∷ fresh_seats tag ring b (i + 1) (n - (i + 1))
 seats-step tag ring b i n h = let e : n - i ≡ suc (n - (i + 1)) = omega arith in ap (fresh_seats tag ring b i) e
 
@@ -102,8 +80,3 @@ seats-more tag ring ring' b i n items more s all h same is e before =
     ∙ ap (λ (y : WorkerSeat × TableId). items ++ y.0 ∷ fresh_seats tag y.1 b (i + 1) (n - (i + 1))) (λ k. (is k, same k))
     ∙ ap (λ ss. items ++ ss) (sym (seats-step tag ring b i n h))
     ∙ before
-
--- all seats of a ring that was just opened are that ring's, under its tag
-pub fresh-rings : (tag : ℕ) (ring : TableId) (b : Book) (i n : ℕ) → All (λ s. s.ring ≡ ring) (fresh_seats tag ring b i n)
-fresh-rings tag ring b i zero = All-nil _
-fresh-rings tag ring b i (suc n) = All-cons (λ (s : WorkerSeat). s.ring ≡ ring) (fresh_seat tag ring i b) (fresh_seats tag ring b (i + 1) n) refl (fresh-rings tag ring b (i + 1) n)

@@ -18,10 +18,10 @@ use Rattle.rb_ledger.specs.inner.AddedBytes.{bytes_after, put_at}
 use Rattle.rb_ledger.specs.RoleKnowledge.{PassView, role_knowledge, pass_view}
 use Rattle.rb_ledger.specs.Ledger.{IsRing, IsRoleIn, FitsLedger}
 use Rattle.rb_ledger.specs.LockRule.{AllFit}
-use Rattle.rb_ledger.specs.inner.LockSteps.{knowledge_after, TakesState, PutsState, MayPut, view_after_put}
+use Rattle.rb_ledger.specs.inner.LockSteps.{TakesState}
 use Rattle.rb_ledger.specs.inner.SeatPasses.{seen_in, pass_bytes, IsIdle}
 use Rattle.rb_ledger.specs.LockedCalls.{LockedCall, Reserves, SubmitsAt, DiscardsAt, OutputsAt, TakesAt, sent_by_submit, sent_by_output, got_by}
-use Rattle.rb_ledger.proofs.Calls.{StepIn, no-bytes, sent-there, skipped-none}
+use Rattle.rb_ledger.proofs.Calls.{no-bytes, sent-there, skipped-none}
 
 -- what one role's pass knows once it has the state out
 pub record Held (role : Role) (v : PassView) (r : Ring) (w : PassView) : Type 0 where
@@ -41,39 +41,6 @@ held role v r w idle took =
       is_ring = subst IsRing took.1.1 fit.sound.is_ring;
       is_role = subst (λ (x : Ring). IsRoleIn x.setup role) took.1.1 fit.is_role;
     }
-
--- what a call does from the ring that it was shown to the one that it left
-pub called-at : (Call : Ring → Ring → Type 0) (shown old left new : Ring) → shown ≡ old → left ≡ new → Call shown left → Call old new
-called-at Call shown old left new is_old is_new call = subst (λ r. Call r new) is_old (subst (Call shown) is_new call)
-
-pub may-put : (role : Role) (v : PassView) (r new : Ring) (w : PassView) → Held role v r w → StepIn (role_knowledge role (seen_in v) (pass_bytes v)) r new (knowledge_after r new (role_knowledge role (seen_in v) (pass_bytes v))) → MayPut w new
-may-put role v r new w h step = (role_knowledge role (seen_in v) (pass_bytes v), r, h.now, step)
-
--- the pass once the state is back
-pub back : (role : Role) (v : PassView) (r new : Ring) (w after : PassView) → Held role v r w → PutsState w new after → after ≡ pass_view (knowledge_after r new (role_knowledge role (seen_in v) (pass_bytes v)) ∷ []) None
-back role v r new w after h put = put ∙ ap (λ (x : PassView). view_after_put x new x.out) h.now
-
-pub idle-after : (role : Role) (v : PassView) (r new : Ring) (w after : PassView) → Held role v r w → PutsState w new after → IsIdle role after
-idle-after role v r new w after h put =
-    let k = knowledge_after r new (role_knowledge role (seen_in v) (pass_bytes v)) in
-    subst (IsIdle role) (sym (back role v r new w after h put)) refl
-
-pub seen-after : (role : Role) (v : PassView) (r new : Ring) (w after : PassView) → Held role v r w → PutsState w new after → seen_in after ≡ book_of new
-seen-after role v r new w after h put = ap seen_in (back role v r new w after h put)
-
-pub bytes-after : (role : Role) (v : PassView) (r new : Ring) (w after : PassView) → Held role v r w → PutsState w new after → pass_bytes after ≡ (knowledge_after r new (role_knowledge role (seen_in v) (pass_bytes v))).bytes
-bytes-after role v r new w after h put = ap pass_bytes (back role v r new w after h put)
-
-pub is-locked-call : (role : Role) (v : PassView) (r new : Ring) (w after : PassView) (Call : Ring → Ring → Type 0) → Held role v r w → PutsState w new after → Call r new → IsRing new → LockedCall role (seen_in v) (seen_in after) Call
-is-locked-call role v r new w after Call h put call is_ring = record {
-  point = r;
-  left = new;
-  goes_on = h.goes_on;
-  was_ring = h.is_ring;
-  called = call;
-  is_ring = is_ring;
-  seen = seen-after role v r new w after h put;
-}
 
 -- ---- the bytes after each call
 

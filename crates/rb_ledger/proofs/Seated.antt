@@ -20,7 +20,6 @@ use Rattle.rb_history.specs.Legal.{IsLegal}
 use Rattle.rb_history.specs.RingModel.{Ring}
 use Rattle.rb_history.specs.Calls.{Refuses, Takes, producer_now}
 use Rattle.rb_history.proofs.Laws.{legal-front}
-use Rattle.rb_ledger.specs.declared.audit.Audit.{Audit}
 use Rattle.rb_history.specs.declared.tally.Tally.{Tally}
 use Rattle.rb_ledger.specs.Roles.{Role, Book, book_of, ExtendsSeen}
 use Rattle.rb_history.specs.WorkerCounts.{is_record_of, tally_of, is_take_where, events_of, skips_of}
@@ -28,7 +27,7 @@ use Rattle.rb_ledger.specs.Roles.Role.{Consumer, Worker}
 use Rattle.rb_history.specs.inner.TallySteps.{IsCountable}
 use Rattle.rb_ledger.specs.Ledger.{IsRing}
 use Rattle.rb_ledger.specs.Seats.{IsBook, Ties, ConsumerTies}
-use Rattle.rb_ledger.specs.LockedCalls.{LockedCall, Reserves, SubmitsAt, DiscardsAt, OutputsAt, TakesAt, Queries, Audits, refused_by, reserved_by, output_by, submitted_by, discarded_by, events_in, skips_in, span_in, IsTakenAt}
+use Rattle.rb_ledger.specs.LockedCalls.{LockedCall, Reserves, SubmitsAt, DiscardsAt, OutputsAt, TakesAt, Queries, refused_by, reserved_by, output_by, submitted_by, discarded_by, events_in, skips_in, span_in, IsTakenAt}
 use Rattle.rb_history.proofs.RecordWorkers.{bit, granted-once, record-from}
 use Rattle.rb_history.proofs.WorkerCounts.{tally-res, tally-full, tally-sub, tally-dis, countable, events-next, skips-next}
 use Rattle.rb_ledger.proofs.Tallies.{tally-goes, taker-goes}
@@ -37,9 +36,6 @@ use Rattle.rb_history.proofs.TakenRecords.{position-taken, never-both, waiting-s
 -- a ring's book is one of a ring that was opened
 pub ring-book : (r : Ring) → IsRing r → IsBook (book_of r)
 ring-book r i = record { size = i.bounded.size; start = i.bounded.start; workers = i.bounded.workers; legal = i.legal }
-
-pub book-after : (role : Role) (b a : Book) (Call : Ring → Ring → Type 0) → LockedCall role b a Call → IsBook a
-book-after role b a Call t = subst IsBook (sym t.seen) (ring-book t.left t.is_ring)
 
 -- where others go on, a worker's numbers tie to what comes of it
 pub ties-goes : (w : ℕ) (t : Tally) (b p : Book) → ExtendsSeen (Worker w) b p → IsLegal p.setup p.history → Ties w t b → Ties w t p
@@ -121,12 +117,6 @@ module _ (w : ℕ) (t : Tally) (b a : Book) where
   pub query-ties : (what n : ℕ) → LockedCall (Worker w) b a (Queries what n) → Ties w t b → Ties w t a
   query-ties what n turn ties = at-point (Queries what n) turn ties t (λ old new i k c. ties-same w t old new i k c.0)
 
-  pub audit-ties : (x : Audit) → LockedCall (Worker w) b a (Audits w x) → Ties w t b → Ties w t a
-  audit-ties x turn ties = at-point (Audits w x) turn ties t (λ old new i k c. ties-same w t old new i k c.same)
-
-  pub audit-own : (x : Audit) → LockedCall (Worker w) b a (Audits w x) → Ties w t b → x.own ≡ t
-  audit-own x turn ties = turn.called.own_is ∙ sym (ties-goes w t b (book_of turn.point) turn.goes_on turn.was_ring.legal ties).counted
-
   -- the serial of a new reservation is how many the seat had made
   serial-at : (n : ℕ) (r : Result Granted (ReserveFault × List ℕ)) (old new : Ring) → Ties w t (book_of old) → Reserves w n r old new → IfOk r (λ g. g.serial ≡ t.made)
   serial-at n (Ok g) old new ties c = c.0.serial ∙ ap (λ (u : Tally). u.made) (sym ties.counted)
@@ -134,10 +124,6 @@ module _ (w : ℕ) (t : Tally) (b a : Book) where
 
   pub serial-is : (n : ℕ) (r : Result Granted (ReserveFault × List ℕ)) → LockedCall (Worker w) b a (Reserves w n r) → Ties w t b → IfOk r (λ g. g.serial ≡ t.made)
   serial-is n r turn ties = serial-at n r turn.point turn.left (ties-goes w t b (book_of turn.point) turn.goes_on turn.was_ring.legal ties) turn.called
-
--- numbers that tie to a history which fits memory fit
-pub ties-fit : (w : ℕ) (t : Tally) (b : Book) → Ties w t b → length b.history < 2 ^ 64 → IsCountable t
-ties-fit w t b ties short = subst IsCountable (sym ties.counted) (countable w b.history short)
 
 -- ---- the consumer's
 
@@ -198,14 +184,6 @@ module _ (c s p : ℕ) (b a : Book) (t : Taken) (turn : LockedCall Consumer b a 
   pub take-place : IsTakenAt p t
   take-place = taken-place c s p turn.point turn.left turn.was_ring.legal turn.is_ring.legal point-ties t turn.called.0
 
-  -- its numbers fit 64 bits
-  pub take-fits : length a.history < 2 ^ 64 → (c + events_in t < 2 ^ 64) × (s + skips_in t < 2 ^ 64) × (p + span_in t < 2 ^ 64)
-  take-fits short =
-      let k = take-ties in
-      let left = turn.left in
-      let low : consumer_of a.setup.start a.history ≤ 2 ^ 62 = subst (λ (x : Book). consumer_of x.setup.start x.history ≤ 2 ^ 62) (sym turn.seen) (omega (arith, turn.is_ring.stands.consumer_is, turn.is_ring.bounded.consumer, turn.is_ring.bounded.producer)) in
-      (omega (arith, k.consumed_is, count_by-le-length (is_take_where (is_submitted_at a.history)) a.history), omega (arith, k.skipped_is, count_by-le-length (is_take_where (is_discarded_at a.history)) a.history), omega (arith, k.position_is, low))
-
   taken-setup : (old new : Ring) (x : Taken) → Takes old new x → new.setup ≡ old.setup
   taken-setup old new (Event q w k bytes) call = call.logged.setup_same
   taken-setup old new (Skipped q n) call = call.logged.setup_same
@@ -215,7 +193,3 @@ module _ (c s p : ℕ) (b a : Book) (t : Taken) (turn : LockedCall Consumer b a 
   -- the ring stays the same ring
   pub take-setup : a.setup ≡ b.setup
   take-setup = ap (λ (x : Book). x.setup) turn.seen ∙ taken-setup turn.point turn.left t turn.called.0 ∙ turn.goes_on.setup_same
-
-  -- the numbers as a call counts them
-  pub take-counted : (events skips moved : ℕ) → events ≡ events_in t → skips ≡ skips_in t → moved ≡ span_in t → ConsumerTies (c + events) (s + skips) (p + moved) a
-  take-counted events skips moved e d m = subst (λ (x : ℕ × ℕ × ℕ). ConsumerTies (c + x.0) (s + x.1) (p + x.2) a) (λ i. (sym e i, sym d i, sym m i)) take-ties

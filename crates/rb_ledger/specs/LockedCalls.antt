@@ -11,14 +11,11 @@ use Rattle.rb_history.specs.declared.answers.Taken.{Taken}
 use Rattle.rb_history.specs.declared.answers.Taken.TheVariants.{Event, Skipped, BusyFront, Empty}
 use Rattle.rb_history.specs.ReservationModel.{Granted}
 use Rattle.rb_history.specs.NoticesAndQueries.{IsDue, query_answer}
-use Rattle.rb_history.specs.Counting.{counts_of}
 use Rattle.rb_history.specs.RingModel.{Ring, Contents}
 use Rattle.rb_history.specs.Calls.{Grants, Refuses, Outputs, Submits, Discards, Strays, Takes, HasBusyFront, AllTaken, producer_now, consumer_now}
-use Rattle.rb_ledger.specs.declared.audit.Audit.{Audit}
 use Rattle.rb_history.specs.declared.tally.Tally.{Tally}
 use Rattle.rb_ledger.specs.Roles.{Role, Book, book_of, ExtendsSeen}
 use Rattle.rb_ledger.specs.Ledger.{IsRing}
-use Rattle.rb_history.specs.WorkerCounts.{tally_of}
 
 -- One call under the lock, by a role that had seen `before` and then has seen `after`. When the lock was taken the ring was at some point:
 -- its history began with `before`, and what others had added since has no entry of the role's own. There the ring of one thread made the
@@ -55,19 +52,6 @@ TakesAt t old new = Takes old new t × ((t ≡ BusyFront) ↔ HasBusyFront old) 
 
 abbrev pub Queries : ℕ → ℕ → Ring → Ring → Type 0
 Queries what answer old new = (new ≡ old) × (answer ≡ query_answer old.setup old.history what)
-
--- the positions, the counts, and the numbers of the worker's entries
-pub record Audits (w : ℕ) (a : Audit) (old new : Ring) : Type 0 where
-  pub producer_is : a.producer ≡ producer_now old
-  pub consumer_is : a.consumer ≡ consumer_now old
-  pub counts_are : a.counts ≡ counts_of old.history
-  pub own_is : a.own ≡ tally_of w old.history
-  pub same : new ≡ old
-
--- the answer is this refusal
-abbrev pub IsRefusedAs : {T : Type 0} → ReserveFault → Result T (ReserveFault × List ℕ) → Type 0
-IsRefusedAs fault (Ok _) = ⊥
-IsRefusedAs fault (Err e) = e.0 ≡ fault
 
 -- ---- what an answer adds to a seat's numbers and bytes
 

@@ -15,11 +15,6 @@ pub record Shared : Type 0 where
   pub tag : ℕ
   pub ring : TableId
 
--- a ring that was closed: which shared ring it was, and the ring as it ended
-pub record ClosedRing : Type 0 where
-  pub shared : Shared
-  pub at_end : Ring
-
 -- a worker's seat: the tag and the ring that it was opened with, its numbers, the book as it saw it last, the bytes that it submitted
 -- or output, by position, and the ring's state where the seat has it out of the lock
 pub record WorkerSeat : Type 0 where
@@ -68,10 +63,6 @@ pub record IsSameSeat (old new : WorkerSeat) : Type 0 where
   pub ring_same : new.ring ≡ old.ring
   pub worker_same : new.worker ≡ old.worker
 
-pub record IsSameConsumerSeat (old new : ConsumerSeatValue) : Type 0 where
-  pub tag_same : new.tag ≡ old.tag
-  pub ring_same : new.ring ≡ old.ring
-
 -- ---- seats at a ring that was just opened
 
 abbrev pub fresh_book : ℕ → ℕ → ℕ → Book
@@ -80,9 +71,6 @@ fresh_book size start workers = record { setup = record { size = size; start = s
 abbrev pub fresh_seat : ℕ → TableId → ℕ → Book → WorkerSeat
 fresh_seat tag ring worker seen =
     record { tag = tag; ring = ring; worker = worker; tally = record { made = 0; refused = 0; submitted = 0; discarded = 0 }; seen = seen; sent = empty; out = None }
-
-abbrev pub fresh_consumer : ℕ → TableId → Book → ConsumerSeatValue
-fresh_consumer tag ring seen = record { tag = tag; ring = ring; consumed = 0; skipped = 0; position = seen.setup.start; seen = seen; got = empty; out = None }
 
 -- seats of the workers from `first` on
 abbrev pub fresh_seats : ℕ → TableId → Book → ℕ → ℕ → List WorkerSeat

@@ -3,8 +3,7 @@
 ghost use Rattle.std.specs.Prelude.{◌≡◌, ◌++◌, IfOk, OnOk, string_bytes};
 ghost use Rattle.rb_run_commands.specs.ReportLines.{closing_lines, counts_line, report_text, tally_line, tally_lines_from};
 
-use rb_history::Counts;
-use rb_ledger::Tally;
+use rb_history::{Counts, Tally};
 use rb_workers::{Ended, Report};
 use std::alloc::{AllocError, Global};
 

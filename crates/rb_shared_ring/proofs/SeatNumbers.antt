@@ -19,7 +19,7 @@ use Rattle.rb_chapter.proofs.Numbers.{length-below, tally-after, tally-at}
 use Rattle.rb_chapter_ring.specs.declared.faults.ReserveFault.{ReserveFault}
 use Rattle.rb_chapter_ring.specs.declared.faults.ReserveFault.TheVariants.{Full, Flags, ChapterFull, Foreign}
 use Rattle.rb_chapter_ring.specs.RingFaults.{RefusesInChapter}
-use Rattle.rb_ledger.specs.declared.audit.Audit.{Audit}
+use Rattle.rb_shared_ring.specs.declared.audit.Audit.{Audit}
 use Rattle.rb_ledger.specs.Roles.{Role, Book, book_of}
 use Rattle.rb_ledger.specs.Roles.Role.{Worker}
 use Rattle.rb_ledger.specs.Seats.{IsBook, Ties}

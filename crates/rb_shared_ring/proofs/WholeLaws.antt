@@ -5,7 +5,7 @@ use Rattle.rb_chapter.specs.Opening.{Opening}
 use Rattle.rb_chapter.specs.ChapterRing.{ChapterRing, whole_ring}
 use Rattle.rb_chapter.specs.WholeHistory.{ContinuesHistory}
 use Rattle.rb_chapter_ring.specs.OpenedRing.{capped_counts}
-use Rattle.rb_ledger.specs.declared.audit.Audit.{Audit}
+use Rattle.rb_shared_ring.specs.declared.audit.Audit.{Audit}
 use Rattle.rb_ledger.specs.Roles.Role.{Worker}
 use Rattle.rb_ledger.specs.LockedCalls.{Reserves, OutputsAt}
 use Rattle.rb_chapter_ledger.proofs.WholeCalls.{said, call-whole, with-worker}

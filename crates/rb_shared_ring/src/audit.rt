@@ -11,12 +11,24 @@ ghost use Rattle.rb_shared_ring.specs.inner.SeatPasses.{seen_by, bytes_by, IsIdl
 
 use crate::lock::{Lock, RingPass};
 use crate::locked_calls::with_state;
-use crate::shared::SharedRing;
+use crate::shared::{Foreign, SharedRing};
 use crate::worker_seat::Seat;
 use rb_chapter_ring::RingState;
-use rb_history::Tally;
-use rb_ledger::{Audit, Foreign};
+use rb_history::{Counts, Tally};
 use std::sync::Wait;
+
+/// A ring at one point of its history.
+#[derive(Clone, Copy, Debug, PartialEq, Eq)]
+pub struct Audit {
+    /// The producer position.
+    pub producer: u64,
+    /// The consumer position.
+    pub consumer: u64,
+    /// The counts of the whole history.
+    pub counts: Counts,
+    /// How many entries are those of the worker that asked. They equal its seat's own numbers.
+    pub own: Tally,
+}
 
 // The ring's positions and counts, and the numbers of a worker's entries. In constant time.
 fn audit_of(state: &RingState, worker: u32) -> Audit

@@ -13,10 +13,9 @@ ghost use Rattle.rb_shared_ring.specs.inner.SeatPasses.{seen_by, bytes_by, room_
 use crate::consumer_seat::ConsumerSeat;
 use crate::lock::{Lock, RingPass};
 use crate::locked_calls::with_state;
-use crate::shared::SharedRing;
+use crate::shared::{Foreign, SharedRing};
 use rb_chapter::Chapter;
 use rb_chapter_ring::RingState;
-use rb_ledger::Foreign;
 use std::sync::Wait;
 use thiserror::Error;
 

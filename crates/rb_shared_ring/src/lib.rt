@@ -1,9 +1,11 @@
-//! A BPF ring buffer that threads share, as rb_ledger's, whose memory does not grow: it keeps one chapter of its history at a time
-//! (`rb_chapter`), and takes all its memory where it is opened. The consumer hands full chapters out, and keeps them or lets them go.
+//! A BPF ring buffer that threads share: many workers reserve, submit and discard records, and one consumer takes them in the order in which they
+//! were reserved, as the kernel's Documentation/bpf/ringbuf.rst has it. It is for hosts that run BPF programs on several threads. Its memory does
+//! not grow: it keeps one chapter of its history at a time (`rb_chapter`), and takes all its memory where it is opened. The consumer hands
+//! full chapters out, and keeps them or lets them go. The lock is crossbeam's `ArrayQueue` with one place.
 //!
 //! Whatever the threads do, all calls are in one history, of which each seat has seen a beginning: the entries of the chapters that were handed
-//! out, then those of the chapter under the lock (`rb_chapter_ledger` has the definitions, with a drawing, and the laws). `SharedRing` says
-//! what each call promises, `Closing::bind` what holds once all seats are back and the chapters are bound.
+//! out, then those of the chapter under the lock (`rb_ledger` and `rb_chapter_ledger` have the definitions, with drawings, and the laws).
+//! `SharedRing` says what each call promises, `Closing::bind` what holds once all seats are back and the chapters are bound.
 //!
 //! ```text
 //! let (ring, mut seats, mut consumer) = open(rt, alloc, 7, 4096, 0, 1, 8)?;  // tag 7, 4096 bytes, one worker, chapters of 8 entries
@@ -17,6 +19,9 @@
 //! let closing = ring.close(rt, seats, consumer)?;                            // its last chapter is number 1
 //! closing.bind(alloc, chapters)?.history();                                  // three entries, where `chapters` has the one handed out
 //! ```
+//!
+//! No proof speaks of waiting, fairness or time: that a call returns, that a thread gets its turn, how long a lock is held, or that a
+//! notice reaches anybody. Rings with the same tag are not told apart.
 #![tactic(auto)]
 
 mod answer_laws;
@@ -30,17 +35,19 @@ mod opening;
 mod shared;
 mod taking;
 mod tally;
+mod wait_backoff;
 mod whole;
 mod worker_seat;
 
 pub use answer_laws::each_answer_is_whole;
+pub use audit::Audit;
 pub use chapters::HandFault;
 pub use closing::{Closing, NotAll};
 pub use consumer_seat::ConsumerSeat;
 pub use opening::open;
 pub use rb_chapter_ledger::BindFault;
 pub use rb_chapter_ring::{OpenFault, ReserveFault};
-pub use rb_ledger::{Audit, Foreign};
-pub use shared::SharedRing;
+pub use shared::{Foreign, SharedRing};
+pub use wait_backoff::WaitBackoff;
 pub use whole::Whole;
 pub use worker_seat::Seat;

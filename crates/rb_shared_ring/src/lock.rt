@@ -8,10 +8,10 @@ ghost use Rattle.rb_chapter_ledger.specs.ChapteredRing.{chaptered_ring, IsChapte
 ghost use Rattle.rb_chapter_ledger.specs.ChapterKnowledge.{chapter_view};
 ghost use Rattle.rb_chapter_ledger.specs.ChapterLockSteps.{TakesChapterState, PutsChapterState, OpensChapterState, MayPutChapter, unopened_chapters};
 
+use crate::wait_backoff::WaitBackoff;
 use crossbeam_queue::protocol::{Join, Lesson, Outcome, Protocol, Split};
 use crossbeam_queue::{Pass, RuledArrayQueue};
 use rb_chapter_ring::RingState;
-use rb_ledger::WaitBackoff;
 use std::alloc::{AllocError, Global};
 use std::marker::Model;
 use std::sync::Wait;

@@ -15,10 +15,15 @@ use crate::tally::{after_discard, after_output, after_reserve, after_submit};
 use crate::worker_seat::Seat;
 use rb_chapter_ring::ReserveFault;
 use rb_history::{Notice, Reservation, Stray};
-use rb_ledger::Foreign;
 use rb_lend::Sheet;
 use std::marker::Model;
 use std::sync::Wait;
+use thiserror::Error;
+
+/// The seat's tag is not the ring's. Nothing changed.
+#[derive(Clone, Copy, Debug, Error, PartialEq, Eq)]
+#[error("the seat is another ring's")]
+pub struct Foreign;
 
 /// A ring that threads share by `&`, whose memory does not grow. Its state is under a lock, which a call holds while it makes one call of the
 /// ring of one thread, and no longer: when a call returns, its seat has the state no more (`released`), so no record is written under
@@ -27,7 +32,7 @@ use std::sync::Wait;
 /// Each call takes the caller's seat. The ring has one history: the entries of the chapters that were handed out, then those of the chapter
 /// under the lock. Up to the moment of the call it begins with all that the seat has seen, and what was added since is other roles'; there the
 /// ring of one thread answers as this call does, by its chapter, for the seat's worker; and the seat has then seen the whole history with
-/// this call in it (`call`). By that history each call is the one of `rb_ledger`'s ring, which keeps all entries
+/// this call in it (`call`). By that history each call is the one of a ring that keeps all its entries
 /// (`rb_chapter_ledger::each_locked_call_is_whole`). A seat that was opened with another tag is `Foreign`. Rings with the same tag are not told
 /// apart: each call requires that a seat with the ring's tag was opened with this ring.
 ///

@@ -14,10 +14,9 @@ ghost use Rattle.rb_shared_ring.specs.inner.SeatPasses.{seen_by, bytes_by, room_
 use crate::consumer_seat::ConsumerSeat;
 use crate::lock::{Lock, RingPass, put_back, take_out};
 use crate::locked_calls::{facts_of, with_state};
-use crate::shared::SharedRing;
+use crate::shared::{Foreign, SharedRing};
 use rb_header::span;
 use rb_history::Taken;
-use rb_ledger::Foreign;
 use std::sync::Wait;
 
 // `RingState::take`, for the consumer.

@@ -4,8 +4,7 @@ ghost use Rattle.std.specs.Prelude.{◌≡◌};
 
 use super::rings_with_seats::{granted, one_seat, sheet_of};
 use rb_history::{Counts, Notice, Tally};
-use rb_ledger::{Audit, Foreign};
-use rb_shared_ring::{OpenFault, ReserveFault, open};
+use rb_shared_ring::{Audit, Foreign, OpenFault, ReserveFault, open};
 use std::alloc::Global;
 use std::process::Abort;
 use std::sync::Wait;

@@ -5,7 +5,7 @@ use Rattle.std.proofs.lemmas.Slice.Zip.{AllZip-long}
 use Rattle.std.specs.Prelude.{slice_get}
 use Rattle.std.specs.List.{All, count_by}
 use Rattle.rb_ledger.specs.Seats.{WorkerSeat, IsSameSeat, SettlesWithin, HasSettledAll}
-use Rattle.rb_ledger.proofs.Laws.{once-closed}
+use Rattle.rb_ledger.proofs.Sums.{once-closed}
 use Rattle.rb_history.specs.declared.answers.Counts.{Counts}
 use Rattle.rb_history.specs.Counting.{counts_of}
 use Rattle.rb_chapter.specs.Chapters.{Chapter, joined}

@@ -9,9 +9,8 @@ ghost use Rattle.rb_workers.specs.inner.ConsumerTasks.{IsConsumerTaskOf, IsSameC
 
 use crate::sink::Sink;
 use rb_consumer::{Batch, Item, Items, Keeper};
-use rb_ledger::{Foreign, WaitBackoff};
 use rb_seats::Stock;
-use rb_shared_ring::{ConsumerSeat, Seat, SharedRing};
+use rb_shared_ring::{ConsumerSeat, Foreign, Seat, SharedRing, WaitBackoff};
 use std::sync::Wait;
 use std::sync::atomic::{AtomicBool, Ordering};
 

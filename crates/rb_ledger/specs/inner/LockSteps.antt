@@ -26,18 +26,6 @@ RoleStep me r new after =
 abbrev pub knowledge_after : Ring → Ring → RoleKnowledge → RoleKnowledge
 knowledge_after old new k = role_knowledge k.role (book_of new) (bytes_after k.role old new (drop (length old.history) new.history) k.bytes)
 
-abbrev pub view_after_put : PassView → Ring → Option Ring → PassView
-view_after_put v new None = v
-view_after_put v new (Some old) = pass_view (map (knowledge_after old new) v.knows) None
-
-abbrev pub PutsState : PassView → Ring → PassView → Type 0
-PutsState v new w = w ≡ view_after_put v new v.out
-
--- the pass is of one role, has a state out, and may put back this one
-abbrev pub MayPut : PassView → Ring → Type 0
-MayPut v new =
-    (me : RoleKnowledge) × (old : Ring) × (v ≡ pass_view (me ∷ []) (Some old)) × RoleStep me old new (knowledge_after old new me)
-
 -- ---- the lock is opened
 
 -- what a lock has out before it is opened: what nobody knows fits it

@@ -1,5 +1,0 @@
-use Rattle.rb_ledger.specs.Seats.{HasAll}
-use Rattle.rb_ledger.proofs.closing.has_all.Given as goal
-
-abbrev pub invariant-loop-worker : goal.invariant-loop-worker
-invariant-loop-worker l = HasAll l.worker l.seats

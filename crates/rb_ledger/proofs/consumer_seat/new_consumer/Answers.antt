@@ -1,5 +1,0 @@
-use Rattle.rb_ledger.proofs.LockRule.{forks}
-use Rattle.rb_ledger.proofs.consumer_seat.new_consumer.Goals as goal
-
-pub another-requires-clause-rule : goal.another-requires-clause-rule
-another-requires-clause-rule c = forks _ _

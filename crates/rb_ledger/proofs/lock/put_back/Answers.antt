@@ -1,5 +1,0 @@
-use Rattle.rb_ledger.proofs.Opens.{put-step}
-use Rattle.rb_ledger.proofs.lock.put_back.Goals as goal
-
-pub push_as-requires-clause-rule : goal.push_as-requires-clause-rule
-push_as-requires-clause-rule g c = put-step _ _ _ _ c.requires.step

@@ -1,6 +1,0 @@
-use Rattle.std.proofs.Common.{◌≡◌}
-use Rattle.crossbeam_queue.specs.Passes.{view, IsSamePass}
-use Rattle.rb_ledger.proofs.lock.take_out.Given as goal
-
-abbrev pub invariant-loop : goal.invariant-loop
-invariant-loop g l = IsSamePass l.fn.pass l.pass × (view l.pass ≡ view l.fn.pass)

@@ -1,4 +1,0 @@
-pub mod HeaderTable
-pub mod RingBody
-pub mod RunningCounts
-pub mod TableState
