@@ -1,5 +1,5 @@
-//! What a BPF ring buffer's history says, for the rings (`rb_ring`, `rb_ring_list`, `rb_ledger`) and their callers: the entries,
-//! the answers of a ring's calls, and the definitions that all their contracts cite. The rules are those of Linux
+//! What a BPF ring buffer's history says, for the rings (`rb_chapter_ring`, `rb_ring_list`, `rb_shared_ring`) and their callers: the
+//! entries, the answers of a ring's calls, and the definitions that all their contracts cite. The rules are those of Linux
 //! Documentation/bpf/ringbuf.rst and bpf-helpers(7); where these leave a choice, the definition says 'own'.
 //!
 //! `specs/` has the whole of it: positions and records as sums and filters over the history, the room rule, which entry may follow

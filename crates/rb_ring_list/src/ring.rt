@@ -23,9 +23,9 @@ use std::alloc::Global;
 use std::collections::VecDeque;
 use std::marker::Model;
 
-/// One ring of records, for one thread, whose records are a plain list (Linux Documentation/bpf/ringbuf.rst). The contracts of its
-/// public calls are those of `rb_ring`'s, word for word. `submit` and `discard` take time linear in the records that were not
-/// taken, as they look for theirs from the front, and `counts` in the history. The others take constant time, but for a record's
+/// One ring of records, for one thread, whose records are a plain list (Linux Documentation/bpf/ringbuf.rst), and which keeps its whole
+/// history. `submit` and `discard` take time linear in the records that were not taken, as they look for theirs from the front, and
+/// `counts` in the history. The others take constant time, but for a record's
 /// own bytes and the amortised growth of the lists.
 #[derive(Drop)]
 pub struct RingState {
