@@ -1,6 +1,6 @@
 //! Chapters that are not those of a ring are not bound.
 
-use super::rings_with_seats::{closed, granted, handed_out, one_seat};
+use super::rings_with_seats::{SMALL_ROOM, closed, granted, handed_out, one_seat};
 use rb_chapter::Chapter;
 use rb_shared_ring::{BindFault, Closing};
 use std::alloc::Global;
@@ -13,7 +13,7 @@ fn with_two_chapters<R: Wait + Abort>(
     alloc: Global,
     start: u64,
 ) -> (Closing, Chapter, Chapter) {
-    let (ring, mut seat, mut consumer) = one_seat(rt, alloc, 1, start);
+    let (ring, mut seat, mut consumer) = one_seat(rt, alloc, 1, start, SMALL_ROOM);
     let _busy = granted(rt, alloc, &ring, &mut seat, 8);
     let first = handed_out(rt, alloc, &ring, &mut consumer);
     let second = handed_out(rt, alloc, &ring, &mut consumer);

@@ -4,7 +4,7 @@ ghost use Rattle.std.specs.Prelude.{◌≡◌};
 ghost use Rattle.rb_ledger.specs.Seats.{IsSameSeat};
 
 use super::rings_with_seats::{
-    closed, granted, handed_out, one_seat, refused, submitted, taken, used,
+    Found, SMALL_ROOM, closed, granted, handed_out, one_seat, refused, submitted, taken, used,
 };
 use rb_chapter::Chapter;
 use rb_history::Notice;
@@ -33,7 +33,7 @@ fn refusals<R: Wait + Abort>(
 
 #[test]
 fn a_full_chapter_makes_room_for_the_next(rt: HostRuntime) {
-    let (ring, mut seat, mut consumer) = one_seat(&rt, rt.alloc(), 1, 0);
+    let (ring, mut seat, mut consumer) = one_seat(&rt, rt.alloc(), 1, 0, SMALL_ROOM);
     let a = granted(&rt, rt.alloc(), &ring, &mut seat, 8);
     let _b = granted(&rt, rt.alloc(), &ring, &mut seat, 8);
     assert_eq!(rt; used(&rt, &ring, &mut consumer), (2, 4));
@@ -48,7 +48,7 @@ fn a_full_chapter_makes_room_for_the_next(rt: HostRuntime) {
         (used(&rt, &ring, &mut consumer), seat.refused()),
         ((4, 4), 2)
     );
-    assert_eq!(rt; submitted(&rt, &ring, &mut seat, a), Notice::Due);
+    assert_eq!(rt; submitted(&rt, &ring, &mut seat, a, 0), Notice::Due);
     assert_eq!(rt; used(&rt, &ring, &mut consumer), (5, 3));
     let chapter = handed_out(&rt, rt.alloc(), &ring, &mut consumer);
     assert_eq!(rt;
@@ -58,7 +58,10 @@ fn a_full_chapter_makes_room_for_the_next(rt: HostRuntime) {
     assert_eq!(rt; used(&rt, &ring, &mut consumer), (0, 3));
     let c = granted(&rt, rt.alloc(), &ring, &mut seat, 8);
     assert_eq!(rt; (c.pos(), used(&rt, &ring, &mut consumer)), (32, (1, 5)));
-    assert_eq!(rt; taken(&rt, &ring, &mut consumer), (0, 8));
+    assert_eq!(rt;
+        taken(&rt, &ring, &mut consumer),
+        Found::Event(0, 0, 0, 8, 0)
+    );
     assert_eq!(rt; used(&rt, &ring, &mut consumer), (2, 4));
     let closing = closed(&rt, rt.alloc(), ring, seat, consumer);
     let Err((fault, closing, mut chapters)) = closing.bind(rt.alloc(), Vec::new(rt.alloc())) else {
@@ -74,8 +77,8 @@ fn a_full_chapter_makes_room_for_the_next(rt: HostRuntime) {
 
 #[test]
 fn a_chapter_that_does_not_fit_is_handed_back(rt: HostRuntime) {
-    let (ring, _seat, mut consumer) = one_seat(&rt, rt.alloc(), 1, 0);
-    let (_other, _other_seat, mut foreign) = one_seat(&rt, rt.alloc(), 2, 0);
+    let (ring, _seat, mut consumer) = one_seat(&rt, rt.alloc(), 1, 0, SMALL_ROOM);
+    let (_other, _other_seat, mut foreign) = one_seat(&rt, rt.alloc(), 2, 0, SMALL_ROOM);
     let wide = Chapter::new(rt.alloc(), 9, 1).expect(&rt, "memory");
     let Err((unfit, wide)) = ring.hand_out(&rt, &mut consumer, wide) else {
         rt.panic("a chapter of another room")

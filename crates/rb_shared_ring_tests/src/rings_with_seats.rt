@@ -1,4 +1,4 @@
-//! What the tests share: rings with one seat, and calls that end the test where they are not answered as they have to be.
+//! What the tests share: rings with a seat or two, and calls that end the test where they are not answered as they have to be.
 
 ghost use Rattle.std.specs.Prelude.{◌≡◌, length};
 ghost use Rattle.rb_ledger.specs.Seats.{IsSameSeat, fresh_seats, fresh_book};
@@ -12,22 +12,50 @@ use std::alloc::Global;
 use std::process::Abort;
 use std::sync::Wait;
 
-/// A ring of 4,096 bytes from `start`, with one worker, whose chapters have room for 8 entries.
+/// The room of a chapter that has all entries of a test.
+pub(super) const ROOM: u32 = 65_536;
+
+/// The room of a chapter that a test fills.
+pub(super) const SMALL_ROOM: u32 = 8;
+
+/// A ring of 4,096 bytes from `start`, with one worker, whose chapters have room for so many entries.
 pub(super) fn one_seat<R: Wait + Abort>(
     rt: &R,
     alloc: Global,
     tag: u64,
     start: u64,
+    room: u32,
 ) -> (SharedRing, Seat, ConsumerSeat)
     ensures ring { (result.1.ring ≡ result.0.ring) × (result.2.ring ≡ result.0.ring) }
     ensures tags { (result.0.tag ≡ tag) × (result.1.tag ≡ tag) × (result.2.tag ≡ tag) }
 {
-    let Ok((ring, mut seats, consumer)) = open(rt, alloc, tag, 4096, start, 1, 8) else {
+    let Ok((ring, mut seats, consumer)) = open(rt, alloc, tag, 4096, start, 1, room) else {
         rt.panic("no ring")
     };
     match seats.pop() {
         Some(seat) => (ring, seat, consumer),
         None => rt.panic("no seat"),
+    }
+}
+
+/// A ring of 4,096 bytes from 0, with two workers and room for all entries of a test.
+pub(super) fn two_seats<R: Wait + Abort>(
+    rt: &R,
+    alloc: Global,
+    tag: u64,
+) -> (SharedRing, Seat, Seat, ConsumerSeat)
+    ensures ring { (result.1.ring ≡ result.0.ring) × (result.2.ring ≡ result.0.ring) × (result.3.ring ≡ result.0.ring) }
+    ensures tags { (result.0.tag ≡ tag) × (result.1.tag ≡ tag) × (result.2.tag ≡ tag) × (result.3.tag ≡ tag) }
+{
+    let Ok((ring, mut seats, consumer)) = open(rt, alloc, tag, 4096, 0, 2, ROOM) else {
+        rt.panic("no ring")
+    };
+    let Some(second) = seats.pop() else {
+        rt.panic("no second seat")
+    };
+    match seats.pop() {
+        Some(first) => (ring, first, second, consumer),
+        None => rt.panic("no first seat"),
     }
 }
 
@@ -56,6 +84,7 @@ pub(super) fn granted<R: Wait + Abort>(
     }
 }
 
+/// Why a reservation is refused. It has to hand the sheet back as it was.
 pub(super) fn refused<R: Wait + Abort>(
     rt: &R,
     alloc: Global,
@@ -69,7 +98,11 @@ pub(super) fn refused<R: Wait + Abort>(
     let sheet = sheet_of(rt, alloc, n, 255);
     match ring.reserve(rt, seat, n, sheet) {
         Ok(_) => rt.panic("granted"),
-        Err((fault, _)) => fault,
+        Err((fault, back)) => {
+            let same = back.len() == n && back.bytes().iter().all(|b| *b == 255);
+            assert!(rt; same, "another sheet is handed back");
+            fault
+        }
     }
 }
 
@@ -78,13 +111,57 @@ pub(super) fn submitted<R: Wait + Abort>(
     ring: &SharedRing,
     seat: &mut Seat,
     reservation: Reservation,
+    flags: u64,
 ) -> Notice
     requires { seat.old.ring ≡ ring.now.ring }
     ensures { IsSameSeat seat.old seat.new }
 {
-    match ring.submit(rt, seat, reservation, 0) {
+    match ring.submit(rt, seat, reservation, flags) {
         Ok(notice) => notice,
         Err(_) => rt.panic("a stray submit"),
+    }
+}
+
+pub(super) fn discarded<R: Wait + Abort>(
+    rt: &R,
+    ring: &SharedRing,
+    seat: &mut Seat,
+    reservation: Reservation,
+) -> Notice
+    requires { seat.old.ring ≡ ring.now.ring }
+    ensures { IsSameSeat seat.old seat.new }
+{
+    match ring.discard(rt, seat, reservation, 0) {
+        Ok(notice) => notice,
+        Err(_) => rt.panic("a stray discard"),
+    }
+}
+
+pub(super) fn output<R: Wait + Abort>(
+    rt: &R,
+    alloc: Global,
+    ring: &SharedRing,
+    seat: &mut Seat,
+    n: u32,
+    byte: u8,
+) -> Notice
+    requires { seat.old.ring ≡ ring.now.ring }
+    ensures { IsSameSeat seat.old seat.new }
+{
+    let sheet = sheet_of(rt, alloc, n, byte);
+    match ring.output(rt, seat, sheet, 0) {
+        Ok(notice) => notice,
+        Err(_) => rt.panic("a refused output"),
+    }
+}
+
+pub(super) fn queried<R: Wait + Abort>(rt: &R, ring: &SharedRing, seat: &mut Seat, what: u64) -> u64
+    requires { seat.old.ring ≡ ring.now.ring }
+    ensures { IsSameSeat seat.old seat.new }
+{
+    match ring.query(rt, seat, what) {
+        Ok(answer) => answer,
+        Err(_) => rt.panic("a foreign query"),
     }
 }
 
@@ -103,18 +180,32 @@ pub(super) fn used<R: Wait + Abort>(
     }
 }
 
-/// The position and the length of the event that is taken.
+/// What a take found: the position, worker, serial, length and first byte of an event, or the position and length of a discarded record.
+#[derive(Clone, Copy, Debug, PartialEq, Eq)]
+pub(super) enum Found {
+    Event(u64, u32, u64, u32, u8),
+    Skipped(u64, u32),
+    BusyFront,
+    Empty,
+}
+
 pub(super) fn taken<R: Wait + Abort>(
     rt: &R,
     ring: &SharedRing,
     consumer: &mut ConsumerSeat,
-) -> (u64, u32)
+) -> Found
     requires { consumer.old.ring ≡ ring.now.ring }
     ensures { IsSameChapterConsumer consumer.old consumer.new }
 {
     match ring.take(rt, consumer) {
-        Ok(Taken::Event(pos, _, _, sheet)) => (pos, sheet.len()),
-        _ => rt.panic("no event"),
+        Ok(Taken::Event(pos, worker, serial, sheet)) => {
+            let first = sheet.bytes().first().copied().unwrap_or(0);
+            Found::Event(pos, worker, serial, sheet.len(), first)
+        }
+        Ok(Taken::Skipped(pos, n)) => Found::Skipped(pos, n),
+        Ok(Taken::BusyFront) => Found::BusyFront,
+        Ok(Taken::Empty) => Found::Empty,
+        Err(_) => rt.panic("a foreign take"),
     }
 }
 
@@ -128,7 +219,7 @@ pub(super) fn handed_out<R: Wait + Abort>(
     requires { consumer.old.ring ≡ ring.now.ring }
     ensures { IsSameChapterConsumer consumer.old consumer.new }
 {
-    let empty = Chapter::new(alloc, 8, 1).expect(rt, "memory");
+    let empty = Chapter::new(alloc, SMALL_ROOM, 1).expect(rt, "memory");
     match ring.hand_out(rt, consumer, empty) {
         Ok(chapter) => chapter,
         Err(_) => rt.panic("not handed out"),

@@ -1,11 +1,15 @@
-//! Real threads: four producers and a consumer, which takes records one by one. All loops end once the records are there.
+//! Real threads: four producers and a consumer, which takes records one by one and has a chapter handed out before it is full. All loops end
+//! once the records are there.
 
 ghost use Rattle.std.specs.Prelude.{◌≡◌, ◌<◌, ◌^◌, ℕ, All, IfOk};
-ghost use Rattle.rb_ledger.specs.Seats.{IsSameSeat, IsSameConsumerSeat};
+ghost use Rattle.rb_ledger.specs.Seats.{IsSameSeat};
+ghost use Rattle.rb_shared_ring.specs.SharedSeats.{IsSameChapterConsumer};
 
+use super::rings_with_seats::ROOM;
+use rb_chapter::Chapter;
 use rb_history::Taken;
-use rb_ledger::{ConsumerSeat, Seat, SharedRing, open};
 use rb_lend::{Lent, Sheet};
+use rb_shared_ring::{ConsumerSeat, Seat, SharedRing, open};
 use std::alloc::Global;
 use std::process::Abort;
 use std::sync::Wait;
@@ -15,6 +19,9 @@ use std::thread::{Threads, join_mut};
 const WORKERS: u32 = 4;
 
 const RECORDS: u32 = 10_000;
+
+// How many entries a chapter has when it is handed out.
+const HANDED_OUT_AT: u32 = 50_000;
 
 // What a consumer adds up: for each worker the events and the sum of their first bytes, how often a serial was not the next, and how often
 // the bytes were not those that the worker sent with that serial.
@@ -81,7 +88,7 @@ fn take_one<R: Wait>(
     sums: &mut Sums,
 ) -> bool
     requires { consumer.old.ring ≡ ring.now.ring }
-    ensures { IsSameConsumerSeat consumer.old consumer.new }
+    ensures { IsSameChapterConsumer consumer.old consumer.new }
 {
     match ring.take(rt, consumer) {
         Ok(Taken::Event(_, worker, serial, sheet)) => {
@@ -92,11 +99,32 @@ fn take_one<R: Wait>(
     }
 }
 
-fn consume<R: Wait>(rt: &R, ring: &SharedRing, consumer: &mut ConsumerSeat, sums: &mut Sums)
+// Has the ring's chapter handed out where it has so many entries.
+fn hand_out<R: Wait>(rt: &R, alloc: Global, ring: &SharedRing, consumer: &mut ConsumerSeat)
     requires { consumer.old.ring ≡ ring.now.ring }
-    ensures { IsSameConsumerSeat consumer.old consumer.new }
+    ensures { IsSameChapterConsumer consumer.old consumer.new }
+{
+    if let Ok((used, _)) = ring.used(rt, consumer) {
+        if used >= HANDED_OUT_AT {
+            if let Ok(empty) = Chapter::new(alloc, ROOM, WORKERS) {
+                let _ = ring.hand_out(rt, consumer, empty);
+            }
+        }
+    }
+}
+
+fn consume<R: Wait>(
+    rt: &R,
+    alloc: Global,
+    ring: &SharedRing,
+    consumer: &mut ConsumerSeat,
+    sums: &mut Sums,
+)
+    requires { consumer.old.ring ≡ ring.now.ring }
+    ensures { IsSameChapterConsumer consumer.old consumer.new }
 {
     for _ in rt.forever() {
+        hand_out(rt, alloc, ring, consumer);
         if !take_one(rt, ring, consumer, sums) {
             thread::yield_now();
         }
@@ -135,14 +163,14 @@ fn run<R: Threads + Wait + Sync>(
     requires seats { All (λ s. s.ring ≡ ring.now.ring) seats.old }
     requires consumer { consumer.old.ring ≡ ring.now.ring }
     ensures seats { All (λ s. s.ring ≡ ring.now.ring) seats.new }
-    ensures consumer { IsSameConsumerSeat consumer.old consumer.new }
+    ensures consumer { IsSameChapterConsumer consumer.old consumer.new }
 {
     join_mut(
         rt,
         &mut ||
             requires { consumer.now.ring ≡ ring.now.ring }
-            ensures { IsSameConsumerSeat consumer.entry.now consumer.exit.now }
-        { consume(rt, ring, consumer, sums) },
+            ensures { IsSameChapterConsumer consumer.entry.now consumer.exit.now }
+        { consume(rt, alloc, ring, consumer, sums) },
         &mut ||
             requires { All (λ s. s.ring ≡ ring.now.ring) seats.now }
             ensures { All (λ s. s.ring ≡ ring.entry.now.ring) seats.exit.now }
@@ -170,7 +198,7 @@ fn sends<T: Send>(_x: &T) -> bool {
 #[test]
 fn four_producers_and_a_consumer(rt: HostRuntime) {
     let alloc = rt.alloc();
-    let Ok((ring, mut seats, mut consumer)) = open(&rt, alloc, 3, 4096, 0, 4) else {
+    let Ok((ring, mut seats, mut consumer)) = open(&rt, alloc, 3, 4096, 0, WORKERS, ROOM) else {
         rt.panic("no ring")
     };
     assert!(rt; syncs(&ring) && sends(&seats) && sends(&consumer));
@@ -191,6 +219,8 @@ fn four_producers_and_a_consumer(rt: HostRuntime) {
     }
     assert_eq!(rt; (consumer.consumed(), consumer.skipped()), (40_000, 0));
     assert_eq!(rt; consumer.position(), 640_000);
+    let chapters = consumer.chapters();
+    assert!(rt; chapters > 1);
     let Ok(closing) = ring.close(&rt, seats, consumer) else {
         rt.panic("not closed")
     };
@@ -199,7 +229,11 @@ fn four_producers_and_a_consumer(rt: HostRuntime) {
     assert_eq!(rt; (counts.made, counts.consumed), (40_000, 40_000));
     assert_eq!(rt; (counts.discarded, counts.waiting, counts.busy), (0, 0, 0));
     assert_eq!(rt;
-        (closing.producer(), closing.consumer()),
-        (640_000, 640_000)
+        (
+            closing.producer(),
+            closing.consumer(),
+            closing.chapter().number()
+        ),
+        (640_000, 640_000, chapters)
     );
 }

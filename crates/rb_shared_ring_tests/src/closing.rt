@@ -3,10 +3,14 @@
 ghost use Rattle.std.specs.Prelude.{◌≡◌, All};
 ghost use Rattle.rb_history.specs.Counting.{counts_of};
 ghost use Rattle.rb_ledger.specs.Seats.{HasSettledAll};
+ghost use Rattle.rb_chapter_ledger.specs.ChapteredRing.{chaptered_ring, whole_of};
 
-use super::worker_seats::{Found, one_seat, output, reserved, submitted, taken, two_seats};
+use super::rings_with_seats::{
+    Found, ROOM, discarded, granted, one_seat, output, submitted, taken, two_seats,
+};
 use rb_history::Entry;
-use rb_ledger::{Closing, ConsumerSeat, Seat, SharedRing, numbers_agree};
+use rb_ledger::numbers_agree;
+use rb_shared_ring::{Closing, ConsumerSeat, Seat, SharedRing};
 use std::process::Abort;
 use std::sync::Wait;
 
@@ -51,10 +55,13 @@ fn a_ring_is_closed_with_all_seats_alone(rt: HostRuntime) {
         Entry::Sub(16),
         Entry::Take(0),
     ];
-    assert_eq!(rt; closing.history(), history.as_slice());
+    let Ok(whole) = closing.bind(rt.alloc(), Vec::new(rt.alloc())) else {
+        rt.panic("not bound")
+    };
+    assert_eq!(rt; whole.history(), history.as_slice());
 }
 
-// Closes a ring with all its seats.
+// Closes a ring with all its seats. Where these have settled all, no record of the whole history is busy.
 fn closed<R: Wait + Abort>(
     rt: &R,
     ring: SharedRing,
@@ -63,7 +70,7 @@ fn closed<R: Wait + Abort>(
 ) -> Closing
     requires seats { All (λ s. s.ring ≡ ring.ring) seats.items }
     requires consumer { consumer.ring ≡ ring.ring }
-    ensures none_busy { All HasSettledAll seats.items → (counts_of result.at_end.history).busy ≡ 0 }
+    ensures none_busy { All HasSettledAll seats.items → (counts_of (whole_of (chaptered_ring consumer.handed_out result.at_end)).history).busy ≡ 0 }
 {
     numbers_agree();
     match ring.close(rt, seats, consumer) {
@@ -76,10 +83,10 @@ fn closed<R: Wait + Abort>(
 fn seats_that_settled_all_leave_none_busy(rt: HostRuntime) {
     let (ring, mut zero, mut one, consumer) = two_seats(&rt, rt.alloc(), 6);
     let _notice = output(&rt, rt.alloc(), &ring, &mut zero, 8, 1);
-    let first = reserved(&rt, rt.alloc(), &ring, &mut one, 24);
-    let second = reserved(&rt, rt.alloc(), &ring, &mut one, 8);
+    let first = granted(&rt, rt.alloc(), &ring, &mut one, 24);
+    let second = granted(&rt, rt.alloc(), &ring, &mut one, 8);
     let _notice = submitted(&rt, &ring, &mut one, second, 0);
-    assert!(rt; ring.discard(&rt, &mut one, first, 0).is_ok());
+    let _notice = discarded(&rt, &ring, &mut one, first);
     assert_eq!(rt;
         (zero.made(), zero.submitted(), zero.discarded()),
         (1, 1, 0)
@@ -98,8 +105,8 @@ fn seats_that_settled_all_leave_none_busy(rt: HostRuntime) {
 
 #[test]
 fn a_ring_is_not_closed_with_a_foreign_seat(rt: HostRuntime) {
-    let (_home, seat, _home_consumer) = one_seat(&rt, rt.alloc(), 1);
-    let (ring, _own, consumer) = one_seat(&rt, rt.alloc(), 2);
+    let (_home, seat, _home_consumer) = one_seat(&rt, rt.alloc(), 1, 0, ROOM);
+    let (ring, _own, consumer) = one_seat(&rt, rt.alloc(), 2, 0, ROOM);
     let mut seats = Vec::new(rt.alloc());
     seats.push(seat).expect(&rt, "memory");
     let Err(back) = ring.close(&rt, seats, consumer) else {

@@ -1,6 +1,6 @@
 //! Waits.
 
-use rb_ledger::WaitBackoff;
+use rb_shared_ring::WaitBackoff;
 
 #[test]
 fn waits_grow_up_to_a_limit(rt: HostRuntime) {
