@@ -7,6 +7,10 @@ mod draw;
 #[cfg(test)]
 mod example;
 #[cfg(test)]
+mod many_takes;
+#[cfg(test)]
+mod one_chapter;
+#[cfg(test)]
 mod rings;
 #[cfg(test)]
 mod rows;

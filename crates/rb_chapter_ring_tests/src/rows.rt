@@ -1,4 +1,4 @@
-//! Rows whose answers were worked out by hand from the rules of the ring and of its chapters.
+//! Rows of small chapters, whose answers were worked out by hand from the rules of the ring and of its chapters.
 
 ghost use Rattle.std.specs.Prelude.{◌≡◌, vec_len, vec_capacity};
 
@@ -21,9 +21,18 @@ fn not_made(alloc: Global, size: u64, start: u64, workers: u32, room: u32) -> Op
 #[test]
 fn a_ring_is_refused_for_the_first_number_out_of_bounds(rt: HostRuntime) {
     for (size, start, workers, room, fault) in [
+        (4095, 0, 1, 65_536, Some(OpenFault::Size)),
+        (12288, 0, 1, 65_536, Some(OpenFault::Size)),
         (2048, 4, 0, 7, Some(OpenFault::Size)),
-        (6144, 4, 0, 7, Some(OpenFault::Size)),
+        (134_217_728, 4, 0, 7, Some(OpenFault::Size)),
         (4096, 4, 0, 7, Some(OpenFault::Start)),
+        (
+            4096,
+            2_305_843_009_213_693_960,
+            1,
+            8,
+            Some(OpenFault::Start),
+        ),
         (4096, 8, 0, 7, Some(OpenFault::Workers)),
         (4096, 8, 257, 7, Some(OpenFault::Workers)),
         (4096, 8, 1, 7, Some(OpenFault::Chapter)),

@@ -5,8 +5,7 @@ use rb_history::{
     Entry, FORCE_WAKEUP, NO_WAKEUP, Notice, OpenFault, Taken, check_setup, notice_for,
 };
 use rb_lend::{Lent, Part, Parts, Sheet, Slot};
-use rb_ring::RingState;
-use rb_ring_list::RingState as ListState;
+use rb_ring_list::RingState;
 use std::test::Fail;
 
 #[test]
@@ -47,21 +46,8 @@ fn example_of_rb_history(rt: HostRuntime) {
 }
 
 #[test]
-fn example_of_rb_ring(rt: HostRuntime) -> Result<(), Fail> {
-    let mut ring = RingState::new(rt.alloc(), 4096, 0, 1)?;
-    let Ok(mut record) = ring.reserve(0, 4, Sheet::new(rt.alloc(), 4)?) else {
-        return Err(Fail::from("no record"));
-    };
-    record.bytes_mut().fill(42);
-    assert!(rt; matches!(ring.submit(record, 0), Ok(Notice::Due)));
-    assert!(rt; matches!(ring.take(), Taken::Event(0, 0, 0, _)));
-    assert_eq!(rt; ring.counts().consumed, 1);
-    Ok(())
-}
-
-#[test]
 fn example_of_rb_ring_list(rt: HostRuntime) -> Result<(), Fail> {
-    let mut ring = ListState::new(rt.alloc(), 4096, 0, 1)?;
+    let mut ring = RingState::new(rt.alloc(), 4096, 0, 1)?;
     let Ok(mut record) = ring.reserve(0, 4, Sheet::new(rt.alloc(), 4)?) else {
         return Err(Fail::from("no record"));
     };

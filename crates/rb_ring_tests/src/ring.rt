@@ -1,9 +1,6 @@
-//! The ring of one thread.
+//! Plain programs of the ring's definitions: over a whole history, beside the ring over a list, and over chapters.
 
 mod chapters;
 mod draw;
 mod drawn;
-mod many_takes;
 mod plain;
-mod rows;
-mod twins;

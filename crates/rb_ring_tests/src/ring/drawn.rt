@@ -1,4 +1,4 @@
-//! Drawn commands, given to the ring and to a plain program of its definitions, whose answers have to agree.
+//! Drawn commands, given to the ring over a list and to a plain program of its definitions, whose answers have to agree.
 
 ghost use Rattle.std.specs.Prelude.{◌≡◌, length};
 
@@ -7,8 +7,9 @@ use super::plain::{
     Status, ask, consumer, counts, grants, has_room, is_due, producer, record_at, status_of,
 };
 use crate::expected::sheet;
+use rb_history::{Entry, Notice, Reservation, ReserveFault, Stray, Taken};
 use rb_lend::{Lent, Sheet};
-use rb_ring::{Entry, Notice, Reservation, ReserveFault, RingState, Stray, Taken};
+use rb_ring_list::RingState;
 use std::alloc::{AllocError, Global};
 use std::process::Abort;
 

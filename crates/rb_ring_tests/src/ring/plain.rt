@@ -1,6 +1,6 @@
 //! The definitions of the ring computed as they stand, over the whole history.
 
-use rb_ring::{Counts, Entry};
+use rb_history::{Counts, Entry};
 
 #[derive(Clone, Copy, PartialEq, Eq, Debug)]
 pub enum Status {

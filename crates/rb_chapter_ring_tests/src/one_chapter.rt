@@ -1,60 +1,26 @@
-//! Rows whose answers were worked out by hand from the rules of the ring.
+//! Rows of a ring whose first chapter has all its entries: their answers were worked out by hand from the rules of the ring.
 
-ghost use Rattle.std.specs.Prelude.{◌≡◌, ◌<◌};
-
-use crate::expected::{same_bytes, sheet};
+use super::rings::{SIZE, filled, granted, output, refused, reserved, ring};
+use rb_chapter_ring::{ReserveFault, RingState};
+use rb_history::{Counts, Entry, Notice, Reservation, Stray, Taken};
 use rb_lend::{Lent, Sheet};
-use rb_ring::{
-    Counts, Entry, Notice, OpenFault, Reservation, ReserveFault, RingState, Stray, Taken,
-};
 use std::alloc::Global;
 use std::process::Abort;
 
-// A ring for two workers.
-fn ring(rt: &impl Abort, alloc: Global, size: u64, start: u64) -> RingState
-    ensures { result.setup.workers ≡ 2 }
-{
-    match RingState::new(alloc, size, start, 2) {
-        Ok(ring) => ring,
-        Err(_) => rt.panic("the ring is refused"),
-    }
-}
+const ROOM: u32 = 65_536;
 
-// A record that has to be granted.
-fn granted(rt: &impl Abort, alloc: Global, ring: &mut RingState, worker: u32, n: u32) -> Reservation
-    requires two { ring.old.setup.workers ≡ 2 }
-    requires worker { worker < 2 }
-    ensures { ring.new.setup.workers ≡ 2 }
-{
-    match ring.reserve(worker, n, sheet(rt, alloc, n)) {
-        Ok(reservation) => reservation,
-        Err(_) => rt.panic("not granted"),
-    }
-}
-
-// Why a reservation was refused, and the length of the sheet that came back.
-fn refused(
-    rt: &impl Abort,
-    alloc: Global,
-    ring: &mut RingState,
-    worker: u32,
-    n: u32,
-) -> (ReserveFault, u32)
-    requires two { ring.old.setup.workers ≡ 2 }
-    requires worker { worker < 2 }
-    ensures { ring.new.setup.workers ≡ 2 }
-{
-    match ring.reserve(worker, n, sheet(rt, alloc, n)) {
-        Ok(_) => rt.panic("granted"),
-        Err((fault, back)) => (fault, back.len()),
-    }
+// A ring from 0, for two workers.
+fn of_two(rt: &impl Abort, alloc: Global) -> RingState {
+    ring(rt, alloc, 0, 2, ROOM)
 }
 
 // The notice of a submit that has to be accepted.
-fn submitted(rt: &impl Abort, ring: &mut RingState, reservation: Reservation, flags: u64) -> Notice
-    requires { ring.old.setup.workers ≡ 2 }
-    ensures { ring.new.setup.workers ≡ 2 }
-{
+fn submitted(
+    rt: &impl Abort,
+    ring: &mut RingState,
+    reservation: Reservation,
+    flags: u64,
+) -> Notice {
     match ring.submit(reservation, flags) {
         Ok(notice) => notice,
         Err(_) => rt.panic("stray"),
@@ -62,22 +28,19 @@ fn submitted(rt: &impl Abort, ring: &mut RingState, reservation: Reservation, fl
 }
 
 // Takes an event, which has to be this one.
-fn takes(rt: &impl Abort, ring: &mut RingState, pos: u64, worker: u32, serial: u64, bytes: &[u8])
-    requires { ring.old.setup.workers ≡ 2 }
-    ensures { ring.new.setup.workers ≡ 2 }
-{
+fn takes(rt: &impl Abort, ring: &mut RingState, pos: u64, worker: u32, serial: u64, bytes: &[u8]) {
     match ring.take() {
         Taken::Event(at, of, which, found) => {
             assert_eq!(rt; (at, of, which), (pos, worker, serial));
-            same_bytes(rt, found.bytes(), bytes);
+            assert_eq!(rt; found.bytes(), bytes);
         }
         _ => panic!(rt; "no event at {pos}"),
     }
 }
 
-// Ends the test where the history is another.
+// Ends the test where the ring has logged something else.
 fn has_logged(rt: &impl Abort, ring: &RingState, entries: &[Entry]) {
-    assert_eq!(rt; ring.history(), entries);
+    assert_eq!(rt; ring.chapter().entries(), entries);
 }
 
 // The four numbers of a reservation.
@@ -91,56 +54,40 @@ fn numbers(reservation: &Reservation) -> (u64, u32, u64, u32) {
 }
 
 #[test]
-fn opening_is_refused_in_order(rt: HostRuntime) {
-    let rows = [
-        (4095, 0, 1, OpenFault::Size),
-        (12288, 0, 1, OpenFault::Size),
-        (2048, 0, 1, OpenFault::Size),
-        (134_217_728, 4, 0, OpenFault::Size),
-        (4096, 4, 0, OpenFault::Start),
-        (4096, 2_305_843_009_213_693_960, 1, OpenFault::Start),
-        (4096, 8, 0, OpenFault::Workers),
-        (4096, 8, 257, OpenFault::Workers),
-    ];
-    for (size, start, workers, fault) in rows {
-        match RingState::new(rt.alloc(), size, start, workers) {
-            Ok(_) => panic!(rt; "opened at {size} {start} {workers}"),
-            Err(told) => assert_eq!(rt; told, fault, "at {size} {start} {workers}"),
-        }
-    }
-}
-
-#[test]
 fn the_least_and_the_greatest_ring_open(rt: HostRuntime) {
     for (size, start, workers) in [(4096, 0, 1), (67_108_864, 2_305_843_009_213_693_952, 256)] {
-        let Ok(ring) = RingState::new(rt.alloc(), size, start, workers) else {
+        let Ok(ring) = RingState::new(rt.alloc(), size, start, workers, ROOM) else {
             panic!(rt; "refused at {size} {start} {workers}")
         };
         ring.facts();
         assert_eq!(rt; (ring.query(1), ring.query(3)), (size, start));
-        assert_eq!(rt; ring.history().len(), 0);
+        has_logged(&rt, &ring, &[]);
     }
 }
 
 #[test]
 fn the_longest_record_of_an_empty_ring(rt: HostRuntime) {
-    let mut fits = ring(&rt, rt.alloc(), 4096, 0);
+    let mut fits = of_two(&rt, rt.alloc());
     let reservation = granted(&rt, rt.alloc(), &mut fits, 0, 4080);
     assert_eq!(rt; numbers(&reservation), (0, 0, 0, 4080));
-    let mut full = ring(&rt, rt.alloc(), 4096, 0);
-    let answer = refused(&rt, rt.alloc(), &mut full, 1, 4081);
-    assert_eq!(rt; answer, (ReserveFault::Full, 4081));
+    let mut full = of_two(&rt, rt.alloc());
+    assert_eq!(rt;
+        refused(&rt, rt.alloc(), &mut full, 1, 4081),
+        ReserveFault::Full
+    );
     has_logged(&rt, &full, &[Entry::Full(1, 4081)]);
 }
 
 #[test]
 fn the_ring_never_fills_wholly(rt: HostRuntime) {
-    let mut ring = ring(&rt, rt.alloc(), 4096, 0);
+    let mut ring = of_two(&rt, rt.alloc());
     let _a = granted(&rt, rt.alloc(), &mut ring, 0, 2032);
     let _b = granted(&rt, rt.alloc(), &mut ring, 1, 2032);
     let _c = granted(&rt, rt.alloc(), &mut ring, 0, 0);
-    let answer = refused(&rt, rt.alloc(), &mut ring, 0, 0);
-    assert_eq!(rt; answer, (ReserveFault::Full, 0));
+    assert_eq!(rt;
+        refused(&rt, rt.alloc(), &mut ring, 0, 0),
+        ReserveFault::Full
+    );
     let history = [
         Entry::Res(0, 0, 2032, 0),
         Entry::Res(1, 0, 2032, 2040),
@@ -152,7 +99,7 @@ fn the_ring_never_fills_wholly(rt: HostRuntime) {
 
 #[test]
 fn a_busy_front_stops_the_consumer(rt: HostRuntime) {
-    let mut ring = ring(&rt, rt.alloc(), 4096, 0);
+    let mut ring = of_two(&rt, rt.alloc());
     let mut a = granted(&rt, rt.alloc(), &mut ring, 0, 8);
     let mut b = granted(&rt, rt.alloc(), &mut ring, 0, 8);
     assert_eq!(rt; (a.pos(), b.pos()), (0, 16));
@@ -169,7 +116,7 @@ fn a_busy_front_stops_the_consumer(rt: HostRuntime) {
 
 #[test]
 fn a_discarded_record_is_passed_over(rt: HostRuntime) {
-    let mut ring = ring(&rt, rt.alloc(), 4096, 0);
+    let mut ring = of_two(&rt, rt.alloc());
     let reservation = granted(&rt, rt.alloc(), &mut ring, 0, 8);
     assert!(rt; ring.discard(reservation, 0).is_ok());
     assert!(rt; matches!(&ring.take(), Taken::Skipped(0, 8)));
@@ -187,10 +134,7 @@ fn a_discarded_record_is_passed_over(rt: HostRuntime) {
 }
 
 // Grants a record of `n` bytes at this position on this page, submits it, and takes it.
-fn passes(rt: &impl Abort, alloc: Global, ring: &mut RingState, n: u32, at: u64, page: u64)
-    requires { ring.old.setup.workers ≡ 2 }
-    ensures { ring.new.setup.workers ≡ 2 }
-{
+fn passes(rt: &impl Abort, alloc: Global, ring: &mut RingState, n: u32, at: u64, page: u64) {
     let reservation = granted(rt, alloc, ring, 1, n);
     assert_eq!(rt; reservation.pos(), at);
     assert_eq!(rt; reservation.pos() % 8192 / 4096, page);
@@ -203,7 +147,9 @@ fn passes(rt: &impl Abort, alloc: Global, ring: &mut RingState, n: u32, at: u64,
 
 #[test]
 fn positions_go_on_past_the_size(rt: HostRuntime) {
-    let mut ring = ring(&rt, rt.alloc(), 8192, 4088);
+    let Ok(mut ring) = RingState::new(rt.alloc(), 2 * SIZE, 4088, 2, ROOM) else {
+        rt.panic("the ring is refused")
+    };
     passes(&rt, rt.alloc(), &mut ring, 0, 4088, 0);
     passes(&rt, rt.alloc(), &mut ring, 4080, 4096, 1);
     passes(&rt, rt.alloc(), &mut ring, 0, 8184, 1);
@@ -220,8 +166,8 @@ fn handed_back<T: Drop>(rt: &impl Abort, answer: Result<T, Stray>) -> Reservatio
 
 #[test]
 fn a_reservation_of_another_ring_is_stray(rt: HostRuntime) {
-    let mut first = ring(&rt, rt.alloc(), 4096, 0);
-    let mut second = ring(&rt, rt.alloc(), 4096, 0);
+    let mut first = of_two(&rt, rt.alloc());
+    let mut second = of_two(&rt, rt.alloc());
     let own = granted(&rt, rt.alloc(), &mut first, 0, 8);
     let other = granted(&rt, rt.alloc(), &mut second, 0, 8);
     let history = [Entry::Res(0, 0, 8, 0), Entry::Sub(0)];
@@ -236,7 +182,7 @@ fn a_reservation_of_another_ring_is_stray(rt: HostRuntime) {
 
 // Whether the first of two records is due, submitted behind the second with these flags.
 fn notice_at_the_front(rt: &impl Abort, alloc: Global, flags: u64) -> Notice {
-    let mut ring = ring(rt, alloc, 4096, 0);
+    let mut ring = of_two(rt, alloc);
     let a = granted(rt, alloc, &mut ring, 0, 8);
     let b = granted(rt, alloc, &mut ring, 0, 8);
     assert_eq!(rt; submitted(rt, &mut ring, b, 0), Notice::NotDue);
@@ -264,7 +210,7 @@ fn notices_are_due_at_the_front(rt: HostRuntime) {
 
 #[test]
 fn queries_are_answered(rt: HostRuntime) {
-    let mut ring = ring(&rt, rt.alloc(), 4096, 0);
+    let mut ring = of_two(&rt, rt.alloc());
     let _a = granted(&rt, rt.alloc(), &mut ring, 0, 8);
     let _b = granted(&rt, rt.alloc(), &mut ring, 1, 8);
     for (what, answer) in [(0, 32), (1, 4096), (2, 0), (3, 32), (7, 0)] {
@@ -282,14 +228,15 @@ fn output_refused(answer: Result<Notice, (ReserveFault, Sheet)>) -> Option<(Rese
 
 #[test]
 fn output_logs_or_is_refused(rt: HostRuntime) {
-    let mut ring = ring(&rt, rt.alloc(), 4096, 0);
-    let unknown = output_refused(ring.output(0, sheet(&rt, rt.alloc(), 8), 4));
+    let mut ring = of_two(&rt, rt.alloc());
+    let sheet = filled(&rt, rt.alloc(), 8, 1);
+    let unknown = output_refused(output(&rt, &mut ring, 0, sheet, 4));
     assert_eq!(rt; unknown, Some((ReserveFault::Flags, 8)));
-    assert_eq!(rt; ring.history().len(), 0);
-    let mut bytes = sheet(&rt, rt.alloc(), 2);
-    bytes.bytes_mut().fill(66);
-    assert!(rt; matches!(&ring.output(1, bytes, 0), Ok(Notice::Due)));
-    let full = output_refused(ring.output(0, sheet(&rt, rt.alloc(), 4090), 0));
+    has_logged(&rt, &ring, &[]);
+    let sheet = filled(&rt, rt.alloc(), 2, 66);
+    assert!(rt; matches!(&output(&rt, &mut ring, 1, sheet, 0), Ok(Notice::Due)));
+    let sheet = filled(&rt, rt.alloc(), 4090, 1);
+    let full = output_refused(output(&rt, &mut ring, 0, sheet, 0));
     assert_eq!(rt; full, Some((ReserveFault::Full, 4090)));
     let history = [Entry::Res(1, 0, 2, 0), Entry::Sub(0), Entry::Full(0, 4090)];
     has_logged(&rt, &ring, &history);
@@ -298,36 +245,29 @@ fn output_logs_or_is_refused(rt: HostRuntime) {
 
 #[test]
 fn a_granted_record_begins_as_zeros(rt: HostRuntime) {
-    let mut ring = ring(&rt, rt.alloc(), 4096, 0);
-    let mut used = sheet(&rt, rt.alloc(), 4);
-    used.bytes_mut().fill(255);
-    assert!(rt; used.len() == 4);
-    match ring.reserve(0, 4, used) {
-        Ok(reservation) => same_bytes(&rt, reservation.bytes(), &[0, 0, 0, 0]),
-        Err(_) => panic!(rt; "not granted"),
-    }
+    let mut ring = of_two(&rt, rt.alloc());
+    let reservation = granted(&rt, rt.alloc(), &mut ring, 0, 4);
+    assert_eq!(rt; reservation.bytes(), [0, 0, 0, 0].as_slice());
 }
 
-// Grants as many records of length zero as fit, and answers their reservations.
-fn fill_up(rt: &impl Abort, alloc: Global, ring: &mut RingState) -> Vec<Reservation>
-    requires { ring.old.setup.workers ≡ 2 }
-    ensures { ring.new.setup.workers ≡ 2 }
-{
+// Grants as many records of length zero as fit, and answers their reservations and why no more are granted.
+fn fill_up(
+    rt: &impl Abort,
+    alloc: Global,
+    ring: &mut RingState,
+) -> (Vec<Reservation>, Option<ReserveFault>) {
     let mut held = Vec::new(alloc);
     for _ in 0..1000 {
-        match ring.reserve(0, 0, sheet(rt, alloc, 0)) {
+        match reserved(rt, alloc, ring, 0, 0) {
             Ok(reservation) => held.push(reservation).expect(rt, "memory"),
-            Err(_) => break,
+            Err((fault, _)) => return (held, Some(fault)),
         }
     }
-    held
+    (held, None)
 }
 
 // Discards 511 records that stand one behind the other, and passes over them.
-fn give_up(rt: &impl Abort, ring: &mut RingState, held: Vec<Reservation>)
-    requires { ring.old.setup.workers ≡ 2 }
-    ensures { ring.new.setup.workers ≡ 2 }
-{
+fn give_up(rt: &impl Abort, ring: &mut RingState, held: Vec<Reservation>) {
     for reservation in held {
         assert!(rt; ring.discard(reservation, 0).is_ok());
     }
@@ -342,11 +282,11 @@ fn give_up(rt: &impl Abort, ring: &mut RingState, held: Vec<Reservation>)
 
 #[test]
 fn places_are_used_again(rt: HostRuntime) {
-    let mut ring = ring(&rt, rt.alloc(), 4096, 0);
-    let held = fill_up(&rt, rt.alloc(), &mut ring);
-    assert_eq!(rt; held.len(), 511);
+    let mut ring = of_two(&rt, rt.alloc());
+    let (held, fault) = fill_up(&rt, rt.alloc(), &mut ring);
+    assert_eq!(rt; (held.len(), fault), (511, Some(ReserveFault::Full)));
     give_up(&rt, &mut ring, held);
-    let held = fill_up(&rt, rt.alloc(), &mut ring);
-    assert_eq!(rt; held.len(), 511);
+    let (held, fault) = fill_up(&rt, rt.alloc(), &mut ring);
+    assert_eq!(rt; (held.len(), fault), (511, Some(ReserveFault::Full)));
     assert_eq!(rt; ring.query(3), 8176);
 }
