@@ -1,6 +1,6 @@
 //! Many takes in one call, beside as many calls of `take`, on the ring that keeps one chapter of its history and on the ring over a list.
 
-ghost use Rattle.std.specs.Prelude.{◌≡◌, vec_len, vec_capacity};
+ghost use Rattle.std.specs.Prelude.{◌≡◌, ◌≤◌, vec_len, vec_capacity};
 
 use super::rings::{filled, granted, output, ring};
 use rb_chapter_ring::RingState;
@@ -63,21 +63,31 @@ fn room(rt: &impl Abort, alloc: Global) -> Vec<Taken>
     }
 }
 
+// So many takes in one call, of both rings and beside single ones.
+fn agree_over(rt: &impl Abort, alloc: Global, n: usize, wanted: usize)
+    requires { n ≤ 8 }
+{
+    let mut ring = with_five(rt, alloc);
+    let mut list = list_with_five(rt, alloc);
+    let mut plain = with_five(rt, alloc);
+    let (mut out, mut other) = (room(rt, alloc), room(rt, alloc));
+    assert_eq!(rt; ring.take_many(n, &mut out), wanted);
+    assert_eq!(rt; list.take_many(n, &mut other), wanted);
+    assert_eq!(rt; (out.len(), other.len()), (wanted, wanted));
+    for (one, two) in out.iter().zip(other.iter()) {
+        assert_eq!(rt; found(one), found(two));
+        assert_eq!(rt; found(one), found(&plain.take()));
+    }
+    assert_eq!(rt; ring.chapter().entries(), plain.chapter().entries());
+    assert_eq!(rt; list.history(), plain.chapter().entries());
+}
+
 #[test]
 fn many_takes_are_takes_one_after_the_other(rt: HostRuntime) {
-    for (n, wanted) in [(0, 0), (1, 1), (2, 2), (3, 3), (4, 3), (8, 3)] {
-        let mut ring = with_five(&rt, rt.alloc());
-        let mut list = list_with_five(&rt, rt.alloc());
-        let mut plain = with_five(&rt, rt.alloc());
-        let (mut out, mut other) = (room(&rt, rt.alloc()), room(&rt, rt.alloc()));
-        assert_eq!(rt; ring.take_many(n, &mut out), wanted);
-        assert_eq!(rt; list.take_many(n, &mut other), wanted);
-        assert_eq!(rt; (out.len(), other.len()), (wanted, wanted));
-        for (one, two) in out.iter().zip(other.iter()) {
-            assert_eq!(rt; found(one), found(two));
-            assert_eq!(rt; found(one), found(&plain.take()));
-        }
-        assert_eq!(rt; ring.chapter().entries(), plain.chapter().entries());
-        assert_eq!(rt; list.history(), plain.chapter().entries());
-    }
+    agree_over(&rt, rt.alloc(), 0, 0);
+    agree_over(&rt, rt.alloc(), 1, 1);
+    agree_over(&rt, rt.alloc(), 2, 2);
+    agree_over(&rt, rt.alloc(), 3, 3);
+    agree_over(&rt, rt.alloc(), 4, 3);
+    agree_over(&rt, rt.alloc(), 8, 3);
 }
