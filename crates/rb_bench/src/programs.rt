@@ -61,6 +61,26 @@ fn memory_unit(unit: u32) -> Insn {
     }
 }
 
+/// A program of `units` units that keep a pointer at each of the stack's 64 places in turn, round and round, and an exit.
+pub(crate) fn spilling(alloc: Global, units: u32) -> Result<Vec<u8>, AllocError> {
+    let mut bytes = Vec::new(alloc);
+    push(&mut bytes, &set(Reg::R0, 7))?;
+    for unit in 1..units {
+        push(&mut bytes, &spill_unit(unit))?;
+    }
+    push(&mut bytes, &Insn::Exit)?;
+    Ok(bytes)
+}
+
+fn spill_unit(unit: u32) -> Insn {
+    Insn::StoreRegister {
+        size: Size::Double,
+        base: Reg::R10,
+        offset: -8 - (unit % 64) as i16 * 8,
+        src: Reg::R10,
+    }
+}
+
 fn set(dst: Reg, value: i32) -> Insn {
     Insn::Move {
         width: Width::W64,

@@ -4,7 +4,7 @@ use crate::fault::BenchFault;
 use crate::interpreting::run_rounds;
 use crate::loading::load;
 use crate::one_thread::{output_and_take, reserve_and_submit};
-use crate::programs::{arithmetic, memory};
+use crate::programs::{arithmetic, memory, spilling};
 use crate::threads::{Shared, share};
 use std::alloc::Global;
 use std::io::Print;
@@ -64,6 +64,9 @@ fn loads<R: Print + Clock>(rt: &R, alloc: Global) -> Result<(), BenchFault> {
         let least = best(rt, || loaded(alloc, bytes.as_slice()))?;
         println!(rt; "load {units} {least}")?;
     }
+    let bytes = spilling(alloc, 4095)?;
+    let least = best(rt, || loaded(alloc, bytes.as_slice()))?;
+    println!(rt; "spill 4096 {least}")?;
     Ok(())
 }
 

@@ -10,6 +10,7 @@ use rb_alu::sign_extended;
 use rb_insn::{Extend64, SignedSize, Size};
 
 /// The number in some bytes.
+#[inline(always)]
 pub(crate) fn number_in(size: Size, bytes: &[u8]) -> u64
     requires { length bytes.now ≡ byte_count size }
     ensures { result ≡ little_number (byte_count size) bytes.now }

@@ -14,6 +14,7 @@ mod instruction_rows;
 mod kept_pointers;
 mod machine;
 mod machine_memory;
+mod memory_operations;
 mod offsets;
 mod operations;
 mod part_range;

@@ -110,6 +110,7 @@ fn place_beginning(offset: i64) -> u8
 }
 
 impl<C: Context, R: Lent> MachineMemory<C, R> {
+    #[inline(always)]
     /// Lends `len` bytes from an offset of a part on for reading.
     pub(crate) fn read(&self, place: MemoryRegion, offset: i64, len: usize) -> &[u8]
         requires near { IsNear offset }
@@ -121,6 +122,7 @@ impl<C: Context, R: Lent> MachineMemory<C, R> {
         self.parts.range(part, at, len)
     }
 
+    #[inline(always)]
     /// Writes the low bytes of a number from an offset of a part on, the lowest first.
     pub(crate) fn store(&mut self, place: MemoryRegion, offset: i64, size: Size, number: u64)
         requires near { IsNear offset }

@@ -1,6 +1,6 @@
 //! What r0 to r10 hold.
 
-ghost use Rattle.std.specs.Prelude.{◌≡◌, length, replicate, slice_index_or, slice_set};
+ghost use Rattle.std.specs.Prelude.{◌≡◌, length, replicate, slice_index_or, slice_set, IfSome};
 ghost use Rattle.rb_semantics.specs.declared.value.Value.TheVariants.{Nothing};
 ghost use Rattle.rb_interp.specs.inner.RegisterValues.{IsKeptAs, renumbered, shown_value};
 
@@ -71,6 +71,39 @@ impl Registers {
         ensures { result ≡ slice_index_or self.now reg.number Nothing }
     {
         shown(self.kinds[reg.index()], self.numbers[reg.index()])
+    }
+
+    #[inline(always)]
+    /// What a register holds, where that is a number.
+    pub(crate) fn get_number(&self, reg: Reg) -> Option<Value>
+        ensures { IfSome result (λ v. v ≡ slice_index_or self.now reg.number Nothing) }
+    {
+        match self.kinds[reg.index()] {
+            Kind::Number => Some(self.get(reg)),
+            _ => None,
+        }
+    }
+
+    #[inline(always)]
+    /// What a register holds, where that is a pointer to the stack.
+    pub(crate) fn get_stack(&self, reg: Reg) -> Option<Value>
+        ensures { IfSome result (λ v. v ≡ slice_index_or self.now reg.number Nothing) }
+    {
+        match self.kinds[reg.index()] {
+            Kind::Stack => Some(self.get(reg)),
+            _ => None,
+        }
+    }
+
+    #[inline(always)]
+    /// What a register holds, where that is a pointer to a record.
+    pub(crate) fn get_record(&self, reg: Reg) -> Option<Value>
+        ensures { IfSome result (λ v. v ≡ slice_index_or self.now reg.number Nothing) }
+    {
+        match self.kinds[reg.index()] {
+            Kind::Record(_) => Some(self.get(reg)),
+            _ => None,
+        }
     }
 
     #[inline(always)]

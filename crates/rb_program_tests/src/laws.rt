@@ -2,9 +2,9 @@
 
 use rb_semantics::{
     MemoryRegion, PendingCall, Value, bytes_written_are_read, plain_annotations_are_valid,
-    pointers_are_not_read, pointers_stored_are_found, pointers_stored_leave_zeros,
-    programs_can_start, runs_call_once, runs_end_well, steps_are_sound, verified_programs_end_well,
-    writes_take_pointers_out,
+    plain_programs_run_alike, pointers_are_not_read, pointers_stored_are_found,
+    pointers_stored_leave_zeros, programs_can_start, runs_call_once, runs_end_well,
+    steps_are_sound, verified_programs_end_well, writes_take_pointers_out,
 };
 
 #[test]
@@ -35,6 +35,7 @@ fn laws_can_be_called() {
     verified_programs_end_well();
     runs_call_once();
     plain_annotations_are_valid();
+    plain_programs_run_alike();
     bytes_written_are_read();
     writes_take_pointers_out();
     pointers_stored_are_found();

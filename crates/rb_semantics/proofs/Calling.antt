@@ -22,6 +22,7 @@ use Rattle.rb_refs.specs.KeptPointers.{known_in, byte_behind, check_data}
 use Rattle.rb_refs.specs.HelperChecks as table
 use Rattle.rb_refs.specs.References.{has_id, is_full}
 use Rattle.rb_refs.specs.AbstractStates.{value_in, effect_on_both}
+use Rattle.rb_verifier.specs.Annotation.{Annotation}
 use Rattle.rb_verifier.specs.Subject.{Subject, limits_of, calls}
 use Rattle.rb_semantics.specs.declared.pending_call.PendingCall.TheVariants as asked
 use Rattle.rb_semantics.specs.declared.value.MemoryRegion.TheVariants.{Record}
@@ -33,7 +34,8 @@ use Rattle.rb_semantics.specs.HelperCalls.{HelperCall, Reserve, Submit, Discard,
 use Rattle.rb_semantics.specs.Instructions.{StepEffect, waits_for}
 use Rattle.rb_semantics.specs.ProgramRuns.{given_back_count}
 use Rattle.rb_semantics.specs.Agreement.{reserved_value, AgreesValue, AreHeld, IsTested, HasReference, IsBoundedValue, Agrees}
-use Rattle.rb_semantics.specs.Soundness.{CanStep, CanAnswer, IsLawful}
+use Rattle.rb_semantics.specs.Soundness.{CanStep, IsLawful}
+use Rattle.rb_semantics.proofs.Keeping.{CanStepUnder, CanAnswerUnder}
 use Rattle.rb_semantics.proofs.Ids.{apart_earlier, found_new}
 use Rattle.rb_semantics.proofs.Records.{named_push_new}
 use Rattle.rb_semantics.proofs.Held.{held_absent, held_found, held_removed}
@@ -65,39 +67,39 @@ asks_give_back s call v w id flags o b e f g h = rw (e, f) (rw (g, h) refl)
 pub resumes_is : (t u : State) → Resumes t ≡ Resumes u → t ≡ u
 resumes_is t u e = cc
 
-module _ (subject : Subject) where
+module _ (subject : Subject) (annotation : Annotation) where
   -- a step that can be taken after each answer of the kind
-  can_reserve : (len : ℕ) (w : State) → CanStep subject (with_answer (Pointer (Record w.unit) (pos 0)) (record w { memory = holding w.unit (replicate len 0) w.memory })) → CanStep subject (with_answer (Number 0) w) → CanAnswer subject (asked.Reserve len) w
-  can_reserve len w h k Granted t e = subst (CanStep subject) (resumes_is _ _ e) h
-  can_reserve len w h k Null t e = subst (CanStep subject) (resumes_is _ _ e) k
+  can_reserve : (len : ℕ) (w : State) → CanStepUnder subject annotation (with_answer (Pointer (Record w.unit) (pos 0)) (record w { memory = holding w.unit (replicate len 0) w.memory })) → CanStepUnder subject annotation (with_answer (Number 0) w) → CanAnswerUnder subject annotation (asked.Reserve len) w
+  can_reserve len w h k Granted t e = subst (CanStepUnder subject annotation) (resumes_is _ _ e) h
+  can_reserve len w h k Null t e = subst (CanStepUnder subject annotation) (resumes_is _ _ e) k
   can_reserve len w h k Taken t e = absurd (cc)
   can_reserve len w h k HandedBack t e = absurd (cc)
   can_reserve len w h k (Code n) t e = absurd (cc)
   can_reserve len w h k (Told n) t e = absurd (cc)
 
-  can_give_back : (w : State) → CanStep subject (with_answer Nothing w) → CanAnswer subject asked.GiveBack w
+  can_give_back : (w : State) → CanStepUnder subject annotation (with_answer Nothing w) → CanAnswerUnder subject annotation asked.GiveBack w
   can_give_back w h Granted t e = absurd (cc)
   can_give_back w h Null t e = absurd (cc)
-  can_give_back w h Taken t e = subst (CanStep subject) (resumes_is _ _ e) h
+  can_give_back w h Taken t e = subst (CanStepUnder subject annotation) (resumes_is _ _ e) h
   can_give_back w h HandedBack t e = absurd (cc)
   can_give_back w h (Code n) t e = absurd (cc)
   can_give_back w h (Told n) t e = absurd (cc)
 
-  can_output : (w : State) → ((n : ℕ) → CanStep subject (with_answer (Number n) w)) → CanAnswer subject asked.Output w
+  can_output : (w : State) → ((n : ℕ) → CanStepUnder subject annotation (with_answer (Number n) w)) → CanAnswerUnder subject annotation asked.Output w
   can_output w h Granted t e = absurd (cc)
   can_output w h Null t e = absurd (cc)
   can_output w h Taken t e = absurd (cc)
   can_output w h HandedBack t e = absurd (cc)
-  can_output w h (Code n) t e = subst (CanStep subject) (resumes_is _ _ e) (h (wrapped 64 n))
+  can_output w h (Code n) t e = subst (CanStepUnder subject annotation) (resumes_is _ _ e) (h (wrapped 64 n))
   can_output w h (Told n) t e = absurd (cc)
 
-  can_query : (w : State) → ((n : ℕ) → CanStep subject (with_answer (Number n) w)) → CanAnswer subject asked.Query w
+  can_query : (w : State) → ((n : ℕ) → CanStepUnder subject annotation (with_answer (Number n) w)) → CanAnswerUnder subject annotation asked.Query w
   can_query w h Granted t e = absurd (cc)
   can_query w h Null t e = absurd (cc)
   can_query w h Taken t e = absurd (cc)
   can_query w h HandedBack t e = absurd (cc)
   can_query w h (Code n) t e = absurd (cc)
-  can_query w h (Told n) t e = subst (CanStep subject) (resumes_is _ _ e) (h n)
+  can_query w h (Told n) t e = subst (CanStepUnder subject annotation) (resumes_is _ _ e) (h n)
 
 module _ (subject : Subject) (s : State) (c : CanStep subject s) (code : ℕ) (begins : slot_at subject.program s.unit ≡ Some (Call code)) where
   abbrev a : AbsState
@@ -127,13 +129,13 @@ module _ (subject : Subject) (s : State) (c : CanStep subject s) (code : ℕ) (b
 
   -- the state after an answer can step
   answered_can_step : (known_then : AbsState) (m : Memory) (x : Abs) (v : Value) → IsEffect subject s c (Call code) begins (effect_on_both (table.after_answer x known_then)) → AgreesValue m.records x v → HasReference known_then.held x → IsBoundedValue subject.rings v → Agrees subject known_then (record s { memory = m })
-      → CanStep subject (with_answer v (waiting (record s { memory = m })))
+      → CanStepUnder subject c.annotation (with_answer v (waiting (record s { memory = m })))
   answered_can_step known_then m x v h k t b g =
       can_go subject s c (Call code) begins Next (effect_on_both (table.after_answer x known_then)) (s.unit + 1) (with_answer v (waiting (record s { memory = m }))) (leads-goes_on s.unit (Call code) refl) h
       (agrees_answered subject known_then (record s { memory = m }) x v k t b g) refl
 
   -- a call whose answer is a number
-  number_answered : IsEffect subject s c (Call code) begins (effect_on_both (table.after_answer abs.Number a)) → (n : ℕ) → CanStep subject (with_answer (Number n) (waiting s))
+  number_answered : IsEffect subject s c (Call code) begins (effect_on_both (table.after_answer abs.Number a)) → (n : ℕ) → CanStepUnder subject c.annotation (with_answer (Number n) (waiting s))
   number_answered h n = answered_can_step a s.memory abs.Number (Number n) h (n, refl) tt tt c.agrees
 
   output_sound : Given (waits_for (call_output (register s 1) (register s 2) (register s 3) (register s 4) s)) (table.check_output (limits_of subject) a)
@@ -146,7 +148,7 @@ module _ (subject : Subject) (s : State) (c : CanStep subject s) (code : ℕ) (b
       let v4 = number_held 4 j e4 in
       let b = value_read subject a s c.agrees (arg 2) (register s 2) (pos 0) len d (inside_passed subject a.held (arg 2) (pos 0) len i e2) (holds 2) (c.agrees.tied 2) e5 in
       subst (λ call. Leads (waits_for call) (effect_on_both (table.after_answer abs.Number a))) (sym (asks_output s (register s 1) (register s 2) (register s 3) (register s 4) ring len v4.0 b.0 v1 v3 v4.1 b.1))
-      (λ h. record { at_call = ap calls begins; here = refl; lawful = ring_known 1 ring v1; held = omega arith; next = can_output subject (waiting s) (number_answered h) }))))))))
+      (λ h. record { at_call = ap calls begins; here = refl; lawful = ring_known 1 ring v1; held = omega arith; next = can_output subject c.annotation (waiting s) (number_answered h) }))))))))
 
   query_sound : Given (waits_for (call_query (register s 1) (register s 2) s)) (table.check_query a)
   query_sound =
@@ -155,10 +157,10 @@ module _ (subject : Subject) (s : State) (c : CanStep subject s) (code : ℕ) (b
       let v1 = ring_held 1 ring e1 in
       let v2 = number_held 2 j e2 in
       subst (λ call. Leads (waits_for call) (effect_on_both (table.after_answer abs.Number a))) (sym (asks_query s (register s 1) (register s 2) ring v2.0 v1 v2.1))
-      (λ h. record { at_call = ap calls begins; here = refl; lawful = ring_known 1 ring v1; held = omega arith; next = can_query subject (waiting s) (number_answered h) })))
+      (λ h. record { at_call = ap calls begins; here = refl; lawful = ring_known 1 ring v1; held = omega arith; next = can_query subject c.annotation (waiting s) (number_answered h) })))
 
   -- a record that is granted, and null
-  granted_can_step : (ring len : ℕ) → IsEffect subject s c (Call code) begins (effect_on_both (table.after_reserve s.unit ring len a)) → CanStep subject (with_answer (Pointer (Record s.unit) (pos 0)) (waiting (record s { memory = holding s.unit (replicate len 0) s.memory })))
+  granted_can_step : (ring len : ℕ) → IsEffect subject s c (Call code) begins (effect_on_both (table.after_reserve s.unit ring len a)) → CanStepUnder subject c.annotation (with_answer (Pointer (Record s.unit) (pos 0)) (waiting (record s { memory = holding s.unit (replicate len 0) s.memory })))
   granted_can_step ring len h =
       let zeros : List ℕ = replicate len 0 in
       let apart = apart_earlier s.unit a.held c.formed.earlier in
@@ -168,7 +170,7 @@ module _ (subject : Subject) (s : State) (c : CanStep subject s) (code : ℕ) (b
       (rw (found_new (record { id = s.unit; ring = ring; size = len; sure = false }) a.held apart) refl) refl
       (agrees_granted subject a s s.unit ring len zeros (length-replicate {A = ℕ} len 0) c.formed.earlier c.agrees)
 
-  null_can_step : (ring len : ℕ) → IsEffect subject s c (Call code) begins (effect_on_both (table.after_reserve s.unit ring len a)) → CanStep subject (with_answer (Number 0) (waiting s))
+  null_can_step : (ring len : ℕ) → IsEffect subject s c (Call code) begins (effect_on_both (table.after_reserve s.unit ring len a)) → CanStepUnder subject c.annotation (with_answer (Number 0) (waiting s))
   null_can_step ring len h =
       let apart = apart_earlier s.unit a.held c.formed.earlier in
       let none : record_named s.unit s.memory.records ≡ None = held_absent s.unit a.held s.memory.records apart c.agrees.records in
@@ -185,7 +187,7 @@ module _ (subject : Subject) (s : State) (c : CanStep subject s) (code : ℕ) (b
       let v2 : register s 2 ≡ Number len = subst (λ x. AgreesValue s.memory.records x (register s 2)) size.0 (holds 2) in
       let v3 = number_held 3 j e3 in
       subst (λ call. Leads (waits_for call) (effect_on_both (table.after_reserve s.unit ring len a))) (sym (asks_reserve s (register s 1) (register s 2) (register s 3) ring len v3.0 v1 v2 v3.1))
-      (λ h. record { at_call = ap calls begins; here = refl; lawful = (ring_known 1 ring v1, size.1); held = omega arith; next = can_reserve subject len (waiting s) (granted_can_step ring len h) (null_can_step ring len h) })))))
+      (λ h. record { at_call = ap calls begins; here = refl; lawful = (ring_known 1 ring v1, size.1); held = omega arith; next = can_reserve subject c.annotation len (waiting s) (granted_can_step ring len h) (null_can_step ring len h) })))))
 
   -- a call that gives a record back
   give_back_sound : (call : ℕ → List ℕ → ℕ → HelperCall) → ((id : ℕ) (b : List ℕ) (flags : ℕ) → IsLawful subject (call id b flags)) → ((id : ℕ) (b : List ℕ) (flags : ℕ) → pending_call_of (call id b flags) ≡ asked.GiveBack) → ((id : ℕ) (b : List ℕ) (flags : ℕ) → given_back_count (call id b flags ∷ []) ≡ 1)
@@ -205,7 +207,7 @@ module _ (subject : Subject) (s : State) (c : CanStep subject s) (code : ℕ) (b
         here = refl;
         lawful = lawful id b.0 v2.0;
         held = let given : given_back_count (call id b.0 v2.0 ∷ []) ≡ 1 = one id b.0 v2.0 in rw given removed;
-        next = subst (λ asked. CanAnswer subject asked (waiting (record s { memory = without id s.memory }))) (sym (kind id b.0 v2.0)) (can_give_back subject (waiting (record s { memory = without id s.memory }))
+        next = subst (λ asked. CanAnswerUnder subject c.annotation asked (waiting (record s { memory = without id s.memory }))) (sym (kind id b.0 v2.0)) (can_give_back subject c.annotation (waiting (record s { memory = without id s.memory }))
             (answered_can_step (given_back_state id a) (without id s.memory) abs.Unreadable Nothing h tt tt tt (agrees_given_back subject a s id tied c.agrees)));
       })))
 

@@ -5,6 +5,7 @@ mod Values
 mod Places
 mod Changes
 mod Checks
+mod Keeping
 mod Rows
 mod Moves
 mod Sums
@@ -17,4 +18,5 @@ mod Sound
 mod Running
 mod Worked
 mod PlainPrograms
+mod PlainRuns
 pub mod Laws

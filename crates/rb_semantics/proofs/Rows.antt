@@ -27,7 +27,8 @@ use Rattle.rb_semantics.specs.ProgramMemory.{Memory}
 use Rattle.rb_semantics.specs.ProgramStates.{State, operand_in, with_register}
 use Rattle.rb_semantics.specs.Instructions.{StepEffect, goes_to, goes_by_edge, gives}
 use Rattle.rb_semantics.specs.Agreement.{AgreesValue, HasReference, IsBoundedValue, Agrees}
-use Rattle.rb_semantics.specs.Soundness.{CanStep, StepsForward, IsSoundEffect}
+use Rattle.rb_semantics.specs.Soundness.{CanStep}
+use Rattle.rb_semantics.proofs.Keeping.{CanStepUnder, StepsForwardUnder, IsSoundUnder}
 use Rattle.rb_semantics.proofs.Changes.{agrees_below, agrees_at, agrees_put}
 
 -- a fact of what the table gives, where it gives an effect
@@ -57,7 +58,7 @@ module _ (subject : Subject) (s : State) (c : CanStep subject s) (insn : Insn) (
 
   -- from an effect of the table it follows that what the instruction does is sound
   abbrev pub Follows : StepEffect → refs.Effect → Type 0
-  Follows effect e = IsEffect e → IsSoundEffect subject s effect
+  Follows effect e = IsEffect e → IsSoundUnder subject c.annotation s effect
 
   -- so it does from what the table gives
   abbrev pub Sound : StepEffect → Result refs.Effect Rule → Type 0
@@ -72,13 +73,12 @@ module _ (subject : Subject) (s : State) (c : CanStep subject s) (insn : Insn) (
   edge_forward edge to there = edges_forward subject.program (is_laid_out subject.program) c.well_shaped s.unit edge to (record { insn = insn; begins = begins; leads_to = there })
 
   -- an edge leads to a state that can step
-  pub can_go : (edge : Edge) (e : refs.Effect) (to : ℕ) (t : State) → edge_target s.unit insn edge ≡ Some to → IsEffect e → Agrees subject (along_edge edge e) t → t.unit ≡ to → CanStep subject t
+  pub can_go : (edge : Edge) (e : refs.Effect) (to : ℕ) (t : State) → edge_target s.unit insn edge ≡ Some to → IsEffect e → Agrees subject (along_edge edge e) t → t.unit ≡ to → CanStepUnder subject c.annotation t
   can_go edge e to t there h agrees at =
       let forward : (s.unit < to) × IsInstructionStart subject.program to = edge_forward edge to there in
       let below : Below (along_edge edge e) (c.annotation to) = h.edges edge to there in
       record {
         well_shaped = c.well_shaped;
-        annotation = c.annotation;
         valid = c.valid;
         begins = subst (IsInstructionStart subject.program) (sym at) forward.1;
         formed = subst (λ unit. IsFormed unit (c.annotation unit)) (sym at) (form_below below (formed_along edge e to h (omega arith)));
@@ -86,16 +86,16 @@ module _ (subject : Subject) (s : State) (c : CanStep subject s) (insn : Insn) (
       }
 
   pub goes_along : (edge : Edge) (e : refs.Effect) (to : ℕ) (registers : List Value) (m : Memory) → edge_target s.unit insn edge ≡ Some to → length m.records ≡ length s.memory.records → Agrees subject (along_edge edge e) (record { unit = s.unit; registers = registers; memory = m }) → IsEffect e
-      → IsSoundEffect subject s (goes_by_edge edge insn (record { unit = s.unit; registers = registers; memory = m }))
+      → IsSoundUnder subject c.annotation s (goes_by_edge edge insn (record { unit = s.unit; registers = registers; memory = m }))
   goes_along edge e to registers m there held agrees h =
       let t : State = record { unit = to; registers = registers; memory = m } in
-      let next : CanStep subject t = can_go edge e to t there h (agrees_at subject (along_edge edge e) (record { unit = s.unit; registers = registers; memory = m }) to agrees) refl in
-      let on : StepsForward subject s t = record { forward = (edge_forward edge to there).0; held = held; next = next } in
-      subst (λ there. IsSoundEffect subject s (goes_to there (record { unit = s.unit; registers = registers; memory = m }))) (sym there) on
+      let next : CanStepUnder subject c.annotation t = can_go edge e to t there h (agrees_at subject (along_edge edge e) (record { unit = s.unit; registers = registers; memory = m }) to agrees) refl in
+      let on : StepsForwardUnder subject c.annotation s t = record { forward = (edge_forward edge to there).0; held = held; next = next } in
+      subst (λ there. IsSoundUnder subject c.annotation s (goes_to there (record { unit = s.unit; registers = registers; memory = m }))) (sym there) on
 
   -- to the next instruction
   pub goes_next : (e : refs.Effect) (registers : List Value) (m : Memory) → falls_through insn ≡ true → length m.records ≡ length s.memory.records → Agrees subject e.next (record { unit = s.unit; registers = registers; memory = m }) → IsEffect e
-      → IsSoundEffect subject s (goes_by_edge Next insn (record { unit = s.unit; registers = registers; memory = m }))
+      → IsSoundUnder subject c.annotation s (goes_by_edge Next insn (record { unit = s.unit; registers = registers; memory = m }))
   goes_next e registers m on held agrees h = goes_along Next e (s.unit + units_taken insn) registers m (leads-goes_on s.unit insn on) held agrees h
 
   -- dst gets a value that is as is known

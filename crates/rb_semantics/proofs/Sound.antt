@@ -24,7 +24,7 @@ use Rattle.rb_refs.specs.References.{is_empty}
 use Rattle.rb_refs.specs.AbstractStates.{value_in, effect_on_both, entry_state}
 use Rattle.rb_refs.specs.VerifierChecks as table
 use Rattle.rb_refs.proofs.Laws.{step_forms, form_entry, form_below, known-listed}
-use Rattle.rb_verifier.specs.Annotation.{HoldsAt, HasValid}
+use Rattle.rb_verifier.specs.Annotation.{Annotation, HoldsAt, IsValid, HasValid}
 use Rattle.rb_verifier.specs.Subject.{Subject, limits_of}
 use Rattle.rb_semantics.specs.declared.value.Value.TheVariants.{Number}
 use Rattle.rb_semantics.specs.ProgramStates.{State, register, entry_program_state}
@@ -32,6 +32,7 @@ use Rattle.rb_semantics.specs.Instructions.{execute, execute_at, next_step, exec
 use Rattle.rb_semantics.specs.Agreement.{AgreesValue, HasReference, IsBoundedValue, AgreesPlaces, Agrees}
 use Rattle.rb_semantics.specs.Soundness.{CanStep, IsSoundEffect}
 use Rattle.rb_semantics.proofs.Ids.{not_equal}
+use Rattle.rb_semantics.proofs.Keeping.{CanStepUnder, IsSoundUnder, can_step, sound_so}
 use Rattle.rb_semantics.proofs.Held.{held_none}
 use Rattle.rb_semantics.proofs.Values.{number_value}
 use Rattle.rb_semantics.proofs.Changes.{agrees_below}
@@ -98,10 +99,14 @@ module _ (subject : Subject) (s : State) (c : CanStep subject s) where
         h.edges edge to there (begins-lt subject.program to forward.1.0 forward.1.1);
   }
 
-  pub instruction_sound : (insn : Insn) → slot_at subject.program s.unit ≡ Some insn → IsSoundEffect subject s (execute insn s)
-  instruction_sound insn begins =
+  -- what the instruction does keeps the annotation
+  pub instruction_keeps : (insn : Insn) → slot_at subject.program s.unit ≡ Some insn → IsSoundUnder subject c.annotation s (execute insn s)
+  instruction_keeps insn begins =
       let h : HoldsAt (limits_of subject) c.annotation (unit_count subject.program) s.unit insn = c.valid.each s.unit insn (begins-lt subject.program s.unit insn begins) begins in
       subst (Sound subject s c insn begins (execute insn s)) h.checks (row_sound insn begins) (effect_here insn begins h)
+
+  pub instruction_sound : (insn : Insn) → slot_at subject.program s.unit ≡ Some insn → IsSoundEffect subject s (execute insn s)
+  instruction_sound insn begins = sound_so subject c.annotation s (execute insn s) (instruction_keeps insn begins)
 
 pub sound : (subject : Subject) (s : State) → CanStep subject s → IsSoundEffect subject s (next_step subject.program s)
 sound subject s c = subst (λ slot. IsSoundEffect subject s (execute_at slot s)) (sym c.begins.1) (instruction_sound subject s c c.begins.0 c.begins.1)
@@ -169,15 +174,17 @@ entry_agrees subject context long = record {
   context = long;
 }
 
--- a verified program can take its first step
-pub can_start : (subject : Subject) (context : List ℕ) → IsWellShaped subject.program → IsInstructionStart subject.program 0 → HasValid (limits_of subject) subject.program → length context ≡ subject.ctx_len → CanStep subject (entry_program_state context)
-can_start subject context shaped first has long =
+-- a verified program can take its first step, under each valid annotation
+pub can_start_under : (subject : Subject) (a : Annotation) (context : List ℕ) → IsWellShaped subject.program → IsInstructionStart subject.program 0 → IsValid (limits_of subject) subject.program a → length context ≡ subject.ctx_len → CanStepUnder subject a (entry_program_state context)
+can_start_under subject a context shaped first valid long =
     let inside : 0 < unit_count subject.program = begins-lt subject.program 0 first.0 first.1 in
     record {
       well_shaped = shaped;
-      annotation = has.0;
-      valid = has.1;
+      valid = valid;
       begins = first;
-      formed = form_below (has.1.entry inside) (form_entry 0);
-      agrees = agrees_below subject entry_state (has.0 0) (entry_program_state context) (has.1.entry inside) (entry_agrees subject context long);
+      formed = form_below (valid.entry inside) (form_entry 0);
+      agrees = agrees_below subject entry_state (a 0) (entry_program_state context) (valid.entry inside) (entry_agrees subject context long);
     }
+
+pub can_start : (subject : Subject) (context : List ℕ) → IsWellShaped subject.program → IsInstructionStart subject.program 0 → HasValid (limits_of subject) subject.program → length context ≡ subject.ctx_len → CanStep subject (entry_program_state context)
+can_start subject context shaped first has long = can_step subject has.0 (entry_program_state context) (can_start_under subject has.0 context shaped first has.1 long)

@@ -1,12 +1,15 @@
--- Programs that keep no pointer on the stack, and the law that the table of verification accepts each of them that the rows without kept
--- pointers accept: a load gives a number, a store takes one, and the bytes of an output are looked at no further (own profile).
-use Rattle.std.specs.Prelude.{◌≡◌, ◌<◌, ℕ, ℤ, pos, List, Option, Some, Result, Ok}
+-- Programs that keep no pointer on the stack, and two laws on what the rows without kept pointers accept, by which a load gives a number,
+-- a store takes one, and the bytes of an output are looked at no further (own profile): the whole table accepts it too, and it runs as
+-- it did while no pointer was kept.
+use Rattle.std.specs.Prelude.{◌≡◌, ◌<◌, ℕ, zero, suc, ℤ, pos, List, Option, Some, None, Result, Ok, length}
+use Rattle.byteorder.specs.Endian.{little_number}
 use Rattle.rb_insn.specs.declared.insn.Insn.{Insn}
 use Rattle.rb_insn.specs.declared.insn.Insn.TheVariants.{Call, Load, LoadSigned, StoreImmediate, StoreRegister}
 use Rattle.rb_insn.specs.declared.reg.Reg.{Reg}
 use Rattle.rb_insn.specs.Sizes.{byte_count, signed_byte_count}
 use Rattle.rb_decode.specs.Program.{unit_count, slot_at}
 use Rattle.rb_cfg.specs.Edges.{Edge, edge_target}
+use Rattle.rb_cfg.specs.Shape.{IsWellShaped, IsInstructionStart}
 use Rattle.rb_refs.specs.declared.helper.Helper.{Helper}
 use Rattle.rb_refs.specs.declared.helper.Helper.TheVariants as helper
 use Rattle.rb_refs.specs.declared.limits.Limits.{Limits}
@@ -22,6 +25,11 @@ use Rattle.rb_refs.specs.KeptPointers.{all_data}
 use Rattle.rb_refs.specs.AbstractStates.{Below, value_in, effect_on_both, entry_state}
 use Rattle.rb_refs.specs.VerifierChecks.{abstract_step, assignment_effect}
 use Rattle.rb_verifier.specs.Annotation.{Annotation, along_edge, IsValid}
+use Rattle.rb_verifier.specs.Subject.{Subject, limits_of}
+use Rattle.rb_semantics.specs.ProgramStates.{State, entry_program_state, register, pointed}
+use Rattle.rb_semantics.specs.HelperCalls.{HelperAnswer}
+use Rattle.rb_semantics.specs.Instructions.{StepEffect, Stuck, execute, execute_load, execute_store}
+use Rattle.rb_semantics.specs.ProgramRuns.{IsStuck, Run, run_ended, run_followed, run_of}
 
 -- a load of so many bytes gives a number
 abbrev pub plain_load : Limits → Reg → Reg → ℤ → ℕ → AbsState → Result Effect Rule
@@ -79,3 +87,31 @@ pub record IsPlainlyValid (limits : Limits) (program : List Insn) (a : Annotatio
 -- it is valid by the whole table too
 abbrev pub PlainAnnotationsAreValid : Type 0
 PlainAnnotationsAreValid = (limits : Limits) (program : List Insn) (a : Annotation) → IsPlainlyValid limits program a → IsValid limits program a
+
+-- ---- runs without kept pointers
+
+-- What an instruction does where no pointer is kept: a load gives the number in some bytes, and a store of a register takes a number. All
+-- other rows are the same. No row keeps a pointer, so none is ever found among bytes.
+abbrev pub plain_execute : Insn → State → StepEffect
+plain_execute (Load size dst base offset) s =
+    execute_load (Load size dst base offset) dst (little_number (byte_count size)) (pointed s.memory (register s base.number) offset (byte_count size)) s
+plain_execute (StoreRegister size base offset src) s =
+    execute_store (StoreRegister size base offset src) (register s base.number) offset (byte_count size) (register s src.number) s
+plain_execute insn s = execute insn s
+
+abbrev pub plain_execute_at : Option Insn → State → StepEffect
+plain_execute_at None s = Stuck
+plain_execute_at (Some insn) s = plain_execute insn s
+
+-- the run of a program from a state, with so many steps at most, under these answers
+abbrev pub plain_run_of : List Insn → ℕ → State → List HelperAnswer → Run
+plain_run_of program zero s answers = run_ended IsStuck
+plain_run_of program (suc steps) s answers = run_followed (plain_run_of program steps) (plain_execute_at (slot_at program s.unit) s) answers
+
+-- a program of which an annotation is valid by the table without kept pointers makes the same calls, with the same bytes, and ends alike
+-- by both meanings, for the same answers
+abbrev pub PlainProgramsRunAlike : Type 0
+PlainProgramsRunAlike =
+    (subject : Subject) (a : Annotation) (context : List ℕ) (steps : ℕ) (answers : List HelperAnswer) → IsWellShaped subject.program → IsInstructionStart subject.program 0
+    → IsPlainlyValid (limits_of subject) subject.program a → length context ≡ subject.ctx_len
+    → run_of subject.program steps (entry_program_state context) answers ≡ plain_run_of subject.program steps (entry_program_state context) answers

@@ -18,7 +18,7 @@ pub use memory_laws::{
 };
 pub use pending_call::PendingCall;
 pub use soundness_laws::{
-    plain_annotations_are_valid, programs_can_start, runs_call_once, runs_end_well,
-    steps_are_sound, verified_programs_end_well,
+    plain_annotations_are_valid, plain_programs_run_alike, programs_can_start, runs_call_once,
+    runs_end_well, steps_are_sound, verified_programs_end_well,
 };
 pub use value::{MemoryRegion, Value};

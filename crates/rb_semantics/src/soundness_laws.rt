@@ -1,6 +1,6 @@
 //! The laws on the meaning of verified programs.
 
-ghost use Rattle.rb_semantics.specs.PlainPrograms.{PlainAnnotationsAreValid};
+ghost use Rattle.rb_semantics.specs.PlainPrograms.{PlainAnnotationsAreValid, PlainProgramsRunAlike};
 ghost use Rattle.rb_semantics.specs.RunEndings.{ProgramsCanStart, RunsCallOnce, RunsEndWell, VerifiedProgramsEndWell};
 ghost use Rattle.rb_semantics.specs.Soundness.{StepsAreSound};
 
@@ -36,4 +36,10 @@ pub fn runs_call_once()
 /// rows by which a load gives a number and a store takes one, and that says of each place of the stack that it has data, is valid.
 pub fn plain_annotations_are_valid()
     ensures { PlainAnnotationsAreValid }
+{}
+
+/// And what it accepted runs as it did: by the meaning in which a load gives a number and a store takes one, and by the whole meaning, such
+/// a program makes the same calls with the same bytes and ends alike, for the same answers.
+pub fn plain_programs_run_alike()
+    ensures { PlainProgramsRunAlike }
 {}
