@@ -12,6 +12,7 @@ pub mod Join
 pub mod Room
 pub mod Alike
 pub mod Bound
+pub mod Chain
 pub mod Keeping
 pub mod Empty
 pub mod SameOpening

@@ -23,7 +23,7 @@ use Rattle.rb_chapter_ledger.specs.ChapteredRing.{chaptered_ring, whole_of}
 use Rattle.rb_chapter_ledger.specs.ChapterSeats.{ChapterConsumerSeat, whole_consumer}
 use Rattle.rb_chapter_ledger.specs.ChapterClosing.{IsClosedByChapters, AreNumberedFrom, EachGoesOn, MayBind, bound_book, AreTied}
 use Rattle.rb_chapter_ledger.specs.ChapterHeadline.{AllLegal, BindsWhereItMay, HandedOutMayBind, TiedOnceBound, bound_ring, GatheredOnceBound}
-use Rattle.rb_chapter_ledger.proofs.Chain.{AreHandedOut, handed-out-are, handed-out-bind}
+use Rattle.rb_chapter.proofs.Chain.{AreHandedOut, handed-out-are, handed-out-bind}
 
 -- ---- chapters that may be bound are a ring's
 

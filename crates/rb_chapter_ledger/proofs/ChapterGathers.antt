@@ -17,7 +17,7 @@ use Rattle.rb_chapter_ledger.specs.ChapterKnowledge.{ChapterKnowledge, chapter_v
 use Rattle.rb_chapter_ledger.specs.ChapterSeats.{whole_consumer}
 use Rattle.rb_chapter_ledger.specs.ChapterClosing.{consumer_knowledge, ClosedWhereGathered}
 use Rattle.rb_chapter_ledger.specs.ChapterHeadline.{IsRunTo, WheneverFreeByChapter}
-use Rattle.rb_chapter_ledger.proofs.Chain.{binds-continue}
+use Rattle.rb_chapter.proofs.Chain.{binds-continue}
 use Rattle.rb_chapter_ledger.proofs.ChapterLock.{get-map, map-nil}
 
 -- a run is one up to any entry, and one behind it

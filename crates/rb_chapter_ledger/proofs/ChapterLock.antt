@@ -22,7 +22,7 @@ use Rattle.rb_chapter_ledger.specs.ChapteredRing.{ChapteredRing, chaptered_ring,
 use Rattle.rb_chapter_ledger.specs.ChapterKnowledge.{ChapterKnowledge, ChapterPassView, chapter_view, whole_out, whole_knowledge, whole_view, KnowsHandedOut, AllKnowHandedOut}
 use Rattle.rb_chapter_ledger.specs.ChapterLockRule.{GoesOnFrom, AllGoOn, GoesOnWhereOut, KnowsChapters, KeepsChapterLockRule}
 use Rattle.rb_chapter_ledger.specs.ChapterLockSteps.{TakesChapterState, handed_out_after, chaptered_after, handed_out_known_by, chapter_knowledge_after, MayPutChapter, PutsChapterState, unopened_chapters, opening_role, opening_workers, OpensChapterState, first_chapter_role, other_chapter_roles}
-use Rattle.rb_chapter_ledger.proofs.Chain.{handed-out-bind}
+use Rattle.rb_chapter.proofs.Chain.{handed-out-bind}
 use Rattle.rb_chapter.specs.Chapters.{first_chapter}
 use Rattle.rb_chapter.proofs.Empty.{empty-kept}
 use Rattle.std.specs.FinMap.{empty}

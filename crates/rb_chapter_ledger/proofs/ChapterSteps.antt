@@ -14,7 +14,7 @@ use Rattle.rb_ledger.proofs.Calls.{put-same}
 use Rattle.rb_chapter_ledger.specs.ChapteredRing.{ChapteredRing, chaptered_ring, whole_of, HasChapters}
 use Rattle.rb_chapter_ledger.specs.ChapterLockLaws.{IsWholeStep, CallsMayPut, HandsOutMayPut, FactsMakeRing}
 use Rattle.rb_chapter_ledger.specs.ChapterLockSteps.{handed_out_after}
-use Rattle.rb_chapter_ledger.proofs.Chain.{binds-continue, binds-same, binds-next, joined-next}
+use Rattle.rb_chapter.proofs.Chain.{binds-continue, binds-same, binds-next, joined-next}
 
 -- a ring whose chapter has other entries has a ring's chapters still
 pub has-same : (out : ChapteredRing) (new : ChapterRing) → HasChapters out → IsSameChapter out.ring new → IsLegalChapter new.chapter → HasRoomForOwed new.chapter → HasChapters (chaptered_ring out.handed_out new)

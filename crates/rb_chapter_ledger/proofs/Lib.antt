@@ -1,4 +1,3 @@
-pub mod Chain
 pub mod ChapterLock
 pub mod ChapterSteps
 pub mod WholeCalls

@@ -21,7 +21,7 @@ use Rattle.rb_ledger.specs.Roles.Role.{Consumer, Worker}
 use Rattle.rb_ledger.specs.LockedCalls.{LockedCall, SubmitsAt, DiscardsAt, TakesAt, Queries}
 use Rattle.rb_chapter_ledger.specs.ChapteredRing.{chaptered_ring, whole_of}
 use Rattle.rb_chapter_ledger.specs.LockedChapterCalls.{LockedChapterCall, InOneChapter, InKnownChapter, SubmitsInChapter, DiscardsInChapter, TakesInChapter, QueriesInChapter, HandsOutNext, EachCallIsWhole}
-use Rattle.rb_chapter_ledger.proofs.Chain.{binds-continue, binds-number}
+use Rattle.rb_chapter.proofs.Chain.{binds-continue, binds-number}
 use Rattle.rb_chapter_ledger.proofs.ChapterSteps.{handed-out-whole}
 
 -- ---- at one point

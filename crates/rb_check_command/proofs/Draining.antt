@@ -13,7 +13,7 @@ use Rattle.rb_ledger.specs.Seats.{WorkerSeat}
 use Rattle.rb_chapter_ledger.specs.ChapteredRing.{chaptered_ring, whole_of}
 use Rattle.rb_chapter_ledger.specs.ChapterSeats.{ChapterConsumerSeat}
 use Rattle.rb_chapter_ledger.specs.LockedChapterCalls.{LockedChapterCall, InOneChapter, InKnownChapter, TakesInChapter}
-use Rattle.rb_chapter_ledger.proofs.Chain.{binds-continue}
+use Rattle.rb_chapter.proofs.Chain.{binds-continue}
 use Rattle.rb_chapter_ledger.proofs.WholeCalls.{takes-whole}
 use Rattle.rb_shared_ring.specs.SharedCalls.{AuditsInChapter}
 use Rattle.rb_shared_ring.proofs.WholeAnswers.{producer-same}

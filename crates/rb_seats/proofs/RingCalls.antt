@@ -17,7 +17,7 @@ use Rattle.rb_ledger.specs.Seats.{WorkerSeat}
 use Rattle.rb_ledger.specs.LockedCalls.{LockedCall, Reserves, SubmitsAt, DiscardsAt, Queries}
 use Rattle.rb_chapter_ledger.specs.ChapteredRing.{whole_of}
 use Rattle.rb_chapter_ledger.specs.LockedChapterCalls.{LockedChapterCall, InOneChapter, SubmitsInChapter, DiscardsInChapter, QueriesInChapter}
-use Rattle.rb_chapter_ledger.proofs.Chain.{binds-continue}
+use Rattle.rb_chapter.proofs.Chain.{binds-continue}
 use Rattle.rb_chapter_ledger.proofs.WholeCalls.{submits-whole, discards-whole, queries-whole}
 use Rattle.rb_shared_ring.specs.SharedCalls.{ReservesInChapter}
 use Rattle.rb_shared_ring.proofs.WholeAnswers.{reserves-whole}

@@ -27,7 +27,7 @@ use Rattle.rb_chapter_ledger.specs.ChapterLockSteps.{TakesChapterState, MayPutCh
 use Rattle.rb_chapter_ledger.specs.LockedChapterCalls.{LockedChapterCall, InKnownChapter, TakesInChapter, TellsUsed, HandsOutNext}
 use Rattle.rb_chapter_ring.specs.OpenedRing.{MayGoOnIn}
 use Rattle.rb_history.specs.RoomRule.{Setup}
-use Rattle.rb_chapter_ledger.proofs.Chain.{binds-continue, binds-number}
+use Rattle.rb_chapter.proofs.Chain.{binds-continue, binds-number}
 use Rattle.rb_chapter_ledger.proofs.ChapterSteps.{handed-out-more, handed-out-whole, has-next, hands-out-may-put}
 use Rattle.rb_chapter_ledger.proofs.WholeCalls.{takes-whole}
 use Rattle.rb_shared_ring.specs.inner.SeatPasses.{seen_by, bytes_by, room_by, handed_out_by, known_in, IsIdleIn}

@@ -12,7 +12,7 @@ use Rattle.rb_ledger.proofs.Seated.{ring-book}
 use Rattle.rb_chapter_ledger.specs.ChapteredRing.{chaptered_ring, whole_of, IsChapteredRing}
 use Rattle.rb_chapter_ledger.specs.ChapterKnowledge.{ChapterPassView, chapter_view}
 use Rattle.rb_chapter_ledger.specs.ChapterLockSteps.{OpensChapterState, opening_role, opening_workers, first_chapter_role, other_chapter_roles}
-use Rattle.rb_chapter_ledger.proofs.Chain.{handed-out-bind}
+use Rattle.rb_chapter.proofs.Chain.{handed-out-bind}
 use Rattle.rb_chapter_ledger.proofs.ChapterSteps.{facts-make-ring}
 use Rattle.rb_shared_ring.specs.inner.SeatPasses.{seen_by, room_by}
 use Rattle.rb_shared_ring.specs.inner.LentState.{IsKeptRing}

@@ -27,7 +27,7 @@ use Rattle.rb_ledger.specs.LockedCalls.{LockedCall, Reserves, OutputsAt, submitt
 use Rattle.rb_ledger.proofs.Seated.{ring-book, ties-goes, reserve-ties, submit-ties, discard-ties, output-ties, query-ties, serial-is}
 use Rattle.rb_chapter_ledger.specs.ChapteredRing.{ChapteredRing, chaptered_ring, whole_of}
 use Rattle.rb_chapter_ledger.specs.LockedChapterCalls.{LockedChapterCall, InOneChapter, SubmitsInChapter, DiscardsInChapter, QueriesInChapter}
-use Rattle.rb_chapter_ledger.proofs.Chain.{binds-continue}
+use Rattle.rb_chapter.proofs.Chain.{binds-continue}
 use Rattle.rb_chapter_ledger.proofs.WholeCalls.{said, call-whole, with-worker, each-call-is-whole}
 use Rattle.rb_shared_ring.specs.SharedCalls.{ReservesInChapter, OutputsInChapter, AuditsInChapter, IsRefusedInChapterAs, reserved_in_chapter_by, output_in_chapter_by}
 use Rattle.rb_shared_ring.specs.AnswersOverAll.{whole_answer}

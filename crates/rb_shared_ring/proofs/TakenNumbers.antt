@@ -20,7 +20,7 @@ use Rattle.rb_ledger.proofs.Seated.{taker-goes-on, take-ties, take-place, take-s
 use Rattle.rb_ledger.proofs.ManyTakes.{many-ties, many-places, many-setup}
 use Rattle.rb_chapter_ledger.specs.ChapteredRing.{whole_of}
 use Rattle.rb_chapter_ledger.specs.LockedChapterCalls.{LockedChapterCall, InKnownChapter, TakesInChapter, TellsUsed, HandsOutNext}
-use Rattle.rb_chapter_ledger.proofs.Chain.{binds-continue}
+use Rattle.rb_chapter.proofs.Chain.{binds-continue}
 use Rattle.rb_chapter_ledger.proofs.WholeCalls.{each-call-is-whole}
 use Rattle.rb_chapter_ledger.specs.ChapterKnowledge.{ChapterPassView}
 use Rattle.rb_shared_ring.specs.inner.SeatPasses.{seen_by, room_by, handed_out_by, IsIdleIn}

@@ -13,7 +13,7 @@ use Rattle.rb_chapter.specs.ChapterRing.{ChapterRing}
 use Rattle.rb_chapter_ring.specs.OpenedRing.{told_counts}
 use Rattle.rb_chapter_ledger.specs.ChapteredRing.{HasChapters, chaptered_ring, whole_of}
 use Rattle.rb_chapter_ledger.specs.ChapterSeats.{whole_consumer}
-use Rattle.rb_chapter_ledger.proofs.Chain.{binds-continue}
+use Rattle.rb_chapter.proofs.Chain.{binds-continue}
 use Rattle.rb_chapter_ledger.proofs.WholeCalls.{said}
 use Rattle.rb_seats.specs.SeatHelpers.{made_in, submitted_in, discarded_in}
 use Rattle.rb_jobs.specs.declared.job.Job.{Job}
