@@ -7,5 +7,7 @@ mod WorkerTurns
 mod SoundWorlds
 mod ListSteps
 mod WholeTurns
+mod KeptChapters
+mod Refusals
 mod Openings
 mod Runs

@@ -137,9 +137,6 @@ joined-more [] c = append-nil c.entries
 joined-more (d ∷ cs) c = ap (λ l. d.entries ++ l) (joined-more cs c) ∙ sym (append_assoc d.entries (joined cs) c.entries)
 
 module _ (s : KeptRing) (new : ChapterRing) (kept : IsKept (joined s.chapters) s.ring.chapter) (out : Chapter) (h : HandsOut s.ring new out) where
-  pub out-kept : IsKept (joined (s.chapters ++ out ∷ [])) new.chapter
-  out-kept = subst (λ l. IsKept l new.chapter) (sym (joined-more s.chapters out)) ((calls-keep (joined s.chapters) s.ring new kept).hands_out out h)
-
   pub out-same : world_ring (record s { ring = new; chapters = s.chapters ++ out ∷ [] }) ≡ world_ring s
   out-same = ap (λ (v : Ring). record { ring = v; taken = s.taken })
       (ap (λ l. whole_ring l new) (joined-more s.chapters out) ∙ (((calls-alike (joined s.chapters) s.ring new kept.continues).hands_out out).0 h).1)

@@ -10,8 +10,6 @@ use Rattle.rb_interp.specs.declared.step.Phase.TheVariants.{Ready}
 use Rattle.rb_interleavings.specs.OpeningWorld.{BeginsVerified}
 use Rattle.rb_world.specs.declared.opening.RingSetup.{RingSetup}
 use Rattle.rb_world.specs.declared.opening.WorkerSetup.{WorkerSetup}
-use Rattle.rb_world.specs.declared.world_fault.WorldOpenFault.{WorldOpenFault}
-use Rattle.rb_world.specs.declared.world_fault.WorldOpenFault.TheVariants as fault
 use Rattle.rb_world.specs.declared.world_record.WorldRecord.{WorldRecord}
 use Rattle.rb_world.specs.WorldValue.{KeptRing, WorldValue, worker_of}
 
@@ -43,17 +41,6 @@ pub record MayOpen (rings : List RingSetup) (workers : List WorkerSetup) : Type 
   pub ring_count : HaveRings (length rings) workers
   pub worker_count : IsWorkerCount (length workers)
   pub rooms : HaveRooms rings
-
--- why it is not: the first of these that applies; want of memory is told only where the world may be opened
-abbrev pub IsOpenRefusal : List RingSetup → List WorkerSetup → WorldOpenFault → Type 0
-IsOpenRefusal rings workers fault.Ring = ¬ AreRings rings
-IsOpenRefusal rings workers fault.ContextLength = AreRings rings × ¬ HaveContexts workers
-IsOpenRefusal rings workers fault.Rings = AreRings rings × HaveContexts workers × ¬ HaveRings (length rings) workers
-IsOpenRefusal rings workers fault.Workers =
-    AreRings rings × HaveContexts workers × HaveRings (length rings) workers × ¬ IsWorkerCount (length workers)
-IsOpenRefusal rings workers fault.Chapter =
-    AreRings rings × HaveContexts workers × HaveRings (length rings) workers × IsWorkerCount (length workers) × ¬ HaveRooms rings
-IsOpenRefusal rings workers fault.Memory = MayOpen rings workers
 
 -- a ring for so many workers, with nothing in it, in its first chapter
 abbrev pub opened_ring : ℕ → RingSetup → KeptRing

@@ -1,12 +1,10 @@
 -- Runs of a world (own).
-use Rattle.std.specs.Prelude.{ℕ, All, List, [], ◌∷◌, Option, Some, None}
+use Rattle.std.specs.Prelude.{ℕ, List, [], ◌∷◌, Option, Some, None}
 use Rattle.std.specs.List.{AllZip}
 use Rattle.rb_interleavings.specs.declared.actor.Actor.{Actor}
 use Rattle.rb_interleavings.specs.Worlds.{WorkerStatus, Running, Finished, WorkerState}
 use Rattle.rb_interleavings.specs.Turns.{TurnEvent, WorldRun}
 use Rattle.rb_world.specs.declared.turn_done.TurnDone.{TurnDone}
-use Rattle.rb_world.specs.declared.world_fault.WorldFault.{WorldFault}
-use Rattle.rb_world.specs.declared.world_fault.WorldFault.TheVariants.{UnknownActor, Memory}
 use Rattle.rb_world.specs.WorldValue.{WorldValue, world_of, IsThere}
 use Rattle.rb_world.specs.TurnsDone.{TellsEvent}
 
@@ -15,11 +13,6 @@ abbrev pub IsFirstUnknown : WorldValue → List Actor → ℕ → Type 0
 IsFirstUnknown v [] place = ⊥
 IsFirstUnknown v (actor ∷ actors) ℕ.zero = ¬ IsThere v actor
 IsFirstUnknown v (actor ∷ actors) (ℕ.suc place) = IsThere v actor × IsFirstUnknown v actors place
-
--- why a list of actors was not run; want of memory is told only where all of them are there
-abbrev pub IsRefusedRun : WorldValue → List Actor → WorldFault → Type 0
-IsRefusedRun v actors (UnknownActor place) = IsFirstUnknown v actors place
-IsRefusedRun v actors Memory = All (IsThere v) actors
 
 -- the turns of these actors, one after the other, are a run of the world, and these answers tell what happened in each
 abbrev pub IsRunOf : List Actor → WorldValue → List TurnDone → WorldValue → Type 0

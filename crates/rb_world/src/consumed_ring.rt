@@ -23,9 +23,8 @@ impl Model for ConsumedRing {
     ghost use Rattle.rb_history.specs.RingModel.{contents_code};
     ghost use Rattle.rb_history.specs.contracts.entries.Entry as entry;
     ghost use Rattle.rb_history.specs.contracts.tally.Tally as tally_row;
-    ghost use Rattle.rb_chapter.specs.Chapters.{joined};
-    ghost use Rattle.rb_chapter.specs.WholeHistory.{IsKept};
     ghost use Rattle.rb_world.specs.WorldValue.{KeptRing};
+    ghost use Rattle.rb_world.specs.inner.KeptChapters.{HasChapters};
 
     ghost Value = { KeptRing };
 
@@ -33,14 +32,14 @@ impl Model for ConsumedRing {
 
     ghost view = { λ s. record { ring = s.ring; chapters = s.chapters.items; taken = s.taken.items } };
 
-    ghost invariant = { λ s. IsKept (joined s.chapters.items) s.ring.chapter };
+    ghost invariant = { λ s. HasChapters (record { ring = s.ring; chapters = s.chapters.items; taken = s.taken.items }) };
 }
 
 impl ConsumedRing {
     ghost use Rattle.std.specs.Prelude.{◌≡◌, ◌<◌, ℕ};
     ghost use Rattle.rb_history.specs.Calls.{HoldsReservation};
     ghost use Rattle.rb_chapter.specs.Chapters.{joined};
-    ghost use Rattle.rb_chapter.specs.WholeHistory.{IsKept};
+    ghost use Rattle.rb_chapter.specs.WholeHistory.{Binds, IsKept};
     ghost use Rattle.rb_interleavings.specs.CallsInWorld.{WorkerSubmits, WorkerDiscards};
     ghost use Rattle.rb_interp.specs.declared.step.Phase.TheVariants as phase;
     ghost use Rattle.rb_semantics.specs.declared.pending_call.PendingCall.TheVariants as asked;
@@ -49,8 +48,9 @@ impl ConsumedRing {
     ghost use Rattle.rb_world.specs.TurnsDone.{chapters_of};
     ghost use Rattle.rb_world.specs.WorldValue.{world_ring};
 
-    // What every ring is: its chapter goes on where those that were handed out end.
+    // What every ring is: its chapter goes on where those that were handed out end, and they bind.
     pub(crate) fn facts(&self)
+        ensures binds { Binds self.now.chapters self.now.ring.chapter }
         ensures kept { IsKept (joined self.now.chapters) self.now.ring.chapter }
     {
         let _ = &self.ring;

@@ -4,7 +4,8 @@ ghost use Rattle.std.specs.Prelude.{◌≡◌, ◌↔◌, IsTrue, OnOk, IfOk, If
 ghost use Rattle.std.specs.List.{AllZip};
 ghost use Rattle.rb_history.specs.RingModel.{IsWorkerCount};
 ghost use Rattle.rb_chapter.specs.Chapters.{IsChapterRoom};
-ghost use Rattle.rb_world.specs.OpenedWorlds.{IsRingSetup, AreRings, HaveRooms, HaveContexts, HaveRings, MayOpen, IsOpenRefusal, IsStarted, opened_ring};
+ghost use Rattle.rb_world.specs.inner.Refusals.{IsOpenRefusal};
+ghost use Rattle.rb_world.specs.OpenedWorlds.{IsRingSetup, AreRings, HaveRooms, HaveContexts, HaveRings, MayOpen, IsStarted, opened_ring};
 
 use crate::consumed_ring::ConsumedRing;
 use crate::world_fault::WorldOpenFault;

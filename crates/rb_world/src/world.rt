@@ -44,21 +44,23 @@ impl<'p> Model for World<'p> {
 }
 
 impl<'p> World<'p> {
-    ghost use Rattle.std.specs.Prelude.{◌≡◌, ◌<◌, ◌↔◌, IsTrue, OnOk, IfOk, IfErr, length};
+    ghost use Rattle.std.specs.Prelude.{◌≡◌, ◌<◌, ◌↔◌, IsTrue, IsErrOf, OnOk, IfOk, length};
+    ghost use Rattle.rb_history.specs.RingModel.{IsWorkerCount};
     ghost use Rattle.rb_interleavings.specs.declared.actor.Actor.TheVariants.{Worker, Consumer, Keeper};
     ghost use Rattle.rb_interleavings.specs.EveryInterleaving.{IsReachedWorld};
     ghost use Rattle.rb_interleavings.specs.OpeningWorld.{IsOpeningWorld};
-    ghost use Rattle.rb_world.specs.OpenedWorlds.{IsOpenedWorld, IsOpenRefusal, MayOpen};
+    ghost use Rattle.rb_world.specs.OpenedWorlds.{AreRings, HaveContexts, HaveRings, HaveRooms, IsOpenedWorld, MayOpen};
     ghost use Rattle.rb_world.specs.WorldRuns.{next_unit, result_of};
     ghost use Rattle.rb_world.specs.TurnsDone.{IsTurnOf, TurnsChaptersOf, chapters_of};
     ghost use Rattle.rb_chapter.specs.Chapters.{joined};
     ghost use Rattle.rb_chapter.specs.ChapterRing.{whole_ring};
-    ghost use Rattle.rb_chapter.specs.WholeHistory.{IsKept};
+    ghost use Rattle.rb_chapter.specs.WholeHistory.{Binds, IsBound, IsKept};
     ghost use Rattle.rb_world.specs.WorldValue.{IsThere, ring_at, world_of};
 
     /// A world with these rings, of which nothing was taken, and these workers, each at the first instruction of its program.
     ///
-    /// A refusal is the first that applies; `Memory` is told only where no other applies.
+    /// A refusal is the first that applies, in the order of `WorldOpenFault`; `Memory` is told only where no other applies. Each but `Memory`
+    /// is told exactly where it is the first that applies.
     pub fn new(
         alloc: Global,
         rings: &[RingSetup],
@@ -66,10 +68,17 @@ impl<'p> World<'p> {
     ) -> Result<World<'p>, WorldOpenFault>
         ensures opened { IfOk result (IsOpenedWorld rings.now workers.now) }
         ensures opening { IfOk result (λ w. IsOpeningWorld (world_of w)) }
+        ensures ring { IsErrOf result WorldOpenFault.Ring ↔ ¬ AreRings rings.now }
+        ensures context_length { IsErrOf result WorldOpenFault.ContextLength ↔ (AreRings rings.now × ¬ HaveContexts workers.now) }
+        ensures ring_count { IsErrOf result WorldOpenFault.Rings ↔ (AreRings rings.now × HaveContexts workers.now × ¬ HaveRings (length rings.now) workers.now) }
+        ensures worker_count { IsErrOf result WorldOpenFault.Workers ↔ (AreRings rings.now × HaveContexts workers.now × HaveRings (length rings.now) workers.now × ¬ IsWorkerCount (length workers.now)) }
+        ensures chapter { IsErrOf result WorldOpenFault.Chapter ↔ (AreRings rings.now × HaveContexts workers.now × HaveRings (length rings.now) workers.now × IsWorkerCount (length workers.now) × ¬ HaveRooms rings.now) }
+        ensures memory { IsErrOf result WorldOpenFault.Memory → MayOpen rings.now workers.now }
         ensures allowed { OnOk result (MayOpen rings.now workers.now) }
-        ensures refused { IfErr result (IsOpenRefusal rings.now workers.now) }
     {
-        check_setups(rings, workers)?;
+        if let Err(fault) = check_setups(rings, workers) {
+            return Err(fault);
+        }
         let Ok(opened) = open_rings(alloc, rings, workers.len() as u32) else {
             return Err(WorldOpenFault::Memory);
         };
@@ -121,11 +130,15 @@ impl<'p> World<'p> {
         &self.rings[r as usize].ring
     }
 
-    /// The chapters that a ring handed out, oldest first. Its history is theirs, and then that of the chapter that it keeps.
+    /// The chapters that a ring handed out, oldest first. With the one that the ring keeps behind them they bind: they are numbered 0
+    /// upward, the first opens the empty ring, each meets the next, and their entries together are the ring's whole history.
     pub fn chapters(&self, r: u32) -> &[Chapter]
         requires ring { r < length self.now.rings }
-        ensures { result.now ≡ (ring_at self.now r).chapters }
+        ensures chapters { result.now ≡ (ring_at self.now r).chapters }
+        ensures binds { Binds result.now (ring_at self.now r).ring.chapter }
+        ensures bound { IsBound result.now (ring_at self.now r).ring.chapter ((world_of self.now).rings r).ring.history }
     {
+        self.rings[r as usize].facts();
         self.rings[r as usize].chapters.as_slice()
     }
 

@@ -8,6 +8,7 @@ use Rattle.rb_world.specs.TurnsDone.{chapters_of}
 use Rattle.rb_world.specs.inner.WorkerTurn.{GoesOnWith}
 use Rattle.rb_world.proofs.MachineAnswers.{resumed, held-same}
 use Rattle.rb_world.proofs.WholeCalls.{discard-steps, no-stray, same-chapters}
+use Rattle.rb_world.proofs.KeptChapters.{kept-of, same-has}
 use Rattle.rb_chapter.proofs.Keeping.{calls-keep}
 use Rattle.rb_chapter.specs.Chapters.{joined}
 use Rattle.rb_world.proofs.consumed_ring.ConsumedRing.answer_discard.Goals as goal
@@ -15,7 +16,7 @@ use Rattle.rb_world.proofs.consumed_ring.ConsumedRing.answer_discard.Goals as go
 pub unreachable-requires : goal.unreachable-requires
 unreachable-requires c =
     let s : KeptRing = record { ring = c.self.inside.ring; chapters = c.self.inside.chapters.items; taken = c.self.inside.taken.items } in
-    no-stray s c.discard.new.self c.self.invariant c.args.owned.reservation c.in-Err.ensures.stray
+    no-stray s c.discard.new.self (kept-of s c.self.invariant) c.args.owned.reservation c.in-Err.ensures.stray
     (subst (λ (v : KeptRing). ring.HoldsReservation (world_ring v).ring c.args.owned.reservation) (sym c.self.view_is) c.requires.busy)
 
 pub returns-clause-answered : goal.returns-clause-answered
@@ -25,12 +26,14 @@ returns-clause-answered c =
     let new = c.answer.new.self in
     let on : GoesOnWith asked.GiveBack Taken (held_by m) m new = resumed m new (held_by m) (resume asked.GiveBack Taken m.state) (c.answer.ensures.goes_on asked.GiveBack c.requires.waits) (λ no. absurd (cc)) c.answer.ensures.program (held-same m new c.answer.ensures.records) in (
       subst (λ (v : KeptRing). RingSteps (λ u u'. ring.Discards u u' c.args.owned.reservation) [] (world_ring v) (world_ring (record s { ring = c.discard.new.self }))) c.self.view_is
-          (discard-steps s c.discard.new.self c.self.invariant c.args.owned.reservation c.facts.ensures.stands c.in-Ok.ensures.discarded),
+          (discard-steps s c.discard.new.self (kept-of s c.self.invariant) c.args.owned.reservation c.facts.ensures.stands c.in-Ok.ensures.discarded),
       on,
     )
 
 pub invariant_of-self : goal.invariant_of-self
-invariant_of-self c = (calls-keep (joined c.self.inside.chapters.items) c.self.inside.ring c.discard.new.self c.self.invariant).discards c.args.owned.reservation c.in-Ok.ensures.discarded
+invariant_of-self c =
+    let s : KeptRing = record { ring = c.self.inside.ring; chapters = c.self.inside.chapters.items; taken = c.self.inside.taken.items } in
+    same-has s c.discard.new.self s.taken c.self.invariant c.discard.ensures.same_chapter ((calls-keep (joined s.chapters) s.ring c.discard.new.self (kept-of s c.self.invariant)).discards c.args.owned.reservation c.in-Ok.ensures.discarded)
 
 pub returns-clause-chapters : goal.returns-clause-chapters
 returns-clause-chapters c =

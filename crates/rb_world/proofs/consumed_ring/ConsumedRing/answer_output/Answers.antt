@@ -8,6 +8,7 @@ use Rattle.rb_chapter.specs.ChapterRing.{whole_ring}
 use Rattle.rb_world.specs.WorldValue.{KeptRing, world_ring}
 use Rattle.rb_world.specs.TurnsDone.{chapters_of}
 use Rattle.rb_world.specs.inner.RingAnswers.{IsOutput}
+use Rattle.rb_world.proofs.KeptChapters.{kept-of, same-has}
 use Rattle.rb_world.proofs.WholeCalls.{same-chapters}
 use Rattle.rb_world.proofs.MachineAnswers.{output-answered}
 use Rattle.rb_world.proofs.consumed_ring.ConsumedRing.answer_output.Goals as goal
@@ -28,13 +29,15 @@ returns-clause-answered c =
     let v = whole_ring (joined s.chapters) s.ring in
     let v' = whole_ring (joined s.chapters) c.output-code.new.ring in
     let code = c.output-code.result in
-    let given = (c.output-code.ensures.given (joined s.chapters) c.self.invariant).1 in
+    let given = (c.output-code.ensures.given (joined s.chapters) (kept-of _ c.self.invariant)).1 in
     let back : to_z w64 (of_z w64 code) ≡ code = code-back given.0 code given.1 in
     output-answered c.args.w (world_ring c.args.self.now) v v' s.taken (ap world_ring c.self.view_is) c.args.machine.now c.answer.new.self c.answer.ensures.program c.args.flags c.output.result.now (to_z w64 (of_z w64 code))
     (subst (λ n. IsOutput v v' c.args.w c.output.result.now c.args.flags n) (sym back) given) c.output.ensures (c.answer.ensures.goes_on asked.Output c.requires.waits) c.answer.ensures.records
 
 pub invariant_of-self : goal.invariant_of-self
-invariant_of-self c = (c.output-code.ensures.given (joined c.self.inside.chapters.items) c.self.invariant).0
+invariant_of-self c =
+    let s : KeptRing = record { ring = c.self.inside.ring; chapters = c.self.inside.chapters.items; taken = c.self.inside.taken.items } in
+    same-has s c.output-code.new.ring s.taken c.self.invariant c.output-code.ensures.same_chapter (c.output-code.ensures.given (joined s.chapters) (kept-of s c.self.invariant)).0
 
 pub returns-clause-chapters : goal.returns-clause-chapters
 returns-clause-chapters c =

@@ -9,6 +9,7 @@ use Rattle.rb_chapter.specs.ChapterRing.{whole_ring}
 use Rattle.rb_world.specs.WorldValue.{KeptRing, world_ring}
 use Rattle.rb_world.specs.TurnsDone.{chapters_of}
 use Rattle.rb_world.specs.inner.RingAnswers.{IsReserved}
+use Rattle.rb_world.proofs.KeptChapters.{kept-of, same-has}
 use Rattle.rb_world.proofs.WholeCalls.{same-chapters}
 use Rattle.rb_world.proofs.HeldByWorkers.{own-granted}
 use Rattle.rb_world.proofs.MachineAnswers.{reserve-granted, reserve-refused, given-parts, no-record}
@@ -21,14 +22,14 @@ returns-clause-answered c = elim c.match-reserve.branch [
       let x = w.in-Some.reservation in
       let v = whole_ring (joined c.self.inside.chapters.items) c.self.inside.ring in
       let v' = whole_ring (joined c.self.inside.chapters.items) c.reserve.new.ring in
-      let h : IsReserved v v' c.args.w c.args.len c.args.flags (Some x) = subst (λ o. IsReserved v v' c.args.w c.args.len c.args.flags o) w.in-Some.is (c.reserve.ensures.reserved (joined c.self.inside.chapters.items) c.self.invariant).1 in
+      let h : IsReserved v v' c.args.w c.args.len c.args.flags (Some x) = subst (λ o. IsReserved v v' c.args.w c.args.len c.args.flags o) w.in-Some.is (c.reserve.ensures.reserved (joined c.self.inside.chapters.items) (kept-of _ c.self.invariant)).1 in
       let none = no-record c.args.machine.now c.args.len (record { ring = c.args.r; reservation = x }) c.requires.waits c.facts.ensures c.record_facts.ensures (given-parts v v' c.args.w c.args.len c.args.flags x h).1 in
       subst (λ (m : MachineState WorldRecord). AnswersReserve c.args.w c.args.r c.args.len c.args.flags c.args.machine.now (world_ring c.args.self.now) m (record { ring = v'; taken = c.self.inside.taken.items })) (sym w.machine-is)
       (reserve-granted c.args.w (world_ring c.args.self.now) v v' c.self.inside.taken.items (ap world_ring c.self.view_is) c.args.machine.now w.answer.new.self w.answer.ensures.program c.args.r c.args.len c.args.flags x h none (w.answer.ensures.goes_on (asked.Reserve c.args.len) c.requires.waits) w.answer.ensures.records)
   | in-None w ↦
       let v = whole_ring (joined c.self.inside.chapters.items) c.self.inside.ring in
       let v' = whole_ring (joined c.self.inside.chapters.items) c.reserve.new.ring in
-      let h : IsReserved v v' c.args.w c.args.len c.args.flags None = subst (λ o. IsReserved v v' c.args.w c.args.len c.args.flags o) w.in-None.is (c.reserve.ensures.reserved (joined c.self.inside.chapters.items) c.self.invariant).1 in
+      let h : IsReserved v v' c.args.w c.args.len c.args.flags None = subst (λ o. IsReserved v v' c.args.w c.args.len c.args.flags o) w.in-None.is (c.reserve.ensures.reserved (joined c.self.inside.chapters.items) (kept-of _ c.self.invariant)).1 in
       subst (λ (m : MachineState WorldRecord). AnswersReserve c.args.w c.args.r c.args.len c.args.flags c.args.machine.now (world_ring c.args.self.now) m (record { ring = v'; taken = c.self.inside.taken.items })) (sym w.machine-is)
       (reserve-refused c.args.w (world_ring c.args.self.now) v v' c.self.inside.taken.items (ap world_ring c.self.view_is) c.args.machine.now w.answer-in-None.new.self w.answer-in-None.ensures.program c.args.r c.args.len c.args.flags h (w.answer-in-None.ensures.goes_on (asked.Reserve c.args.len) c.requires.waits) w.answer-in-None.ensures.records)
 ]
@@ -39,7 +40,7 @@ returns-clause-own c rings low own = elim c.match-reserve.branch [
       let x = w.in-Some.reservation in
       let v = whole_ring (joined c.self.inside.chapters.items) c.self.inside.ring in
       let v' = whole_ring (joined c.self.inside.chapters.items) c.reserve.new.ring in
-      let h : IsReserved v v' c.args.w c.args.len c.args.flags (Some x) = subst (λ o. IsReserved v v' c.args.w c.args.len c.args.flags o) w.in-Some.is (c.reserve.ensures.reserved (joined c.self.inside.chapters.items) c.self.invariant).1 in
+      let h : IsReserved v v' c.args.w c.args.len c.args.flags (Some x) = subst (λ o. IsReserved v v' c.args.w c.args.len c.args.flags o) w.in-Some.is (c.reserve.ensures.reserved (joined c.self.inside.chapters.items) (kept-of _ c.self.invariant)).1 in
       let parts = given-parts v v' c.args.w c.args.len c.args.flags x h in
       let none = no-record c.args.machine.now c.args.len (record { ring = c.args.r; reservation = x }) c.requires.waits c.facts.ensures c.record_facts.ensures parts.1 in
       subst (λ (m : MachineState WorldRecord). AreOwn c.args.w rings m.records) (sym w.machine-is) (subst (AreOwn c.args.w rings) (sym w.answer.ensures.records)
@@ -48,9 +49,18 @@ returns-clause-own c rings low own = elim c.match-reserve.branch [
 ]
 
 pub invariant_of-self : goal.invariant_of-self
-invariant_of-self c = (c.reserve.ensures.reserved (joined c.self.inside.chapters.items) c.self.invariant).0
+invariant_of-self c =
+    let s : KeptRing = record { ring = c.self.inside.ring; chapters = c.self.inside.chapters.items; taken = c.self.inside.taken.items } in
+    same-has s c.reserve.new.ring s.taken c.self.invariant c.reserve.ensures.same_chapter (c.reserve.ensures.reserved (joined s.chapters) (kept-of s c.self.invariant)).0
 
 pub returns-clause-chapters : goal.returns-clause-chapters
 returns-clause-chapters c =
     let s : KeptRing = record { ring = c.self.inside.ring; chapters = c.self.inside.chapters.items; taken = c.self.inside.taken.items } in
     same-chapters s c.reserve.new.ring s.taken c.reserve.ensures.same_chapter ∙ ap chapters_of c.self.view_is
+
+pub answer-requires : goal.answer-requires
+answer-requires c =
+    let x = c.in-Some.reservation in
+    let v = whole_ring (joined c.self.inside.chapters.items) c.self.inside.ring in
+    let v' = whole_ring (joined c.self.inside.chapters.items) c.reserve.new.ring in
+    (asked.Reserve c.args.len, c.requires.waits, (given-parts v v' c.args.w c.args.len c.args.flags x (c.in-Some.ensures.reserved (joined c.self.inside.chapters.items) (kept-of _ c.self.invariant)).1).1)

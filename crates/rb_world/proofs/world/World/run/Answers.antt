@@ -2,12 +2,14 @@ use Rattle.std.proofs.Common.{◌+◌, take, sym, subst, ◌∙◌, arith}
 use Rattle.std.proofs.lemmas.List.Elements.{All-get_or}
 use Rattle.rb_world.specs.WorldValue.{IsThere}
 use Rattle.rb_world.specs.WorldRuns.{IsRunOf}
+use Rattle.rb_world.specs.declared.world_fault.WorldFault.TheVariants.{Memory}
+use Rattle.rb_world.proofs.Refusals.{none-unknown, unknown-exactly}
 use Rattle.rb_world.proofs.Runs.{run-more, there-still}
 use Rattle.rb_world.proofs.world.World.run.Goals as goal
 
 pub turn-done-requires : goal.turn-done-requires
 turn-done-requires c = record {
-  there = there-still c.args.self.now c.loop-actor.self _ c.loop-actor.invariant.workers c.loop-actor.invariant.rings (All-get_or (IsThere c.args.self.now) c.args.actors.now c.loop-actor.actor-index _ c.loop-actor-test.true c.in_ok-check_actors.ensures.known);
+  there = there-still c.args.self.now c.loop-actor.self _ c.loop-actor.invariant.workers c.loop-actor.invariant.rings (All-get_or (IsThere c.args.self.now) c.args.actors.now c.loop-actor.actor-index _ c.loop-actor-test.true c.in_default.ensures.known);
 }
 
 pub loop-actor-preserved : goal.loop-actor-preserved
@@ -19,3 +21,12 @@ loop-actor-preserved c = record {
   workers = c.turn-done.ensures.workers ∙ c.loop-actor.invariant.workers;
   rings = c.turn-done.ensures.rings ∙ c.loop-actor.invariant.rings;
 }
+
+pub returns-in-Err-clause-unknown : goal.returns-in-Err-clause-unknown
+returns-in-Err-clause-unknown c = unknown-exactly c.args.self.now c.args.actors.now c.in-Err.fault c.in-Err.ensures.refused
+
+pub returns-clause-unknown : goal.returns-clause-unknown
+returns-clause-unknown c = λ place. ((λ is. absurd (cc)), λ first. absurd (none-unknown c.args.self.now c.args.actors.now place c.in_default.ensures.known first))
+
+pub returns-in_default-with_capacity-clause-unknown : goal.returns-in_default-with_capacity-clause-unknown
+returns-in_default-with_capacity-clause-unknown c = unknown-exactly c.args.self.now c.args.actors.now Memory c.in_default.ensures.known

@@ -1,0 +1,9 @@
+use Rattle.std.proofs.Common.{subst}
+use Rattle.rb_chapter.specs.Chapters.{joined}
+use Rattle.rb_chapter.specs.WholeHistory.{IsKept}
+use Rattle.rb_world.specs.WorldValue.{KeptRing}
+use Rattle.rb_world.proofs.KeptChapters.{kept-of}
+use Rattle.rb_world.proofs.consumed_ring.ConsumedRing.facts.Goals as goal
+
+pub returns-clause-kept : goal.returns-clause-kept
+returns-clause-kept c = subst (λ (s : KeptRing). IsKept (joined s.chapters) s.ring.chapter) c.self.view_is (kept-of _ c.self.invariant)

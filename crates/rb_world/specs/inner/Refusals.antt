@@ -1,0 +1,29 @@
+-- Why a world is not opened or not run: the first refusal that applies.
+use Rattle.std.specs.Prelude.{ℕ, List, All, length}
+use Rattle.rb_history.specs.RingModel.{IsWorkerCount}
+use Rattle.rb_interleavings.specs.declared.actor.Actor.{Actor}
+use Rattle.rb_world.specs.declared.opening.RingSetup.{RingSetup}
+use Rattle.rb_world.specs.declared.opening.WorkerSetup.{WorkerSetup}
+use Rattle.rb_world.specs.declared.world_fault.WorldFault.{WorldFault}
+use Rattle.rb_world.specs.declared.world_fault.WorldFault.TheVariants.{UnknownActor, Memory}
+use Rattle.rb_world.specs.declared.world_fault.WorldOpenFault.{WorldOpenFault}
+use Rattle.rb_world.specs.declared.world_fault.WorldOpenFault.TheVariants as fault
+use Rattle.rb_world.specs.OpenedWorlds.{AreRings, HaveContexts, HaveRings, HaveRooms, MayOpen}
+use Rattle.rb_world.specs.WorldRuns.{IsFirstUnknown}
+use Rattle.rb_world.specs.WorldValue.{WorldValue, IsThere}
+
+-- want of memory is told only where the world may be opened
+abbrev pub IsOpenRefusal : List RingSetup → List WorkerSetup → WorldOpenFault → Type 0
+IsOpenRefusal rings workers fault.Ring = ¬ AreRings rings
+IsOpenRefusal rings workers fault.ContextLength = AreRings rings × ¬ HaveContexts workers
+IsOpenRefusal rings workers fault.Rings = AreRings rings × HaveContexts workers × ¬ HaveRings (length rings) workers
+IsOpenRefusal rings workers fault.Workers =
+    AreRings rings × HaveContexts workers × HaveRings (length rings) workers × ¬ IsWorkerCount (length workers)
+IsOpenRefusal rings workers fault.Chapter =
+    AreRings rings × HaveContexts workers × HaveRings (length rings) workers × IsWorkerCount (length workers) × ¬ HaveRooms rings
+IsOpenRefusal rings workers fault.Memory = MayOpen rings workers
+
+-- and only where all actors are there
+abbrev pub IsRefusedRun : WorldValue → List Actor → WorldFault → Type 0
+IsRefusedRun v actors (UnknownActor place) = IsFirstUnknown v actors place
+IsRefusedRun v actors Memory = All (IsThere v) actors
