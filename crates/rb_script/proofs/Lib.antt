@@ -2,7 +2,8 @@ mod Keywords
 mod ScriptWords
 mod ScriptLines
 mod ScriptLineEnds
-mod ScriptParts
-mod WorkerPrograms
+pub mod ScriptParts
+pub mod WorkerPrograms
 mod TurnLines
 mod WorldEnds
+mod RunnableScripts

@@ -14,7 +14,7 @@ use Rattle.rb_script.proofs.Keywords.{says-one}
 
 -- ---- what is said on both sides of a place
 
-rings-append : (a b : List Statement) → rings_of (a ++ b) ≡ rings_of a ++ rings_of b
+pub rings-append : (a b : List Statement) → rings_of (a ++ b) ≡ rings_of a ++ rings_of b
 rings-append [] b = refl
 rings-append (RingOf setup ∷ a) b = ap (λ l. setup ∷ l) (rings-append a b)
 rings-append (WorkerOf program context ∷ a) b = rings-append a b
@@ -23,7 +23,7 @@ rings-append (TurnsOf actor count ∷ a) b = rings-append a b
 next-number : (n : ℕ) (a : List Statement) (x : Statement) → n + 1 + length a ≡ n + length (x ∷ a)
 next-number n a x = omega arith
 
-workers-append : (n : ℕ) (a b : List Statement) → workers_of n (a ++ b) ≡ workers_of n a ++ workers_of (n + length a) b
+pub workers-append : (n : ℕ) (a b : List Statement) → workers_of n (a ++ b) ≡ workers_of n a ++ workers_of (n + length a) b
 workers-append n [] b = let same : n ≡ n + 0 = omega arith in ap (λ k. workers_of k b) same
 workers-append n (RingOf setup ∷ a) b = workers-append (n + 1) a b ∙ ap (λ k. workers_of (n + 1) a ++ workers_of k b) (next-number n a (RingOf setup))
 workers-append n (WorkerOf program context ∷ a) b =
@@ -73,7 +73,7 @@ zip-front [] b said h = ([], said, refl, tt, h)
 zip-front (x ∷ a) b [] h = absurd h
 zip-front (x ∷ a) b (y ∷ said) h = let (front, back, e, p, q) = zip-front a b said h.1 in (y ∷ front, back, ap (λ l. y ∷ l) e, (h.0, p), q)
 
-zip-one : (lines : List (List ℕ)) (a b : List Statement) → AllZip Says lines a → AllZip Says lines b → a ≡ b
+pub zip-one : (lines : List (List ℕ)) (a b : List Statement) → AllZip Says lines a → AllZip Says lines b → a ≡ b
 zip-one [] [] [] h k = refl
 zip-one [] [] (y ∷ b) h k = absurd k
 zip-one [] (x ∷ a) b h k = absurd h
@@ -106,7 +106,7 @@ script-no-fault lines number script (inr h) = h.2 script
 no-later : (lines : List (List ℕ)) (m n : ℕ) → m < n → (BeginsScript (take m lines) → ⊥) → BeginsScript (take (n - 1) lines) → ⊥
 no-later lines m n low none h = none (subst BeginsScript (take-take m (n - 1) lines (omega arith)) (begins-take m (take (n - 1) lines) h))
 
-one-fault : (lines : List (List ℕ)) (m n : ℕ) → IsFirstFault lines m → IsFirstFault lines n → m ≡ n
+pub one-fault : (lines : List (List ℕ)) (m n : ℕ) → IsFirstFault lines m → IsFirstFault lines n → m ≡ n
 one-fault lines m n (inl a) (inl b) = elim (cases_order m n) [
   | inl e ↦ e
   | inr (inl below) ↦ absurd (no-later lines m n below a.3 b.2)

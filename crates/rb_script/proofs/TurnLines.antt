@@ -142,6 +142,10 @@ text-push old new (a ∷ actors) [] (e ∷ events) actor done event told run = a
 text-push old new (a ∷ actors) (d ∷ dones) (e ∷ events) actor done event told run =
     ap (λ l. turn_text a d e ++ l) (text-push run.0 new actors dones events actor done event told.1 run.2) ∙ sym (append_assoc (turn_text a d e) (turns_text actors dones events) (turn_text actor done event))
 
+-- a line that was written apart, and then joined to the text
+pub line-joined : (text cleared line shown joined : List ℕ) → cleared ≡ [] → line ≡ cleared ++ shown → joined ≡ text ++ line → joined ≡ text ++ shown
+line-joined text cleared line shown joined none wrote more = more ∙ ap (λ l. text ++ l) (wrote ∙ ap (λ l. l ++ shown) none)
+
 pub writes-none : (v : WorldValue) (text : List ℕ) → WritesRun [] v v text text
 writes-none v text = record { dones = []; events = []; told = tt; run = refl; text_is = sym (append-nil text) }
 

@@ -73,7 +73,7 @@ module _ (rings : ℕ) where
       let tails : f ++ v ∷ b ≡ g ++ w ∷ c = cc in
       same-worker v w b c f g p' q' tails h' k' a r
 
-  one-refused : (workers : List WorkerText) (l m : ℕ) → IsFirstRefused rings workers l → IsFirstRefused rings workers m → l ≡ m
+  pub one-refused : (workers : List WorkerText) (l m : ℕ) → IsFirstRefused rings workers l → IsFirstRefused rings workers m → l ≡ m
   one-refused workers l m a b =
       let same : a.worker ≡ b.worker = same-worker a.worker b.worker a.behind b.behind a.front b.front a.accepted.0 b.accepted.0 (sym a.parted ∙ b.parted) a.accepted.1 b.accepted.1 a.refused b.refused in
       sym a.line_is ∙ (ap (λ (w : WorkerText). w.line) same ∙ b.line_is)

@@ -14,7 +14,7 @@ use Rattle.rb_world.specs.declared.world_record.WorldRecord.{WorldRecord}
 use Rattle.rb_script.specs.OutputLines.{ring_line}
 use Rattle.rb_script.specs.Simulation.{ring_text}
 
-machines-long : (setups : List WorkerSetup) (machines : List (MachineState WorldRecord)) → AllZip IsStarted setups machines → length setups ≡ length machines
+pub machines-long : (setups : List WorkerSetup) (machines : List (MachineState WorldRecord)) → AllZip IsStarted setups machines → length setups ≡ length machines
 machines-long [] [] h = refl
 machines-long [] (y ∷ machines) h = absurd h
 machines-long (x ∷ setups) [] h = absurd h

@@ -1,9 +1,10 @@
 -- The script that a text stands for, the limits of a script, and the first line at fault (own).
-use Rattle.std.specs.Prelude.{ℕ, ◌≡◌, ◌≤◌, ◌<◌, ◌+◌, ◌-◌, ◌⊎◌, List, [], ◌∷◌, ◌++◌, length, map, replicate, take}
+use Rattle.std.specs.Prelude.{ℕ, ◌≡◌, ◌≤◌, ◌<◌, ◌+◌, ◌-◌, ◌⊎◌, List, [], ◌∷◌, ◌++◌, length, map, replicate, take, All}
 use Rattle.std.specs.List.{AllZip}
 use Rattle.rb_interleavings.specs.declared.actor.Actor.{Actor}
 use Rattle.rb_interleavings.specs.declared.actor.Actor.TheVariants.{Worker, Consumer, Keeper}
 use Rattle.rb_world.specs.declared.opening.RingSetup.{RingSetup}
+use Rattle.rb_world.specs.OpenedWorlds.{AreRings, HaveRooms}
 use Rattle.rb_script.specs.declared.script.Script.{Script}
 use Rattle.rb_script.specs.declared.script.ScriptWorker.{ScriptWorker}
 use Rattle.rb_script.specs.declared.script_fault.ScriptFault.{ScriptFault}
@@ -20,6 +21,20 @@ pub record IsWithinLimits (s : Script) : Type 0 where
 -- at least one worker
 abbrev pub HasWorker : Script → Type 0
 HasWorker s = 1 ≤ length s.workers.items
+
+-- an actor among so many rings and workers
+abbrev pub IsAmong : (rings workers : ℕ) → Actor → Type 0
+IsAmong rings workers (Worker w) = w < workers
+IsAmong rings workers (Consumer r) = r < rings
+IsAmong rings workers (Keeper r) = r < rings
+
+-- a script that can be run: its rings are lawful, it has 1 to 256 workers, and each turn is one of a worker or a ring that is there
+pub record MayRun (s : Script) : Type 0 where
+  pub limits : IsWithinLimits s
+  pub worker : HasWorker s
+  pub rings : AreRings s.rings.items
+  pub rooms : HaveRooms s.rings.items
+  pub actors : All (IsAmong (length s.rings.items) (length s.workers.items)) s.actors.items
 
 -- ---- what the lines of a script say together
 
@@ -51,12 +66,6 @@ actors_of (WorkerOf program context ∷ said) = actors_of said
 actors_of (TurnsOf actor count ∷ said) = replicate count actor ++ actors_of said
 
 -- ---- where a line may stand
-
--- an actor among so many rings and workers
-abbrev pub IsAmong : (rings workers : ℕ) → Actor → Type 0
-IsAmong rings workers (Worker w) = w < workers
-IsAmong rings workers (Consumer r) = r < rings
-IsAmong rings workers (Keeper r) = r < rings
 
 -- behind lines with so many rings, workers and turns: rings and workers stand before the first turn, and turns behind a worker
 abbrev pub MayStandBehind : (rings workers turns : ℕ) → Statement → Type 0

@@ -1,5 +1,5 @@
 -- What is written of the turns of a world and of its end, and what a script's run is (own).
-use Rattle.std.specs.Prelude.{ℕ, ◌≡◌, List, [], ◌∷◌, ◌++◌, Option, Some, None, length, map}
+use Rattle.std.specs.Prelude.{ℕ, ◌≡◌, List, [], ◌∷◌, ◌++◌, Option, Some, None, length, map, take, ◌⊎◌}
 use Rattle.std.specs.List.{AllZip}
 use Rattle.rb_interleavings.specs.declared.actor.Actor.{Actor}
 use Rattle.rb_interleavings.specs.declared.actor.Actor.TheVariants.{Consumer, Keeper}
@@ -40,6 +40,12 @@ pub record WritesRun (actors : List Actor) (old new : WorldValue) (before after 
   pub told : AllZip TellsEvent dones events
   pub run : WorldRun (world_of old) actors events (world_of new)
   pub text_is : after ≡ before ++ turns_text actors dones events
+
+-- so many of the turns of these actors were made and their lines were added to the text; if one more was made, it has no line there
+pub record BeginsRun (actors : List Actor) (old : WorldValue) (before after : List ℕ) : Type 0 where
+  pub turns : ℕ
+  pub last : WorldValue
+  pub written : WritesRun (take turns actors) old last before after
 
 -- ---- the lines at the end
 
@@ -91,3 +97,20 @@ pub record Simulates (s : Script) (before after ends : List ℕ) : Type 0 where
   pub programs : List Subject
   pub accepted : AllZip (IsProgramOf (length s.rings.items)) (map worker_text s.workers.items) programs
   pub ran : SimulatesWith s programs before after ends
+
+-- the same world was opened, and the first of the script's turns were run in it, whose lines were added to the text
+pub record BeginsSimulationWith (s : Script) (programs : List Subject) (before after : List ℕ) : Type 0 where
+  pub setups : List WorkerSetup
+  pub first : WorldValue
+  pub are : AreSetups s.workers.items programs setups
+  pub opened : IsOpenedWorld s.rings.items setups first
+  pub begun : BeginsRun s.actors.items first before after
+
+pub record BeginsSimulation (s : Script) (before after : List ℕ) : Type 0 where
+  pub programs : List Subject
+  pub accepted : AllZip (IsProgramOf (length s.rings.items)) (map worker_text s.workers.items) programs
+  pub begun : BeginsSimulationWith s programs before after
+
+-- what was added to the text once memory ran out: nothing, or the lines of the first turns
+abbrev pub BreaksOff : Script → (before after : List ℕ) → Type 0
+BreaksOff s before after = (after ≡ before) ⊎ BeginsSimulation s before after

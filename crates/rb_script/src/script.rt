@@ -3,7 +3,7 @@
 ghost use Rattle.std.specs.Prelude.{◌≡◌, ◌==◌, ◌≤◌, ◌<◌, ◌⊎◌, ◌∷◌, ◌↔◌, ℕ, length, position, Err, IsTrue, IfOk, IfErr, OnOk};
 ghost use Rattle.rb_script.specs.ScriptText.{lines_of};
 ghost use Rattle.rb_script.specs.ScriptText.Statement.{RingOf};
-ghost use Rattle.rb_script.specs.Scripts.{HasWorker, IsWithinLimits, IsScript, IsFirstFault, IsFaultOf, StandFor, IsAmong};
+ghost use Rattle.rb_script.specs.Scripts.{HasWorker, IsWithinLimits, MayRun, IsScript, IsFirstFault, IsFaultOf, StandFor, IsAmong};
 ghost use Rattle.rb_script.specs.inner.ScriptRead.{AddsLawful, AddsWorker, AddsTurns, AddsLine, MayFollow, MayAddWorker, MayAddTurns, MayAddLine, IsFaultUnless};
 
 use crate::script_fault::ScriptFault;
@@ -45,6 +45,7 @@ impl<'a> Script<'a> {
     pub fn read(alloc: Global, input: &'a [u8]) -> Result<Script<'a>, ScriptFault>
         ensures limits { IfOk result IsWithinLimits }
         ensures worker { IfOk result HasWorker }
+        ensures runs { IfOk result MayRun }
 
         // The script is what the lines say, and there is one exactly where each line is one of a script.
         ensures script { IfOk result (λ s. StandFor (lines_of input.now) s) }

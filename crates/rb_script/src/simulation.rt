@@ -1,11 +1,12 @@
 //! A script's turns, and what is written of them.
 
-ghost use Rattle.std.specs.Prelude.{◌≡◌, ◌≤◌, ◌⊎◌, ◌++◌, ℕ, length, map, Err, IfOk, IfErr, OnOk};
+ghost use Rattle.std.specs.Prelude.{◌≡◌, ◌≤◌, ◌⊎◌, ◌++◌, ℕ, All, length, map, Err, IfOk, IfErr, OnOk, OnErr};
 ghost use Rattle.rb_world.specs.WorldValue.{IsThere, world_of};
 ghost use Rattle.rb_interleavings.specs.declared.actor.Actor.TheVariants.{Worker, Consumer};
-ghost use Rattle.rb_script.specs.Programs.{IsFirstRefused, IsProgramsFault};
-ghost use Rattle.rb_script.specs.Scripts.{worker_text};
-ghost use Rattle.rb_script.specs.Simulation.{AreSetups, Simulates, SimulatesWith, WritesRun, lines_below, worker_line, ring_end_of, world_text};
+ghost use Rattle.std.specs.List.{AllZip};
+ghost use Rattle.rb_script.specs.Programs.{IsFirstRefused, IsProgramOf, IsProgramsFault};
+ghost use Rattle.rb_script.specs.Scripts.{MayRun, worker_text};
+ghost use Rattle.rb_script.specs.Simulation.{AreSetups, BeginsRun, BeginsSimulationWith, BreaksOff, Simulates, SimulatesWith, WritesRun, lines_below, worker_line, ring_end_of, world_text};
 ghost use Rattle.rb_script.specs.inner.ShownTurns.{consumer_text, keeper_text, last_line, shown_text};
 
 use crate::output_lines::{push_at, push_chapter, push_done, push_ring, push_take};
@@ -14,19 +15,21 @@ use crate::script::{Script, ScriptWorker};
 use crate::script_fault::ScriptFault;
 use rb_history::{CONS_POS, PROD_POS, Taken};
 use rb_verifier::Verified;
-use rb_world::{Actor, TurnDone, WorkerSetup, World};
+use rb_world::{Actor, TurnDone, WorkerSetup, World, WorldOpenFault};
 use std::alloc::{AllocError, Global};
 
 impl<'a> Script<'a> {
     /// Verifies the script's programs, runs its turns, adds a line to the text for each take and each chapter, and answers the lines of the
     /// workers and the rings at the end. A refused program is told by its line, and nothing is run or written then; where memory runs out,
-    /// the lines of the turns before stand.
+    /// the lines of the turns before stand, whole, and nothing else. A script that was read may be run.
     pub fn simulate(&self, alloc: Global, text: &mut Vec<u8>) -> Result<Vec<u8>, ScriptFault>
+        requires may_run { MayRun self.now }
         ensures ran { IfOk result (λ ends. Simulates self.now text.old.items text.new.items ends.items) }
         ensures refused { IfErr result (IsProgramsFault (length self.now.rings.items) (map worker_text self.now.workers.items)) }
         ensures only_refused { (line : ℕ) → IsFirstRefused (length self.now.rings.items) (map worker_text self.now.workers.items) line
             → (result ≡ Err (ScriptFault.Line line)) ⊎ (result ≡ Err ScriptFault.Memory) }
         ensures unwritten { (line : ℕ) → result ≡ Err (ScriptFault.Line line) → text.new.items ≡ text.old.items }
+        ensures begun { OnErr result (BreaksOff self.now text.old.items text.new.items) }
     {
         let programs = match programs_of(alloc, self.workers.as_slice(), self.rings.len()) {
             Ok(programs) => programs,
@@ -45,15 +48,28 @@ impl<'a> Script<'a> {
         programs: &[Verified],
         text: &mut Vec<u8>,
     ) -> Result<Vec<u8>, AllocError>
-        requires alike { length programs.now ≡ length self.now.workers.items }
+        requires may_run { MayRun self.now }
+        requires accepted { AllZip (IsProgramOf (length self.now.rings.items)) (map worker_text self.now.workers.items) programs.now }
         ensures ran { IfOk result (λ ends. SimulatesWith self.now programs.now text.old.items text.new.items ends.items) }
+        ensures begun { OnErr result ((text.new.items ≡ text.old.items) ⊎ BeginsSimulationWith self.now programs.now text.old.items text.new.items) }
     {
         let setups = setups_of(alloc, self.workers.as_slice(), programs)?;
-        let Ok(mut world) = World::new(alloc, self.rings.as_slice(), setups.as_slice()) else {
-            return Err(AllocError);
+        let mut world = match World::new(alloc, self.rings.as_slice(), setups.as_slice()) {
+            Ok(world) => world,
+            Err(fault) => return Err(want_of_memory(fault)),
         };
-        run(&mut world, self.actors.as_slice(), text)?;
+        run(alloc, &mut world, self.actors.as_slice(), text)?;
         ends_of(alloc, &world)
+    }
+}
+
+// A world that may be opened is refused for memory alone.
+fn want_of_memory(fault: WorldOpenFault) -> AllocError
+    requires memory { fault ≡ WorldOpenFault.Memory }
+{
+    match fault {
+        WorldOpenFault::Memory => AllocError,
+        _ => unreachable!(),
     }
 }
 
@@ -77,23 +93,30 @@ fn setups_of<'p>(
     Ok(setups)
 }
 
-// Runs the turns, and adds their lines. Every actor of a script is there.
-fn run(world: &mut World<'_>, actors: &[Actor], text: &mut Vec<u8>) -> Result<(), AllocError>
+// Runs the turns, and adds their lines. Where memory runs out, the lines of the turns before stand.
+fn run(
+    alloc: Global,
+    world: &mut World<'_>,
+    actors: &[Actor],
+    text: &mut Vec<u8>,
+) -> Result<(), AllocError>
+    requires there { All (IsThere world.old) actors.now }
     ensures written { OnOk result (WritesRun actors.now world.old world.new text.old.items text.new.items) }
+    ensures begun { OnErr result (BeginsRun actors.now world.old text.old.items text.new.items) }
     ensures workers { length world.new.machines ≡ length world.old.machines }
     ensures rings { length world.new.rings ≡ length world.old.rings }
 {
+    let mut line = Vec::new(alloc);
     for actor in actors {
-        if !world.has(*actor) {
-            return Err(AllocError);
-        }
-        let end = text.len();
         let done = world.turn(*actor);
         if done == TurnDone::Memory {
             return Err(AllocError);
         }
-        let Ok(()) = push_turn(world, *actor, done, text) else {
-            text.truncate(end);
+        line.clear();
+        let Ok(()) = push_turn(world, *actor, done, &mut line) else {
+            return Err(AllocError);
+        };
+        let Ok(()) = text.extend_from_slice(line.as_slice()) else {
             return Err(AllocError);
         };
     }

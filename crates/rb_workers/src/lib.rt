@@ -9,6 +9,9 @@
 //! error, all comes back and may be run again. Records are taken many at a time, and the sheets of long ones are used again. A ring's
 //! memory does not grow: its consumer's thread looks at its chapter before it takes records, and hands it out in time.
 //!
+//! What holds of every interleaving of the same programs in turns, without threads, stands beside this in docs/PROOF_STATUS.md, "Every
+//! interleaving, and running threads".
+//!
 //! No proof speaks of waiting, fairness or time: that a run comes to its end, that work is done in threads of its own, when a record
 //! reaches its sink, or what a gate does.
 #![tactic(auto)]

@@ -3,6 +3,7 @@ use Rattle.rb_script.specs.declared.script_fault.ScriptFault.TheVariants.{Line}
 use Rattle.rb_script.specs.ScriptText.{lines_of}
 use Rattle.rb_script.proofs.ScriptWords.{is-empty}
 use Rattle.rb_script.proofs.ScriptParts.{read-none, read-more, read-fault, read-all, no-worker, no-script-of-fault, no-fault-of-script, only-fault}
+use Rattle.rb_script.proofs.RunnableScripts.{may-run}
 use Rattle.rb_script.proofs.script.Script.read.Goals as goal
 
 pub loop-rest-init : goal.loop-rest-init
@@ -47,3 +48,9 @@ returns-clause-only_fault c =
     let ended : (length c.loop-rest.rest.now == 0) ≡ true = search rules in
     let some : 1 ≤ length c.loop-rest.script.workers.items = search rules in
     λ line first. absurd (no-fault-of-script (lines_of c.args.input.now) c.loop-rest.script (read-all c.args.input.now c.loop-rest.rest.now c.loop-rest.number c.loop-rest.script c.loop-rest.invariant.read (is-empty c.loop-rest.rest.now ended)) some line first)
+
+pub returns-clause-runs : goal.returns-clause-runs
+returns-clause-runs c =
+    let ended : (length c.loop-rest.rest.now == 0) ≡ true = search rules in
+    let some : 1 ≤ length c.loop-rest.script.workers.items = search rules in
+    may-run (lines_of c.args.input.now) c.loop-rest.script (read-all c.args.input.now c.loop-rest.rest.now c.loop-rest.number c.loop-rest.script c.loop-rest.invariant.read (is-empty c.loop-rest.rest.now ended)) c.loop-rest.invariant.limits some
