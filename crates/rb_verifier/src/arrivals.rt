@@ -19,19 +19,15 @@ pub(crate) enum Arrival {
     Differ,
 }
 
-/// One more state is noted.
-#[inline(always)]
-fn merged(arrival: &Arrival, state: AbsState) -> Result<Arrival, AllocError>
-    ensures { IfOk result (IsMerged arrival.now state) }
+/// One more state is noted, beside the least above those that arrived. It stands apart from the common case, the first arrival.
+#[inline(never)]
+fn joined(least: &AbsState, state: AbsState) -> Result<Arrival, AllocError>
+    ensures { IfOk result (IsMerged (Arrival.Least least.now) state) }
 {
-    match arrival {
-        Arrival::Nothing => Ok(Arrival::Least(state)),
-        Arrival::Least(other) => match join(other, &state) {
-            Ok(Some(least)) => Ok(Arrival::Least(least)),
-            Ok(None) => Ok(Arrival::Differ),
-            Err(memory) => Err(memory),
-        },
-        Arrival::Differ => Ok(Arrival::Differ),
+    match join(least, &state) {
+        Ok(Some(least)) => Ok(Arrival::Least(least)),
+        Ok(None) => Ok(Arrival::Differ),
+        Err(memory) => Err(memory),
     }
 }
 
@@ -47,8 +43,14 @@ pub(crate) fn flow(
 {
     if let Some(to) = target {
         let unit = to as usize;
-        let arrival = merged(&arrivals[unit], state)?;
-        arrivals[unit] = arrival;
+        match &arrivals[unit] {
+            Arrival::Nothing => arrivals[unit] = Arrival::Least(state),
+            Arrival::Least(least) => {
+                let arrival = joined(least, state)?;
+                arrivals[unit] = arrival;
+            }
+            Arrival::Differ => {}
+        }
     }
     Ok(())
 }
@@ -84,15 +86,13 @@ pub(crate) fn take(arrivals: &mut Vec<Arrival>, unit: u32) -> Arrival
 
 /// What is noted at the start: the entry state at the first unit, and nothing at the others.
 pub(crate) fn first_arrivals(alloc: Global, units: u32) -> Result<Vec<Arrival>, AllocError>
+    requires { 0 < units }
     ensures { IfOk result (λ arrivals. AreFirstArrivals units arrivals.items) }
 {
     let mut arrivals = Vec::with_capacity(alloc, units as usize)?;
-    for unit in 0..units {
-        if unit == 0 {
-            arrivals.push(Arrival::Least(AbsState::entry(alloc)))?;
-        } else {
-            arrivals.push(Arrival::Nothing)?;
-        }
+    arrivals.push(Arrival::Least(AbsState::entry(alloc)))?;
+    for _unit in 1..units {
+        arrivals.push(Arrival::Nothing)?;
     }
     Ok(arrivals)
 }

@@ -14,6 +14,26 @@ use rb_insn::Insn;
 use rb_refs::{AbsState, Limits, Rule, StepFault, step_in_place};
 use std::alloc::Global;
 
+/// Keeps a copy of a state, which is put together where it is kept.
+#[inline(always)]
+fn keep(states: &mut Vec<AbsState>, state: &AbsState) -> Result<(), Refusal>
+    ensures pushed { OnOk result (states.new.items ≡ states.old.items ++ state.now ∷ []) }
+    ensures memory { IfErr result (λ refusal. refusal ≡ Refusal.Memory) }
+{
+    let Ok(places) = state.places.copy() else {
+        return Err(Refusal::Memory);
+    };
+    let kept = AbsState {
+        values: state.values,
+        held: state.held.copy(),
+        places,
+    };
+    match states.push(kept) {
+        Ok(()) => Ok(()),
+        Err(_) => Err(Refusal::Memory),
+    }
+}
+
 /// One turn of the pass, at an instruction: its state is settled and kept, and what the instruction makes of it flows on along its edges.
 fn visit(
     limits: Limits,
@@ -39,12 +59,9 @@ fn visit(
         }
         Arrival::Least(state) => state,
     };
-    let Ok(kept) = state.copy() else {
+    let Ok(()) = keep(states, &state) else {
         return Err(Refusal::Memory);
     };
-    if states.push(kept).is_err() {
-        return Err(Refusal::Memory);
-    }
     let jump = match step_in_place(limits, unit, insn, &mut state) {
         Ok(jump) => jump,
         Err(StepFault::Rule(rule)) => return Err(Refusal::Rule { unit, rule }),

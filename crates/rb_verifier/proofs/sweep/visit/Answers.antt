@@ -41,8 +41,7 @@ flow-requires c =
 pub returns-clause-progress : goal.returns-clause-progress
 returns-clause-progress c =
     let effect : Effect = record { next = c.step_in_place.new.state; jump = along_jump c.in-Ok-step_in_place.jump c.step_in_place.new.state } in
-    let pushed : c.push.new.self.items ≡ c.args.states.now.items ++ c.in-Ok.kept ∷ [] = rw c.if-is_err.ensures.negation at c.push.ensures.items in
-    let same : c.push.new.self.items ≡ more c.args.states.now.items c.in-Least.state = pushed ∙ ap (more c.args.states.now.items) c.in-Ok.ensures in
+    let same : c.keep.new.states.items ≡ more c.args.states.now.items c.in-Least.state = search rules in
     let jumped : Flows c.jump_target.result effect.jump c.take.new.arrivals.items c.flow_jump.new.arrivals.items = search rules in
     let flowed : Flows c.next_unit.result effect.next c.flow_jump.new.arrivals.items c.flow.new.arrivals.items = search rules in
     let to_target = subst (λ t. Flows t effect.jump c.take.new.arrivals.items c.flow_jump.new.arrivals.items) c.jump_target.ensures jumped in
