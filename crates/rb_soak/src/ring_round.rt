@@ -1,0 +1,190 @@
+//! One ring, from its opening to its end.
+
+ghost use Rattle.std.specs.Prelude.{◌≡◌, All};
+ghost use Rattle.rb_ledger.specs.Seats.{IsSameSeat};
+ghost use Rattle.rb_shared_ring.specs.SharedSeats.{IsSameChapterConsumer};
+
+use crate::consumer::{BATCH, Desk, consume};
+use crate::fault::SoakFault;
+use crate::plan::Plan;
+use crate::seen::Seen;
+use crate::sums::Sums;
+use crate::worker::work;
+use rb_chapter::Chapter;
+use rb_consumer::{Batch, Keeper};
+use rb_shared_ring::{Closing, ConsumerSeat, Seat, SharedRing, open};
+use std::alloc::Global;
+use std::sync::Wait;
+use std::sync::atomic::{AtomicBool, Ordering};
+use std::thread;
+use std::thread::{Threads, join_mut};
+
+/// Opens a ring, lets its workers and its consumer run to their ends, closes it, and tells what they counted.
+pub(crate) fn round<R: Threads + Wait + Sync>(
+    rt: &R,
+    alloc: Global,
+    plan: Plan,
+    tag: u64,
+) -> Result<Sums, SoakFault> {
+    let Ok((ring, mut seats, mut consumer)) = open(
+        rt,
+        alloc,
+        tag,
+        plan.size,
+        0,
+        plan.workers,
+        plan.room,
+    ) else {
+        return Err(SoakFault::Ring);
+    };
+    consumer.facts();
+    let Some(mut desk) = desk_for(
+        alloc,
+        &plan,
+        Chapter::new(alloc, plan.room, plan.workers).ok(),
+    ) else {
+        return Err(SoakFault::Memory);
+    };
+    run(
+        rt,
+        alloc,
+        &ring,
+        seats.as_mut_slice(),
+        &mut consumer,
+        &mut desk,
+        plan,
+    );
+    let mut sums = sums_of(seats.as_slice(), &consumer, &desk.seen);
+    let Ok(closing) = ring.close(rt, seats, consumer) else {
+        return Err(SoakFault::Open);
+    };
+    check_closing(&closing, &mut sums);
+    if desk.is_bound {
+        bind(alloc, closing, desk.chapters, &mut sums);
+    }
+    Ok(sums)
+}
+
+// What the consumer has at the beginning, where there is memory.
+fn desk_for(alloc: Global, plan: &Plan, chapter: Option<Chapter>) -> Option<Desk> {
+    match (
+        Batch::with_capacity(alloc, BATCH),
+        Seen::new(alloc, plan.workers),
+        chapter,
+    ) {
+        (Ok(batch), Ok(seen), Some(chapter)) => Some(Desk {
+            batch,
+            keeper: Keeper::with_margin(chapter, plan.room / 4),
+            seen,
+            is_bound: plan.is_bound(),
+            chapters: Vec::new(alloc),
+        }),
+        _ => None,
+    }
+}
+
+// The workers and the consumer, each in a thread of its own.
+fn run<R: Threads + Wait + Sync>(
+    rt: &R,
+    alloc: Global,
+    ring: &SharedRing,
+    seats: &mut [Seat],
+    consumer: &mut ConsumerSeat,
+    desk: &mut Desk,
+    plan: Plan,
+)
+    requires seats { All (λ s. s.ring ≡ ring.now.ring) seats.old }
+    requires consumer { consumer.old.ring ≡ ring.now.ring }
+    ensures seats { All (λ s. s.ring ≡ ring.now.ring) seats.new }
+    ensures consumer { IsSameChapterConsumer consumer.old consumer.new }
+{
+    let ended = AtomicBool::new(false);
+    let shared = &ended;
+    join_mut(
+        rt,
+        &mut ||
+            requires { consumer.now.ring ≡ ring.now.ring }
+            ensures { IsSameChapterConsumer consumer.entry.now consumer.exit.now }
+        { consume(rt, alloc, ring, shared, consumer, desk) },
+        &mut ||
+            requires { All (λ s. s.ring ≡ ring.now.ring) seats.now }
+            ensures { All (λ s. s.ring ≡ ring.entry.now.ring) seats.exit.now }
+        {
+            work_all(rt, alloc, ring, seats, plan);
+            shared.store(true, Ordering::SeqCst);
+        },
+    );
+}
+
+// Each worker in a thread of its own.
+fn work_all<R: Threads + Wait + Sync>(
+    rt: &R,
+    alloc: Global,
+    ring: &SharedRing,
+    seats: &mut [Seat],
+    plan: Plan,
+)
+    requires { All (λ s. s.ring ≡ ring.now.ring) seats.old }
+    ensures { All (λ s. s.ring ≡ ring.now.ring) seats.new }
+{
+    let threads = seats.len().max(1);
+    let (seed, steps) = (plan.seed, plan.steps);
+    let work = move |_: usize, seat: &mut Seat|
+        requires { seat.now.ring ≡ ring.now.ring }
+        ensures { seat.exit.now.ring ≡ ring.entry.now.ring }
+    { work(rt, alloc, ring, seat, seed, steps) };
+    thread::for_each_mut(rt, seats, threads, &work);
+}
+
+// What the seats counted, and whether it is what the consumer saw of each worker.
+fn sums_of(seats: &[Seat], consumer: &ConsumerSeat, seen: &Seen) -> Sums {
+    let mut sums = Sums::none();
+    for seat in seats {
+        add_seat(&mut sums, seat, seen);
+    }
+    add_consumer(&mut sums, consumer, seen);
+    sums
+}
+
+fn add_seat(sums: &mut Sums, seat: &Seat, seen: &Seen) {
+    let (made, submitted, discarded) = (seat.made(), seat.submitted(), seat.discarded());
+    sums.expect(made == submitted.wrapping_add(discarded));
+    sums.expect(submitted == seen.events_of(seat.worker()));
+    sums.made = sums.made.wrapping_add(made);
+    sums.refused = sums.refused.wrapping_add(seat.refused());
+    sums.submitted = sums.submitted.wrapping_add(submitted);
+    sums.discarded = sums.discarded.wrapping_add(discarded);
+}
+
+fn add_consumer(sums: &mut Sums, consumer: &ConsumerSeat, seen: &Seen) {
+    let (skipped, position) = (seen.skipped, seen.position);
+    sums.expect(consumer.skipped() == skipped);
+    sums.expect(consumer.position() == position);
+    sums.consumed = consumer.consumed();
+    sums.skipped = consumer.skipped();
+    sums.chapters = consumer.chapters();
+    sums.wrong = sums.wrong.saturating_add(seen.wrong);
+}
+
+// Whether the closed ring counted what its seats and its consumer did.
+fn check_closing(closing: &Closing, sums: &mut Sums) {
+    let counts = closing.counts();
+    sums.expect(counts.made == sums.made && counts.refused == sums.refused);
+    sums.expect(counts.consumed == sums.submitted && counts.consumed == sums.consumed);
+    sums.expect(counts.discarded == sums.discarded && counts.discarded == sums.skipped);
+    sums.expect(counts.waiting == 0 && counts.busy == 0);
+    sums.expect(closing.producer() == closing.consumer());
+    sums.expect(closing.chapter().number() == sums.chapters);
+}
+
+// Binds the chapters: the history has an entry for each grant, each refusal, each end and each take.
+fn bind(alloc: Global, closing: Closing, chapters: Vec<Chapter>, sums: &mut Sums) {
+    match closing.bind(alloc, chapters) {
+        Ok(whole) => {
+            sums.bound = whole.history().len() as u64;
+            let all = sums.made.wrapping_mul(3).wrapping_add(sums.refused);
+            sums.expect(sums.bound == all);
+        }
+        Err(_) => sums.expect(false),
+    }
+}
