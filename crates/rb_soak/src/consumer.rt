@@ -56,7 +56,7 @@ pub(crate) fn consume<R: Wait>(
     }
 }
 
-// Hands the ring's chapter out where it is due. Its number has to be the next one, where the chapters are copied.
+// Hands the ring's chapter out where it is due, and keeps a copy where the chapters are to be bound, which looks at their numbers.
 fn turn<R: Wait>(
     rt: &R,
     alloc: Global,
