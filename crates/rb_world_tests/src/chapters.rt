@@ -1,8 +1,10 @@
 //! Worlds whose keepers hand chapters out.
 
 use crate::worlds::{SUBMIT_42, is_event, opened_with, ring_0, turn, turns, verified};
-use rb_history::Counts;
+use rb_chapter_ledger::bind_chapters;
+use rb_history::{Counts, Entry};
 use rb_world::{Actor, TurnDone, WorkerSetup, World};
+use std::alloc::Global;
 use std::process::Abort;
 
 const FORTY_TWO: [u8; 8] = [42, 0, 0, 0, 0, 0, 0, 0];
@@ -20,6 +22,14 @@ fn chapters(rt: &impl Abort, world: &World<'_>) -> [(u64, u32); 2] {
         ],
         None => rt.panic("no chapter"),
     }
+}
+
+// The whole history of ring 0: its chapters, bound.
+fn history(rt: &impl Abort, alloc: Global, world: &World<'_>) -> Vec<Entry> {
+    if !world.has(Actor::Keeper(0)) {
+        rt.panic("no ring")
+    }
+    bind_chapters(alloc, world.chapters(0), world.ring(0).chapter()).expect(rt, "a history")
 }
 
 // What a worker is at, and what it ended with.
@@ -57,6 +67,10 @@ fn a_record_outlives_its_chapter(rt: HostRuntime) {
         && ring_0(&rt, &world) == (16, 16, counts)
         && chapters(&rt, &world) == [(0, 1), (1, 2)];
     assert!(rt; holds);
+    let history = history(&rt, rt.alloc(), &world);
+    assert!(rt;
+        history.as_slice() == [Entry::Res(0, 0, 8, 0), Entry::Sub(0), Entry::Take(0)].as_slice()
+    );
 }
 
 // With two busy records a chapter of room 8 is full: the third worker gets null, which is not logged.
