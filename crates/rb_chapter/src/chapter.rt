@@ -279,7 +279,7 @@ fn log(entries: &mut Vec<Entry>, entry: Entry)
     ensures logged { entries.new.items ≡ entries.old.items ++ entry ∷ [] }
     ensures space { vec_capacity entries.old ≤ vec_capacity entries.new }
 {
-    let _within = entries.push(entry);
+    entries.push_reserved(entry);
 }
 
 // Adds an entry that was owed. It takes no memory.

@@ -10,7 +10,8 @@ ghost use Rattle.rb_chapter.specs.inner.OpeningNumbers.{first_numbers};
 ghost use Rattle.rb_chapter.specs.inner.OpeningSteps.{with_refusal, with_grant, next_record, with_submit, with_discard, with_take, events_by, skips_by};
 
 use crate::opening_lists::{
-    are_same_records, are_same_tallies, copy, forget, front_of, replace, settle, tally_of,
+    are_same_records, are_same_tallies, copy, count_discarded, count_made, count_refused,
+    count_submitted, forget, front_of, settle, tally_of,
 };
 use rb_header::span;
 use rb_history::Tally;
@@ -196,12 +197,7 @@ impl Opening {
         ensures room { self.new.room ≡ self.old.room }
         ensures passed { self.new.passed ≡ self.old.passed }
     {
-        let tally = tally_of(self.tallies.as_slice(), worker);
-        let counted = Tally {
-            refused: tally.refused + 1,
-            ..tally
-        };
-        replace(self.tallies.as_mut_slice(), worker, counted);
+        count_refused(self.tallies.as_mut_slice(), worker);
     }
 
     // Adds the record that the worker is granted next, of `len` bytes, and returns it.
@@ -215,21 +211,15 @@ impl Opening {
         ensures passed { self.new.passed ≡ self.old.passed }
         ensures record { untaken_shown result ≡ next_record worker len self.old.opening }
     {
-        let tally = tally_of(self.tallies.as_slice(), worker);
         let record = UntakenRecord {
             pos: self.numbers.producer,
             len,
             worker,
-            serial: tally.made,
+            serial: count_made(self.tallies.as_mut_slice(), worker),
             status: UntakenStatus::Busy,
         };
-        let counted = Tally {
-            made: tally.made + 1,
-            ..tally
-        };
-        let _within = self.records.push(record);
+        self.records.push_reserved(record);
         self.numbers.producer += span(len);
-        replace(self.tallies.as_mut_slice(), worker, counted);
         record
     }
 
@@ -249,12 +239,7 @@ impl Opening {
             index,
             UntakenStatus::Waiting,
         );
-        let tally = tally_of(self.tallies.as_slice(), record.worker);
-        let counted = Tally {
-            submitted: tally.submitted + 1,
-            ..tally
-        };
-        replace(self.tallies.as_mut_slice(), record.worker, counted);
+        count_submitted(self.tallies.as_mut_slice(), record.worker);
         record.pos
     }
 
@@ -274,12 +259,7 @@ impl Opening {
             index,
             UntakenStatus::Discarded,
         );
-        let tally = tally_of(self.tallies.as_slice(), record.worker);
-        let counted = Tally {
-            discarded: tally.discarded + 1,
-            ..tally
-        };
-        replace(self.tallies.as_mut_slice(), record.worker, counted);
+        count_discarded(self.tallies.as_mut_slice(), record.worker);
         record.pos
     }
 

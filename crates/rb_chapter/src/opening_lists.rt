@@ -1,6 +1,6 @@
 //! The lists of an opening: its records, and its workers' totals.
 
-ghost use Rattle.std.specs.Prelude.{◌≡◌, ◌+◌, ◌<◌, ◌↔◌, IsTrue, drop, length, map, replicate, slice_index_or, slice_set};
+ghost use Rattle.std.specs.Prelude.{◌≡◌, ◌+◌, ◌<◌, ◌^◌, ◌↔◌, IsTrue, drop, length, map, replicate, slice_index_or, slice_set};
 ghost use Rattle.rb_chapter.specs.Opening.{no_record, no_tally};
 ghost use Rattle.rb_chapter.specs.UntakenRecords.{status_shown, untaken_shown};
 
@@ -44,12 +44,48 @@ pub(crate) fn tally_of(tallies: &[Tally], worker: u32) -> Tally
     tallies[worker as usize]
 }
 
-/// The worker has these totals now.
-pub(crate) fn replace(tallies: &mut [Tally], worker: u32, tally: Tally)
+/// Counts a record that the worker was granted, and returns how many it was granted before.
+#[inline(always)]
+pub(crate) fn count_made(tallies: &mut [Tally], worker: u32) -> u64
     requires worker { worker < length tallies.old }
-    ensures replaced { tallies.new ≡ slice_set tallies.old worker tally }
+    requires total { (slice_index_or tallies.old worker no_tally).made < 2 ^ 62 }
+    ensures counted { tallies.new ≡ slice_set tallies.old worker (record (slice_index_or tallies.old worker no_tally) { made = (slice_index_or tallies.old worker no_tally).made + 1 }) }
+    ensures before { result ≡ (slice_index_or tallies.old worker no_tally).made }
 {
-    tallies[worker as usize] = tally;
+    let tally = &mut tallies[worker as usize];
+    let before = tally.made;
+    tally.made = before + 1;
+    before
+}
+
+/// Counts a refusal of the worker.
+#[inline(always)]
+pub(crate) fn count_refused(tallies: &mut [Tally], worker: u32)
+    requires worker { worker < length tallies.old }
+    requires total { (slice_index_or tallies.old worker no_tally).refused < 2 ^ 62 }
+    ensures counted { tallies.new ≡ slice_set tallies.old worker (record (slice_index_or tallies.old worker no_tally) { refused = (slice_index_or tallies.old worker no_tally).refused + 1 }) }
+{
+    tallies[worker as usize].refused += 1;
+}
+
+/// Counts a record of the worker that was submitted.
+#[inline(always)]
+pub(crate) fn count_submitted(tallies: &mut [Tally], worker: u32)
+    requires worker { worker < length tallies.old }
+    requires total { (slice_index_or tallies.old worker no_tally).submitted < 2 ^ 62 }
+    ensures counted { tallies.new ≡ slice_set tallies.old worker (record (slice_index_or tallies.old worker no_tally) { submitted = (slice_index_or tallies.old worker no_tally).submitted + 1 }) }
+{
+    tallies[worker as usize].submitted += 1;
+}
+
+/// Counts a record of the worker that was discarded.
+#[inline(always)]
+pub(crate) fn count_discarded(tallies: &mut [Tally], worker: u32)
+    requires worker { worker < length tallies.old }
+    requires total { (slice_index_or tallies.old worker no_tally).discarded < 2 ^ 62 }
+    ensures counted { tallies.new ≡ slice_set tallies.old worker (record (slice_index_or tallies.old worker no_tally) { discarded = (slice_index_or tallies.old worker no_tally).discarded + 1 }) }
+{
+    tallies[worker as usize].discarded += 1;
 }
 
 /// Gives the record at an index, from the first on, another status, and returns it as it was.
