@@ -1,5 +1,5 @@
 -- A ring that did nothing yet.
-use Rattle.std.proofs.Common.{ℕ, ◌/◌, [], replicate, refl, sym, subst, arith}
+use Rattle.std.proofs.Common.{ℕ, ◌/◌, [], replicate, refl, sym, ap, subst, arith}
 use Rattle.std.proofs.lemmas.List.{length-replicate}
 use Rattle.std.proofs.lemmas.List.Elements.{All-nil}
 use Rattle.rb_history.specs.RoomRule.{Setup}
@@ -8,8 +8,8 @@ use Rattle.rb_history.specs.StoredRecords.{IsSized}
 use Rattle.rb_chapter.specs.Chapters.{IsChapterRoom, empty_ring, first_chapter}
 use Rattle.rb_chapter.proofs.Empty.{empty-kept}
 use Rattle.rb_chapter.proofs.Running.{closing-none}
-use Rattle.rb_chapter_ring.specs.inner.CountSteps.{zero_counts}
-use Rattle.rb_chapter_ring.specs.inner.ChapterRingBody.{IsStored, IsRingOf}
+use Rattle.rb_chapter_ring.proofs.CountSteps.{zero_counts}
+use Rattle.rb_chapter_ring.specs.inner.ChapterRingBody.{taken_before, IsStored, IsRingOf}
 
 pub begins : (room : ℕ) (r : Setup) → IsRingSize r.size → IsStartPosition r.start → IsWorkerCount r.workers → IsChapterRoom room → IsRingOf [] (first_chapter room r) [] (replicate (r.size / 8) 0) zero_counts
 begins room r size start workers fits =
@@ -32,4 +32,5 @@ begins room r size start workers fits =
       sized = All-nil IsSized;
       places = length-replicate (r.size / 8) 0;
       counted = refl;
+      granted = ap taken_before (sym (closing-none [] (first_chapter room r) kept.continues refl));
     }

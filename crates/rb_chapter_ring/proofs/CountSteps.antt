@@ -1,5 +1,5 @@
 -- What each entry changes of the six counts.
-use Rattle.std.proofs.Common.{◌≡◌, ℕ, ◌+◌, ◌-◌, ◌*◌, ◌<◌, ◌≤◌, Bool, true, false, ◌||◌, cond, List, [], ◌∷◌, ◌++◌, refl, sym, ap, arith}
+use Rattle.std.proofs.Common.{◌≡◌, ℕ, ◌+◌, ◌-◌, ◌*◌, ◌<◌, ◌≤◌, ◌^◌, Bool, true, false, ◌||◌, cond, List, [], ◌∷◌, ◌++◌, refl, sym, ap, arith}
 use Rattle.std.specs.List.{sum_by, count_by}
 use Rattle.std.proofs.lemmas.Bool.{true≢false}
 use Rattle.rb_history.specs.declared.entries.Entry.{Entry}
@@ -16,9 +16,48 @@ use Rattle.rb_history.proofs.Lists.{sum_by-cons, sum_by-snoc}
 use Rattle.rb_chapter.proofs.Limits.{spans-low}
 use Rattle.rb_chapter.proofs.Weights.{weigh-full, weigh-res, weigh-sub, weigh-dis, weigh-take}
 use Rattle.rb_chapter_ring.specs.OpenedRing.{capped, capped_counts}
-use Rattle.rb_chapter_ring.specs.inner.CountSteps.{counting_grant, counting_refusal, counting_submit, counting_discard, counting_take, IsCountable}
 
-abbrev bit : Bool → ℕ
+abbrev pub zero_counts : Counts
+zero_counts = record { made = 0; refused = 0; consumed = 0; discarded = 0; waiting = 0; busy = 0 }
+
+abbrev pub counting_grant : Counts → Counts
+counting_grant c = record c { made = c.made + 1; busy = c.busy + 1 }
+
+abbrev pub counting_refusal : Counts → Counts
+counting_refusal c = record c { refused = capped (c.refused + 1) }
+
+abbrev pub counting_submit : Counts → Counts
+counting_submit c = record c { waiting = c.waiting + 1; busy = c.busy - 1 }
+
+abbrev pub counting_discard : Counts → Counts
+counting_discard c = record c { discarded = c.discarded + 1; busy = c.busy - 1 }
+
+-- a take hands the record out, or passes it over
+abbrev pub counting_take : Bool → Counts → Counts
+counting_take true c = record c { consumed = c.consumed + 1; waiting = c.waiting - 1 }
+counting_take false c = c
+
+pub made-taken : (waited : Bool) (c : Counts) → (counting_take waited c).made ≡ c.made
+made-taken true c = refl
+made-taken false c = refl
+
+pub refused-taken : (waited : Bool) (c : Counts) → (counting_take waited c).refused ≡ c.refused
+refused-taken true c = refl
+refused-taken false c = refl
+
+pub discarded-taken : (waited : Bool) (c : Counts) → (counting_take waited c).discarded ≡ c.discarded
+discarded-taken true c = refl
+discarded-taken false c = refl
+
+-- so few that one more fits
+pub record IsCountable (c : Counts) : Type 0 where
+  pub made : c.made < 2 ^ 62
+  pub consumed : c.consumed < 2 ^ 62
+  pub discarded : c.discarded < 2 ^ 62
+  pub waiting : c.waiting < 2 ^ 62
+  pub busy : c.busy < 2 ^ 62
+
+abbrev pub bit : Bool → ℕ
 bit b = cond b 1 0
 
 abbrev as_bit : Status → Status → ℕ
@@ -82,7 +121,7 @@ module _ (r : Setup) (h : List Entry) where
       let consumed : c.consumed ≡ status_count Consumed (h ++ e ∷ []) = omega (arith, ap (λ (x : Counts). x.consumed) is, ap (λ (x : Counts). x.made) is, ap (λ (x : Counts). x.discarded) is, ap (λ (x : Counts). x.waiting) is, ap (λ (x : Counts). x.busy) is, made-split h, made-split (h ++ e ∷ []), made, discarded, waiting, busy) in
       λ i. record { made = made i; refused = refused i; consumed = consumed i; discarded = discarded i; waiting = waiting i; busy = busy i }
 
-  pub busy-some : (p : ℕ) (c : Counts) → IsLegal r (h ++ Sub p ∷ []) → c ≡ capped_counts (counts_of h) → 0 < c.busy
+  busy-some : (p : ℕ) (c : Counts) → IsLegal r (h ++ Sub p ∷ []) → c ≡ capped_counts (counts_of h) → 0 < c.busy
   busy-some p c l is =
       let k = kept-from-legal r h (legal-before (Sub p) l) in
       omega (arith, ap (λ (x : Counts). x.busy) is, busy-shown h k.closed, weigh-sub (as_bit Busy) r h k p (legal-next r h (Sub p) [] l))
@@ -102,7 +141,7 @@ module _ (r : Setup) (h : List Entry) where
       let consumed : c.consumed ≡ status_count Consumed (h ++ e ∷ []) = omega (arith, ap (λ (x : Counts). x.consumed) is, ap (λ (x : Counts). x.made) is, ap (λ (x : Counts). x.discarded) is, ap (λ (x : Counts). x.waiting) is, ap (λ (x : Counts). x.busy) is, made-split h, made-split (h ++ e ∷ []), made, discarded, waiting, busy, busy-some p c l is) in
       λ i. record { made = made i; refused = refused i; consumed = consumed i; discarded = discarded i; waiting = waiting i; busy = busy i }
 
-  pub busy-left : (p : ℕ) (c : Counts) → IsLegal r (h ++ Dis p ∷ []) → c ≡ capped_counts (counts_of h) → 0 < c.busy
+  busy-left : (p : ℕ) (c : Counts) → IsLegal r (h ++ Dis p ∷ []) → c ≡ capped_counts (counts_of h) → 0 < c.busy
   busy-left p c l is =
       let k = kept-from-legal r h (legal-before (Dis p) l) in
       omega (arith, ap (λ (x : Counts). x.busy) is, busy-shown h k.closed, weigh-dis (as_bit Busy) r h k p (legal-next r h (Dis p) [] l))
@@ -124,7 +163,7 @@ module _ (r : Setup) (h : List Entry) where
 
   -- the record at the position waits, or was discarded
   pub counts-take : (p : ℕ) (c : Counts) (waited : Bool) → IsLegal r (h ++ Take p ∷ []) → bit waited ≡ as_bit Waiting (status_by (is_submitted_at h p) (is_discarded_at h p) false)
-      → c ≡ capped_counts (counts_of h) → (waited ≡ true → 0 < c.waiting) × (counting_take waited c ≡ capped_counts (counts_of (h ++ Take p ∷ [])))
+      → c ≡ capped_counts (counts_of h) → counting_take waited c ≡ capped_counts (counts_of (h ++ Take p ∷ []))
   counts-take p c waited l waits is =
       let e = Take p in
       let k = kept-from-legal r h (legal-before e l) in
@@ -147,11 +186,11 @@ module _ (r : Setup) (h : List Entry) where
       not-busy false false o = absurd (true≢false (sym o))
 
       by-case : (b : Bool) → status_count Waiting (h ++ Take p ∷ []) + bit b ≡ c.waiting → c.consumed + bit b ≡ status_count Consumed (h ++ Take p ∷ []) → c.made ≡ count_by is_grant_entry (h ++ Take p ∷ []) → c.refused ≡ capped (count_by is_refusal_entry (h ++ Take p ∷ []))
-          → c.discarded ≡ status_count Discarded (h ++ Take p ∷ []) → c.busy ≡ status_count Busy (h ++ Take p ∷ []) → (b ≡ true → 0 < c.waiting) × (counting_take b c ≡ capped_counts (counts_of (h ++ Take p ∷ [])))
+          → c.discarded ≡ status_count Discarded (h ++ Take p ∷ []) → c.busy ≡ status_count Busy (h ++ Take p ∷ []) → counting_take b c ≡ capped_counts (counts_of (h ++ Take p ∷ []))
       by-case true less more made refused discarded busy =
           let waiting : c.waiting - 1 ≡ status_count Waiting (h ++ Take p ∷ []) = omega (arith, less) in
-          ((λ _. omega (arith, less)), λ i. record { made = made i; refused = refused i; consumed = more i; discarded = discarded i; waiting = waiting i; busy = busy i })
+          λ i. record { made = made i; refused = refused i; consumed = more i; discarded = discarded i; waiting = waiting i; busy = busy i }
       by-case false less more made refused discarded busy =
           let waiting : c.waiting ≡ status_count Waiting (h ++ Take p ∷ []) = omega (arith, less) in
           let consumed : c.consumed ≡ status_count Consumed (h ++ Take p ∷ []) = omega (arith, more) in
-          ((λ no_way. absurd (true≢false (sym no_way))), λ i. record { made = made i; refused = refused i; consumed = consumed i; discarded = discarded i; waiting = waiting i; busy = busy i })
+          λ i. record { made = made i; refused = refused i; consumed = consumed i; discarded = discarded i; waiting = waiting i; busy = busy i }

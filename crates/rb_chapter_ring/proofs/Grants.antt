@@ -1,5 +1,5 @@
 -- A record is granted, or the ring has no room for it.
-use Rattle.std.proofs.Common.{◌≡◌, ℕ, ◌+◌, ◌/◌, ◌*◌, ◌<◌, ◌≤◌, List, [], ◌∷◌, ◌++◌, length, map, set, length-set, refl, sym, ap, ◌∙◌, arith}
+use Rattle.std.proofs.Common.{◌≡◌, ℕ, ◌+◌, ◌/◌, ◌*◌, ◌<◌, ◌≤◌, List, [], ◌∷◌, ◌++◌, length, map, set, length-set, length-append, refl, sym, ap, ◌∙◌, arith}
 use Rattle.std.proofs.lemmas.List.{map-append, length-map}
 use Rattle.std.proofs.lemmas.List.Elements.{All-push}
 use Rattle.rb_history.specs.declared.entries.Entry.{Entry}
@@ -18,7 +18,7 @@ use Rattle.rb_history.specs.WorkerCounts.{numbers_below}
 use Rattle.rb_chapter.proofs.Numbers.{length-below}
 use Rattle.rb_chapter.proofs.Logging.{refused, granted, serial-is}
 use Rattle.rb_chapter.proofs.Running.{records-owe}
-use Rattle.rb_chapter_ring.specs.inner.CountSteps.{counting_grant, counting_refusal}
+use Rattle.rb_chapter_ring.proofs.CountSteps.{counting_grant, counting_refusal}
 use Rattle.rb_chapter_ring.specs.inner.ChapterRingBody.{place_of, taken_before, IsStored, IsRingOf}
 use Rattle.rb_chapter_ring.proofs.CountSteps.{counts-refusal, counts-grant}
 use Rattle.rb_chapter_ring.proofs.Keeps.{longer-legal, keeps}
@@ -34,7 +34,7 @@ module _ (earlier : List Entry) (c : Chapter) (stored : List StoredRecord) (ordi
       let s = g.stands in
       let stands : IsStored c.opening.setup.size (with_refusal w (closing_of c)) stored ordinals = record { limit = s.limit; space = s.space; aligned = s.aligned; shown = s.shown; numbered = s.numbered; behind = s.behind } in
       let counted = counts-refusal c.opening.setup (earlier ++ c.entries) w n counts (longer-legal earlier c stored ordinals counts g e runs.kept) g.counted in
-      keeps earlier c stored ordinals counts g e (with_refusal w (closing_of c)) (owed c) stored ordinals (counting_refusal counts) runs stands g.sized refl counted
+      keeps earlier c stored ordinals counts g e (with_refusal w (closing_of c)) (owed c) stored ordinals (counting_refusal counts) runs stands g.sized refl counted g.granted
 
   -- the record that the worker is granted next
   abbrev pub newest : ℕ → ℕ → StoredRecord
@@ -76,7 +76,7 @@ module _ (earlier : List Entry) (c : Chapter) (stored : List StoredRecord) (ordi
       } in
       let counted = counts-grant c.opening.setup (earlier ++ c.entries) w (grants_from c.opening w c.entries) n (producer_from c.opening c.entries) counts (longer-legal earlier c stored ordinals counts g e runs.kept) g.counted in
       keeps earlier c stored ordinals counts g e (with_grant w n o) (owed c + 2) (stored ++ newest w n ∷ []) numbers (counting_grant counts) runs stands (All-push IsSized stored (newest w n) g.sized tt)
-      (length-set ordinals (place_of size o.producer) (taken_before o + length stored)) counted
+      (length-set ordinals (place_of size o.producer) (taken_before o + length stored)) counted (omega (arith, g.granted, length-append stored (newest w n ∷ [])))
 
   pub serial-of : (w : ℕ) → w < c.opening.setup.workers → (tally_at (closing_of c) w).made ≡ grants_from c.opening w c.entries
   serial-of w low = serial-is earlier c g.kept (closing_of c) refl w low

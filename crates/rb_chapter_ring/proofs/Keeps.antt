@@ -1,5 +1,5 @@
 -- What each change of a chapter keeps of a ring: what the parts are in common.
-use Rattle.std.proofs.Common.{◌≡◌, ℕ, List, ◌∷◌, [], ◌++◌, length, refl, sym, ap, ◌∙◌, subst, append_assoc}
+use Rattle.std.proofs.Common.{◌≡◌, ℕ, ◌+◌, List, ◌∷◌, [], ◌++◌, length, refl, sym, ap, ◌∙◌, subst, append_assoc}
 use Rattle.std.specs.List.{All}
 use Rattle.rb_history.specs.declared.entries.Entry.{Entry}
 use Rattle.rb_history.specs.declared.answers.Counts.{Counts}
@@ -14,7 +14,7 @@ use Rattle.rb_chapter.specs.WholeHistory.{IsKept}
 use Rattle.rb_chapter.proofs.Logging.{KeepsRunning}
 use Rattle.rb_chapter.proofs.Settling.{whole-legal}
 use Rattle.rb_chapter_ring.specs.OpenedRing.{capped_counts}
-use Rattle.rb_chapter_ring.specs.inner.ChapterRingBody.{IsStored, IsRingOf}
+use Rattle.rb_chapter_ring.specs.inner.ChapterRingBody.{taken_before, IsStored, IsRingOf}
 
 module _ (earlier : List Entry) (c : Chapter) (stored : List StoredRecord) (ordinals : List ℕ) (counts : Counts) (g : IsRingOf earlier c stored ordinals counts) where
   -- the whole history, one entry longer
@@ -22,8 +22,9 @@ module _ (earlier : List Entry) (c : Chapter) (stored : List StoredRecord) (ordi
   longer-legal e kept = subst (IsLegal c.opening.setup) (sym (append_assoc earlier c.entries (e ∷ []))) (whole-legal earlier (with_entry c e) kept (closing_of (with_entry c e)) refl)
 
   pub keeps : (e : Entry) (now : Opening) (owing : ℕ) (after : List StoredRecord) (numbers : List ℕ) (counted : Counts) → KeepsRunning earlier (with_entry c e) now owing
-      → IsStored c.opening.setup.size now after numbers → All IsSized after → length numbers ≡ length ordinals → counted ≡ capped_counts (counts_of ((earlier ++ c.entries) ++ e ∷ [])) → IsRingOf earlier (with_entry c e) after numbers counted
-  keeps e now owing after numbers counted runs stands sized long is = record {
+      → IsStored c.opening.setup.size now after numbers → All IsSized after → length numbers ≡ length ordinals → counted ≡ capped_counts (counts_of ((earlier ++ c.entries) ++ e ∷ []))
+      → counted.made ≡ taken_before now + length after → IsRingOf earlier (with_entry c e) after numbers counted
+  keeps e now owing after numbers counted runs stands sized long is made = record {
     kept = runs.kept;
     size = g.size;
     start = g.start;
@@ -32,6 +33,7 @@ module _ (earlier : List Entry) (c : Chapter) (stored : List StoredRecord) (ordi
     stands = subst (λ o. IsStored c.opening.setup.size o after numbers) runs.closing_is stands;
     sized = sized;
     places = long ∙ g.places;
+    granted = subst (λ o. counted.made ≡ taken_before o + length after) runs.closing_is made;
     counted = is ∙ ap (λ h. capped_counts (counts_of h)) (append_assoc earlier c.entries (e ∷ []));
   }
 

@@ -10,3 +10,4 @@ pub mod TakesOne
 pub mod Turns
 pub mod Begins
 pub mod ManyTakes
+mod Told

@@ -1,5 +1,5 @@
 -- A busy record is submitted or discarded.
-use Rattle.std.proofs.Common.{◌≡◌, ℕ, zero, suc, ◌+◌, ◌-◌, ◌%◌, ◌<◌, List, [], ◌∷◌, ◌++◌, length, map, get_or, set, refl, sym, ap, ◌∙◌, subst, arith}
+use Rattle.std.proofs.Common.{◌≡◌, ℕ, zero, suc, ◌+◌, ◌-◌, ◌%◌, ◌<◌, List, [], ◌∷◌, ◌++◌, length, map, get_or, set, length-set, refl, sym, ap, ◌∙◌, subst, arith}
 use Rattle.std.specs.FinMap.{insert}
 use Rattle.std.proofs.lemmas.List.Elements.{All-set}
 use Rattle.rb_history.specs.declared.entries.Entry.{Entry}
@@ -19,9 +19,9 @@ use Rattle.rb_chapter.specs.Chapters.{Chapter, closing_of}
 use Rattle.rb_chapter.specs.ChapterRoom.{owed, record_now, IsBusyNow, with_entry}
 use Rattle.rb_chapter.specs.inner.OpeningSteps.{with_submit, with_discard}
 use Rattle.rb_chapter.proofs.Settling.{submitted, discarded}
-use Rattle.rb_chapter_ring.specs.inner.CountSteps.{counting_submit, counting_discard}
+use Rattle.rb_chapter_ring.proofs.CountSteps.{counting_submit, counting_discard}
 use Rattle.rb_chapter_ring.specs.inner.ChapterRingBody.{no_stored, ring_of, AreNumbered, IsStored, IsRingOf}
-use Rattle.rb_chapter_ring.proofs.CountSteps.{counts-submit, counts-discard, busy-some}
+use Rattle.rb_chapter_ring.proofs.CountSteps.{counts-submit, counts-discard}
 use Rattle.rb_chapter_ring.proofs.Keeps.{longer-legal, keeps}
 use Rattle.rb_chapter_ring.proofs.Numbering.{numbered-set}
 use Rattle.rb_chapter_ring.proofs.Rows.{rows}
@@ -80,7 +80,7 @@ module _ (earlier : List Entry) (c : Chapter) (stored : List StoredRecord) (ordi
       let runs = submitted earlier c g.kept (closing_of c) refl i is-busy now (owed c) (with_entry c e) refl refl refl in
       let stands = settled-stands now y Waiting refl refl refl refl refl refl refl in
       let counted = counts-submit c.opening.setup (earlier ++ c.entries) (record_now c i).pos counts (longer-legal earlier c stored ordinals counts g e runs.kept) g.counted in
-      keeps earlier c stored ordinals counts g e now (owed c - 1) (set stored i y) ordinals (counting_submit counts) runs stands (All-set IsSized stored i y (long ∙ sym busy.sized) g.sized) refl counted
+      keeps earlier c stored ordinals counts g e now (owed c - 1) (set stored i y) ordinals (counting_submit counts) runs stands (All-set IsSized stored i y (long ∙ sym busy.sized) g.sized) refl counted (omega (arith, g.granted, length-set stored i y))
 
   pub discard-keeps : IsRingOf earlier (with_entry c (Dis (record_now c i).pos)) (set stored i (record t { state = DiscardedState })) ordinals (counting_discard counts)
   discard-keeps =
@@ -90,13 +90,7 @@ module _ (earlier : List Entry) (c : Chapter) (stored : List StoredRecord) (ordi
       let runs = discarded earlier c g.kept (closing_of c) refl i is-busy now (owed c) (with_entry c e) refl refl refl in
       let stands = settled-stands now y Discarded refl refl refl refl refl refl refl in
       let counted = counts-discard c.opening.setup (earlier ++ c.entries) (record_now c i).pos counts (longer-legal earlier c stored ordinals counts g e runs.kept) g.counted in
-      keeps earlier c stored ordinals counts g e now (owed c - 1) (set stored i y) ordinals (counting_discard counts) runs stands (All-set IsSized stored i y tt g.sized) refl counted
-
-  pub one-busy : 0 < counts.busy
-  one-busy =
-      let e = Sub (record_now c i).pos in
-      let runs = submitted earlier c g.kept (closing_of c) refl i is-busy (with_submit i (closing_of c)) (owed c) (with_entry c e) refl refl refl in
-      busy-some c.opening.setup (earlier ++ c.entries) (record_now c i).pos counts (longer-legal earlier c stored ordinals counts g e runs.kept) g.counted
+      keeps earlier c stored ordinals counts g e now (owed c - 1) (set stored i y) ordinals (counting_discard counts) runs stands (All-set IsSized stored i y tt g.sized) refl counted (omega (arith, g.granted, length-set stored i y))
 
   pub contents-submit : (bytes : List ℕ) → contents_of (set stored i (record t { state = Submitted bytes })) ≡ insert (contents_of stored) pos bytes
   contents-submit bytes = contents-send c.opening.setup (earlier ++ c.entries) stored i t pos n (closing_of c).producer (closing_of c).consumer busy (rows earlier c stored ordinals counts g) bytes

@@ -1,5 +1,5 @@
 -- The record at the front is taken.
-use Rattle.std.proofs.Common.{◌≡◌, ◌≢◌, ℕ, ◌+◌, ◌-◌, ◌<◌, ◌↔◌, true, false, cond, List, [], ◌∷◌, ◌++◌, drop, length, map, get_or, refl, sym, ap, ◌∙◌, subst, append_assoc, arith}
+use Rattle.std.proofs.Common.{◌≡◌, ◌≢◌, ℕ, ◌+◌, ◌-◌, ◌<◌, ◌↔◌, false, cond, List, [], ◌∷◌, ◌++◌, drop, length, map, get_or, refl, sym, ap, ◌∙◌, subst, append_assoc, arith}
 use Rattle.std.specs.List.{All}
 use Rattle.std.proofs.lemmas.List.Elements.{All-tail}
 use Rattle.rb_header.specs.Span.{span}
@@ -31,9 +31,8 @@ use Rattle.rb_chapter.specs.inner.OpeningSteps.{with_take, events_by, skips_by}
 use Rattle.rb_chapter.proofs.Alike.{calls-alike}
 use Rattle.rb_chapter.proofs.Settling.{taken, takes-behind}
 use Rattle.rb_chapter_ring.specs.OpenedRing.{capped_counts}
-use Rattle.rb_chapter_ring.specs.inner.CountSteps.{counting_take}
 use Rattle.rb_chapter_ring.specs.inner.ChapterRingBody.{taken_before, ring_of, AreNumbered, IsStored, IsRingOf}
-use Rattle.rb_chapter_ring.proofs.CountSteps.{counts-take}
+use Rattle.rb_chapter_ring.proofs.CountSteps.{counting_take, counts-take, made-taken}
 use Rattle.rb_chapter_ring.proofs.Keeps.{longer-legal, keeps}
 use Rattle.rb_chapter_ring.proofs.Numbering.{numbered-tail}
 use Rattle.rb_chapter_ring.proofs.Rows.{rows}
@@ -119,13 +118,10 @@ module _ (earlier : List Entry) (c : Chapter) (stored : List StoredRecord) (ordi
         let n : Named h h (shown_record t) = named-at c.opening.setup h (map shown_record (t ∷ after)) (closing_of c).producer (closing_of c).consumer 0 (shown_record t) k (omega arith) in
         subst (λ p. status_by (is_submitted_at h p) (is_discarded_at h p) false ≡ state_status t.state) front-pos n.status_is
 
-    counted-take : ((is_submitted_state t.state ≡ true → 0 < counts.waiting) × (counting_take (is_submitted_state t.state) counts ≡ capped_counts (counts_of ((earlier ++ c.entries) ++ entry ∷ []))))
+    counted-take : counting_take (is_submitted_state t.state) counts ≡ capped_counts (counts_of ((earlier ++ c.entries) ++ entry ∷ []))
     counted-take =
         let runs = taken earlier c g.kept (closing_of c) refl is-settled (with_take (closing_of c)) (owed c) next refl refl refl in
         counts-take c.opening.setup (earlier ++ c.entries) (closing_of c).consumer counts (is_submitted_state t.state) (longer-legal earlier c stored ordinals counts g entry runs.kept) (waits-by t.state _ status-there) g.counted
-
-    pub waiting-some : is_submitted_state t.state ≡ true → 0 < counts.waiting
-    waiting-some = counted-take.0
 
     pub take-keeps : IsRingOf earlier next after ordinals (counting_take (is_submitted_state t.state) counts)
     take-keeps =
@@ -145,7 +141,8 @@ module _ (earlier : List Entry) (c : Chapter) (stored : List StoredRecord) (ordi
           numbered = subst (λ first. AreNumbered c.opening.setup.size ordinals first after) (sym one)
               (numbered-tail c.opening.setup.size ordinals (taken_before o) t after (subst (AreNumbered c.opening.setup.size ordinals (taken_before o)) split s.numbered));
         } in
-        keeps earlier c stored ordinals counts g entry now (owed c - 1) after ordinals (counting_take (is_submitted_state t.state) counts) runs stands (All-tail IsSized t after (subst (All IsSized) split g.sized)) refl counted-take.1
+        keeps earlier c stored ordinals counts g entry now (owed c - 1) after ordinals (counting_take (is_submitted_state t.state) counts) runs stands (All-tail IsSized t after (subst (All IsSized) split g.sized)) refl counted-take
+        (omega (arith, made-taken (is_submitted_state t.state) counts, g.granted, one, ap length split))
 
     pub takes-it : TakesAs (ring_of c stored) (ring_of next after) (taken_of t t.state)
     takes-it =

@@ -1,5 +1,5 @@
 -- The ring goes on in another chapter.
-use Rattle.std.proofs.Common.{◌≡◌, ℕ, ◌/◌, ◌<◌, ◌^◌, ◌↔◌, Bool, IsTrue, List, [], ◌∷◌, ◌++◌, length, arith, refl, sym, ap, ◌∙◌, subst, append-nil}
+use Rattle.std.proofs.Common.{◌≡◌, ℕ, ◌+◌, ◌/◌, ◌<◌, ◌^◌, ◌↔◌, Bool, IsTrue, List, [], ◌∷◌, ◌++◌, length, arith, refl, sym, ap, ◌∙◌, subst, append-nil}
 use Rattle.rb_history.specs.declared.entries.Entry.{Entry}
 use Rattle.rb_history.specs.declared.answers.Counts.{Counts}
 use Rattle.rb_history.specs.declared.stored_records.StoredRecord.{StoredRecord}
@@ -12,7 +12,7 @@ use Rattle.rb_chapter.specs.ChapterCalls.{HandsOut}
 use Rattle.rb_chapter.proofs.Running.{closing-none}
 use Rattle.rb_chapter.proofs.Room.{next-room}
 use Rattle.rb_chapter_ring.specs.OpenedRing.{capped_counts, MayGoOnIn}
-use Rattle.rb_chapter_ring.specs.inner.ChapterRingBody.{ring_of, IsStored, IsRingOf}
+use Rattle.rb_chapter_ring.specs.inner.ChapterRingBody.{taken_before, ring_of, IsStored, IsRingOf}
 
 module _ (earlier : List Entry) (c : Chapter) (stored : List StoredRecord) (ordinals : List ℕ) (counts : Counts) (g : IsRingOf earlier c stored ordinals counts) (d : Chapter) (meets : Meets c d) (none : d.entries ≡ []) (room : d.room ≡ c.room) where
   -- it stands for the same
@@ -35,6 +35,7 @@ module _ (earlier : List Entry) (c : Chapter) (stored : List StoredRecord) (ordi
         stands = subst (λ o. IsStored d.opening.setup.size o stored ordinals) (sym closing-same) (subst (λ n. IsStored n (closing_of c) stored ordinals) (sym size) g.stands);
         sized = g.sized;
         places = g.places ∙ ap (λ n. n / 8) (sym size);
+        granted = subst (λ o. counts.made ≡ taken_before o + length stored) (sym closing-same) g.granted;
         counted = g.counted ∙ ap (λ h. capped_counts (counts_of h)) (sym (ap (λ es. (earlier ++ c.entries) ++ es) none ∙ append-nil (earlier ++ c.entries)));
       }
 

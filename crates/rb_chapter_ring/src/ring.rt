@@ -15,9 +15,7 @@ ghost use Rattle.rb_chapter.specs.WholeHistory.{IsKept};
 ghost use Rattle.rb_chapter_ring.specs.OpenedRing.{opened_ring, told_counts, IsChapterRingWithin, MayGoOnIn};
 ghost use Rattle.rb_chapter_ring.specs.RingFaults.{RefusesInChapter};
 
-use crate::counting::{
-    count_discard, count_grant, count_refusal, count_submit, count_take, no_counts,
-};
+use crate::counting::count_refusal;
 use crate::faults::{OpenFault, ReserveFault};
 use crate::finding::{busy_index, place_in};
 use crate::setup::{check_setup, is_fit, made_by, slots_for};
@@ -42,7 +40,9 @@ pub struct RingState {
     chapter: Chapter,
     records: VecDeque<StoredRecord>,
     ordinals: Vec<u64>,
-    counts: Counts,
+    // The refusals, of which it counts as many as 64 bits hold, and the discards. The other counts follow from the chapter.
+    refused: u64,
+    discarded: u64,
 }
 
 impl Model for RingState {
@@ -95,7 +95,8 @@ impl RingState {
             chapter,
             records,
             ordinals,
-            counts: no_counts(),
+            refused: 0,
+            discarded: 0,
         })
     }
 
@@ -136,7 +137,19 @@ impl RingState {
     pub fn counts(&self) -> Counts
         ensures counts { result ≡ told_counts self.now }
     {
-        self.counts
+        let closing = self.chapter.closing();
+        let there = self.records.len() as u64;
+        let consumed = closing.consumed();
+        let made = consumed + closing.skipped() + there;
+        let busy = u64::from(self.chapter.owed()) - there;
+        Counts {
+            made,
+            refused: self.refused,
+            consumed,
+            discarded: self.discarded,
+            waiting: made - busy - consumed - self.discarded,
+            busy,
+        }
     }
 
     /// Grants worker `worker` a record of `n` bytes at the producer position, in a sheet of as many bytes, which become zeros, where
@@ -262,7 +275,6 @@ impl RingState {
         let Some(record) = self.records.pop_front() else {
             unreachable!()
         };
-        count_take(&mut self.counts, record.is_submitted());
         record.taken()
     }
 
@@ -302,7 +314,7 @@ impl RingState {
             return ReserveFault::ChapterFull;
         }
         self.chapter.log_refusal(worker, n);
-        count_refusal(&mut self.counts);
+        count_refusal(&mut self.refused);
         ReserveFault::Full
     }
 
@@ -335,7 +347,6 @@ impl RingState {
             serial,
             state: RecordState::Reserved,
         });
-        count_grant(&mut self.counts);
         Ok((pos, serial))
     }
 
@@ -345,9 +356,7 @@ impl RingState {
         ensures logged { Logs self.old self.new (Entry.Sub pos ∷ []) }
         ensures contents { self.new.contents ≡ insert self.old.contents pos sheet }
     {
-        // Counted first: right behind the count of a grant that is output, a compiler leaves out what the two undo of each other. Logged
-        // last, so that the bytes' place is long written when they are taken at once.
-        count_submit(&mut self.counts);
+        // Logged last, so that the bytes' place is long written when they are taken at once.
         self.records[index].state = RecordState::Submitted(sheet);
         self.chapter.log_submit(index);
     }
@@ -360,7 +369,7 @@ impl RingState {
     {
         self.chapter.log_discard(index);
         self.records[index].state = RecordState::Discarded;
-        count_discard(&mut self.counts);
+        self.discarded += 1;
     }
 
     // Whether a notice is due for the record at `pos`.

@@ -73,9 +73,13 @@ pub record IsRingOf (earlier : List Entry) (c : Chapter) (stored : List StoredRe
   pub sized : All IsSized stored
   pub places : length ordinals ≡ c.opening.setup.size / 8
   pub counted : counts ≡ capped_counts (counts_of (earlier ++ c.entries))
+  pub granted : counts.made ≡ taken_before (closing_of c) + length stored
 
--- and there is memory for as many records as the ring and the chapter have room for
+-- two of the six counts are kept, and there is memory for as many records as the ring and the chapter have room for
 pub record ChapterRingInvariant (a : Inside) : Type 0 where
   pub earlier : List Entry
-  pub ring : IsRingOf earlier a.chapter a.records.items a.ordinals.items a.counts
+  pub counts : Counts
+  pub ring : IsRingOf earlier a.chapter a.records.items a.ordinals.items counts
+  pub refused_is : a.refused ≡ counts.refused
+  pub discarded_is : a.discarded ≡ counts.discarded
   pub slots : (n : ℕ) → n ≤ a.chapter.opening.setup.size / 8 → n ≤ a.chapter.room → n ≤ deque_capacity a.records

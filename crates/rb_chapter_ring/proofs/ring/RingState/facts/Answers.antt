@@ -14,7 +14,7 @@ returns-clause-kept c =
 pub returns-clause-stands : goal.returns-clause-stands
 returns-clause-stands c =
     let i = c.self.invariant in
-    subst StandsForChapter c.self.view_is (stands-for i.earlier c.self.inside.chapter c.self.inside.records.items c.self.inside.ordinals.items c.self.inside.counts i.ring)
+    subst StandsForChapter c.self.view_is (stands-for i.earlier c.self.inside.chapter c.self.inside.records.items c.self.inside.ordinals.items i.counts i.ring)
 
 pub returns-clause-bounded : goal.returns-clause-bounded
 returns-clause-bounded c =
@@ -25,7 +25,7 @@ returns-clause-bounded c =
       start = g.start;
       workers = g.workers;
       chapter_room = g.chapter_room;
-      consumer = InRow-le _ _ _ (rows i.earlier c.self.inside.chapter c.self.inside.records.items c.self.inside.ordinals.items c.self.inside.counts g).in_row;
+      consumer = InRow-le _ _ _ (rows i.earlier c.self.inside.chapter c.self.inside.records.items c.self.inside.ordinals.items i.counts g).in_row;
       producer = g.stands.limit;
       room = g.stands.space;
     })

@@ -12,10 +12,10 @@ use Rattle.rb_chapter.specs.ChapterRing.{ChapterRing}
 use Rattle.rb_chapter.specs.ChapterRoom.{with_entry}
 use Rattle.rb_chapter.specs.ChapterCalls.{Grants, FindsChapterFull}
 use Rattle.rb_chapter_ring.specs.inner.ChapterRingBody.{place_of, taken_before, ring_of}
-use Rattle.rb_chapter_ring.proofs.CountSteps.{countable}
+use Rattle.rb_chapter_ring.proofs.CountSteps.{counting_grant}
 use Rattle.rb_chapter_ring.proofs.Grants.{newest, few, fit, grant-keeps, serial-of, tallies-long, contents-grant}
 use Rattle.rb_chapter_ring.proofs.Keeps.{transport-ring}
-use Rattle.rb_chapter_ring.proofs.Rows.{rows, legal}
+use Rattle.rb_chapter_ring.proofs.Rows.{rows}
 use Rattle.rb_chapter_ring.proofs.ring.RingState.grant.Goals as goal
 
 pub returns-then-not-may_grant-clause-refused : goal.returns-then-not-may_grant-clause-refused
@@ -30,7 +30,7 @@ made_by-serial-requires c =
     let i = c.self.invariant in
     let below = subst (λ (v : ChapterRing). c.args.worker < v.chapter.opening.setup.workers) (sym c.self.view_is) c.requires.worker in
     let tallies = c.tallies.ensures.tallies ∙ ap (λ (x : Opening). x.tallies) c.closing-closing.ensures.closing in
-    record { worker = omega (arith, below, ap length tallies, tallies-long i.earlier a.chapter a.records.items a.ordinals.items a.counts i.ring) }
+    record { worker = omega (arith, below, ap length tallies, tallies-long i.earlier a.chapter a.records.items a.ordinals.items i.counts i.ring) }
 
 pub overflow_add-ordinal : goal.overflow_add-ordinal
 overflow_add-ordinal c =
@@ -38,7 +38,7 @@ overflow_add-ordinal c =
     let i = c.self.invariant in
     let k = c.consumed.ensures.total ∙ ap (λ (o : Opening). o.consumed) c.closing-closing.ensures.closing in
     let l = c.skipped.ensures.total ∙ ap (λ (o : Opening). o.skipped) c.closing-closing.ensures.closing in
-    let small : c.consumed.result + c.skipped.result < 2 ^ 64 = omega (arith, k, l, i.ring.stands.behind, i.ring.stands.limit, InRow-le _ _ _ (rows i.earlier a.chapter a.records.items a.ordinals.items a.counts i.ring).in_row) in
+    let small : c.consumed.result + c.skipped.result < 2 ^ 64 = omega (arith, k, l, i.ring.stands.behind, i.ring.stands.limit, InRow-le _ _ _ (rows i.earlier a.chapter a.records.items a.ordinals.items i.counts i.ring).in_row) in
     omega arith
 
 pub overflow_add-ordinal-2 : goal.overflow_add-ordinal-2
@@ -47,7 +47,7 @@ overflow_add-ordinal-2 c =
     let i = c.self.invariant in
     let k = c.consumed.ensures.total ∙ ap (λ (o : Opening). o.consumed) c.closing-closing.ensures.closing in
     let l = c.skipped.ensures.total ∙ ap (λ (o : Opening). o.skipped) c.closing-closing.ensures.closing in
-    let small : c.consumed.result + c.skipped.result + c.len.result < 2 ^ 64 = omega (arith, k, l, i.ring.stands.behind, i.ring.stands.limit, InRow-le _ _ _ (rows i.earlier a.chapter a.records.items a.ordinals.items a.counts i.ring).in_row, (few i.earlier a.chapter a.records.items a.ordinals.items a.counts i.ring).1, i.ring.size.2, c.len.ensures, a.records.ok.0) in
+    let small : c.consumed.result + c.skipped.result + c.len.result < 2 ^ 64 = omega (arith, k, l, i.ring.stands.behind, i.ring.stands.limit, InRow-le _ _ _ (rows i.earlier a.chapter a.records.items a.ordinals.items i.counts i.ring).in_row, (few i.earlier a.chapter a.records.items a.ordinals.items i.counts i.ring).1, i.ring.size.2, c.len.ensures, a.records.ok.0) in
     omega arith
 
 pub push_back_reserved-requires : goal.push_back_reserved-requires
@@ -55,13 +55,7 @@ push_back_reserved-requires c =
     let a = c.self.inside in
     let i = c.self.invariant in
     let may = c.may_grant.ensures.exact.0 c.if-not-may_grant.false in
-    omega (arith, i.slots (length a.records.items + 1) (few i.earlier a.chapter a.records.items a.ordinals.items a.counts i.ring).0 (fit i.earlier a.chapter a.records.items a.ordinals.items a.counts i.ring may), a.records.ok.0)
-
-pub count_grant-requires : goal.count_grant-requires
-count_grant-requires c =
-    let a = c.self.inside in
-    let i = c.self.invariant in
-    record { countable = countable a.chapter.opening.setup (i.earlier ++ a.chapter.entries) a.counts (legal i.earlier a.chapter a.records.items a.ordinals.items a.counts i.ring) i.ring.counted }
+    omega (arith, i.slots (length a.records.items + 1) (few i.earlier a.chapter a.records.items a.ordinals.items i.counts i.ring).0 (fit i.earlier a.chapter a.records.items a.ordinals.items i.counts i.ring may), a.records.ok.0)
 
 pub invariant_of-self : goal.invariant_of-self
 invariant_of-self c =
@@ -82,15 +76,18 @@ invariant_of-self c =
     let size = c.size.ensures.size ∙ ap (λ (x : Opening). x.setup.size) o in
     let place = c.place_in-place.ensures.value ∙ (λ j. place_of (size j) (pos j)) in
     let new : StoredRecord = record { pos = c.producer-pos.result; len = n; worker = w; serial = c.made_by-serial.result; state = Reserved } in
-    let same : new ≡ newest i.earlier a.chapter a.records.items a.ordinals.items a.counts i.ring w n = λ j. record { pos = pos j; len = n; worker = w; serial = serial j; state = Reserved } in
+    let same : new ≡ newest i.earlier a.chapter a.records.items a.ordinals.items i.counts i.ring w n = λ j. record { pos = pos j; len = n; worker = w; serial = serial j; state = Reserved } in
     let items = c.push_back_reserved.ensures.items ∙ ap (λ x. a.records.items ++ x ∷ []) same in
     let numbers : set a.ordinals.items c.place_in-place.result (c.consumed.result + c.skipped.result + c.len.result)
     ≡ set a.ordinals.items (place_of a.chapter.opening.setup.size (closing_of a.chapter).producer) (taken_before (closing_of a.chapter) + length a.records.items) =
     λ j. set a.ordinals.items (place j) (k j + l j + long j) in
-    let kept = grant-keeps i.earlier a.chapter a.records.items a.ordinals.items a.counts i.ring w n below fits may in
+    let kept = grant-keeps i.earlier a.chapter a.records.items a.ordinals.items i.counts i.ring w n below fits may in
     record {
       earlier = i.earlier;
-      ring = transport-ring _ _ _ _ _ _ _ _ i.earlier (sym c.log_grant.ensures.logged) (sym items) (sym numbers) (sym c.count_grant.ensures.counted) kept;
+      counts = counting_grant i.counts;
+      refused_is = i.refused_is;
+      discarded_is = i.discarded_is;
+      ring = transport-ring _ _ _ _ _ _ _ _ i.earlier (sym c.log_grant.ensures.logged) (sym items) (sym numbers) refl kept;
       slots = subst (λ (d : Chapter). (m : ℕ) → m ≤ d.opening.setup.size / 8 → m ≤ d.room → m ≤ deque_capacity c.push_back_reserved.new.self) (sym c.log_grant.ensures.logged)
           (λ m within room. subst (λ x. m ≤ x) (sym c.push_back_reserved.ensures.capacity) (i.slots m within room));
     }
@@ -108,9 +105,9 @@ returns-clause-granted c =
     let pos = c.producer-pos.ensures.position ∙ ap (λ (x : Opening). x.producer) o in
     let tallies = c.tallies.ensures.tallies ∙ ap (λ (x : Opening). x.tallies) o in
     let serial = c.made_by-serial.ensures.made ∙ ap (λ ts. (get_or ts w no_tally).made) tallies in
-    let own = serial ∙ serial-of i.earlier a.chapter a.records.items a.ordinals.items a.counts i.ring w below in
+    let own = serial ∙ serial-of i.earlier a.chapter a.records.items a.ordinals.items i.counts i.ring w below in
     let new : StoredRecord = record { pos = c.producer-pos.result; len = n; worker = w; serial = c.made_by-serial.result; state = Reserved } in
-    let same : new ≡ newest i.earlier a.chapter a.records.items a.ordinals.items a.counts i.ring w n = λ j. record { pos = pos j; len = n; worker = w; serial = serial j; state = Reserved } in
+    let same : new ≡ newest i.earlier a.chapter a.records.items a.ordinals.items i.counts i.ring w n = λ j. record { pos = pos j; len = n; worker = w; serial = serial j; state = Reserved } in
     let items = c.push_back_reserved.ensures.items ∙ ap (λ x. a.records.items ++ x ∷ []) same in
     subst (λ v. Grants v (ring_of c.log_grant.new.self c.push_back_reserved.new.self.items) w n c.producer-pos.result c.made_by-serial.result) c.self.view_is
     (record {
@@ -119,5 +116,5 @@ returns-clause-granted c =
       position = pos;
       serial = own;
       logged = c.log_grant.ensures.logged ∙ (λ j. with_entry a.chapter (Res w (sym own j) n (sym pos j)));
-      contents_same = ap contents_of items ∙ contents-grant i.earlier a.chapter a.records.items a.ordinals.items a.counts i.ring w n;
+      contents_same = ap contents_of items ∙ contents-grant i.earlier a.chapter a.records.items a.ordinals.items i.counts i.ring w n;
     })

@@ -14,13 +14,16 @@ invariant_of-self c =
     let i = c.self.invariant in
     let meets = c.open_after.ensures.meets in
     let room = c.open_after.ensures.room ∙ (c.may_go_on_in.ensures.exact.0 c.if-not-may_go_on_in.false).room_same ∙ sym (ap (λ (v : ChapterRing). v.chapter.room) c.self.view_is) in
-    let kept = turn-keeps i.earlier a.chapter a.records.items a.ordinals.items a.counts i.ring c.open_after.new.self meets c.open_after.ensures.empty room in
+    let kept = turn-keeps i.earlier a.chapter a.records.items a.ordinals.items i.counts i.ring c.open_after.new.self meets c.open_after.ensures.empty room in
     let size : c.open_after.new.self.opening.setup.size ≡ a.chapter.opening.setup.size = ap (λ (o : Opening). o.setup.size) meets.goes_on in
     let slots : (n : ℕ) → n ≤ c.open_after.new.self.opening.setup.size / 8 → n ≤ c.open_after.new.self.room → n ≤ deque_capacity a.records =
     λ n within fits. i.slots n (subst (λ s. n ≤ s / 8) size within) (subst (λ m. n ≤ m) room fits) in
     record {
       earlier = i.earlier ++ a.chapter.entries;
-      ring = subst (λ d. IsRingOf (i.earlier ++ a.chapter.entries) d a.records.items a.ordinals.items a.counts) (sym c.replace.ensures.after) kept;
+      counts = i.counts;
+      refused_is = i.refused_is;
+      discarded_is = i.discarded_is;
+      ring = subst (λ d. IsRingOf (i.earlier ++ a.chapter.entries) d a.records.items a.ordinals.items i.counts) (sym c.replace.ensures.after) kept;
       slots = subst (λ (d : Chapter). (n : ℕ) → n ≤ d.opening.setup.size / 8 → n ≤ d.room → n ≤ deque_capacity a.records) (sym c.replace.ensures.after) slots;
     }
 
@@ -29,7 +32,7 @@ returns-clause-handed_out c =
     let a = c.self.inside in
     let i = c.self.invariant in
     let room = c.open_after.ensures.room ∙ (c.may_go_on_in.ensures.exact.0 c.if-not-may_go_on_in.false).room_same ∙ sym (ap (λ (v : ChapterRing). v.chapter.room) c.self.view_is) in
-    let handed = hands-out i.earlier a.chapter a.records.items a.ordinals.items a.counts i.ring c.open_after.new.self c.open_after.ensures.meets c.open_after.ensures.empty room in
+    let handed = hands-out i.earlier a.chapter a.records.items a.ordinals.items i.counts i.ring c.open_after.new.self c.open_after.ensures.meets c.open_after.ensures.empty room in
     subst (λ v. HandsOut v (ring_of c.replace.new.dest a.records.items) c.replace.result) c.self.view_is
     (subst (λ d. HandsOut (ring_of a.chapter a.records.items) (ring_of d a.records.items) c.replace.result) (sym c.replace.ensures.after)
     (subst (λ out. HandsOut (ring_of a.chapter a.records.items) (ring_of c.open_after.new.self a.records.items) out) (sym c.replace.ensures.value) handed))

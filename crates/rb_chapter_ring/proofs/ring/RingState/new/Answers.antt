@@ -1,8 +1,9 @@
-use Rattle.std.proofs.Common.{◌≡◌, ◌/◌, ◌≤◌, ℕ, [], replicate, sym, ap, ◌∙◌, subst}
+use Rattle.std.proofs.Common.{◌≡◌, ◌/◌, ◌≤◌, ℕ, [], replicate, refl, sym, ap, ◌∙◌, subst}
 use Rattle.std.specs.VecDeque.{deque_capacity}
 use Rattle.rb_history.specs.RoomRule.{Setup}
 use Rattle.rb_chapter.specs.Chapters.{Chapter, first_chapter}
 use Rattle.rb_chapter_ring.proofs.Begins.{begins}
+use Rattle.rb_chapter_ring.proofs.CountSteps.{zero_counts}
 use Rattle.rb_chapter_ring.proofs.Keeps.{transport-ring}
 use Rattle.rb_chapter_ring.proofs.ring.RingState.new.Goals as goal
 
@@ -17,6 +18,9 @@ invariant_of-result c =
     λ n within room. subst (λ x. n ≤ x) (sym c.in-Ok-with_capacity.ensures.exact) (c.slots_for.ensures.slots n within room) in
     record {
       earlier = [];
-      ring = transport-ring _ _ _ _ _ _ _ _ [] (sym chapter) (sym c.in-Ok-with_capacity.ensures.items) (sym zeros) (sym c.no_counts.ensures.zeros) (begins c.args.room r fits.0 fits.1 fits.2 fits.3);
+      counts = zero_counts;
+      refused_is = refl;
+      discarded_is = refl;
+      ring = transport-ring _ _ _ _ _ _ _ _ [] (sym chapter) (sym c.in-Ok-with_capacity.ensures.items) (sym zeros) refl (begins c.args.room r fits.0 fits.1 fits.2 fits.3);
       slots = subst (λ (d : Chapter). (n : ℕ) → n ≤ d.opening.setup.size / 8 → n ≤ d.room → n ≤ deque_capacity c.in-Ok-with_capacity.records) (sym chapter) slots;
     }

@@ -10,7 +10,7 @@ overflow_sub-result c =
     let i = c.self.invariant in
     let p = c.producer.ensures.position ∙ ap (λ (o : Opening). o.producer) c.closing-closing.ensures.closing in
     let q = c.consumer.ensures.position ∙ ap (λ (o : Opening). o.consumer) c.closing-closing.ensures.closing in
-    omega (arith, p, q, InRow-le _ _ _ (rows i.earlier a.chapter a.records.items a.ordinals.items a.counts i.ring).in_row)
+    omega (arith, p, q, InRow-le _ _ _ (rows i.earlier a.chapter a.records.items a.ordinals.items i.counts i.ring).in_row)
 
 pub returns-in-0 : goal.returns-in-0
 returns-in-0 c =

@@ -1,12 +1,12 @@
-use Rattle.std.proofs.Common.{◌/◌, ◌<◌, ◌≤◌, ℕ, refl, sym, ◌∙◌, subst}
+use Rattle.std.proofs.Common.{◌+◌, ◌/◌, ◌<◌, ◌≤◌, ℕ, ap, refl, sym, ◌∙◌, subst}
 use Rattle.std.specs.VecDeque.{deque_capacity}
 use Rattle.std.proofs.lemmas.Bool.{false≢true}
-use Rattle.rb_history.specs.declared.entries.Entry.TheVariants.{Full}
 use Rattle.rb_chapter.specs.Chapters.{Chapter}
 use Rattle.rb_chapter.specs.ChapterRing.{ChapterRing}
-use Rattle.rb_chapter.specs.ChapterRoom.{with_entry}
 use Rattle.rb_chapter.specs.ChapterCalls.{ChapterRingHasRoom, FindsFull, FindsChapterFull}
+use Rattle.rb_chapter_ring.specs.OpenedRing.{capped}
 use Rattle.rb_chapter_ring.specs.inner.ChapterRingBody.{ring_of, IsRingOf}
+use Rattle.rb_chapter_ring.proofs.CountSteps.{counting_refusal}
 use Rattle.rb_chapter_ring.proofs.Grants.{refusal-keeps}
 use Rattle.rb_chapter_ring.proofs.ring.RingState.refuse.Goals as goal
 
@@ -17,17 +17,22 @@ returns-then-not-may_refuse-clause-refused c =
     subst (λ v. FindsChapterFull v v c.args.worker c.args.n) c.self.view_is
     (record { no_grant = λ has _. full has; no_refusal = λ _ may. false≢true (sym c.if-not-may_refuse.true ∙ c.may_refuse.ensures.exact.1 may); same = refl })
 
+pub log_refusal-requires-clause-no_room : goal.log_refusal-requires-clause-no_room
+log_refusal-requires-clause-no_room c = subst (λ (v : ChapterRing). ¬ ChapterRingHasRoom v c.args.n) (sym c.self.view_is) c.requires.full
+
 pub invariant_of-self : goal.invariant_of-self
 invariant_of-self c =
     let a = c.self.inside in
     let i = c.self.invariant in
     let below = subst (λ (v : ChapterRing). c.args.worker < v.chapter.opening.setup.workers) (sym c.self.view_is) c.requires.worker in
     let full = subst (λ (v : ChapterRing). ¬ ChapterRingHasRoom v c.args.n) (sym c.self.view_is) c.requires.full in
-    let kept = refusal-keeps i.earlier a.chapter a.records.items a.ordinals.items a.counts i.ring c.args.worker c.args.n below full (c.may_refuse.ensures.exact.0 c.if-not-may_refuse.false) in
+    let kept = refusal-keeps i.earlier a.chapter a.records.items a.ordinals.items i.counts i.ring c.args.worker c.args.n below full (c.may_refuse.ensures.exact.0 c.if-not-may_refuse.false) in
     record {
       earlier = i.earlier;
-      ring = subst (λ d. IsRingOf i.earlier d a.records.items a.ordinals.items c.count_refusal.new.counts) (sym c.log_refusal.ensures.logged)
-          (subst (λ n. IsRingOf i.earlier (with_entry a.chapter (Full c.args.worker c.args.n)) a.records.items a.ordinals.items n) (sym c.count_refusal.ensures.counted) kept);
+      counts = counting_refusal i.counts;
+      refused_is = c.count_refusal.ensures.counted ∙ ap (λ n. capped (n + 1)) i.refused_is;
+      discarded_is = i.discarded_is;
+      ring = subst (λ d. IsRingOf i.earlier d a.records.items a.ordinals.items (counting_refusal i.counts)) (sym c.log_refusal.ensures.logged) kept;
       slots = subst (λ (d : Chapter). (n : ℕ) → n ≤ d.opening.setup.size / 8 → n ≤ d.room → n ≤ deque_capacity a.records) (sym c.log_refusal.ensures.logged) i.slots;
     }
 
