@@ -1,6 +1,6 @@
 //! The bytes of one record.
 
-ghost use Rattle.std.specs.Prelude.{◌≡◌, ◌<◌, ◌^◌, ℕ, List, IfOk, IfErr, replicate, length, vec_len, false};
+ghost use Rattle.std.specs.Prelude.{◌≡◌, ◌<◌, ◌^◌, ℕ, List, [], IfOk, IfErr, replicate, length, vec_len, false};
 
 use crate::lent::Lent;
 use crate::short::{CAPACITY, Short};
@@ -68,6 +68,17 @@ impl Sheet {
             Bytes::Zeros(vec![in alloc; 0; n]?)
         };
         Ok(Sheet { bytes, alloc })
+    }
+
+    #[inline]
+    /// A sheet without bytes. It takes no memory.
+    pub fn empty(alloc: Global) -> Sheet
+        ensures empty { result ≡ [] }
+    {
+        Sheet {
+            bytes: Bytes::InPlace(Short::zeros(0)),
+            alloc,
+        }
     }
 
     /// The sheet as one of `n` zero bytes. It takes memory only where the sheet never held as many bytes; where that is
