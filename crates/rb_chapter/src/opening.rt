@@ -29,28 +29,6 @@ pub enum UntakenStatus {
     Discarded,
 }
 
-impl UntakenStatus {
-    // 1 where a take hands the record out.
-    fn events(self) -> u64
-        ensures events { result ≡ events_by (status_shown self) }
-    {
-        match self {
-            UntakenStatus::Waiting => 1,
-            _ => 0,
-        }
-    }
-
-    // 1 where a take passes the record over.
-    fn skips(self) -> u64
-        ensures skips { result ≡ skips_by (status_shown self) }
-    {
-        match self {
-            UntakenStatus::Discarded => 1,
-            _ => 0,
-        }
-    }
-}
-
 /// A record that was granted and not taken when a chapter was opened.
 #[derive(Clone, Copy, Debug, PartialEq, Eq)]
 pub struct UntakenRecord {
@@ -91,6 +69,19 @@ impl Numbers {
             consumer: start,
             consumed: 0,
             skipped: 0,
+        }
+    }
+
+    #[inline(always)]
+    // Counts a record that was taken, by what had become of it.
+    fn count_take(&mut self, status: UntakenStatus)
+        requires totals { self.old.consumed + self.old.skipped < 2 ^ 62 }
+        ensures counted { self.new ≡ record self.old { consumed = self.old.consumed + events_by (status_shown status); skipped = self.old.skipped + skips_by (status_shown status) } }
+    {
+        match status {
+            UntakenStatus::Busy => {}
+            UntakenStatus::Waiting => self.consumed += 1,
+            UntakenStatus::Discarded => self.skipped += 1,
         }
     }
 
@@ -277,8 +268,7 @@ impl Opening {
         let position = self.numbers.consumer;
         self.first += 1;
         self.numbers.consumer += span(record.len);
-        self.numbers.consumed += record.status.events();
-        self.numbers.skipped += record.status.skips();
+        self.numbers.count_take(record.status);
         position
     }
 

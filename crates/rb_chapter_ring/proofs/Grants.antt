@@ -27,6 +27,9 @@ use Rattle.rb_chapter_ring.proofs.Rows.{rows}
 use Rattle.rb_chapter_ring.proofs.Places.{eights-in, row-many}
 
 module _ (earlier : List Entry) (c : Chapter) (stored : List StoredRecord) (ordinals : List ℕ) (counts : Counts) (g : IsRingOf earlier c stored ordinals counts) where
+  pub refusal-closing : (w n : ℕ) → w < c.opening.setup.workers → ¬ HasRoomFrom c.opening c.entries n → MayRefuse c w → with_refusal w (closing_of c) ≡ closing_of (with_entry c (Full w n))
+  refusal-closing w n low none room = (refused earlier c g.kept (closing_of c) refl w n (with_refusal w (closing_of c)) (owed c) (with_entry c (Full w n)) low none room refl refl refl).closing_is
+
   pub refusal-keeps : (w n : ℕ) → w < c.opening.setup.workers → ¬ HasRoomFrom c.opening c.entries n → MayRefuse c w → IsRingOf earlier (with_entry c (Full w n)) stored ordinals (counting_refusal counts)
   refusal-keeps w n low none room =
       let e = Full w n in
@@ -55,6 +58,13 @@ module _ (earlier : List Entry) (c : Chapter) (stored : List StoredRecord) (ordi
       shown-long : (ss : List StoredRecord) → length (map shown_record ss) ≡ length ss
       shown-long [] = refl
       shown-long (x ∷ ss) = omega (arith, shown-long ss)
+
+  -- the entry of that grant
+  abbrev pub grant : ℕ → ℕ → Entry
+  grant w n = Res w (grants_from c.opening w c.entries) n (producer_from c.opening c.entries)
+
+  pub grant-closing : (w n : ℕ) → w < c.opening.setup.workers → HasRoomFrom c.opening c.entries n → MayGrant c → with_grant w n (closing_of c) ≡ closing_of (with_entry c (grant w n))
+  grant-closing w n low fits room = (granted earlier c g.kept (closing_of c) refl w n (with_grant w n (closing_of c)) (owed c) (with_entry c (grant w n)) low fits room refl refl refl).closing_is
 
   pub grant-keeps : (w n : ℕ) → w < c.opening.setup.workers → HasRoomFrom c.opening c.entries n → MayGrant c
       → IsRingOf earlier (with_entry c (Res w (grants_from c.opening w c.entries) n (producer_from c.opening c.entries))) (stored ++ newest w n ∷ []) (set ordinals (place_of c.opening.setup.size (closing_of c).producer) (taken_before (closing_of c) + length stored)) (counting_grant counts)

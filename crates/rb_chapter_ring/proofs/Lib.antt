@@ -1,5 +1,6 @@
 pub mod CountSteps
 pub mod Places
+pub mod Slots
 pub mod Numbering
 pub mod Rows
 pub mod Keeps
@@ -10,4 +11,6 @@ pub mod TakesOne
 pub mod Turns
 pub mod Begins
 pub mod ManyTakes
-mod Told
+pub mod Told
+pub mod Slotted
+pub mod Fronts

@@ -1,5 +1,6 @@
 -- The pieces of eight bytes of a ring, and the records of a row that stand at them.
 use Rattle.std.proofs.Common.{◌≡◌, ◌≢◌, ℕ, zero, suc, ◌+◌, ◌*◌, ◌-◌, ◌/◌, ◌%◌, ◌<◌, ◌≤◌, ◌^◌, List, [], ◌∷◌, length, map, refl, sym, ap, ◌∙◌, inl, inr, arith, subst, bit_and}
+use Rattle.std.specs.Int.{IsPowerOfTwo}
 use Rattle.std.specs.List.{Contains}
 use Rattle.std.proofs.Math.Nat.{mul-le-mul_left}
 use Rattle.std.proofs.lemmas.Bool.{cases_lt}
@@ -16,18 +17,27 @@ use Rattle.rb_chapter_ring.specs.inner.ChapterRingBody.{place_of}
 places-go-round : (place_of 4096 0 ≡ 0) × (place_of 4096 4088 ≡ 511) × (place_of 4096 4096 ≡ 0) × (place_of 4096 8184 ≡ 511) × (place_of 4096 8192 ≡ 0)
 places-go-round = (refl, refl, refl, refl, refl)
 
--- a size is a whole number of pieces of eight bytes
-pub eights-in : (size : ℕ) → IsRingSize size → (m : ℕ) × (size ≡ 8 * m)
-eights-in size z = elim (cases_lt z.0.0 3) [
+-- a power of two is a mask
+pub mask-is : (size p : ℕ) → IsPowerOfTwo size → bit_and p (size - 1) ≡ p % size
+mask-is size p z = subst (λ s. bit_and p (s - 1) ≡ p % s) (sym z.1) (and_mask p z.0)
+
+-- a size is eight times a power of two
+eighth : (size : ℕ) → IsRingSize size → (k : ℕ) × (size ≡ 8 * 2 ^ k)
+eighth size z = elim (cases_lt z.0.0 3) [
   | inl low ↦ let less : 2 ^ z.0.0 < 2 ^ 3 = pow_below z.0.0 3 low in absurd (omega (arith, less, z.0.1, z.1))
   | inr high ↦
       let split : z.0.0 ≡ z.0.0 - 3 + 3 = omega arith in
       let parts : 2 ^ (z.0.0 - 3 + 3) ≡ 2 ^ (z.0.0 - 3) * 2 ^ 3 = pow-add 2 (z.0.0 - 3) 3 in
-      (2 ^ (z.0.0 - 3), omega (arith, z.0.1, ap (λ x. 2 ^ x) split, parts))
+      (z.0.0 - 3, omega (arith, z.0.1, ap (λ x. 2 ^ x) split, parts))
 ]
 
-pub mask-is : (size p : ℕ) → IsRingSize size → bit_and p (size - 1) ≡ p % size
-mask-is size p z = subst (λ s. bit_and p (s - 1) ≡ p % s) (sym z.0.1) (and_mask p z.0.0)
+-- a size is a whole number of pieces of eight bytes
+pub eights-in : (size : ℕ) → IsRingSize size → (m : ℕ) × (size ≡ 8 * m)
+eights-in size z = let e = eighth size z in (2 ^ e.0, e.1)
+
+-- the pieces are a power of two
+pub eighth-power : (size : ℕ) → IsRingSize size → IsPowerOfTwo (size / 8)
+eighth-power size z = let e = eighth size z in (e.0, omega (arith, e.1))
 
 pub place-lt : (size p : ℕ) → IsRingSize size → place_of size p < size / 8
 place-lt size p z = let e = eights-in size z in omega (arith, e.1, z.1)

@@ -72,6 +72,9 @@ module _ (earlier : List Entry) (c : Chapter) (stored : List StoredRecord) (ordi
             (numbered-set c.opening.setup.size ordinals ((closing_of c).consumed + (closing_of c).skipped) stored i y (place ∙ ap (λ (x : StoredRecord). x.pos) (there ∙ sym (get_or-default stored i no_stored t busy.within))) s.numbered);
       }
 
+  pub submit-closing : with_submit i (closing_of c) ≡ closing_of (with_entry c (Sub (record_now c i).pos))
+  submit-closing = (submitted earlier c g.kept (closing_of c) refl i is-busy (with_submit i (closing_of c)) (owed c) (with_entry c (Sub (record_now c i).pos)) refl refl refl).closing_is
+
   pub submit-keeps : (bytes : List ℕ) → length bytes ≡ n → IsRingOf earlier (with_entry c (Sub (record_now c i).pos)) (set stored i (record t { state = Submitted bytes })) ordinals (counting_submit counts)
   submit-keeps bytes long =
       let e = Sub (record_now c i).pos in
@@ -81,6 +84,9 @@ module _ (earlier : List Entry) (c : Chapter) (stored : List StoredRecord) (ordi
       let stands = settled-stands now y Waiting refl refl refl refl refl refl refl in
       let counted = counts-submit c.opening.setup (earlier ++ c.entries) (record_now c i).pos counts (longer-legal earlier c stored ordinals counts g e runs.kept) g.counted in
       keeps earlier c stored ordinals counts g e now (owed c - 1) (set stored i y) ordinals (counting_submit counts) runs stands (All-set IsSized stored i y (long ∙ sym busy.sized) g.sized) refl counted (omega (arith, g.granted, length-set stored i y))
+
+  pub discard-closing : with_discard i (closing_of c) ≡ closing_of (with_entry c (Dis (record_now c i).pos))
+  discard-closing = (discarded earlier c g.kept (closing_of c) refl i is-busy (with_discard i (closing_of c)) (owed c) (with_entry c (Dis (record_now c i).pos)) refl refl refl).closing_is
 
   pub discard-keeps : IsRingOf earlier (with_entry c (Dis (record_now c i).pos)) (set stored i (record t { state = DiscardedState })) ordinals (counting_discard counts)
   discard-keeps =

@@ -96,11 +96,17 @@ module _ (earlier : List Entry) (c : Chapter) (stored : List StoredRecord) (ordi
       λ busy. free (state-held t.state (ap (λ (s : Shown). s.status) (sym same-front) ∙ busy)),
     )
 
-    abbrev entry : Entry
+    abbrev pub entry : Entry
     entry = Take (consumer_from c.opening c.entries)
 
-    abbrev next : Chapter
+    abbrev pub next : Chapter
     next = with_entry c entry
+
+    pub take-closing : with_take (closing_of c) ≡ closing_of next
+    take-closing = (taken earlier c g.kept (closing_of c) refl is-settled (with_take (closing_of c)) (owed c) next refl refl refl).closing_is
+
+    pub one-more : (with_take (closing_of c)).consumed + (with_take (closing_of c)).skipped ≡ taken_before (closing_of c) + 1
+    one-more = let status : (record_in (closing_of c) 0).status ≡ state_status t.state = ap (λ (x : Shown). x.status) same-front in omega (arith, ap events_by status, ap skips_by status, one-of-two t.state free)
 
     front-pos : t.pos ≡ (closing_of c).consumer
     front-pos =
@@ -130,8 +136,7 @@ module _ (earlier : List Entry) (c : Chapter) (stored : List StoredRecord) (ordi
         let runs = taken earlier c g.kept o refl is-settled now (owed c) next refl refl refl in
         let s = g.stands in
         let len : (record_in o 0).len ≡ t.len = ap (λ (x : Shown). x.len) same-front in
-        let status : (record_in o 0).status ≡ state_status t.state = ap (λ (x : Shown). x.status) same-front in
-        let one : now.consumed + now.skipped ≡ taken_before o + 1 = omega (arith, ap events_by status, ap skips_by status, one-of-two t.state free) in
+        let one : now.consumed + now.skipped ≡ taken_before o + 1 = one-more in
         let stands : IsStored c.opening.setup.size now after ordinals = record {
           limit = s.limit;
           space = omega (arith, s.space);

@@ -16,7 +16,7 @@ use Rattle.rb_chapter_ring.specs.inner.ChapterRingBody.{taken_before, ring_of, I
 
 module _ (earlier : List Entry) (c : Chapter) (stored : List StoredRecord) (ordinals : List ℕ) (counts : Counts) (g : IsRingOf earlier c stored ordinals counts) (d : Chapter) (meets : Meets c d) (none : d.entries ≡ []) (room : d.room ≡ c.room) where
   -- it stands for the same
-  closing-same : closing_of d ≡ closing_of c
+  pub closing-same : closing_of d ≡ closing_of c
   closing-same = closing-none (earlier ++ c.entries) d (next-room earlier c d g.kept.continues g.kept.room meets none room).1 none ∙ meets.goes_on
 
   setup-same : d.opening.setup ≡ c.opening.setup

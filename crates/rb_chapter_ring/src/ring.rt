@@ -17,28 +17,29 @@ ghost use Rattle.rb_chapter_ring.specs.RingFaults.{RefusesInChapter};
 
 use crate::counting::count_refusal;
 use crate::faults::{OpenFault, ReserveFault};
-use crate::finding::{busy_index, place_in};
-use crate::setup::{check_setup, is_fit, made_by, slots_for};
-use rb_chapter::Chapter;
+use crate::finding::{busy_index, front_of, place_in, slot_in};
+use crate::setup::{check_setup, empty_sheets, is_fit, made_by, slots_for};
+use rb_chapter::{Chapter, UntakenStatus};
 use rb_history::{
-    AVAIL_DATA, CONS_POS, Counts, KNOWN_FLAGS, Notice, PROD_POS, RING_SIZE, RecordState,
-    Reservation, StoredRecord, Stray, Taken, notice_for,
+    AVAIL_DATA, CONS_POS, Counts, KNOWN_FLAGS, Notice, PROD_POS, RING_SIZE, Reservation, Stray,
+    Taken, notice_for,
 };
 use rb_lend::Sheet;
 use std::alloc::Global;
-use std::collections::VecDeque;
 use std::marker::Model;
 use std::mem;
 
 /// One ring of records, for one thread. Contracts see its chapter, the bytes of its waiting records, and what it shows.
 ///
-/// The records that are there stand in a queue, in the order of their grants, and beside it a number for each eight bytes of the
-/// ring: how many records had been granted before the last one there. So a reservation's record is found in constant time: that number
-/// less the number of the records that were taken is its index in the queue.
+/// The records that are there are the chapter's, in the order of their grants, and beside them stands a number for each eight bytes of
+/// the ring: how many records had been granted before the last one there. So a reservation's record is found in constant time: that
+/// number less the number of the records that were taken is its index. The bytes of a waiting record lie in the slot of its number; there
+/// are as many slots as records may be there at once, and they go round.
 #[derive(Drop)]
 pub struct RingState {
     chapter: Chapter,
-    records: VecDeque<StoredRecord>,
+    sheets: Vec<Sheet>,
+    alloc: Global,
     ordinals: Vec<u64>,
     // The refusals, of which it counts as many as 64 bits hold, and the discards. The other counts follow from the chapter.
     refused: u64,
@@ -65,7 +66,7 @@ impl Model for RingState {
 impl RingState {
     /// A ring without records, of `size` bytes, whose positions begin at `start`, for `workers` workers, which keeps chapters of `room`
     /// entries; or the first of `OpenFault`'s refusals that applies. It takes all memory that the ring will ever need: that of its first
-    /// chapter, one record of the queue for each that may be there at once, and eight bytes for each eight of the ring.
+    /// chapter, a slot for each record that may be there at once (a power of two), and eight bytes for each eight of the ring.
     pub fn new(
         alloc: Global,
         size: u64,
@@ -85,7 +86,7 @@ impl RingState {
         };
         chapter.open_first(size, start);
         let places = (size / 8) as usize;
-        let Ok(records) = VecDeque::with_capacity(alloc, slots_for(places, room)) else {
+        let Ok(sheets) = empty_sheets(alloc, slots_for(size, room)) else {
             return Err(OpenFault::Memory);
         };
         let Ok(ordinals) = vec![in alloc; 0; places] else {
@@ -93,7 +94,8 @@ impl RingState {
         };
         Ok(RingState {
             chapter,
-            records,
+            sheets,
+            alloc,
             ordinals,
             refused: 0,
             discarded: 0,
@@ -138,7 +140,7 @@ impl RingState {
         ensures counts { result ≡ told_counts self.now }
     {
         let closing = self.chapter.closing();
-        let there = self.records.len() as u64;
+        let there = self.many() as u64;
         let consumed = closing.consumed();
         let made = consumed + closing.skipped() + there;
         let busy = u64::from(self.chapter.owed()) - there;
@@ -245,7 +247,7 @@ impl RingState {
         if flags > KNOWN_FLAGS {
             return Err((ReserveFault::Flags, sheet));
         }
-        let index = self.records.len();
+        let index = self.many();
         let notice = self.notice(self.producer(), flags);
         match self.grant(worker, sheet.len()) {
             Err(fault) => Err((fault, sheet)),
@@ -256,6 +258,7 @@ impl RingState {
         }
     }
 
+    #[inline(always)]
     /// Takes the record at the consumer position: hands out a submitted one and passes over a discarded one. A busy one
     /// stops it, whatever waits behind. In constant time, and without memory. (Linux Documentation/bpf/ringbuf.rst: records are
     /// consumed in the order of their reservation.)
@@ -265,17 +268,25 @@ impl RingState {
         ensures busy_front { (result ≡ Taken.BusyFront) ↔ HasBusyFront self.old }
         ensures empty { (result ≡ Taken.Empty) ↔ AllTaken self.old }
     {
-        if self.records.is_empty() {
+        let closing = self.chapter.closing();
+        let Some(front) = front_of(closing.records()) else {
             return Taken::Empty;
-        }
-        if self.records[0].is_reserved() {
-            return Taken::BusyFront;
-        }
-        self.chapter.log_take();
-        let Some(record) = self.records.pop_front() else {
-            unreachable!()
         };
-        record.taken()
+        match front.status {
+            UntakenStatus::Busy => Taken::BusyFront,
+            UntakenStatus::Waiting => {
+                let ordinal = closing.consumed() + closing.skipped();
+                let slot = slot_in(self.sheets.len(), ordinal);
+                let empty = Sheet::empty(self.alloc);
+                let sheet = mem::replace(&mut self.sheets[slot], empty);
+                self.chapter.log_take();
+                Taken::Event(front.pos, front.worker, front.serial, sheet)
+            }
+            UntakenStatus::Discarded => {
+                self.chapter.log_take();
+                Taken::Skipped(front.pos, front.len)
+            }
+        }
     }
 
     /// Hands the chapter out as it is, and goes on in `empty`, which becomes the next one: it begins with what the old one stands for.
@@ -302,6 +313,8 @@ impl RingState {
         is_fit(&self.chapter, empty)
     }
 
+    #[cold]
+    #[inline(never)]
     // Logs that there is no room in the ring, where there is room for that in the chapter.
     fn refuse(&mut self, worker: u32, n: u32) -> ReserveFault
         requires worker { worker < self.old.chapter.opening.setup.workers }
@@ -318,6 +331,7 @@ impl RingState {
         ReserveFault::Full
     }
 
+    #[inline(always)]
     // Grants a busy record of `n` bytes, or logs that the ring has no room for it.
     fn grant(&mut self, worker: u32, n: u32) -> Result<(u64, u64), ReserveFault>
         requires worker { worker < self.old.chapter.opening.setup.workers }
@@ -336,28 +350,24 @@ impl RingState {
         let closing = self.chapter.closing();
         let pos = closing.producer();
         let serial = made_by(closing.tallies(), worker);
-        let ordinal = closing.consumed() + closing.skipped() + self.records.len() as u64;
+        let ordinal = closing.consumed() + closing.skipped() + self.many() as u64;
         let place = place_in(closing.size(), pos);
         self.chapter.log_grant(worker, n);
         self.ordinals[place] = ordinal;
-        self.records.push_back_reserved(StoredRecord {
-            pos,
-            len: n,
-            worker,
-            serial,
-            state: RecordState::Reserved,
-        });
         Ok((pos, serial))
     }
 
+    #[inline(always)]
     // The busy record at an index is given its bytes.
     fn send(&mut self, index: usize, pos: u64, sheet: Sheet)
         requires busy { IsBusyAt self.old.shown index pos (length sheet) }
         ensures logged { Logs self.old self.new (Entry.Sub pos ∷ []) }
         ensures contents { self.new.contents ≡ insert self.old.contents pos sheet }
     {
-        // Logged last, so that the bytes' place is long written when they are taken at once.
-        self.records[index].state = RecordState::Submitted(sheet);
+        let closing = self.chapter.closing();
+        let ordinal = closing.consumed() + closing.skipped() + index as u64;
+        let slot = slot_in(self.sheets.len(), ordinal);
+        self.sheets[slot] = sheet;
         self.chapter.log_submit(index);
     }
 
@@ -368,8 +378,14 @@ impl RingState {
         ensures contents { self.new.contents ≡ self.old.contents }
     {
         self.chapter.log_discard(index);
-        self.records[index].state = RecordState::Discarded;
         self.discarded += 1;
+    }
+
+    // How many records are there.
+    fn many(&self) -> usize
+        ensures many { result ≡ length self.now.shown }
+    {
+        self.chapter.closing().records().len()
     }
 
     // Whether a notice is due for the record at `pos`.
@@ -385,7 +401,7 @@ impl RingState {
         self.chapter.closing().producer()
     }
 
-    // The index of the reservation's record in the queue, if it is busy.
+    // The index of the reservation's record, if it is busy.
     fn find_busy(&self, reservation: &Reservation) -> Option<usize>
         ensures found { IfSome result (λ i. IsBusyAt self.now.shown i reservation.now.pos (length reservation.now.bytes)) }
         ensures busy { OnSome result (HoldsReservationFrom self.now reservation.now) }
@@ -394,6 +410,6 @@ impl RingState {
         let closing = self.chapter.closing();
         let first = closing.consumed() + closing.skipped();
         let ordinal = self.ordinals[place_in(closing.size(), reservation.pos())];
-        busy_index(&self.records, first, ordinal, reservation)
+        busy_index(closing.records(), first, ordinal, reservation)
     }
 }

@@ -1,6 +1,7 @@
 //! The numbers that a ring is made with and goes on with.
 
-ghost use Rattle.std.specs.Prelude.{ℕ, ◌≡◌, ◌<◌, ◌≤◌, ◌^◌, ◌↔◌, IsErrOf, IsTrue, OnOk, length, slice_index_or};
+ghost use Rattle.std.specs.Prelude.{ℕ, ◌≡◌, ◌/◌, ◌<◌, ◌≤◌, ◌^◌, ◌↔◌, IsErrOf, IsTrue, IfOk, OnOk, length, slice_index_or};
+ghost use Rattle.std.specs.Int.{IsPowerOfTwo};
 ghost use Rattle.rb_history.specs.RingModel.{IsRingSize, IsStartPosition, IsWorkerCount};
 ghost use Rattle.rb_chapter.specs.Opening.{no_tally};
 ghost use Rattle.rb_chapter.specs.Chapters.{IsChapterRoom};
@@ -8,6 +9,8 @@ ghost use Rattle.rb_chapter.specs.Chapters.{IsChapterRoom};
 use crate::faults::OpenFault;
 use rb_chapter::Chapter;
 use rb_history::{Tally, is_size, is_start, is_worker_count};
+use rb_lend::Sheet;
+use std::alloc::{AllocError, Global};
 
 /// Whether a ring may be made with these numbers, or the first refusal that applies; never `Memory`.
 pub(crate) fn check_setup(size: u64, start: u64, workers: u32, room: u32) -> Result<(), OpenFault>
@@ -32,15 +35,31 @@ pub(crate) fn check_setup(size: u64, start: u64, workers: u32, room: u32) -> Res
     Ok(())
 }
 
-/// How many records a ring of so many places and a chapter of so much room may have at once.
-pub(crate) fn slots_for(places: usize, room: u32) -> usize
-    ensures slots { (n : ℕ) → n ≤ places → n ≤ room → n ≤ result }
+/// How many slots a ring of this size has, which keeps chapters of so much room: a power of two, and as many as there may be records at
+/// once, of which each takes eight bytes of the ring at least.
+pub(crate) fn slots_for(size: u64, room: u32) -> usize
+    requires size { IsRingSize size }
+    requires room { IsChapterRoom room }
+    ensures power { IsPowerOfTwo result }
+    ensures slots { (n : ℕ) → n ≤ size / 8 → n ≤ room → n ≤ result }
 {
+    let places = (size / 8) as usize;
     if places < room as usize {
         places
     } else {
-        room as usize
+        (room as usize).next_power_of_two()
     }
+}
+
+/// So many sheets without bytes.
+pub(crate) fn empty_sheets(alloc: Global, slots: usize) -> Result<Vec<Sheet>, AllocError>
+    ensures many { IfOk result (λ sheets. length sheets.items ≡ slots) }
+{
+    let mut sheets = Vec::with_capacity(alloc, slots)?;
+    for _ in 0..slots {
+        sheets.push_reserved(Sheet::empty(alloc));
+    }
+    Ok(sheets)
 }
 
 /// Whether a ring that keeps the chapter may go on in the other.

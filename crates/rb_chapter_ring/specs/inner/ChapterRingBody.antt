@@ -1,15 +1,18 @@
 -- The ring that keeps a chapter: what it means, and what it keeps from call to call.
-use Rattle.std.specs.Prelude.{ℕ, ◌≡◌, ◌+◌, ◌-◌, ◌*◌, ◌/◌, ◌%◌, ◌<◌, ◌≤◌, ◌^◌, ◌&&◌, ltb, List, ◌++◌, Option, Some, None, map, length, if◌then◌else◌}
+use Rattle.std.specs.Prelude.{ℕ, ◌≡◌, ◌+◌, ◌-◌, ◌*◌, ◌/◌, ◌%◌, ◌<◌, ◌≤◌, ◌^◌, ◌&&◌, ◌==◌, ltb, Bool, true, false, List, [], ◌∷◌, ◌++◌, Option, Some, None, map, length, if◌then◌else◌}
 use Rattle.std.specs.List.{All, slice_index_or as get_or}
-use Rattle.std.specs.VecDeque.{deque_capacity}
+use Rattle.std.specs.Int.{IsPowerOfTwo}
 use Rattle.rb_history.specs.declared.entries.Entry.{Entry}
 use Rattle.rb_history.specs.declared.answers.Counts.{Counts}
 use Rattle.rb_history.specs.declared.stored_records.StoredRecord.{StoredRecord}
-use Rattle.rb_history.specs.declared.stored_records.RecordState.TheVariants.{Reserved}
+use Rattle.rb_history.specs.declared.stored_records.RecordState.{RecordState}
+use Rattle.rb_history.specs.declared.stored_records.RecordState.TheVariants.{Reserved, Submitted, Discarded as DiscardedState}
+use Rattle.rb_history.specs.History.{Shown, Status}
+use Rattle.rb_history.specs.History.Status.{Busy, Waiting}
 use Rattle.rb_history.specs.Counting.{counts_of}
 use Rattle.rb_history.specs.ReservationModel.{Granted}
 use Rattle.rb_history.specs.RingModel.{IsRingSize, IsStartPosition, IsWorkerCount}
-use Rattle.rb_history.specs.StoredRecords.{shown_record, contents_of, is_reserved_by, IsSized}
+use Rattle.rb_history.specs.StoredRecords.{shown_record, contents_of, IsSized}
 use Rattle.rb_chapter.specs.Opening.{Opening}
 use Rattle.rb_chapter.specs.Chapters.{Chapter, IsChapterRoom, closing_of}
 use Rattle.rb_chapter.specs.ChapterRing.{ChapterRing}
@@ -24,13 +27,24 @@ place_of size p = p % size / 8
 abbrev pub no_stored : StoredRecord
 no_stored = record { pos = 0; len = 0; worker = 0; serial = 0; state = Reserved }
 
+-- it is busy, and has the four numbers of the reservation
+abbrev pub is_busy : Status → Bool
+is_busy Busy = true
+is_busy _ = false
+
+abbrev pub is_reserved_by : Granted → Shown → Bool
+is_reserved_by r s = is_busy s.status && (s.pos == r.pos) && (s.worker == r.worker) && (s.serial == r.serial) && (s.len == length r.bytes)
+
+abbrev pub no_shown : Shown
+no_shown = record { pos = 0; len = 0; worker = 0; serial = 0; status = Busy }
+
 -- the record at an index, where it is there, busy and the reservation's
-abbrev pub found_at : List StoredRecord → ℕ → Granted → Option ℕ
-found_at stored i r = if ltb i (length stored) && is_reserved_by r (get_or stored i no_stored) then Some i else None
+abbrev pub found_at : List Shown → ℕ → Granted → Option ℕ
+found_at ss i r = if ltb i (length ss) && is_reserved_by r (get_or ss i no_shown) then Some i else None
 
 -- the index of the record of an ordinal
-abbrev pub index_of : List StoredRecord → ℕ → ℕ → Granted → Option ℕ
-index_of stored first ordinal r = if ltb ordinal first then None else found_at stored (ordinal - first) r
+abbrev pub index_of : List Shown → ℕ → ℕ → Granted → Option ℕ
+index_of ss first ordinal r = if ltb ordinal first then None else found_at ss (ordinal - first) r
 
 -- how many records were taken
 abbrev pub taken_before : Opening → ℕ
@@ -39,6 +53,28 @@ taken_before o = o.consumed + o.skipped
 -- each record's place has its ordinal: the number of the records that were taken, and its index
 abbrev pub AreNumbered : ℕ → List ℕ → ℕ → List StoredRecord → Type 0
 AreNumbered size ordinals first stored = (i : ℕ) → i < length stored → get_or ordinals (place_of size (get_or stored i no_stored).pos) 0 ≡ first + i
+
+-- a record with the bytes of its slot
+abbrev pub state_with : Status → List ℕ → RecordState
+state_with Busy bytes = Reserved
+state_with Waiting bytes = Submitted bytes
+state_with _ bytes = DiscardedState
+
+abbrev pub stored_at : Shown → List ℕ → StoredRecord
+stored_at s bytes = record { pos = s.pos; len = s.len; worker = s.worker; serial = s.serial; state = state_with s.status bytes }
+
+-- records from an ordinal on, where the slots go round
+abbrev pub stored_from : ℕ → List (List ℕ) → ℕ → List Shown → List StoredRecord
+stored_from slots sheets n [] = []
+stored_from slots sheets n (s ∷ ss) = stored_at s (get_or sheets (n % slots) []) ∷ stored_from slots sheets (n + 1) ss
+
+-- the records that an opening has
+abbrev pub stored_in : Opening → List (List ℕ) → List StoredRecord
+stored_in o sheets = stored_from (length sheets) sheets (taken_before o) o.records
+
+-- the chapter's records, with their bytes
+abbrev pub stored_of : Chapter → List (List ℕ) → List StoredRecord
+stored_of c sheets = stored_in (closing_of c) sheets
 
 -- the ring that the chapter and the records are
 abbrev pub ring_of : Chapter → List StoredRecord → ChapterRing
@@ -51,7 +87,7 @@ ring_of c stored = record {
 }
 
 abbrev pub chapter_ring_shown : Inside → ChapterRing
-chapter_ring_shown a = ring_of a.chapter a.records.items
+chapter_ring_shown a = ring_of a.chapter (stored_of a.chapter a.sheets.items)
 
 -- what holds of the records and of their numbers, by what the chapter stands for at its end
 pub record IsStored (size : ℕ) (o : Opening) (stored : List StoredRecord) (ordinals : List ℕ) : Type 0 where
@@ -75,11 +111,12 @@ pub record IsRingOf (earlier : List Entry) (c : Chapter) (stored : List StoredRe
   pub counted : counts ≡ capped_counts (counts_of (earlier ++ c.entries))
   pub granted : counts.made ≡ taken_before (closing_of c) + length stored
 
--- two of the six counts are kept, and there is memory for as many records as the ring and the chapter have room for
+-- two of the six counts are kept, and there is a slot for each of as many records as the ring and the chapter have room for
 pub record ChapterRingInvariant (a : Inside) : Type 0 where
   pub earlier : List Entry
   pub counts : Counts
-  pub ring : IsRingOf earlier a.chapter a.records.items a.ordinals.items counts
+  pub ring : IsRingOf earlier a.chapter (stored_of a.chapter a.sheets.items) a.ordinals.items counts
   pub refused_is : a.refused ≡ counts.refused
   pub discarded_is : a.discarded ≡ counts.discarded
-  pub slots : (n : ℕ) → n ≤ a.chapter.opening.setup.size / 8 → n ≤ a.chapter.room → n ≤ deque_capacity a.records
+  pub power : IsPowerOfTwo (length a.sheets.items)
+  pub slots : (n : ℕ) → n ≤ a.chapter.opening.setup.size / 8 → n ≤ a.chapter.room → n ≤ length a.sheets.items

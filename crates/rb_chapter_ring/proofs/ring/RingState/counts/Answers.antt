@@ -1,6 +1,10 @@
-use Rattle.std.proofs.Common.{sym, ap, ◌∙◌, refl, arith}
+use Rattle.std.proofs.Common.{length, sym, ap, ◌∙◌, refl, arith}
 use Rattle.rb_chapter.specs.Opening.{Opening}
+use Rattle.rb_history.specs.StoredRecords.{shown_record}
+use Rattle.rb_history.proofs.Contents.{length-map}
+use Rattle.rb_chapter.specs.ChapterRing.{ChapterRing}
 use Rattle.rb_chapter.specs.ChapterRoom.{owed}
+use Rattle.rb_chapter_ring.specs.inner.ChapterRingBody.{stored_of}
 use Rattle.rb_chapter_ring.specs.OpenedRing.{capped_counts, told_counts}
 use Rattle.rb_chapter_ring.proofs.Rows.{said}
 use Rattle.rb_chapter_ring.proofs.Told.{tells}
@@ -12,7 +16,7 @@ overflow_add-made c =
     let i = c.self.invariant in
     let k = c.consumed-consumed.ensures.total ∙ ap (λ (o : Opening). o.consumed) c.closing-closing.ensures.closing in
     let l = c.skipped.ensures.total ∙ ap (λ (o : Opening). o.skipped) c.closing-closing.ensures.closing in
-    let t = tells i.earlier a.chapter a.records.items a.ordinals.items i.counts i.ring a.refused a.discarded c.consumed-consumed.result c.skipped.result c.len-there.result (owed a.chapter) i.refused_is i.discarded_is k l (c.len-there.ensures ∙ a.records.ok.0) refl in
+    let t = tells i.earlier a.chapter (stored_of a.chapter a.sheets.items) a.ordinals.items i.counts i.ring a.refused a.discarded c.consumed-consumed.result c.skipped.result c.many-there.result (owed a.chapter) i.refused_is i.discarded_is k l (c.many-there.ensures.many ∙ ap (λ (v : ChapterRing). length v.shown) (sym c.self.view_is) ∙ length-map shown_record (stored_of a.chapter a.sheets.items)) refl in
     omega (arith, t.low)
 
 pub overflow_add-made-2 : goal.overflow_add-made-2
@@ -21,7 +25,7 @@ overflow_add-made-2 c =
     let i = c.self.invariant in
     let k = c.consumed-consumed.ensures.total ∙ ap (λ (o : Opening). o.consumed) c.closing-closing.ensures.closing in
     let l = c.skipped.ensures.total ∙ ap (λ (o : Opening). o.skipped) c.closing-closing.ensures.closing in
-    let t = tells i.earlier a.chapter a.records.items a.ordinals.items i.counts i.ring a.refused a.discarded c.consumed-consumed.result c.skipped.result c.len-there.result (owed a.chapter) i.refused_is i.discarded_is k l (c.len-there.ensures ∙ a.records.ok.0) refl in
+    let t = tells i.earlier a.chapter (stored_of a.chapter a.sheets.items) a.ordinals.items i.counts i.ring a.refused a.discarded c.consumed-consumed.result c.skipped.result c.many-there.result (owed a.chapter) i.refused_is i.discarded_is k l (c.many-there.ensures.many ∙ ap (λ (v : ChapterRing). length v.shown) (sym c.self.view_is) ∙ length-map shown_record (stored_of a.chapter a.sheets.items)) refl in
     omega (arith, t.low)
 
 pub overflow_sub-busy : goal.overflow_sub-busy
@@ -30,7 +34,7 @@ overflow_sub-busy c =
     let i = c.self.invariant in
     let k = c.consumed-consumed.ensures.total ∙ ap (λ (o : Opening). o.consumed) c.closing-closing.ensures.closing in
     let l = c.skipped.ensures.total ∙ ap (λ (o : Opening). o.skipped) c.closing-closing.ensures.closing in
-    let t = tells i.earlier a.chapter a.records.items a.ordinals.items i.counts i.ring a.refused a.discarded c.consumed-consumed.result c.skipped.result c.len-there.result c.from.result i.refused_is i.discarded_is k l (c.len-there.ensures ∙ a.records.ok.0) (c.from.ensures ∙ c.owed.ensures.owed) in
+    let t = tells i.earlier a.chapter (stored_of a.chapter a.sheets.items) a.ordinals.items i.counts i.ring a.refused a.discarded c.consumed-consumed.result c.skipped.result c.many-there.result c.from.result i.refused_is i.discarded_is k l (c.many-there.ensures.many ∙ ap (λ (v : ChapterRing). length v.shown) (sym c.self.view_is) ∙ length-map shown_record (stored_of a.chapter a.sheets.items)) (c.from.ensures ∙ c.owed.ensures.owed) in
     omega (arith, t.busy_within)
 
 pub overflow_sub-result : goal.overflow_sub-result
@@ -39,7 +43,7 @@ overflow_sub-result c =
     let i = c.self.invariant in
     let k = c.consumed-consumed.ensures.total ∙ ap (λ (o : Opening). o.consumed) c.closing-closing.ensures.closing in
     let l = c.skipped.ensures.total ∙ ap (λ (o : Opening). o.skipped) c.closing-closing.ensures.closing in
-    let t = tells i.earlier a.chapter a.records.items a.ordinals.items i.counts i.ring a.refused a.discarded c.consumed-consumed.result c.skipped.result c.len-there.result c.from.result i.refused_is i.discarded_is k l (c.len-there.ensures ∙ a.records.ok.0) (c.from.ensures ∙ c.owed.ensures.owed) in
+    let t = tells i.earlier a.chapter (stored_of a.chapter a.sheets.items) a.ordinals.items i.counts i.ring a.refused a.discarded c.consumed-consumed.result c.skipped.result c.many-there.result c.from.result i.refused_is i.discarded_is k l (c.many-there.ensures.many ∙ ap (λ (v : ChapterRing). length v.shown) (sym c.self.view_is) ∙ length-map shown_record (stored_of a.chapter a.sheets.items)) (c.from.ensures ∙ c.owed.ensures.owed) in
     omega (arith, t.within)
 
 pub overflow_sub-result-2 : goal.overflow_sub-result-2
@@ -48,7 +52,7 @@ overflow_sub-result-2 c =
     let i = c.self.invariant in
     let k = c.consumed-consumed.ensures.total ∙ ap (λ (o : Opening). o.consumed) c.closing-closing.ensures.closing in
     let l = c.skipped.ensures.total ∙ ap (λ (o : Opening). o.skipped) c.closing-closing.ensures.closing in
-    let t = tells i.earlier a.chapter a.records.items a.ordinals.items i.counts i.ring a.refused a.discarded c.consumed-consumed.result c.skipped.result c.len-there.result c.from.result i.refused_is i.discarded_is k l (c.len-there.ensures ∙ a.records.ok.0) (c.from.ensures ∙ c.owed.ensures.owed) in
+    let t = tells i.earlier a.chapter (stored_of a.chapter a.sheets.items) a.ordinals.items i.counts i.ring a.refused a.discarded c.consumed-consumed.result c.skipped.result c.many-there.result c.from.result i.refused_is i.discarded_is k l (c.many-there.ensures.many ∙ ap (λ (v : ChapterRing). length v.shown) (sym c.self.view_is) ∙ length-map shown_record (stored_of a.chapter a.sheets.items)) (c.from.ensures ∙ c.owed.ensures.owed) in
     omega (arith, t.within)
 
 pub overflow_sub-result-3 : goal.overflow_sub-result-3
@@ -57,7 +61,7 @@ overflow_sub-result-3 c =
     let i = c.self.invariant in
     let k = c.consumed-consumed.ensures.total ∙ ap (λ (o : Opening). o.consumed) c.closing-closing.ensures.closing in
     let l = c.skipped.ensures.total ∙ ap (λ (o : Opening). o.skipped) c.closing-closing.ensures.closing in
-    let t = tells i.earlier a.chapter a.records.items a.ordinals.items i.counts i.ring a.refused a.discarded c.consumed-consumed.result c.skipped.result c.len-there.result c.from.result i.refused_is i.discarded_is k l (c.len-there.ensures ∙ a.records.ok.0) (c.from.ensures ∙ c.owed.ensures.owed) in
+    let t = tells i.earlier a.chapter (stored_of a.chapter a.sheets.items) a.ordinals.items i.counts i.ring a.refused a.discarded c.consumed-consumed.result c.skipped.result c.many-there.result c.from.result i.refused_is i.discarded_is k l (c.many-there.ensures.many ∙ ap (λ (v : ChapterRing). length v.shown) (sym c.self.view_is) ∙ length-map shown_record (stored_of a.chapter a.sheets.items)) (c.from.ensures ∙ c.owed.ensures.owed) in
     omega (arith, t.within)
 
 pub returns : goal.returns
@@ -66,5 +70,5 @@ returns c =
     let i = c.self.invariant in
     let k = c.consumed-consumed.ensures.total ∙ ap (λ (o : Opening). o.consumed) c.closing-closing.ensures.closing in
     let l = c.skipped.ensures.total ∙ ap (λ (o : Opening). o.skipped) c.closing-closing.ensures.closing in
-    let t = tells i.earlier a.chapter a.records.items a.ordinals.items i.counts i.ring a.refused a.discarded c.consumed-consumed.result c.skipped.result c.len-there.result c.from.result i.refused_is i.discarded_is k l (c.len-there.ensures ∙ a.records.ok.0) (c.from.ensures ∙ c.owed.ensures.owed) in
-    record { counts = t.told ∙ i.ring.counted ∙ ap capped_counts (sym (said i.earlier a.chapter a.records.items a.ordinals.items i.counts i.ring).counts) ∙ ap told_counts c.self.view_is }
+    let t = tells i.earlier a.chapter (stored_of a.chapter a.sheets.items) a.ordinals.items i.counts i.ring a.refused a.discarded c.consumed-consumed.result c.skipped.result c.many-there.result c.from.result i.refused_is i.discarded_is k l (c.many-there.ensures.many ∙ ap (λ (v : ChapterRing). length v.shown) (sym c.self.view_is) ∙ length-map shown_record (stored_of a.chapter a.sheets.items)) (c.from.ensures ∙ c.owed.ensures.owed) in
+    record { counts = t.told ∙ i.ring.counted ∙ ap capped_counts (sym (said i.earlier a.chapter (stored_of a.chapter a.sheets.items) a.ordinals.items i.counts i.ring).counts) ∙ ap told_counts c.self.view_is }

@@ -2,6 +2,7 @@ use Rattle.std.proofs.Common.{subst}
 use Rattle.rb_history.proofs.Row.{InRow-le}
 use Rattle.rb_chapter.specs.ChapterRing.{ChapterRing, StandsForChapter}
 use Rattle.rb_chapter.specs.WholeHistory.{IsKept}
+use Rattle.rb_chapter_ring.specs.inner.ChapterRingBody.{stored_of}
 use Rattle.rb_chapter_ring.specs.OpenedRing.{IsChapterRingWithin}
 use Rattle.rb_chapter_ring.proofs.Rows.{rows, stands-for}
 use Rattle.rb_chapter_ring.proofs.ring.RingState.facts.Goals as goal
@@ -14,7 +15,7 @@ returns-clause-kept c =
 pub returns-clause-stands : goal.returns-clause-stands
 returns-clause-stands c =
     let i = c.self.invariant in
-    subst StandsForChapter c.self.view_is (stands-for i.earlier c.self.inside.chapter c.self.inside.records.items c.self.inside.ordinals.items i.counts i.ring)
+    subst StandsForChapter c.self.view_is (stands-for i.earlier c.self.inside.chapter (stored_of c.self.inside.chapter c.self.inside.sheets.items) c.self.inside.ordinals.items i.counts i.ring)
 
 pub returns-clause-bounded : goal.returns-clause-bounded
 returns-clause-bounded c =
@@ -25,7 +26,7 @@ returns-clause-bounded c =
       start = g.start;
       workers = g.workers;
       chapter_room = g.chapter_room;
-      consumer = InRow-le _ _ _ (rows i.earlier c.self.inside.chapter c.self.inside.records.items c.self.inside.ordinals.items i.counts g).in_row;
+      consumer = InRow-le _ _ _ (rows i.earlier c.self.inside.chapter (stored_of c.self.inside.chapter c.self.inside.sheets.items) c.self.inside.ordinals.items i.counts g).in_row;
       producer = g.stands.limit;
       room = g.stands.space;
     })

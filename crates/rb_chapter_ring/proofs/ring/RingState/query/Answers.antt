@@ -1,6 +1,7 @@
 use Rattle.std.proofs.Common.{◌-◌, ap, ◌∙◌, arith}
 use Rattle.rb_history.proofs.Row.{InRow-le}
 use Rattle.rb_chapter.specs.Opening.{Opening}
+use Rattle.rb_chapter_ring.specs.inner.ChapterRingBody.{stored_of}
 use Rattle.rb_chapter_ring.proofs.Rows.{rows}
 use Rattle.rb_chapter_ring.proofs.ring.RingState.query.Goals as goal
 
@@ -10,7 +11,7 @@ overflow_sub-result c =
     let i = c.self.invariant in
     let p = c.producer.ensures.position ∙ ap (λ (o : Opening). o.producer) c.closing-closing.ensures.closing in
     let q = c.consumer.ensures.position ∙ ap (λ (o : Opening). o.consumer) c.closing-closing.ensures.closing in
-    omega (arith, p, q, InRow-le _ _ _ (rows i.earlier a.chapter a.records.items a.ordinals.items i.counts i.ring).in_row)
+    omega (arith, p, q, InRow-le _ _ _ (rows i.earlier a.chapter (stored_of a.chapter a.sheets.items) a.ordinals.items i.counts i.ring).in_row)
 
 pub returns-in-0 : goal.returns-in-0
 returns-in-0 c =

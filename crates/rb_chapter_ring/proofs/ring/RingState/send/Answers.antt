@@ -1,15 +1,18 @@
-use Rattle.std.proofs.Common.{◌/◌, ◌≤◌, ℕ, length, get_or, set, refl, sym, ap, ◌∙◌, subst, arith}
-use Rattle.std.specs.VecDeque.{deque_capacity}
+use Rattle.std.proofs.Common.{◌≡◌, ◌+◌, ◌/◌, ◌%◌, ◌<◌, ◌≤◌, ℕ, length, length-set, set, refl, sym, ap, ◌∙◌, subst, arith}
 use Rattle.rb_history.specs.declared.entries.Entry.TheVariants.{Sub}
-use Rattle.rb_history.specs.declared.stored_records.RecordState.TheVariants.{Submitted}
+use Rattle.std.specs.FinMap.{insert}
+use Rattle.std.specs.Int.{IsPowerOfTwo}
+use Rattle.rb_history.specs.StoredRecords.{contents_of}
 use Rattle.rb_history.specs.inner.RecordRows.{IsBusyAt}
-use Rattle.rb_history.proofs.Row.{get_or-default}
-use Rattle.rb_chapter.specs.Chapters.{Chapter}
+use Rattle.rb_chapter.specs.Opening.{Opening}
+use Rattle.rb_chapter.specs.Chapters.{Chapter, closing_of}
 use Rattle.rb_chapter.specs.ChapterRing.{ChapterRing}
-use Rattle.rb_chapter.specs.ChapterRoom.{with_entry}
-use Rattle.rb_chapter_ring.specs.inner.ChapterRingBody.{no_stored, IsRingOf}
+use Rattle.rb_chapter.specs.ChapterRoom.{record_now, with_entry}
+use Rattle.rb_chapter_ring.specs.inner.ChapterRingBody.{taken_before, IsRingOf, stored_of}
 use Rattle.rb_chapter_ring.proofs.CountSteps.{counting_submit}
-use Rattle.rb_chapter_ring.proofs.Settles.{is-busy, pos-now, within-now, submit-keeps, contents-submit}
+use Rattle.rb_chapter_ring.proofs.Settles.{within-now, is-busy, pos-now, submit-keeps, contents-submit}
+use Rattle.rb_chapter_ring.proofs.Slotted.{busy_now, busy-there, slots-enough, submit-stored}
+use Rattle.rb_chapter_ring.proofs.Told.{together}
 use Rattle.rb_chapter_ring.proofs.ring.RingState.send.Goals as goal
 
 pub log_submit-requires : goal.log_submit-requires
@@ -17,31 +20,61 @@ log_submit-requires c =
     let a = c.self.inside in
     let i = c.self.invariant in
     let at = subst (λ (v : ChapterRing). IsBusyAt v.shown c.args.index c.args.pos (length c.args.sheet)) (sym c.self.view_is) c.requires.busy in
-    let there = get_or-default a.records.items c.args.index no_stored (get_or a.records.items c.args.index no_stored) (within-now i.earlier a.chapter a.records.items a.ordinals.items i.counts i.ring c.args.index c.args.pos (length c.args.sheet) at) in
-    record { busy = is-busy i.earlier a.chapter a.records.items a.ordinals.items i.counts i.ring c.args.index c.args.pos (length c.args.sheet) at (get_or a.records.items c.args.index no_stored) there }
+    let there = busy-there i.earlier a.chapter a.sheets.items a.ordinals.items i.counts i.ring c.args.index c.args.pos (length c.args.sheet) at in
+    let t = busy_now i.earlier a.chapter a.sheets.items a.ordinals.items i.counts i.ring c.args.index c.args.pos (length c.args.sheet) at in
+    record { busy = is-busy i.earlier a.chapter (stored_of a.chapter a.sheets.items) a.ordinals.items i.counts i.ring c.args.index c.args.pos (length c.args.sheet) at t there }
 
-pub index_mut-requires : goal.index_mut-requires
-index_mut-requires c =
+pub overflow_add-ordinal : goal.overflow_add-ordinal
+overflow_add-ordinal c =
+    let a = c.self.inside in
+    let i = c.self.invariant in
+    let k = c.consumed.ensures.total ∙ ap (λ (x : Opening). x.consumed) c.closing-closing.ensures.closing in
+    let l = c.skipped.ensures.total ∙ ap (λ (x : Opening). x.skipped) c.closing-closing.ensures.closing in
+    let t = together i.earlier a.chapter (stored_of a.chapter a.sheets.items) a.ordinals.items i.counts i.ring in
+    omega (arith, k, l, t.made_is, t.low)
+
+pub overflow_add-ordinal-2 : goal.overflow_add-ordinal-2
+overflow_add-ordinal-2 c =
     let a = c.self.inside in
     let i = c.self.invariant in
     let at = subst (λ (v : ChapterRing). IsBusyAt v.shown c.args.index c.args.pos (length c.args.sheet)) (sym c.self.view_is) c.requires.busy in
-    omega (arith, within-now i.earlier a.chapter a.records.items a.ordinals.items i.counts i.ring c.args.index c.args.pos (length c.args.sheet) at, a.records.ok.0)
+    let there = busy-there i.earlier a.chapter a.sheets.items a.ordinals.items i.counts i.ring c.args.index c.args.pos (length c.args.sheet) at in
+    let t = busy_now i.earlier a.chapter a.sheets.items a.ordinals.items i.counts i.ring c.args.index c.args.pos (length c.args.sheet) at in
+    let k = c.consumed.ensures.total ∙ ap (λ (x : Opening). x.consumed) c.closing-closing.ensures.closing in
+    let l = c.skipped.ensures.total ∙ ap (λ (x : Opening). x.skipped) c.closing-closing.ensures.closing in
+    let m = together i.earlier a.chapter (stored_of a.chapter a.sheets.items) a.ordinals.items i.counts i.ring in
+    let within = within-now i.earlier a.chapter (stored_of a.chapter a.sheets.items) a.ordinals.items i.counts i.ring c.args.index c.args.pos (length c.args.sheet) at in
+    omega (arith, k, l, m.made_is, m.low, within)
+
+pub slot_in-slot-requires : goal.slot_in-slot-requires
+slot_in-slot-requires c = record { slots = subst IsPowerOfTwo (sym (c.len.ensures ∙ c.self.inside.sheets.ok.0)) c.self.invariant.power }
 
 pub invariant_of-self : goal.invariant_of-self
 invariant_of-self c =
     let a = c.self.inside in
     let i = c.self.invariant in
-    let t = c.index_mut.result.now in
     let at = subst (λ (v : ChapterRing). IsBusyAt v.shown c.args.index c.args.pos (length c.args.sheet)) (sym c.self.view_is) c.requires.busy in
-    let kept = submit-keeps i.earlier a.chapter a.records.items a.ordinals.items i.counts i.ring c.args.index c.args.pos (length c.args.sheet) at t c.index_mut.ensures.value c.args.sheet refl in
-    let after = set a.records.items c.args.index (record t { state = Submitted c.args.sheet }) in
+    let there = busy-there i.earlier a.chapter a.sheets.items a.ordinals.items i.counts i.ring c.args.index c.args.pos (length c.args.sheet) at in
+    let t = busy_now i.earlier a.chapter a.sheets.items a.ordinals.items i.counts i.ring c.args.index c.args.pos (length c.args.sheet) at in
+    let k = c.consumed.ensures.total ∙ ap (λ (x : Opening). x.consumed) c.closing-closing.ensures.closing in
+    let l = c.skipped.ensures.total ∙ ap (λ (x : Opening). x.skipped) c.closing-closing.ensures.closing in
+    let few = slots-enough i.earlier a.chapter a.sheets.items a.ordinals.items i.counts i.ring i.slots in
+    let many = c.len.ensures ∙ a.sheets.ok.0 in
+    let slot : c.slot_in-slot.result ≡ (taken_before (closing_of a.chapter) + c.args.index) % length a.sheets.items = c.slot_in-slot.ensures.value ∙ (λ j. (k j + l j + c.args.index) % many j) in
+    let low : c.slot_in-slot.result < length a.sheets.items = omega (arith, c.slot_in-slot.ensures.within, many) in
+    let stored = submit-stored i.earlier a.chapter a.sheets.items a.ordinals.items i.counts i.ring c.args.index c.args.pos (length c.args.sheet) at c.args.sheet c.slot_in-slot.result slot low few in
+    let kept = submit-keeps i.earlier a.chapter (stored_of a.chapter a.sheets.items) a.ordinals.items i.counts i.ring c.args.index c.args.pos (length c.args.sheet) at t there c.args.sheet refl in
+    let after = set a.sheets.items c.slot_in-slot.result c.args.sheet in
+    let long : length after ≡ length a.sheets.items = length-set a.sheets.items c.slot_in-slot.result c.args.sheet in
     record {
       earlier = i.earlier;
       counts = counting_submit i.counts;
       refused_is = i.refused_is;
       discarded_is = i.discarded_is;
-      ring = subst (λ d. IsRingOf i.earlier d after a.ordinals.items (counting_submit i.counts)) (sym c.log_submit.ensures.logged) kept;
-      slots = subst (λ (d : Chapter). (n : ℕ) → n ≤ d.opening.setup.size / 8 → n ≤ d.room → n ≤ deque_capacity a.records) (sym c.log_submit.ensures.logged) i.slots;
+      ring = subst (λ d. IsRingOf i.earlier d (stored_of d after) a.ordinals.items (counting_submit i.counts)) (sym c.log_submit.ensures.logged)
+          (subst (λ ss. IsRingOf i.earlier (with_entry a.chapter (Sub (record_now a.chapter c.args.index).pos)) ss a.ordinals.items (counting_submit i.counts)) stored kept);
+      power = subst IsPowerOfTwo (sym long) i.power;
+      slots = subst (λ (d : Chapter). (n : ℕ) → n ≤ d.opening.setup.size / 8 → n ≤ d.room → n ≤ length after) (sym c.log_submit.ensures.logged) (λ n within room. subst (λ x. n ≤ x) (sym long) (i.slots n within room));
     }
 
 pub returns-clause-logged : goal.returns-clause-logged
@@ -49,7 +82,9 @@ returns-clause-logged c =
     let a = c.self.inside in
     let i = c.self.invariant in
     let at = subst (λ (v : ChapterRing). IsBusyAt v.shown c.args.index c.args.pos (length c.args.sheet)) (sym c.self.view_is) c.requires.busy in
-    let pos = pos-now i.earlier a.chapter a.records.items a.ordinals.items i.counts i.ring c.args.index c.args.pos (length c.args.sheet) at c.index_mut.result.now c.index_mut.ensures.value in
+    let there = busy-there i.earlier a.chapter a.sheets.items a.ordinals.items i.counts i.ring c.args.index c.args.pos (length c.args.sheet) at in
+    let t = busy_now i.earlier a.chapter a.sheets.items a.ordinals.items i.counts i.ring c.args.index c.args.pos (length c.args.sheet) at in
+    let pos = pos-now i.earlier a.chapter (stored_of a.chapter a.sheets.items) a.ordinals.items i.counts i.ring c.args.index c.args.pos (length c.args.sheet) at t there in
     c.log_submit.ensures.logged ∙ ap (λ p. with_entry a.chapter (Sub p)) pos ∙ ap (λ (v : ChapterRing). with_entry v.chapter (Sub c.args.pos)) c.self.view_is
 
 pub returns-clause-contents : goal.returns-clause-contents
@@ -57,4 +92,15 @@ returns-clause-contents c =
     let a = c.self.inside in
     let i = c.self.invariant in
     let at = subst (λ (v : ChapterRing). IsBusyAt v.shown c.args.index c.args.pos (length c.args.sheet)) (sym c.self.view_is) c.requires.busy in
-    rw (← c.self.view_is) (contents-submit i.earlier a.chapter a.records.items a.ordinals.items i.counts i.ring c.args.index c.args.pos (length c.args.sheet) at c.index_mut.result.now c.index_mut.ensures.value c.args.sheet)
+    let there = busy-there i.earlier a.chapter a.sheets.items a.ordinals.items i.counts i.ring c.args.index c.args.pos (length c.args.sheet) at in
+    let t = busy_now i.earlier a.chapter a.sheets.items a.ordinals.items i.counts i.ring c.args.index c.args.pos (length c.args.sheet) at in
+    let k = c.consumed.ensures.total ∙ ap (λ (x : Opening). x.consumed) c.closing-closing.ensures.closing in
+    let l = c.skipped.ensures.total ∙ ap (λ (x : Opening). x.skipped) c.closing-closing.ensures.closing in
+    let few = slots-enough i.earlier a.chapter a.sheets.items a.ordinals.items i.counts i.ring i.slots in
+    let many = c.len.ensures ∙ a.sheets.ok.0 in
+    let slot : c.slot_in-slot.result ≡ (taken_before (closing_of a.chapter) + c.args.index) % length a.sheets.items = c.slot_in-slot.ensures.value ∙ (λ j. (k j + l j + c.args.index) % many j) in
+    let low : c.slot_in-slot.result < length a.sheets.items = omega (arith, c.slot_in-slot.ensures.within, many) in
+    let stored = submit-stored i.earlier a.chapter a.sheets.items a.ordinals.items i.counts i.ring c.args.index c.args.pos (length c.args.sheet) at c.args.sheet c.slot_in-slot.result slot low few in
+    ap (λ d. contents_of (stored_of d (set a.sheets.items c.slot_in-slot.result c.args.sheet))) c.log_submit.ensures.logged ∙ ap contents_of (sym stored)
+    ∙ contents-submit i.earlier a.chapter (stored_of a.chapter a.sheets.items) a.ordinals.items i.counts i.ring c.args.index c.args.pos (length c.args.sheet) at t there c.args.sheet
+    ∙ ap (λ (v : ChapterRing). insert v.contents c.args.pos c.args.sheet) c.self.view_is

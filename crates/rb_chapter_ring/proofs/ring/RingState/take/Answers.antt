@@ -1,96 +1,261 @@
-use Rattle.std.proofs.Common.{◌≡◌, ◌/◌, ◌≤◌, ℕ, [], ◌∷◌, ◌+◌, length, refl, sym, ap, ◌∙◌, subst}
-use Rattle.std.specs.VecDeque.{deque_capacity}
-use Rattle.std.proofs.lemmas.Bool.{eqb-true}
-use Rattle.rb_history.specs.declared.answers.Taken.TheVariants.{BusyFront, Empty}
-use Rattle.rb_history.specs.declared.entries.Entry.TheVariants.{Take}
-use Rattle.rb_history.specs.StoredRecords.{is_reserved_state, is_submitted_state, taken_of}
-use Rattle.rb_history.proofs.Taking.{held-state, not-empty, takes-free}
-use Rattle.rb_chapter.specs.Chapters.{Chapter}
-use Rattle.rb_header.specs.Span.{span}
+use Rattle.std.proofs.Common.{◌≡◌, ◌+◌, ◌/◌, ◌%◌, ◌<◌, ◌≤◌, ℕ, [], true, false, length, length-set, get_or, set, sym, ap, ◌∙◌, subst, arith}
+use Rattle.std.specs.Int.{IsPowerOfTwo}
+use Rattle.std.proofs.lemmas.List.{length-map}
+use Rattle.rb_history.specs.declared.answers.Taken.TheVariants.{Event, Skipped, BusyFront, Empty}
+use Rattle.rb_history.specs.History.{Shown}
+use Rattle.rb_history.proofs.Row.{get_or-default}
+use Rattle.rb_chapter.specs.Opening.{Opening, no_record, record_in}
+use Rattle.rb_chapter.specs.UntakenRecords.{status_shown, untaken_shown}
+use Rattle.rb_chapter.specs.Chapters.{Chapter, closing_of}
+use Rattle.rb_chapter_ring.specs.inner.ChapterRingBody.{taken_before, ring_of, stored_of, IsRingOf}
 use Rattle.rb_chapter_ring.proofs.CountSteps.{counting_take}
-use Rattle.rb_chapter_ring.specs.inner.ChapterRingBody.{ring_of}
-use Rattle.rb_chapter_ring.proofs.CountSteps.{refused-taken, discarded-taken}
-use Rattle.rb_chapter_ring.proofs.Keeps.{transport-ring}
-use Rattle.rb_chapter_ring.proofs.TakesOne.{TakesAs, takes-none, takes-busy, takes-it, take-keeps}
+use Rattle.rb_chapter_ring.proofs.Fronts.{took, none-front, busy-front, waiting-keeps, waiting-takes, discarded-keeps, discarded-takes}
+use Rattle.rb_chapter_ring.proofs.Slotted.{slots-enough}
+use Rattle.rb_chapter_ring.proofs.TakesOne.{TakesAs}
+use Rattle.rb_chapter_ring.proofs.Told.{together}
 use Rattle.rb_chapter_ring.proofs.ring.RingState.take.Goals as goal
 
--- no record is there
-none : (c : goal.Then-is_empty) → TakesAs c.args.self.now c.args.self.now Empty
-none c =
+pub returns-in_default-clause-takes : goal.returns-in_default-clause-takes
+returns-in_default-clause-takes c =
     let a = c.self.inside in
     let i = c.self.invariant in
-    let zero_long : length a.records.items ≡ 0 = sym a.records.ok.0 ∙ eqb-true _ _ (sym c.is_empty.ensures ∙ c.if-is_empty.true) in
-    subst (λ v. TakesAs v v Empty) c.self.view_is (takes-none i.earlier a.chapter a.records.items a.ordinals.items i.counts i.ring zero_long)
+    let recs = c.records.ensures.records ∙ ap (λ (o : Opening). o.records) c.closing-closing.ensures.closing in
+    let none : length (closing_of a.chapter).records ≡ 0 = omega (arith, c.in_default.ensures.none, ap length recs, length-map c.records.result.now untaken_shown) in
+    (subst (λ v. TakesAs v v Empty) c.self.view_is (none-front i.earlier a.chapter a.sheets.items a.ordinals.items i.counts i.ring none)).takes
 
-pub returns-then-is_empty-clause-takes : goal.returns-then-is_empty-clause-takes
-returns-then-is_empty-clause-takes c = (none c).takes
-
-pub returns-then-is_empty-clause-busy_front : goal.returns-then-is_empty-clause-busy_front
-returns-then-is_empty-clause-busy_front c = (none c).busy_front
-
-pub returns-then-is_empty-clause-empty : goal.returns-then-is_empty-clause-empty
-returns-then-is_empty-clause-empty c = (none c).empty
-
--- the front is busy
-busy : (c : goal.Then-is_reserved) → TakesAs c.args.self.now c.args.self.now BusyFront
-busy c =
+pub returns-in_default-clause-busy_front : goal.returns-in_default-clause-busy_front
+returns-in_default-clause-busy_front c =
     let a = c.self.inside in
     let i = c.self.invariant in
-    subst (λ v. TakesAs v v BusyFront) c.self.view_is
-    (takes-busy i.earlier a.chapter a.records.items a.ordinals.items i.counts i.ring c.index.result.now (not-empty _ _ _ c.if-is_empty.false c.is_empty.ensures (sym a.records.ok.0)) c.index.ensures (held-state _ _ c.if-is_reserved.true c.is_reserved.ensures.test))
+    let recs = c.records.ensures.records ∙ ap (λ (o : Opening). o.records) c.closing-closing.ensures.closing in
+    let none : length (closing_of a.chapter).records ≡ 0 = omega (arith, c.in_default.ensures.none, ap length recs, length-map c.records.result.now untaken_shown) in
+    (subst (λ v. TakesAs v v Empty) c.self.view_is (none-front i.earlier a.chapter a.sheets.items a.ordinals.items i.counts i.ring none)).busy_front
 
-pub returns-then-is_reserved-clause-takes : goal.returns-then-is_reserved-clause-takes
-returns-then-is_reserved-clause-takes c = (busy c).takes
+pub returns-in_default-clause-empty : goal.returns-in_default-clause-empty
+returns-in_default-clause-empty c =
+    let a = c.self.inside in
+    let i = c.self.invariant in
+    let recs = c.records.ensures.records ∙ ap (λ (o : Opening). o.records) c.closing-closing.ensures.closing in
+    let none : length (closing_of a.chapter).records ≡ 0 = omega (arith, c.in_default.ensures.none, ap length recs, length-map c.records.result.now untaken_shown) in
+    (subst (λ v. TakesAs v v Empty) c.self.view_is (none-front i.earlier a.chapter a.sheets.items a.ordinals.items i.counts i.ring none)).empty
 
-pub returns-then-is_reserved-clause-busy_front : goal.returns-then-is_reserved-clause-busy_front
-returns-then-is_reserved-clause-busy_front c = (busy c).busy_front
+pub overflow_add-ordinal : goal.overflow_add-ordinal
+overflow_add-ordinal c =
+    let a = c.self.inside in
+    let i = c.self.invariant in
+    let k = c.consumed.ensures.total ∙ ap (λ (x : Opening). x.consumed) c.closing-closing.ensures.closing in
+    let l = c.skipped.ensures.total ∙ ap (λ (x : Opening). x.skipped) c.closing-closing.ensures.closing in
+    let t = together i.earlier a.chapter (stored_of a.chapter a.sheets.items) a.ordinals.items i.counts i.ring in
+    omega (arith, k, l, t.made_is, t.low)
 
-pub returns-then-is_reserved-clause-empty : goal.returns-then-is_reserved-clause-empty
-returns-then-is_reserved-clause-empty c = (busy c).empty
+pub slot_in-slot-requires : goal.slot_in-slot-requires
+slot_in-slot-requires c = record { slots = subst IsPowerOfTwo (sym (c.len.ensures ∙ c.self.inside.sheets.ok.0)) c.self.invariant.power }
+
+pub returns-in-Busy-clause-takes : goal.returns-in-Busy-clause-takes
+returns-in-Busy-clause-takes c =
+    let a = c.self.inside in
+    let i = c.self.invariant in
+    let recs = c.records.ensures.records ∙ ap (λ (o : Opening). o.records) c.closing-closing.ensures.closing in
+    let found = c.in-Some.ensures.front in
+    let some : 0 < length (closing_of a.chapter).records = omega (arith, found.0, ap length recs, length-map c.records.result.now untaken_shown) in
+    let shown : untaken_shown c.in-Some.front ≡ record_in (closing_of a.chapter) 0 = found.1 ∙ ap (λ ss. get_or ss 0 no_record) recs in
+    let status = ap (λ (s : Shown). s.status) (sym shown) ∙ ap status_shown c.in-Busy.is in
+    (subst (λ v. TakesAs v v BusyFront) c.self.view_is (busy-front i.earlier a.chapter a.sheets.items a.ordinals.items i.counts i.ring some status)).takes
+
+pub returns-in-Busy-clause-busy_front : goal.returns-in-Busy-clause-busy_front
+returns-in-Busy-clause-busy_front c =
+    let a = c.self.inside in
+    let i = c.self.invariant in
+    let recs = c.records.ensures.records ∙ ap (λ (o : Opening). o.records) c.closing-closing.ensures.closing in
+    let found = c.in-Some.ensures.front in
+    let some : 0 < length (closing_of a.chapter).records = omega (arith, found.0, ap length recs, length-map c.records.result.now untaken_shown) in
+    let shown : untaken_shown c.in-Some.front ≡ record_in (closing_of a.chapter) 0 = found.1 ∙ ap (λ ss. get_or ss 0 no_record) recs in
+    let status = ap (λ (s : Shown). s.status) (sym shown) ∙ ap status_shown c.in-Busy.is in
+    (subst (λ v. TakesAs v v BusyFront) c.self.view_is (busy-front i.earlier a.chapter a.sheets.items a.ordinals.items i.counts i.ring some status)).busy_front
+
+pub returns-in-Busy-clause-empty : goal.returns-in-Busy-clause-empty
+returns-in-Busy-clause-empty c =
+    let a = c.self.inside in
+    let i = c.self.invariant in
+    let recs = c.records.ensures.records ∙ ap (λ (o : Opening). o.records) c.closing-closing.ensures.closing in
+    let found = c.in-Some.ensures.front in
+    let some : 0 < length (closing_of a.chapter).records = omega (arith, found.0, ap length recs, length-map c.records.result.now untaken_shown) in
+    let shown : untaken_shown c.in-Some.front ≡ record_in (closing_of a.chapter) 0 = found.1 ∙ ap (λ ss. get_or ss 0 no_record) recs in
+    let status = ap (λ (s : Shown). s.status) (sym shown) ∙ ap status_shown c.in-Busy.is in
+    (subst (λ v. TakesAs v v BusyFront) c.self.view_is (busy-front i.earlier a.chapter a.sheets.items a.ordinals.items i.counts i.ring some status)).empty
 
 pub invariant_of-self : goal.invariant_of-self
 invariant_of-self c =
     let a = c.self.inside in
     let i = c.self.invariant in
-    let split = c.in-Some.ensures.items in
-    let free = (takes-free a.records.items c.pop_front.new.self.items c.index.result.now c.in-Some.record [] (Take c.in-Some.record.pos ∷ []) 0 (0 + span c.in-Some.record.len) c.is_reserved.result split c.index.ensures c.if-is_reserved.false (λ e. c.is_reserved.ensures.test ∙ ap is_reserved_state e) refl refl).free in
-    let state = c.in-Some.record.state in
+    let recs = c.records.ensures.records ∙ ap (λ (o : Opening). o.records) c.closing-closing.ensures.closing in
+    let found = c.in-Some.ensures.front in
+    let some : 0 < length (closing_of a.chapter).records = omega (arith, found.0, ap length recs, length-map c.records.result.now untaken_shown) in
+    let shown : untaken_shown c.in-Some.front ≡ record_in (closing_of a.chapter) 0 = found.1 ∙ ap (λ ss. get_or ss 0 no_record) recs in
+    let status = ap (λ (s : Shown). s.status) (sym shown) ∙ ap status_shown c.in-Waiting.is in
+    let k = c.consumed.ensures.total ∙ ap (λ (x : Opening). x.consumed) c.closing-closing.ensures.closing in
+    let l = c.skipped.ensures.total ∙ ap (λ (x : Opening). x.skipped) c.closing-closing.ensures.closing in
+    let many = c.len.ensures ∙ a.sheets.ok.0 in
+    let few = slots-enough i.earlier a.chapter a.sheets.items a.ordinals.items i.counts i.ring i.slots in
+    let slot : c.slot_in-slot.result ≡ taken_before (closing_of a.chapter) % length a.sheets.items = c.slot_in-slot.ensures.value ∙ (λ j. (k j + l j) % many j) in
+    let empty = c.replace-sheet.ensures.after ∙ c.empty-empty.ensures.empty in
+    let logged = c.log_take.ensures.logged in
+    let after = set a.sheets.items c.slot_in-slot.result c.replace-sheet.new.dest in
+    let long : length after ≡ length a.sheets.items = length-set a.sheets.items c.slot_in-slot.result c.replace-sheet.new.dest in
+    let kept = waiting-keeps i.earlier a.chapter a.sheets.items a.ordinals.items i.counts i.ring some status c.slot_in-slot.result slot few in
     record {
       earlier = i.earlier;
-      counts = counting_take (is_submitted_state state) i.counts;
-      refused_is = i.refused_is ∙ sym (refused-taken (is_submitted_state state) i.counts);
-      discarded_is = i.discarded_is ∙ sym (discarded-taken (is_submitted_state state) i.counts);
-      ring = transport-ring _ _ _ _ _ _ _ _ i.earlier (sym c.log_take.ensures.logged) refl refl refl (take-keeps i.earlier a.chapter a.records.items a.ordinals.items i.counts i.ring c.in-Some.record c.pop_front.new.self.items split free);
-      slots = subst (λ (d : Chapter). (m : ℕ) → m ≤ d.opening.setup.size / 8 → m ≤ d.room → m ≤ deque_capacity c.pop_front.new.self) (sym c.log_take.ensures.logged)
-          (λ m within room. subst (λ x. m ≤ x) (sym c.pop_front.ensures.capacity) (i.slots m within room));
+      counts = counting_take true i.counts;
+      refused_is = i.refused_is;
+      discarded_is = i.discarded_is;
+      ring = subst (λ d. IsRingOf i.earlier d (stored_of d after) a.ordinals.items (counting_take true i.counts)) (sym logged)
+          (subst (λ e. IsRingOf i.earlier (took i.earlier a.chapter a.sheets.items a.ordinals.items i.counts i.ring) (stored_of (took i.earlier a.chapter a.sheets.items a.ordinals.items i.counts i.ring) (set a.sheets.items c.slot_in-slot.result e)) a.ordinals.items (counting_take true i.counts)) (sym empty) kept);
+      power = subst IsPowerOfTwo (sym long) i.power;
+      slots = subst (λ (d : Chapter). (n : ℕ) → n ≤ d.opening.setup.size / 8 → n ≤ d.room → n ≤ length after) (sym logged) (λ n within room. subst (λ x. n ≤ x) (sym long) (i.slots n within room));
     }
 
-pub returns-clause-takes : goal.returns-clause-takes
-returns-clause-takes c =
+pub returns-in-Waiting-clause-takes : goal.returns-in-Waiting-clause-takes
+returns-in-Waiting-clause-takes c =
     let a = c.self.inside in
     let i = c.self.invariant in
-    let split = c.in-Some.ensures.items in
-    let free = (takes-free a.records.items c.pop_front.new.self.items c.index.result.now c.in-Some.record [] (Take c.in-Some.record.pos ∷ []) 0 (0 + span c.in-Some.record.len) c.is_reserved.result split c.index.ensures c.if-is_reserved.false (λ e. c.is_reserved.ensures.test ∙ ap is_reserved_state e) refl refl).free in
-    let done = subst (λ d. TakesAs (ring_of a.chapter a.records.items) (ring_of d c.pop_front.new.self.items) (taken_of c.in-Some.record c.in-Some.record.state)) (sym c.log_take.ensures.logged) (takes-it i.earlier a.chapter a.records.items a.ordinals.items i.counts i.ring c.in-Some.record c.pop_front.new.self.items split free) in
-    (subst (λ t. TakesAs c.args.self.now (ring_of c.log_take.new.self c.pop_front.new.self.items) t) (sym c.taken.ensures.taken)
-    (subst (λ v. TakesAs v (ring_of c.log_take.new.self c.pop_front.new.self.items) (taken_of c.in-Some.record c.in-Some.record.state)) c.self.view_is done)).takes
+    let recs = c.records.ensures.records ∙ ap (λ (o : Opening). o.records) c.closing-closing.ensures.closing in
+    let found = c.in-Some.ensures.front in
+    let some : 0 < length (closing_of a.chapter).records = omega (arith, found.0, ap length recs, length-map c.records.result.now untaken_shown) in
+    let shown : untaken_shown c.in-Some.front ≡ record_in (closing_of a.chapter) 0 = found.1 ∙ ap (λ ss. get_or ss 0 no_record) recs in
+    let status = ap (λ (s : Shown). s.status) (sym shown) ∙ ap status_shown c.in-Waiting.is in
+    let k = c.consumed.ensures.total ∙ ap (λ (x : Opening). x.consumed) c.closing-closing.ensures.closing in
+    let l = c.skipped.ensures.total ∙ ap (λ (x : Opening). x.skipped) c.closing-closing.ensures.closing in
+    let many = c.len.ensures ∙ a.sheets.ok.0 in
+    let few = slots-enough i.earlier a.chapter a.sheets.items a.ordinals.items i.counts i.ring i.slots in
+    let slot : c.slot_in-slot.result ≡ taken_before (closing_of a.chapter) % length a.sheets.items = c.slot_in-slot.ensures.value ∙ (λ j. (k j + l j) % many j) in
+    let empty = c.replace-sheet.ensures.after ∙ c.empty-empty.ensures.empty in
+    let logged = c.log_take.ensures.logged in
+    let low : c.slot_in-slot.result < length a.sheets.items = omega (arith, c.slot_in-slot.ensures.within, many) in
+    let bytes : get_or a.sheets.items c.slot_in-slot.result [] ≡ c.replace-sheet.result = sym (c.replace-sheet.ensures.value ∙ c.index_mut.ensures.value ∙ get_or-default a.sheets.items c.slot_in-slot.result c.index_mut.result.now [] low) in
+    let after = set a.sheets.items c.slot_in-slot.result c.replace-sheet.new.dest in
+    let done = waiting-takes i.earlier a.chapter a.sheets.items a.ordinals.items i.counts i.ring some status c.slot_in-slot.result slot few in
+    let event : Event c.in-Some.front.pos c.in-Some.front.worker c.in-Some.front.serial c.replace-sheet.result ≡ Event (record_in (closing_of a.chapter) 0).pos (record_in (closing_of a.chapter) 0).worker (record_in (closing_of a.chapter) 0).serial (get_or a.sheets.items c.slot_in-slot.result []) = λ j. Event (shown j).pos (shown j).worker (shown j).serial (sym bytes j) in
+    (subst (λ v. TakesAs v (ring_of c.log_take.new.self (stored_of c.log_take.new.self after)) (Event c.in-Some.front.pos c.in-Some.front.worker c.in-Some.front.serial c.replace-sheet.result)) c.self.view_is
+    (subst (λ d. TakesAs (ring_of a.chapter (stored_of a.chapter a.sheets.items)) (ring_of d (stored_of d after)) (Event c.in-Some.front.pos c.in-Some.front.worker c.in-Some.front.serial c.replace-sheet.result)) (sym logged)
+    (subst (λ e. TakesAs (ring_of a.chapter (stored_of a.chapter a.sheets.items)) (ring_of (took i.earlier a.chapter a.sheets.items a.ordinals.items i.counts i.ring) (stored_of (took i.earlier a.chapter a.sheets.items a.ordinals.items i.counts i.ring) (set a.sheets.items c.slot_in-slot.result e))) (Event c.in-Some.front.pos c.in-Some.front.worker c.in-Some.front.serial c.replace-sheet.result)) (sym empty)
+    (subst (λ t. TakesAs (ring_of a.chapter (stored_of a.chapter a.sheets.items)) (ring_of (took i.earlier a.chapter a.sheets.items a.ordinals.items i.counts i.ring) (stored_of (took i.earlier a.chapter a.sheets.items a.ordinals.items i.counts i.ring) (set a.sheets.items c.slot_in-slot.result []))) t) (sym event) done)))).takes
 
-pub returns-clause-busy_front : goal.returns-clause-busy_front
-returns-clause-busy_front c =
+pub returns-in-Waiting-clause-busy_front : goal.returns-in-Waiting-clause-busy_front
+returns-in-Waiting-clause-busy_front c =
     let a = c.self.inside in
     let i = c.self.invariant in
-    let split = c.in-Some.ensures.items in
-    let free = (takes-free a.records.items c.pop_front.new.self.items c.index.result.now c.in-Some.record [] (Take c.in-Some.record.pos ∷ []) 0 (0 + span c.in-Some.record.len) c.is_reserved.result split c.index.ensures c.if-is_reserved.false (λ e. c.is_reserved.ensures.test ∙ ap is_reserved_state e) refl refl).free in
-    let done = subst (λ d. TakesAs (ring_of a.chapter a.records.items) (ring_of d c.pop_front.new.self.items) (taken_of c.in-Some.record c.in-Some.record.state)) (sym c.log_take.ensures.logged) (takes-it i.earlier a.chapter a.records.items a.ordinals.items i.counts i.ring c.in-Some.record c.pop_front.new.self.items split free) in
-    (subst (λ t. TakesAs c.args.self.now (ring_of c.log_take.new.self c.pop_front.new.self.items) t) (sym c.taken.ensures.taken)
-    (subst (λ v. TakesAs v (ring_of c.log_take.new.self c.pop_front.new.self.items) (taken_of c.in-Some.record c.in-Some.record.state)) c.self.view_is done)).busy_front
+    let recs = c.records.ensures.records ∙ ap (λ (o : Opening). o.records) c.closing-closing.ensures.closing in
+    let found = c.in-Some.ensures.front in
+    let some : 0 < length (closing_of a.chapter).records = omega (arith, found.0, ap length recs, length-map c.records.result.now untaken_shown) in
+    let shown : untaken_shown c.in-Some.front ≡ record_in (closing_of a.chapter) 0 = found.1 ∙ ap (λ ss. get_or ss 0 no_record) recs in
+    let status = ap (λ (s : Shown). s.status) (sym shown) ∙ ap status_shown c.in-Waiting.is in
+    let k = c.consumed.ensures.total ∙ ap (λ (x : Opening). x.consumed) c.closing-closing.ensures.closing in
+    let l = c.skipped.ensures.total ∙ ap (λ (x : Opening). x.skipped) c.closing-closing.ensures.closing in
+    let many = c.len.ensures ∙ a.sheets.ok.0 in
+    let few = slots-enough i.earlier a.chapter a.sheets.items a.ordinals.items i.counts i.ring i.slots in
+    let slot : c.slot_in-slot.result ≡ taken_before (closing_of a.chapter) % length a.sheets.items = c.slot_in-slot.ensures.value ∙ (λ j. (k j + l j) % many j) in
+    let empty = c.replace-sheet.ensures.after ∙ c.empty-empty.ensures.empty in
+    let logged = c.log_take.ensures.logged in
+    let low : c.slot_in-slot.result < length a.sheets.items = omega (arith, c.slot_in-slot.ensures.within, many) in
+    let bytes : get_or a.sheets.items c.slot_in-slot.result [] ≡ c.replace-sheet.result = sym (c.replace-sheet.ensures.value ∙ c.index_mut.ensures.value ∙ get_or-default a.sheets.items c.slot_in-slot.result c.index_mut.result.now [] low) in
+    let after = set a.sheets.items c.slot_in-slot.result c.replace-sheet.new.dest in
+    let done = waiting-takes i.earlier a.chapter a.sheets.items a.ordinals.items i.counts i.ring some status c.slot_in-slot.result slot few in
+    let event : Event c.in-Some.front.pos c.in-Some.front.worker c.in-Some.front.serial c.replace-sheet.result ≡ Event (record_in (closing_of a.chapter) 0).pos (record_in (closing_of a.chapter) 0).worker (record_in (closing_of a.chapter) 0).serial (get_or a.sheets.items c.slot_in-slot.result []) = λ j. Event (shown j).pos (shown j).worker (shown j).serial (sym bytes j) in
+    (subst (λ v. TakesAs v (ring_of c.log_take.new.self (stored_of c.log_take.new.self after)) (Event c.in-Some.front.pos c.in-Some.front.worker c.in-Some.front.serial c.replace-sheet.result)) c.self.view_is
+    (subst (λ d. TakesAs (ring_of a.chapter (stored_of a.chapter a.sheets.items)) (ring_of d (stored_of d after)) (Event c.in-Some.front.pos c.in-Some.front.worker c.in-Some.front.serial c.replace-sheet.result)) (sym logged)
+    (subst (λ e. TakesAs (ring_of a.chapter (stored_of a.chapter a.sheets.items)) (ring_of (took i.earlier a.chapter a.sheets.items a.ordinals.items i.counts i.ring) (stored_of (took i.earlier a.chapter a.sheets.items a.ordinals.items i.counts i.ring) (set a.sheets.items c.slot_in-slot.result e))) (Event c.in-Some.front.pos c.in-Some.front.worker c.in-Some.front.serial c.replace-sheet.result)) (sym empty)
+    (subst (λ t. TakesAs (ring_of a.chapter (stored_of a.chapter a.sheets.items)) (ring_of (took i.earlier a.chapter a.sheets.items a.ordinals.items i.counts i.ring) (stored_of (took i.earlier a.chapter a.sheets.items a.ordinals.items i.counts i.ring) (set a.sheets.items c.slot_in-slot.result []))) t) (sym event) done)))).busy_front
 
-pub returns-clause-empty : goal.returns-clause-empty
-returns-clause-empty c =
+pub returns-in-Waiting-clause-empty : goal.returns-in-Waiting-clause-empty
+returns-in-Waiting-clause-empty c =
     let a = c.self.inside in
     let i = c.self.invariant in
-    let split = c.in-Some.ensures.items in
-    let free = (takes-free a.records.items c.pop_front.new.self.items c.index.result.now c.in-Some.record [] (Take c.in-Some.record.pos ∷ []) 0 (0 + span c.in-Some.record.len) c.is_reserved.result split c.index.ensures c.if-is_reserved.false (λ e. c.is_reserved.ensures.test ∙ ap is_reserved_state e) refl refl).free in
-    let done = subst (λ d. TakesAs (ring_of a.chapter a.records.items) (ring_of d c.pop_front.new.self.items) (taken_of c.in-Some.record c.in-Some.record.state)) (sym c.log_take.ensures.logged) (takes-it i.earlier a.chapter a.records.items a.ordinals.items i.counts i.ring c.in-Some.record c.pop_front.new.self.items split free) in
-    (subst (λ t. TakesAs c.args.self.now (ring_of c.log_take.new.self c.pop_front.new.self.items) t) (sym c.taken.ensures.taken)
-    (subst (λ v. TakesAs v (ring_of c.log_take.new.self c.pop_front.new.self.items) (taken_of c.in-Some.record c.in-Some.record.state)) c.self.view_is done)).empty
+    let recs = c.records.ensures.records ∙ ap (λ (o : Opening). o.records) c.closing-closing.ensures.closing in
+    let found = c.in-Some.ensures.front in
+    let some : 0 < length (closing_of a.chapter).records = omega (arith, found.0, ap length recs, length-map c.records.result.now untaken_shown) in
+    let shown : untaken_shown c.in-Some.front ≡ record_in (closing_of a.chapter) 0 = found.1 ∙ ap (λ ss. get_or ss 0 no_record) recs in
+    let status = ap (λ (s : Shown). s.status) (sym shown) ∙ ap status_shown c.in-Waiting.is in
+    let k = c.consumed.ensures.total ∙ ap (λ (x : Opening). x.consumed) c.closing-closing.ensures.closing in
+    let l = c.skipped.ensures.total ∙ ap (λ (x : Opening). x.skipped) c.closing-closing.ensures.closing in
+    let many = c.len.ensures ∙ a.sheets.ok.0 in
+    let few = slots-enough i.earlier a.chapter a.sheets.items a.ordinals.items i.counts i.ring i.slots in
+    let slot : c.slot_in-slot.result ≡ taken_before (closing_of a.chapter) % length a.sheets.items = c.slot_in-slot.ensures.value ∙ (λ j. (k j + l j) % many j) in
+    let empty = c.replace-sheet.ensures.after ∙ c.empty-empty.ensures.empty in
+    let logged = c.log_take.ensures.logged in
+    let low : c.slot_in-slot.result < length a.sheets.items = omega (arith, c.slot_in-slot.ensures.within, many) in
+    let bytes : get_or a.sheets.items c.slot_in-slot.result [] ≡ c.replace-sheet.result = sym (c.replace-sheet.ensures.value ∙ c.index_mut.ensures.value ∙ get_or-default a.sheets.items c.slot_in-slot.result c.index_mut.result.now [] low) in
+    let after = set a.sheets.items c.slot_in-slot.result c.replace-sheet.new.dest in
+    let done = waiting-takes i.earlier a.chapter a.sheets.items a.ordinals.items i.counts i.ring some status c.slot_in-slot.result slot few in
+    let event : Event c.in-Some.front.pos c.in-Some.front.worker c.in-Some.front.serial c.replace-sheet.result ≡ Event (record_in (closing_of a.chapter) 0).pos (record_in (closing_of a.chapter) 0).worker (record_in (closing_of a.chapter) 0).serial (get_or a.sheets.items c.slot_in-slot.result []) = λ j. Event (shown j).pos (shown j).worker (shown j).serial (sym bytes j) in
+    (subst (λ v. TakesAs v (ring_of c.log_take.new.self (stored_of c.log_take.new.self after)) (Event c.in-Some.front.pos c.in-Some.front.worker c.in-Some.front.serial c.replace-sheet.result)) c.self.view_is
+    (subst (λ d. TakesAs (ring_of a.chapter (stored_of a.chapter a.sheets.items)) (ring_of d (stored_of d after)) (Event c.in-Some.front.pos c.in-Some.front.worker c.in-Some.front.serial c.replace-sheet.result)) (sym logged)
+    (subst (λ e. TakesAs (ring_of a.chapter (stored_of a.chapter a.sheets.items)) (ring_of (took i.earlier a.chapter a.sheets.items a.ordinals.items i.counts i.ring) (stored_of (took i.earlier a.chapter a.sheets.items a.ordinals.items i.counts i.ring) (set a.sheets.items c.slot_in-slot.result e))) (Event c.in-Some.front.pos c.in-Some.front.worker c.in-Some.front.serial c.replace-sheet.result)) (sym empty)
+    (subst (λ t. TakesAs (ring_of a.chapter (stored_of a.chapter a.sheets.items)) (ring_of (took i.earlier a.chapter a.sheets.items a.ordinals.items i.counts i.ring) (stored_of (took i.earlier a.chapter a.sheets.items a.ordinals.items i.counts i.ring) (set a.sheets.items c.slot_in-slot.result []))) t) (sym event) done)))).empty
+
+pub invariant_of-self-in-Discarded : goal.invariant_of-self-in-Discarded
+invariant_of-self-in-Discarded c =
+    let a = c.self.inside in
+    let i = c.self.invariant in
+    let recs = c.records.ensures.records ∙ ap (λ (o : Opening). o.records) c.closing-closing.ensures.closing in
+    let found = c.in-Some.ensures.front in
+    let some : 0 < length (closing_of a.chapter).records = omega (arith, found.0, ap length recs, length-map c.records.result.now untaken_shown) in
+    let shown : untaken_shown c.in-Some.front ≡ record_in (closing_of a.chapter) 0 = found.1 ∙ ap (λ ss. get_or ss 0 no_record) recs in
+    let status = ap (λ (s : Shown). s.status) (sym shown) ∙ ap status_shown c.in-Discarded.is in
+    let logged = c.log_take-in-Discarded.ensures.logged in
+    record {
+      earlier = i.earlier;
+      counts = counting_take false i.counts;
+      refused_is = i.refused_is;
+      discarded_is = i.discarded_is;
+      ring = subst (λ d. IsRingOf i.earlier d (stored_of d a.sheets.items) a.ordinals.items (counting_take false i.counts)) (sym logged) (discarded-keeps i.earlier a.chapter a.sheets.items a.ordinals.items i.counts i.ring some status);
+      power = i.power;
+      slots = subst (λ (d : Chapter). (n : ℕ) → n ≤ d.opening.setup.size / 8 → n ≤ d.room → n ≤ length a.sheets.items) (sym logged) i.slots;
+    }
+
+pub returns-in-Discarded-clause-takes : goal.returns-in-Discarded-clause-takes
+returns-in-Discarded-clause-takes c =
+    let a = c.self.inside in
+    let i = c.self.invariant in
+    let recs = c.records.ensures.records ∙ ap (λ (o : Opening). o.records) c.closing-closing.ensures.closing in
+    let found = c.in-Some.ensures.front in
+    let some : 0 < length (closing_of a.chapter).records = omega (arith, found.0, ap length recs, length-map c.records.result.now untaken_shown) in
+    let shown : untaken_shown c.in-Some.front ≡ record_in (closing_of a.chapter) 0 = found.1 ∙ ap (λ ss. get_or ss 0 no_record) recs in
+    let status = ap (λ (s : Shown). s.status) (sym shown) ∙ ap status_shown c.in-Discarded.is in
+    let logged = c.log_take-in-Discarded.ensures.logged in
+    let done = discarded-takes i.earlier a.chapter a.sheets.items a.ordinals.items i.counts i.ring some status in
+    let skipped : Skipped c.in-Some.front.pos c.in-Some.front.len ≡ Skipped (record_in (closing_of a.chapter) 0).pos (record_in (closing_of a.chapter) 0).len = λ j. Skipped (shown j).pos (shown j).len in
+    (subst (λ v. TakesAs v (ring_of c.log_take-in-Discarded.new.self (stored_of c.log_take-in-Discarded.new.self a.sheets.items)) (Skipped c.in-Some.front.pos c.in-Some.front.len)) c.self.view_is
+    (subst (λ d. TakesAs (ring_of a.chapter (stored_of a.chapter a.sheets.items)) (ring_of d (stored_of d a.sheets.items)) (Skipped c.in-Some.front.pos c.in-Some.front.len)) (sym logged)
+    (subst (λ t. TakesAs (ring_of a.chapter (stored_of a.chapter a.sheets.items)) (ring_of (took i.earlier a.chapter a.sheets.items a.ordinals.items i.counts i.ring) (stored_of (took i.earlier a.chapter a.sheets.items a.ordinals.items i.counts i.ring) a.sheets.items)) t) (sym skipped) done))).takes
+
+pub returns-in-Discarded-clause-busy_front : goal.returns-in-Discarded-clause-busy_front
+returns-in-Discarded-clause-busy_front c =
+    let a = c.self.inside in
+    let i = c.self.invariant in
+    let recs = c.records.ensures.records ∙ ap (λ (o : Opening). o.records) c.closing-closing.ensures.closing in
+    let found = c.in-Some.ensures.front in
+    let some : 0 < length (closing_of a.chapter).records = omega (arith, found.0, ap length recs, length-map c.records.result.now untaken_shown) in
+    let shown : untaken_shown c.in-Some.front ≡ record_in (closing_of a.chapter) 0 = found.1 ∙ ap (λ ss. get_or ss 0 no_record) recs in
+    let status = ap (λ (s : Shown). s.status) (sym shown) ∙ ap status_shown c.in-Discarded.is in
+    let logged = c.log_take-in-Discarded.ensures.logged in
+    let done = discarded-takes i.earlier a.chapter a.sheets.items a.ordinals.items i.counts i.ring some status in
+    let skipped : Skipped c.in-Some.front.pos c.in-Some.front.len ≡ Skipped (record_in (closing_of a.chapter) 0).pos (record_in (closing_of a.chapter) 0).len = λ j. Skipped (shown j).pos (shown j).len in
+    (subst (λ v. TakesAs v (ring_of c.log_take-in-Discarded.new.self (stored_of c.log_take-in-Discarded.new.self a.sheets.items)) (Skipped c.in-Some.front.pos c.in-Some.front.len)) c.self.view_is
+    (subst (λ d. TakesAs (ring_of a.chapter (stored_of a.chapter a.sheets.items)) (ring_of d (stored_of d a.sheets.items)) (Skipped c.in-Some.front.pos c.in-Some.front.len)) (sym logged)
+    (subst (λ t. TakesAs (ring_of a.chapter (stored_of a.chapter a.sheets.items)) (ring_of (took i.earlier a.chapter a.sheets.items a.ordinals.items i.counts i.ring) (stored_of (took i.earlier a.chapter a.sheets.items a.ordinals.items i.counts i.ring) a.sheets.items)) t) (sym skipped) done))).busy_front
+
+pub returns-in-Discarded-clause-empty : goal.returns-in-Discarded-clause-empty
+returns-in-Discarded-clause-empty c =
+    let a = c.self.inside in
+    let i = c.self.invariant in
+    let recs = c.records.ensures.records ∙ ap (λ (o : Opening). o.records) c.closing-closing.ensures.closing in
+    let found = c.in-Some.ensures.front in
+    let some : 0 < length (closing_of a.chapter).records = omega (arith, found.0, ap length recs, length-map c.records.result.now untaken_shown) in
+    let shown : untaken_shown c.in-Some.front ≡ record_in (closing_of a.chapter) 0 = found.1 ∙ ap (λ ss. get_or ss 0 no_record) recs in
+    let status = ap (λ (s : Shown). s.status) (sym shown) ∙ ap status_shown c.in-Discarded.is in
+    let logged = c.log_take-in-Discarded.ensures.logged in
+    let done = discarded-takes i.earlier a.chapter a.sheets.items a.ordinals.items i.counts i.ring some status in
+    let skipped : Skipped c.in-Some.front.pos c.in-Some.front.len ≡ Skipped (record_in (closing_of a.chapter) 0).pos (record_in (closing_of a.chapter) 0).len = λ j. Skipped (shown j).pos (shown j).len in
+    (subst (λ v. TakesAs v (ring_of c.log_take-in-Discarded.new.self (stored_of c.log_take-in-Discarded.new.self a.sheets.items)) (Skipped c.in-Some.front.pos c.in-Some.front.len)) c.self.view_is
+    (subst (λ d. TakesAs (ring_of a.chapter (stored_of a.chapter a.sheets.items)) (ring_of d (stored_of d a.sheets.items)) (Skipped c.in-Some.front.pos c.in-Some.front.len)) (sym logged)
+    (subst (λ t. TakesAs (ring_of a.chapter (stored_of a.chapter a.sheets.items)) (ring_of (took i.earlier a.chapter a.sheets.items a.ordinals.items i.counts i.ring) (stored_of (took i.earlier a.chapter a.sheets.items a.ordinals.items i.counts i.ring) a.sheets.items)) t) (sym skipped) done))).empty
