@@ -1,6 +1,6 @@
 //! One ring, for one thread, with one chapter of its history.
 
-ghost use Rattle.std.specs.Prelude.{ℕ, ◌≡◌, ◌≢◌, ◌<◌, ◌≤◌, ◌^◌, ◌↔◌, ◌∷◌, [], ◌++◌, List, IsErrOf, IsTrue, IsOk, IfOk, OnOk, OnErr, IfErr, IfSome, IfNone, OnSome, length, replicate};
+ghost use Rattle.std.specs.Prelude.{ℕ, ◌≡◌, ◌≢◌, ◌<◌, ◌≤◌, ◌^◌, ◌↔◌, ◌∷◌, [], ◌++◌, List, IsErrOf, IfOk, OnOk, OnErr, IfErr, IfSome, IfNone, OnSome, length, replicate};
 ghost use Rattle.std.specs.FinMap.{insert};
 ghost use Rattle.rb_history.specs.declared.entries.Entry.{Entry};
 ghost use Rattle.rb_history.specs.History.Status.{Busy};
@@ -10,15 +10,17 @@ ghost use Rattle.rb_history.specs.inner.RecordRows.{IsBusyAt};
 ghost use Rattle.rb_chapter.specs.Chapters.{IsChapterRoom};
 ghost use Rattle.rb_chapter.specs.CountedFrom.{query_answer_from};
 ghost use Rattle.rb_chapter.specs.ChapterRing.{StandsForChapter};
-ghost use Rattle.rb_chapter.specs.ChapterCalls.{producer_now, consumer_now, ChapterRingHasRoom, IsSameChapter, Logs, HoldsReservationFrom, HasBusyFront, AllTaken, Grants, Outputs, Submits, Discards, Strays, Takes, HandsOut};
+ghost use Rattle.rb_chapter.specs.ChapterCalls.{producer_now, consumer_now, ChapterRingHasRoom, IsSameChapter, Logs, HoldsReservationFrom, HasBusyFront, AllTaken, Grants, Outputs, Submits, Discards, Strays, Takes};
 ghost use Rattle.rb_chapter.specs.WholeHistory.{IsKept};
-ghost use Rattle.rb_chapter_ring.specs.OpenedRing.{opened_ring, told_counts, IsChapterRingWithin, MayGoOnIn};
+ghost use Rattle.rb_chapter_ring.specs.OpenedRing.{opened_ring, told_counts, IsChapterRingWithin};
 ghost use Rattle.rb_chapter_ring.specs.RingFaults.{RefusesInChapter};
+
+mod handing_out;
 
 use crate::counting::count_refusal;
 use crate::faults::{OpenFault, ReserveFault};
 use crate::finding::{busy_index, front_of, place_in, slot_in};
-use crate::setup::{check_setup, empty_sheets, is_fit, made_by, slots_for};
+use crate::setup::{check_setup, empty_sheets, made_by, slots_for};
 use rb_chapter::{Chapter, UntakenStatus};
 use rb_history::{
     AVAIL_DATA, CONS_POS, Counts, KNOWN_FLAGS, Notice, PROD_POS, RING_SIZE, Reservation, Stray,
@@ -287,30 +289,6 @@ impl RingState {
                 Taken::Skipped(front.pos, front.len)
             }
         }
-    }
-
-    /// Hands the chapter out as it is, and goes on in `empty`, which becomes the next one: it begins with what the old one stands for.
-    /// Hands `empty` back where it has entries, another room or other workers, or where the old one's number is 2^62. In time linear in
-    /// the records that were not taken and the workers, and without memory.
-    pub fn hand_out(&mut self, empty: Chapter) -> Result<Chapter, Chapter>
-        ensures handed_out { IfOk result (λ out. HandsOut self.old self.new out) }
-        ensures fit { IsOk result ↔ MayGoOnIn self.old empty }
-        ensures handed_back { IfErr result (λ back. back ≡ empty) }
-        ensures unchanged { OnErr result (self.new ≡ self.old) }
-    {
-        if !self.may_go_on_in(&empty) {
-            return Err(empty);
-        }
-        let mut next = empty;
-        next.open_after(&self.chapter);
-        Ok(mem::replace(&mut self.chapter, next))
-    }
-
-    // Whether the ring may go on in the chapter.
-    fn may_go_on_in(&self, empty: &Chapter) -> bool
-        ensures exact { IsTrue result ↔ MayGoOnIn self.now empty.now }
-    {
-        is_fit(&self.chapter, empty)
     }
 
     #[cold]
