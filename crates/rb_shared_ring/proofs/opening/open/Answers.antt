@@ -1,11 +1,12 @@
 use Rattle.std.proofs.Common.{◌≡◌, ◌-◌, ◌++◌, ◌∙◌, ◌<◌, [], ap, sym, subst, refl, append-nil, arith}
 use Rattle.std.specs.FinMap.{empty}
+use Rattle.crossbeam_queue.specs.Passes.{view}
 use Rattle.rb_chapter.specs.ChapterRing.{ChapterRing}
 use Rattle.rb_chapter_ledger.specs.ChapteredRing.{chaptered_ring, IsChapteredRing}
 use Rattle.rb_ledger.specs.Roles.{Book}
 use Rattle.rb_ledger.specs.Seats.{IsBook, fresh_book, fresh_seat, fresh_seats}
 use Rattle.rb_ledger.proofs.Opens.{seats-more}
-use Rattle.rb_shared_ring.proofs.OpenedSeats.{first-ring, opened-book, next-worker}
+use Rattle.rb_shared_ring.proofs.OpenedSeats.{first-ring, next-consumer, opened-book, next-worker}
 use Rattle.rb_shared_ring.proofs.opening.open.Goals as goal
 
 pub new_seat-seat-requires-clause-role : goal.new_seat-seat-requires-clause-role
@@ -33,6 +34,13 @@ loop-worker-preserved g c =
       c.new_seat-seat.ensures.rest ∙ n.rest_is,
       seats-more c.args.tag _ _ b _ _ _ _ _ _ c.loop-worker-test.true refl (c.new_seat-seat.ensures.seat ∙ (λ k. fresh_seat c.args.tag (i.0.0 k) c.loop-worker.worker (n.seen_is k))) c.in-Ok-push.ensures.items i.2,
     )
+
+pub new_consumer-consumer-requires-clause-book : goal.new_consumer-consumer-requires-clause-book
+new_consumer-consumer-requires-clause-book g c =
+    let opened = c.in_ok-state.ensures.opened in
+    let book = opened-book _ _ _ _ _ opened (first-ring _ _ _ opened c.facts_of.ensures.kept).0 in
+    let n = next-consumer c.in-Ok-new.state.value c.args.room c.args.size c.args.start c.args.workers (view c.put_first.new.pass) (view c.put_first.new.pass) (c.in-Ok-new.ensures.ok ∙ opened) c.put_first.ensures.put in
+    subst IsBook (sym n.seen_is) book
 
 pub put_first-requires-clause-opened : goal.put_first-requires-clause-opened
 put_first-requires-clause-opened g c =
