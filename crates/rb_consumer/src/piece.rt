@@ -40,8 +40,9 @@ fn header_of_item(size: u64, item: &Item<'_>) -> [u8; 8]
 }
 
 // Writes the piece until a write fails or takes nothing, and returns how many of its bytes went out.
-#[inline(always)]
-fn write_piece<W: Write>(writer: &mut W, piece: &[u8]) -> usize
+#[cold]
+#[inline(never)]
+fn write_in_parts<W: Write>(writer: &mut W, piece: &[u8]) -> usize
     ensures bound { result ≤ length piece.now }
     ensures bytes { Appends (W.contents writer.old) (W.contents writer.new) (take result piece.now) }
 {
@@ -53,6 +54,21 @@ fn write_piece<W: Write>(writer: &mut W, piece: &[u8]) -> usize
         }
     }
     sent
+}
+
+// The same, where the first write mostly takes the whole piece.
+#[inline(always)]
+fn write_piece<W: Write>(writer: &mut W, piece: &[u8]) -> usize
+    ensures bound { result ≤ length piece.now }
+    ensures bytes { Appends (W.contents writer.old) (W.contents writer.new) (take result piece.now) }
+{
+    let Ok(sent) = writer.write(piece) else {
+        return 0;
+    };
+    if sent == piece.len() || sent == 0 {
+        return sent;
+    }
+    sent + write_in_parts(writer, &piece[sent..])
 }
 
 // Writes the record's header from its byte `at` on, and returns how many bytes went out.

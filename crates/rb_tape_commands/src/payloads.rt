@@ -36,12 +36,22 @@ fn read_length<R: Read>(reader: &mut R, number: u64) -> Result<Option<u32>, Feed
 }
 
 // The sheet as one of `len` bytes, whatever they are. One that has as many is left as it is.
+#[inline(always)]
 fn sheet_of(spare: Sheet, len: u32) -> Result<Sheet, AllocError>
     ensures sized { IfOk result (λ sheet. length sheet ≡ len) }
 {
     if spare.len() == len {
         return Ok(spare);
     }
+    renewed(spare, len)
+}
+
+// The sheet as one of `len` bytes, which are zeros.
+#[cold]
+#[inline(never)]
+fn renewed(spare: Sheet, len: u32) -> Result<Sheet, AllocError>
+    ensures sized { IfOk result (λ sheet. length sheet ≡ len) }
+{
     match spare.renew(len) {
         Ok(sheet) => Ok(sheet),
         Err((refused, _)) => Err(refused),

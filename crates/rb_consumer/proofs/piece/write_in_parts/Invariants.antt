@@ -1,6 +1,6 @@
 use Rattle.std.proofs.Common.{◌-◌, ◌≤◌, length, take}
 use Rattle.std.specs.Io.KnownBytes.{Appends}
-use Rattle.rb_consumer.proofs.piece.write_piece.Given as goal
+use Rattle.rb_consumer.proofs.piece.write_in_parts.Given as goal
 
 -- what is counted went out
 abbrev pub invariant-loop-sent : goal.invariant-loop-sent
