@@ -36,7 +36,6 @@ fn read_length<R: Read>(reader: &mut R, number: u64) -> Result<Option<u32>, Feed
 }
 
 // The sheet as one of `len` bytes, whatever they are. One that has as many is left as it is.
-#[inline(always)]
 fn sheet_of(spare: Sheet, len: u32) -> Result<Sheet, AllocError>
     ensures sized { IfOk result (λ sheet. length sheet ≡ len) }
 {
@@ -46,9 +45,7 @@ fn sheet_of(spare: Sheet, len: u32) -> Result<Sheet, AllocError>
     renewed(spare, len)
 }
 
-// The sheet as one of `len` bytes, which are zeros.
-#[cold]
-#[inline(never)]
+// The sheet as one of `len` bytes, whatever they are.
 fn renewed(spare: Sheet, len: u32) -> Result<Sheet, AllocError>
     ensures sized { IfOk result (λ sheet. length sheet ≡ len) }
 {
@@ -100,6 +97,42 @@ fn whole_payload(seen: &[u8], size: u64) -> Option<&[u8]>
     Some(&rest[..len as usize])
 }
 
+// The sheet with these bytes in place of its own, as many.
+#[inline(always)]
+fn filled(sheet: Sheet, bytes: &[u8]) -> Sheet
+    requires sized { length sheet ≡ length bytes.now }
+    ensures filled { result ≡ bytes.now }
+{
+    let mut sheet = sheet;
+    sheet.bytes_mut().copy_from_slice(bytes);
+    sheet
+}
+
+// The same as `next_payload`, where the sheet has another length than the payload.
+#[inline(never)]
+fn next_of_other_length<R: BufRead>(
+    reader: &mut R,
+    spare: Sheet,
+    size: u64,
+    number: u64,
+) -> Result<Option<Sheet>, FeedFault>
+    ensures { FindsNext size number (R.remaining reader.old) (R.remaining reader.new) result }
+{
+    let Ok(seen) = reader.fill_buf() else {
+        return Err(FeedFault::Device);
+    };
+    let Some(payload) = whole_payload(seen, size) else {
+        return read_payload(reader, spare, size, number);
+    };
+    let len = payload.len();
+    let Ok(sheet) = renewed(spare, len as u32) else {
+        return Err(FeedFault::Memory);
+    };
+    let sheet = filled(sheet, payload);
+    reader.consume(4 + len);
+    Ok(Some(sheet))
+}
+
 /// Reads the payload of this number into the sheet, or finds that the input ends before it. A payload whose record is too
 /// long for a ring of `size` bytes is refused from its length alone. One that the reader's buffer has whole is copied from there; any
 /// other is read as it comes.
@@ -119,10 +152,10 @@ pub fn next_payload<R: BufRead>(
         return read_payload(reader, spare, size, number);
     };
     let len = payload.len();
-    let Ok(mut sheet) = sheet_of(spare, len as u32) else {
-        return Err(FeedFault::Memory);
-    };
-    sheet.bytes_mut().copy_from_slice(payload);
+    if spare.len() as usize != len {
+        return next_of_other_length(reader, spare, size, number);
+    }
+    let sheet = filled(spare, payload);
     reader.consume(4 + len);
     Ok(Some(sheet))
 }
