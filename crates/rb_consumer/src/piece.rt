@@ -141,8 +141,8 @@ fn write_behind_header<W: Write>(writer: &mut W, size: u64, item: &Item<'_>, fro
     write_zeros(writer, size, item, sent)
 }
 
-/// Writes a record from its byte `from` on, until a write fails or takes nothing, and returns how many of its bytes are out by then.
 #[inline(always)]
+/// Writes a record from its byte `from` on, until a write fails or takes nothing, and returns how many of its bytes are out by then.
 pub(crate) fn write_from<W: Write>(writer: &mut W, size: u64, item: &Item<'_>, from: u64) -> u64
     requires size { IsRingSize size }
     requires stands { IsItemAt size (item_position (item_of item.now)) (item_of item.now) }
