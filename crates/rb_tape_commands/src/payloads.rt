@@ -42,13 +42,6 @@ fn sheet_of(spare: Sheet, len: u32) -> Result<Sheet, AllocError>
     if spare.len() == len {
         return Ok(spare);
     }
-    renewed(spare, len)
-}
-
-// The sheet as one of `len` bytes, whatever they are.
-fn renewed(spare: Sheet, len: u32) -> Result<Sheet, AllocError>
-    ensures sized { IfOk result (λ sheet. length sheet ≡ len) }
-{
     match spare.renew(len) {
         Ok(sheet) => Ok(sheet),
         Err((refused, _)) => Err(refused),
@@ -125,7 +118,7 @@ fn next_of_other_length<R: BufRead>(
         return read_payload(reader, spare, size, number);
     };
     let len = payload.len();
-    let Ok(sheet) = renewed(spare, len as u32) else {
+    let Ok(sheet) = sheet_of(spare, len as u32) else {
         return Err(FeedFault::Memory);
     };
     let sheet = filled(sheet, payload);
