@@ -2,7 +2,7 @@
 use Rattle.std.proofs.Common.{◌≡◌, ℕ, ◌+◌, ◌*◌, ◌-◌, ◌≤◌, List, ◌++◌, length, take, drop, sym, ap, ◌∙◌, subst, arith, append_assoc}
 use Rattle.std.specs.Prelude.{Option}
 use Rattle.std.proofs.Math.Seq.{drop-append-add, take-append_seam, take-add}
-use Rattle.std.proofs.lemmas.List.{take_all, drop-append-le, take-take, drop-replicate, take-replicate, length-append, length-take, length-drop, length-take-le, length-replicate, replicate-append-replicate}
+use Rattle.std.proofs.lemmas.List.{take_all, drop-take, drop-append-le, take-take, drop-replicate, take-replicate, length-append, length-take, length-drop, length-take-le, length-replicate, replicate-append-replicate}
 use Rattle.std.specs.Io.KnownBytes.{Appends}
 use Rattle.std.proofs.KnownBytes.{Appends-trans}
 use Rattle.rb_header.specs.Header.{header_bytes}
@@ -83,3 +83,15 @@ went-out text a b c from sent n more within before after =
     let all : drop from (take (sent + n) text) ≡ drop from (take sent text) ++ take n (drop sent text) =
     ap (drop from) (take-add sent n text) ∙ drop-append-le from (take sent text) (take n (drop sent text)) (omega (arith, length-take-le sent text within)) in
     subst (Appends a c) (sym all) (Appends-trans a b c _ _ before after)
+
+-- some bytes of the text from `from` on went out
+pub first-out : (text : List ℕ) (a b : Option (List ℕ)) (from n : ℕ) → Appends a b (take n (drop from text)) → Appends a b (drop from (take (from + n) text))
+first-out text a b from n gone = subst (Appends a b) (sym (drop-take from n text)) gone
+
+-- bytes of the text from `from` on went out, and then those behind them
+pub then-out : (text : List ℕ) (a b c : Option (List ℕ)) (from mid end : ℕ) → from ≤ mid → mid ≤ end → mid ≤ length text → Appends a b (drop from (take mid text)) → Appends b c (drop mid (take end text)) → Appends a c (drop from (take end text))
+then-out text a b c from mid end more further within before after =
+    let n = end - mid in
+    let whole : mid + n ≡ end = omega arith in
+    let second = subst (Appends b c) (ap (λ k. drop mid (take k text)) (sym whole) ∙ drop-take mid n text) after in
+    subst (λ k. Appends a c (drop from (take k text))) whole (went-out text a b c from mid n more within before second)

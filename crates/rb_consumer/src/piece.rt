@@ -1,11 +1,12 @@
 //! The bytes of a record, piece by piece.
 
-ghost use Rattle.std.specs.Prelude.{◌≡◌, ◌+◌, ◌<◌, ◌≤◌, length, take, drop};
+ghost use Rattle.std.specs.Prelude.{◌≡◌, ◌+◌, ◌/◌, ◌%◌, ◌<◌, ◌≤◌, length, take, drop};
 ghost use Rattle.std.specs.Io.KnownBytes.{Appends};
 ghost use Rattle.rb_header.specs.Header.{header_bytes};
 ghost use Rattle.rb_header.specs.TapeBytes.{item_bytes, item_span, item_position, header_of, IsItemAt};
 ghost use Rattle.rb_history.specs.RingModel.{IsRingSize};
 ghost use Rattle.rb_consumer.specs.Items.{item_of};
+ghost use Rattle.rb_consumer.specs.inner.RecordParts.{bytes_before_zeros};
 
 use crate::item::Item;
 use rb_header::{Header, span};
@@ -13,6 +14,15 @@ use std::io::Write;
 
 // A page of a ring's bytes (Linux Documentation/bpf/ringbuf.rst counts a record's place in pages).
 const PAGE: u64 = 4096;
+
+// The number of the page that a position lies in, of a ring of this size.
+#[inline(always)]
+fn page_of(size: u64, pos: u64) -> u32
+    requires size { IsRingSize size }
+    ensures { result ≡ pos % size / 4096 }
+{
+    ((pos & (size - 1)) / PAGE) as u32
+}
 
 // The header of a taken record in a ring of this size.
 fn header_of_item(size: u64, item: &Item<'_>) -> [u8; 8]
@@ -24,49 +34,114 @@ fn header_of_item(size: u64, item: &Item<'_>) -> [u8; 8]
         len: item.len(),
         busy: false,
         discard: matches!(item, Item::Skip(_, _)),
-        page: (item.pos() % size / PAGE) as u32,
+        page: page_of(size, item.pos()),
     }
     .to_bytes()
 }
 
-// Writes the piece by one write, and returns how many of its bytes went out: none where the write failed.
+// Writes the piece until a write fails or takes nothing, and returns how many of its bytes went out.
+#[cold]
+#[inline(never)]
+fn write_in_parts<W: Write>(writer: &mut W, piece: &[u8]) -> usize
+    ensures bound { result ≤ length piece.now }
+    ensures bytes { Appends (W.contents writer.old) (W.contents writer.new) (take result piece.now) }
+{
+    let mut sent = 0;
+    while sent < piece.len() {
+        match writer.write(&piece[sent..]) {
+            Ok(0) | Err(_) => break,
+            Ok(n) => sent += n,
+        }
+    }
+    sent
+}
+
+// The same, where the first write mostly takes the whole piece.
+#[inline(always)]
 fn write_piece<W: Write>(writer: &mut W, piece: &[u8]) -> usize
     ensures bound { result ≤ length piece.now }
     ensures bytes { Appends (W.contents writer.old) (W.contents writer.new) (take result piece.now) }
 {
-    match writer.write(piece) {
-        Ok(n) => n,
-        Err(_) => 0,
+    let Ok(sent) = writer.write(piece) else {
+        return 0;
+    };
+    if sent == piece.len() || sent == 0 {
+        return sent;
     }
+    sent + write_in_parts(writer, &piece[sent..])
 }
 
-// Writes some of the record's bytes from its byte `at` on, and returns how many went out: none where the write failed or took nothing.
-fn write_some<W: Write>(
-    writer: &mut W,
-    size: u64,
-    header: &[u8; 8],
-    item: &Item<'_>,
-    at: u64,
-) -> usize
-    requires header { header.now ≡ header_bytes (header_of size (item_of item.now)) }
+// Writes the record's header from its byte `at` on, and returns how many bytes went out.
+#[inline(always)]
+fn write_header<W: Write>(writer: &mut W, size: u64, item: &Item<'_>, at: u64) -> usize
+    requires size { IsRingSize size }
     requires stands { IsItemAt size (item_position (item_of item.now)) (item_of item.now) }
-    requires within { at < item_span (item_of item.now) }
-    ensures bound { at + result ≤ item_span (item_of item.now) }
+    requires within { at < 8 }
+    ensures bound { at + result ≤ 8 }
     ensures bytes { Appends (W.contents writer.old) (W.contents writer.new) (take result (drop at (item_bytes size (item_of item.now)))) }
 {
-    if at < 8 {
-        return write_piece(writer, &header[at as usize..]);
-    }
-    let behind = at - 8;
-    let payload = item.payload();
-    if behind < payload.len() as u64 {
-        return write_piece(writer, &payload[behind as usize..]);
-    }
-    let zeros = [0; 64];
-    let left = span(item.len()) - at;
-    write_piece(writer, &zeros[..left.min(64) as usize])
+    let header = header_of_item(size, item);
+    write_piece(writer, &header[at as usize..])
 }
 
+// Writes the bytes that stand behind the header before zeros do, from the record's byte `at` on, and returns how many went out.
+#[inline(always)]
+fn write_payload<W: Write>(writer: &mut W, size: u64, item: &Item<'_>, at: u64) -> usize
+    requires stands { IsItemAt size (item_position (item_of item.now)) (item_of item.now) }
+    requires behind { 8 ≤ at }
+    requires within { at < 8 + length (bytes_before_zeros (item_of item.now)) }
+    ensures bound { at + result ≤ 8 + length (bytes_before_zeros (item_of item.now)) }
+    ensures bytes { Appends (W.contents writer.old) (W.contents writer.new) (take result (drop at (item_bytes size (item_of item.now)))) }
+{
+    let behind = at - 8;
+    let payload = item.payload();
+    write_piece(writer, &payload[behind as usize..])
+}
+
+// Writes zeros from the record's byte `at` on, until a write fails or takes nothing, and returns how many of the record's bytes are out by then.
+fn write_zeros<W: Write>(writer: &mut W, size: u64, item: &Item<'_>, at: u64) -> u64
+    requires stands { IsItemAt size (item_position (item_of item.now)) (item_of item.now) }
+    requires behind { 8 + length (bytes_before_zeros (item_of item.now)) ≤ at }
+    requires within { at ≤ item_span (item_of item.now) }
+    ensures more { at ≤ result }
+    ensures bound { result ≤ item_span (item_of item.now) }
+    ensures bytes { Appends (W.contents writer.old) (W.contents writer.new) (drop at (take result (item_bytes size (item_of item.now)))) }
+{
+    let zeros = [0; 64];
+    let span = span(item.len());
+    let mut sent = at;
+    while sent < span {
+        let most = (span - sent).min(64) as usize;
+        match writer.write(&zeros[..most]) {
+            Ok(0) | Err(_) => break,
+            Ok(n) => sent += n as u64,
+        }
+    }
+    sent
+}
+
+// Writes what stands behind the record's header from its byte `from` on, as `write_from` does.
+#[inline(always)]
+fn write_behind_header<W: Write>(writer: &mut W, size: u64, item: &Item<'_>, from: u64) -> u64
+    requires stands { IsItemAt size (item_position (item_of item.now)) (item_of item.now) }
+    requires behind { 8 ≤ from }
+    requires from { from ≤ item_span (item_of item.now) }
+    ensures more { from ≤ result }
+    ensures bound { result ≤ item_span (item_of item.now) }
+    ensures bytes { Appends (W.contents writer.old) (W.contents writer.new) (drop from (take result (item_bytes size (item_of item.now)))) }
+{
+    let end = 8 + item.payload().len() as u64;
+    if from >= end {
+        return write_zeros(writer, size, item, from);
+    }
+    let sent = from + write_payload(writer, size, item, from) as u64;
+    if sent < end || sent == span(item.len()) {
+        return sent;
+    }
+    write_zeros(writer, size, item, sent)
+}
+
+#[inline(always)]
 /// Writes a record from its byte `from` on, until a write fails or takes nothing, and returns how many of its bytes are out by then.
 pub(crate) fn write_from<W: Write>(writer: &mut W, size: u64, item: &Item<'_>, from: u64) -> u64
     requires size { IsRingSize size }
@@ -76,15 +151,12 @@ pub(crate) fn write_from<W: Write>(writer: &mut W, size: u64, item: &Item<'_>, f
     ensures bound { result ≤ item_span (item_of item.now) }
     ensures bytes { Appends (W.contents writer.old) (W.contents writer.new) (drop from (take result (item_bytes size (item_of item.now)))) }
 {
-    let header = header_of_item(size, item);
-    let span = span(item.len());
-    let mut sent = from;
-    while sent < span {
-        let n = write_some(writer, size, &header, item, sent);
-        if n == 0 {
-            break;
-        }
-        sent += n as u64;
+    if from >= 8 {
+        return write_behind_header(writer, size, item, from);
     }
-    sent
+    let sent = from + write_header(writer, size, item, from) as u64;
+    if sent < 8 {
+        return sent;
+    }
+    write_behind_header(writer, size, item, sent)
 }

@@ -1,6 +1,6 @@
 //! A writer behind a buffer.
 
-use crate::device::write_out;
+use crate::device::{DeviceFault, write_out};
 use crate::outgoing::Outgoing;
 use std::alloc::{AllocError, Global};
 use std::io;
@@ -12,6 +12,7 @@ const CAPACITY: usize = 65_536;
 
 /// Gathers what is written to it, and hands it on once the buffer is full, or by `hand_out` or `flush`. Unlike std's it takes an interrupted write for
 /// one that failed, and nothing goes out when it is dropped: after a write that failed, all that did not go out waits for the next one.
+/// The error of a write is `WriteZero`, whatever failed below.
 #[derive(Drop)]
 pub struct Buffered<W> {
     writer: W,
@@ -27,8 +28,7 @@ impl<W> Model for Buffered<W> {
 }
 
 impl<W: Write> Buffered<W> {
-    ghost use Rattle.std.specs.Prelude.{◌≡◌, ◌≤◌, [], IfOk, OnOk};
-    ghost use Rattle.std.specs.Io.{WritesAtMost};
+    ghost use Rattle.std.specs.Prelude.{◌≡◌, ◌≤◌, [], IfOk, OnOk, length};
     ghost use Rattle.std.specs.Io.KnownBytes.{Keeps, WriteAppends, append_known};
 
     /// A buffer in front of the writer; the error is want of memory.
@@ -56,19 +56,26 @@ impl<W: Write> Buffered<W> {
         Err(Error::from(ErrorKind::WriteZero))
     }
 
-    // Writes a piece that the buffer has no room for.
+    // Writes a piece that the buffer has no room for. The error is that of a write below, or want of memory.
     #[cold]
     #[inline(never)]
-    fn write_behind(&mut self, piece: &[u8]) -> io::Result<usize>
-        ensures bound { WritesAtMost result piece.now }
+    fn write_behind(&mut self, piece: &[u8]) -> Result<usize, DeviceFault>
+        ensures bound { IfOk result (λ n. n ≤ length piece.now) }
         ensures bytes { WriteAppends (append_known (W.contents self.old.writer) self.old.waiting) (append_known (W.contents self.new.writer) self.new.waiting) result piece.now }
     {
-        self.hand_on()?;
-        if piece.len() > CAPACITY {
-            return self.writer.write(piece);
+        if self.hand_on().is_err() {
+            return Err(DeviceFault);
         }
-        self.waiting.extend_from_slice(piece)?;
-        Ok(piece.len())
+        if piece.len() > CAPACITY {
+            return match self.writer.write(piece) {
+                Ok(n) => Ok(n),
+                Err(_) => Err(DeviceFault),
+            };
+        }
+        match self.waiting.extend_from_slice(piece) {
+            Ok(()) => Ok(piece.len()),
+            Err(_) => Err(DeviceFault),
+        }
     }
 }
 
@@ -80,9 +87,14 @@ impl<W: Write> Write for Buffered<W> {
     #[inline(always)]
     fn write(&mut self, piece: &[u8]) -> io::Result<usize> {
         if piece.len() > self.waiting.capacity() - self.waiting.len() {
-            return self.write_behind(piece);
+            return match self.write_behind(piece) {
+                Ok(n) => Ok(n),
+                Err(DeviceFault) => Err(Error::from(ErrorKind::WriteZero)),
+            };
         }
-        self.waiting.extend_from_slice(piece)?;
+        if self.waiting.extend_from_slice(piece).is_err() {
+            unreachable!()
+        }
         Ok(piece.len())
     }
 

@@ -1,11 +1,13 @@
 -- What the pieces of a payload's read say together.
-use Rattle.std.proofs.Common.{◌≡◌, ℕ, ◌<◌, ◌≤◌, ◌^◌, ◌++◌, List, Option, length, take, refl, sym, ◌∙◌, subst, arith, inr}
+use Rattle.std.proofs.Common.{◌≡◌, ℕ, ◌+◌, ◌<◌, ◌≤◌, ◌^◌, ◌++◌, List, Option, length, take, drop, refl, sym, ap, ◌∙◌, subst, arith, inr}
+use Rattle.std.proofs.Math.Seq.{take-append_seam}
 use Rattle.std.proofs.lemmas.List.{take_all, length-take-le}
 use Rattle.std.specs.Int.{w32, to_le_bytes}
 use Rattle.std.specs.Io.KnownBytes.{Consumes, IsAtEnd}
 use Rattle.std.proofs.KnownBytes.{Consumes-trans}
 use Rattle.rb_header.specs.Span.{span}
-use Rattle.rb_tape_commands.specs.PayloadReads.{FindsSome, FindsCut}
+use Rattle.rb_tape_commands.specs.PayloadReads.{FindsPayload, FindsSome, FindsCut}
+use Rattle.rb_tape_commands.specs.inner.SeenPayloads.{IsSeenWhole}
 
 -- the four bytes that were read are those of the number that they spell
 pub length_read : (a b : Option (List ℕ)) (field : List ℕ) (n len : ℕ) → length field ≡ 4 → n ≡ 4 → to_le_bytes w32 len ≡ field → Consumes a b (take n field) → Consumes a b (to_le_bytes w32 len)
@@ -25,3 +27,11 @@ cut_read size a b c len n sheet first more field room within short end =
       cut = inr (record { len = len; part = take n sheet; text_is = refl; has_field = field; room = room; short = omega arith });
       at_end = end;
     }
+
+-- what was seen whole at the front of a buffer was read
+pub seen_read : (size : ℕ) (a b : Option (List ℕ)) (seen payload : List ℕ) → IsSeenWhole size seen payload → Consumes a b (take (4 + length payload) seen) → FindsPayload size a b payload
+seen_read size a b seen payload whole read = record { read = subst (Consumes a b) whole.front read; room = whole.room }
+
+-- a sheet whose bytes were all written over has the new ones
+pub written_over : (sheet put payload : List ℕ) → put ≡ payload → length sheet ≡ length payload → take (length sheet) (put ++ drop (length put) sheet) ≡ payload
+written_over sheet put payload same sized = ap (λ n. take n (put ++ drop (length put) sheet)) (sized ∙ sym (ap length same)) ∙ take-append_seam put (drop (length put) sheet) ∙ same

@@ -3,4 +3,5 @@ pub mod HexDigits
 pub mod LengthReads
 pub mod OpenedFeed
 pub mod PayloadSteps
+pub mod SeenPayloads
 pub mod TapePrinting

@@ -22,7 +22,7 @@ use rb_consumer::{Event, Item, TapeWriter};
 use rb_io::Outgoing;
 use rb_lend::{Lent, Sheet};
 use std::alloc::Global;
-use std::io::{Read, Write};
+use std::io::{BufRead, Write};
 
 // How many entries a chapter of the ring has room for. A payload logs three, so that the ring goes on in another one before each 86th
 // payload; the two chapters' entries take 16 KiB, and stay in a processor's nearest cache.
@@ -65,7 +65,7 @@ fn feed_one<W: Write>(
 
 // Payload after payload, until the input ends or one is refused: where the producer and the consumer stand then. Before each the ring goes
 // on in the spare chapter, where its own has no room for it.
-fn feed_all<R: Read, W: Write>(
+fn feed_all<R: BufRead, W: Write>(
     ring: &mut RingState,
     spare_chapter: &mut Option<Chapter>,
     reader: &mut R,
@@ -98,9 +98,9 @@ fn feed_all<R: Read, W: Write>(
 /// `Size` and `Start` come before anything is read. A payload whose record is too long for the ring is refused from its length
 /// alone. After a write or a handing on that failed, the writing goes on where it stopped, `retries` times in the whole run, and then it is
 /// `Device`. Whatever is returned, the whole tape of the payloads before was written and handed on, unless the writer itself
-/// failed. Reader and writer are called a few times for each payload: buffer them. No memory is taken once the ring is opened, but for a payload
+/// failed. The writer is called a few times for each payload: buffer it. No memory is taken once the ring is opened, but for a payload
 /// that is longer than all before it.
-pub fn feed<R: Read, W: Outgoing>(
+pub fn feed<R: BufRead, W: Outgoing>(
     alloc: Global,
     reader: &mut R,
     writer: W,
@@ -156,7 +156,7 @@ fn open(
 }
 
 // The payloads through the ring and onto the writer, which hands all of them on.
-fn feed_ring<R: Read, W: Outgoing>(
+fn feed_ring<R: BufRead, W: Outgoing>(
     opened: (RingState, Option<Chapter>, Sheet),
     reader: &mut R,
     writer: W,

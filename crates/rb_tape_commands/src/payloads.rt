@@ -1,16 +1,17 @@
 //! Reading payloads.
 
-ghost use Rattle.std.specs.Prelude.{◌≡◌, IfOk, length};
+ghost use Rattle.std.specs.Prelude.{◌≡◌, IfOk, IfSome, length};
 ghost use Rattle.std.specs.Int.{w32, to_le_bytes};
 ghost use Rattle.rb_tape_commands.specs.PayloadReads.{FindsNext};
 ghost use Rattle.rb_tape_commands.specs.inner.LengthReads.{FindsLength};
+ghost use Rattle.rb_tape_commands.specs.inner.SeenPayloads.{IsSeenWhole};
 
 use crate::feed_fault::FeedFault;
 use rb_header::span;
 use rb_io::read_full;
 use rb_lend::{Lent, Sheet};
 use std::alloc::AllocError;
-use std::io::Read;
+use std::io::{BufRead, Read};
 
 // The number whose bytes these are, the lowest first.
 fn number_of(field: &[u8; 4]) -> u32
@@ -47,9 +48,10 @@ fn sheet_of(spare: Sheet, len: u32) -> Result<Sheet, AllocError>
     }
 }
 
-/// Reads the payload of this number into the sheet, or finds that the input ends before it. A payload whose record is too
-/// long for a ring of `size` bytes is refused from its length alone.
-pub fn next_payload<R: Read>(
+// Reads the payload of this number, its length and then its bytes, each until it is whole or the input ends.
+#[cold]
+#[inline(never)]
+fn read_payload<R: Read>(
     reader: &mut R,
     spare: Sheet,
     size: u64,
@@ -72,5 +74,81 @@ pub fn next_payload<R: Read>(
     if count < len as usize {
         return Err(FeedFault::Ends(number));
     }
+    Ok(Some(sheet))
+}
+
+// The payload that stands whole at the front of these bytes, behind its length, where a ring of `size` bytes has room for its record.
+#[inline]
+fn whole_payload(seen: &[u8], size: u64) -> Option<&[u8]>
+    ensures seen { IfSome result (λ payload. IsSeenWhole size seen.now payload.now) }
+{
+    let (field, rest) = seen.split_first_chunk::<4>()?;
+    let len = number_of(field);
+    if span(len) >= size || rest.len() < len as usize {
+        return None;
+    }
+    Some(&rest[..len as usize])
+}
+
+// The sheet with these bytes in place of its own, as many.
+#[inline(always)]
+fn filled(sheet: Sheet, bytes: &[u8]) -> Sheet
+    requires sized { length sheet ≡ length bytes.now }
+    ensures filled { result ≡ bytes.now }
+{
+    let mut sheet = sheet;
+    sheet.bytes_mut().copy_from_slice(bytes);
+    sheet
+}
+
+// The same as `next_payload`, where the sheet has another length than the payload.
+#[inline(never)]
+fn next_of_other_length<R: BufRead>(
+    reader: &mut R,
+    spare: Sheet,
+    size: u64,
+    number: u64,
+) -> Result<Option<Sheet>, FeedFault>
+    ensures { FindsNext size number (R.remaining reader.old) (R.remaining reader.new) result }
+{
+    let Ok(seen) = reader.fill_buf() else {
+        return Err(FeedFault::Device);
+    };
+    let Some(payload) = whole_payload(seen, size) else {
+        return read_payload(reader, spare, size, number);
+    };
+    let len = payload.len();
+    let Ok(sheet) = sheet_of(spare, len as u32) else {
+        return Err(FeedFault::Memory);
+    };
+    let sheet = filled(sheet, payload);
+    reader.consume(4 + len);
+    Ok(Some(sheet))
+}
+
+#[inline]
+/// Reads the payload of this number into the sheet, or finds that the input ends before it. A payload whose record is too
+/// long for a ring of `size` bytes is refused from its length alone. One that the reader's buffer has whole is copied from there; any
+/// other is read as it comes.
+pub fn next_payload<R: BufRead>(
+    reader: &mut R,
+    spare: Sheet,
+    size: u64,
+    number: u64,
+) -> Result<Option<Sheet>, FeedFault>
+    ensures { FindsNext size number (R.remaining reader.old) (R.remaining reader.new) result }
+{
+    let Ok(seen) = reader.fill_buf() else {
+        return Err(FeedFault::Device);
+    };
+    let Some(payload) = whole_payload(seen, size) else {
+        return read_payload(reader, spare, size, number);
+    };
+    let len = payload.len();
+    if spare.len() as usize != len {
+        return next_of_other_length(reader, spare, size, number);
+    }
+    let sheet = filled(spare, payload);
+    reader.consume(4 + len);
     Ok(Some(sheet))
 }

@@ -2,7 +2,7 @@
 
 use rb_io::Outgoing;
 use std::alloc::Global;
-use std::io::{Error, ErrorKind, Read, Result, Write};
+use std::io::{BufRead, Error, ErrorKind, Read, Result, Write};
 
 /// Gives its bytes, at most `most` at a time, and then the end, or fails if it has a `fault`.
 #[derive(Drop)]
@@ -43,6 +43,19 @@ impl Read for Source<'_> {
         buf[..n].copy_from_slice(front);
         self.rest = rest;
         Ok(n)
+    }
+}
+
+impl BufRead for Source<'_> {
+    fn fill_buf(&mut self) -> Result<&[u8]> {
+        match self.fault {
+            Some(kind) if self.rest.is_empty() => Err(Error::from(kind)),
+            _ => Ok(&self.rest[..self.rest.len().min(self.most)]),
+        }
+    }
+
+    fn consume(&mut self, amount: usize) {
+        self.rest = &self.rest[amount.min(self.rest.len())..];
     }
 }
 

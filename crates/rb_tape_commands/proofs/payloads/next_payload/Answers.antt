@@ -1,18 +1,15 @@
-use Rattle.std.proofs.Common.{◌≡◌, ◌<◌, length, refl, ap, ◌∙◌, arith}
-use Rattle.rb_header.specs.Span.{span}
-use Rattle.rb_tape_commands.proofs.PayloadReads.{some_read, cut_read}
+use Rattle.std.proofs.Common.{◌+◌, length, sym, subst}
+use Rattle.std.specs.Io.BufRead.{FillKeeps}
+use Rattle.std.proofs.BufReadLemmas.{Consumes_shown}
+use Rattle.rb_tape_commands.specs.PayloadReads.{FindsPayload}
+use Rattle.rb_tape_commands.proofs.PayloadReads.{seen_read}
 use Rattle.rb_tape_commands.proofs.payloads.next_payload.Goals as goal
 
-pub returns-in_default-read_full : goal.returns-in_default-read_full
-returns-in_default-read_full g c = some_read _ _ _ c.in-Some.len (rw c.in-Some.is at c.in_ok-len.ensures).1 c.in_default-read_full.ensures.lost
-
-pub returns-then-count-len : goal.returns-then-count-len
-returns-then-count-len g c =
-    let len = rw c.in-Some.is at c.in_ok-len.ensures in
-    let read = c.in-Ok-read_full.ensures in
-    let test = c.if-span-size.false in
-    let room : span c.in-Some.len < c.args.size = omega (arith, c.span.ensures.value) in
-    let whole : length c.read_full.new.buf ≡ c.in-Some.len =
-    c.read_full.auto.buf ∙ ap length c.bytes_mut.ensures.value ∙ c.in-Ok.ensures.sized in
-    let short = c.if-count-len.true in
-    (refl, cut_read c.args.size _ _ _ c.in-Some.len c.in-Ok-read_full.count c.read_full.new.buf len.1 read.bytes len.0 room read.bound short (read.end (omega arith)))
+pub returns : goal.returns
+returns g c =
+    let payload = c.in-Some.payload.now in
+    let whole = c.in-Some.ensures.seen in
+    let rested = c.fill_buf.follows.lender-at-none in
+    let filled = subst (FillKeeps _ (g.R.Read.remaining rested) (g.R.BufRead.consumable_len rested)) c.in-Ok.is c.fill_buf.follows.holds-at-none in
+    let read = Consumes_shown _ _ _ _ c.in-Ok.seen.now (4 + length payload) whole.within c.in-Ok.ensures.front c.in-Ok.ensures.end filled.0 filled.1 c.consume.ensures.bytes in
+    subst (FindsPayload c.args.size (g.R.Read.remaining c.args.reader.now) (g.R.Read.remaining c.consume.new.self)) (sym c.filled-sheet.ensures.filled) (seen_read c.args.size _ _ c.in-Ok.seen.now payload whole read.0)
