@@ -15,8 +15,8 @@ pub(crate) const SIZE: u64 = 65_536;
 /// How many entries each chapter of their histories has room for.
 pub(crate) const ROOM: u32 = 65_536;
 
-/// The byte that fills each record.
-pub(crate) const FILL: u8 = 42;
+// The byte that fills each record.
+const FILL: u8 = 42;
 
 /// Outputs and takes `records` records of `len` bytes, one after the other, and answers the sum of their first bytes. One
 /// sheet goes round, and two chapters.

@@ -1,23 +1,18 @@
 //! One ring, from its opening to its end.
 
-ghost use Rattle.std.specs.Prelude.{◌≡◌, All};
-ghost use Rattle.rb_ledger.specs.Seats.{IsSameSeat};
-ghost use Rattle.rb_shared_ring.specs.SharedSeats.{IsSameChapterConsumer};
-
-use crate::consumer::{BATCH, Desk, consume};
+use crate::consumer::{BATCH, Desk};
 use crate::fault::SoakFault;
 use crate::plan::Plan;
 use crate::seen::Seen;
 use crate::sums::Sums;
-use crate::worker::work;
+use crate::worker::Steps;
 use rb_chapter::Chapter;
 use rb_consumer::{Batch, Keeper};
-use rb_shared_ring::{Closing, ConsumerSeat, Seat, SharedRing, open};
+use rb_ring_threads::OpenRing;
+use rb_shared_ring::{Closing, ConsumerSeat, Seat};
 use std::alloc::Global;
 use std::sync::Wait;
-use std::sync::atomic::{AtomicBool, Ordering};
-use std::thread;
-use std::thread::{Threads, join_mut};
+use std::thread::Threads;
 
 /// Opens a ring, lets its workers and its consumer run to their ends, closes it, and tells what they counted.
 pub(crate) fn round<R: Threads + Wait + Sync>(
@@ -26,18 +21,10 @@ pub(crate) fn round<R: Threads + Wait + Sync>(
     plan: Plan,
     tag: u64,
 ) -> Result<Sums, SoakFault> {
-    let Ok((ring, mut seats, mut consumer)) = open(
-        rt,
-        alloc,
-        tag,
-        plan.size,
-        0,
-        plan.workers,
-        plan.room,
-    ) else {
+    let Ok(mut open) = OpenRing::open(rt, alloc, tag, plan.size, plan.workers, plan.room) else {
         return Err(SoakFault::Ring);
     };
-    consumer.facts();
+    open.consumer.facts();
     let Some(mut desk) = desk_for(
         alloc,
         &plan,
@@ -45,21 +32,13 @@ pub(crate) fn round<R: Threads + Wait + Sync>(
     ) else {
         return Err(SoakFault::Memory);
     };
-    run(
-        rt,
-        alloc,
-        &ring,
-        seats.as_mut_slice(),
-        &mut consumer,
-        &mut desk,
-        plan,
-    );
-    let mut sums = sums_of(seats.as_slice(), &consumer, &desk.seen);
-    let Ok(closing) = ring.close(rt, seats, consumer) else {
+    open.run(rt, &Steps { alloc, plan }, &mut desk);
+    let mut sums = sums_of(open.seats.as_slice(), &open.consumer, &desk.seen);
+    let Ok(closing) = open.close(rt) else {
         return Err(SoakFault::Open);
     };
     check_closing(&closing, &mut sums);
-    if desk.is_bound {
+    if plan.is_bound() {
         bind(alloc, closing, desk.chapters, &mut sums);
     }
     Ok(sums)
@@ -73,6 +52,7 @@ fn desk_for(alloc: Global, plan: &Plan, chapter: Option<Chapter>) -> Option<Desk
         chapter,
     ) {
         (Ok(batch), Ok(seen), Some(chapter)) => Some(Desk {
+            alloc,
             batch,
             keeper: Keeper::with_margin(chapter, plan.room / 4),
             seen,
@@ -81,59 +61,6 @@ fn desk_for(alloc: Global, plan: &Plan, chapter: Option<Chapter>) -> Option<Desk
         }),
         _ => None,
     }
-}
-
-// The workers and the consumer, each in a thread of its own.
-fn run<R: Threads + Wait + Sync>(
-    rt: &R,
-    alloc: Global,
-    ring: &SharedRing,
-    seats: &mut [Seat],
-    consumer: &mut ConsumerSeat,
-    desk: &mut Desk,
-    plan: Plan,
-)
-    requires seats { All (λ s. s.ring ≡ ring.now.ring) seats.old }
-    requires consumer { consumer.old.ring ≡ ring.now.ring }
-    ensures seats { All (λ s. s.ring ≡ ring.now.ring) seats.new }
-    ensures consumer { IsSameChapterConsumer consumer.old consumer.new }
-{
-    let ended = AtomicBool::new(false);
-    let shared = &ended;
-    join_mut(
-        rt,
-        &mut ||
-            requires { consumer.now.ring ≡ ring.now.ring }
-            ensures { IsSameChapterConsumer consumer.entry.now consumer.exit.now }
-        { consume(rt, alloc, ring, shared, consumer, desk) },
-        &mut ||
-            requires { All (λ s. s.ring ≡ ring.now.ring) seats.now }
-            ensures { All (λ s. s.ring ≡ ring.entry.now.ring) seats.exit.now }
-        {
-            work_all(rt, alloc, ring, seats, plan);
-            shared.store(true, Ordering::SeqCst);
-        },
-    );
-}
-
-// Each worker in a thread of its own.
-fn work_all<R: Threads + Wait + Sync>(
-    rt: &R,
-    alloc: Global,
-    ring: &SharedRing,
-    seats: &mut [Seat],
-    plan: Plan,
-)
-    requires { All (λ s. s.ring ≡ ring.now.ring) seats.old }
-    ensures { All (λ s. s.ring ≡ ring.now.ring) seats.new }
-{
-    let threads = seats.len().max(1);
-    let (seed, steps) = (plan.seed, plan.steps);
-    let work = move |_: usize, seat: &mut Seat|
-        requires { seat.now.ring ≡ ring.now.ring }
-        ensures { seat.exit.now.ring ≡ ring.entry.now.ring }
-    { work(rt, alloc, ring, seat, seed, steps) };
-    thread::for_each_mut(rt, seats, threads, &work);
 }
 
 // What the seats counted, and whether it is what the consumer saw of each worker.

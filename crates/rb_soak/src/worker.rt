@@ -1,33 +1,34 @@
 //! A worker, which makes records by drawn numbers.
 
-ghost use Rattle.std.specs.Prelude.{◌≡◌, ◌<◌, length};
+ghost use Rattle.std.specs.Prelude.{◌≡◌, ◌<◌};
 ghost use Rattle.rb_ledger.specs.Seats.{IsSameSeat};
 
 use crate::bytes::write;
 use crate::draw::Draw;
+use crate::plan::Plan;
 use rb_history::Reservation;
-use rb_lend::{Lent, Sheet};
+use rb_lend::Lent;
+use rb_ring_threads::{Producer, output, sheet};
 use rb_shared_ring::{Seat, SharedRing, WaitBackoff};
 use std::alloc::Global;
 use std::sync::Wait;
-use std::thread;
 
-/// Makes so many steps.
-pub(crate) fn work<R: Wait>(
-    rt: &R,
-    alloc: Global,
-    ring: &SharedRing,
-    seat: &mut Seat,
-    seed: u64,
-    steps: u32,
-)
-    requires { seat.old.ring ≡ ring.now.ring }
-    ensures { IsSameSeat seat.old seat.new }
-{
-    let mut draw = Draw::new(seed, seat.tag(), seat.worker());
-    for _ in 0..steps {
-        let (kind, number) = (draw.next(), draw.next());
-        step(rt, alloc, ring, seat, kind, number);
+/// Makes a plan's steps.
+#[derive(Clone, Copy)]
+pub(crate) struct Steps {
+    pub(crate) alloc: Global,
+    pub(crate) plan: Plan,
+}
+
+impl Producer for Steps {
+    ghost is_done = { λ steps seat. Unit {0} };
+
+    fn produce<R: Wait>(&self, rt: &R, ring: &SharedRing, seat: &mut Seat) {
+        let mut draw = Draw::new(self.plan.seed, seat.tag(), seat.worker());
+        for _ in 0..self.plan.steps {
+            let (kind, number) = (draw.next(), draw.next());
+            step(rt, self.alloc, ring, seat, kind, number);
+        }
     }
 }
 
@@ -38,7 +39,7 @@ fn step<R: Wait>(rt: &R, alloc: Global, ring: &SharedRing, seat: &mut Seat, kind
 {
     let n = length_of(number);
     if kind % 8 < 3 {
-        output(rt, alloc, ring, seat, n, kind >> 8);
+        output_one(rt, alloc, ring, seat, n, kind >> 8);
     } else if kind % 8 < 7 {
         let record = reserved(rt, alloc, ring, seat, n);
         finish(rt, ring, seat, record, kind >> 8);
@@ -59,21 +60,20 @@ fn length_of(number: u32) -> u32
 }
 
 // Outputs one record, however often it finds no room.
-fn output<R: Wait>(rt: &R, alloc: Global, ring: &SharedRing, seat: &mut Seat, n: u32, flags: u32)
+fn output_one<R: Wait>(
+    rt: &R,
+    alloc: Global,
+    ring: &SharedRing,
+    seat: &mut Seat,
+    n: u32,
+    flags: u32,
+)
     requires { seat.old.ring ≡ ring.now.ring }
     ensures { IsSameSeat seat.old seat.new }
 {
-    let mut sheet = blank(rt, alloc, n);
-    write(sheet.bytes_mut(), seat.worker(), seat.made());
-    let mut backoff = WaitBackoff::new();
-    for _ in rt.forever() {
-        match ring.output(rt, seat, sheet, u64::from(flags % 4)) {
-            Ok(_) => return,
-            Err((_, back)) => sheet = back,
-        }
-        backoff.wait();
-    }
-    unreachable!()
+    let mut record = sheet(rt, alloc, n);
+    write(record.bytes_mut(), seat.worker(), seat.made());
+    output(rt, ring, seat, record, u64::from(flags % 4));
 }
 
 // Reserves a record, however often there is no room.
@@ -108,8 +108,7 @@ fn reserved_at_once<R: Wait>(
     requires { seat.old.ring ≡ ring.now.ring }
     ensures { IsSameSeat seat.old seat.new }
 {
-    let sheet = blank(rt, alloc, n);
-    match ring.reserve(rt, seat, n, sheet) {
+    match ring.reserve(rt, seat, n, sheet(rt, alloc, n)) {
         Ok(record) => Some(record),
         Err(_) => None,
     }
@@ -146,17 +145,4 @@ fn written(mut record: Reservation) -> Reservation {
     let (worker, serial) = (record.worker(), record.serial());
     write(record.bytes_mut(), worker, serial);
     record
-}
-
-// A sheet of so many zeros, once there is memory for it.
-fn blank<R: Wait>(rt: &R, alloc: Global, n: u32) -> Sheet
-    ensures { length result ≡ n }
-{
-    for _ in rt.forever() {
-        if let Ok(sheet) = Sheet::new(alloc, n) {
-            return sheet;
-        }
-        thread::yield_now();
-    }
-    unreachable!()
 }

@@ -10,7 +10,7 @@ use Rattle.rb_history.specs.RingModel.{Ring, StandsFor}
 use Rattle.rb_history.specs.Calls as ring
 use Rattle.rb_chapter.specs.Chapters.{Chapter, joined}
 use Rattle.rb_chapter.specs.ChapterRing.{ChapterRing, StandsForChapter, whole_ring}
-use Rattle.rb_chapter.specs.ChapterCalls.{IsSameChapter, HoldsReservationFrom, Grants, FindsFull, Outputs, Submits, Discards, Strays, Takes, HandsOut}
+use Rattle.rb_chapter.specs.ChapterCalls.{IsSameChapter, HoldsReservationFrom, Grants, FindsFull, Outputs, Strays, Takes, HandsOut}
 use Rattle.rb_chapter.specs.CountedFrom.{query_answer_from}
 use Rattle.rb_chapter.specs.WholeHistory.{IsKept}
 use Rattle.rb_chapter.proofs.Alike.{stands-alike, calls-alike}
@@ -19,10 +19,14 @@ use Rattle.rb_chapter.proofs.Stands.{goes-on}
 use Rattle.rb_chapter_ring.specs.RingFaults.{RefusesInChapter}
 use Rattle.rb_chapter_ring.specs.declared.faults.ReserveFault.{ReserveFault}
 use Rattle.rb_chapter_ring.specs.declared.faults.ReserveFault.TheVariants.{Full, Flags, ChapterFull, Foreign}
+use Rattle.rb_semantics.specs.HelperCalls.{Taken as TakenAnswer}
 use Rattle.rb_interleavings.specs.Worlds.{WorldRing}
 use Rattle.rb_interleavings.specs.CallsInWorld.{RingSteps, BadFlags, Unlogged, NoRoom, Made}
+use Rattle.rb_world.specs.declared.record_end.RecordEnd.{RecordEnd}
+use Rattle.rb_world.specs.declared.record_end.RecordEnd.TheVariants.{Submit, Discard}
 use Rattle.rb_world.specs.WorldValue.{KeptRing, world_ring}
 use Rattle.rb_world.specs.TurnsDone.{TurnsChapter, chapters_of}
+use Rattle.rb_world.specs.inner.RecordEnds.{EndsInChapter, WorkerEnds}
 use Rattle.rb_world.specs.inner.RingAnswers.{untaken_ring, IsReserved, IsOutput, IsWholeAnswer}
 
 moved : (P : Ring → Ring → Type 0) (old new : Ring) → P old new → StandsFor new → RingSteps P [] (untaken_ring old) (untaken_ring new)
@@ -98,19 +102,16 @@ module _ (s : KeptRing) (new : ChapterRing) (kept : IsKept (joined s.chapters) s
   abbrev after : KeptRing
   after = record s { ring = new }
 
-  pub submit-steps : (r : Granted) → StandsForChapter new → Submits s.ring new r → RingSteps (λ v v'. ring.Submits v v' r) [] (world_ring s) (world_ring after)
-  submit-steps r stands h = record {
-    stepped = (((calls-alike (joined s.chapters) s.ring new kept.continues).submits r).0 h).1;
-    stands = stands-whole (joined s.chapters) new ((calls-keep (joined s.chapters) s.ring new kept).submits r h) stands;
-    taken_are = sym (append-nil s.taken);
-  }
+  pub end-kept : (ending : RecordEnd) (r : Granted) → EndsInChapter ending r s.ring new → IsKept (joined s.chapters) new.chapter
+  end-kept Submit r h = (calls-keep (joined s.chapters) s.ring new kept).submits r h
+  end-kept Discard r h = (calls-keep (joined s.chapters) s.ring new kept).discards r h
 
-  pub discard-steps : (r : Granted) → StandsForChapter new → Discards s.ring new r → RingSteps (λ v v'. ring.Discards v v' r) [] (world_ring s) (world_ring after)
-  discard-steps r stands h = record {
-    stepped = (((calls-alike (joined s.chapters) s.ring new kept.continues).discards r).0 h).1;
-    stands = stands-whole (joined s.chapters) new ((calls-keep (joined s.chapters) s.ring new kept).discards r h) stands;
-    taken_are = sym (append-nil s.taken);
-  }
+  stepped-to : (step : Ring → Ring → Type 0) → step (world_ring s).ring (world_ring after).ring → IsKept (joined s.chapters) new.chapter → StandsForChapter new → RingSteps step [] (world_ring s) (world_ring after)
+  stepped-to step stepped kept_on stands = record { stepped = stepped; stands = stands-whole (joined s.chapters) new kept_on stands; taken_are = sym (append-nil s.taken) }
+
+  pub ended : (ending : RecordEnd) (r : Granted) → StandsForChapter new → EndsInChapter ending r s.ring new → WorkerEnds ending r TakenAnswer (world_ring s) (world_ring after)
+  ended Submit r stands h = stepped-to (λ v v'. ring.Submits v v' r) (((calls-alike (joined s.chapters) s.ring new kept.continues).submits r).0 h).1 (end-kept Submit r h) stands
+  ended Discard r stands h = stepped-to (λ v v'. ring.Discards v v' r) (((calls-alike (joined s.chapters) s.ring new kept.continues).discards r).0 h).1 (end-kept Discard r h) stands
 
   -- a busy record is not handed back
   pub no-stray : (r : Granted) → Strays s.ring new r → ring.HoldsReservation (world_ring s).ring r → ⊥

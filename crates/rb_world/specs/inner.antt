@@ -1,4 +1,5 @@
 pub mod RingAnswers
+pub mod RecordEnds
 pub mod WorkerTurn
 pub mod FittingWorlds
 pub mod KeptChapters

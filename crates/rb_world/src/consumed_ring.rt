@@ -1,5 +1,6 @@
 //! A ring of a world, the chapters that it handed out, and what its consumer took of it.
 
+use crate::record_end::RecordEnd;
 use crate::ring_answers;
 use crate::turn_done::TurnDone;
 use crate::world_record::WorldRecord;
@@ -40,10 +41,10 @@ impl ConsumedRing {
     ghost use Rattle.rb_history.specs.Calls.{HoldsReservation};
     ghost use Rattle.rb_chapter.specs.Chapters.{joined};
     ghost use Rattle.rb_chapter.specs.WholeHistory.{Binds, IsKept};
-    ghost use Rattle.rb_interleavings.specs.CallsInWorld.{WorkerSubmits, WorkerDiscards};
     ghost use Rattle.rb_interp.specs.declared.step.Phase.TheVariants as phase;
     ghost use Rattle.rb_semantics.specs.declared.pending_call.PendingCall.TheVariants as asked;
     ghost use Rattle.rb_world.specs.inner.WorkerTurn.{TakesOnce, KeepsChapter, AnswersReserve, AnswersOutput, AnswersGivenBack, AnswersQuery};
+    ghost use Rattle.rb_world.specs.inner.RecordEnds.{WorkerEnds};
     ghost use Rattle.rb_world.specs.inner.FittingWorlds.{AreOwn};
     ghost use Rattle.rb_world.specs.TurnsDone.{chapters_of};
     ghost use Rattle.rb_world.specs.WorldValue.{world_ring};
@@ -103,44 +104,22 @@ impl ConsumedRing {
         machine.answer(Answer::Code(code));
     }
 
-    // Answers the submit of a worker that waits, of a record that is busy.
-    pub(crate) fn answer_submit(
+    // Answers the submit or the discard of a worker that waits, of a record that is busy.
+    pub(crate) fn answer_given_back(
         &mut self,
         machine: &mut Machine<'_, &[u8], WorldRecord>,
+        ending: RecordEnd,
         owned: WorldRecord,
         flags: u64,
     )
         requires busy { HoldsReservation (world_ring self.old).ring owned.reservation }
         requires waits { machine.old.phase ≡ phase.Waiting asked.GiveBack }
-        ensures answered { AnswersGivenBack WorkerSubmits owned machine.old (world_ring self.old) machine.new (world_ring self.new) }
+        ensures answered { AnswersGivenBack (WorkerEnds ending) owned machine.old (world_ring self.old) machine.new (world_ring self.new) }
         ensures records { machine.new.records ≡ machine.old.records }
         ensures program { machine.new.program ≡ machine.old.program }
         ensures chapters { chapters_of self.new ≡ chapters_of self.old }
     {
-        match self.ring.submit(owned.reservation, flags) {
-            Ok(_) => {
-                self.ring.facts();
-                machine.answer(Answer::Taken);
-            }
-            Err(_) => unreachable!(),
-        }
-    }
-
-    // Answers the discard of a worker that waits, of a record that is busy.
-    pub(crate) fn answer_discard(
-        &mut self,
-        machine: &mut Machine<'_, &[u8], WorldRecord>,
-        owned: WorldRecord,
-        flags: u64,
-    )
-        requires busy { HoldsReservation (world_ring self.old).ring owned.reservation }
-        requires waits { machine.old.phase ≡ phase.Waiting asked.GiveBack }
-        ensures answered { AnswersGivenBack WorkerDiscards owned machine.old (world_ring self.old) machine.new (world_ring self.new) }
-        ensures records { machine.new.records ≡ machine.old.records }
-        ensures program { machine.new.program ≡ machine.old.program }
-        ensures chapters { chapters_of self.new ≡ chapters_of self.old }
-    {
-        match self.ring.discard(owned.reservation, flags) {
+        match ending.give_back(&mut self.ring, owned.reservation, flags) {
             Ok(_) => {
                 self.ring.facts();
                 machine.answer(Answer::Taken);

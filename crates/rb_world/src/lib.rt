@@ -23,6 +23,7 @@
 
 mod consumed_ring;
 mod opening;
+mod record_end;
 mod ring_answers;
 mod run;
 mod turn_done;

@@ -10,7 +10,7 @@ ghost use Rattle.rb_world.specs.OpenedWorlds.{IsRingSetup, AreRings, HaveRooms, 
 use crate::consumed_ring::ConsumedRing;
 use crate::world_fault::WorldOpenFault;
 use crate::world_record::WorldRecord;
-use rb_chapter_ring::RingState;
+use rb_chapter_ring::{OpenFault, RingState};
 use rb_history::{is_size, is_start};
 use rb_interp::Machine;
 use rb_verifier::Verified;
@@ -149,8 +149,10 @@ pub(crate) fn open_rings(
 {
     let mut opened = Vec::new(alloc);
     for setup in rings {
-        let Ok(ring) = RingState::new(alloc, setup.size, setup.start, workers, setup.room) else {
-            return Err(AllocError);
+        let ring = match RingState::new(alloc, setup.size, setup.start, workers, setup.room) {
+            Ok(ring) => ring,
+            Err(OpenFault::Memory) => return Err(AllocError),
+            Err(_) => unreachable!(),
         };
         opened.push(ConsumedRing {
             ring,

@@ -7,6 +7,7 @@ ghost use Rattle.rb_world.specs.TurnsDone.{chapters_of};
 ghost use Rattle.rb_world.specs.WorldValue.{world_ring};
 
 use crate::consumed_ring::ConsumedRing;
+use crate::record_end::RecordEnd;
 use crate::turn_done::TurnDone;
 use crate::world_record::WorldRecord;
 use rb_interp::{Machine, Phase, Request, Step};
@@ -49,11 +50,11 @@ pub(crate) fn work(
             TurnDone::Went
         }
         Step::Call(Request::Submit { owned, flags }) => {
-            rings[owned.ring as usize].answer_submit(machine, owned, flags);
+            rings[owned.ring as usize].answer_given_back(machine, RecordEnd::Submit, owned, flags);
             TurnDone::Went
         }
         Step::Call(Request::Discard { owned, flags }) => {
-            rings[owned.ring as usize].answer_discard(machine, owned, flags);
+            rings[owned.ring as usize].answer_given_back(machine, RecordEnd::Discard, owned, flags);
             TurnDone::Went
         }
     }

@@ -194,10 +194,10 @@ returns-in-Call-Submit-clause-turned c =
     let flags = c.in-Call-Submit.flags in
     let shows = st.2 in
     let mine = c.requires.own shows.0 owned shows.1 in
-    subst (IsWorkerTurn c.args.w old (map world_ring rings) turn.Went c.answer_submit.new.machine) (sym (map-set world_ring rings owned.ring c.answer_submit.new.self))
-    (give-turn c.args.w (map world_ring rings) old mid c.answer_submit.new.machine owned (world_ring c.index_mut-in-Call-Submit.result.now) (world_ring c.answer_submit.new.self) ready c.in-Call-Submit.ensures.program (map-low world_ring rings owned.ring mine.0) (map-there world_ring rings owned.ring c.index_mut-in-Call-Submit.result.now c.index_mut-in-Call-Submit.ensures.value)
+    subst (IsWorkerTurn c.args.w old (map world_ring rings) turn.Went c.answer_given_back.new.machine) (sym (map-set world_ring rings owned.ring c.answer_given_back.new.self))
+    (give-turn c.args.w (map world_ring rings) old mid c.answer_given_back.new.machine owned (world_ring c.index_mut-in-Call-Submit.result.now) (world_ring c.answer_given_back.new.self) ready c.in-Call-Submit.ensures.program (map-low world_ring rings owned.ring mine.0) (map-there world_ring rings owned.ring c.index_mut-in-Call-Submit.result.now c.index_mut-in-Call-Submit.ensures.value)
     WorkerSubmits submit_event (Submit shows.0 owned.reservation.bytes flags) shows.0 refl tt shows.1 (st.4 ∙ ap (λ call. left_by call old.records) shows.2) mine.1
-    (st.1 ∙ ap (λ call. Asks call mid.state) shows.2) (λ world event after g. g) c.answer_submit.ensures.answered)
+    (st.1 ∙ ap (λ call. Asks call mid.state) shows.2) (λ world event after g. g) c.answer_given_back.ensures.answered)
 
 pub returns-in-Call-Submit-clause-own : goal.returns-in-Call-Submit-clause-own
 returns-in-Call-Submit-clause-own c =
@@ -205,11 +205,11 @@ returns-in-Call-Submit-clause-own c =
     let rings = c.args.rings.now.items in
     let st = subst (λ (q : request.Request WorldRecord). StepsTo (λ (x : WorldRecord). x.reservation.bytes) (next_step c.args.machine.now.program.program c.args.machine.now.state) c.args.machine.now.records (Call q) c.step.new.self) c.in-Call-Submit.field-0-is c.in-Call-Submit.ensures.stepped in
     let shows = st.2 in
-    subst (λ n. AreOwn c.args.w n c.answer_submit.new.machine.records) (sym (set-length rings c.in-Call-Submit.owned.ring c.answer_submit.new.self))
-    (subst (AreOwn c.args.w (length rings)) (sym (c.answer_submit.ensures.records ∙ (st.4 ∙ ap (λ call. left_by call old.records) shows.2))) (own-given c.args.w (length rings) shows.0 old.records c.requires.own))
+    subst (λ n. AreOwn c.args.w n c.answer_given_back.new.machine.records) (sym (set-length rings c.in-Call-Submit.owned.ring c.answer_given_back.new.self))
+    (subst (AreOwn c.args.w (length rings)) (sym (c.answer_given_back.ensures.records ∙ (st.4 ∙ ap (λ call. left_by call old.records) shows.2))) (own-given c.args.w (length rings) shows.0 old.records c.requires.own))
 
 pub returns-in-Call-Submit-clause-chapters : goal.returns-in-Call-Submit-clause-chapters
-returns-in-Call-Submit-clause-chapters c = map-set-same chapters_of c.args.rings.now.items c.in-Call-Submit.owned.ring c.index_mut-in-Call-Submit.result.now c.answer_submit.new.self c.index_mut-in-Call-Submit.ensures.value c.answer_submit.ensures.chapters
+returns-in-Call-Submit-clause-chapters c = map-set-same chapters_of c.args.rings.now.items c.in-Call-Submit.owned.ring c.index_mut-in-Call-Submit.result.now c.answer_given_back.new.self c.index_mut-in-Call-Submit.ensures.value c.answer_given_back.ensures.chapters
 
 pub returns-in-Call-Discard-clause-turned : goal.returns-in-Call-Discard-clause-turned
 returns-in-Call-Discard-clause-turned c =
@@ -222,10 +222,10 @@ returns-in-Call-Discard-clause-turned c =
     let flags = c.in-Call-Discard.flags in
     let shows = st.2 in
     let mine = c.requires.own shows.0 owned shows.1 in
-    subst (IsWorkerTurn c.args.w old (map world_ring rings) turn.Went c.answer_discard.new.machine) (sym (map-set world_ring rings owned.ring c.answer_discard.new.self))
-    (give-turn c.args.w (map world_ring rings) old mid c.answer_discard.new.machine owned (world_ring c.index_mut-in-Call-Discard.result.now) (world_ring c.answer_discard.new.self) ready c.in-Call-Discard.ensures.program (map-low world_ring rings owned.ring mine.0) (map-there world_ring rings owned.ring c.index_mut-in-Call-Discard.result.now c.index_mut-in-Call-Discard.ensures.value)
+    subst (IsWorkerTurn c.args.w old (map world_ring rings) turn.Went c.answer_given_back-in-Call-Discard.new.machine) (sym (map-set world_ring rings owned.ring c.answer_given_back-in-Call-Discard.new.self))
+    (give-turn c.args.w (map world_ring rings) old mid c.answer_given_back-in-Call-Discard.new.machine owned (world_ring c.index_mut-in-Call-Discard.result.now) (world_ring c.answer_given_back-in-Call-Discard.new.self) ready c.in-Call-Discard.ensures.program (map-low world_ring rings owned.ring mine.0) (map-there world_ring rings owned.ring c.index_mut-in-Call-Discard.result.now c.index_mut-in-Call-Discard.ensures.value)
     WorkerDiscards discard_event (Discard shows.0 owned.reservation.bytes flags) shows.0 refl tt shows.1 (st.4 ∙ ap (λ call. left_by call old.records) shows.2) mine.1
-    (st.1 ∙ ap (λ call. Asks call mid.state) shows.2) (λ world event after g. g) c.answer_discard.ensures.answered)
+    (st.1 ∙ ap (λ call. Asks call mid.state) shows.2) (λ world event after g. g) c.answer_given_back-in-Call-Discard.ensures.answered)
 
 pub returns-in-Call-Discard-clause-own : goal.returns-in-Call-Discard-clause-own
 returns-in-Call-Discard-clause-own c =
@@ -233,22 +233,22 @@ returns-in-Call-Discard-clause-own c =
     let rings = c.args.rings.now.items in
     let st = subst (λ (q : request.Request WorldRecord). StepsTo (λ (x : WorldRecord). x.reservation.bytes) (next_step c.args.machine.now.program.program c.args.machine.now.state) c.args.machine.now.records (Call q) c.step.new.self) c.in-Call-Discard.field-0-is c.in-Call-Discard.ensures.stepped in
     let shows = st.2 in
-    subst (λ n. AreOwn c.args.w n c.answer_discard.new.machine.records) (sym (set-length rings c.in-Call-Discard.owned.ring c.answer_discard.new.self))
-    (subst (AreOwn c.args.w (length rings)) (sym (c.answer_discard.ensures.records ∙ (st.4 ∙ ap (λ call. left_by call old.records) shows.2))) (own-given c.args.w (length rings) shows.0 old.records c.requires.own))
+    subst (λ n. AreOwn c.args.w n c.answer_given_back-in-Call-Discard.new.machine.records) (sym (set-length rings c.in-Call-Discard.owned.ring c.answer_given_back-in-Call-Discard.new.self))
+    (subst (AreOwn c.args.w (length rings)) (sym (c.answer_given_back-in-Call-Discard.ensures.records ∙ (st.4 ∙ ap (λ call. left_by call old.records) shows.2))) (own-given c.args.w (length rings) shows.0 old.records c.requires.own))
 
 pub returns-in-Call-Discard-clause-chapters : goal.returns-in-Call-Discard-clause-chapters
-returns-in-Call-Discard-clause-chapters c = map-set-same chapters_of c.args.rings.now.items c.in-Call-Discard.owned.ring c.index_mut-in-Call-Discard.result.now c.answer_discard.new.self c.index_mut-in-Call-Discard.ensures.value c.answer_discard.ensures.chapters
+returns-in-Call-Discard-clause-chapters c = map-set-same chapters_of c.args.rings.now.items c.in-Call-Discard.owned.ring c.index_mut-in-Call-Discard.result.now c.answer_given_back-in-Call-Discard.new.self c.index_mut-in-Call-Discard.ensures.value c.answer_given_back-in-Call-Discard.ensures.chapters
 
-pub answer_submit-requires-clause-busy : goal.answer_submit-requires-clause-busy
-answer_submit-requires-clause-busy c =
+pub answer_given_back-requires-clause-busy : goal.answer_given_back-requires-clause-busy
+answer_given_back-requires-clause-busy c =
     let rings = c.args.rings.now.items in
     let st = subst (λ (q : request.Request WorldRecord). StepsTo (λ (x : WorldRecord). x.reservation.bytes) (next_step c.args.machine.now.program.program c.args.machine.now.state) c.args.machine.now.records (Call q) c.step.new.self) c.in-Call-Submit.field-0-is c.in-Call-Submit.ensures.stepped in
     let owned = c.in-Call-Submit.owned in
     let s = c.index_mut-in-Call-Submit.result.now in
     c.requires.busy st.2.0 owned (world_ring s) st.2.1 (map-there world_ring rings owned.ring s c.index_mut-in-Call-Submit.ensures.value)
 
-pub answer_discard-requires-clause-busy : goal.answer_discard-requires-clause-busy
-answer_discard-requires-clause-busy c =
+pub answer_given_back-requires-in-Call-Discard-clause-busy : goal.answer_given_back-requires-in-Call-Discard-clause-busy
+answer_given_back-requires-in-Call-Discard-clause-busy c =
     let rings = c.args.rings.now.items in
     let st = subst (λ (q : request.Request WorldRecord). StepsTo (λ (x : WorldRecord). x.reservation.bytes) (next_step c.args.machine.now.program.program c.args.machine.now.state) c.args.machine.now.records (Call q) c.step.new.self) c.in-Call-Discard.field-0-is c.in-Call-Discard.ensures.stepped in
     let owned = c.in-Call-Discard.owned in
