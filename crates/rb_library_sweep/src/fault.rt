@@ -10,7 +10,7 @@ pub(crate) const TRIES: u32 = 2;
 #[derive(Clone, Copy, Debug, Error)]
 pub(crate) enum SweepFault {
     /// No such calls.
-    #[error("usage: rb_library_sweep program|ring|list|seats|shared|jobs")]
+    #[error("usage: rb_library_sweep ring|list|seats|shared|jobs")]
     Usage,
     /// A call found no memory more than once.
     #[error("{0} found no memory twice")]

@@ -1,7 +1,7 @@
 //! Calls of the library that take memory, one after the other, each made once more where it answered that there is none. It prints what
 //! stands after each call. `tools/sweep` runs it with each request for memory refused in turn, and compares what is printed.
 //!
-//! Its word says which calls: `program`, `ring`, `list`, `seats`, `shared` or `jobs`. A call that was carried out prints a line `CALL: STATE`, and
+//! Its word says which calls: `ring`, `list`, `seats`, `shared` or `jobs`. A call that was carried out prints a line `CALL: STATE`, and
 //! one that found no memory a line `CALL memory: STATE`, with what stands then, or `CALL memory` where it was to make something new.
 #![tactic(auto)]
 
@@ -63,7 +63,6 @@ fn run<R: Threads + Wait + Sync + Print>(
     word: &str,
 ) -> Result<(), SweepFault> {
     match word {
-        "program" => programs::run(rt, alloc),
         "ring" => rings::run(rt, alloc),
         "list" => list_rings::run(rt, alloc),
         "seats" => seats::run(rt, alloc),

@@ -36,14 +36,6 @@ pub(crate) const OUTPUT: [u8; 88] = [
     0x95, 0, 0, 0, 0, 0, 0, 0, // exit
 ];
 
-/// Decodes, shapes and verifies the program.
-pub(crate) fn run<R: Print>(rt: &R, alloc: Global) -> Result<(), SweepFault> {
-    let verified = verified(rt, alloc, RESERVE.as_slice())?;
-    let (units, rings) = (verified.program().units(), verified.rings());
-    let _ = println!(rt; "program: {units} units {rings} rings");
-    Ok(())
-}
-
 /// A program, verified for no context and one ring.
 pub(crate) fn verified<R: Print>(
     rt: &R,

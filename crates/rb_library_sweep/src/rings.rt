@@ -3,7 +3,7 @@
 ghost use Rattle.std.specs.Prelude.{◌≡◌, IfOk};
 
 use crate::fault::{SweepFault, TRIES, tell_memory};
-use crate::sheets::renewed;
+use crate::sheets::renew;
 use crate::standing::{Standing, Stands, sheet_beside, tell};
 use rb_chapter::Chapter;
 use rb_chapter_ring::{OpenFault, RingState};
@@ -27,16 +27,12 @@ impl Stands for RingState {
     }
 }
 
-/// A record is output and taken, and the ring's chapter is handed out; the record's sheet is renewed, and another record is reserved in it,
-/// and given up.
+/// A record is output and taken, the ring's chapter is handed out, and the record's sheet is renewed.
 pub(crate) fn run<R: Print>(rt: &R, alloc: Global) -> Result<(), SweepFault> {
     let mut ring = opened(rt, alloc)?;
-    tell(rt, "open", &ring);
-    let sheet = sheet_beside(rt, alloc, &ring)?;
-    let sheet = output_and_take(rt, &mut ring, sheet)?;
+    let sheet = output_and_take(rt, alloc, &mut ring)?;
     hand_out(rt, alloc, &mut ring)?;
-    let sheet = renewed(rt, sheet)?;
-    give_up(rt, &mut ring, sheet)
+    renew(rt, sheet)
 }
 
 // A ring of 4,096 bytes with one worker.
@@ -53,15 +49,16 @@ fn opened<R: Print>(rt: &R, alloc: Global) -> Result<RingState, SweepFault>
     Err(SweepFault::Twice("open"))
 }
 
-// Outputs the sheet, and takes it again.
+// Outputs a long sheet, and takes it again.
 fn output_and_take<R: Print>(
     rt: &R,
+    alloc: Global,
     ring: &mut RingState,
-    sheet: Sheet,
 ) -> Result<Sheet, SweepFault>
     requires { ring.old.chapter.opening.setup.workers ≡ 1 }
-    ensures { ring.new.chapter.opening.setup ≡ ring.old.chapter.opening.setup }
 {
+    tell(rt, "open", ring);
+    let sheet = sheet_beside(rt, alloc, ring)?;
     if ring.output(0, sheet, 0).is_err() {
         return Err(SweepFault::Otherwise("output"));
     }
@@ -76,9 +73,7 @@ fn output_and_take<R: Print>(
 }
 
 // Has the ring go on in another chapter.
-fn hand_out<R: Print>(rt: &R, alloc: Global, ring: &mut RingState) -> Result<(), SweepFault>
-    ensures { ring.new.chapter.opening.setup ≡ ring.old.chapter.opening.setup }
-{
+fn hand_out<R: Print>(rt: &R, alloc: Global, ring: &mut RingState) -> Result<(), SweepFault> {
     let empty = empty_chapter(rt, alloc, ring)?;
     if ring.hand_out(empty).is_err() {
         return Err(SweepFault::Otherwise("hand out"));
@@ -96,26 +91,4 @@ fn empty_chapter<R: Print>(rt: &R, alloc: Global, ring: &RingState) -> Result<Ch
         tell(rt, "chapter memory", ring);
     }
     Err(SweepFault::Twice("chapter"))
-}
-
-// Reserves a record in the sheet, discards it, and passes over it.
-fn give_up<R: Print>(rt: &R, ring: &mut RingState, sheet: Sheet) -> Result<(), SweepFault>
-    requires { ring.old.chapter.opening.setup.workers ≡ 1 }
-{
-    let n = sheet.len();
-    let Ok(record) = ring.reserve(0, n, sheet) else {
-        return Err(SweepFault::Otherwise("reserve"));
-    };
-    tell(rt, "reserve", ring);
-    if ring.discard(record, 0).is_err() {
-        return Err(SweepFault::Otherwise("discard"));
-    }
-    tell(rt, "discard", ring);
-    match ring.take() {
-        Taken::Skipped(_, _) => {
-            tell(rt, "take", ring);
-            Ok(())
-        }
-        _ => Err(SweepFault::Otherwise("take")),
-    }
 }

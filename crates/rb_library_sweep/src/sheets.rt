@@ -1,6 +1,6 @@
 //! Sheets, as a caller makes them.
 
-ghost use Rattle.std.specs.Prelude.{◌≡◌, IfOk, IfSome, length};
+ghost use Rattle.std.specs.Prelude.{◌≡◌, IfSome, length};
 
 use crate::fault::{SweepFault, TRIES};
 use rb_lend::{Lent, Sheet};
@@ -32,15 +32,15 @@ pub(crate) fn is_filled(sheet: &Sheet, n: u32) -> bool {
     sheet.len() == n && sheet.bytes().iter().all(|byte| *byte == FILL)
 }
 
-/// The sheet, renewed as a longer one.
-pub(crate) fn renewed<R: Print>(rt: &R, sheet: Sheet) -> Result<Sheet, SweepFault> {
+/// Renews the sheet as a longer one.
+pub(crate) fn renew<R: Print>(rt: &R, sheet: Sheet) -> Result<(), SweepFault> {
     let mut sheet = sheet;
     tell_sheet(rt, "sheet", &sheet);
     for _ in 0..TRIES {
         match sheet.renew(LONGER) {
             Ok(longer) => {
                 tell_sheet(rt, "renew", &longer);
-                return Ok(longer);
+                return Ok(());
             }
             Err((_, back)) => sheet = back,
         }
