@@ -1,0 +1,94 @@
+//! The ring of one thread that keeps a chapter. Of its calls only `new` takes memory; its callers take some for sheets and chapters.
+
+ghost use Rattle.std.specs.Prelude.{◌≡◌, IfOk};
+
+use crate::fault::{SweepFault, TRIES, tell_memory};
+use crate::sheets::renew;
+use crate::standing::{Standing, Stands, sheet_beside, tell};
+use rb_chapter::Chapter;
+use rb_chapter_ring::{OpenFault, RingState};
+use rb_history::{CONS_POS, PROD_POS, Taken};
+use rb_lend::Sheet;
+use std::alloc::Global;
+use std::io::Print;
+
+/// The room of the chapters.
+pub(crate) const ROOM: u32 = 8;
+
+impl Stands for RingState {
+    fn standing(&self) -> Standing {
+        Standing {
+            chapters: self.chapter().number(),
+            entries: u64::from(self.chapter().used()),
+            producer: self.query(PROD_POS),
+            consumer: self.query(CONS_POS),
+            counts: self.counts(),
+        }
+    }
+}
+
+/// A record is output and taken, the ring's chapter is handed out, and the record's sheet is renewed.
+pub(crate) fn run<R: Print>(rt: &R, alloc: Global) -> Result<(), SweepFault> {
+    let mut ring = opened(rt, alloc)?;
+    let sheet = output_and_take(rt, alloc, &mut ring)?;
+    hand_out(rt, alloc, &mut ring)?;
+    renew(rt, sheet)
+}
+
+// A ring of 4,096 bytes with one worker.
+fn opened<R: Print>(rt: &R, alloc: Global) -> Result<RingState, SweepFault>
+    ensures { IfOk result (λ ring. ring.chapter.opening.setup.workers ≡ 1) }
+{
+    for _ in 0..TRIES {
+        match RingState::new(alloc, 4096, 0, 1, ROOM) {
+            Ok(ring) => return Ok(ring),
+            Err(OpenFault::Memory) => tell_memory(rt, "open"),
+            Err(_) => return Err(SweepFault::Otherwise("open")),
+        }
+    }
+    Err(SweepFault::Twice("open"))
+}
+
+// Outputs a long sheet, and takes it again.
+fn output_and_take<R: Print>(
+    rt: &R,
+    alloc: Global,
+    ring: &mut RingState,
+) -> Result<Sheet, SweepFault>
+    requires { ring.old.chapter.opening.setup.workers ≡ 1 }
+{
+    tell(rt, "open", ring);
+    let sheet = sheet_beside(rt, alloc, ring)?;
+    if ring.output(0, sheet, 0).is_err() {
+        return Err(SweepFault::Otherwise("output"));
+    }
+    tell(rt, "output", ring);
+    match ring.take() {
+        Taken::Event(_, _, _, sheet) => {
+            tell(rt, "take", ring);
+            Ok(sheet)
+        }
+        _ => Err(SweepFault::Otherwise("take")),
+    }
+}
+
+// Has the ring go on in another chapter.
+fn hand_out<R: Print>(rt: &R, alloc: Global, ring: &mut RingState) -> Result<(), SweepFault> {
+    let empty = empty_chapter(rt, alloc, ring)?;
+    if ring.hand_out(empty).is_err() {
+        return Err(SweepFault::Otherwise("hand out"));
+    }
+    tell(rt, "hand out", ring);
+    Ok(())
+}
+
+// An empty chapter for one worker, made beside the ring.
+fn empty_chapter<R: Print>(rt: &R, alloc: Global, ring: &RingState) -> Result<Chapter, SweepFault> {
+    for _ in 0..TRIES {
+        if let Ok(chapter) = Chapter::new(alloc, ROOM, 1) {
+            return Ok(chapter);
+        }
+        tell(rt, "chapter memory", ring);
+    }
+    Err(SweepFault::Twice("chapter"))
+}
