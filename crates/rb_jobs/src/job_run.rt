@@ -6,6 +6,7 @@ ghost use Rattle.rb_jobs.specs.Jobs.{JobRan, JobRanCounted, task_of};
 
 use crate::gated_helpers::GatedHelpers;
 use crate::job::{Gate, Job, JobAnswer};
+use rb_helpers::Done;
 use rb_interp::run;
 use rb_seats::{SeatHelpers, Stock};
 use rb_shared_ring::{Seat, SharedRing};
@@ -36,17 +37,53 @@ pub fn run_job<R: Wait, G: Gate, K: Stock>(
     ensures nothing_ran { IfErr result.0 (λ _. calls.new ≡ calls.old) }
     ensures seats { AtRings rings.now result.1.items }
 {
+    let (answer, seats, _) = run_job_in(
+        rt,
+        alloc,
+        rings,
+        seats,
+        Vec::new(alloc),
+        job,
+        gate,
+        stock,
+        calls,
+    );
+    (answer, seats)
+}
+
+/// Runs a job as `run_job` does, with the memory of an earlier job's trace, which is handed back for the next: memory is taken only where it
+/// has room for fewer calls than the program has.
+pub fn run_job_in<R: Wait, G: Gate, K: Stock>(
+    rt: &R,
+    alloc: Global,
+    rings: &[SharedRing],
+    seats: Vec<Seat>,
+    trace: Vec<Done>,
+    job: &Job<'_>,
+    gate: &G,
+    stock: &K,
+    calls: &mut u64,
+) -> (Result<JobAnswer, AllocError>, Vec<Seat>, Vec<Done>)
+    requires rings { job.now.program.now.rings ≤ length rings.now }
+    requires seats { AtRings rings.now seats.items }
+    ensures ran { IfOk result.0 (λ answer. JobRan (task_of job.now) answer seats.items result.1.items) }
+    ensures counted { IfOk result.0 (λ answer. JobRanCounted (task_of job.now) answer seats.items result.1.items calls.old calls.new) }
+    ensures memory { IfErr result.0 (λ _. result.1 ≡ seats) }
+    ensures nothing_ran { IfErr result.0 (λ _. calls.new ≡ calls.old) }
+    ensures seats { AtRings rings.now result.1.items }
+{
     let room = job.program.calls();
     let finished = *calls;
-    match SeatHelpers::new(rt, alloc, rings, seats, room, stock) {
+    match SeatHelpers::with_trace(rt, alloc, rings, seats, trace, room, stock) {
         Ok(helpers) => {
             let mut gated = GatedHelpers::new(helpers, job.worker, gate, finished);
             let result = run(job.program, job.ctx, &mut gated);
             *calls = gated.calls();
             let helpers = gated.into_inner();
             let unlogged = helpers.unlogged();
-            (Ok(JobAnswer { result, unlogged }), helpers.into_seats())
+            let (seats, trace) = helpers.into_parts();
+            (Ok(JobAnswer { result, unlogged }), seats, trace)
         }
-        Err((refused, seats)) => (Err(refused), seats),
+        Err((refused, seats, trace)) => (Err(refused), seats, trace),
     }
 }

@@ -27,7 +27,8 @@ pub struct JobContext {
 pub fn contexts_of(alloc: Global, workers: u32, jobs: u32) -> Result<Vec<JobContext>, AllocError>
     ensures contexts { IfOk result (λ contexts. contexts.items ≡ contexts_of_workers workers jobs) }
 {
-    let mut contexts = Vec::new(alloc);
+    let count = (workers as usize).saturating_mul(jobs as usize);
+    let mut contexts = Vec::with_capacity(alloc, count)?;
     for worker in 0..workers {
         push_contexts(&mut contexts, worker, jobs)?;
     }
@@ -38,14 +39,12 @@ pub fn contexts_of(alloc: Global, workers: u32, jobs: u32) -> Result<Vec<JobCont
 fn push_contexts(contexts: &mut Vec<JobContext>, worker: u32, jobs: u32) -> Result<(), AllocError>
     ensures contexts { OnOk result (contexts.new.items ≡ contexts.old.items ++ worker_contexts jobs worker) }
 {
+    contexts.reserve(jobs as usize)?;
     for job in 0..jobs {
-        let own = JobContext {
+        contexts.push_reserved(JobContext {
             worker,
             bytes: context_of(worker, job),
-        };
-        let Ok(()) = contexts.push(own) else {
-            return Err(AllocError);
-        };
+        });
     }
     Ok(())
 }
@@ -68,16 +67,13 @@ pub fn jobs_of<'j>(
 ) -> Result<Vec<Job<'j>>, AllocError>
     ensures jobs { IfOk result (λ jobs. map task_of jobs.items ≡ map (task_over program.now) contexts.now) }
 {
-    let mut jobs = Vec::new(alloc);
+    let mut jobs = Vec::with_capacity(alloc, contexts.len())?;
     for own in contexts {
-        let job = Job {
+        jobs.push_reserved(Job {
             worker: own.worker,
             program,
             ctx: own.bytes.as_slice(),
-        };
-        let Ok(()) = jobs.push(job) else {
-            return Err(AllocError);
-        };
+        });
     }
     Ok(jobs)
 }

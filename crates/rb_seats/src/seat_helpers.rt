@@ -69,8 +69,30 @@ impl<'h, R: Wait, S: Stock> SeatHelpers<'h, R, S> {
         ensures new { IfOk result (λ h. h ≡ record { rings = rings.now; seats = seats.items; trace = []; room = room; unlogged = 0; due = false }) }
         ensures handed_back { IfErr result (λ e. e.1 ≡ seats) }
     {
-        match Vec::with_capacity(alloc, room) {
-            Ok(trace) => Ok(SeatHelpers {
+        match SeatHelpers::with_trace(rt, alloc, rings, seats, Vec::new(alloc), room, stock) {
+            Ok(helpers) => Ok(helpers),
+            Err((refused, seats, _)) => Err((refused, seats)),
+        }
+    }
+
+    /// The same, with the memory of an earlier trace, whose calls are forgotten: memory is taken only where it has room for fewer calls. Where
+    /// there is none, the seats and the trace's memory are handed back.
+    pub fn with_trace(
+        rt: &'h R,
+        alloc: Global,
+        rings: &'h [SharedRing],
+        seats: Vec<Seat>,
+        mut trace: Vec<Done>,
+        room: usize,
+        stock: &'h S,
+    ) -> Result<SeatHelpers<'h, R, S>, (AllocError, Vec<Seat>, Vec<Done>)>
+        requires seats { AtRings rings.now seats.items }
+        ensures new { IfOk result (λ h. h ≡ record { rings = rings.now; seats = seats.items; trace = []; room = room; unlogged = 0; due = false }) }
+        ensures handed_back { IfErr result (λ e. e.1 ≡ seats) }
+    {
+        trace.clear();
+        match trace.reserve(room) {
+            Ok(()) => Ok(SeatHelpers {
                 rt,
                 alloc,
                 stock,
@@ -81,7 +103,7 @@ impl<'h, R: Wait, S: Stock> SeatHelpers<'h, R, S> {
                 unlogged: 0,
                 due: false,
             }),
-            Err(refused) => Err((refused, seats)),
+            Err(refused) => Err((refused, seats, trace)),
         }
     }
 
@@ -91,6 +113,15 @@ impl<'h, R: Wait, S: Stock> SeatHelpers<'h, R, S> {
         ensures at_rings { AtRings self.entry.rings result.items }
     {
         self.seats
+    }
+
+    /// The seats, in the rings' order, and the trace of the calls, whose memory may be used again.
+    pub fn into_parts(self) -> (Vec<Seat>, Vec<Done>)
+        ensures seats { result.0.items ≡ self.entry.seats }
+        ensures at_rings { AtRings self.entry.rings result.0.items }
+        ensures trace { result.1.items ≡ self.entry.trace }
+    {
+        (self.seats, self.trace)
     }
 
     /// How many of the nulls for flags 0 and of the answers `-EAGAIN` no entry of a ring explains.

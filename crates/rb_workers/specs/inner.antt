@@ -1,4 +1,5 @@
 pub mod ConsumerTasks
+pub mod GatheredAnswers
 pub mod ReportAnswers
 pub mod RingEnds
 pub mod RunBuffers

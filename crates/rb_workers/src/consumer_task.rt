@@ -7,15 +7,13 @@ ghost use Rattle.rb_workers.specs.Opened.{IsKeeperFor};
 ghost use Rattle.rb_workers.specs.Sink.{TakesAll};
 ghost use Rattle.rb_workers.specs.inner.ConsumerTasks.{IsConsumerTaskOf, IsSameConsumer, Consumed, HasGiven, items_among};
 
+use crate::pace::Pace;
 use crate::sink::Sink;
 use rb_consumer::{Batch, Item, Items, Keeper};
 use rb_seats::Stock;
-use rb_shared_ring::{ConsumerSeat, Foreign, Seat, SharedRing, WaitBackoff};
+use rb_shared_ring::{ConsumerSeat, Foreign, Seat, SharedRing};
 use std::sync::Wait;
 use std::sync::atomic::{AtomicBool, Ordering};
-
-/// How many records a consumer takes at most under one holding of its ring's lock.
-pub(crate) const BATCH: usize = 64;
 
 /// A ring's consumer and its keeper, what the records and chapters are given to, the place to which the ring's seats come back, and the
 /// records that were taken last.
@@ -29,9 +27,9 @@ pub(crate) struct ConsumerTask<S> {
 }
 
 impl<S: Sink> ConsumerTask<S> {
-    // Hands the ring's chapter out where it is due, then takes as many records as there are and the batch has room for. Gives all of it to the
-    // sink, and answers how many records they are.
-    fn take_batch<R: Wait>(&mut self, rt: &R, ring: &SharedRing) -> usize
+    // Hands the ring's chapter out where the keeper is to look and it is due, then takes as many records as there are and the batch has room
+    // for. Gives all of it to the sink, and answers how many records they are.
+    fn take_batch<R: Wait>(&mut self, rt: &R, ring: &SharedRing, looks: bool) -> usize
         requires ready { IsConsumerTaskOf S.position_of ring.now self.old }
         ensures taken { Consumed S.position_of S.takes self.old self.new }
     {
@@ -41,6 +39,7 @@ impl<S: Sink> ConsumerTask<S> {
             &mut self.consumer,
             &mut self.keeper,
             &mut self.sink,
+            looks,
         );
         match self.batch.fill(rt, ring, &mut self.consumer) {
             Ok(count) => {
@@ -67,14 +66,15 @@ impl<S: Sink> ConsumerTask<S> {
     }
 }
 
-// Gives the sink the ring's chapter, where it is due to be handed out. A keeper that does not fit is passed over: one for the ring does, up
-// to the last number that a chapter has.
+// Gives the sink the ring's chapter, where the keeper is to look at it and it is due to be handed out. A keeper that does not fit is passed
+// over: one for the ring does, up to the last number that a chapter has.
 fn turn_chapter<R: Wait, S: Sink>(
     rt: &R,
     ring: &SharedRing,
     consumer: &mut ConsumerSeat,
     keeper: &mut Keeper,
     sink: &mut S,
+    looks: bool,
 )
     requires ring { (consumer.old.tag ≡ ring.now.tag) × (consumer.old.ring ≡ ring.now.ring) }
     requires keeper { IsKeeperFor consumer.old keeper.old }
@@ -84,6 +84,9 @@ fn turn_chapter<R: Wait, S: Sink>(
     ensures given { HasGiven S.takes consumer.old consumer.new sink.old sink.new }
     ensures keeper { IsKeeperFor consumer.new keeper.new }
 {
+    if !looks {
+        return;
+    }
     match keeper.turn(rt, ring, consumer) {
         Ok(Some(chapter)) => sink.chapter(chapter),
         Ok(None) => {}
@@ -105,8 +108,7 @@ fn give_all<S: Sink>(sink: &mut S, mut items: Items<'_>)
     }
 }
 
-/// Takes records until the workers have ended and a look that began after that finds none. Where it did not find a whole batch it waits,
-/// for longer each time that it finds none.
+/// Takes records until the workers have ended and a look that began after that finds none, and waits between its batches.
 pub(crate) fn consume<R: Wait, S: Sink, K: Stock>(
     rt: &R,
     ring: &SharedRing,
@@ -117,20 +119,17 @@ pub(crate) fn consume<R: Wait, S: Sink, K: Stock>(
     requires ready { IsConsumerTaskOf S.position_of ring.now task.old }
     ensures returned { Consumed S.position_of S.takes task.old task.new }
 {
-    let mut backoff = WaitBackoff::new();
+    let mut pace = Pace::new();
     for _ in rt.forever() {
         let over = ended.load(Ordering::SeqCst);
-        let count = task.take_batch(rt, ring);
+        let looks = pace.is_look_due(task.consumer.room());
+        let start = task.consumer.position();
+        let count = task.take_batch(rt, ring, looks);
+        let bytes = task.consumer.position().saturating_sub(start);
         task.hand_on(stock, count);
         if count == 0 && over {
             break;
         }
-        if count == BATCH {
-            continue;
-        }
-        if count > 0 {
-            backoff = WaitBackoff::new();
-        }
-        backoff.wait();
+        pace.wait(ended, looks, count, bytes);
     }
 }

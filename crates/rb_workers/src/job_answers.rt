@@ -1,13 +1,13 @@
 //! The answers of all jobs, in the list's order.
 
-ghost use Rattle.std.specs.Prelude.{ℕ, ◌≡◌, ◌<◌, ◌≤◌, [], All, length, map, slice_index_or, true, vec_capacity, vec_len};
-ghost use Rattle.std.specs.List.{count_by, list_any, sum_by};
+ghost use Rattle.std.specs.Prelude.{ℕ, ◌≡◌, ◌<◌, ◌≤◌, [], All, length, slice_index_or, true, vec_capacity};
+ghost use Rattle.std.specs.List.{count_by, list_any};
 ghost use Rattle.rb_workers.specs.JobRuns.{own_jobs, is_stray};
-ghost use Rattle.rb_workers.specs.inner.WorkerRuns.{own_answers};
+ghost use Rattle.rb_workers.specs.inner.GatheredAnswers.{GathersAnswers};
 
 use crate::workers::Worker;
 use rb_interp::RunFault;
-use rb_jobs::{Job, JobAnswer};
+use rb_jobs::Job;
 
 /// Whether some worker found no memory for a job.
 pub(crate) fn is_any_short(workers: &[Worker]) -> bool
@@ -21,42 +21,35 @@ pub(crate) fn is_any_short(workers: &[Worker]) -> bool
     false
 }
 
-/// Takes the workers' answers and puts them together in the order of the jobs, from the last to the first. Linear in the jobs.
-pub(crate) fn in_list_order(
+/// What the runs of all jobs answered, in the list's order, and how many of their failures no entry of a ring explains.
+pub(crate) struct Gathered {
+    pub(crate) results: Vec<Result<u64, RunFault>>,
+    pub(crate) unlogged: u128,
+}
+
+/// Takes the workers' answers, from that of the last job to that of the first, and puts what they say together in the order of the jobs.
+/// Linear in the jobs.
+pub(crate) fn gather_answers(
     jobs: &[Job<'_>],
     workers: &mut [Worker],
-    mut answers: Vec<JobAnswer>,
-) -> Vec<JobAnswer>
-    requires empty { answers.items ≡ [] }
-    requires room { length jobs.now ≤ vec_capacity answers }
+    mut results: Vec<Result<u64, RunFault>>,
+) -> Gathered
+    requires empty { results.items ≡ [] }
+    requires room { length jobs.now ≤ vec_capacity results }
     requires known { All (λ j. j.worker < length workers.old) jobs.now }
     requires each { (k : ℕ) (d : _) → k < length workers.old → length (slice_index_or workers.old k d).answers.items ≡ length (own_jobs k jobs.now) }
-    ensures len { length result.items ≡ length jobs.now }
-    ensures own_jobs { (k : ℕ) (d : _) → k < length workers.old → own_answers k jobs.now result.items ≡ (slice_index_or workers.old k d).answers.items }
+    ensures { GathersAnswers jobs.now workers.old result }
 {
+    let mut unlogged = 0;
     let mut rest = jobs.len();
     while rest > 0 {
         rest -= 1;
         let answer = workers[jobs[rest].worker as usize].take_answer();
-        answers.push_reserved(answer);
-    }
-    answers.reverse();
-    answers
-}
-
-/// What the runs answered.
-pub(crate) fn results_of(
-    answers: &[JobAnswer],
-    mut results: Vec<Result<u64, RunFault>>,
-) -> Vec<Result<u64, RunFault>>
-    requires empty { results.items ≡ [] }
-    requires room { length answers.now ≤ vec_capacity results }
-    ensures { result.items ≡ map (λ a. a.result) answers.now }
-{
-    for answer in answers {
         results.push_reserved(answer.result);
+        unlogged += u128::from(answer.unlogged);
     }
-    results
+    results.reverse();
+    Gathered { results, unlogged }
 }
 
 /// How many runs answered `Stray`.
@@ -70,15 +63,4 @@ pub(crate) fn count_strays(results: &[Result<u64, RunFault>]) -> u64
         }
     }
     strays
-}
-
-/// How many failures of all jobs no entry of a ring explains.
-pub(crate) fn sum_unlogged(answers: &[JobAnswer]) -> u128
-    ensures { result ≡ sum_by (λ a. a.unlogged) answers.now }
-{
-    let mut unlogged = 0;
-    for answer in answers {
-        unlogged += u128::from(answer.unlogged);
-    }
-    unlogged
 }

@@ -14,7 +14,7 @@ ghost use Rattle.rb_workers.specs.inner.WorkerRuns.{HasRun, IsNew};
 
 use crate::consumer_task::ConsumerTask;
 use crate::distribution::{merge, split};
-use crate::job_answers::{count_strays, in_list_order, is_any_short, results_of, sum_unlogged};
+use crate::job_answers::{Gathered, count_strays, gather_answers, is_any_short};
 use crate::opened::{Ended, JobFault, Opened, Report};
 use crate::ring_close::close_all;
 use crate::run_buffers::{RunBuffers, make_buffers};
@@ -24,7 +24,7 @@ use crate::workers::Worker;
 use crossbeam_queue::ArrayQueue;
 use rb_consumer::Batch;
 use rb_interp::RunFault;
-use rb_jobs::{Gate, Job, JobAnswer};
+use rb_jobs::{Gate, Job};
 use rb_lend::Sheet;
 use rb_shared_ring::SharedRing;
 use std::alloc::Global;
@@ -112,22 +112,19 @@ fn report_on<S: Drop>(
     rings: Vec<Ended<S>>,
     jobs: &[Job<'_>],
     workers: &mut [Worker],
-    answers: Vec<JobAnswer>,
     results: Vec<Result<u64, RunFault>>,
 ) -> Report<S>
     requires known { All (λ j. j.worker < length workers.old) jobs.now }
     requires each { (k : ℕ) (d : _) → k < length workers.old → length (slice_index_or workers.old k d).answers.items ≡ length (own_jobs k jobs.now) }
-    requires room { IsEmptyFor (length jobs.now) answers × IsEmptyFor (length jobs.now) results }
+    requires room { IsEmptyFor (length jobs.now) results }
     ensures rings { result.rings ≡ rings }
     ensures answers { ReportMatches jobs.now workers.old result }
 {
-    let answers = in_list_order(jobs, workers, answers);
-    let run_results = results_of(&answers, results);
-    let strays = count_strays(&run_results);
-    let unlogged = sum_unlogged(&answers);
+    let Gathered { results, unlogged } = gather_answers(jobs, workers, results);
+    let strays = count_strays(&results);
     Report {
         rings,
-        answers: run_results,
+        answers: results,
         strays,
         unlogged,
     }
@@ -158,7 +155,6 @@ fn run_known<R: Threads + Wait + Sync, S: Sink + Send + Drop, G: Gate + Sync>(
         mut workers,
         tallies,
         ended,
-        answers,
         results,
     } = buffers;
     let merged = run_in(
@@ -178,7 +174,7 @@ fn run_known<R: Threads + Wait + Sync, S: Sink + Send + Drop, G: Gate + Sync>(
         return Err(merged);
     }
     let rings = close_all(rt, merged, tallies, ended);
-    Ok(report_on(rings, jobs, workers.as_mut_slice(), answers, results))
+    Ok(report_on(rings, jobs, workers.as_mut_slice(), results))
 }
 
 /// Runs the jobs over the rings that were opened, a thread for each worker and for each ring, and closes the rings.
@@ -187,7 +183,7 @@ fn run_known<R: Threads + Wait + Sync, S: Sink + Send + Drop, G: Gate + Sync>(
 /// and so is ring k of the report.
 ///
 /// Each ring's consumer gives each record that it takes to the ring's sink, and each chapter that the ring's keeper hands out: the keeper
-/// looks at the ring's chapter before records are taken. A worker that comes when the chapter has no room gets no record, and that
+/// looks at the ring's chapter between batches of records. A worker that comes when the chapter has no room gets no record, and that
 /// failure is unlogged. When all workers have ended, what is left is taken, up to the first record that is still busy.
 ///
 /// The gate is called before each helper call, and once more after a worker's last job, with the number of helper calls that the worker has

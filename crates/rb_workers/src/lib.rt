@@ -7,7 +7,7 @@
 //! one (rb_chapter_ledger); each ring's sink was given just the records that were taken, in their order and with their bytes, and just the
 //! chapters that were handed out meanwhile, each once and in order, so that with the last one they may be bound; and where there is an
 //! error, all comes back and may be run again. Records are taken many at a time, and the sheets of long ones are used again. A ring's
-//! memory does not grow: its consumer's thread looks at its chapter before it takes records, and hands it out in time.
+//! memory does not grow: its consumer's thread looks at its chapter between its batches, and hands it out in time.
 //!
 //! What holds of every interleaving of the same programs in turns, without threads, stands beside this in docs/PROOF_STATUS.md, "Every
 //! interleaving, and running threads".
@@ -21,6 +21,7 @@ mod distribution;
 mod job_answers;
 mod jobs_run;
 mod opened;
+mod pace;
 mod ring_close;
 mod run_buffers;
 mod sink;

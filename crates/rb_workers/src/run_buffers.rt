@@ -4,15 +4,15 @@ ghost use Rattle.std.specs.Prelude.{ℕ, All, ◌≡◌, ◌<◌, ◌≤◌, [],
 ghost use Rattle.rb_workers.specs.inner.RunBuffers.{IsEmptyFor, HasRoomForRun};
 ghost use Rattle.rb_workers.specs.inner.WorkerRuns.{IsNew};
 
-use crate::consumer_task::{BATCH, ConsumerTask};
+use crate::consumer_task::ConsumerTask;
 use crate::opened::{Ended, Opened};
+use crate::pace::BATCH;
 use crate::used_sheets::PLACES;
 use crate::workers::Worker;
 use crossbeam_queue::ArrayQueue;
 use rb_consumer::Batch;
 use rb_history::Tally;
 use rb_interp::RunFault;
-use rb_jobs::JobAnswer;
 use rb_lend::Sheet;
 use rb_shared_ring::SharedRing;
 use std::alloc::{AllocError, Global};
@@ -29,7 +29,6 @@ pub(crate) struct RunBuffers<S> {
     /// A row for each ring.
     pub(crate) tallies: Vec<Vec<Tally>>,
     pub(crate) ended: Vec<Ended<S>>,
-    pub(crate) answers: Vec<JobAnswer>,
     pub(crate) results: Vec<Result<u64, RunFault>>,
 }
 
@@ -46,6 +45,7 @@ fn new_workers(alloc: Global, count: u32, rings: usize) -> Result<Vec<Worker>, A
             calls: 0,
             short: false,
             seats,
+            trace: Vec::new(alloc),
             answers: Vec::new(alloc),
         });
     }
@@ -93,7 +93,6 @@ pub(crate) fn make_buffers<S: Drop>(
     let merged = Vec::with_capacity(alloc, rings)?;
     let ended = Vec::with_capacity(alloc, rings)?;
     let rings = Vec::with_capacity(alloc, rings)?;
-    let answers = Vec::with_capacity(alloc, jobs)?;
     let results = Vec::with_capacity(alloc, jobs)?;
     Ok(RunBuffers {
         rings,
@@ -104,7 +103,6 @@ pub(crate) fn make_buffers<S: Drop>(
         workers,
         tallies,
         ended,
-        answers,
         results,
     })
 }

@@ -5,7 +5,8 @@ ghost use Rattle.rb_seats.specs.SeatHelpers.{AtRings};
 ghost use Rattle.rb_workers.specs.JobRuns.{own_jobs};
 ghost use Rattle.rb_workers.specs.inner.WorkerRuns.{HasSpareSeat, IsOneMore, IsOneAnswerMore, IsReady, GivesBack, RunsJobs, RunsOne};
 
-use rb_jobs::{Gate, Job, JobAnswer, run_job};
+use rb_helpers::Done;
+use rb_jobs::{Gate, Job, JobAnswer, run_job_in};
 use rb_seats::Stock;
 use rb_shared_ring::{Seat, SharedRing};
 use std::alloc::Global;
@@ -13,13 +14,14 @@ use std::mem;
 use std::sync::Wait;
 
 /// A worker: its number, how many helper calls it has finished, its seats in the order of the rings, the answers of its jobs in their
-/// order, and whether it was short of memory for a job.
+/// order, and whether it was short of memory for a job. The memory of its last job's trace is used again for the next.
 #[derive(Drop)]
 pub(crate) struct Worker {
     pub(crate) number: u32,
     pub(crate) calls: u64,
     pub(crate) short: bool,
     pub(crate) seats: Vec<Seat>,
+    pub(crate) trace: Vec<Done>,
     pub(crate) answers: Vec<JobAnswer>,
 }
 
@@ -74,8 +76,20 @@ impl Worker {
             return false;
         }
         let seats = mem::replace(&mut self.seats, Vec::new(alloc));
-        let (answer, seats) = run_job(rt, alloc, rings, seats, job, gate, stock, &mut self.calls);
+        let trace = mem::replace(&mut self.trace, Vec::new(alloc));
+        let (answer, seats, trace) = run_job_in(
+            rt,
+            alloc,
+            rings,
+            seats,
+            trace,
+            job,
+            gate,
+            stock,
+            &mut self.calls,
+        );
         self.seats = seats;
+        self.trace = trace;
         match answer {
             Ok(answer) => {
                 self.answers.push_reserved(answer);

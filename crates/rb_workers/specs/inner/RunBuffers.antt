@@ -18,5 +18,4 @@ pub record HasRoomForRun {S : Type 0} (count rings jobs : ℕ) (r : RunBuffers S
   pub workers_new : (k : ℕ) (d : _) → k < count → IsNew k rings (slice_index_or r.workers.items k d)
   pub tallies_count : vec_len r.tallies ≡ rings
   pub tallies_fit : All (IsEmptyFor count) r.tallies.items
-  pub answers_fit : IsEmptyFor jobs r.answers
   pub results_fit : IsEmptyFor jobs r.results

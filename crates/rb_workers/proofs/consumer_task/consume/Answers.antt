@@ -7,14 +7,6 @@ use Rattle.rb_workers.proofs.consumer_task.consume.Goals.{in-None, in-Some+then-
 pub loop-init : goal.loop-init
 loop-init g c = consumed_none g.S.Sink.position_of g.S.Sink.takes c.args.task.now c.requires.ready.2 c.requires.ready.3
 
-pub loop-preserved-then-count-eq-BATCH : goal.loop-preserved-then-count-eq-BATCH
-loop-preserved-then-count-eq-BATCH g c =
-    let pos = g.S.Sink.position_of in
-    let takes = g.S.Sink.takes in
-    let h = c.hand_on.ensures in
-    consumed_on pos takes c.args.task.now c.loop.task c.hand_on.new.self c.loop.invariant
-    (consumed_same pos takes c.loop.task c.take_batch-count.new.self c.hand_on.new.self h.consumer h.keeper h.sink h.seats c.take_batch-count.ensures.taken)
-
 pub loop-preserved : goal.loop-preserved
 loop-preserved g c =
     let pos = g.S.Sink.position_of in

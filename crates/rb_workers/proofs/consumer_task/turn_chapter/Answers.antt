@@ -5,6 +5,9 @@ use Rattle.rb_workers.proofs.ChapterTurns.{turn_same, turned_none, turned_one}
 use Rattle.rb_workers.proofs.SinkItems.{nothing_given}
 use Rattle.rb_workers.proofs.consumer_task.turn_chapter.Goals as goal
 
+pub returns-then-not-looks-clause-given : goal.returns-then-not-looks-clause-given
+returns-then-not-looks-clause-given g c = nothing_given g.S.Sink.takes c.args.consumer.now c.args.sink.now
+
 pub returns-in-Ok-Some-clause-same : goal.returns-in-Ok-Some-clause-same
 returns-in-Ok-Some-clause-same g c =
     let e = c.in-Ok-Some.ensures in

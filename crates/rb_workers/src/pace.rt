@@ -1,0 +1,86 @@
+//! How long a ring's consumer waits between its batches, and when its keeper looks at the ring's chapter.
+
+use rb_shared_ring::WaitBackoff;
+use std::sync::atomic::{AtomicBool, Ordering};
+
+/// How many records a consumer takes at most under one holding of its ring's lock.
+pub(crate) const BATCH: usize = 64;
+
+// A batch of so many records has many of them.
+const MANY: usize = BATCH / 2;
+
+// A batch of so many bytes of the ring has many of them: a quarter of the smallest ring.
+const MANY_BYTES: u64 = 1_024;
+
+// How often a consumer that found a few records looks whether the workers have ended before it comes again: a microsecond or so at least, and
+// some thirty at most.
+const SHORTEST: u32 = 1_024;
+
+const LONGEST: u32 = 32_768;
+
+// A keeper looks at its ring's chapter again after so many records as are this part of the chapter's room. A record has three entries.
+const PART_OF_ROOM: usize = 32;
+
+/// The pace of a ring's consumer. Each time that the consumer comes it takes the ring's lock, and a worker that finds it taken waits longer
+/// than the consumer holds it. So the consumer comes seldom, but before much has gathered.
+#[derive(Clone, Copy)]
+pub(crate) struct Pace {
+    // How often it looks before it comes again.
+    pause: u32,
+    // How long it waits where it found nothing.
+    backoff: WaitBackoff,
+    // How many records were taken since the keeper looked.
+    unlooked: usize,
+}
+
+impl Pace {
+    /// The pace of a consumer that has not come yet: its keeper is to look first.
+    pub(crate) fn new() -> Pace {
+        Pace {
+            pause: SHORTEST,
+            backoff: WaitBackoff::new(),
+            unlooked: usize::MAX,
+        }
+    }
+
+    /// Whether the keeper is to look at a chapter of this room.
+    pub(crate) fn is_look_due(&self, room: u32) -> bool {
+        self.unlooked >= room as usize / PART_OF_ROOM
+    }
+
+    /// Waits after a batch of so many records and bytes, before which the keeper looked or not. After a whole batch it does not wait. After one
+    /// with many records it waits half as long as the last time, after one with few twice as long, and ends where the workers have ended. Where
+    /// nothing was found it yields the processor, and the keeper is to look the next time: reservations that are refused add entries too.
+    pub(crate) fn wait(&mut self, ended: &AtomicBool, looked: bool, count: usize, bytes: u64) {
+        if count == 0 {
+            self.unlooked = usize::MAX;
+            self.backoff.wait();
+            return;
+        }
+        let before = if looked { 0 } else { self.unlooked };
+        self.unlooked = before.saturating_add(count);
+        self.backoff = WaitBackoff::new();
+        self.pause = pause_after(self.pause, count, bytes);
+        if count < BATCH {
+            watch(ended, self.pause);
+        }
+    }
+}
+
+// How long to wait after a batch of so many records and bytes, where the last wait was so long.
+fn pause_after(pause: u32, count: usize, bytes: u64) -> u32 {
+    if count >= MANY || bytes >= MANY_BYTES {
+        (pause / 2).max(SHORTEST)
+    } else {
+        pause.saturating_mul(2).min(LONGEST)
+    }
+}
+
+// Looks so often whether the workers have ended, and no more once they have.
+fn watch(ended: &AtomicBool, times: u32) {
+    for _ in 0..times {
+        if ended.load(Ordering::SeqCst) {
+            break;
+        }
+    }
+}
