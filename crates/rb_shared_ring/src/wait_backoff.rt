@@ -40,9 +40,3 @@ impl WaitBackoff {
         self.backoffs = self.backoffs.saturating_mul(2).min(LONGEST);
     }
 }
-
-impl Default for WaitBackoff {
-    fn default() -> WaitBackoff {
-        WaitBackoff::new()
-    }
-}
