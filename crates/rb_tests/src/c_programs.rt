@@ -3,17 +3,14 @@
 
 ghost use Rattle.std.specs.Prelude.{◌≡◌};
 ghost use Rattle.rb_shared_ring.specs.SharedSeats.{IsSameChapterConsumer};
-ghost use Rattle.rb_seats.specs.SeatHelpers.{IsAt};
 
-use rb_cfg::shape;
-use rb_decode::from_text;
+use super::shared::{opened, verified};
 use rb_examples as programs;
 use rb_history::Taken;
 use rb_jobs::{Gate, Job, JobAnswer, run_job};
 use rb_lend::Lent;
 use rb_seats::NoStock;
-use rb_shared_ring::{ConsumerSeat, Seat, SharedRing, open};
-use rb_verifier::{Verified, verify};
+use rb_shared_ring::{ConsumerSeat, SharedRing};
 use std::alloc::Global;
 use std::fmt::Write;
 use std::process::Abort;
@@ -35,32 +32,6 @@ fn context_of(rt: &impl Abort, alloc: Global, numbers: &[u64]) -> Vec<u8> {
             .expect(rt, "memory");
     }
     bytes
-}
-
-// A program, verified for a context of so many bytes and two rings.
-fn verified(rt: &impl Abort, alloc: Global, text: &str, ctx_len: usize) -> Verified
-    ensures { result.rings ≡ 2 }
-{
-    if ctx_len > 65_536 {
-        rt.panic("a context that is too long")
-    }
-    let program = from_text(alloc, text).expect(rt, "a program");
-    let shape = shape(alloc, program).expect(rt, "a shape");
-    verify(alloc, shape, ctx_len as u32, 2).expect(rt, "a verified program")
-}
-
-// A ring of 4,096 bytes with one seat, and chapters of 16 entries.
-fn opened<R: Wait + Abort>(rt: &R, alloc: Global, tag: u64) -> (SharedRing, Seat, ConsumerSeat)
-    ensures seat { IsAt result.0 result.1 }
-    ensures consumer { result.2.ring ≡ result.0.ring }
-{
-    let Ok((ring, mut seats, consumer)) = open(rt, alloc, tag, 4096, 0, 1, 16) else {
-        rt.panic("no ring")
-    };
-    match seats.pop() {
-        Some(seat) => (ring, seat, consumer),
-        None => rt.panic("no seat"),
-    }
 }
 
 // Adds a line for each record that is taken of a ring: its first bytes, 64 of them at most, and how many it has.
@@ -95,9 +66,12 @@ fn add_records<R: Wait + Abort>(
 // What a job with a context of these numbers ends with, and the records that it leaves.
 fn ended<R: Wait + Abort>(rt: &R, alloc: Global, program: &str, numbers: &[u64]) -> String {
     let context = context_of(rt, alloc, numbers);
-    let program = verified(rt, alloc, program, context.len());
-    let (first, one, mut first_consumer) = opened(rt, alloc, 0);
-    let (second, two, mut second_consumer) = opened(rt, alloc, 1);
+    if context.len() > 65_536 {
+        rt.panic("a context that is too long")
+    }
+    let program = verified(rt, alloc, program, context.len() as u32, 2);
+    let (first, one, mut first_consumer) = opened(rt, alloc, 0, 16);
+    let (second, two, mut second_consumer) = opened(rt, alloc, 1, 16);
     let rings = [first, second];
     let seats = vec![in alloc; one, two].expect(rt, "memory");
     let job = Job {

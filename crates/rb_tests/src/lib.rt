@@ -9,3 +9,5 @@ mod jobs;
 mod programs;
 #[cfg(test)]
 mod seats;
+#[cfg(test)]
+mod shared;

@@ -4,34 +4,21 @@ ghost use Rattle.std.specs.Prelude.{◌≡◌, IfSome, replicate};
 ghost use Rattle.rb_semantics.specs.declared.pending_call.PendingCall.TheVariants.{Reserve, GiveBack};
 ghost use Rattle.rb_interp.specs.declared.step.Phase.TheVariants.{Ready, Waiting};
 
-use rb_cfg::shape;
-use rb_decode::from_text;
+use super::shared::{SUBMIT_42, verified};
 use rb_helpers::Listed;
 use rb_interp::{Answer, Machine, Request, Step, run};
 use rb_lend::{Lent, Sheet};
-use rb_verifier::{Verified, verify};
+use rb_verifier::Verified;
 use std::alloc::Global;
 use std::process::Abort;
 
 const CONTEXT: [u8; 16] = [0; 16];
 
-// Reserves a record of eight bytes, and submits 42 where it was granted.
-const SUBMIT_42: &str = "1851000000000000 0000000000000000 b702000008000000 b703000000000000
-    8500000083000000 1500040000000000 7a0000002a000000 bf01000000000000
-    b702000000000000 8500000084000000 b700000000000000 9500000000000000";
-
-// The same, where the answer is kept on the stack and loaded again.
+// What SUBMIT_42 does, where the answer is kept on the stack and loaded again.
 const KEEP_AND_SUBMIT_42: &str =
     "1851000000000000 0000000000000000 b702000008000000 b703000000000000
     8500000083000000 7b0af8ff00000000 79a6f8ff00000000 1506040000000000 7a0600002a000000 bf61000000000000
     b702000000000000 8500000084000000 b700000000000000 9500000000000000";
-
-// A program, verified for a context of 16 bytes and one ring.
-fn verified(rt: &impl Abort, alloc: Global, text: &str) -> Verified {
-    let program = from_text(alloc, text).expect(rt, "a program");
-    let shape = shape(alloc, program).expect(rt, "a shape");
-    verify(alloc, shape, 16, 1).expect(rt, "a verified program")
-}
 
 type RunningMachine<'p> = Machine<'p, &'static [u8], Sheet>;
 
@@ -87,7 +74,7 @@ fn executed(rt: &impl Abort, alloc: Global, program: &Verified, grants: bool) ->
 
 #[test]
 fn submit_42_executes_each_instruction_once(rt: HostRuntime) {
-    let program = verified(&rt, rt.alloc(), SUBMIT_42);
+    let program = verified(&rt, rt.alloc(), SUBMIT_42, 16, 1);
     let (count, submitted) = executed(&rt, rt.alloc(), &program, true);
     assert_eq!(rt; count, 11);
     assert_eq!(rt; submitted.as_slice(), [42, 0, 0, 0, 0, 0, 0, 0].as_slice());
@@ -98,7 +85,7 @@ fn submit_42_executes_each_instruction_once(rt: HostRuntime) {
 
 #[test]
 fn a_kept_answer_executes_each_instruction_once(rt: HostRuntime) {
-    let program = verified(&rt, rt.alloc(), KEEP_AND_SUBMIT_42);
+    let program = verified(&rt, rt.alloc(), KEEP_AND_SUBMIT_42, 16, 1);
     let (count, submitted) = executed(&rt, rt.alloc(), &program, true);
     assert_eq!(rt; count, 13);
     assert_eq!(rt; submitted.as_slice(), [42, 0, 0, 0, 0, 0, 0, 0].as_slice());
@@ -109,7 +96,7 @@ fn a_kept_answer_executes_each_instruction_once(rt: HostRuntime) {
 
 // What a program ends with, over helpers that grant each call.
 fn ended(rt: &impl Abort, alloc: Global, text: &str) -> Option<u64> {
-    let program = verified(rt, alloc, text);
+    let program = verified(rt, alloc, text, 16, 1);
     let answers = vec![in alloc; true; program.calls()].expect(rt, "memory");
     let mut helpers = Listed::new(alloc, answers).expect(rt, "memory");
     run(&program, CONTEXT.as_slice(), &mut helpers).ok()

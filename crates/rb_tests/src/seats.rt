@@ -1,55 +1,15 @@
 //! Worked calls of helpers over the seats of two rings of 4,096 bytes, whose chapters have room for 8 entries.
 
 ghost use Rattle.std.specs.Prelude.{◌≡◌, ◌≤◌, true};
-ghost use Rattle.rb_shared_ring.specs.SharedSeats.{IsSameChapterConsumer};
-ghost use Rattle.rb_seats.specs.SeatHelpers.{IsAt};
 
+use super::shared::{counts, opened, taken};
 use rb_helpers::{Done, EAGAIN, EINVAL, Helpers};
-use rb_history::Taken;
 use rb_lend::{Lent, Sheet};
 use rb_seats::{NoStock, SeatHelpers, SeatRecord, Stock};
-use rb_shared_ring::{ConsumerSeat, Seat, SharedRing, open};
 use std::alloc::Global;
 use std::cell::Cell;
 use std::process::Abort;
 use std::sync::Wait;
-
-fn opened<R: Wait + Abort>(rt: &R, alloc: Global, tag: u64) -> (SharedRing, Seat, ConsumerSeat)
-    ensures seat { IsAt result.0 result.1 }
-    ensures consumer { result.2.ring ≡ result.0.ring }
-{
-    let Ok((ring, mut seats, consumer)) = open(rt, alloc, tag, 4096, 0, 1, 8) else {
-        rt.panic("no ring")
-    };
-    match seats.pop() {
-        Some(seat) => (ring, seat, consumer),
-        None => rt.panic("no seat"),
-    }
-}
-
-/// The position, worker and serial of the next event, and its bytes.
-fn taken<R: Wait + Abort>(
-    rt: &R,
-    ring: &SharedRing,
-    consumer: &mut ConsumerSeat,
-) -> (u64, u32, u64, Sheet)
-    requires { consumer.old.ring ≡ ring.now.ring }
-    ensures { IsSameChapterConsumer consumer.old consumer.new }
-{
-    match ring.take(rt, consumer) {
-        Ok(Taken::Event(pos, worker, serial, sheet)) => (pos, worker, serial, sheet),
-        _ => rt.panic("no event"),
-    }
-}
-
-fn counts(seat: &Seat) -> (u64, u64, u64, u64) {
-    (
-        seat.made(),
-        seat.refused(),
-        seat.submitted(),
-        seat.discarded(),
-    )
-}
 
 /// Reserves a record, fills it and submits it, over any helpers.
 fn submit_filled<H: Helpers>(helpers: &mut H, ring: u32, n: u32, value: u8) -> bool
@@ -90,8 +50,8 @@ impl Stock for OneSheet {
 
 #[test]
 fn a_submitted_record_reaches_its_ring_alone(rt: HostRuntime) {
-    let (first, one, _consumer) = opened(&rt, rt.alloc(), 0);
-    let (second, two, mut consumer) = opened(&rt, rt.alloc(), 1);
+    let (first, one, _consumer) = opened(&rt, rt.alloc(), 0, 8);
+    let (second, two, mut consumer) = opened(&rt, rt.alloc(), 1, 8);
     let rings = [first, second];
     let seats = vec![in rt.alloc(); one, two].expect(&rt, "memory");
     let Ok(mut helpers) = SeatHelpers::new(&rt, rt.alloc(), rings.as_slice(), seats, 2, &NoStock)
@@ -128,7 +88,7 @@ fn a_submitted_record_reaches_its_ring_alone(rt: HostRuntime) {
 
 #[test]
 fn outputs_and_queries_are_answered(rt: HostRuntime) {
-    let (ring, seat, mut consumer) = opened(&rt, rt.alloc(), 0);
+    let (ring, seat, mut consumer) = opened(&rt, rt.alloc(), 0, 8);
     let rings = [ring];
     let seats = vec![in rt.alloc(); seat].expect(&rt, "memory");
     let Ok(mut helpers) = SeatHelpers::new(&rt, rt.alloc(), rings.as_slice(), seats, 5, &NoStock)
@@ -150,7 +110,7 @@ fn outputs_and_queries_are_answered(rt: HostRuntime) {
 
 #[test]
 fn bad_flags_make_no_step_of_the_ring(rt: HostRuntime) {
-    let (ring, seat, _consumer) = opened(&rt, rt.alloc(), 0);
+    let (ring, seat, _consumer) = opened(&rt, rt.alloc(), 0, 8);
     let rings = [ring];
     let seats = vec![in rt.alloc(); seat].expect(&rt, "memory");
     let Ok(mut helpers) = SeatHelpers::new(&rt, rt.alloc(), rings.as_slice(), seats, 5, &NoStock)
@@ -169,7 +129,7 @@ fn bad_flags_make_no_step_of_the_ring(rt: HostRuntime) {
 
 #[test]
 fn a_full_ring_is_refused_in_the_history(rt: HostRuntime) {
-    let (ring, seat, _consumer) = opened(&rt, rt.alloc(), 0);
+    let (ring, seat, _consumer) = opened(&rt, rt.alloc(), 0, 8);
     let rings = [ring];
     let seats = vec![in rt.alloc(); seat].expect(&rt, "memory");
     let Ok(mut helpers) = SeatHelpers::new(&rt, rt.alloc(), rings.as_slice(), seats, 3, &NoStock)
@@ -187,7 +147,7 @@ fn a_full_ring_is_refused_in_the_history(rt: HostRuntime) {
 
 #[test]
 fn a_full_chapter_is_unlogged(rt: HostRuntime) {
-    let (ring, seat, mut consumer) = opened(&rt, rt.alloc(), 0);
+    let (ring, seat, mut consumer) = opened(&rt, rt.alloc(), 0, 8);
     let rings = [ring];
     let seats = vec![in rt.alloc(); seat].expect(&rt, "memory");
     let Ok(mut helpers) = SeatHelpers::new(&rt, rt.alloc(), rings.as_slice(), seats, 5, &NoStock)
@@ -210,8 +170,8 @@ fn a_full_chapter_is_unlogged(rt: HostRuntime) {
 
 #[test]
 fn a_record_of_no_ring_or_of_another_is_handed_back(rt: HostRuntime) {
-    let (first, one, _consumer) = opened(&rt, rt.alloc(), 0);
-    let (second, two, _other_consumer) = opened(&rt, rt.alloc(), 1);
+    let (first, one, _consumer) = opened(&rt, rt.alloc(), 0, 8);
+    let (second, two, _other_consumer) = opened(&rt, rt.alloc(), 1, 8);
     let rings = [first, second];
     let seats = vec![in rt.alloc(); one, two].expect(&rt, "memory");
     let Ok(mut helpers) = SeatHelpers::new(&rt, rt.alloc(), rings.as_slice(), seats, 5, &NoStock)
@@ -270,7 +230,7 @@ fn a_record_of_no_ring_or_of_another_is_handed_back(rt: HostRuntime) {
 
 #[test]
 fn a_sheet_of_the_stock_is_used_again(rt: HostRuntime) {
-    let (ring, seat, _consumer) = opened(&rt, rt.alloc(), 0);
+    let (ring, seat, _consumer) = opened(&rt, rt.alloc(), 0, 8);
     let rings = [ring];
     let seats = vec![in rt.alloc(); seat].expect(&rt, "memory");
     let mut used = Sheet::new(rt.alloc(), 24).expect(&rt, "memory");

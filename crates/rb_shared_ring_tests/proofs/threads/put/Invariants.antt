@@ -1,5 +1,0 @@
-use Rattle.rb_ledger.specs.Seats.{IsSameSeat}
-use Rattle.rb_shared_ring_tests.proofs.threads.put.Given as goal
-
-abbrev pub invariant-loop : goal.invariant-loop
-invariant-loop g l = IsSameSeat l.fn.seat l.seat
