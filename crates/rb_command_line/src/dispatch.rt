@@ -24,6 +24,9 @@ use std::rt::Files;
 use std::sync::Wait;
 use std::thread::Threads;
 
+// How many bytes of payloads are read at once: as many as a pipe holds (pipe(7)).
+const READ_AHEAD: usize = 65_536;
+
 /// Carries out the command that the words name, which follow the program's name on the command line, and returns the status that
 /// the program ends with: 0; 1 where it was refused, with a line on `err` that begins with `refused `; 2 for wrong usage, which
 /// goes to `err` before anything is read or written. Help and the version, where they are asked for, go to `out`.
@@ -120,7 +123,7 @@ fn feed_buffered<R: Read, W: Write>(
     ensures answer { FeedAnswerMatches size start (R.remaining input.old) result }
     ensures only_answer { AnswersAlone size start (R.remaining input.old) result }
 {
-    let Ok(mut reader) = BufReader::new(alloc, input) else {
+    let Ok(mut reader) = BufReader::with_capacity(alloc, READ_AHEAD, input) else {
         return Err(FeedFault::Memory);
     };
     let Ok(writer) = Buffered::new(alloc, out) else {
