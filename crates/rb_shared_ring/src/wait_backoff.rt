@@ -4,7 +4,7 @@ ghost use Rattle.std.specs.Prelude.{◌≡◌, ◌*◌, min};
 
 use crossbeam_utils::Backoff;
 
-// The back-offs of a first wait, 7 + 4: as many as crossbeam's `Backoff` makes until it is completed. The first seven pause 1, 2, 4 .. 64
+// The back-offs of a first wait, 7 + 4: as many as crossbeam's `Backoff` makes until it is completed. The first seven spin 1, 2, 4 .. 64
 // times, 127 in all, and the other four yield the processor.
 const FIRST: u32 = 11;
 
