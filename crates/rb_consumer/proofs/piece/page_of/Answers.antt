@@ -3,4 +3,4 @@ use Rattle.rb_chapter_ring.proofs.Places.{mask-is}
 use Rattle.rb_consumer.proofs.piece.page_of.Goals as goal
 
 pub returns : goal.returns
-returns c = ap (λ x. x / 4096) (mask-is c.args.size c.args.pos c.requires.size)
+returns c = ap (λ x. x / 4096) (mask-is c.args.size c.args.pos c.requires.size.0)
