@@ -4,10 +4,10 @@ ghost use Rattle.std.specs.Prelude.{◌≡◌, ◌≢◌, ℕ, ◌+◌, ◌≤�
 ghost use Rattle.std.specs.Borrow.{sem};
 
 use crate::context::Context;
-use crate::lent::Lent;
 use crate::records::{Records, Slot};
 use crate::stack::Stack;
 use crate::writable_range::WritableRange;
+use rb_lend::Lent;
 use thiserror::Error;
 
 /// Why a range can't be read or written: it does not lie inside the part, the slot is empty, or it is the context, which is
@@ -42,7 +42,7 @@ pub struct Parts<C, R> {
 }
 
 impl<C, R> Parts<C, R> {
-    ghost use Rattle.rb_lend.specs.RecordSlots.{in_slot, with_slot, lowest_empty};
+    ghost use Rattle.rb_parts.specs.RecordSlots.{in_slot, with_slot, lowest_empty};
 
     /// A stack of 512 zero bytes, this context, and four empty slots.
     pub fn new(context: C) -> Parts<C, R>
@@ -89,10 +89,10 @@ impl<C, R> Parts<C, R> {
 }
 
 impl<C: Context, R: Lent> Parts<C, R> {
-    ghost use Rattle.rb_lend.specs.RecordSlots.{in_slot};
-    ghost use Rattle.rb_lend.specs.PartsMemory.{memory_of, part_range, may_write, record_has};
-    ghost use Rattle.rb_lend.specs.inner.Lending.{LendsRangeOfStack, LendsRangeOfRecord};
-    ghost use Rattle.rb_lend.specs.Lending.{LendsPart, RestsIfOutside, IsWritableRangeOf};
+    ghost use Rattle.rb_parts.specs.RecordSlots.{in_slot};
+    ghost use Rattle.rb_parts.specs.PartsMemory.{memory_of, part_range, may_write, record_has};
+    ghost use Rattle.rb_parts.specs.inner.Lending.{LendsRangeOfStack, LendsRangeOfRecord};
+    ghost use Rattle.rb_parts.specs.Lending.{LendsPart, RestsIfOutside, IsWritableRangeOf};
 
     /// Lends `len` bytes from place `off` of a part for reading, `Outside` exactly where they do not lie inside it. `off`
     /// counts from the part's first byte. A range of no bytes lies inside at each place from the first byte to one past the

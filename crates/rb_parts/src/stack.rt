@@ -2,9 +2,9 @@
 
 ghost use Rattle.std.specs.Prelude.{◌≡◌, ◌+◌, ◌≤◌, take, drop, length, replicate};
 ghost use Rattle.std.specs.Borrow.{sem};
-ghost use Rattle.rb_lend.specs.Stack.{LendsStackRange};
+ghost use Rattle.rb_parts.specs.Stack.{LendsStackRange};
 
-use crate::block::Block;
+use rb_lend::Block;
 use std::marker::Model;
 
 /// The stack of a program: 512 bytes (Linux include/linux/filter.h, MAX_BPF_STACK), in place. Contracts see it as the list of

@@ -4,8 +4,8 @@ ghost use Rattle.std.specs.Prelude.{◌≡◌, length, Some, true};
 ghost use Rattle.std.specs.Borrow.{sem};
 
 use crate::context::Context;
-use crate::lent::Lent;
 use crate::parts::{Part, Parts};
+use rb_lend::Lent;
 
 /// A range of a part that `Parts::write` found to be one that may be written.
 #[derive(Drop)]
@@ -21,8 +21,8 @@ pub struct WritableRange<'m, C, R> {
 }
 
 impl<'m, C: Context, R: Lent> WritableRange<'m, C, R> {
-    ghost use Rattle.rb_lend.specs.Lending.{LendsWritableRange};
-    ghost use Rattle.rb_lend.specs.PartsMemory.{may_write, memory_of, part_range};
+    ghost use Rattle.rb_parts.specs.Lending.{LendsWritableRange};
+    ghost use Rattle.rb_parts.specs.PartsMemory.{may_write, memory_of, part_range};
 
     /// Lends the `len` bytes for writing. All else of the parts stays.
     pub fn into_bytes(self) -> &'m mut [u8]

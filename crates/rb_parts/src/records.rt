@@ -2,9 +2,9 @@
 
 ghost use Rattle.std.specs.Prelude.{◌≡◌, IfOk, IfErr, IsSome, Some, None, option_map};
 ghost use Rattle.std.specs.Borrow.{sem};
-ghost use Rattle.rb_lend.specs.inner.SomeOf.{LendsSome};
+ghost use Rattle.rb_parts.specs.inner.SomeOf.{LendsSome};
 
-use crate::lent::Lent;
+use rb_lend::Lent;
 
 /// One of the four places for a record.
 #[derive(Debug, Clone, Copy, PartialEq, Eq)]
@@ -33,9 +33,9 @@ pub struct Records<R> {
 }
 
 impl<R> Records<R> {
-    ghost use Rattle.rb_lend.specs.inner.Lending.{LendsSlot};
-    ghost use Rattle.rb_lend.specs.Lending.{LendsRecordIn};
-    ghost use Rattle.rb_lend.specs.RecordSlots.{in_slot, with_slot, lowest_empty};
+    ghost use Rattle.rb_parts.specs.inner.Lending.{LendsSlot};
+    ghost use Rattle.rb_parts.specs.Lending.{LendsRecordIn};
+    ghost use Rattle.rb_parts.specs.RecordSlots.{in_slot, with_slot, lowest_empty};
 
     /// Four empty slots.
     pub fn new() -> Records<R>
@@ -155,8 +155,8 @@ impl<R> Records<R> {
 }
 
 impl<R: Lent> Records<R> {
-    ghost use Rattle.rb_lend.specs.Lending.{LendsBytesIn};
-    ghost use Rattle.rb_lend.specs.RecordSlots.{in_slot};
+    ghost use Rattle.rb_parts.specs.Lending.{LendsBytesIn};
+    ghost use Rattle.rb_parts.specs.RecordSlots.{in_slot};
 
     /// The bytes of the record in the slot, which is not empty, lent for writing. The other slots stay.
     pub fn bytes_mut(&mut self, slot: Slot) -> &mut [u8]

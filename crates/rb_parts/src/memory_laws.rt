@@ -1,14 +1,9 @@
 //! The laws of the memory that the parts show. Each is the contract of a function that does nothing.
 
-ghost use Rattle.rb_lend.specs.MemoryLaws.{RangesAreAlone, WritesRange, LeavesOthers, FillsSlot, LeavesOtherSlots, LowestIsEmpty, NoneIsFull};
+ghost use Rattle.rb_parts.specs.MemoryLaws.{WritesRange, LeavesOthers, FillsSlot, LeavesOtherSlots, LowestIsEmpty, NoneIsFull};
 
 use crate::context::Context;
-use crate::lent::Lent;
-
-/// Bytes that are written in the place of as many others show there, and leave what is before and behind them.
-pub fn a_range_is_written_alone()
-    ensures { RangesAreAlone }
-{}
+use rb_lend::Lent;
 
 /// After a write a part shows the new bytes in the range, and its old ones around it.
 pub fn a_write_shows<C: Context, R: Lent>()
