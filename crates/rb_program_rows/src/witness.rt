@@ -1,4 +1,4 @@
-//! Helpers of the tests' own, which tell the bytes that went over.
+//! Helpers that keep the bytes that went over.
 
 ghost use Rattle.std.specs.Prelude.{◌≡◌, length, true};
 
@@ -8,20 +8,20 @@ use std::alloc::{AllocError, Global};
 
 /// Helpers that answer as others do, and keep the bytes of each record that is submitted or discarded, in order.
 #[derive(Drop)]
-pub struct Witness {
+pub(crate) struct Witness {
     listed: Listed,
     bytes: Vec<u8>,
 }
 
 impl Witness {
     /// Helpers that answer as these.
-    pub fn new(alloc: Global, listed: Listed) -> Witness {
+    pub(crate) fn new(alloc: Global, listed: Listed) -> Witness {
         let bytes = Vec::new(alloc);
         Witness { listed, bytes }
     }
 
     /// The bytes of all records that were submitted or discarded.
-    pub fn bytes(&self) -> &[u8] {
+    pub(crate) fn bytes(&self) -> &[u8] {
         self.bytes.as_slice()
     }
 
