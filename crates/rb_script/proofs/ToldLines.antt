@@ -11,9 +11,9 @@ use Rattle.rb_script.specs.Scripts.{WorkerText, IsFirstFault, StandFor, HasWorke
 use Rattle.rb_script.specs.Simulation.{Simulates, BreaksOff}
 use Rattle.rb_script.proofs.ScriptParts.{zip-one, one-fault, no-fault-of-script}
 use Rattle.rb_script.proofs.WorkerPrograms.{one-refused, none-refused}
-use Rattle.rb_sim_command.specs.declared.sim_command.SimFault.{SimFault}
-use Rattle.rb_sim_command.specs.declared.sim_command.SimFault.TheVariants.{Line, Memory, Device}
-use Rattle.rb_sim_command.specs.Simulated.{IsRefusedScript, IsSimFaultOf, IsTold, BreaksOffSim}
+use Rattle.rb_script.specs.declared.sim_command.SimFault.{SimFault}
+use Rattle.rb_script.specs.declared.sim_command.SimFault.TheVariants.{Line, Memory, Device}
+use Rattle.rb_script.specs.Simulated.{IsRefusedScript, IsSimFaultOf, IsTold, BreaksOffSim}
 
 abbrev pub err : SimFault → Result (Unit {0}) SimFault
 err fault = Err fault

@@ -1,8 +1,8 @@
 use Rattle.std.proofs.Common.{◌≡◌, ℕ, refl, inl, inr}
-use Rattle.rb_sim_command.specs.declared.sim_command.SimFault.TheVariants.{Line, Memory}
-use Rattle.rb_sim_command.specs.Simulated.{IsSimFaultOf, IsTold, BreaksOffSim}
-use Rattle.rb_sim_command.proofs.Told.{err, for-every, for-read, keeps-all}
-use Rattle.rb_sim_command.proofs.sim_command.sim.Goals as goal
+use Rattle.rb_script.specs.declared.sim_command.SimFault.TheVariants.{Line, Memory}
+use Rattle.rb_script.specs.Simulated.{IsSimFaultOf, IsTold, BreaksOffSim}
+use Rattle.rb_script.proofs.ToldLines.{err, for-every, for-read, keeps-all}
+use Rattle.rb_script.proofs.sim_command.sim.Goals as goal
 
 pub returns-in-Err-Memory-clause-told : goal.returns-in-Err-Memory-clause-told
 returns-in-Err-Memory-clause-told g c = for-every _ (λ text. (line : ℕ) → IsSimFaultOf text (Line line) → IsTold line (err Memory)) (λ text line h. inr (inl refl))

@@ -6,8 +6,8 @@ use Rattle.rb_script.specs.declared.script.Script.{Script}
 use Rattle.rb_script.specs.ScriptText.{lines_of}
 use Rattle.rb_script.specs.Scripts.{StandFor}
 use Rattle.rb_script.specs.Simulation.{Simulates}
-use Rattle.rb_sim_command.specs.declared.sim_command.SimFault.{SimFault}
-use Rattle.rb_sim_command.specs.Simulated.{PrintsSim}
+use Rattle.rb_script.specs.declared.sim_command.SimFault.{SimFault}
+use Rattle.rb_script.specs.Simulated.{PrintsSim}
 
 -- the slices that were printed are those of the run's lines
 pub prints_run : (text : List ℕ) (script : Script) (none turns ends turns_lent ends_lent : List ℕ) (before between after : Option (List ℕ)) (r : Result (Unit {0}) SimFault) → StandFor (lines_of text) script → none ≡ [] → Simulates script none turns ends → turns_lent ≡ turns → ends_lent ≡ ends → Appends before between turns_lent → OnOk r (Appends between after ends_lent) → OnOk r (PrintsSim text before after)

@@ -2,10 +2,10 @@ use Rattle.std.proofs.Common.{◌≡◌, length, map, refl, inl, inr, sym, subst
 use Rattle.rb_script.specs.ScriptText.{lines_of}
 use Rattle.rb_script.specs.Programs.{IsProgramsFault}
 use Rattle.rb_script.specs.Scripts.{IsFaultOf, worker_text}
-use Rattle.rb_sim_command.proofs.Printing.{prints_run}
-use Rattle.rb_sim_command.specs.declared.sim_command.SimFault.TheVariants.{Memory}
-use Rattle.rb_sim_command.proofs.Told.{told-fault, told-refused, told-else, none-told, broken-off, keeps-all, device-only, else-fault, no-line}
-use Rattle.rb_sim_command.proofs.sim_command.sim_text.Goals as goal
+use Rattle.rb_script.proofs.PrintedRuns.{prints_run}
+use Rattle.rb_script.specs.declared.sim_command.SimFault.TheVariants.{Memory}
+use Rattle.rb_script.proofs.ToldLines.{told-fault, told-refused, told-else, none-told, broken-off, keeps-all, device-only, else-fault, no-line}
+use Rattle.rb_script.proofs.sim_command.sim_text.Goals as goal
 
 pub returns-in-Err-Line-simulate-clause-refused : goal.returns-in-Err-Line-simulate-clause-refused
 returns-in-Err-Line-simulate-clause-refused g c =

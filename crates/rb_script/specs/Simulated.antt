@@ -6,8 +6,8 @@ use Rattle.rb_script.specs.Programs.{IsFirstRefused}
 use Rattle.rb_script.specs.ScriptText.{lines_of}
 use Rattle.rb_script.specs.Scripts.{IsFirstFault, StandFor, worker_text}
 use Rattle.rb_script.specs.Simulation.{Simulates, BreaksOff}
-use Rattle.rb_sim_command.specs.declared.sim_command.SimFault.{SimFault}
-use Rattle.rb_sim_command.specs.declared.sim_command.SimFault.TheVariants.{Line, Memory, Device}
+use Rattle.rb_script.specs.declared.sim_command.SimFault.{SimFault}
+use Rattle.rb_script.specs.declared.sim_command.SimFault.TheVariants.{Line, Memory, Device}
 
 -- the script that the text stands for was run with the programs of its workers, and the lines of its turns were printed, and then those of
 -- its workers and rings

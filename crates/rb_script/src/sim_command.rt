@@ -1,12 +1,13 @@
-//! A script of a world in, the lines of its turns out.
+//! The command `sim`: a script of a world in, the lines of its turns out.
 
 ghost use Rattle.std.specs.Prelude.{◌≡◌, ◌⊎◌, ℕ, Err, IfErr, IfSome, OnOk};
 ghost use Rattle.std.specs.Io.KnownBytes.{Appends, Keeps};
-ghost use Rattle.rb_sim_command.specs.Simulated.{BreaksOffSim, IsSimFaultOf, IsTold, PrintsSim};
+ghost use Rattle.rb_script.specs.Simulated.{BreaksOffSim, IsSimFaultOf, IsTold, PrintsSim};
 
+use crate::script::Script;
+use crate::script_fault::ScriptFault;
 use rb_io::write_whole;
 use rb_loader::{ProgramFault, read_all};
-use rb_script::{Script, ScriptFault};
 use std::alloc::Global;
 use std::io::{Read, Write};
 use thiserror::Error;
