@@ -1,6 +1,7 @@
 //! Bytes of rows: hex, and text with escapes.
 
 use std::alloc::{AllocError, Global};
+use std::fmt::Write;
 
 /// The bytes that hex spells, white space left out; none where it is no hex.
 pub(crate) fn bytes_of(alloc: Global, hex: &str) -> Result<Option<Vec<u8>>, AllocError> {
@@ -63,5 +64,27 @@ fn value_of(digit: u8) -> u8 {
         b'0'..=b'9' => digit - b'0',
         b'a'..=b'f' => digit - b'a' + 10,
         _ => 0,
+    }
+}
+
+/// Tells bytes with escapes, each line of them on one of its own behind a word.
+pub(crate) fn tell_escaped(word: &str, bytes: &[u8], out: &mut String) -> Result<(), AllocError> {
+    let mut begins = true;
+    for byte in bytes {
+        if begins {
+            write!(out, "\n{word} ")?;
+        }
+        tell_byte(*byte, out)?;
+        begins = *byte == b'\n';
+    }
+    Ok(())
+}
+
+fn tell_byte(byte: u8, out: &mut String) -> Result<(), AllocError> {
+    match byte {
+        b'\n' => out.push_str("\\n"),
+        b'\\' => out.push_str("\\\\"),
+        b' '..=b'~' => out.push(char::from(byte)),
+        _ => write!(out, "\\x{byte:02x}"),
     }
 }

@@ -1,5 +1,5 @@
-//! Answers rows over programs: what bytes decode to, the shape of jumps, verification, arithmetic, single steps of the verifier, runs, assembly, and what is explained. A
-//! row is a line of the input, and its answer stands in the output at its place.
+//! Answers rows over programs: what bytes decode to, the shape of jumps, verification, arithmetic, single steps of the verifier, runs, assembly,
+//! explanations, and command lines of `rbhost`. A row is a line of the input, and its answer stands in the output at its place.
 //!
 //! `stdin` has the rows that the gate runs, and `stdout` their answers, which were worked out apart from the code; `tools/rows program` draws
 //! more. A line that is empty or begins with `#` is repeated. `name WORD TEXT` keeps a text, which stands for `{WORD}` in the rows behind it,
@@ -10,6 +10,7 @@
 mod arithmetic;
 mod assembly;
 mod bytes;
+mod command_lines;
 mod decoded;
 mod explained;
 mod fault;
@@ -27,11 +28,15 @@ mod witness;
 use fault::RowsFault;
 use names::Names;
 use std::alloc::Global;
+use std::fs::File;
 use std::io::{BufRead, BufReader, BufWriter, Read, Write};
 use std::process::ExitCode;
+use std::rt::Files;
+use std::sync::Wait;
+use std::thread::Threads;
 
 fn main(rt: HostRuntime) -> ExitCode {
-    match answer_all(rt.alloc(), rt.stdin(), &mut rt.stdout()) {
+    match answer_all(&rt, rt.alloc(), rt.stdin(), &mut rt.stdout()) {
         Ok(()) => ExitCode::from(0),
         Err(fault) => {
             let _ = eprintln!(rt; "{fault}");
@@ -41,9 +46,10 @@ fn main(rt: HostRuntime) -> ExitCode {
 }
 
 // Answers each line of the input.
-fn answer_all<R: Read + Drop, W: Write>(
+fn answer_all<R: Threads + Wait + Sync + Files<File = File>, I: Read + Drop, W: Write>(
+    rt: &R,
     alloc: Global,
-    input: R,
+    input: I,
     out: &mut W,
 ) -> Result<(), RowsFault> {
     let mut names = Names::new(alloc);
@@ -51,14 +57,15 @@ fn answer_all<R: Read + Drop, W: Write>(
     let mut out = BufWriter::new(alloc, out)?;
     for line in BufReader::new(alloc, input)?.lines(alloc) {
         number = number.wrapping_add(1);
-        answer_line(alloc, &mut names, number, line?.as_str(), &mut out)?;
+        answer_line(rt, alloc, &mut names, number, line?.as_str(), &mut out)?;
     }
     out.flush()?;
     Ok(())
 }
 
 // Answers one line.
-fn answer_line<W: Write>(
+fn answer_line<R: Threads + Wait + Sync + Files<File = File>, W: Write>(
+    rt: &R,
     alloc: Global,
     names: &mut Names,
     number: u64,
@@ -70,7 +77,7 @@ fn answer_line<W: Write>(
         text.push_str(line)?;
     } else if !names.keep(alloc, line)? {
         let line = names.in_place(alloc, line)?;
-        row::answer(alloc, number, line.as_str(), &mut text)?;
+        row::answer(rt, alloc, number, line.as_str(), &mut text)?;
     } else {
         return Ok(());
     }

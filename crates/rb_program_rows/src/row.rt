@@ -2,6 +2,7 @@
 
 use crate::arithmetic::answer_compute;
 use crate::assembly::answer_assembly;
+use crate::command_lines::answer_command_line;
 use crate::decoded::{answer_at, answer_decode, answer_text, answer_units};
 use crate::explained::{Part, answer_explain};
 use crate::numbers::{number_of, two_numbers_and_rest, unit_and_rest};
@@ -13,6 +14,10 @@ use rb_insn::Reg;
 use rb_refs::{Helper, Limits};
 use std::alloc::{AllocError, Global};
 use std::fmt::Write;
+use std::fs::File;
+use std::rt::Files;
+use std::sync::Wait;
+use std::thread::Threads;
 
 // A row.
 #[derive(Clone, Copy)]
@@ -45,6 +50,8 @@ enum Row<'a> {
     StepInPlace(Limits, u32, &'a str, &'a str),
     // `join STATE STATE`: what two states have in common.
     Join(&'a str, &'a str),
+    // `rbhost WORDS < TEXT` or `rbhost WORDS : HEX`: a command line of `rbhost` over an input.
+    CommandLine(&'a str),
     // `helper NUMBER`: the helper of a number.
     Helper(u64),
     // `register NUMBER`: the register of a number.
@@ -52,14 +59,15 @@ enum Row<'a> {
 }
 
 /// Answers the row of a line; a line that is none is told by its number.
-pub(crate) fn answer(
+pub(crate) fn answer<R: Threads + Wait + Sync + Files<File = File>>(
+    rt: &R,
     alloc: Global,
     number: u64,
     line: &str,
     out: &mut String,
 ) -> Result<(), AllocError> {
     match row_of(line) {
-        Some(row) => answer_row(alloc, row, out),
+        Some(row) => answer_row(rt, alloc, row, out),
         None => write!(out, "line {number}: no row"),
     }
 }
@@ -114,6 +122,7 @@ fn row_of(line: &str) -> Option<Row<'_>> {
             let (first, second) = rest.split_once(' ')?;
             Some(Row::Join(first, second))
         }
+        "rbhost" => Some(Row::CommandLine(rest)),
         "helper" => Some(Row::Helper(number_of(rest)?)),
         "register" => Some(Row::Register(number_of(rest)?)),
         _ => None,
@@ -137,7 +146,12 @@ fn step_of(words: &str) -> Option<(Limits, u32, &str, &str)> {
     Some((Limits { ctx_len, rings }, unit, state, hex))
 }
 
-fn answer_row(alloc: Global, row: Row<'_>, out: &mut String) -> Result<(), AllocError> {
+fn answer_row<R: Threads + Wait + Sync + Files<File = File>>(
+    rt: &R,
+    alloc: Global,
+    row: Row<'_>,
+    out: &mut String,
+) -> Result<(), AllocError> {
     match row {
         Row::Units(hex) => answer_units(alloc, hex, out),
         Row::Decode(hex) => answer_decode(alloc, hex, out),
@@ -157,6 +171,7 @@ fn answer_row(alloc: Global, row: Row<'_>, out: &mut String) -> Result<(), Alloc
             answer_step_in_place(alloc, limits, unit, state, hex, out)
         }
         Row::Join(first, second) => answer_join(alloc, first, second, out),
+        Row::CommandLine(line) => answer_command_line(rt, alloc, line, out),
         Row::Helper(number) => answer_helper(number, out),
         Row::Register(number) => answer_register(number, out),
     }

@@ -2,8 +2,6 @@
 #![tactic(auto)]
 
 #[cfg(test)]
-mod c_programs;
-#[cfg(test)]
 mod jobs;
 #[cfg(test)]
 mod programs;

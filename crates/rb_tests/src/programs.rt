@@ -1,12 +1,11 @@
-//! Programs that call helpers, one instruction at a time and to their ends.
+//! Programs that call helpers, one instruction at a time.
 
 ghost use Rattle.std.specs.Prelude.{◌≡◌, IfSome, replicate};
 ghost use Rattle.rb_semantics.specs.declared.pending_call.PendingCall.TheVariants.{Reserve, GiveBack};
 ghost use Rattle.rb_interp.specs.declared.step.Phase.TheVariants.{Ready, Waiting};
 
 use super::shared::{SUBMIT_42, verified};
-use rb_helpers::Listed;
-use rb_interp::{Answer, Machine, Request, Step, run};
+use rb_interp::{Answer, Machine, Request, Step};
 use rb_lend::{Lent, Sheet};
 use rb_verifier::Verified;
 use std::alloc::Global;
@@ -92,41 +91,4 @@ fn a_kept_answer_executes_each_instruction_once(rt: HostRuntime) {
     let (count, submitted) = executed(&rt, rt.alloc(), &program, false);
     assert_eq!(rt; count, 9);
     assert!(rt; submitted.is_empty());
-}
-
-// What a program ends with, over helpers that grant each call.
-fn ended(rt: &impl Abort, alloc: Global, text: &str) -> Option<u64> {
-    let program = verified(rt, alloc, text, 16, 1);
-    let answers = vec![in alloc; true; program.calls()].expect(rt, "memory");
-    let mut helpers = Listed::new(alloc, answers).expect(rt, "memory");
-    run(&program, CONTEXT.as_slice(), &mut helpers).ok()
-}
-
-#[test]
-fn calls_of_helpers(rt: HostRuntime) {
-    const ROWS: [(&str, u64); 4] = [
-        // An output is answered 0.
-        (
-            "18510000000000000000000000000000 bfa2000000000000 07020000f8ffffff b703000008000000 b704000000000000 7a0af8ff05000000 8500000082000000 9500000000000000",
-            0,
-        ),
-        // A record begins as zeros, and keeps what is written.
-        (
-            "18510000000000000000000000000000 b702000010000000 b703000000000000 8500000083000000 1500090000000000 bf06000000000000 7a06080028000000 7967080000000000 7968000000000000 0f87000000000000 bf61000000000000 b702000000000000 8500000084000000 0500010000000000 b707000001000000 bf70000000000000 9500000000000000",
-            40,
-        ),
-        // A record is discarded.
-        (
-            "18510000000000000000000000000000 b702000008000000 b703000000000000 8500000083000000 5500020000000000 b700000009000000 0500040000000000 bf01000000000000 b702000000000000 8500000085000000 b700000003000000 9500000000000000",
-            3,
-        ),
-        // A query is answered by the list with 0.
-        (
-            "18510000000000000000000000000000 b702000001000000 8500000086000000 9500000000000000",
-            0,
-        ),
-    ];
-    for (text, value) in ROWS {
-        assert_eq!(rt; ended(&rt, rt.alloc(), text), Some(value), "{text}");
-    }
 }

@@ -1,6 +1,5 @@
 //! Commands, with all that they print.
 
-use crate::endings::is_wrong_usage;
 use crate::fakes::{Sink, Source, Trouble};
 use rb_command_line::command;
 use std::alloc::Global;
@@ -11,111 +10,8 @@ use std::rt::Files;
 use std::sync::Wait;
 use std::thread::Threads;
 
-// What a command on an input ends with: the status and what was told on the error output as text, and the bytes that were printed.
-fn fed<T: Abort + Threads + Wait + Sync + Files<File = File>>(
-    rt: &T,
-    alloc: Global,
-    words: &[&str],
-    input: &[u8],
-) -> (String, Vec<u8>) {
-    let mut reader = Source::new(input, 5);
-    let mut tape = Vec::new(alloc);
-    let mut told = Vec::new(alloc);
-    let status = command(rt, alloc, words, &mut reader, &mut tape, &mut told);
-    let told = str::from_utf8(told.as_slice()).expect(rt, "text");
-    let ending = format!(in alloc; "{status} {told}").expect(rt, "memory");
-    (ending, tape)
-}
-
-// One byte and none, and their tape.
+// One byte and none.
 const TWO: [u8; 9] = [1, 0, 0, 0, 0xff, 0, 0, 0, 0];
-
-const TWO_TAPE: [u8; 24] = [
-    1, 0, 0, 0, 0, 0, 0, 0, 0xff, 0, 0, 0, 0, 0, 0, 0, // one byte
-    0, 0, 0, 0, 0, 0, 0, 0, // none
-];
-
-#[test]
-fn commands_write_tapes(rt: HostRuntime) {
-    let plain: &[&str] = &["feed", "--size", "4096"];
-    let rows: [(&[&str], &[u8], &str, &[u8]); 10] = [
-        (plain, &[], "0 producer 0 consumer 0\n", &[]),
-        (
-            plain,
-            &[8, 0, 0, 0, 0x2a, 0, 0, 0, 0, 0, 0, 0],
-            "0 producer 16 consumer 16\n",
-            &[8, 0, 0, 0, 0, 0, 0, 0, 0x2a, 0, 0, 0, 0, 0, 0, 0],
-        ),
-        (plain, &TWO, "0 producer 24 consumer 24\n", &TWO_TAPE),
-        (
-            &["feed", "--start=8184", "--size=8192"],
-            &[0; 4],
-            "0 producer 8192 consumer 8192\n",
-            &[0, 0, 0, 0, 1, 0, 0, 0],
-        ),
-        (&["feed", "--size", "4095"], &[1], "1 refused size\n", &[]),
-        (
-            &["feed", "--size", "0", "--start", "3"],
-            &[1],
-            "1 refused size\n",
-            &[],
-        ),
-        (
-            &["feed", "--size", "4096", "--start", "3"],
-            &[1],
-            "1 refused start\n",
-            &[],
-        ),
-        (
-            plain,
-            &[1, 0, 0, 0, 0xff, 0xf1, 0x0f, 0, 0],
-            "1 refused payload 1 does not fit\n",
-            &TWO_TAPE[..16],
-        ),
-        (
-            plain,
-            &[1, 0, 0, 0, 0xff, 1, 0],
-            "1 refused input ends inside payload 1\n",
-            &TWO_TAPE[..16],
-        ),
-        (&["--version"], &[1], "0 ", b"rbhost 0.1.0\n"),
-    ];
-    for (words, input, ending, tape) in rows {
-        let (told, written) = fed(&rt, rt.alloc(), words, input);
-        assert_eq!(rt;
-            (told.as_str(), written.as_slice()),
-            (ending, tape),
-            "of {words:?}"
-        );
-    }
-}
-
-// Wrong usage is told on the error output before anything is read.
-#[test]
-fn wrong_usage(rt: HostRuntime) {
-    let wrong: [&[&str]; 17] = [
-        &[],
-        &["fed"],
-        &["feed"],
-        &["feed", "--start", "0"],
-        &["feed", "--size"],
-        &["feed", "--size", "4095", "more"],
-        &["feed", "--size", "4096", "--speed", "1"],
-        &["feed", "--size", "4096", "--size", "4096"],
-        &["feed", "--size", ""],
-        &["feed", "--size", "+4096"],
-        &["feed", "--size", "0x1000"],
-        &["feed", "--size", "4096", "--start", "1 "],
-        &["feed", "--size", "4096", "--start=-8"],
-        &["feed", "--size", "18446744073709551616"],
-        &["feed", "--size", "4096", "--retry", "101"],
-        &["tape"],
-        &["tape", "--size", "4096", "--retry", "1"],
-    ];
-    for words in wrong {
-        assert!(rt; is_wrong_usage(&rt, rt.alloc(), words), "of {words:?}");
-    }
-}
 
 // Whether the words print a help that ends in one line feed, and nothing is read or told.
 fn is_help<T: Threads + Wait + Sync + Files<File = File>>(

@@ -34,22 +34,6 @@ pub(crate) fn ended_over<T: Abort + Threads + Wait + Sync + Files<File = File>>(
     format!(in alloc; "{status} {told}{printed}").expect(rt, "memory")
 }
 
-/// Whether the words were told to be wrong, before anything was read or printed.
-pub(crate) fn is_wrong_usage<T: Threads + Wait + Sync + Files<File = File>>(
-    rt: &T,
-    alloc: Global,
-    words: &[&str],
-) -> bool {
-    let mut reader = Source::new(&[1], 5);
-    let mut printed = Vec::new(alloc);
-    let mut told = Vec::new(alloc);
-    let status = command(rt, alloc, words, &mut reader, &mut printed, &mut told);
-    status == 2
-        && printed.is_empty()
-        && told.as_slice().starts_with(b"error: ")
-        && reader.rest.len() == 1
-}
-
 /// The number at a place of a line's words; none is the greatest.
 pub(crate) fn number(line: &str, place: usize) -> u64 {
     match line.split(' ').nth(place) {

@@ -4,7 +4,6 @@ ghost use Rattle.std.specs.Prelude.{◌≡◌};
 
 use crate::endings::{ended, number};
 use crate::fakes::{Sink, Trouble};
-use rb_examples::OUTPUT_CONTEXT;
 use rb_loader::read_program;
 use rb_run_commands::{JOB_BOUNDS, JobsRequest, WrittenTape, check_ring, run_taped};
 use rb_verifier::Verified;
@@ -15,7 +14,11 @@ use std::rt::Files;
 use std::sync::Wait;
 use std::thread::Threads;
 
-// The program of examples/output_context.hex, which outputs the first eight bytes of its context: its worker's number.
+// Outputs the first eight bytes of its context (examples/output_context.hex).
+const OUTPUT_CONTEXT: &str = "bf12000000000000 1851000000000000 0000000000000000
+    b703000008000000 b704000000000000 8500000082000000 9500000000000000";
+
+// The program that outputs the first eight bytes of its context: its worker's number.
 fn output_context(rt: &(impl Abort + AllocGlobal)) -> Verified
     ensures rings { result.rings ≡ 1 }
 {

@@ -1,0 +1,138 @@
+//! Command lines of `rbhost`, over inputs in memory.
+
+use crate::bytes::{bytes_of, tell_escaped, unescaped};
+use rb_command_line::command;
+use std::alloc::{AllocError, Global};
+use std::fmt::Write;
+use std::fs::File;
+use std::io::{self, Read};
+use std::rt::Files;
+use std::sync::Wait;
+use std::thread::Threads;
+
+// How many bytes a read gives at most, in the runs of a command that tell the same.
+const PIECES: [usize; 3] = [7, 1, 65_536];
+
+// Gives its bytes, so many at a time, and then the end.
+#[derive(Drop)]
+struct Pieces<'a> {
+    rest: &'a [u8],
+    most: usize,
+}
+
+impl Read for Pieces<'_> {
+    fn read(&mut self, buf: &mut [u8]) -> io::Result<usize> {
+        let count = self.rest.len().min(buf.len()).min(self.most);
+        let (front, rest) = self.rest.split_at(count);
+        buf[..count].copy_from_slice(front);
+        self.rest = rest;
+        Ok(count)
+    }
+}
+
+// What a command ends with.
+#[derive(Drop, PartialEq, Eq)]
+struct Ending {
+    status: u8,
+    // Whether the input has bytes and none was read.
+    is_unread: bool,
+    printed: Vec<u8>,
+    // What was written to the error output.
+    told: Vec<u8>,
+}
+
+/// What a command line ends with, where its words stand in front of ` < ` and a text with escapes, or of ` : ` and hex, which are its input.
+/// Escapes may stand in words too. It is run over reads of three sizes, but for `run`, which is run once.
+pub(crate) fn answer_command_line<R: Threads + Wait + Sync + Files<File = File>>(
+    rt: &R,
+    alloc: Global,
+    line: &str,
+    out: &mut String,
+) -> Result<(), AllocError> {
+    let (words, input) = match (line.split_once("< "), line.split_once(": ")) {
+        (Some((words, text)), _) => (words, Some(unescaped(alloc, text)?)),
+        (None, Some((words, hex))) => (words, bytes_of(alloc, hex)?),
+        (None, None) => (line, Some(Vec::new(alloc))),
+    };
+    match (words_of(alloc, words)?, input) {
+        (Some(words), Some(input)) => {
+            tell_command(rt, alloc, words.as_slice(), input.as_slice(), out)
+        }
+        _ => out.push_str("no words or no input"),
+    }
+}
+
+// The words of a command line; none where one is no text.
+fn words_of(alloc: Global, line: &str) -> Result<Option<Vec<String>>, AllocError> {
+    let mut words = Vec::new(alloc);
+    let line = line.strip_suffix(' ').unwrap_or(line);
+    if line.is_empty() {
+        return Ok(Some(words));
+    }
+    for word in line.split(' ') {
+        let Ok(word) = String::from_utf8(unescaped(alloc, word)?) else {
+            return Ok(None);
+        };
+        words.push(word)?;
+    }
+    Ok(Some(words))
+}
+
+fn tell_command<R: Threads + Wait + Sync + Files<File = File>>(
+    rt: &R,
+    alloc: Global,
+    words: &[String],
+    input: &[u8],
+    out: &mut String,
+) -> Result<(), AllocError> {
+    let first = ended(rt, alloc, words, input, PIECES[0]);
+    if !is_run(words) {
+        for most in &PIECES[1..] {
+            if ended(rt, alloc, words, input, *most) != first {
+                write!(out, "differs by {most} bytes, ")?;
+            }
+        }
+    }
+    tell_ending(&first, out)
+}
+
+fn is_run(words: &[String]) -> bool {
+    match words.first() {
+        Some(word) => word.as_str() == "run",
+        None => false,
+    }
+}
+
+// What a command ends with over an input that gives so many bytes at a time.
+fn ended<R: Threads + Wait + Sync + Files<File = File>>(
+    rt: &R,
+    alloc: Global,
+    words: &[String],
+    input: &[u8],
+    most: usize,
+) -> Ending {
+    let mut reader = Pieces { rest: input, most };
+    let mut printed = Vec::new(alloc);
+    let mut told = Vec::new(alloc);
+    let status = command(rt, alloc, words, &mut reader, &mut printed, &mut told);
+    Ending {
+        status,
+        is_unread: !input.is_empty() && reader.rest.len() == input.len(),
+        printed,
+        told,
+    }
+}
+
+// Tells the status, and each line that was printed or told. Of wrong usage only that it was told.
+fn tell_ending(ending: &Ending, out: &mut String) -> Result<(), AllocError> {
+    write!(out, "status {}", ending.status)?;
+    if ending.is_unread {
+        out.push_str(", nothing read")?;
+    }
+    if ending.status == 2 && ending.told.as_slice().starts_with(b"error: ") {
+        out.push_str(", an error told")?;
+    } else {
+        tell_escaped("err", ending.told.as_slice(), out)?;
+    }
+    tell_escaped("out", ending.printed.as_slice(), out)
+}

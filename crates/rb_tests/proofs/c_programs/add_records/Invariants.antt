@@ -1,5 +1,0 @@
-use Rattle.rb_shared_ring.specs.SharedSeats.{IsSameChapterConsumer}
-use Rattle.rb_tests.proofs.c_programs.add_records.Given as goal
-
-abbrev pub invariant-loop : goal.invariant-loop
-invariant-loop g l = IsSameChapterConsumer l.fn.consumer l.consumer
