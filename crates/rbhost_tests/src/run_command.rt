@@ -39,4 +39,3 @@ fn four_workers_submit_what_they_were_granted(rt: HostRuntime) {
     assert_eq!(rt; (workers, text.as_str().lines().count()), (4, 6));
     assert!(rt; text.as_str().ends_with(end.as_str()), "of {text}");
 }
-

@@ -54,4 +54,3 @@ fn writes_that_fail(rt: HostRuntime) {
     });
     assert_eq!(rt; printed(rt.alloc(), &ONE_RECORD[..12], 100).0, refused);
 }
-
