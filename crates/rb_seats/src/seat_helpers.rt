@@ -1,6 +1,6 @@
 //! Helpers over the seats of one worker.
 
-ghost use Rattle.std.specs.Prelude.{◌≡◌, ◌≢◌, ◌↔◌, ◌⊎◌, ◌+◌, ◌<◌, ◌≤◌, pos, neg_ℤ, true, false, [], ◌∷◌, ◌++◌, IfOk, IfErr, IfSome, IsErr, IsErrOf, is_ok, is_some, length, replicate};
+ghost use Rattle.std.specs.Prelude.{◌≡◌, ◌≢◌, ◌↔◌, ◌⊎◌, ◌+◌, ◌<◌, ◌≤◌, pos, neg_ℤ, refl, true, false, [], ◌∷◌, ◌++◌, IfOk, IfErr, IfSome, IsErr, IsErrOf, is_ok, is_some, length, replicate};
 ghost use Rattle.rb_helpers.specs.declared.done.Done.TheVariants.{Reserve, Submit, Discard, Output, Query};
 ghost use Rattle.rb_helpers.specs.AnsweredCalls.{Reserved, Submitted, Discarded, SentOut, Queried};
 ghost use Rattle.rb_helpers.specs.ErrorNumbers.{EAGAIN, EINVAL};
@@ -268,6 +268,16 @@ impl<'h, R: Wait, S: Stock> Helpers for SeatHelpers<'h, R, S> {
     ghost has_ring = { has_number };
 
     ghost leads = { Leads };
+
+    ghost keeps_records = { false };
+
+    ghost keeps = { λ h r. ⊥ };
+
+    ghost number_of = { λ r. 0 };
+
+    ghost kept_written = { λ h r w kept. kept };
+
+    ghost number_stays = { λ r w. refl };
 
     ghost leads_by_none = { none_called };
 
