@@ -33,8 +33,8 @@ pub trait Helpers {
     /// Whether the helpers keep this record, with the bytes that it has.
     ghost keeps: { Self → Self.Record → Type 0 };
 
-    /// A number of a record, by which records that are kept at once differ.
-    ghost number_of: { Self.Record → ℕ };
+    /// A record's name: the number of its ring, and one of its own there. Records that are kept at once have different names.
+    ghost name_of: { Self.Record → ℕ × ℕ };
 
     /// A record of `n` zero bytes in the ring of this number, or null, which is `None` (bpf_ringbuf_reserve).
     fn reserve(&mut self, ring: u32, n: u32, flags: u64) -> Option<Self::Record>
@@ -44,7 +44,7 @@ pub trait Helpers {
         ensures room { room_of self.new + 1 ≡ room_of self.old }
         ensures rings { has_ring self.new ≡ has_ring self.old }
         ensures called { leads self.old (Reserved ring n flags result ∷ []) self.new }
-        ensures kept { keeps_records ≡ true → IfSome result (λ r. keeps self.new r × ((s : Self.Record) → keeps self.old s → number_of s ≢ number_of r)) }
+        ensures kept { keeps_records ≡ true → IfSome result (λ r. keeps self.new r × ((s : Self.Record) → keeps self.old s → name_of s ≢ name_of r)) }
         ensures still_kept { (s : Self.Record) → keeps self.old s → keeps self.new s }
         ensures zeros { IfSome result (λ r. Self.Record.bytes_of r ≡ replicate n 0) };
 
@@ -57,7 +57,7 @@ pub trait Helpers {
         ensures called { leads self.old (Submitted owned flags (is_ok result) ∷ []) self.new }
         ensures never_back { keeps self.old owned → is_ok result ≡ true }
         ensures let_go { keeps self.new owned → ⊥ }
-        ensures still_kept { (s : Self.Record) → keeps self.old s → number_of s ≢ number_of owned → keeps self.new s }
+        ensures still_kept { (s : Self.Record) → keeps self.old s → name_of s ≢ name_of owned → keeps self.new s }
         ensures handed_back { IfErr result (λ back. back ≡ owned) };
 
     /// Takes the record, to be passed over, or refuses it and hands the very record back (bpf_ringbuf_discard).
@@ -69,7 +69,7 @@ pub trait Helpers {
         ensures called { leads self.old (Discarded owned flags (is_ok result) ∷ []) self.new }
         ensures never_back { keeps self.old owned → is_ok result ≡ true }
         ensures let_go { keeps self.new owned → ⊥ }
-        ensures still_kept { (s : Self.Record) → keeps self.old s → number_of s ≢ number_of owned → keeps self.new s }
+        ensures still_kept { (s : Self.Record) → keeps self.old s → name_of s ≢ name_of owned → keeps self.new s }
         ensures handed_back { IfErr result (λ back. back ≡ owned) };
 
     /// Outputs a copy of the bytes to the ring. The answer is 0, or a failure below it, as `-EINVAL` or `-EAGAIN`
@@ -108,8 +108,8 @@ pub trait Helpers {
     /// A record is kept whatever is written to it.
     ghost kept_written: { (h : Self) (r : Self.Record) (w : List ℕ) → keeps h r → keeps h (Self.Record.with_bytes r w) };
 
-    /// A record has its number whatever is written to it.
-    ghost number_stays: { (r : Self.Record) (w : List ℕ) → number_of (Self.Record.with_bytes r w) ≡ number_of r };
+    /// A record has its name whatever is written to it.
+    ghost name_stays: { (r : Self.Record) (w : List ℕ) → name_of (Self.Record.with_bytes r w) ≡ name_of r };
 
     /// Calls, and then calls from where those led, lead the whole way.
     ghost leads_on: { (a b c : Self) (first more : List (AnsweredCall Self.Record)) → leads a first b → leads b more c → leads a (first ++ more) c };

@@ -91,11 +91,11 @@ impl Helpers for Listed {
 
     ghost keeps = { λ h r. ⊥ };
 
-    ghost number_of = { λ r. 0 };
+    ghost name_of = { λ r. (0, 0) };
 
     ghost kept_written = { λ h r w kept. kept };
 
-    ghost number_stays = { λ r w. refl };
+    ghost name_stays = { λ r w. refl };
 
     ghost leads_by_none = { none_called };
 

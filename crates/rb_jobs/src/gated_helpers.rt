@@ -74,11 +74,11 @@ impl<'g, H: Helpers + Drop, G: Gate> Helpers for GatedHelpers<'g, H, G> {
 
     ghost keeps = { λ g. H.keeps g.inner };
 
-    ghost number_of = { H.number_of };
+    ghost name_of = { H.name_of };
 
     ghost kept_written = { λ g. H.kept_written g.inner };
 
-    ghost number_stays = { H.number_stays };
+    ghost name_stays = { H.name_stays };
 
     ghost leads_by_none = { λ g. (H.leads_by_none g.inner, none_counted g.calls) };
 
