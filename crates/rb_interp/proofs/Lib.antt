@@ -15,3 +15,4 @@ mod HeldRecords
 mod Reaching
 mod RunSteps
 mod Advancing
+mod KeptRecords

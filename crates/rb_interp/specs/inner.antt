@@ -6,3 +6,4 @@ pub mod KeptPointers
 pub mod NearOffsets
 pub mod PendingRequests
 pub mod RegisterValues
+pub mod KeptRecords

@@ -1,0 +1,2 @@
+mod HandLock
+pub mod NoStranger
