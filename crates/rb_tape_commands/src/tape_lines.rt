@@ -10,7 +10,6 @@ use crate::lines::Lines;
 use crate::tape_refusal::TapeRefusal;
 use itoa::Buffer;
 use rb_reader::{Feed, Record};
-use std::alloc::AllocError;
 
 // What a line takes but for its hex digits, at most: its words, two numbers of 20 and 10 digits, and its end.
 const FRAME: usize = 64;
