@@ -1,4 +1,4 @@
--- The roles of seats that are gathered.
+-- The roles of seats that are gathered, and when a seat's numbers are its own (own).
 use Rattle.std.specs.Prelude.{List, [], ◌∷◌}
 use Rattle.rb_ledger.specs.Roles.Role.{Worker}
 use Rattle.rb_ledger.specs.RoleKnowledge.{RoleKnowledge, role_knowledge}

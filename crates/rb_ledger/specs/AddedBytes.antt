@@ -1,4 +1,4 @@
--- What the entries of a step add to the bytes that a role sent or got.
+-- What the entries of a step add to the bytes that a role sent or got (own).
 use Rattle.std.specs.Prelude.{ℕ, List, [], ◌∷◌, Option, Some, None}
 use Rattle.std.specs.FinMap.{get, insert}
 use Rattle.rb_history.specs.declared.entries.Entry.{Entry}
