@@ -1,7 +1,9 @@
-"""Compares what the program rb_program_rows answers to rows over drawn programs with the model."""
+"""Compares what the program rb_program_rows answers to rows over drawn programs, and the answers that are stored, with the model."""
 import collections
+import re
 
 from program_draws import drawn_rows
+from program_rows import answers_compute, answers_run, answers_shape, answers_units, answers_verify
 
 # How many drawn programs one run answers, and how many rows are shown that it answers otherwise.
 BATCH = 2000
@@ -43,4 +45,55 @@ def compare(count, seed, answered):
                 print(f"program {number}\n  {name}\n  {row}\n  model   {' or '.join(allowed)}\n  program {found}")
     print(f"programs {count} rows {rows} different {different}")
     print(", ".join(f"{kind} {times}" for kind, times in sorted(outcomes.items())))
+    return 1 if different else 0
+
+
+def in_place(line, names):
+    """The line with each name in braces replaced by its text."""
+    return re.sub(r"\{(\w+)\}", lambda name: names.get(name[1], name[0]), line)
+
+
+def allowed_by_model(line):
+    """What the model allows to answer to a row, or none where it does not speak of such a row."""
+    word, _, rest = line.partition(" ")
+    try:
+        match word:
+            case "units":
+                return answers_units(bytes.fromhex(rest))
+            case "shape":
+                return answers_shape(bytes.fromhex(rest))
+            case "verify":
+                context, rings, program = rest.split(" ", 2)
+                return answers_verify(bytes.fromhex(program), int(context), int(rings))
+            case "run":
+                context, rings, memory, given, program = rest.split(" ", 4)
+                return answers_run(bytes.fromhex(program), (int(context), int(rings)), bytes.fromhex(memory.strip("-")), given)
+            case "compute":
+                dst, src, insn = rest.split(" ")
+                return answers_compute(int(dst, 0) % 2**64, int(src, 0) % 2**64, bytes.fromhex(insn))
+    except ValueError:
+        pass
+    return None
+
+
+def stored(rows, answers):
+    """Compares stored answers with the model where it speaks of their rows; 1 where one differs."""
+    names, spoken, different, lines = {}, 0, 0, iter(answers.split("\n"))
+    found = next(lines)
+    for number, row in enumerate(rows.split("\n"), 1):
+        if row.startswith(("name ", "repeat ")):
+            word, name, text = row.split(" ", 2)
+            count, text = (1, text) if word == "name" else text.split(" ", 1)
+            names[name] = in_place(text, names) * int(count)
+            continue
+        allowed = None if row.startswith("#") else allowed_by_model(in_place(row, names))
+        if allowed:
+            spoken += 1
+            if found not in allowed:
+                different += 1
+                print(f"row {number}: {row[:100]}\n  model   {' or '.join(allowed)}\n  stored  {found}")
+        found = next(lines, "")
+        while row.startswith(("rbhost ", "listing ")) and found.startswith(("out ", "err ", " ")):
+            found = next(lines, "")
+    print(f"rows {spoken} different {different}")
     return 1 if different else 0

@@ -24,6 +24,8 @@ def answers_shape(code):
 
 def refusals(code, context, rings):
     """The instructions of an accepted program, and the answers of a refused one: one for each rule that is broken."""
+    if context > 65_536 or rings > 16:
+        return None, ["out of bounds"]
     try:
         return verified(code, context, rings), []
     except Fault as fault:
@@ -63,4 +65,6 @@ def answers_compute(dst, src, code):
     insn = insn_at(code, 0)
     if insn.kind == "branch":
         return ["jumps" if jumps(insn, dst, src) else "goes on"]
+    if insn.kind not in ("mov", "binary", "neg", "end"):
+        return ["computes nothing"]
     return [f"{value_of(insn, dst, src):#x}"]

@@ -1,11 +1,20 @@
-//! Tests of the other crates' public calls where the chains meet: whole programs, helpers over seats, and jobs.
+//! Tests of the other crates' public calls that are no rows: laws, the helpers' list, references, single instructions of a program, helpers over seats,
+//! jobs, and worlds. Programs and what is said of them are rows of `rb_program_rows`.
 #![tactic(auto)]
 
 #[cfg(test)]
 mod jobs;
 #[cfg(test)]
+mod laws;
+#[cfg(test)]
+mod listed_helpers;
+#[cfg(test)]
 mod programs;
+#[cfg(test)]
+mod references;
 #[cfg(test)]
 mod seats;
 #[cfg(test)]
 mod shared;
+#[cfg(test)]
+mod worlds;

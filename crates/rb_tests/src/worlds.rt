@@ -1,4 +1,9 @@
-//! Programs and worlds for the tests.
+//! Worlds by public calls alone: worked scripts, and every order of the calls of workers and consumers. Here are the programs and worlds that those tests share.
+
+mod chapters;
+mod orders;
+mod refusals;
+mod scripts;
 
 use rb_cfg::shape;
 use rb_decode::from_text;
