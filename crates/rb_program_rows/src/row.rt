@@ -8,7 +8,7 @@ use crate::explained::{Part, answer_explain};
 use crate::numbers::{number_of, two_numbers_and_rest, unit_and_rest};
 use crate::runs::answer_run;
 use crate::shapes::{answer_edges, answer_shape};
-use crate::steps::{answer_join, answer_step, answer_step_in_place};
+use crate::steps::{Way, answer_join, answer_step};
 use crate::verified::answer_verify;
 use rb_insn::Reg;
 use rb_refs::{Helper, Limits};
@@ -44,10 +44,8 @@ enum Row<'a> {
     Assembly(&'a str),
     // `listing CONTEXT RINGS HEX`, `explained ..` and `advice CONTEXT RINGS COUNT HEX`: a part of what is explained of a program.
     Explain((u64, u64), Part, &'a str),
-    // `step CONTEXT RINGS UNIT STATE HEX`: a step of the verifier.
-    Step(Limits, u32, &'a str, &'a str),
-    // `step-in-place CONTEXT RINGS UNIT STATE HEX`: the same, in place.
-    StepInPlace(Limits, u32, &'a str, &'a str),
+    // `step CONTEXT RINGS UNIT STATE HEX` and `step-in-place ..`: a step of the verifier.
+    Step((Way, Limits, u32), &'a str, &'a str),
     // `join STATE STATE`: what two states have in common.
     Join(&'a str, &'a str),
     // `rbhost WORDS < TEXT` or `rbhost WORDS : HEX`: a command line of `rbhost` over an input.
@@ -110,14 +108,8 @@ fn row_of(line: &str) -> Option<Row<'_>> {
             let (dst, src, hex) = two_numbers_and_rest(rest)?;
             Some(Row::Compute(dst, src, hex))
         }
-        "step" => {
-            let (limits, unit, state, hex) = step_of(rest)?;
-            Some(Row::Step(limits, unit, state, hex))
-        }
-        "step-in-place" => {
-            let (limits, unit, state, hex) = step_of(rest)?;
-            Some(Row::StepInPlace(limits, unit, state, hex))
-        }
+        "step" => step_of(Way::Copied, rest),
+        "step-in-place" => step_of(Way::InPlace, rest),
         "join" => {
             let (first, second) = rest.split_once(' ')?;
             Some(Row::Join(first, second))
@@ -137,13 +129,12 @@ fn run_of(words: &str) -> Option<Row<'_>> {
     Some(Row::Run((ctx_len, rings), context, answers, hex))
 }
 
-// A step of the verifier: the limits, the unit, the state, and the instruction.
-fn step_of(words: &str) -> Option<(Limits, u32, &str, &str)> {
+fn step_of(way: Way, words: &str) -> Option<Row<'_>> {
     let (ctx_len, rest) = unit_and_rest(words)?;
     let (rings, rest) = unit_and_rest(rest)?;
     let (unit, rest) = unit_and_rest(rest)?;
     let (state, hex) = rest.split_once(' ')?;
-    Some((Limits { ctx_len, rings }, unit, state, hex))
+    Some(Row::Step((way, Limits { ctx_len, rings }, unit), state, hex))
 }
 
 fn answer_row<R: Threads + Wait + Sync + Files<File = File>>(
@@ -166,10 +157,7 @@ fn answer_row<R: Threads + Wait + Sync + Files<File = File>>(
         Row::Assembly(hex) => answer_assembly(alloc, hex, out),
         Row::Explain(bounds, part, hex) => answer_explain(alloc, bounds, part, hex, out),
         Row::Compute(dst, src, hex) => answer_compute(alloc, dst, src, hex, out),
-        Row::Step(limits, unit, state, hex) => answer_step(alloc, limits, unit, state, hex, out),
-        Row::StepInPlace(limits, unit, state, hex) => {
-            answer_step_in_place(alloc, limits, unit, state, hex, out)
-        }
+        Row::Step(step, state, hex) => answer_step(alloc, step, state, hex, out),
         Row::Join(first, second) => answer_join(alloc, first, second, out),
         Row::CommandLine(line) => answer_command_line(rt, alloc, line, out),
         Row::Helper(number) => answer_helper(number, out),

@@ -8,11 +8,20 @@ use rb_refs::{AbsState, Effect, Limits, StepFault, below, join, step, step_in_pl
 use std::alloc::{AllocError, Global};
 use std::fmt::Write;
 
-/// The rule that an instruction at a unit breaks in a state, or what it changes along its edges.
+/// How a step is taken.
+#[derive(Clone, Copy)]
+pub(crate) enum Way {
+    /// From the state to two others.
+    Copied,
+    /// In the state itself.
+    InPlace,
+}
+
+/// The rule that an instruction at a unit breaks in a state, or what it changes along its edges; of a step in place also whether both edges
+/// have one state.
 pub(crate) fn answer_step(
     alloc: Global,
-    limits: Limits,
-    unit: u32,
+    (way, limits, unit): (Way, Limits, u32),
     state: &str,
     hex: &str,
     out: &mut String,
@@ -20,9 +29,10 @@ pub(crate) fn answer_step(
     let Some(insn) = insn_of(alloc, hex) else {
         return out.push_str("no instruction");
     };
-    match state_of(alloc, state)? {
-        Some(state) => tell_step(limits, unit, &insn, &state, out),
-        None => out.push_str("no state"),
+    match (state_of(alloc, state)?, way) {
+        (Some(state), Way::Copied) => tell_step(limits, unit, &insn, &state, out),
+        (Some(state), Way::InPlace) => tell_step_in_place(limits, unit, &insn, &state, out),
+        (None, _) => out.push_str("no state"),
     }
 }
 
@@ -53,24 +63,6 @@ fn tell_fault(fault: StepFault, out: &mut String) -> Result<(), AllocError> {
     match fault {
         StepFault::Rule(rule) => write!(out, "V{}", rule.number()),
         StepFault::Memory => out.push_str("refused memory"),
-    }
-}
-
-/// The same of a step that is taken in place, and whether it leads along both edges to one state.
-pub(crate) fn answer_step_in_place(
-    alloc: Global,
-    limits: Limits,
-    unit: u32,
-    state: &str,
-    hex: &str,
-    out: &mut String,
-) -> Result<(), AllocError> {
-    let Some(insn) = insn_of(alloc, hex) else {
-        return out.push_str("no instruction");
-    };
-    match state_of(alloc, state)? {
-        Some(state) => tell_step_in_place(limits, unit, &insn, &state, out),
-        None => out.push_str("no state"),
     }
 }
 
