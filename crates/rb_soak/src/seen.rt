@@ -1,7 +1,7 @@
 //! What a consumer has seen of its ring's records.
 
 use crate::bytes::are_right;
-use rb_consumer::{Event, Item};
+use rb_tape::{Event, Item};
 use rb_header::span;
 use std::alloc::{AllocError, Global};
 
