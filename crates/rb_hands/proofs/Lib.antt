@@ -1,0 +1,4 @@
+mod ChangedHands
+mod BusyEntries
+mod FourHands
+mod HandCalls
