@@ -1,8 +1,8 @@
 //! A sink that writes a tape.
 
 use rb_chapter::Chapter;
-use rb_tape::{Event, Item, TapeWriter};
 use rb_header::span;
+use rb_tape::{Event, Item, TapeWriter};
 use rb_workers::Sink;
 use std::io::Write;
 use std::marker::Model;

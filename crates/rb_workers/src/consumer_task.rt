@@ -10,9 +10,9 @@ ghost use Rattle.rb_workers.specs.inner.ConsumerTasks.{IsConsumerTaskOf, IsSameC
 use crate::pace::Pace;
 use crate::sink::Sink;
 use rb_consumer::{Batch, Keeper};
-use rb_tape::{Item, Items};
 use rb_seats::Stock;
 use rb_shared_ring::{ConsumerSeat, Foreign, Seat, SharedRing};
+use rb_tape::{Item, Items};
 use std::sync::Wait;
 use std::sync::atomic::{AtomicBool, Ordering};
 
