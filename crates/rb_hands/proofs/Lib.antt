@@ -1,4 +1,4 @@
-mod ChangedHands
-mod BusyEntries
+pub mod ChangedHands
+pub mod BusyEntries
 mod FourHands
 mod HandCalls
