@@ -1,12 +1,15 @@
 //! The examples of the crates' module docs, line by line.
 
+use rb_chapter::Chapter;
+use rb_chapter_ring::RingState;
 use rb_header::{Header, span};
 use rb_history::{
     Entry, FORCE_WAKEUP, NO_WAKEUP, Notice, OpenFault, Taken, check_setup, notice_for,
 };
 use rb_lend::{Lent, Sheet};
 use rb_parts::{Part, Parts, Slot};
-use rb_ring_list::RingState;
+use rb_ring_list::RingState as ListState;
+use std::process::Abort;
 use std::test::Fail;
 
 #[test]
@@ -56,7 +59,7 @@ fn example_of_rb_history(rt: HostRuntime) {
 
 #[test]
 fn example_of_rb_ring_list(rt: HostRuntime) -> Result<(), Fail> {
-    let mut ring = RingState::new(rt.alloc(), 4096, 0, 1)?;
+    let mut ring = ListState::new(rt.alloc(), 4096, 0, 1)?;
     let Ok(mut record) = ring.reserve(0, 4, Sheet::new(rt.alloc(), 4)?) else {
         return Err(Fail::from("no record"));
     };
@@ -65,4 +68,21 @@ fn example_of_rb_ring_list(rt: HostRuntime) -> Result<(), Fail> {
     assert!(rt; matches!(ring.take(), Taken::Event(0, 0, 0, _)));
     assert_eq!(rt; ring.counts().consumed, 1);
     Ok(())
+}
+
+#[test]
+fn example_of_rb_chapter_ring(rt: HostRuntime) {
+    let Ok(mut ring) = RingState::new(rt.alloc(), 4096, 0, 1, 8) else {
+        rt.panic("no ring")
+    };
+    let Ok(record) = ring.reserve(0, 4, Sheet::new(rt.alloc(), 4).expect(&rt, "memory")) else {
+        rt.panic("no record")
+    };
+    assert!(rt; matches!(&ring.submit(record, 0), Ok(Notice::Due)));
+    let empty = Chapter::new(rt.alloc(), 8, 1).expect(&rt, "memory");
+    let Ok(chapter) = ring.hand_out(empty) else {
+        rt.panic("no chapter")
+    };
+    assert_eq!(rt; (chapter.number(), chapter.used()), (0, 2));
+    assert!(rt; matches!(&ring.take(), Taken::Event(0, 0, 0, _)));
 }

@@ -1,0 +1,165 @@
+//! What the calls of a ring answer, as text. Each word and number is told behind a space.
+
+use crate::text::Text;
+use rb_chapter::Chapter;
+use rb_chapter_ring::{OpenFault, ReserveFault};
+use rb_history::{Counts, Entry, Notice, Reservation, Stray, Taken, Tally};
+use rb_lend::{Lent, Sheet};
+
+/// A granted record: its four numbers and its bytes.
+pub(crate) fn tell_granted(out: &mut Text, record: &Reservation) {
+    out.word("granted");
+    tell_record(out, record);
+    out.word("bytes");
+    out.bytes(record.bytes());
+}
+
+/// A reservation that was handed back.
+pub(crate) fn tell_stray(out: &mut Text, record: &Reservation) {
+    out.word("stray");
+    tell_record(out, record);
+}
+
+/// The four numbers of a reservation.
+pub(crate) fn tell_record(out: &mut Text, record: &Reservation) {
+    out.field("pos", record.pos());
+    out.field("worker", u64::from(record.worker()));
+    out.field("serial", record.serial());
+    out.field("len", u64::from(record.len()));
+}
+
+/// Why no record was granted, and the sheet that was handed back.
+pub(crate) fn tell_refusal(out: &mut Text, fault: &str, back: &Sheet) {
+    out.word("refused");
+    out.word(fault);
+    out.word("back");
+    out.bytes(back.bytes());
+}
+
+/// Whether a notice is due.
+pub(crate) fn tell_notice(out: &mut Text, notice: Notice) {
+    match notice {
+        Notice::Due => out.word("due"),
+        Notice::NotDue => {
+            out.word("not");
+            out.word("due");
+        }
+    }
+}
+
+/// What a take found.
+pub(crate) fn tell_taken(out: &mut Text, taken: &Taken) {
+    match taken {
+        Taken::Event(pos, worker, serial, sheet) => {
+            out.word("event");
+            out.field("pos", *pos);
+            out.field("worker", u64::from(*worker));
+            out.field("serial", *serial);
+            out.field("len", u64::from(sheet.len()));
+            out.word("bytes");
+            out.bytes(sheet.bytes());
+        }
+        Taken::Skipped(pos, len) => {
+            out.word("skipped");
+            out.field("pos", *pos);
+            out.field("len", u64::from(*len));
+        }
+        Taken::BusyFront => out.word("busy"),
+        Taken::Empty => out.word("empty"),
+    }
+}
+
+/// How many records were taken, and each of them.
+pub(crate) fn tell_all_taken(out: &mut Text, many: usize, taken: &[Taken]) {
+    out.field("took", many as u64);
+    for one in taken {
+        out.push(";");
+        tell_taken(out, one);
+    }
+}
+
+/// The six counts.
+pub(crate) fn tell_counts(out: &mut Text, counts: Counts) {
+    out.field("made", counts.made);
+    out.field("refused", counts.refused);
+    out.field("consumed", counts.consumed);
+    out.field("discarded", counts.discarded);
+    out.field("waiting", counts.waiting);
+    out.field("busy", counts.busy);
+}
+
+/// A worker's four numbers.
+pub(crate) fn tell_tally(out: &mut Text, tally: Tally) {
+    out.field("made", tally.made);
+    out.field("refused", tally.refused);
+    out.field("submitted", tally.submitted);
+    out.field("discarded", tally.discarded);
+}
+
+/// How many entries there are, and each of them: `res W K N P`, `full W N`, `sub P`, `dis P` or `take P`.
+pub(crate) fn tell_entries(out: &mut Text, entries: &[Entry]) {
+    out.number(entries.len() as u64);
+    for entry in entries {
+        out.push(";");
+        tell_entry(out, *entry);
+    }
+}
+
+fn tell_entry(out: &mut Text, entry: Entry) {
+    match entry {
+        Entry::Res(worker, serial, len, pos) => {
+            out.field("res", u64::from(worker));
+            out.number(serial);
+            out.number(u64::from(len));
+            out.number(pos);
+        }
+        Entry::Full(worker, len) => {
+            out.field("full", u64::from(worker));
+            out.number(u64::from(len));
+        }
+        Entry::Sub(pos) => out.field("sub", pos),
+        Entry::Dis(pos) => out.field("dis", pos),
+        Entry::Take(pos) => out.field("take", pos),
+    }
+}
+
+/// What a submit or a discard answered; the reservation that was handed back, where it was stray.
+pub(crate) fn tell_end(answer: Result<Notice, Stray>, out: &mut Text) -> Option<Reservation> {
+    match answer {
+        Ok(notice) => {
+            tell_notice(out, notice);
+            None
+        }
+        Err(Stray { reservation }) => {
+            tell_stray(out, &reservation);
+            Some(reservation)
+        }
+    }
+}
+
+/// The chapter that was handed out.
+pub(crate) fn tell_handed_out(out: &mut Text, chapter: &Chapter) {
+    out.field("chapter", chapter.number());
+    out.field("used", u64::from(chapter.used()));
+}
+
+/// Why a ring over chapters is not opened.
+pub(crate) fn open_word(fault: OpenFault) -> &'static str {
+    match fault {
+        OpenFault::Size => "refused size",
+        OpenFault::Start => "refused start",
+        OpenFault::Workers => "refused workers",
+        OpenFault::Chapter => "refused chapter",
+        OpenFault::Memory => "refused memory",
+    }
+}
+
+/// Why a ring over chapters grants no record.
+pub(crate) fn reserve_word(fault: ReserveFault) -> &'static str {
+    match fault {
+        ReserveFault::Full => "full",
+        ReserveFault::Flags => "flags",
+        ReserveFault::ChapterFull => "chapter full",
+        ReserveFault::Foreign => "foreign",
+    }
+}

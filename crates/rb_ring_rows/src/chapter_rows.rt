@@ -1,0 +1,133 @@
+//! Rows on chapters, which a ring keeps or a script has by name.
+
+use crate::answers::{tell_entries, tell_tally};
+use crate::row::Row;
+use crate::script::{Script, WRONG_WORDS, keep, narrow};
+use crate::text::Text;
+use rb_chapter::{Chapter, Opening, UntakenRecord, UntakenStatus};
+
+/// What a row on chapters answers.
+pub(crate) fn answer(script: &mut Script, row: &Row<'_>, out: &mut Text) {
+    match (row.verb, row.names.as_slice(), row.numbers.as_slice()) {
+        ("chapter", [name], [room, workers]) => {
+            make(script, name, narrow(*room), narrow(*workers), out)
+        }
+        ("clear", [name], []) => match script.chapters.get_mut(*name) {
+            Some(chapter) => {
+                chapter.clear();
+                out.word("cleared");
+            }
+            None => out.word("fault: no such chapter"),
+        },
+        ("after", [name, earlier], []) => open_after(script, name, earlier, out),
+        ("meets", [name, next], []) => {
+            match (script.chapters.get(*name), script.chapters.get(*next)) {
+                (Some(chapter), Some(next)) => out.word(yes_or_no(chapter.meets(next))),
+                _ => out.word("fault: no such chapter"),
+            }
+        }
+        (verb, [name], []) => show(script, verb, name, out),
+        _ => out.word(WRONG_WORDS),
+    }
+}
+
+fn yes_or_no(answer: bool) -> &'static str {
+    if answer { "yes" } else { "no" }
+}
+
+// Makes an empty chapter.
+fn make(script: &mut Script, name: &str, room: u32, workers: u32, out: &mut Text) {
+    if room < 8 || room > 1_048_576 || workers == 0 || workers > 256 {
+        return out.word("fault: out of bounds");
+    }
+    match Chapter::new(script.alloc, room, workers) {
+        Ok(chapter) => {
+            out.word("made");
+            keep(script.alloc, &mut script.chapters, name, chapter, out);
+        }
+        Err(_) => out.word("fault: no memory"),
+    }
+}
+
+// Opens a chapter after another, where it may.
+fn open_after(script: &mut Script, name: &str, earlier: &str, out: &mut Text) {
+    let Some(mut chapter) = script.chapters.remove(name) else {
+        return out.word("fault: no such chapter");
+    };
+    match script.chapters.get(earlier) {
+        Some(earlier) => {
+            if chapter.entries().is_empty()
+                && chapter.room() == earlier.room()
+                && chapter.opening().workers() == earlier.opening().workers()
+                && earlier.number() < 1 << 62
+            {
+                chapter.open_after(earlier);
+                out.field("chapter", chapter.number());
+            } else {
+                out.word("fault: unfit");
+            }
+        }
+        None => out.word("fault: no such chapter"),
+    }
+    keep(script.alloc, &mut script.chapters, name, chapter, out);
+}
+
+// Tells of the chapter that a ring keeps, or of that which has the name.
+fn show(script: &Script, verb: &str, name: &str, out: &mut Text) {
+    if let Some(twins) = script.rings.get(name) {
+        tell(verb, twins.chapter(), out);
+    } else if let Some(chapter) = script.chapters.get(name) {
+        tell(verb, chapter, out);
+    } else {
+        out.word("fault: no such chapter");
+    }
+}
+
+fn tell(verb: &str, chapter: &Chapter, out: &mut Text) {
+    match verb {
+        "show" => tell_numbers(chapter, out),
+        "opening" => tell_opening(chapter.opening(), out),
+        "closing" => tell_opening(chapter.closing(), out),
+        "entries" => tell_entries(out, chapter.entries()),
+        _ => out.word(WRONG_WORDS),
+    }
+}
+
+fn tell_numbers(chapter: &Chapter, out: &mut Text) {
+    out.field("number", chapter.number());
+    out.field("room", u64::from(chapter.room()));
+    out.field("used", u64::from(chapter.used()));
+    out.field("owed", u64::from(chapter.owed()));
+}
+
+// What a chapter begins with, or stands for at its end.
+fn tell_opening(opening: &Opening, out: &mut Text) {
+    out.field("size", opening.size());
+    out.field("start", opening.start());
+    out.field("workers", u64::from(opening.workers()));
+    out.field("producer", opening.producer());
+    out.field("consumer", opening.consumer());
+    out.field("consumed", opening.consumed());
+    out.field("skipped", opening.skipped());
+    for record in opening.records() {
+        out.push(";");
+        tell_untaken(record, out);
+    }
+    for tally in opening.tallies() {
+        out.push("; worker");
+        tell_tally(out, *tally);
+    }
+}
+
+fn tell_untaken(record: &UntakenRecord, out: &mut Text) {
+    let status = match record.status {
+        UntakenStatus::Busy => "busy",
+        UntakenStatus::Waiting => "waiting",
+        UntakenStatus::Discarded => "discarded",
+    };
+    out.word(status);
+    out.field("pos", record.pos);
+    out.field("worker", u64::from(record.worker));
+    out.field("serial", record.serial);
+    out.field("len", u64::from(record.len));
+}

@@ -1,0 +1,45 @@
+//! Sheets, as a caller makes them.
+
+ghost use Rattle.std.specs.Prelude.{◌≡◌, IfSome, length};
+
+use rb_lend::{Lent, Sheet};
+use std::alloc::Global;
+
+// The byte that fills a sheet before it is handed in.
+const FILL: u8 = 255;
+
+/// A sheet of these bytes.
+pub(crate) fn copied(alloc: Global, bytes: &[u8]) -> Option<Sheet> {
+    let Ok(n) = u32::try_from(bytes.len()) else {
+        return None;
+    };
+    let Ok(mut sheet) = Sheet::new(alloc, n) else {
+        return None;
+    };
+    sheet.bytes_mut().copy_from_slice(bytes);
+    Some(sheet)
+}
+
+/// A sheet of `n` bytes, all of which are 255.
+pub(crate) fn filled(alloc: Global, n: u32) -> Option<Sheet>
+    ensures { IfSome result (λ sheet. length sheet ≡ n) }
+{
+    let Ok(mut sheet) = Sheet::new(alloc, n) else {
+        return None;
+    };
+    sheet.bytes_mut().fill(FILL);
+    Some(sheet)
+}
+
+/// Writes bytes from byte `at` on, unless they do not fit.
+pub(crate) fn write_at<T: Lent>(target: &mut T, at: u64, bytes: &[u8]) -> bool {
+    let length = target.bytes().len();
+    let Ok(at) = usize::try_from(at) else {
+        return false;
+    };
+    if at > length || bytes.len() > length - at {
+        return false;
+    }
+    target.range_mut(at, bytes.len()).copy_from_slice(bytes);
+    true
+}

@@ -1,0 +1,111 @@
+//! Rows on tapes.
+
+ghost use Rattle.std.specs.Prelude.{◌<◌};
+
+use crate::text::Text;
+use rb_history::OpenFault;
+use rb_reader::{Feed, Record, Tape, TapeFault, TapeKind, count_records};
+use std::alloc::Global;
+
+// How long the pieces are in which a tape is fed.
+const PIECES: [usize; 5] = [1, 3, 7, 64, 4096];
+
+/// What a tape gives as a whole: its records, what is wrong behind them, and how many records are counted. Where it gives something else in
+/// pieces of some length, that too.
+pub(crate) fn tell_tape(alloc: Global, bytes: &[u8], size: u64, start: u64, out: &mut Text) {
+    match Tape::new(bytes, size, start) {
+        Ok(tape) => tell_whole(tape, out),
+        Err(fault) => tell_refused(fault, out),
+    }
+    if let Ok((records, _)) = count_records(bytes, size, start) {
+        out.field("records", records as u64);
+    }
+    for length in PIECES {
+        let mut told = Text::new(alloc);
+        match Feed::new(alloc, size, start) {
+            Ok(feed) => tell_pieces(feed, bytes, length, &mut told),
+            Err(fault) => tell_refused(fault, &mut told),
+        }
+        if told.as_str() != out.as_str() {
+            out.field("differs in pieces of", length as u64);
+            return out.push(told.as_str());
+        }
+    }
+}
+
+fn tell_refused(fault: OpenFault, out: &mut Text) {
+    match fault {
+        OpenFault::Size => out.word("refused size"),
+        OpenFault::Start => out.word("refused start"),
+        OpenFault::Workers => out.word("refused workers"),
+        OpenFault::Memory => out.word("refused memory"),
+    }
+}
+
+fn tell_whole(tape: Tape<'_>, out: &mut Text) {
+    let mut tape = tape;
+    while let Some(answer) = tape.next() {
+        match answer {
+            Ok(record) => tell_record(record, out),
+            Err(fault) => tell_fault(fault, out),
+        }
+    }
+}
+
+// The same of a tape that is fed in pieces.
+fn tell_pieces(feed: Feed, bytes: &[u8], length: usize, out: &mut Text)
+    requires { 0 < length }
+{
+    let mut feed = feed;
+    let mut records = 0;
+    for piece in bytes.chunks(length) {
+        if feed.feed(piece).is_ok() {
+            let read = tell_read(&mut feed, bytes.len(), out);
+            records = u64::wrapping_add(records, read);
+        }
+    }
+    if let Err(fault) = feed.end() {
+        tell_fault(fault, out);
+    }
+    out.field("records", records);
+}
+
+// Up to so many records that are there by now; how many they are.
+fn tell_read(feed: &mut Feed, most: usize, out: &mut Text) -> u64 {
+    for count in 0..most {
+        match feed.next() {
+            Some(Ok(record)) => tell_record(record, out),
+            Some(Err(_)) => return count as u64,
+            None => return count as u64,
+        }
+    }
+    most as u64
+}
+
+fn tell_record(record: Record<'_>, out: &mut Text) {
+    out.word(if record.discarded {
+        "discarded"
+    } else {
+        "event"
+    });
+    out.field("pos", record.pos);
+    out.field("len", u64::from(record.len));
+    if !record.discarded {
+        out.word("bytes");
+        out.bytes(record.bytes);
+    }
+    out.push(";");
+}
+
+fn tell_fault(fault: TapeFault, out: &mut Text) {
+    out.word(match fault.kind {
+        TapeKind::Busy => "busy",
+        TapeKind::Page => "page",
+        TapeKind::Padding => "padding",
+        TapeKind::TooLong => "too long",
+        TapeKind::DiscardedBytes => "discarded bytes",
+        TapeKind::Truncated => "truncated",
+        TapeKind::Memory => "memory",
+    });
+    out.field("at", fault.offset);
+}

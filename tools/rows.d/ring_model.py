@@ -1,0 +1,294 @@
+"""A plain model of rings, and what the rows of rb_ring_rows answer by it.
+
+Written from Linux Documentation/bpf/ringbuf.rst, bpf-helpers(7), docs/DEFINITIONS.md and docs/DECISIONS.md, apart from the crates.
+"""
+import dataclasses
+
+WRONG_WORDS = "fault: wrong words"
+LONGEST = 1 << 26
+MOST_TAKEN = 1 << 16
+MOST_BYTES = 1 << 20
+POSITION_LIMIT = 1 << 62
+UNSIGNED_32 = (1 << 32) - 1
+NO_WAKEUP, FORCE_WAKEUP = 1, 2
+
+
+def span(length):
+    """How many bytes a record takes: eight for its header, and its bytes up to a multiple of eight."""
+    return 8 + (length + 7) // 8 * 8
+
+
+def is_size(size):
+    return 4096 <= size <= 1 << 26 and size & (size - 1) == 0
+
+
+def is_start(start):
+    return start % 8 == 0 and start <= 1 << 61
+
+
+def is_worker_count(workers):
+    return 1 <= workers <= 256
+
+
+def refused_number(size, start, workers):
+    """The first number that no ring has, or None."""
+    if not is_size(size):
+        return "size"
+    if not is_start(start):
+        return "start"
+    return None if is_worker_count(workers) else "workers"
+
+
+def is_due(consumer, pos, flags):
+    if flags & FORCE_WAKEUP:
+        return True
+    return not flags & NO_WAKEUP and pos == consumer
+
+
+def notice(due):
+    return " due" if due else " not due"
+
+
+def runs(data):
+    """Bytes in hex, each run of equal ones once, with its length where that is not 1."""
+    if not data:
+        return " none"
+    text, at = "", 0
+    while at < len(data):
+        end = at
+        while end < len(data) and data[end] == data[at]:
+            end += 1
+        text += f" {data[at]:02x}" + (f"*{end - at}" if end - at != 1 else "")
+        at = end
+    return text
+
+
+@dataclasses.dataclass
+class Record:
+    pos: int
+    worker: int
+    serial: int
+    length: int
+    status: str = "busy"
+    data: bytes = b""
+
+    def numbers(self):
+        return f" pos {self.pos} worker {self.worker} serial {self.serial} len {self.length}"
+
+
+@dataclasses.dataclass
+class Reservation:
+    """What a worker holds of a record: its numbers as they were granted, and the bytes that it wrote."""
+
+    record: Record
+    data: bytearray
+
+
+class Tally:
+    def __init__(self, made=0, refused=0, submitted=0, discarded=0):
+        self.made, self.refused, self.submitted, self.discarded = made, refused, submitted, discarded
+
+    def copy(self):
+        return Tally(self.made, self.refused, self.submitted, self.discarded)
+
+    def text(self):
+        return f" made {self.made} refused {self.refused} submitted {self.submitted} discarded {self.discarded}"
+
+
+@dataclasses.dataclass
+class Standing:
+    """What a history stands for at one of its points."""
+
+    size: int
+    start: int
+    producer: int
+    consumer: int
+    records: list
+    tallies: list
+    consumed: int = 0
+    skipped: int = 0
+
+    def copy(self):
+        return dataclasses.replace(
+            self, records=[dataclasses.replace(r) for r in self.records], tallies=[t.copy() for t in self.tallies]
+        )
+
+    def text(self):
+        text = (
+            f" size {self.size} start {self.start} workers {len(self.tallies)} producer {self.producer} consumer {self.consumer}"
+            f" consumed {self.consumed} skipped {self.skipped}"
+        )
+        for record in self.records:
+            text += f"; {record.status}{record.numbers()}"
+        for tally in self.tallies:
+            text += "; worker" + tally.text()
+        return text
+
+    def shown(self):
+        return self.text()
+
+
+class Chapter:
+    """Some entries of a ring's history, with what stood before them and what stands behind them."""
+
+    def __init__(self, room, workers, number=0, opening=None):
+        self.room, self.number, self.entries = room, number, []
+        self.opening = opening or Standing(0, 0, 0, 0, [], [Tally() for _ in range(workers)])
+        self.closing = self.opening.copy()
+
+    def owed(self):
+        return sum(2 if record.status == "busy" else 1 for record in self.closing.records)
+
+    def has_room_for(self, entries):
+        return len(self.entries) + self.owed() + entries <= self.room
+
+    def meets(self, other):
+        return (
+            other.number == self.number + 1
+            and other.room == self.room
+            and other.opening.shown() == self.closing.shown()
+        )
+
+    def numbers(self):
+        return f" number {self.number} room {self.room} used {len(self.entries)} owed {self.owed()}"
+
+
+def entries_text(entries):
+    return f" {len(entries)}" + "".join("; " + entry for entry in entries)
+
+
+class Ring:
+    """One ring, and the chapter that it keeps."""
+
+    def __init__(self, size, start, workers, room):
+        opening = Standing(size, start, start, start, [], [Tally() for _ in range(workers)])
+        self.chapter = Chapter(room, workers, 0, opening)
+
+    @property
+    def now(self):
+        return self.chapter.closing
+
+    def log(self, entry):
+        self.chapter.entries.append(entry)
+
+    def has_worker(self, worker):
+        return worker < len(self.now.tallies)
+
+    def grant(self, worker, length):
+        """The record that is granted, or why none is."""
+        now = self.now
+        end = now.producer + span(length)
+        if end > now.consumer + now.size - 1 or end > POSITION_LIMIT:
+            if not self.chapter.has_room_for(1):
+                return "chapter full"
+            now.tallies[worker].refused += 1
+            self.log(f"full {worker} {length}")
+            return "full"
+        if not self.chapter.has_room_for(3):
+            return "chapter full"
+        record = Record(now.producer, worker, now.tallies[worker].made, length)
+        self.log(f"res {worker} {record.serial} {length} {record.pos}")
+        now.records.append(record)
+        now.tallies[worker].made += 1
+        now.producer = end
+        return record
+
+    def settle(self, record, status, data=b""):
+        record.status, record.data = status, data
+        tally = self.now.tallies[record.worker]
+        if status == "waiting":
+            self.log(f"sub {record.pos}")
+            tally.submitted += 1
+        else:
+            self.log(f"dis {record.pos}")
+            tally.discarded += 1
+
+    def busy_record(self, held):
+        """The busy record with the four numbers of a reservation."""
+        for record in self.now.records:
+            if record.status == "busy" and record.numbers() == held.numbers():
+                return record
+        return None
+
+    def reserve(self, worker, length):
+        answer = self.grant(worker, length)
+        if isinstance(answer, str):
+            return f" refused {answer} back" + runs(b"\xff" * length), None
+        held = Reservation(dataclasses.replace(answer), bytearray(length))
+        return " granted" + answer.numbers() + " bytes" + runs(held.data), held
+
+    def end(self, held, status, flags):
+        record = self.busy_record(held.record)
+        if record is None:
+            return " stray" + held.record.numbers(), held
+        due = is_due(self.now.consumer, record.pos, flags)
+        self.settle(record, status, bytes(held.data))
+        return notice(due), None
+
+    def output(self, worker, data, flags):
+        if flags > 3:
+            return " refused flags back" + runs(data)
+        due = is_due(self.now.consumer, self.now.producer, flags)
+        answer = self.grant(worker, len(data))
+        if isinstance(answer, str):
+            return f" refused {answer} back" + runs(data)
+        self.settle(answer, "waiting", data)
+        return notice(due)
+
+    def take(self):
+        now = self.now
+        if not now.records:
+            return " empty"
+        if now.records[0].status == "busy":
+            return " busy"
+        record = now.records.pop(0)
+        self.log(f"take {record.pos}")
+        now.consumer += span(record.length)
+        if record.status == "discarded":
+            now.skipped += 1
+            return f" skipped pos {record.pos} len {record.length}"
+        now.consumed += 1
+        return " event" + record.numbers() + " bytes" + runs(record.data)
+
+    def take_many(self, most):
+        text, many = "", 0
+        while many < most:
+            one = self.take()
+            if one in (" empty", " busy"):
+                break
+            text, many = text + ";" + one, many + 1
+        return f" took {many}" + text
+
+    def query(self, what):
+        now = self.now
+        answers = [now.producer - now.consumer, now.size, now.consumer, now.producer]
+        return answers[what] if what < 4 else 0
+
+    def counts(self):
+        now = self.now
+        total = lambda name: sum(getattr(tally, name) for tally in now.tallies)
+        status = [record.status for record in now.records]
+        return (
+            f" made {total('made')} refused {total('refused')} consumed {now.consumed} discarded {total('discarded')}"
+            f" waiting {status.count('waiting')} busy {status.count('busy')}"
+        )
+
+    def hand_out(self, empty):
+        """The chapter that is handed out, or None where the other one is unfit."""
+        old = self.chapter
+        if empty.entries or empty.room != old.room or len(empty.opening.tallies) != len(self.now.tallies):
+            return None
+        self.chapter = Chapter(old.room, 0, old.number + 1, old.closing.copy())
+        return old
+
+    def bind(self, chapters):
+        chapters = chapters + [self.chapter]
+        if [chapter.number for chapter in chapters] != list(range(len(chapters))):
+            return " not bound number"
+        first = chapters[0].opening
+        is_first = first.producer == first.consumer == first.start and not first.records and is_size(first.size)
+        nothing = Tally().text()
+        is_first = is_first and not first.consumed and not first.skipped and all(t.text() == nothing for t in first.tallies)
+        if not is_first or not all(one.meets(other) for one, other in zip(chapters, chapters[1:])):
+            return " not bound opening"
+        return entries_text([entry for chapter in chapters for entry in chapter.entries])

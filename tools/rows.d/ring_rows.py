@@ -1,0 +1,333 @@
+"""What the rows of rb_ring_rows answer, by the plain model of rings."""
+import re
+
+import ring_model as model
+from ring_model import WRONG_WORDS, Chapter, Ring, Tally
+
+
+class Row:
+    """A row in its parts, as docs of the program have them: a verb, names, numbers, and bytes behind a colon."""
+
+    def __init__(self, line):
+        words, _, behind = line.partition(":")
+        self.verb, self.names, self.numbers, self.data = "", [], [], bytearray()
+        self.is_right = all(self.add_word(word) for word in words.split()) and all(map(self.add_run, behind.split()))
+
+    def add_word(self, word):
+        if re.match(r"[0-9]", word):
+            if not word.isdigit() or int(word) >= 1 << 64:
+                return False
+            self.numbers.append(int(word))
+        elif not re.match(r"[A-Za-z]", word):
+            return False
+        elif not self.verb:
+            self.verb = word
+        else:
+            self.names.append(word)
+        return True
+
+    def add_run(self, word):
+        run = re.fullmatch(r"([0-9a-fA-F]{2})(?:\*([0-9]+))?", word)
+        if not run:
+            return False
+        times = int(run[2]) if run[2] else 1
+        if len(self.data) + times > model.MOST_BYTES:
+            return False
+        self.data += bytes.fromhex(run[1]) * times
+        return True
+
+    def shape(self):
+        return self.verb, len(self.names), len(self.numbers)
+
+
+def narrow(number):
+    return min(number, model.UNSIGNED_32)
+
+
+class Script:
+    """What has a name in a script, and what its rows answer."""
+
+    def __init__(self):
+        self.rings, self.records, self.chapters = {}, {}, {}
+
+    def answer(self, line):
+        row = Row(line)
+        if not row.is_right:
+            return " fault: no word"
+        call = getattr(self, "call_" + row.verb, None)
+        if call is None:
+            return " fault: no such command"
+        return call(row)
+
+    def call_open(self, row):
+        if row.shape() != ("open", 1, 4):
+            return " " + WRONG_WORDS
+        size, start, workers, room = row.numbers
+        refused = model.refused_number(size, start, workers)
+        if refused is None and not 8 <= room <= 1 << 20:
+            refused = "chapter"
+        if refused:
+            return f" refused {refused}"
+        self.rings[row.names[0]] = Ring(size, start, workers, room)
+        return " opened"
+
+    def call_reserve(self, row):
+        if row.shape() != ("reserve", 2, 2) or row.numbers[1] > model.LONGEST:
+            return " " + WRONG_WORDS
+        ring, worker = self.rings.get(row.names[0]), narrow(row.numbers[0])
+        if ring is None:
+            return " fault: no such ring"
+        if not ring.has_worker(worker):
+            return " fault: no such worker"
+        answer, held = ring.reserve(worker, row.numbers[1])
+        if held:
+            self.records[row.names[1]] = held
+        return answer
+
+    def call_write(self, row):
+        if row.shape() != ("write", 1, 1):
+            return " " + WRONG_WORDS
+        held, at = self.records.get(row.names[0]), row.numbers[0]
+        if held is None:
+            return " fault: no such record"
+        if at + len(row.data) > len(held.data):
+            return " fault: outside"
+        held.data[at : at + len(row.data)] = row.data
+        return held.record.numbers() + " bytes" + model.runs(held.data)
+
+    def call_submit(self, row):
+        return self.end(row, "waiting")
+
+    def call_discard(self, row):
+        return self.end(row, "discarded")
+
+    def end(self, row, status):
+        if row.shape()[1:] != (2, 1):
+            return " " + WRONG_WORDS
+        ring = self.rings.get(row.names[0])
+        if ring is None:
+            return " fault: no such ring"
+        held = self.records.pop(row.names[1], None)
+        if held is None:
+            return " fault: no such record"
+        answer, stray = ring.end(held, status, row.numbers[0])
+        if stray:
+            self.records[row.names[1]] = stray
+        return answer
+
+    def call_output(self, row):
+        if row.shape() != ("output", 1, 2):
+            return " " + WRONG_WORDS
+        ring, worker = self.rings.get(row.names[0]), narrow(row.numbers[0])
+        if ring is None:
+            return " fault: no such ring"
+        if not ring.has_worker(worker):
+            return " fault: no such worker"
+        return ring.output(worker, bytes(row.data), row.numbers[1])
+
+    def asked(self, row):
+        """The ring that a row asks, or what is wrong with the row."""
+        if len(row.names) != 1:
+            return None, " " + WRONG_WORDS
+        ring = self.rings.get(row.names[0])
+        return ring, " fault: no such ring"
+
+    def call_take(self, row):
+        ring, fault = self.asked(row)
+        if ring is None:
+            return fault
+        if not row.numbers:
+            return ring.take()
+        if len(row.numbers) == 1 and row.numbers[0] <= model.MOST_TAKEN:
+            return ring.take_many(row.numbers[0])
+        return " " + WRONG_WORDS
+
+    def call_query(self, row):
+        ring, fault = self.asked(row)
+        if ring is None:
+            return fault
+        return f" {ring.query(row.numbers[0])}" if len(row.numbers) == 1 else " " + WRONG_WORDS
+
+    def call_counts(self, row):
+        ring, fault = self.asked(row)
+        if ring is None:
+            return fault
+        return " " + WRONG_WORDS if row.numbers else ring.counts()
+
+    def call_handout(self, row):
+        if row.shape() != ("handout", 2, 0):
+            return " " + WRONG_WORDS
+        ring = self.rings.get(row.names[0])
+        if ring is None:
+            return " fault: no such ring"
+        empty = self.chapters.get(row.names[1])
+        if empty is None:
+            return " fault: no such chapter"
+        chapter = ring.hand_out(empty)
+        if chapter is None:
+            return " unfit"
+        self.chapters[row.names[1]] = chapter
+        return f" chapter {chapter.number} used {len(chapter.entries)}"
+
+    def call_bind(self, row):
+        if not row.names or row.numbers:
+            return " " + WRONG_WORDS
+        ring, names = self.rings.get(row.names[0]), row.names[1:]
+        if ring is None:
+            return " fault: no such ring"
+        if len(set(names)) < len(names) or any(name not in self.chapters for name in names):
+            return " fault: no such chapter"
+        return ring.bind([self.chapters[name] for name in names])
+
+    def call_chapter(self, row):
+        if row.shape() != ("chapter", 1, 2):
+            return " " + WRONG_WORDS
+        room, workers = map(narrow, row.numbers)
+        if not 8 <= room <= 1 << 20 or not model.is_worker_count(workers):
+            return " fault: out of bounds"
+        self.chapters[row.names[0]] = Chapter(room, workers)
+        return " made"
+
+    def call_clear(self, row):
+        if row.shape() != ("clear", 1, 0):
+            return " " + WRONG_WORDS
+        old = self.chapters.get(row.names[0])
+        if old is None:
+            return " fault: no such chapter"
+        self.chapters[row.names[0]] = Chapter(old.room, len(old.opening.tallies))
+        return " cleared"
+
+    def call_after(self, row):
+        if row.shape() != ("after", 2, 0):
+            return " " + WRONG_WORDS
+        old, earlier = (self.chapters.get(name) for name in row.names)
+        if old is None or earlier is None or row.names[0] == row.names[1]:
+            return " fault: no such chapter"
+        if old.entries or old.room != earlier.room or len(old.opening.tallies) != len(earlier.opening.tallies):
+            return " fault: unfit"
+        self.chapters[row.names[0]] = Chapter(old.room, 0, earlier.number + 1, earlier.closing.copy())
+        return f" chapter {earlier.number + 1}"
+
+    def call_meets(self, row):
+        if row.shape() != ("meets", 2, 0):
+            return " " + WRONG_WORDS
+        one, other = (self.chapters.get(name) for name in row.names)
+        if one is None or other is None:
+            return " fault: no such chapter"
+        return " yes" if one.meets(other) else " no"
+
+    def chapter_named(self, row):
+        """The chapter that a ring keeps, or that which has the name; or what is wrong with the row."""
+        if row.shape()[1:] != (1, 0):
+            return None, " " + WRONG_WORDS
+        name = row.names[0]
+        chapter = self.rings[name].chapter if name in self.rings else self.chapters.get(name)
+        return chapter, " fault: no such chapter"
+
+    def call_show(self, row):
+        chapter, fault = self.chapter_named(row)
+        return fault if chapter is None else chapter.numbers()
+
+    def call_opening(self, row):
+        chapter, fault = self.chapter_named(row)
+        return fault if chapter is None else chapter.opening.text()
+
+    def call_closing(self, row):
+        chapter, fault = self.chapter_named(row)
+        return fault if chapter is None else chapter.closing.text()
+
+    def call_entries(self, row):
+        chapter, fault = self.chapter_named(row)
+        return fault if chapter is None else model.entries_text(chapter.entries)
+
+    def call_span(self, row):
+        return f" {model.span(narrow(row.numbers[0]))}" if len(row.numbers) == 1 else " fault: no such command"
+
+    def call_setup(self, row):
+        if len(row.numbers) != 3:
+            return " fault: no such command"
+        size, start, workers = row.numbers
+        tests = [(model.is_size(size), "size"), (model.is_start(start), "start"), (model.is_worker_count(workers), "workers")]
+        refused = model.refused_number(size, start, workers)
+        text = "".join(f" {word}" if holds else f" no {word}" for holds, word in tests)
+        return text + (f" refused {refused}" if refused else " allowed")
+
+    def call_notice(self, row):
+        return model.notice(model.is_due(*row.numbers)) if len(row.numbers) == 3 else " fault: no such command"
+
+    def call_encode(self, row):
+        if len(row.numbers) != 4:
+            return " fault: no such command"
+        length, busy, discard, page = row.numbers
+        if length >= 1 << 30 or (busy and discard):
+            return " " + WRONG_WORDS
+        word = length + (1 << 31 if busy else 0) + (1 << 30 if discard else 0)
+        return model.runs(word.to_bytes(4, "little") + narrow(page).to_bytes(4, "little"))
+
+    def call_decode(self, row):
+        if row.numbers:
+            return " fault: no such command"
+        if len(row.data) < 8:
+            return " " + WRONG_WORDS
+        word, page = int.from_bytes(row.data[:4], "little"), int.from_bytes(row.data[4:8], "little")
+        busy, discard = word >> 31, word >> 30 & 1
+        if busy and discard:
+            return " both bits"
+        return f" len {word % (1 << 30)} busy {busy} discard {discard} page {page}"
+
+    def call_tape(self, row):
+        if len(row.numbers) != 2:
+            return " fault: no such command"
+        size, start = row.numbers
+        refused = model.refused_number(size, start, 1)
+        return f" refused {refused}" if refused else read_tape(bytes(row.data), size, start)
+
+
+def read_tape(data, size, start):
+    """The records that a tape gives, what is wrong behind them, and how many they are."""
+    text, at, records = "", 0, 0
+    while at < len(data):
+        fault, record, taken = front_of_tape(data[at:], size, start + at)
+        if fault:
+            text += f" {fault} at {at}"
+            break
+        text, at, records = text + record, at + taken, records + 1
+    return f"{text} records {records}"
+
+
+def front_of_tape(data, size, position):
+    """The first record of what is left of a tape: its fault, or its text and span."""
+    if len(data) < 8:
+        return "truncated", "", 0
+    word, page = int.from_bytes(data[:4], "little"), int.from_bytes(data[4:8], "little")
+    length, discarded = word % (1 << 30), word >> 30 & 1
+    span = model.span(length)
+    if word >> 31:
+        return "busy", "", 0
+    if page != position % size // 4096:
+        return "page", "", 0
+    if span > size - 1 or position + span > model.POSITION_LIMIT:
+        return "too long", "", 0
+    if len(data) < span:
+        return "truncated", "", 0
+    payload, padding = data[8 : 8 + length], data[8 + length : span]
+    if discarded and any(payload):
+        return "discarded bytes", "", 0
+    if any(padding):
+        return "padding", "", 0
+    if discarded:
+        return "", f" discarded pos {position} len {length};", span
+    return "", f" event pos {position} len {length} bytes{model.runs(payload)};", span
+
+
+def answers(text):
+    """What the program prints of these rows."""
+    script, out = Script(), []
+    for line in text.removesuffix("\n").split("\n"):
+        if not line:
+            script = Script()
+        if not line or line.startswith("#"):
+            out.append(line)
+        else:
+            out.append(f"{line} ->{script.answer(line)}")
+    return "".join(line + "\n" for line in out)
