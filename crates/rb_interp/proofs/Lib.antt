@@ -14,3 +14,4 @@ pub mod Steady
 mod HeldRecords
 mod Reaching
 mod RunSteps
+mod KeptRecords

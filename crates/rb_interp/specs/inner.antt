@@ -5,3 +5,4 @@ pub mod KeptPointers
 pub mod NearOffsets
 pub mod PendingRequests
 pub mod RegisterValues
+pub mod KeptRecords

@@ -1,4 +1,4 @@
-use Rattle.std.proofs.Common.{◌≡◌, ap, ◌∙◌, arith, subst}
+use Rattle.std.proofs.Common.{◌≡◌, refl, ap, ◌∙◌, arith, subst}
 use Rattle.rb_seats.specs.SeatHelpers.{AtRings, AtSeats}
 use Rattle.rb_seats.proofs.Leading.{leads_seats}
 use Rattle.rb_jobs.specs.Jobs.{task_of}
@@ -13,7 +13,7 @@ returns-in-Ok-clause-counted g c =
     let shows = c.run-result.ensures.shows in
     did_counted (task_of c.args.job.now) _ shows.0 start now _ _ _ _ _ _ _ _ (c.new-gated.ensures.inner ∙ c.in-Ok.ensures.new)
     (c.unlogged-unlogged.ensures.count ∙ ap (λ (h : AtSeats). h.unlogged) back) (c.into_parts-seats.ensures.seats ∙ ap (λ (h : AtSeats). h.seats) back)
-    c.new-gated.ensures.calls c.calls.ensures (omega arith) c.run-result.ensures.length shows.1 c.run-result.ensures.balanced shows.2.0 shows.2.1
+    c.new-gated.ensures.calls c.calls.ensures (omega arith) c.run-result.ensures.length shows.1 (c.run-result.ensures.never_stray refl) c.run-result.ensures.balanced shows.2.0 shows.2.1
 
 pub returns-in-Ok-clause-ran : goal.returns-in-Ok-clause-ran
 returns-in-Ok-clause-ran g c = (returns-in-Ok-clause-counted g c).0
