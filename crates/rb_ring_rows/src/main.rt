@@ -10,6 +10,8 @@ mod chapter_rows;
 mod fault;
 mod row;
 mod script;
+mod shared_rings;
+mod shared_rows;
 mod sheets;
 mod tape_rows;
 mod text;
@@ -21,10 +23,11 @@ use script::Script;
 use std::alloc::Global;
 use std::io::{BufWriter, Read, Write};
 use std::process::ExitCode;
+use std::sync::Wait;
 use text::Text;
 
 fn main(rt: HostRuntime) -> ExitCode {
-    match run(rt.alloc(), &mut rt.stdin(), &mut rt.stdout()) {
+    match run(&rt, rt.alloc(), &mut rt.stdin(), &mut rt.stdout()) {
         Ok(()) => ExitCode::from(0),
         Err(fault) => {
             let _ = eprintln!(rt; "{fault}");
@@ -34,16 +37,26 @@ fn main(rt: HostRuntime) -> ExitCode {
 }
 
 // Answers all rows of the input.
-fn run<R: Read, W: Write>(alloc: Global, input: &mut R, out: &mut W) -> Result<(), RowsFault> {
+fn run<T: Wait, R: Read, W: Write>(
+    rt: &T,
+    alloc: Global,
+    input: &mut R,
+    out: &mut W,
+) -> Result<(), RowsFault> {
     let mut bytes = Vec::new(alloc);
     input.read_to_end(&mut bytes)?;
     let mut out = BufWriter::new(alloc, out)?;
-    answer_lines(alloc, bytes.as_slice(), &mut out)?;
+    answer_lines(rt, alloc, bytes.as_slice(), &mut out)?;
     out.flush()?;
     Ok(())
 }
 
-fn answer_lines<W: Write>(alloc: Global, bytes: &[u8], out: &mut W) -> Result<(), RowsFault> {
+fn answer_lines<T: Wait, W: Write>(
+    rt: &T,
+    alloc: Global,
+    bytes: &[u8],
+    out: &mut W,
+) -> Result<(), RowsFault> {
     let mut script = Script::new(alloc);
     let mut text = Text::new(alloc);
     let lines = bytes.strip_suffix(b"\n").unwrap_or(bytes);
@@ -54,7 +67,7 @@ fn answer_lines<W: Write>(alloc: Global, bytes: &[u8], out: &mut W) -> Result<()
         text.clear();
         let line = str::from_utf8(line).unwrap_or("fault: no text");
         if !line.is_empty() && !line.starts_with('#') {
-            script.answer(line, &mut text);
+            script.answer(rt, line, &mut text);
             writeln!(out, "{line} ->{}", text.as_str())?;
         } else {
             writeln!(out, "{line}")?;

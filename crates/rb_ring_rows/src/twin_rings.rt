@@ -3,13 +3,13 @@
 ghost use Rattle.std.specs.Prelude.{◌≡◌, ◌<◌, IfSome, IsTrue, length};
 
 use crate::answers::{
-    open_word, reserve_word, tell_all_taken, tell_counts, tell_end, tell_entries, tell_granted,
-    tell_handed_out, tell_notice, tell_record, tell_refusal, tell_taken,
+    bind_word, open_word, reserve_word, tell_all_taken, tell_counts, tell_end, tell_entries,
+    tell_granted, tell_handed_out, tell_notice, tell_record, tell_refusal, tell_taken,
 };
 use crate::sheets::{copied, filled, write_at};
 use crate::text::Text;
 use rb_chapter::Chapter;
-use rb_chapter_ledger::{BindFault, bind_chapters};
+use rb_chapter_ledger::bind_chapters;
 use rb_chapter_ring::{ReserveFault, RingState};
 use rb_history::{OpenFault as ListOpenFault, Reservation, ReserveFault as ListFault};
 use rb_lend::{Lent, Sheet};
@@ -253,9 +253,7 @@ impl TwinRings {
                     tell_entries(out, self.list.history());
                 }
             }
-            Err(BindFault::Number) => out.word("not bound number"),
-            Err(BindFault::Opening) => out.word("not bound opening"),
-            Err(BindFault::Memory) => out.word("not bound memory"),
+            Err(fault) => out.word(bind_word(fault)),
         }
     }
 
