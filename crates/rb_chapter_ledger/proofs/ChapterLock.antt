@@ -27,6 +27,12 @@ use Rattle.rb_chapter.specs.Chapters.{first_chapter}
 use Rattle.rb_chapter.proofs.Empty.{empty-kept}
 use Rattle.std.specs.FinMap.{empty}
 
+-- the rule, with the room and the chapters that it is about
+pub record KeepsRuleOf (room : ℕ) (handed_out : List Chapter) (queued : List ChapterRing) (views : List ChapterPassView) : Type 0 where
+  pub rule : KeepsChapterLockRule queued views
+  pub room_is : rule.room ≡ room
+  pub handed_out_is : rule.handed_out ≡ handed_out
+
 -- ---- lists of views
 
 abbrev Everyone : (ChapterPassView → Type 0) → List ChapterPassView → Type 0
@@ -91,8 +97,9 @@ known-now (Worker w) now known is = absurd (cc)
 
 -- ---- a pass without the state takes it out
 
-pub takes : (pass : ℕ) (v : ChapterPassView) → v.out ≡ None → Pops KeepsChapterLockRule pass v (TakesChapterState v)
-takes pass v none x items views kept at =
+pub takes-of : (pass : ℕ) (v : ChapterPassView) → v.out ≡ None → (x : ChapterRing) (items : List ChapterRing) (views : List ChapterPassView) (kept : KeepsChapterLockRule (x ∷ items) views) → get_elem? views pass ≡ some v
+    → (w : ChapterPassView) × KeepsRuleOf kept.room kept.handed_out items (set views pass w) × ((t : TakesChapterState v x w) × (t.taken.handed_out ≡ kept.handed_out))
+takes-of pass v none x items views kept at =
     let c = chaptered_ring kept.handed_out x in
     let w = chapter_view v.knows (Some c) in
     let mine = kept.each_knows pass v at in
@@ -101,21 +108,31 @@ takes pass v none x items views kept at =
     let done = old.takes pass (whole_view v) (ap whole_out none) (whole x) (map whole items) (map whole_view views) kept.whole (get-map views pass v at) in (
       w,
       record {
-        room = kept.room;
-        handed_out = kept.handed_out;
-        whole = set-whole (map whole items) views pass w done.0 done.2.0 done.1;
-        queued_goes_on = kept.queued_goes_on.1;
-        each_knows = everyone-set (KnowsChapters kept.room kept.handed_out) views pass w (record { goes_on = goes_on; handed_out_known = mine.handed_out_known }) (λ j u _ e. kept.each_knows j u e);
+        rule = record {
+          room = kept.room;
+          handed_out = kept.handed_out;
+          whole = set-whole (map whole items) views pass w done.0 done.2.0 done.1;
+          queued_goes_on = kept.queued_goes_on.1;
+          each_knows = everyone-set (KnowsChapters kept.room kept.handed_out) views pass w (record { goes_on = goes_on; handed_out_known = mine.handed_out_known }) (λ j u _ e. kept.each_knows j u e);
+        };
+        room_is = refl;
+        handed_out_is = refl;
       },
-      record {
-        taken = c;
-        ring_is = refl;
-        has_chapters = goes_on.has_chapters;
-        known = subst (λ r. AllKnowHandedOut r kept.handed_out v.knows) (sym goes_on.room_same) mine.handed_out_known;
-        out_is = refl;
-        whole = subst (TakesState (whole_view v) (whole_of c)) done.2.0 done.2;
-      },
+      (
+        record {
+          taken = c;
+          ring_is = refl;
+          has_chapters = goes_on.has_chapters;
+          known = subst (λ r. AllKnowHandedOut r kept.handed_out v.knows) (sym goes_on.room_same) mine.handed_out_known;
+          out_is = refl;
+          whole = subst (TakesState (whole_view v) (whole_of c)) done.2.0 done.2;
+        },
+        refl,
+      ),
     )
+
+pub takes : (pass : ℕ) (v : ChapterPassView) → v.out ≡ None → Pops KeepsChapterLockRule pass v (TakesChapterState v)
+takes pass v none x items views kept at = let done = takes-of pass v none x items views kept at in (done.0, done.1.rule, done.2.0)
 
 -- while one pass has the state out, the queue is empty
 pub away : (pass : ℕ) (v : ChapterPassView) (c : ChapteredRing) → v.out ≡ Some c → Learns KeepsChapterLockRule pass v (λ items. items ≡ [])
@@ -159,7 +176,7 @@ module _ (n pass : ℕ) (me : ChapterKnowledge) (out : ChapteredRing) (new : Cha
   after-known : KnowsHandedOut kept.room (handed_out_after out new) (chapter_knowledge_after out new me)
   after-known = λ is. ((mine.handed_out_known.0 is).0, known-now me.whole.role (handed_out_after out new) me.handed_out is)
 
-  put-back : length items < n → (w : ChapterPassView) × KeepsChapterLockRule (items ++ new ∷ []) (set views pass w) × PutsChapterState (chapter_view (me ∷ []) (Some out)) new w
+  put-back : length items < n → (w : ChapterPassView) × KeepsRuleOf kept.room (handed_out_after out new) (items ++ new ∷ []) (set views pass w) × PutsChapterState (chapter_view (me ∷ []) (Some out)) new w
   put-back room =
       let v = chapter_view (me ∷ []) (Some out) in
       let w = chapter_view (chapter_knowledge_after out new me ∷ []) None in
@@ -172,24 +189,34 @@ module _ (n pass : ℕ) (me : ChapterKnowledge) (out : ChapteredRing) (new : Cha
       let queue : map f items ++ left ∷ [] ≡ map g (items ++ new ∷ []) = ap (λ l. map f l ++ left ∷ []) none ∙ sym (ap (λ l. map g (l ++ new ∷ [])) none) in (
         w,
         record {
-          room = kept.room;
-          handed_out = handed_out_after out new;
-          whole = subst (λ q. KeepsLockRule q (map whole_view (set views pass w))) queue (set-whole (map f items ++ left ∷ []) views pass w done.0 done.2 done.1);
-          queued_goes_on = subst (λ l. AllGoOn kept.room (handed_out_after out new) (l ++ new ∷ [])) (sym none) (record { handed_out_same = refl; room_same = room_same ∙ was.room_same; has_chapters = has }, tt);
-          each_knows = everyone-set (KnowsChapters kept.room (handed_out_after out new)) views pass w
-              (record { goes_on = tt; handed_out_known = (after-known, tt) })
-              (λ j u other e. record {
-                goes_on = subst (GoesOnWhereOut kept.room (handed_out_after out new)) (sym (none-out (map f items) views pass v out kept.whole refl at j u other e)) tt;
-                handed_out_known = other-known j u other e;
-              });
+          rule = record {
+            room = kept.room;
+            handed_out = handed_out_after out new;
+            whole = subst (λ q. KeepsLockRule q (map whole_view (set views pass w))) queue (set-whole (map f items ++ left ∷ []) views pass w done.0 done.2 done.1);
+            queued_goes_on = subst (λ l. AllGoOn kept.room (handed_out_after out new) (l ++ new ∷ [])) (sym none) (record { handed_out_same = refl; room_same = room_same ∙ was.room_same; has_chapters = has }, tt);
+            each_knows = everyone-set (KnowsChapters kept.room (handed_out_after out new)) views pass w
+                (record { goes_on = tt; handed_out_known = (after-known, tt) })
+                (λ j u other e. record {
+                  goes_on = subst (GoesOnWhereOut kept.room (handed_out_after out new)) (sym (none-out (map f items) views pass v out kept.whole refl at j u other e)) tt;
+                  handed_out_known = other-known j u other e;
+                });
+          };
+          room_is = refl;
+          handed_out_is = refl;
         },
         refl,
       )
 
+abbrev pub PutsOf : ℕ → ℕ → ChapteredRing → ChapterRing → ChapterPassView → Type 0
+PutsOf n pass out new v =
+    (items : List ChapterRing) (views : List ChapterPassView) (kept : KeepsChapterLockRule items views) → get_elem? views pass ≡ some v → length items < n
+    → (w : ChapterPassView) × KeepsRuleOf kept.room (handed_out_after out new) (items ++ new ∷ []) (set views pass w) × PutsChapterState v new w
+
+pub puts-of : (n pass : ℕ) (v : ChapterPassView) (new : ChapterRing) (m : MayPutChapter v new) → PutsOf n pass m.out new v
+puts-of n pass v new m = subst (PutsOf n pass m.out new) (sym m.view_is) (λ items views kept at room. put-back n pass m.me m.out new m.has_chapters m.room_same m.by_consumer m.whole items views kept at room)
+
 pub puts : (n pass : ℕ) (v : ChapterPassView) (new : ChapterRing) → MayPutChapter v new → Pushes KeepsChapterLockRule n pass v new (PutsChapterState v new)
-puts n pass v new m =
-    subst (λ y. Pushes KeepsChapterLockRule n pass y new (PutsChapterState y new)) (sym m.view_is)
-    (λ items views room kept at. put-back n pass m.me m.out new m.has_chapters m.room_same m.by_consumer m.whole items views kept at room)
+puts n pass v new m items views room kept at = let done = puts-of n pass v new m items views kept at room in (done.0, done.1.rule, done.2)
 
 -- ---- roles are split off, and joined
 
@@ -201,8 +228,9 @@ first-whole : (ks : List ChapterKnowledge) → first_role (whole_knowledge ks) �
 first-whole [] = refl
 first-whole (k ∷ ks) = refl
 
-pub forks : (pass : ℕ) (v : ChapterPassView) → Forks KeepsChapterLockRule pass v (chapter_view (other_chapter_roles v.knows) v.out) (chapter_view (first_chapter_role v.knows) None)
-forks pass v items views kept at =
+pub forks-of : (pass : ℕ) (v : ChapterPassView) (items : List ChapterRing) (views : List ChapterPassView) (kept : KeepsChapterLockRule items views) → get_elem? views pass ≡ some v
+    → KeepsRuleOf kept.room kept.handed_out items (set views pass (chapter_view (other_chapter_roles v.knows) v.out) ++ chapter_view (first_chapter_role v.knows) None ∷ [])
+forks-of pass v items views kept at =
     let left = chapter_view (other_chapter_roles v.knows) v.out in
     let right = chapter_view (first_chapter_role v.knows) None in
     let vs = set views pass left in
@@ -216,17 +244,26 @@ forks pass v items views kept at =
     (record { goes_on = mine.goes_on; handed_out_known = known-rest kept.room kept.handed_out v.knows mine.handed_out_known })
     (λ j u _ e. kept.each_knows j u e) in
     record {
-      room = kept.room;
-      handed_out = kept.handed_out;
-      whole = subst (KeepsLockRule (map f items)) split done;
-      queued_goes_on = kept.queued_goes_on;
-      each_knows = λ j u e. ⊎_elim (λ h. knows j u h)
-          (λ (same : right ≡ u). subst (KnowsChapters kept.room kept.handed_out) same (record { goes_on = tt; handed_out_known = known-first kept.room kept.handed_out v.knows mine.handed_out_known }))
-          (at_snoc vs right u j e);
+      rule = record {
+        room = kept.room;
+        handed_out = kept.handed_out;
+        whole = subst (KeepsLockRule (map f items)) split done;
+        queued_goes_on = kept.queued_goes_on;
+        each_knows = λ j u e. ⊎_elim (λ h. knows j u h)
+            (λ (same : right ≡ u). subst (KnowsChapters kept.room kept.handed_out) same (record { goes_on = tt; handed_out_known = known-first kept.room kept.handed_out v.knows mine.handed_out_known }))
+            (at_snoc vs right u j e);
+      };
+      room_is = refl;
+      handed_out_is = refl;
     }
 
-pub merges : (pass : ℕ) (v : ChapterPassView) (other : ℕ) (u : ChapterPassView) → u.out ≡ None → Merges KeepsChapterLockRule pass v other u (chapter_view (u.knows ++ v.knows) v.out) (chapter_view [] None)
-merges pass v other u none items views kept at ne at' =
+pub forks : (pass : ℕ) (v : ChapterPassView) → Forks KeepsChapterLockRule pass v (chapter_view (other_chapter_roles v.knows) v.out) (chapter_view (first_chapter_role v.knows) None)
+forks pass v items views kept at = (forks-of pass v items views kept at).rule
+
+pub merges-of : (pass : ℕ) (v : ChapterPassView) (other : ℕ) (u : ChapterPassView) → u.out ≡ None → (items : List ChapterRing) (views : List ChapterPassView) (kept : KeepsChapterLockRule items views) → get_elem? views pass ≡ some v
+    → (other ≡ pass → ⊥) → get_elem? (set views pass (chapter_view (u.knows ++ v.knows) v.out)) other ≡ some u
+    → KeepsRuleOf kept.room kept.handed_out items (set (set views pass (chapter_view (u.knows ++ v.knows) v.out)) other (chapter_view [] None))
+merges-of pass v other u none items views kept at ne at' =
     let both = chapter_view (u.knows ++ v.knows) v.out in
     let spent = chapter_view [] None in
     let vs = set views pass both in
@@ -244,12 +281,19 @@ merges pass v other u none items views kept at ne at' =
     (record { goes_on = mine.goes_on; handed_out_known = known-append kept.room kept.handed_out u.knows v.knows theirs.handed_out_known mine.handed_out_known })
     (λ j y _ e. kept.each_knows j y e) in
     record {
-      room = kept.room;
-      handed_out = kept.handed_out;
-      whole = subst (KeepsLockRule (map f items)) all done;
-      queued_goes_on = kept.queued_goes_on;
-      each_knows = everyone-set (KnowsChapters kept.room kept.handed_out) vs other spent (record { goes_on = tt; handed_out_known = tt }) (λ j y _ e. knows j y e);
+      rule = record {
+        room = kept.room;
+        handed_out = kept.handed_out;
+        whole = subst (KeepsLockRule (map f items)) all done;
+        queued_goes_on = kept.queued_goes_on;
+        each_knows = everyone-set (KnowsChapters kept.room kept.handed_out) vs other spent (record { goes_on = tt; handed_out_known = tt }) (λ j y _ e. knows j y e);
+      };
+      room_is = refl;
+      handed_out_is = refl;
     }
+
+pub merges : (pass : ℕ) (v : ChapterPassView) (other : ℕ) (u : ChapterPassView) → u.out ≡ None → Merges KeepsChapterLockRule pass v other u (chapter_view (u.knows ++ v.knows) v.out) (chapter_view [] None)
+merges pass v other u none items views kept at ne at' = (merges-of pass v other u none items views kept at ne at').rule
 
 -- ---- the lock is opened
 
@@ -277,7 +321,7 @@ module _ (n pass : ℕ) (r : ChapterRing) (is_ring : IsRing (whole_of (chaptered
       let o = outs_take (map whole_view views) pass (whole_view v) (pass_view [] None) unopened_ring (get-map views pass v at) refl refl in
       sym (single (queued ++ o.0) o.1 unopened_ring kept.whole.ledger.ring (append_assoc queued o.0 (unopened_ring ∷ o.1) ∙ ap (λ os. queued ++ os) (sym o.2) ∙ kept.whole.one_state)).1
 
-  put-first : length items < n → (w : ChapterPassView) × KeepsChapterLockRule (items ++ r ∷ []) (set views pass w) × OpensChapterState (chapter_view [] (Some unopened_chapters)) r w
+  pub put-first : length items < n → (w : ChapterPassView) × KeepsRuleOf r.chapter.room [] (items ++ r ∷ []) (set views pass w) × OpensChapterState (chapter_view [] (Some unopened_chapters)) r w
   put-first room =
       let v = chapter_view [] (Some unopened_chapters) in
       let whole = whole_of (chaptered_ring [] r) in
@@ -293,16 +337,20 @@ module _ (n pass : ℕ) (r : ChapterRing) (is_ring : IsRing (whole_of (chaptered
       let roles : done.0 ≡ whole_view w = done.2 ∙ ap (λ ks. pass_view (role_knowledge Consumer b empty ∷ ks) None) (sym (workers-whole b m 0 workers)) in (
         w,
         record {
-          room = m;
-          handed_out = [];
-          whole = subst (λ q. KeepsLockRule q (map whole_view (set views pass w))) queue (set-whole (map f items ++ whole ∷ []) views pass w done.0 roles done.1);
-          queued_goes_on = subst (λ l. AllGoOn m [] (l ++ r ∷ [])) (sym none) (record { handed_out_same = refl; room_same = refl; has_chapters = has }, tt);
-          each_knows = everyone-set (KnowsChapters m []) views pass w
-              (record { goes_on = tt; handed_out_known = ((λ is. (refl, refl)), workers-know b m 0 workers) })
-              (λ j u other e. record {
-                goes_on = subst (GoesOnWhereOut m []) (sym (none-out (map f items) views pass v unopened_chapters kept.whole refl at j u other e)) tt;
-                handed_out_known = subst (AllKnowHandedOut m []) (sym (no-roles kept.whole.ledger u.knows unopened-is (kept.whole.each_saw_a_beginning j (whole_view u) (get-map views j u e)))) tt;
-              });
+          rule = record {
+            room = m;
+            handed_out = [];
+            whole = subst (λ q. KeepsLockRule q (map whole_view (set views pass w))) queue (set-whole (map f items ++ whole ∷ []) views pass w done.0 roles done.1);
+            queued_goes_on = subst (λ l. AllGoOn m [] (l ++ r ∷ [])) (sym none) (record { handed_out_same = refl; room_same = refl; has_chapters = has }, tt);
+            each_knows = everyone-set (KnowsChapters m []) views pass w
+                (record { goes_on = tt; handed_out_known = ((λ is. (refl, refl)), workers-know b m 0 workers) })
+                (λ j u other e. record {
+                  goes_on = subst (GoesOnWhereOut m []) (sym (none-out (map f items) views pass v unopened_chapters kept.whole refl at j u other e)) tt;
+                  handed_out_known = subst (AllKnowHandedOut m []) (sym (no-roles kept.whole.ledger u.knows unopened-is (kept.whole.each_saw_a_beginning j (whole_view u) (get-map views j u e)))) tt;
+                });
+          };
+          room_is = refl;
+          handed_out_is = refl;
         },
         refl,
       )
@@ -311,7 +359,7 @@ module _ (n pass : ℕ) (r : ChapterRing) (is_ring : IsRing (whole_of (chaptered
 pub opens : (n pass : ℕ) (v : ChapterPassView) (r : ChapterRing) → v ≡ chapter_view [] (Some unopened_chapters) → IsRing (whole_of (chaptered_ring [] r)) → HasChapters (chaptered_ring [] r) → r.contents ≡ empty
     → Pushes KeepsChapterLockRule n pass v r (OpensChapterState v r)
 opens n pass v r is is_ring has nothing =
-    subst (λ y. Pushes KeepsChapterLockRule n pass y r (OpensChapterState y r)) (sym is) (λ items views room kept at. put-first n pass r is_ring has nothing items views kept at room)
+    subst (λ y. Pushes KeepsChapterLockRule n pass y r (OpensChapterState y r)) (sym is) (λ items views room kept at. let done = put-first n pass r is_ring has nothing items views kept at room in (done.0, done.1.rule, done.2))
 
 unopened-has : HasChapters unopened_chapters
 unopened-has =
@@ -320,14 +368,21 @@ unopened-has =
     record { binds = handed-out-bind [] (first_chapter 0 nobody) (refl, refl, kept.continues.legal); room = kept.room }
 
 -- before anything: one pass, which has the state that nobody fits
-pub begins : KeepsChapterLockRule [] (chapter_view [] (Some unopened_chapters) ∷ [])
-begins = record {
-  room = 0;
-  handed_out = [];
-  whole = old.begins (record { ring = unopened_ring; sent = empty });
-  queued_goes_on = tt;
-  each_knows = λ j u e. elim j as (λ k. get_elem? (chapter_view [] (Some unopened_chapters) ∷ []) k ≡ some u → KnowsChapters 0 [] u) [
-    | zero ↦ (λ h. subst (KnowsChapters 0 []) (some-injective (chapter_view [] (Some unopened_chapters)) u h) (record { goes_on = record { handed_out_same = refl; room_same = refl; has_chapters = unopened-has }; handed_out_known = tt }))
-    | suc k ↦ (λ h. absurd (some-ne-none u (sym h)))
-  ] e;
+pub begins-of : KeepsRuleOf 0 [] [] (chapter_view [] (Some unopened_chapters) ∷ [])
+begins-of = record {
+  rule = record {
+    room = 0;
+    handed_out = [];
+    whole = old.begins (record { ring = unopened_ring; sent = empty });
+    queued_goes_on = tt;
+    each_knows = λ j u e. elim j as (λ k. get_elem? (chapter_view [] (Some unopened_chapters) ∷ []) k ≡ some u → KnowsChapters 0 [] u) [
+      | zero ↦ (λ h. subst (KnowsChapters 0 []) (some-injective (chapter_view [] (Some unopened_chapters)) u h) (record { goes_on = record { handed_out_same = refl; room_same = refl; has_chapters = unopened-has }; handed_out_known = tt }))
+      | suc k ↦ (λ h. absurd (some-ne-none u (sym h)))
+    ] e;
+  };
+  room_is = refl;
+  handed_out_is = refl;
 }
+
+pub begins : KeepsChapterLockRule [] (chapter_view [] (Some unopened_chapters) ∷ [])
+begins = begins-of.rule

@@ -83,8 +83,8 @@ fn no_hex(alloc: Global) -> Result<Explanation, AllocError>
     })
 }
 
-// The explanation of the program that bytes spell.
-fn explain_bytes(
+/// The same of the program that bytes spell, eight a unit.
+pub fn explain_bytes(
     alloc: Global,
     bytes: &[u8],
     ctx_len: u32,

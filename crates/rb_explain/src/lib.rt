@@ -17,5 +17,5 @@ mod listing;
 mod state_lines;
 mod windows;
 
-pub use explaining::explain;
+pub use explaining::{explain, explain_bytes};
 pub use explanation::{Explanation, Reason};

@@ -19,7 +19,8 @@ use crate::offsets::behind;
 use rb_alu::{jumps, value};
 use rb_cfg::next_unit;
 use rb_insn::{BinaryOp, Condition, Insn, Operand, Reg, SignedSize, Size, Width};
-use rb_lend::{Context, Lent};
+use rb_lend::Lent;
+use rb_parts::Context;
 use rb_semantics::{MemoryRegion, Value};
 
 impl<C: Context, R: Lent> Cpu<C, R> {

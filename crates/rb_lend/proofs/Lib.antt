@@ -1,3 +1,3 @@
 pub mod BlockMemory
 pub mod Fronts
-pub mod Laws
+pub mod RangeLaws

@@ -1,8 +1,5 @@
-pub mod Lending
-pub mod PartsMemory
-pub mod MemoryLaws
+pub mod Block
+pub mod RangeLaws
 pub mod Ranges
-pub mod RecordSlots
 pub mod Rewritten
-pub mod Stack
 pub mod inner

@@ -2,7 +2,7 @@
 
 ghost use Rattle.std.specs.Prelude.{◌≡◌, ◌+◌, ◌≤◌, take, drop, length};
 ghost use Rattle.std.specs.Borrow.{sem};
-ghost use Rattle.rb_lend.specs.inner.Block.{LendsBlockRange};
+ghost use Rattle.rb_lend.specs.Block.{LendsBlockRange};
 
 /// `N` bytes side by side.
 #[derive(Drop)]

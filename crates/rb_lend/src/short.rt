@@ -7,11 +7,11 @@ use crate::block::Block;
 use std::marker::Model;
 
 /// How many bytes fit in place.
-pub const CAPACITY: usize = 16;
+pub(crate) const CAPACITY: usize = 16;
 
 /// At most 16 bytes, in place. Contracts see the list of them.
 #[derive(Drop)]
-pub struct Short {
+pub(crate) struct Short {
     block: Block<CAPACITY>,
     len: usize,
 }
@@ -31,7 +31,7 @@ impl Short {
 
     #[inline]
     /// So many zero bytes.
-    pub fn zeros(len: usize) -> Short
+    pub(crate) fn zeros(len: usize) -> Short
         requires { len ≤ 16 }
         ensures { result ≡ replicate len 0 }
     {
@@ -45,7 +45,7 @@ impl Short {
 
     #[inline]
     /// Makes each byte zero. In constant time.
-    pub fn clear(&mut self)
+    pub(crate) fn clear(&mut self)
         ensures { self.new ≡ replicate (length self.old) 0 }
     {
         self.block.bytes = [0; CAPACITY];
@@ -53,7 +53,7 @@ impl Short {
 
     #[inline]
     /// How many bytes there are.
-    pub fn len(&self) -> usize
+    pub(crate) fn len(&self) -> usize
         ensures { result ≡ length self.now }
     {
         let _ = self.block.bytes();
@@ -62,7 +62,7 @@ impl Short {
 
     #[inline]
     /// Lends the bytes for reading.
-    pub fn bytes(&self) -> &[u8]
+    pub(crate) fn bytes(&self) -> &[u8]
         ensures { result.now ≡ self.now }
     {
         &self.block.bytes()[..self.len]
@@ -70,7 +70,7 @@ impl Short {
 
     #[inline]
     /// Lends the bytes for writing.
-    pub fn bytes_mut(&mut self) -> &mut [u8]
+    pub(crate) fn bytes_mut(&mut self) -> &mut [u8]
         ensures* writes_back { sem 𝓛 (LendsShort self.entry result) }
         ensures value { result.now ≡ self.old }
     {
@@ -80,7 +80,7 @@ impl Short {
 
     #[inline]
     /// Lends `len` bytes from place `at` on for writing, where they lie inside. The other bytes stay.
-    pub fn range_mut(&mut self, at: usize, len: usize) -> &mut [u8]
+    pub(crate) fn range_mut(&mut self, at: usize, len: usize) -> &mut [u8]
         requires { at + len ≤ length self.old }
         ensures* writes_back { sem 𝓛 (LendsShortRange self.entry at result) }
         ensures value { result.now ≡ take len (drop at self.old) }

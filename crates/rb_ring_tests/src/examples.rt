@@ -6,7 +6,8 @@ use rb_header::{Header, span};
 use rb_history::{
     Entry, FORCE_WAKEUP, NO_WAKEUP, Notice, OpenFault, Taken, check_setup, notice_for,
 };
-use rb_lend::{Lent, Part, Parts, Sheet, Slot};
+use rb_lend::{Lent, Sheet};
+use rb_parts::{Part, Parts, Slot};
 use rb_ring_list::RingState as ListState;
 use std::process::Abort;
 use std::test::Fail;
@@ -27,6 +28,14 @@ fn example_of_rb_header(rt: HostRuntime) {
 
 #[test]
 fn example_of_rb_lend(rt: HostRuntime) -> Result<(), Fail> {
+    let mut sheet = Sheet::new(rt.alloc(), 4)?;
+    sheet.range_mut(1, 2).fill(9);
+    assert_eq!(rt; sheet.bytes(), [0, 9, 9, 0].as_slice());
+    Ok(())
+}
+
+#[test]
+fn example_of_rb_parts(rt: HostRuntime) -> Result<(), Fail> {
     let mut sheet = Sheet::new(rt.alloc(), 4)?;
     sheet.range_mut(1, 2).fill(9);
     let mut parts: Parts<&[u8], Sheet> = Parts::new([5, 6, 7].as_slice());

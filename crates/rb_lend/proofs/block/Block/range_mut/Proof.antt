@@ -44,7 +44,7 @@ use denote.Triple.Entry.{on_entry}
 use denote.Triple.Spec.{Meets, triple_of}
 use denote.Triple.Table.{entered}
 use denote.Triple.Walked.{says, Stays, stay_dropped, walk_of, ends_at, walked, Goes-dropped, Goes-spent_ref, walk_Meets}
-use Rattle.rb_lend.specs.inner.Block.{block_with_part}
+use Rattle.rb_lend.specs.Block.{block_with_part}
 use Rattle.rb_lend.specs.contracts.block.Block.range_mut as F
 use Rattle.rb_lend.specs.contracts.block.Block.range_mut.Key.{name as #self}
 use Rattle.rb_lend.proofs.BlockMemory.{args, N, S, Left, bytes_out, bytes_in}

@@ -1,0 +1,3 @@
+mod Fronts
+mod Records
+mod TapeLooks

@@ -1,0 +1,20 @@
+-- What is written of a program's explanation (own; the explanation is rb_explain's).
+use Rattle.std.specs.Prelude.{◌≡◌, ℕ, ◌<◌, List, Option, length}
+use Rattle.rb_explain.specs.Explanations.{ExplainsBytes}
+use Rattle.rb_explain.specs.declared.explanation.Reason.{Reason}
+use Rattle.heskavo_c.specs.Writing.{WritesFront}
+
+-- the explanation of the bytes, as a program that is refused for this reason or for none, stands at the front of the buffer, and it has so many bytes
+pub record ExplainsInto (bytes : List ℕ) (ctx_len rings : ℕ) (reason : Option Reason) (old new : List ℕ) (wanted : ℕ) : Type 0 where
+  pub text : List ℕ
+  pub explained : ExplainsBytes bytes (record { ctx_len = ctx_len; rings = rings }) reason text
+  pub written : WritesFront text old new
+  pub wanted_is : wanted ≡ length text
+
+-- the explanation of the bytes has so many bytes, more than the buffer
+pub record WantsRoom (bytes : List ℕ) (ctx_len rings : ℕ) (buffer : List ℕ) (wanted : ℕ) : Type 0 where
+  pub reason : Option Reason
+  pub text : List ℕ
+  pub explained : ExplainsBytes bytes (record { ctx_len = ctx_len; rings = rings }) reason text
+  pub wanted_is : wanted ≡ length text
+  pub longer : length buffer < wanted

@@ -1,0 +1,5 @@
+pub mod Verdicts
+pub mod Writing
+pub mod Tapes
+pub mod Explained
+pub mod inner

@@ -1,0 +1,48 @@
+//! The explanation of a program.
+
+ghost use Rattle.std.specs.Prelude.{◌≡◌, ◌≢◌, ◌<◌, ◌≤◌, ◌↔◌, ◌⊎◌, None, Some, length};
+ghost use Rattle.rb_explain.specs.declared.explanation.Reason.{Reason};
+ghost use Rattle.heskavo_c.specs.Explained.{ExplainsInto, WantsRoom};
+ghost use Rattle.heskavo_c.specs.Verdicts.{AreBounds};
+
+use crate::load::are_bounds;
+use crate::outgoing::put_front;
+use crate::status::{ARGUMENT, DONE, MEMORY, REFUSED, ROOM};
+use rb_explain::{Explanation, explain_bytes};
+use std::alloc::Global;
+
+/// Puts the explanation of a program to the front of `text`, and tells in `wanted` how many bytes it has: `DONE` of a program that is accepted for a
+/// context of `ctx_len` bytes and so many rings, each instruction behind what is known there; `REFUSED` of one that is refused, the units around its
+/// first fault, and what mends it. `ROOM` where `text` is shorter than `wanted`. Time and memory are linear in the program.
+#[unsafe(no_mangle)]
+pub extern "C" fn heskavo_explain(
+    alloc: Global,
+    program: &[u8],
+    ctx_len: u32,
+    rings: u32,
+    text: &mut [u8],
+    wanted: &mut u64,
+) -> u32
+    ensures accepted { result ≡ DONE → ExplainsInto program.now ctx_len rings None text.old text.new wanted.new }
+    ensures refused { result ≡ REFUSED → (reason : Reason) × ExplainsInto program.now ctx_len rings (Some reason) text.old text.new wanted.new }
+    ensures room { result ≡ ROOM → WantsRoom program.now ctx_len rings text.old wanted.new }
+    ensures argument { (result ≡ ARGUMENT) ↔ ¬ AreBounds ctx_len rings }
+    ensures unwritten { result ≢ DONE → result ≢ REFUSED → text.new ≡ text.old }
+    ensures answers { result ≤ ROOM }
+{
+    if !are_bounds(ctx_len, rings) {
+        return ARGUMENT;
+    }
+    let Ok(explanation) = explain_bytes(alloc, program, ctx_len, rings) else {
+        return MEMORY;
+    };
+    *wanted = explanation.text.len() as u64;
+    if text.len() < explanation.text.len() {
+        return ROOM;
+    }
+    put_front(text, explanation.text.as_bytes());
+    match explanation.reason {
+        None => DONE,
+        Some(_) => REFUSED,
+    }
+}

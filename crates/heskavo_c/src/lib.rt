@@ -1,0 +1,20 @@
+//! The library for C, and for what calls C: verification, explanation and runs of eBPF programs that write into BPF ring buffers, and the records of
+//! tapes. Each export is a thin call of a proved crate, and says that crate's clauses again; what no C caller can be held to is tested, and told by a
+//! status (`status.rt`). Nothing is kept between calls, no lock is taken, and no thread is started. `include/heskavo_host.h` has the declarations.
+//!
+//! A program is its bytes, eight a unit, as RFC 9669 lays them out. Memory comes of the caller's `malloc`, and goes back before a call returns.
+#![tactic(auto)]
+
+mod explaining;
+mod load;
+mod outgoing;
+mod status;
+mod tapes;
+mod verdict;
+mod verifying;
+
+pub use explaining::heskavo_explain;
+pub use status::{ARGUMENT, BROKEN, DONE, FAULT, MEMORY, MORE, REFUSED, ROOM};
+pub use tapes::{TapeRecord, heskavo_tape_next, heskavo_tape_put, heskavo_tape_put_discarded};
+pub use verdict::{BYTES, RULES, SHAPE, Verdict};
+pub use verifying::heskavo_verify;

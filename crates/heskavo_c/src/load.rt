@@ -1,0 +1,82 @@
+//! A verified program from its bytes.
+
+ghost use Rattle.std.specs.Prelude.{◌≡◌, ◌≢◌, ◌≤◌, ◌↔◌, IsTrue, IfErr, IfOk, IfSome};
+ghost use Rattle.heskavo_c.specs.Verdicts.{AreBounds, IsAccepted, IsRightRefusal};
+ghost use Rattle.heskavo_c.specs.inner.Loading.{refused_bytes, refused_shape};
+
+use rb_cfg::{ShapeFault, ShapeFaultKind, shape};
+use rb_decode::{DecodeFault, DecodeKind, decode};
+use rb_refs::Rule;
+use rb_verifier::{Refusal, Verified, verify};
+use std::alloc::Global;
+
+/// The longest context of a program, in bytes.
+const MAX_CONTEXT: u32 = 65_536;
+
+/// The most rings that a program may know.
+const MAX_RINGS: u32 = 16;
+
+/// Why a program is refused.
+#[derive(Clone, Copy, Debug, PartialEq, Eq)]
+pub enum Refused {
+    /// The bytes are no program.
+    Bytes(DecodeFault),
+    /// The program is not well shaped.
+    Shape(ShapeFault),
+    /// The program breaks this rule, at this unit.
+    Rule { unit: u32, rule: Rule },
+}
+
+// Whether a program may be verified for a context of so many bytes and so many rings.
+pub(crate) fn are_bounds(ctx_len: u32, rings: u32) -> bool
+    ensures { IsTrue result ↔ AreBounds ctx_len rings }
+{
+    ctx_len <= MAX_CONTEXT && rings <= MAX_RINGS
+}
+
+// The fault of bytes as a refusal; out of memory is none.
+fn refused_for_bytes(fault: DecodeFault) -> Option<Refused>
+    ensures { result ≡ refused_bytes fault }
+{
+    match fault.kind {
+        DecodeKind::Memory => None,
+        _ => Some(Refused::Bytes(fault)),
+    }
+}
+
+// The fault of a shape as a refusal; out of memory is none.
+fn refused_for_shape(fault: ShapeFault) -> Option<Refused>
+    ensures { result ≡ refused_shape fault }
+{
+    match fault.kind {
+        ShapeFaultKind::Memory => None,
+        _ => Some(Refused::Shape(fault)),
+    }
+}
+
+/// The verified program of these bytes, for a context of so many bytes and so many rings. A refusal is the first fault of the first layer that has
+/// one: the bytes, the program's shape, its verification. `None` stands for out of memory, which may come in place of any other answer.
+pub(crate) fn load(
+    alloc: Global,
+    bytes: &[u8],
+    ctx_len: u32,
+    rings: u32,
+) -> Result<Verified, Option<Refused>>
+    requires bounds { AreBounds ctx_len rings }
+    ensures accepted { IfOk result (IsAccepted bytes.now ctx_len rings) }
+    ensures refused { IfErr result (λ found. IfSome found (IsRightRefusal bytes.now ctx_len rings)) }
+{
+    let program = match decode(alloc, bytes) {
+        Ok(program) => program,
+        Err(fault) => return Err(refused_for_bytes(fault)),
+    };
+    let shape = match shape(alloc, program) {
+        Ok(shape) => shape,
+        Err(fault) => return Err(refused_for_shape(fault)),
+    };
+    match verify(alloc, shape, ctx_len, rings) {
+        Ok(verified) => Ok(verified),
+        Err(Refusal::Rule { unit, rule }) => Err(Some(Refused::Rule { unit, rule })),
+        Err(Refusal::Memory) => Err(None),
+    }
+}

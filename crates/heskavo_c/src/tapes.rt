@@ -1,0 +1,188 @@
+//! The records of tapes.
+
+ghost use Rattle.std.specs.Prelude.{◌≡◌, ◌≢◌, ◌/◌, ◌%◌, ◌<◌, ◌↔◌, ◌⊎◌, IsTrue, false, length, if◌then◌else◌};
+ghost use Rattle.rb_header.specs.Header.{header_bytes};
+ghost use Rattle.rb_header.specs.Span as spans;
+ghost use Rattle.rb_header.specs.TapeBytes.{header_of, item_bytes, item_len, item_position, IsItemAt};
+ghost use Rattle.rb_header.specs.TapeBytes.Item.{Event, Skip};
+ghost use Rattle.rb_reader.specs.TapeFront.{IsUndecided};
+ghost use Rattle.rb_reader.specs.TapeReading.{item_read, HasItsLength};
+ghost use Rattle.heskavo_c.specs.Tapes.{FindsFault, FindsRecord, HasRoomAt, IsPlace, PutsItem, fault_number};
+ghost use Rattle.heskavo_c.specs.Writing.{WritesFront};
+
+use crate::outgoing::put_parts;
+use crate::status::{ARGUMENT, DONE, FAULT, MORE, ROOM};
+use rb_header::{Header, span};
+use rb_history::{is_size, is_start};
+use rb_reader::{Record, Tape, TapeKind};
+
+// A page of a ring's bytes (Linux Documentation/bpf/ringbuf.rst counts a record's place in pages).
+const PAGE: u64 = 4096;
+
+/// What the bytes of a tape begin with: a record, or what is wrong there.
+#[repr(C)]
+#[derive(Clone, Copy, Debug, PartialEq, Eq)]
+pub struct TapeRecord {
+    /// Where the payload begins, in bytes from the front of the record.
+    pub offset: u64,
+    /// How many bytes the record takes: the next one begins behind them, and the position moves by as much.
+    pub span: u64,
+    /// How many bytes the payload has; of a discarded record, how many it had.
+    pub len: u32,
+    /// 1 where the record was discarded, else 0. The bytes of a discarded one are zeros.
+    pub discarded: u32,
+    /// What is wrong with the record, counted from 1 in the order of `rb_reader`'s kinds; 0 where nothing is.
+    pub fault: u32,
+}
+
+// What is told of a record.
+fn told_of(found: Record<'_>) -> TapeRecord
+    ensures { result ≡ record { offset = 8; span = spans.span found.entry.len; len = found.entry.len; discarded = (if found.entry.discarded then 1 else 0); fault = 0 } }
+{
+    TapeRecord {
+        offset: 8,
+        span: span(found.len),
+        len: found.len,
+        discarded: u32::from(found.discarded),
+        fault: 0,
+    }
+}
+
+// The number of what is wrong with a record; 0 is nothing.
+fn number_of_fault(kind: TapeKind) -> u32
+    ensures { result ≡ fault_number kind }
+{
+    match kind {
+        TapeKind::Busy => 1,
+        TapeKind::Page => 2,
+        TapeKind::Padding => 3,
+        TapeKind::TooLong => 4,
+        TapeKind::DiscardedBytes => 5,
+        TapeKind::Truncated | TapeKind::Memory => 0,
+    }
+}
+
+/// What the bytes begin with, of a tape of a ring of `size` bytes, where the next record stands at `position`: `DONE` with the record, `MORE` where they
+/// show neither a whole record nor a fault, or `FAULT` with its number. `ARGUMENT` where no ring has this size, or the position is no multiple of 8 or
+/// above 2^61. Nothing is kept, so a reader goes on behind `span` bytes, at a position that is `span` higher. In time linear in the record.
+#[unsafe(no_mangle)]
+pub extern "C" fn heskavo_tape_next(
+    bytes: &[u8],
+    size: u64,
+    position: u64,
+    told: &mut TapeRecord,
+) -> u32
+    ensures found { result ≡ DONE → FindsRecord size position bytes.now told.new }
+    ensures more { result ≡ MORE → IsUndecided size position bytes.now }
+    ensures fault { result ≡ FAULT → FindsFault size position bytes.now told.new }
+    ensures argument { (result ≡ ARGUMENT) ↔ ¬ IsPlace size position }
+    ensures unchanged { result ≢ DONE → result ≢ FAULT → told.new ≡ told.old }
+    ensures answers { (result ≡ DONE) ⊎ ((result ≡ MORE) ⊎ ((result ≡ FAULT) ⊎ (result ≡ ARGUMENT))) }
+{
+    let Ok(mut tape) = Tape::new(bytes, size, position) else {
+        return ARGUMENT;
+    };
+    match tape.next() {
+        Some(Ok(found)) => {
+            *told = told_of(found);
+            DONE
+        }
+        Some(Err(fault)) => {
+            let number = number_of_fault(fault.kind);
+            if number == 0 {
+                return MORE;
+            }
+            *told = TapeRecord {
+                offset: 0,
+                span: 0,
+                len: 0,
+                discarded: 0,
+                fault: number,
+            };
+            FAULT
+        }
+        None => MORE,
+    }
+}
+
+// Whether a record of so many bytes has a header, and has room in a ring of this size, at this position.
+fn has_room_at(size: u64, position: u64, len: u64) -> bool
+    ensures { IsTrue result ↔ HasRoomAt size position len }
+{
+    if !is_size(size) || !is_start(position) || len >= 1 << 30 {
+        return false;
+    }
+    span(len as u32) < size
+}
+
+// The header of a taken record.
+fn header_at(size: u64, position: u64, len: u32, discard: bool) -> [u8; 8]
+    requires room { HasRoomAt size position len }
+    ensures { result ≡ header_bytes (record { len = len; busy = false; discard = discard; page = position % size / 4096 }) }
+{
+    Header {
+        len,
+        busy: false,
+        discard,
+        page: (position % size / PAGE) as u32,
+    }
+    .to_bytes()
+}
+
+/// Puts a submitted record with these bytes to the front of `tape`, as it stands on the tape of a ring of `size` bytes at `position`, and tells how many
+/// bytes it takes. `ROOM` where `tape` is shorter; `written` tells then how many are wanted. `ARGUMENT` where no ring has this size, the position is no
+/// multiple of 8 or above 2^61, or the record has no room in the ring. In time linear in the record.
+#[unsafe(no_mangle)]
+pub extern "C" fn heskavo_tape_put(
+    payload: &[u8],
+    size: u64,
+    position: u64,
+    tape: &mut [u8],
+    written: &mut u64,
+) -> u32
+    ensures put { result ≡ DONE → PutsItem size position (Event position payload.now) tape.old tape.new written.new }
+    ensures room { result ≡ ROOM → (length tape.old < written.new) × (written.new ≡ spans.span (length payload.now)) }
+    ensures argument { (result ≡ ARGUMENT) ↔ ¬ HasRoomAt size position (length payload.now) }
+    ensures unwritten { result ≢ DONE → tape.new ≡ tape.old }
+    ensures answers { (result ≡ DONE) ⊎ ((result ≡ ROOM) ⊎ (result ≡ ARGUMENT)) }
+{
+    if !has_room_at(size, position, payload.len() as u64) {
+        return ARGUMENT;
+    }
+    let len = payload.len() as u32;
+    *written = span(len);
+    if (tape.len() as u64) < *written {
+        return ROOM;
+    }
+    let header = header_at(size, position, len, false);
+    let zeros = span(len) as usize - 8 - payload.len();
+    put_parts(tape, &header, payload, zeros);
+    DONE
+}
+
+/// Puts a discarded record of `len` bytes to the front of `tape`, with zeros in the place of its bytes, and answers as `heskavo_tape_put` does.
+#[unsafe(no_mangle)]
+pub extern "C" fn heskavo_tape_put_discarded(
+    len: u32,
+    size: u64,
+    position: u64,
+    tape: &mut [u8],
+    written: &mut u64,
+) -> u32
+    ensures put { result ≡ DONE → PutsItem size position (Skip position len) tape.old tape.new written.new }
+    ensures room { result ≡ ROOM → (length tape.old < written.new) × (written.new ≡ spans.span len) }
+    ensures argument { (result ≡ ARGUMENT) ↔ ¬ HasRoomAt size position len }
+    ensures unwritten { result ≢ DONE → tape.new ≡ tape.old }
+    ensures answers { (result ≡ DONE) ⊎ ((result ≡ ROOM) ⊎ (result ≡ ARGUMENT)) }
+{
+    if !has_room_at(size, position, u64::from(len)) {
+        return ARGUMENT;
+    }
+    *written = span(len);
+    if (tape.len() as u64) < *written {
+        return ROOM;
+    }
+    let header = header_at(size, position, len, true);
+    put_parts(tape, &header, &[], span(len) as usize - 8);
+    DONE
+}

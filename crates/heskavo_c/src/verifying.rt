@@ -1,0 +1,39 @@
+//! The verdict on a program.
+
+ghost use Rattle.std.specs.Prelude.{◌≡◌, ◌≢◌, ◌≤◌, ◌↔◌, ◌⊎◌};
+ghost use Rattle.rb_verifier.specs.Subject.{Subject};
+ghost use Rattle.heskavo_c.specs.Verdicts.{AreBounds, IsAccepted, IsRightVerdict, verdict_of};
+
+use crate::load::{are_bounds, load};
+use crate::status::{ARGUMENT, DONE, MEMORY, REFUSED};
+use crate::verdict::{Verdict, verdict_on};
+use std::alloc::Global;
+
+/// Whether a program would be accepted for a context of `ctx_len` bytes and so many rings: `DONE`, or `REFUSED` with the verdict. `ARGUMENT` where the
+/// context is longer than 65,536 bytes or there are more than 16 rings. Time and memory are linear in the program.
+#[unsafe(no_mangle)]
+pub extern "C" fn heskavo_verify(
+    alloc: Global,
+    program: &[u8],
+    ctx_len: u32,
+    rings: u32,
+    verdict: &mut Verdict,
+) -> u32
+    ensures accepted { result ≡ DONE → (subject : Subject) × IsAccepted program.now ctx_len rings subject }
+    ensures refused { result ≡ REFUSED → IsRightVerdict program.now ctx_len rings verdict.new }
+    ensures argument { (result ≡ ARGUMENT) ↔ ¬ AreBounds ctx_len rings }
+    ensures unchanged { result ≢ REFUSED → verdict.new ≡ verdict.old }
+    ensures answers { result ≤ MEMORY }
+{
+    if !are_bounds(ctx_len, rings) {
+        return ARGUMENT;
+    }
+    match load(alloc, program, ctx_len, rings) {
+        Ok(_) => DONE,
+        Err(Some(refused)) => {
+            *verdict = verdict_on(refused);
+            REFUSED
+        }
+        Err(None) => MEMORY,
+    }
+}

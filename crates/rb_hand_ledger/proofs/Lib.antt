@@ -1,0 +1,2 @@
+mod HandLock
+mod NoStranger

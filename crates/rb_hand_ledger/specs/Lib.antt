@@ -1,0 +1,5 @@
+pub mod HandKnowledge
+pub mod HandLockRule
+pub mod HandLockSteps
+pub mod HandLockLaws
+pub mod NoStranger

@@ -1,0 +1,4 @@
+pub mod ChangedHands
+pub mod BusyEntries
+mod FourHands
+mod HandCalls

@@ -1,5 +1,0 @@
-use Rattle.rb_lend.proofs.Laws.{ranges_are_alone}
-use Rattle.rb_lend.proofs.memory_laws.a_range_is_written_alone.Goals as goal
-
-pub returns : goal.returns
-returns c = ranges_are_alone

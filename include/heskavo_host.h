@@ -1,0 +1,139 @@
+/*
+ * Heskavo for C, and for what calls C: verification, explanation and runs of eBPF programs that write into BPF ring buffers, and the records of tapes.
+ *
+ * Every function is proved to do what is said here (crates/heskavo_c); the contracts stand at its exports. Nothing is kept between calls, no lock is
+ * taken, no thread is started, and nothing aborts. Any number of threads may call at once, with buffers of their own.
+ *
+ * A buffer is a pointer and its length in bytes. A pointer may be null where its length is 0; no other one may. Buffers that a call writes overlap no
+ * other one of the same call, and no length is above PTRDIFF_MAX. Memory comes of malloc, and goes back to free before the call returns: so no function
+ * is called from a signal handler, or in the child of a fork of a process with threads, and malloc aligns a block to each power of two up to 16 that
+ * divides its size. Link with libheskavo.a, which tools/install puts beside this header.
+ *
+ * A program is its bytes, eight a unit, as RFC 9669 lays them out. bpf-helpers(7) has its calls, Linux Documentation/bpf/ringbuf.rst the rings.
+ */
+#ifndef HESKAVO_HOST_H
+#define HESKAVO_HOST_H
+
+#include <stddef.h>
+#include <stdint.h>
+
+#ifdef __cplusplus
+extern "C" {
+#endif
+
+/* What a call answers. */
+enum heskavo_status {
+    HESKAVO_DONE = 0,     /* it did what it is for */
+    HESKAVO_REFUSED = 1,  /* the program was refused */
+    HESKAVO_ARGUMENT = 2, /* a length, a size or a position is out of its bounds; nothing was written */
+    HESKAVO_MEMORY = 3,   /* there was no memory; this says nothing of the program, and nothing was written */
+    HESKAVO_ROOM = 4,     /* what is to be written does not fit; how much it is was told, and nothing else written */
+    HESKAVO_MORE = 5,     /* the bytes show no whole record yet, and no fault */
+    HESKAVO_FAULT = 6,    /* the bytes show a fault */
+    HESKAVO_BROKEN = 7    /* what a run left is no tape, or not all of it came out: a fault of the library */
+};
+
+/* The layers of a verdict. */
+enum heskavo_layer {
+    HESKAVO_BYTES = 1, /* the bytes are no program */
+    HESKAVO_SHAPE = 2, /* the program is not well shaped */
+    HESKAVO_RULES = 3  /* the program breaks a rule of verification */
+};
+
+/* What is wrong in the layer HESKAVO_BYTES. */
+enum heskavo_bytes_fault {
+    HESKAVO_BYTES_LENGTH = 1,       /* there are no bytes, or their number is no multiple of 8 */
+    HESKAVO_BYTES_TOO_LONG = 2,     /* there are more than 4,096 units */
+    HESKAVO_BYTES_LEFT_OUT = 3,     /* an instruction that this library leaves out */
+    HESKAVO_BYTES_BAD_OPCODE = 4,   /* an opcode that no instruction has */
+    HESKAVO_BYTES_BAD_REGISTER = 5, /* a register above 10 */
+    HESKAVO_BYTES_UNUSED_FIELD = 6, /* a field that the instruction does not use, or whose value it does not allow */
+    HESKAVO_BYTES_HALF_WIDE = 7     /* a wide instruction without its second unit */
+};
+
+/* What is wrong in the layer HESKAVO_SHAPE. */
+enum heskavo_shape_fault {
+    HESKAVO_SHAPE_BACKWARD = 1,       /* a jump backward */
+    HESKAVO_SHAPE_OUT_OF_PROGRAM = 2, /* a jump to a unit that the program does not have */
+    HESKAVO_SHAPE_INTO_WIDE = 3,      /* a jump to the second unit of a wide instruction */
+    HESKAVO_SHAPE_FALLS_OFF = 4,      /* the program ends behind an instruction that goes on */
+    HESKAVO_SHAPE_UNREACHABLE = 5     /* no path leads to an instruction */
+};
+
+/* What is wrong in the layer HESKAVO_RULES. */
+enum heskavo_rule {
+    HESKAVO_RULE_UNREADABLE = 1,            /* a register that holds nothing is read */
+    HESKAVO_RULE_FRAME_POINTER_WRITTEN = 2, /* the frame pointer r10 is written */
+    HESKAVO_RULE_POINTER_ARITHMETIC = 3,    /* arithmetic that a pointer doesn't allow */
+    HESKAVO_RULE_OUTSIDE_PART = 4,          /* an access outside of every part of memory */
+    HESKAVO_RULE_CONTEXT_WRITTEN = 5,       /* the context is written */
+    HESKAVO_RULE_POINTER_STORED = 6,        /* a pointer is stored */
+    HESKAVO_RULE_HELPER_ARGUMENT = 7,       /* an argument that the helper doesn't take */
+    HESKAVO_RULE_SIZE_NOT_KNOWN = 8,        /* a size that is not known, or too large */
+    HESKAVO_RULE_TOO_MANY_REFERENCES = 9,   /* more than four references are held */
+    HESKAVO_RULE_REFERENCE_LEFT = 10,       /* a reference is left at the exit */
+    HESKAVO_RULE_REFERENCES_DIFFER = 11,    /* different references arrive along two edges */
+    HESKAVO_RULE_RESULT_NOT_NUMBER = 12,    /* the result is a pointer */
+    HESKAVO_RULE_POINTER_COMPARED = 13,     /* a pointer is compared */
+    HESKAVO_RULE_NULL_NOT_TESTED = 14,      /* a reservation is used that was not tested against null */
+    HESKAVO_RULE_UNKNOWN_HELPER = 15        /* a helper that is not known is called */
+};
+
+/* Why a program is refused: the first fault of the first layer that has one. */
+struct heskavo_verdict {
+    uint32_t layer;  /* enum heskavo_layer */
+    uint32_t number; /* what is wrong in that layer */
+    uint32_t unit;   /* the unit of eight bytes at which it is wrong, counted from 0 */
+};
+
+/* What is wrong with a record of a tape. */
+enum heskavo_tape_fault {
+    HESKAVO_TAPE_BUSY = 1,           /* the header has the busy bit */
+    HESKAVO_TAPE_PAGE = 2,           /* the header names another page than that of the position */
+    HESKAVO_TAPE_PADDING = 3,        /* the bytes that fill the record up to eights are not zeros */
+    HESKAVO_TAPE_TOO_LONG = 4,       /* the record has no room in the ring, or ends past 2^62 */
+    HESKAVO_TAPE_DISCARDED_BYTES = 5 /* a discarded record's bytes are not zeros */
+};
+
+/* What the bytes of a tape begin with: a record, or what is wrong there. */
+struct heskavo_record {
+    uint64_t offset;    /* where the payload begins, in bytes from the front of the record */
+    uint64_t span;      /* how many bytes the record takes; the next one stands behind them, at a position that is as much higher */
+    uint32_t len;       /* how many bytes the payload has; of a discarded record, how many it had */
+    uint32_t discarded; /* 1 where the record was discarded, else 0 */
+    uint32_t fault;     /* enum heskavo_tape_fault, or 0 */
+};
+
+/*
+ * Whether a program would be accepted for a context of ctx_len bytes (at most 65,536) and so many rings (at most 16): HESKAVO_DONE, or HESKAVO_REFUSED
+ * with the verdict. Also answered: HESKAVO_ARGUMENT, HESKAVO_MEMORY. `verdict` is written at HESKAVO_REFUSED alone.
+ */
+uint32_t heskavo_verify(const uint8_t *program, size_t program_len, uint32_t ctx_len, uint32_t rings, struct heskavo_verdict *verdict);
+
+/*
+ * Puts the explanation of a program into `text`, and tells in `wanted` how many bytes it has (no zero byte stands behind it): HESKAVO_DONE of an accepted
+ * program, HESKAVO_REFUSED of a refused one, HESKAVO_ROOM where `text` is shorter than that. Also answered: HESKAVO_ARGUMENT, HESKAVO_MEMORY.
+ */
+uint32_t heskavo_explain(const uint8_t *program, size_t program_len, uint32_t ctx_len, uint32_t rings, uint8_t *text, size_t text_len, uint64_t *wanted);
+
+/*
+ * What the bytes begin with, of the tape of a ring of `size` bytes (a power of two from 4,096 to 67,108,864), where the next record stands at `position`
+ * (a multiple of 8, at most 2^61): HESKAVO_DONE with the record, HESKAVO_MORE, or HESKAVO_FAULT with `record->fault`. Also answered: HESKAVO_ARGUMENT.
+ * `record` is written at HESKAVO_DONE and HESKAVO_FAULT alone. A reader goes on `span` bytes further, at a position that is `span` higher.
+ */
+uint32_t heskavo_tape_next(const uint8_t *bytes, size_t bytes_len, uint64_t size, uint64_t position, struct heskavo_record *record);
+
+/*
+ * Puts a submitted record with this payload into `tape`, as it stands on the tape of a ring of `size` bytes at `position`, and tells in `written` how many
+ * bytes it takes: HESKAVO_DONE, or HESKAVO_ROOM where `tape` is shorter than that. HESKAVO_ARGUMENT also where the record has no room in the ring.
+ */
+uint32_t heskavo_tape_put(const uint8_t *payload, size_t payload_len, uint64_t size, uint64_t position, uint8_t *tape, size_t tape_len, uint64_t *written);
+
+/* The same of a discarded record of `len` bytes, with zeros in their place. */
+uint32_t heskavo_tape_put_discarded(uint32_t len, uint64_t size, uint64_t position, uint8_t *tape, size_t tape_len, uint64_t *written);
+
+#ifdef __cplusplus
+}
+#endif
+
+#endif
