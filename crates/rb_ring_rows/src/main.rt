@@ -1,12 +1,33 @@
 //! Answers rows over rings. Each line of the input is a row, and is printed again with what the calls that it names answered behind it, as
 //! `take a -> event pos 0 ..`. Lines that begin with `#` are printed alone. A script ends at an empty line: after it nothing has a name.
 //!
-//! Each ring is two: one that keeps a chapter of its history at a time, and its twin, which keeps all of it in a list. Each call is made on both, and
-//! where they do not answer alike, or do not stand alike afterwards, the row says how it differs.
+//! A row has a verb, names, numbers, and behind a colon bytes in hex, each run of equal ones as `2a*8`:
+//!
+//! ```text
+//! open RING SIZE START WORKERS ROOM     opens a ring, which is two: one that keeps a chapter of its history at a time, and its twin, which keeps all of it
+//!                                       in a list; each call is made on both, and where they do not answer or stand alike, the row says how
+//! reserve RING RECORD WORKER LEN        hands in a sheet full of ff; RECORD names what is granted
+//! write RECORD AT : BYTES               submit RING RECORD FLAGS              discard RING RECORD FLAGS
+//! output RING WORKER FLAGS : BYTES      take RING [N]                         query RING WHAT
+//! counts RING                           written RING: the tape of all that was taken
+//! share RING SIZE START WORKERS ROOM    opens a shared ring. A call of a worker names the worker of its seat in front of its last number, as
+//!                                       `submit s r 0 FLAGS`; and where the seat is another ring's, that ring behind the other names, as `take s t`
+//! audit RING WORKER                     seat RING WORKER                      used RING
+//! consumer RING                         fill RING N: a batch                  close RING [1]: with all seats, or all but the last; or with those of another ring
+//! chapter NAME ROOM WORKERS             clear NAME                            after NAME EARLIER: opens NAME behind EARLIER
+//! meets NAME NEXT                       handout RING NAME: NAME is the chapter that was handed out then
+//! bind RING NAME..                      keeper KEEPER NAME MARGIN             turn RING KEEPER
+//! kept KEEPER NAME                      show NAME, opening NAME, closing NAME, entries NAME: of a chapter, or of the one that a ring keeps
+//! span LEN                              setup SIZE START WORKERS              notice CONSUMER POS FLAGS
+//! encode LEN BUSY DISCARD PAGE          decode : BYTES                        tape SIZE START : BYTES, read as a whole and in pieces
+//! ```
+//!
+//! A row that is none of these, or names what is not there, is answered by `fault:` and why, and changes nothing.
 #![tactic(auto)]
 
 mod answers;
 mod chapter_rows;
+mod consumer_calls;
 mod fault;
 mod row;
 mod script;

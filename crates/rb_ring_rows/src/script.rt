@@ -3,11 +3,12 @@
 ghost use Rattle.std.specs.Prelude.{◌≡◌, ◌<◌, IfSome};
 
 use crate::row::{Row, RowFault};
-use crate::shared_rings::SharedPlace;
+use crate::shared_rings::{SharedPlace, write_record};
 use crate::text::Text;
 use crate::twin_rings::{Ending, TwinRecord, TwinRings};
 use crate::{chapter_rows, shared_rows, value_rows};
 use rb_chapter::Chapter;
+use rb_consumer::Keeper;
 use rb_history::Reservation;
 use rb_shared_ring::Closing;
 use std::alloc::Global;
@@ -33,6 +34,7 @@ pub(crate) struct Script {
     pub(crate) shared: BTreeMap<String, SharedPlace>,
     pub(crate) shared_records: BTreeMap<String, Reservation>,
     pub(crate) closings: BTreeMap<String, Closing>,
+    pub(crate) keepers: BTreeMap<String, Keeper>,
     /// How many shared rings were asked for; the tag of the last one.
     pub(crate) tags: u64,
 }
@@ -48,6 +50,7 @@ impl Script {
             shared: BTreeMap::new(alloc),
             shared_records: BTreeMap::new(alloc),
             closings: BTreeMap::new(alloc),
+            keepers: BTreeMap::new(alloc),
             tags: 0,
         }
     }
@@ -83,11 +86,19 @@ impl Script {
             "submit" => self.end(Ending::Submit, row, out),
             "discard" => self.end(Ending::Discard, row, out),
             "output" => self.output(row, out),
-            "take" | "query" | "counts" => self.ask(row, out),
+            "take" | "query" | "counts" | "written" => self.ask(row, out),
             "handout" => self.hand_out(row, out),
             "bind" => self.bind(row, out),
-            "chapter" | "clear" | "after" | "meets" | "show" | "opening" | "closing" | "entries" =>
-                chapter_rows::answer(self, row, out),
+            "keeper"
+            | "kept"
+            | "chapter"
+            | "clear"
+            | "after"
+            | "meets"
+            | "show"
+            | "opening"
+            | "closing"
+            | "entries" => chapter_rows::answer(self, row, out),
             _ => value_rows::answer(self.alloc, row, out),
         }
     }
@@ -122,9 +133,12 @@ impl Script {
         let ([record], [at]) = (row.names.as_slice(), row.numbers.as_slice()) else {
             return out.word(WRONG_WORDS);
         };
-        match self.records.get_mut(*record) {
-            Some(held) => held.write(*at, row.bytes.as_slice(), out),
-            None => out.word("fault: no such record"),
+        if let Some(held) = self.records.get_mut(*record) {
+            held.write(*at, row.bytes.as_slice(), out);
+        } else if let Some(held) = self.shared_records.get_mut(*record) {
+            write_record(held, *at, row.bytes.as_slice(), out);
+        } else {
+            out.word("fault: no such record");
         }
     }
 
@@ -174,6 +188,7 @@ impl Script {
             ("take", [n]) if *n <= MOST_TAKEN => twins.take_many(self.alloc, *n as usize, out),
             ("query", [what]) => twins.query(*what, out),
             ("counts", []) => twins.counts(out),
+            ("written", []) => twins.written(self.alloc, out),
             _ => out.word(WRONG_WORDS),
         }
     }

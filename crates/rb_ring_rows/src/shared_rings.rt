@@ -1,20 +1,22 @@
 //! A ring that threads share, with its seats, here all on one thread.
 
-ghost use Rattle.std.specs.Prelude.{◌≡◌};
+ghost use Rattle.std.specs.Prelude.{◌≡◌, IfSome};
 ghost use Rattle.rb_ledger.specs.Seats.{IsSameSeat};
-ghost use Rattle.rb_shared_ring.specs.SharedSeats.{IsSameChapterConsumer};
-ghost use Rattle.rb_ring_rows.specs.SharedPlaces.{AreOwnSeats};
+ghost use Rattle.rb_ring_rows.specs.SharedPlaces.{AreOwnSeats, IsOwnSeat};
 
 use crate::answers::{
-    open_word, reserve_word, tell_all_taken, tell_counts, tell_end, tell_granted, tell_handed_out,
-    tell_notice, tell_refusal, tell_taken, tell_tally,
+    open_word, reserve_word, tell_counts, tell_end, tell_granted, tell_notice, tell_record,
+    tell_refusal, tell_tally,
 };
+use crate::consumer_calls::{ConsumerCall, consume, hand_out, turn};
+use crate::sheets::write_at;
 use crate::text::Text;
 use rb_chapter::Chapter;
+use rb_consumer::Keeper;
 use rb_history::{Notice, Reservation};
-use rb_lend::Sheet;
+use rb_lend::{Lent, Sheet};
 use rb_shared_ring::{
-    Audit, Closing, ConsumerSeat, Foreign, HandFault, NotAll, ReserveFault, Seat, SharedRing, open,
+    Audit, Closing, ConsumerSeat, Foreign, NotAll, ReserveFault, Seat, SharedRing, open,
 };
 use std::alloc::Global;
 use std::sync::Wait;
@@ -47,14 +49,6 @@ pub(crate) enum WorkerCall {
     Output(Sheet, u64),
     Query(u64),
     Audit,
-}
-
-/// A call of the consumer.
-#[derive(Clone, Copy)]
-pub(crate) enum ConsumerCall {
-    Take,
-    TakeMany(usize),
-    Used,
 }
 
 impl SharedPlace {
@@ -171,6 +165,24 @@ impl SharedPlace {
         hand_out(rt, &other.ring, &mut self.consumer, empty, out)
     }
 
+    /// Has a keeper look at this ring's chapter.
+    pub(crate) fn turn<R: Wait>(&mut self, rt: &R, keeper: &mut Keeper, out: &mut Text) {
+        turn(rt, &self.ring, &mut self.consumer, keeper, out);
+    }
+
+    /// The same by this ring's consumer at another ring.
+    pub(crate) fn turn_at<R: Wait>(
+        &mut self,
+        rt: &R,
+        other: &SharedPlace,
+        keeper: &mut Keeper,
+        out: &mut Text,
+    ) {
+        if self.consumer.tag() != other.ring.tag() {
+            turn(rt, &other.ring, &mut self.consumer, keeper, out);
+        }
+    }
+
     /// What a worker's seat counted.
     pub(crate) fn tell_seat(&self, worker: u64, out: &mut Text) {
         match self.seats.get(worker as usize) {
@@ -205,7 +217,11 @@ impl SharedPlace {
             mut seats,
             consumer,
         } = self;
-        let last = if all { None } else { seats.pop() };
+        let last = if all {
+            None
+        } else {
+            last_of(&ring, &mut seats)
+        };
         let NotAll {
             ring,
             mut seats,
@@ -214,9 +230,7 @@ impl SharedPlace {
             Ok(closing) => return Ok(closing),
             Err(back) => back,
         };
-        if let Some(seat) = last {
-            let _ = seats.push(seat);
-        }
+        put_back(&ring, &mut seats, last);
         Err(SharedPlace {
             ring,
             seats,
@@ -267,6 +281,28 @@ impl SharedPlace {
     }
 }
 
+// Takes the last seat of a ring's own out of them.
+fn last_of(ring: &SharedRing, seats: &mut Vec<Seat>) -> Option<Seat>
+    requires own { AreOwnSeats ring.now seats.old.items }
+    ensures own { AreOwnSeats ring.now seats.new.items }
+    ensures last { IfSome result (IsOwnSeat ring.now) }
+{
+    let _ = ring.tag();
+    seats.pop()
+}
+
+// Puts a ring's last seat back behind the others. There is room for it.
+fn put_back(ring: &SharedRing, seats: &mut Vec<Seat>, last: Option<Seat>)
+    requires own { AreOwnSeats ring.now seats.old.items }
+    requires last { IfSome last (IsOwnSeat ring.now) }
+    ensures own { AreOwnSeats ring.now seats.new.items }
+{
+    let _ = ring.tag();
+    if let Some(seat) = last {
+        let _ = seats.push(seat);
+    }
+}
+
 // A call at a ring, by a seat.
 fn work<R: Wait>(
     rt: &R,
@@ -300,6 +336,17 @@ fn work<R: Wait>(
             tell_audit(ring.audit(rt, seat), out);
             None
         }
+    }
+}
+
+/// Writes bytes of a reserved record from byte `at` on, where they fit.
+pub(crate) fn write_record(record: &mut Reservation, at: u64, bytes: &[u8], out: &mut Text) {
+    if write_at(record, at, bytes) {
+        tell_record(out, record);
+        out.word("bytes");
+        out.bytes(record.bytes());
+    } else {
+        out.word("fault: outside");
     }
 }
 
@@ -337,80 +384,5 @@ fn tell_audit(answer: Result<Audit, Foreign>, out: &mut Text) {
             tell_tally(out, audit.own);
         }
         Err(Foreign) => out.word("foreign"),
-    }
-}
-
-// A call at a ring, by a consumer's seat.
-fn consume<R: Wait>(
-    rt: &R,
-    alloc: Global,
-    ring: &SharedRing,
-    seat: &mut ConsumerSeat,
-    call: ConsumerCall,
-    out: &mut Text,
-)
-    requires ring { seat.old.tag ≡ ring.now.tag → seat.old.ring ≡ ring.now.ring }
-    ensures seat { IsSameChapterConsumer seat.old seat.new }
-{
-    match call {
-        ConsumerCall::Take => match ring.take(rt, seat) {
-            Ok(taken) => tell_taken(out, &taken),
-            Err(Foreign) => out.word("foreign"),
-        },
-        ConsumerCall::TakeMany(n) => take_many(rt, alloc, ring, seat, n, out),
-        ConsumerCall::Used => match ring.used(rt, seat) {
-            Ok((used, owed)) => {
-                out.field("used", u64::from(used));
-                out.field("owed", u64::from(owed));
-            }
-            Err(Foreign) => out.word("foreign"),
-        },
-    }
-}
-
-fn take_many<R: Wait>(
-    rt: &R,
-    alloc: Global,
-    ring: &SharedRing,
-    seat: &mut ConsumerSeat,
-    n: usize,
-    out: &mut Text,
-)
-    requires ring { seat.old.tag ≡ ring.now.tag → seat.old.ring ≡ ring.now.ring }
-    ensures seat { IsSameChapterConsumer seat.old seat.new }
-{
-    let Ok(mut taken) = Vec::with_capacity(alloc, n) else {
-        return out.word("fault: no memory");
-    };
-    match ring.take_many(rt, seat, n, &mut taken) {
-        Ok(many) => tell_all_taken(out, many, taken.as_slice()),
-        Err(Foreign) => out.word("foreign"),
-    }
-}
-
-// Has a ring go on in an empty chapter, by a consumer's seat.
-fn hand_out<R: Wait>(
-    rt: &R,
-    ring: &SharedRing,
-    seat: &mut ConsumerSeat,
-    empty: Chapter,
-    out: &mut Text,
-) -> Chapter
-    requires ring { seat.old.tag ≡ ring.now.tag → seat.old.ring ≡ ring.now.ring }
-    ensures seat { IsSameChapterConsumer seat.old seat.new }
-{
-    match ring.hand_out(rt, seat, empty) {
-        Ok(chapter) => {
-            tell_handed_out(out, &chapter);
-            chapter
-        }
-        Err((HandFault::Foreign, back)) => {
-            out.word("foreign");
-            back
-        }
-        Err((HandFault::Unfit, back)) => {
-            out.word("unfit");
-            back
-        }
     }
 }

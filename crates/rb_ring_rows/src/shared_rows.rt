@@ -1,13 +1,15 @@
 //! Rows on shared rings. Behind the ring a row may name another one, by whose seat the call is made then.
 
 use crate::answers::{bind_word, tell_counts, tell_entries};
+use crate::consumer_calls::ConsumerCall;
 use crate::row::Row;
 use crate::script::{LONGEST, MOST_TAKEN, Script, WRONG_WORDS, collect, keep, narrow, within};
-use crate::shared_rings::{ConsumerCall, RingNumbers, SharedPlace, WorkerCall};
+use crate::shared_rings::{RingNumbers, SharedPlace, WorkerCall};
 use crate::sheets::{copied, filled};
 use crate::text::Text;
 use rb_history::Reservation;
 use rb_shared_ring::Closing;
+use std::alloc::Global;
 use std::sync::Wait;
 
 /// What a row answers whose first name is that of a shared ring.
@@ -16,8 +18,9 @@ pub(crate) fn answer<R: Wait>(rt: &R, script: &mut Script, row: &Row<'_>, out: &
         "reserve" | "submit" | "discard" | "output" | "query" | "audit" => {
             work(rt, script, row, out)
         }
-        "take" | "used" => consume(rt, script, row, out),
+        "take" | "used" | "fill" => consume(rt, script, row, out),
         "handout" => hand_out(rt, script, row, out),
+        "turn" => turn(rt, script, row, out),
         "seat" | "consumer" => tell_seats(script, row, out),
         "close" => close(rt, script, row, out),
         _ => out.word("fault: no such command"),
@@ -85,8 +88,9 @@ fn work<R: Wait>(rt: &R, script: &mut Script, row: &Row<'_>, out: &mut Text) {
         Some(_) => return out.word("fault: no such worker"),
         None => return out.word("fault: no such ring"),
     }
-    let Some(call) = worker_call(script, row, &words, out) else {
-        return;
+    let call = match worker_call(script, row, &words) {
+        Ok(call) => call,
+        Err(fault) => return out.word(fault),
     };
     let back = work_by(rt, script, ring, home, words.worker, call, out);
     if let (Some(record), Some(name)) = (back, words.record) {
@@ -94,34 +98,37 @@ fn work<R: Wait>(rt: &R, script: &mut Script, row: &Row<'_>, out: &mut Text) {
     }
 }
 
-// The call that a row's words ask for.
+// The call that a row's words ask for, or what is wrong with them.
 fn worker_call(
     script: &mut Script,
     row: &Row<'_>,
     words: &WorkerWords<'_>,
-    out: &mut Text,
-) -> Option<WorkerCall> {
-    let call = match row.verb {
-        "reserve" => match within(words.number, LONGEST) {
-            Some(n) => filled(script.alloc, n).map(WorkerCall::Reserve),
-            None => None,
-        },
+) -> Result<WorkerCall, &'static str> {
+    match row.verb {
+        "reserve" => reserve_of(script.alloc, words.number),
         "output" => match copied(script.alloc, row.bytes.as_slice()) {
-            Some(sheet) => Some(WorkerCall::Output(sheet, words.number)),
-            None => None,
+            Some(sheet) => Ok(WorkerCall::Output(sheet, words.number)),
+            None => Err("fault: no memory"),
         },
-        "query" => Some(WorkerCall::Query(words.number)),
-        "audit" => Some(WorkerCall::Audit),
+        "query" => Ok(WorkerCall::Query(words.number)),
+        "audit" => Ok(WorkerCall::Audit),
         verb => match script.shared_records.remove(words.record.unwrap_or("")) {
-            Some(record) if verb == "submit" => Some(WorkerCall::Submit(record, words.number)),
-            Some(record) => Some(WorkerCall::Discard(record, words.number)),
-            None => None,
+            Some(record) if verb == "submit" => Ok(WorkerCall::Submit(record, words.number)),
+            Some(record) => Ok(WorkerCall::Discard(record, words.number)),
+            None => Err("fault: no such record"),
         },
-    };
-    if call.is_none() {
-        out.word("fault: no such record");
     }
-    call
+}
+
+// The call that reserves a record of so many bytes.
+fn reserve_of(alloc: Global, n: u64) -> Result<WorkerCall, &'static str> {
+    let Some(n) = within(n, LONGEST) else {
+        return Err(WRONG_WORDS);
+    };
+    match filled(alloc, n) {
+        Some(sheet) => Ok(WorkerCall::Reserve(sheet)),
+        None => Err("fault: no memory"),
+    }
 }
 
 // Makes a worker's call at a ring, by its seat at another one or at this.
@@ -168,6 +175,7 @@ fn consume<R: Wait>(rt: &R, script: &mut Script, row: &Row<'_>, out: &mut Text) 
     let call = match (row.verb, row.numbers.as_slice()) {
         ("take", []) => ConsumerCall::Take,
         ("take", [n]) if *n <= MOST_TAKEN => ConsumerCall::TakeMany(*n as usize),
+        ("fill", [n]) if *n <= MOST_TAKEN => ConsumerCall::Fill(*n as usize),
         ("used", []) => ConsumerCall::Used,
         _ => return out.word(WRONG_WORDS),
     };
@@ -187,9 +195,9 @@ fn consume<R: Wait>(rt: &R, script: &mut Script, row: &Row<'_>, out: &mut Text) 
 
 // The consumer hands the ring's chapter out, by its own seat or by that of another ring.
 fn hand_out<R: Wait>(rt: &R, script: &mut Script, row: &Row<'_>, out: &mut Text) {
-    let (ring, name, home) = match row.names.as_slice() {
-        [ring, name] => (*ring, *name, *ring),
-        [ring, name, home] => (*ring, *name, *home),
+    let (ring, name, home) = match (row.names.as_slice(), row.numbers.as_slice()) {
+        ([ring, name], []) => (*ring, *name, *ring),
+        ([ring, name, home], []) => (*ring, *name, *home),
         _ => return out.word(WRONG_WORDS),
     };
     let Some(mut place) = script.shared.remove(home) else {
@@ -208,6 +216,29 @@ fn hand_out<R: Wait>(rt: &R, script: &mut Script, row: &Row<'_>, out: &mut Text)
             keep(script.alloc, &mut script.chapters, name, chapter, out);
         }
         None => out.word("fault: no such chapter"),
+    }
+    keep(script.alloc, &mut script.shared, home, place, out);
+}
+
+// A keeper looks at the ring's chapter, by the ring's own consumer or by that of another ring.
+fn turn<R: Wait>(rt: &R, script: &mut Script, row: &Row<'_>, out: &mut Text) {
+    let (ring, name, home) = match (row.names.as_slice(), row.numbers.as_slice()) {
+        ([ring, name], []) => (*ring, *name, *ring),
+        ([ring, name, home], []) => (*ring, *name, *home),
+        _ => return out.word(WRONG_WORDS),
+    };
+    let Some(mut place) = script.shared.remove(home) else {
+        return out.word("fault: no such ring");
+    };
+    match script.keepers.get_mut(name) {
+        Some(keeper) => {
+            if ring == home {
+                place.turn(rt, keeper, out);
+            } else if let Some(other) = script.shared.get(ring) {
+                place.turn_at(rt, other, keeper, out);
+            }
+        }
+        None => out.word("fault: no such keeper"),
     }
     keep(script.alloc, &mut script.shared, home, place, out);
 }
@@ -252,6 +283,9 @@ fn close_own<R: Wait>(rt: &R, script: &mut Script, ring: &str, all: bool, out: &
 }
 
 fn close_with<R: Wait>(rt: &R, script: &mut Script, ring: &str, other: &str, out: &mut Text) {
+    if ring == other || !script.shared.contains_key(other) {
+        return out.word("fault: no such ring");
+    }
     let (Some(place), Some(home)) = (script.shared.remove(ring), script.shared.remove(other)) else {
         return out.word("fault: no such ring");
     };

@@ -1,14 +1,11 @@
-//! What a consumer does with what it takes: batches of records, and their tape.
+//! Tapes of a writer that fails in the midst of a record.
 
 ghost use Rattle.std.specs.Prelude.{◌≡◌};
 ghost use Rattle.rb_header.specs.TapeBytes.{AreItemsFrom};
 ghost use Rattle.rb_consumer.specs.Items.{tape_items};
 
-use super::rings_in_chapters::{given_up, held, opened, sent};
+use super::rings_with_seats::{discarded, granted, one_seat, output};
 use rb_consumer::{Batch, DeviceFault, Event, Item, TapeWriter};
-use rb_lend::Lent;
-use rb_shared_ring::Foreign;
-use std::alloc::Global;
 use std::io::{Error, ErrorKind, Result, Write};
 use std::process::Abort;
 
@@ -42,74 +39,6 @@ impl Write for OneByteWriter {
     fn flush(&mut self) -> Result<()> {
         Ok(())
     }
-}
-
-fn batch(rt: &impl Abort, alloc: Global, n: usize) -> Batch {
-    match Batch::with_capacity(alloc, n) {
-        Ok(batch) => batch,
-        Err(_) => rt.panic("no memory for a batch"),
-    }
-}
-
-#[test]
-fn a_batch_ends_before_a_busy_record(rt: HostRuntime) {
-    for (capacity, wanted) in [(8, 2), (1, 1), (0, 0)] {
-        let (ring, mut seat, mut consumer) = opened(&rt, rt.alloc(), 1, 64);
-        sent(&rt, rt.alloc(), &ring, &mut seat, 7);
-        sent(&rt, rt.alloc(), &ring, &mut seat, 9);
-        let _busy = held(&rt, rt.alloc(), &ring, &mut seat);
-        let mut batch = batch(&rt, rt.alloc(), capacity);
-        assert_eq!(rt; batch.fill(&rt, &ring, &mut consumer), Ok(wanted));
-        assert_eq!(rt; consumer.consumed(), wanted as u64);
-        assert_eq!(rt; batch.items().count(), wanted);
-    }
-}
-
-#[test]
-fn a_batch_lends_what_was_taken(rt: HostRuntime) {
-    let (ring, mut seat, mut consumer) = opened(&rt, rt.alloc(), 1, 64);
-    let (_other, _seat, mut stranger) = opened(&rt, rt.alloc(), 2, 64);
-    sent(&rt, rt.alloc(), &ring, &mut seat, 7);
-    given_up(&rt, rt.alloc(), &ring, &mut seat);
-    let mut batch = batch(&rt, rt.alloc(), 4);
-    assert_eq!(rt; batch.fill(&rt, &ring, &mut stranger), Err(Foreign));
-    assert_eq!(rt; batch.fill(&rt, &ring, &mut consumer), Ok(2));
-    let event = Event {
-        pos: 0,
-        worker: 0,
-        serial: 0,
-        bytes: &[7; 8],
-    };
-    let mut items = batch.items();
-    assert_eq!(rt; items.next(), Some(Item::Event(event)));
-    assert_eq!(rt; items.next(), Some(Item::Skip(16, 8)));
-    assert_eq!(rt; items.next(), None);
-    let mut events = batch.events();
-    assert_eq!(rt; events.next(), Some(event));
-    assert_eq!(rt; events.next(), None);
-    let Some(sheet) = batch.recycle() else {
-        rt.panic("no sheet");
-    };
-    assert_eq!(rt; sheet.bytes(), [7; 8].as_slice());
-    assert!(rt; batch.recycle().is_none());
-    assert_eq!(rt; batch.items().count(), 1);
-    assert_eq!(rt; batch.fill(&rt, &ring, &mut consumer), Ok(0));
-}
-
-#[test]
-fn a_discarded_record_is_written_as_zeros(rt: HostRuntime) {
-    let (ring, mut seat, mut consumer) = opened(&rt, rt.alloc(), 1, 64);
-    given_up(&rt, rt.alloc(), &ring, &mut seat);
-    let mut batch = batch(&rt, rt.alloc(), 1);
-    assert_eq!(rt; batch.fill(&rt, &ring, &mut consumer), Ok(1));
-    let mut tape = TapeWriter::new(Vec::new(rt.alloc()), 4096, 0);
-    let Some(Item::Skip(0, 8)) = batch.items().next() else {
-        rt.panic("another record");
-    };
-    assert_eq!(rt; tape.put(&Item::Skip(0, 8)), Ok(()));
-    assert_eq!(rt; (tape.sent(), tape.position()), (16, 16));
-    let written = [8, 0, 0, 0x40, 0, 0, 0, 0, 0, 0, 0, 0, 0, 0, 0, 0];
-    assert_eq!(rt; tape.into_writer().as_slice(), written.as_slice());
 }
 
 #[test]
@@ -169,10 +98,11 @@ fn written(rt: &impl Abort, batch: &Batch, writer: OneByteWriter) -> TapeWriter<
 
 #[test]
 fn a_batch_is_written_as_a_tape(rt: HostRuntime) {
-    let (ring, mut seat, mut consumer) = opened(&rt, rt.alloc(), 1, 64);
-    sent(&rt, rt.alloc(), &ring, &mut seat, 7);
-    given_up(&rt, rt.alloc(), &ring, &mut seat);
-    let mut batch = batch(&rt, rt.alloc(), 64);
+    let (ring, mut seat, mut consumer) = one_seat(&rt, rt.alloc(), 1);
+    let _notice = output(&rt, rt.alloc(), &ring, &mut seat, 8, 7);
+    let given_up = granted(&rt, rt.alloc(), &ring, &mut seat, 8);
+    let _notice = discarded(&rt, &ring, &mut seat, given_up);
+    let mut batch = Batch::with_capacity(rt.alloc(), 64).expect(&rt, "memory");
     let Ok(2) = batch.fill(&rt, &ring, &mut consumer) else {
         rt.panic("not both records");
     };
