@@ -12,7 +12,7 @@ use std::sync::Wait;
 
 /// Takes the records of each ring, up to where its producer stands, and returns them ring by ring. The seats are those of the rings'
 /// worker, which runs no more, and the consumers those of the rings. `AllocError` where there is no memory for the records.
-pub fn drain_rings<T: Wait>(
+pub(crate) fn drain_rings<T: Wait>(
     rt: &T,
     alloc: Global,
     rings: &[SharedRing],

@@ -25,7 +25,7 @@ pub struct Fresh {
 
 /// So many rings of 4,096 bytes, each for one worker, with chapters of 65,536 entries. A ring's tag is its number. `AllocError` where there is
 /// no memory for them.
-pub fn fresh_rings<T: Wait>(rt: &T, alloc: Global, number: u32) -> Result<Fresh, AllocError>
+pub(crate) fn fresh_rings<T: Wait>(rt: &T, alloc: Global, number: u32) -> Result<Fresh, AllocError>
     ensures len { IfOk result (λ f. length f.rings.items ≡ number) }
     ensures numbered { IfOk result (λ f. AreNumbered number f.rings.items) }
     ensures seats { IfOk result (λ f. f.seats.items ≡ map fresh_worker f.rings.items) }

@@ -10,7 +10,11 @@ use std::alloc::{AllocError, Global};
 
 /// The text of a run that ended with this value and left these records, ring by ring from ring 0 on: `accepted`, `result R`, and for
 /// each record `ring I pos P worker W serial S len N HEX`, or `ring I pos P len N discarded`. An empty payload is `-`.
-pub fn text_of_run(alloc: Global, value: u64, rings: &[Vec<Taken>]) -> Result<String, AllocError>
+pub(crate) fn text_of_run(
+    alloc: Global,
+    value: u64,
+    rings: &[Vec<Taken>],
+) -> Result<String, AllocError>
     ensures text { IfOk result (λ text. string_bytes text ≡ run_text value (map (λ records. records.items) rings.now)) }
 {
     let mut text = String::new(alloc);

@@ -14,7 +14,7 @@ use rb_check_command::check;
 use rb_io::Buffered;
 use rb_loader::explain;
 use rb_run_commands::{run, run_to_file};
-use rb_sim_command::sim;
+use rb_script::sim;
 use rb_tape_commands::{FeedFault, TapeRefusal, feed, tape};
 use std::alloc::Global;
 use std::convert::AsStr;

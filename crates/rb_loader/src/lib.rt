@@ -9,4 +9,4 @@ mod explain_command;
 mod program;
 
 pub use explain_command::explain;
-pub use program::{Bounds, ProgramFault, accept, read_all, read_program, shape_fault, text_of};
+pub use program::{Bounds, ProgramFault, accept, read_all, read_program, text_of};

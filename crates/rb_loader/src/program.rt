@@ -125,7 +125,7 @@ fn text_fault(fault: TextFault) -> ProgramFault
 }
 
 /// The fault of a shape as one of a program.
-pub fn shape_fault(fault: ShapeFault) -> ProgramFault
+pub(crate) fn shape_fault(fault: ShapeFault) -> ProgramFault
     ensures { result ≡ fault_of_shape fault }
 {
     match fault.kind {

@@ -1,5 +1,8 @@
 //! The shared types, and the laws called once.
 
+use rb_decode::decoding_laws;
+use rb_insn::spelling_laws;
+use rb_refs::{step_keeps_form, step_keeps_order};
 use rb_semantics::{
     MemoryRegion, PendingCall, Value, bytes_written_are_read, plain_annotations_are_valid,
     plain_programs_run_alike, pointers_are_not_read, pointers_stored_are_found,
@@ -29,6 +32,10 @@ fn calls_wait_for_different_answers(rt: HostRuntime) {
 
 #[test]
 fn laws_can_be_called() {
+    spelling_laws();
+    decoding_laws();
+    step_keeps_order();
+    step_keeps_form();
     steps_are_sound();
     programs_can_start();
     runs_end_well();

@@ -126,8 +126,12 @@ fn tell_batch(batch: Batch, count: usize, out: &mut Text) {
         out.push(";");
         tell_item(&item, out);
     }
+    let mut events = 0u64;
+    for _ in batch.events() {
+        events = events.wrapping_add(1);
+    }
     out.push(";");
-    out.field("events", batch.events().count() as u64);
+    out.field("events", events);
     let mut sheets = 0u64;
     for _ in 0..count {
         if batch.recycle().is_some() {

@@ -7,17 +7,19 @@
 //! open RING SIZE START WORKERS ROOM     opens a ring, which is two: one that keeps a chapter of its history at a time, and its twin, which keeps all of it
 //!                                       in a list; each call is made on both, and where they do not answer or stand alike, the row says how
 //! reserve RING RECORD WORKER LEN        hands in a sheet full of ff; RECORD names what is granted
-//! write RECORD AT : BYTES               submit RING RECORD FLAGS              discard RING RECORD FLAGS
+//! write RECORD AT : BYTES, or a sheet   submit RING RECORD FLAGS              discard RING RECORD FLAGS
 //! output RING WORKER FLAGS : BYTES      take RING [N]                         query RING WHAT
 //! counts RING                           written RING: the tape of all that was taken
 //! share RING SIZE START WORKERS ROOM    opens a shared ring. A call of a worker names the worker of its seat in front of its last number, as
 //!                                       `submit s r 0 FLAGS`; and where the seat is another ring's, that ring behind the other names, as `take s t`
 //! audit RING WORKER                     seat RING WORKER                      used RING
-//! consumer RING                         fill RING N: a batch                  close RING [1]: with all seats, or all but the last; or with those of another ring
+//! consumer RING                         fill RING N: a batch                  close RING, close RING 1: with all seats, or all but the last
+//! close RING OTHER: with OTHER's seats
 //! chapter NAME ROOM WORKERS             clear NAME                            after NAME EARLIER: opens NAME behind EARLIER
 //! meets NAME NEXT                       handout RING NAME: NAME is the chapter that was handed out then
 //! bind RING NAME..                      keeper KEEPER NAME MARGIN             turn RING KEEPER
 //! kept KEEPER NAME                      show NAME, opening NAME, closing NAME, entries NAME: of a chapter, or of the one that a ring keeps
+//! sheet SHEET LEN                       renew SHEET LEN                       wipe SHEET
 //! span LEN                              setup SIZE START WORKERS              notice CONSUMER POS FLAGS
 //! encode LEN BUSY DISCARD PAGE          decode : BYTES                        tape SIZE START : BYTES, read as a whole and in pieces
 //! ```
@@ -33,6 +35,7 @@ mod row;
 mod script;
 mod shared_rings;
 mod shared_rows;
+mod sheet_rows;
 mod sheets;
 mod tape_rows;
 mod text;

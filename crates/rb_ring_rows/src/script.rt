@@ -4,12 +4,14 @@ ghost use Rattle.std.specs.Prelude.{◌≡◌, ◌<◌, IfSome};
 
 use crate::row::{Row, RowFault};
 use crate::shared_rings::{SharedPlace, write_record};
+use crate::sheet_rows::write_sheet;
 use crate::text::Text;
 use crate::twin_rings::{Ending, TwinRecord, TwinRings};
-use crate::{chapter_rows, shared_rows, value_rows};
+use crate::{chapter_rows, shared_rows, sheet_rows, value_rows};
 use rb_chapter::Chapter;
 use rb_consumer::Keeper;
 use rb_history::Reservation;
+use rb_lend::Sheet;
 use rb_shared_ring::Closing;
 use std::alloc::Global;
 use std::collections::BTreeMap;
@@ -35,6 +37,7 @@ pub(crate) struct Script {
     pub(crate) shared_records: BTreeMap<String, Reservation>,
     pub(crate) closings: BTreeMap<String, Closing>,
     pub(crate) keepers: BTreeMap<String, Keeper>,
+    pub(crate) sheets: BTreeMap<String, Sheet>,
     /// How many shared rings were asked for; the tag of the last one.
     pub(crate) tags: u64,
 }
@@ -51,6 +54,7 @@ impl Script {
             shared_records: BTreeMap::new(alloc),
             closings: BTreeMap::new(alloc),
             keepers: BTreeMap::new(alloc),
+            sheets: BTreeMap::new(alloc),
             tags: 0,
         }
     }
@@ -99,6 +103,7 @@ impl Script {
             | "opening"
             | "closing"
             | "entries" => chapter_rows::answer(self, row, out),
+            "sheet" | "renew" | "wipe" => sheet_rows::answer(self, row, out),
             _ => value_rows::answer(self.alloc, row, out),
         }
     }
@@ -137,6 +142,8 @@ impl Script {
             held.write(*at, row.bytes.as_slice(), out);
         } else if let Some(held) = self.shared_records.get_mut(*record) {
             write_record(held, *at, row.bytes.as_slice(), out);
+        } else if let Some(sheet) = self.sheets.get_mut(*record) {
+            write_sheet(sheet, *at, row.bytes.as_slice(), out);
         } else {
             out.word("fault: no such record");
         }

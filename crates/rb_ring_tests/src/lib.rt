@@ -19,8 +19,6 @@ mod parts;
 #[cfg(test)]
 mod rings_with_seats;
 #[cfg(test)]
-mod sheets;
-#[cfg(test)]
 mod tape_reader;
 #[cfg(test)]
 mod threads;

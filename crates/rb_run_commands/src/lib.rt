@@ -14,6 +14,5 @@ mod taped_run;
 mod worker_jobs;
 
 pub use jobs_fault::JobsFault;
-pub use run_command::{JOB_BOUNDS, JobsRequest, check_ring, run, run_and_print};
-pub use tape_sink::TapeSink;
+pub use run_command::{JOB_BOUNDS, JobsRequest, check_ring, run};
 pub use taped_run::{WrittenTape, run_taped, run_to_file};

@@ -9,7 +9,7 @@ use std::alloc::{AllocError, Global};
 
 /// The text of a report: for each ring a line `worker W made M refused R submitted S discarded D` for each worker, from worker 0 on, and
 /// `ring made M consumed C discarded D waiting W busy B`; then `strays N`. `AllocError` where there is no memory for it.
-pub fn text_of_report<S>(alloc: Global, report: &Report<S>) -> Result<String, AllocError>
+pub(crate) fn text_of_report<S>(alloc: Global, report: &Report<S>) -> Result<String, AllocError>
     ensures text { IfOk result (λ text. string_bytes text ≡ report_text report.now) }
 {
     let mut text = String::new(alloc);

@@ -105,7 +105,7 @@ pub fn run<T: Threads + Wait + Sync, R: Read, W: Write>(
 }
 
 /// Runs the program as `run` does, with a sink that is given what the ring's consumer takes; it comes back in the report.
-pub fn run_and_print<T: Threads + Wait + Sync, W: Write, S: Sink + Send + Drop>(
+pub(crate) fn run_and_print<T: Threads + Wait + Sync, W: Write, S: Sink + Send + Drop>(
     rt: &T,
     alloc: Global,
     program: &Verified,

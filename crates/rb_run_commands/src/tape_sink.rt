@@ -37,7 +37,7 @@ impl<W: Write> TapeSink<W> {
     ghost use Rattle.rb_run_commands.specs.TapedRun.{WritesOn};
 
     /// A tape of a ring of `size` bytes, whose first record stands at `start`. Nothing is written yet.
-    pub fn new(writer: W, size: u64, start: u64) -> TapeSink<W>
+    pub(crate) fn new(writer: W, size: u64, start: u64) -> TapeSink<W>
         requires size { IsRingSize size }
         requires start { IsStartPosition start }
         ensures value { result ≡ record { writer = writer; size = size; position = start; failed = false } }
@@ -71,14 +71,14 @@ impl<W: Write> TapeSink<W> {
     }
 
     /// Whether the tape ended with a record that did not go out whole.
-    pub fn failed(&self) -> bool
+    pub(crate) fn failed(&self) -> bool
         ensures value { result ≡ self.now.failed }
     {
         self.failed
     }
 
     /// The writer, with what was written to it.
-    pub fn into_writer(self) -> W
+    pub(crate) fn into_writer(self) -> W
         ensures value { result ≡ self.writer }
     {
         self.tape.into_writer()

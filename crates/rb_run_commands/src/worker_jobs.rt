@@ -24,7 +24,11 @@ pub struct JobContext {
 
 /// The contexts of so many jobs of each of so many workers, worker by worker, each worker's in the order of their numbers.
 /// `AllocError` where there is no memory for them.
-pub fn contexts_of(alloc: Global, workers: u32, jobs: u32) -> Result<Vec<JobContext>, AllocError>
+pub(crate) fn contexts_of(
+    alloc: Global,
+    workers: u32,
+    jobs: u32,
+) -> Result<Vec<JobContext>, AllocError>
     ensures contexts { IfOk result (λ contexts. contexts.items ≡ contexts_of_workers workers jobs) }
 {
     let count = (workers as usize).saturating_mul(jobs as usize);
@@ -60,7 +64,7 @@ fn context_of(worker: u32, job: u32) -> [u8; CONTEXT]
 }
 
 /// A job of the program over each of the contexts, in their order. `AllocError` where there is no memory for them.
-pub fn jobs_of<'j>(
+pub(crate) fn jobs_of<'j>(
     alloc: Global,
     program: &'j Verified,
     contexts: &'j [JobContext],

@@ -7,3 +7,5 @@ pub mod WorkerPrograms
 mod TurnLines
 mod WorldEnds
 mod RunnableScripts
+mod PrintedRuns
+mod ToldLines

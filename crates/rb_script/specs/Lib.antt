@@ -3,4 +3,5 @@ pub mod Scripts
 pub mod Programs
 pub mod OutputLines
 pub mod Simulation
+pub mod Simulated
 pub mod inner

@@ -1,6 +1,7 @@
 //! Scripts of worlds: rings, workers with their programs, and the turns that they take, one line each. A script is read as a whole;
 //! then its programs are verified, its turns are run in a `World`, and a line is written for each take and each chapter, and at the end
-//! for each worker and each ring. Records follow Linux Documentation/bpf/ringbuf.rst, and calls bpf-helpers(7).
+//! for each worker and each ring. The command `sim` does so from a reader to a writer. Records follow Linux Documentation/bpf/ringbuf.rst,
+//! and calls bpf-helpers(7).
 //!
 //! ```text
 //! ring 4096 0          a ring: its size, its start, and the room of its chapters, 65536 where none is given
@@ -16,7 +17,9 @@ mod programs;
 mod script;
 mod script_fault;
 mod script_line;
+mod sim_command;
 mod simulation;
 
 pub use script::{Script, ScriptWorker};
 pub use script_fault::ScriptFault;
+pub use sim_command::{SimFault, sim};

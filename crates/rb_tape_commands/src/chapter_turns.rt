@@ -11,7 +11,7 @@ use rb_chapter_ring::RingState;
 #[inline]
 /// Has a ring in which every record was taken go on in the spare chapter, where its own has no room for what one more record logs:
 /// its grant, its submit and its take. The old chapter is emptied, and is the next spare one.
-pub fn make_chapter_room(ring: &mut RingState, spare: &mut Option<Chapter>)
+pub(crate) fn make_chapter_room(ring: &mut RingState, spare: &mut Option<Chapter>)
     requires all_taken { AllTaken ring.old }
     requires number { ring.old.chapter.number < 2 ^ 62 }
     requires spare { IsSpareOf ring.old spare.old }

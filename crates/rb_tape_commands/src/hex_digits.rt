@@ -5,7 +5,7 @@ ghost use Rattle.hex.specs.Hex.{encode_lower};
 ghost use Rattle.rb_tape_commands.specs.inner.HexDigits.{digit_code};
 
 /// Writes each byte as two digits in lower case, the high four bits first.
-pub fn write_digits(bytes: &[u8], out: &mut [u8])
+pub(crate) fn write_digits(bytes: &[u8], out: &mut [u8])
     requires room { length out.old ≡ 2 * length bytes.now }
     ensures digits { out.new ≡ encode_lower bytes.now }
 {

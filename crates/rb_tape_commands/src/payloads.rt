@@ -130,7 +130,7 @@ fn next_of_other_length<R: BufRead>(
 /// Reads the payload of this number into the sheet, or finds that the input ends before it. A payload whose record is too
 /// long for a ring of `size` bytes is refused from its length alone. One that the reader's buffer has whole is copied from there; any
 /// other is read as it comes.
-pub fn next_payload<R: BufRead>(
+pub(crate) fn next_payload<R: BufRead>(
     reader: &mut R,
     spare: Sheet,
     size: u64,

@@ -11,7 +11,7 @@ use std::io::Write;
 
 /// Writes the record as `TapeWriter::put` does, and has its rest written again after each write that failed, as long as there are
 /// `retries`; each one takes one away. An error comes only once none is left.
-pub fn put_with_retries<W: Write>(
+pub(crate) fn put_with_retries<W: Write>(
     tape: &mut TapeWriter<W>,
     item: &Item<'_>,
     retries: &mut u32,
@@ -40,7 +40,10 @@ pub fn put_with_retries<W: Write>(
 }
 
 /// Has the writer hand on all that waits in it, again after each time that this failed, at most `retries` times.
-pub fn hand_out_with_retries<W: Outgoing>(writer: &mut W, retries: u32) -> Result<(), DeviceFault>
+pub(crate) fn hand_out_with_retries<W: Outgoing>(
+    writer: &mut W,
+    retries: u32,
+) -> Result<(), DeviceFault>
     ensures bytes { Keeps (W.contents writer.old) (W.contents writer.new) }
     ensures nothing_waits { OnOk result (W.waiting writer.new ≡ []) }
 {

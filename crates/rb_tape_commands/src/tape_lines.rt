@@ -15,7 +15,7 @@ use std::alloc::AllocError;
 use std::io::Write;
 
 /// Prints the line of the next record that the reader has, and says whether there was one. `line` is room for it, whose bytes are given up.
-pub fn print_next<W: Write>(
+pub(crate) fn print_next<W: Write>(
     feed: &mut Feed,
     out: &mut W,
     line: &mut Vec<u8>,

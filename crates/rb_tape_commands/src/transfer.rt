@@ -12,7 +12,7 @@ use rb_history::Taken;
 use rb_lend::Sheet;
 
 /// Outputs the payload of this number to a ring in which every record was taken, and takes it: where it stood, and its bytes.
-pub fn transfer_payload(
+pub(crate) fn transfer_payload(
     ring: &mut RingState,
     payload: Sheet,
     number: u64,

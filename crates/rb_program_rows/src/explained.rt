@@ -1,0 +1,117 @@
+//! What is explained of programs.
+
+ghost use Rattle.std.specs.Prelude.{◌≤◌};
+
+use crate::decoded::{tell_decode_fault, tell_text_fault};
+use crate::shapes::tell_shape_fault;
+use rb_decode::TextFault;
+use rb_explain::{Explanation, Reason, explain};
+use std::alloc::{AllocError, Global};
+use std::fmt::Write;
+
+/// Which part of an explanation is told.
+#[derive(Clone, Copy)]
+pub(crate) enum Part {
+    /// The lines of its units, each in front of a line feed.
+    Listing,
+    /// The assembly of its instructions.
+    Assembly,
+    /// So many characters of what is said of a fault.
+    Advice(u32),
+}
+
+/// Whether a program is accepted or why not, and a part of what is explained of it, for a context of so many bytes and so many rings.
+pub(crate) fn answer_explain(
+    alloc: Global,
+    (ctx_len, rings): (u64, u64),
+    part: Part,
+    hex: &str,
+    out: &mut String,
+) -> Result<(), AllocError> {
+    if ctx_len > 65_536 || rings > 16 {
+        return out.push_str("out of bounds");
+    }
+    let Ok(explanation) = explain(alloc, hex, ctx_len as u32, rings as u32) else {
+        return out.push_str("refused memory");
+    };
+    tell_reason(explanation.reason, out)?;
+    tell_part(&explanation, part, out)
+}
+
+fn tell_reason(reason: Option<Reason>, out: &mut String) -> Result<(), AllocError> {
+    match reason {
+        None => out.push_str("accepted"),
+        Some(Reason::Text) => tell_text_fault(TextFault::NotHex, out),
+        Some(Reason::Decode(fault)) => tell_decode_fault(fault, out),
+        Some(Reason::Shape(fault)) => tell_shape_fault(fault, out),
+        Some(Reason::Rule { unit, rule }) => {
+            write!(out, "refused verify V{} unit {unit}", rule.number())
+        }
+    }
+}
+
+fn tell_part(explanation: &Explanation, part: Part, out: &mut String) -> Result<(), AllocError> {
+    let text = explanation.text.as_str();
+    match part {
+        Part::Listing => tell_listing(text, out),
+        Part::Assembly => tell_assembly(text, out),
+        Part::Advice(count) => tell_advice(text, count, out),
+    }
+}
+
+// Tells the lines of units, which begin with white space.
+fn tell_listing(text: &str, out: &mut String) -> Result<(), AllocError> {
+    for line in text.lines() {
+        if line.starts_with(' ') {
+            write!(out, "\n{line}|")?;
+        }
+    }
+    Ok(())
+}
+
+// Tells the instruction of each line that is none of what is known, without a helper's name.
+fn tell_assembly(text: &str, out: &mut String) -> Result<(), AllocError> {
+    let mut is_first = true;
+    for line in text.lines() {
+        if !line.starts_with("      #") {
+            out.push_str(if is_first { ": " } else { " ; " })?;
+            out.push_str(insn_in(line))?;
+            is_first = false;
+        }
+    }
+    Ok(())
+}
+
+// The assembly in a line.
+fn insn_in(line: &str) -> &str {
+    let plain = match line.split_once("  # ") {
+        Some((plain, _)) => plain,
+        None => line,
+    };
+    match plain.rsplit_once("  ") {
+        Some((_, insn)) => insn,
+        None => plain,
+    }
+}
+
+// Tells the first characters of what is said of a fault.
+fn tell_advice(text: &str, count: u32, out: &mut String) -> Result<(), AllocError> {
+    for line in text.lines() {
+        if !line.starts_with(' ') {
+            out.push_str(" ")?;
+            tell_front(line, count, out)?;
+        }
+    }
+    Ok(())
+}
+
+fn tell_front(line: &str, count: u32, out: &mut String) -> Result<(), AllocError> {
+    let mut left = count;
+    for letter in line.chars() {
+        if left > 0 {
+            out.push(letter)?;
+            left -= 1;
+        }
+    }
+    Ok(())
+}

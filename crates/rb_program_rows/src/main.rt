@@ -1,0 +1,79 @@
+//! Answers rows over programs: what bytes decode to, the shape of jumps, verification, arithmetic, single steps of the verifier, runs, assembly, and what is explained. A
+//! row is a line of the input, and its answer stands in the output at its place.
+//!
+//! `stdin` has the rows that the gate runs, and `stdout` their answers, which were worked out apart from the code; `tools/rows program` draws
+//! more. A line that is empty or begins with `#` is repeated. `name WORD TEXT` keeps a text, which stands for `{WORD}` in the rows behind it,
+//! and `repeat WORD COUNT TEXT` keeps it so many times over. `row.rt` has the other rows. A line that is none of them is answered by its
+//! number.
+#![tactic(auto)]
+
+mod arithmetic;
+mod assembly;
+mod bytes;
+mod decoded;
+mod explained;
+mod fault;
+mod names;
+mod numbers;
+mod row;
+mod runs;
+mod shapes;
+mod states;
+mod steps;
+mod told_states;
+mod verified;
+mod witness;
+
+use fault::RowsFault;
+use names::Names;
+use std::alloc::Global;
+use std::io::{BufRead, BufReader, BufWriter, Read, Write};
+use std::process::ExitCode;
+
+fn main(rt: HostRuntime) -> ExitCode {
+    match answer_all(rt.alloc(), rt.stdin(), &mut rt.stdout()) {
+        Ok(()) => ExitCode::from(0),
+        Err(fault) => {
+            let _ = eprintln!(rt; "{fault}");
+            ExitCode::from(1)
+        }
+    }
+}
+
+// Answers each line of the input.
+fn answer_all<R: Read + Drop, W: Write>(
+    alloc: Global,
+    input: R,
+    out: &mut W,
+) -> Result<(), RowsFault> {
+    let mut names = Names::new(alloc);
+    let mut number: u64 = 0;
+    let mut out = BufWriter::new(alloc, out)?;
+    for line in BufReader::new(alloc, input)?.lines(alloc) {
+        number = number.wrapping_add(1);
+        answer_line(alloc, &mut names, number, line?.as_str(), &mut out)?;
+    }
+    out.flush()?;
+    Ok(())
+}
+
+// Answers one line.
+fn answer_line<W: Write>(
+    alloc: Global,
+    names: &mut Names,
+    number: u64,
+    line: &str,
+    out: &mut W,
+) -> Result<(), RowsFault> {
+    let mut text = String::new(alloc);
+    if line.is_empty() || line.starts_with('#') {
+        text.push_str(line)?;
+    } else if !names.keep(alloc, line)? {
+        let line = names.in_place(alloc, line)?;
+        row::answer(alloc, number, line.as_str(), &mut text)?;
+    } else {
+        return Ok(());
+    }
+    writeln!(out, "{text}")?;
+    Ok(())
+}

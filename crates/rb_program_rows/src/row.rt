@@ -1,0 +1,179 @@
+//! The rows, and which call answers each.
+
+use crate::arithmetic::answer_compute;
+use crate::assembly::answer_assembly;
+use crate::decoded::{answer_at, answer_decode, answer_text, answer_units};
+use crate::explained::{Part, answer_explain};
+use crate::numbers::{number_of, two_numbers_and_rest, unit_and_rest};
+use crate::runs::answer_run;
+use crate::shapes::{answer_edges, answer_shape};
+use crate::steps::{answer_join, answer_step, answer_step_in_place};
+use crate::verified::answer_verify;
+use rb_insn::Reg;
+use rb_refs::{Helper, Limits};
+use std::alloc::{AllocError, Global};
+use std::fmt::Write;
+
+// A row.
+#[derive(Clone, Copy)]
+enum Row<'a> {
+    // `units HEX`: bytes to a program and back.
+    Units(&'a str),
+    // `decode HEX`: the instructions of a program.
+    Decode(&'a str),
+    // `at UNIT HEX`: the instruction that begins at a unit.
+    At(u32, &'a str),
+    // `text TEXT`: the program of a text with escapes.
+    Text(&'a str),
+    // `shape HEX`: the shape of a program.
+    Shape(&'a str),
+    // `edges UNIT HEX`: where an instruction at a unit leads.
+    Edges(u32, &'a str),
+    // `verify CONTEXT RINGS HEX`: verification for a context of so many bytes and so many rings.
+    Verify(u64, u64, &'a str),
+    // `run CONTEXT RINGS BYTES ANSWERS HEX`: a run over helpers that answer from a list, with this context (`-` where it is empty).
+    Run((u64, u64), &'a str, &'a str, &'a str),
+    // `compute DST SRC HEX`: what an instruction computes of two numbers.
+    Compute(u64, u64, &'a str),
+    // `assembly HEX`: a program as assembly.
+    Assembly(&'a str),
+    // `listing CONTEXT RINGS HEX`, `explained ..` and `advice CONTEXT RINGS COUNT HEX`: a part of what is explained of a program.
+    Explain((u64, u64), Part, &'a str),
+    // `step CONTEXT RINGS UNIT STATE HEX`: a step of the verifier.
+    Step(Limits, u32, &'a str, &'a str),
+    // `step-in-place CONTEXT RINGS UNIT STATE HEX`: the same, in place.
+    StepInPlace(Limits, u32, &'a str, &'a str),
+    // `join STATE STATE`: what two states have in common.
+    Join(&'a str, &'a str),
+    // `helper NUMBER`: the helper of a number.
+    Helper(u64),
+    // `register NUMBER`: the register of a number.
+    Register(u64),
+}
+
+/// Answers the row of a line; a line that is none is told by its number.
+pub(crate) fn answer(
+    alloc: Global,
+    number: u64,
+    line: &str,
+    out: &mut String,
+) -> Result<(), AllocError> {
+    match row_of(line) {
+        Some(row) => answer_row(alloc, row, out),
+        None => write!(out, "line {number}: no row"),
+    }
+}
+
+fn row_of(line: &str) -> Option<Row<'_>> {
+    let (word, rest) = line.split_once(' ')?;
+    match word {
+        "units" => Some(Row::Units(rest)),
+        "decode" => Some(Row::Decode(rest)),
+        "at" => {
+            let (unit, hex) = unit_and_rest(rest)?;
+            Some(Row::At(unit, hex))
+        }
+        "text" => Some(Row::Text(rest)),
+        "shape" => Some(Row::Shape(rest)),
+        "edges" => {
+            let (unit, hex) = unit_and_rest(rest)?;
+            Some(Row::Edges(unit, hex))
+        }
+        "verify" => {
+            let (ctx_len, rings, hex) = two_numbers_and_rest(rest)?;
+            Some(Row::Verify(ctx_len, rings, hex))
+        }
+        "run" => run_of(rest),
+        "assembly" => Some(Row::Assembly(rest)),
+        "listing" => {
+            let (ctx_len, rings, hex) = two_numbers_and_rest(rest)?;
+            Some(Row::Explain((ctx_len, rings), Part::Listing, hex))
+        }
+        "explained" => {
+            let (ctx_len, rings, hex) = two_numbers_and_rest(rest)?;
+            Some(Row::Explain((ctx_len, rings), Part::Assembly, hex))
+        }
+        "advice" => {
+            let (ctx_len, rings, rest) = two_numbers_and_rest(rest)?;
+            let (count, hex) = unit_and_rest(rest)?;
+            Some(Row::Explain((ctx_len, rings), Part::Advice(count), hex))
+        }
+        "compute" => {
+            let (dst, src, hex) = two_numbers_and_rest(rest)?;
+            Some(Row::Compute(dst, src, hex))
+        }
+        "step" => {
+            let (limits, unit, state, hex) = step_of(rest)?;
+            Some(Row::Step(limits, unit, state, hex))
+        }
+        "step-in-place" => {
+            let (limits, unit, state, hex) = step_of(rest)?;
+            Some(Row::StepInPlace(limits, unit, state, hex))
+        }
+        "join" => {
+            let (first, second) = rest.split_once(' ')?;
+            Some(Row::Join(first, second))
+        }
+        "helper" => Some(Row::Helper(number_of(rest)?)),
+        "register" => Some(Row::Register(number_of(rest)?)),
+        _ => None,
+    }
+}
+
+fn run_of(words: &str) -> Option<Row<'_>> {
+    let (ctx_len, rings, rest) = two_numbers_and_rest(words)?;
+    let (context, rest) = rest.split_once(' ')?;
+    let (answers, hex) = rest.split_once(' ')?;
+    let context = if context == "-" { "" } else { context };
+    Some(Row::Run((ctx_len, rings), context, answers, hex))
+}
+
+// A step of the verifier: the limits, the unit, the state, and the instruction.
+fn step_of(words: &str) -> Option<(Limits, u32, &str, &str)> {
+    let (ctx_len, rest) = unit_and_rest(words)?;
+    let (rings, rest) = unit_and_rest(rest)?;
+    let (unit, rest) = unit_and_rest(rest)?;
+    let (state, hex) = rest.split_once(' ')?;
+    Some((Limits { ctx_len, rings }, unit, state, hex))
+}
+
+fn answer_row(alloc: Global, row: Row<'_>, out: &mut String) -> Result<(), AllocError> {
+    match row {
+        Row::Units(hex) => answer_units(alloc, hex, out),
+        Row::Decode(hex) => answer_decode(alloc, hex, out),
+        Row::At(unit, hex) => answer_at(alloc, unit, hex, out),
+        Row::Text(text) => answer_text(alloc, text, out),
+        Row::Shape(hex) => answer_shape(alloc, hex, out),
+        Row::Edges(unit, hex) => answer_edges(alloc, unit, hex, out),
+        Row::Verify(ctx_len, rings, hex) => answer_verify(alloc, ctx_len, rings, hex, out),
+        Row::Run(bounds, context, answers, hex) => {
+            answer_run(alloc, bounds, context, answers, hex, out)
+        }
+        Row::Assembly(hex) => answer_assembly(alloc, hex, out),
+        Row::Explain(bounds, part, hex) => answer_explain(alloc, bounds, part, hex, out),
+        Row::Compute(dst, src, hex) => answer_compute(alloc, dst, src, hex, out),
+        Row::Step(limits, unit, state, hex) => answer_step(alloc, limits, unit, state, hex, out),
+        Row::StepInPlace(limits, unit, state, hex) => {
+            answer_step_in_place(alloc, limits, unit, state, hex, out)
+        }
+        Row::Join(first, second) => answer_join(alloc, first, second, out),
+        Row::Helper(number) => answer_helper(number, out),
+        Row::Register(number) => answer_register(number, out),
+    }
+}
+
+fn answer_helper(number: u64, out: &mut String) -> Result<(), AllocError> {
+    let number = u32::try_from(number).unwrap_or(u32::MAX);
+    match Helper::from_number(number) {
+        Some(helper) => write!(out, "{helper:?} {}", helper.number()),
+        None => out.push_str("none"),
+    }
+}
+
+fn answer_register(number: u64, out: &mut String) -> Result<(), AllocError> {
+    let number = u8::try_from(number).unwrap_or(u8::MAX);
+    match Reg::new(number) {
+        Some(register) => write!(out, "register {}", register.index()),
+        None => out.push_str("none"),
+    }
+}

@@ -1,0 +1,58 @@
+//! The shapes of programs.
+
+ghost use Rattle.std.specs.Prelude.{◌<◌, ◌^◌};
+
+use crate::decoded::{insn_of, tell_bytes, tell_text_fault};
+use rb_cfg::{ShapeFault, ShapeFaultKind, jump_target, next_unit, shape};
+use rb_decode::from_text;
+use std::alloc::{AllocError, Global};
+use std::fmt::Write;
+
+/// The bytes of a program that is well shaped, or why it is not.
+pub(crate) fn answer_shape(alloc: Global, hex: &str, out: &mut String) -> Result<(), AllocError> {
+    let program = match from_text(alloc, hex) {
+        Ok(program) => program,
+        Err(fault) => return tell_text_fault(fault, out),
+    };
+    match shape(alloc, program) {
+        Ok(shape) => {
+            write!(out, "shaped {} units ", shape.program().units())?;
+            tell_bytes(alloc, shape.program(), out)
+        }
+        Err(fault) => tell_shape_fault(fault, out),
+    }
+}
+
+/// Tells why a program is not well shaped.
+pub(crate) fn tell_shape_fault(fault: ShapeFault, out: &mut String) -> Result<(), AllocError> {
+    match fault.kind {
+        ShapeFaultKind::Memory => out.push_str("refused memory"),
+        kind => write!(out, "refused shape {kind:?} unit {}", fault.unit),
+    }
+}
+
+/// Where an instruction at a unit leads: to the unit behind it, and to its jump's target.
+pub(crate) fn answer_edges(
+    alloc: Global,
+    unit: u32,
+    hex: &str,
+    out: &mut String,
+) -> Result<(), AllocError> {
+    let Some(insn) = insn_of(alloc, hex) else {
+        return out.push_str("no instruction");
+    };
+    if unit >= 1 << 31 {
+        return out.push_str("no unit");
+    }
+    out.push_str("next ")?;
+    tell_target(next_unit(unit, &insn), out)?;
+    out.push_str(" jump ")?;
+    tell_target(jump_target(unit, &insn), out)
+}
+
+fn tell_target(unit: Option<u32>, out: &mut String) -> Result<(), AllocError> {
+    match unit {
+        Some(unit) => write!(out, "{unit}"),
+        None => out.push_str("none"),
+    }
+}

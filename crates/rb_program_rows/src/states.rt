@@ -1,0 +1,119 @@
+//! States of the verifier, as words spell them.
+
+ghost use Rattle.std.specs.Prelude.{◌≤◌, ◌<◌, IsTrue, length};
+ghost use Rattle.rb_refs.specs.References.{AreEarlier};
+
+use crate::numbers::number_of;
+use rb_refs::{Abs, AbsState, Held, Reference};
+use std::alloc::{AllocError, Global};
+
+/// The state that a word spells, over that of the entry: `entry`, or assignments with commas between them, none where one is no assignment.
+/// `r3=VALUE` is a register, `p63=VALUE` a place of the stack, and `holds=ID:RING:SIZE:sure` or `..:perhaps` a reference.
+pub(crate) fn state_of(alloc: Global, word: &str) -> Result<Option<AbsState>, AllocError> {
+    let mut state = AbsState::entry(alloc);
+    if word == "entry" {
+        return Ok(Some(state));
+    }
+    for assignment in word.split(',') {
+        if !assign(&mut state, assignment)? {
+            return Ok(None);
+        }
+    }
+    Ok(Some(state))
+}
+
+// Makes an assignment; false where the word is none.
+fn assign(state: &mut AbsState, word: &str) -> Result<bool, AllocError> {
+    let Some((name, value)) = word.split_once('=') else {
+        return Ok(false);
+    };
+    if name == "holds" {
+        return Ok(hold(&mut state.held, value));
+    }
+    let Some(value) = value_of(value) else {
+        return Ok(false);
+    };
+    if let Some(number) = name.strip_prefix('r') {
+        return Ok(put(&mut state.values, number, value));
+    }
+    let place = name
+        .strip_prefix('p')
+        .and_then(number_of)
+        .unwrap_or(u64::MAX);
+    if place > 63 {
+        return Ok(false);
+    }
+    state.places = state.places.with_place(place, value)?;
+    Ok(true)
+}
+
+// Gives a register a value; false where there is no such register.
+fn put(values: &mut [Abs; 11], number: &str, value: Abs) -> bool {
+    match number.parse::<usize>() {
+        Ok(number) if number < 11 => {
+            values[number] = value;
+            true
+        }
+        _ => false,
+    }
+}
+
+// Adds a reference; false where it is none, or not a later one than those that are held, or a fifth one.
+fn hold(held: &mut Held, word: &str) -> bool {
+    let Some(reference) = reference_of(word) else {
+        return false;
+    };
+    if held.is_full() || !are_earlier(reference.id, held) {
+        return false;
+    }
+    *held = held.added(reference);
+    true
+}
+
+fn reference_of(word: &str) -> Option<Reference> {
+    let (id, rest) = word.split_once(':')?;
+    let (ring, rest) = rest.split_once(':')?;
+    let (size, sure) = rest.split_once(':')?;
+    Some(Reference {
+        id: id.parse::<u32>().ok()?,
+        ring: ring.parse::<u32>().ok()?,
+        size: size.parse::<u32>().ok()?,
+        sure: sure == "sure",
+    })
+}
+
+/// Whether all references that are held were reserved before a unit.
+pub(crate) fn are_earlier(unit: u32, held: &Held) -> bool
+    ensures { IsTrue result → AreEarlier unit held.now }
+{
+    for reference in held.as_slice() {
+        if reference.id >= unit {
+            return false;
+        }
+    }
+    true
+}
+
+/// What is known of a value, as a word spells it: `nothing`, `number`, `known:N`, `context:OFFSET`, `stack:OFFSET`, `ring:N`, `perhaps:ID` or
+/// `record:ID:OFFSET`.
+pub(crate) fn value_of(word: &str) -> Option<Abs> {
+    if word == "nothing" {
+        return Some(Abs::Unreadable);
+    }
+    if word == "number" {
+        return Some(Abs::Number);
+    }
+    let (kind, rest) = word.split_once(':')?;
+    match kind {
+        "known" => Some(Abs::Known(number_of(rest)?)),
+        "context" => Some(Abs::Ctx(rest.parse::<i64>().ok()?)),
+        "stack" => Some(Abs::Stack(rest.parse::<i64>().ok()?)),
+        "ring" => Some(Abs::Ring(rest.parse::<u32>().ok()?)),
+        "perhaps" => Some(Abs::Perhaps(rest.parse::<u32>().ok()?)),
+        "record" => {
+            let (id, offset) = rest.split_once(':')?;
+            Some(Abs::Record(id.parse::<u32>().ok()?, offset.parse::<i64>().ok()?))
+        }
+        _ => None,
+    }
+}

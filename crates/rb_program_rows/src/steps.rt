@@ -1,0 +1,141 @@
+//! Single steps of the verifier, the order of its states, and what two of them have in common.
+
+use crate::decoded::insn_of;
+use crate::states::{are_earlier, state_of};
+use crate::told_states::tell_changes;
+use rb_insn::Insn;
+use rb_refs::{AbsState, Effect, Limits, StepFault, below, join, step, step_in_place};
+use std::alloc::{AllocError, Global};
+use std::fmt::Write;
+
+/// The rule that an instruction at a unit breaks in a state, or what it changes along its edges.
+pub(crate) fn answer_step(
+    alloc: Global,
+    limits: Limits,
+    unit: u32,
+    state: &str,
+    hex: &str,
+    out: &mut String,
+) -> Result<(), AllocError> {
+    let Some(insn) = insn_of(alloc, hex) else {
+        return out.push_str("no instruction");
+    };
+    match state_of(alloc, state)? {
+        Some(state) => tell_step(limits, unit, &insn, &state, out),
+        None => out.push_str("no state"),
+    }
+}
+
+fn tell_step(
+    limits: Limits,
+    unit: u32,
+    insn: &Insn,
+    state: &AbsState,
+    out: &mut String,
+) -> Result<(), AllocError> {
+    if !are_earlier(unit, &state.held) {
+        return out.push_str("no earlier references");
+    }
+    match step(limits, unit, insn, state) {
+        Ok(effect) => tell_effect(state, &effect, out),
+        Err(fault) => tell_fault(fault, out),
+    }
+}
+
+fn tell_effect(before: &AbsState, effect: &Effect, out: &mut String) -> Result<(), AllocError> {
+    out.push_str("next")?;
+    tell_changes(before, &effect.next, out)?;
+    out.push_str("; jump")?;
+    tell_changes(before, &effect.jump, out)
+}
+
+fn tell_fault(fault: StepFault, out: &mut String) -> Result<(), AllocError> {
+    match fault {
+        StepFault::Rule(rule) => write!(out, "V{}", rule.number()),
+        StepFault::Memory => out.push_str("refused memory"),
+    }
+}
+
+/// The same of a step that is taken in place, and whether it leads along both edges to one state.
+pub(crate) fn answer_step_in_place(
+    alloc: Global,
+    limits: Limits,
+    unit: u32,
+    state: &str,
+    hex: &str,
+    out: &mut String,
+) -> Result<(), AllocError> {
+    let Some(insn) = insn_of(alloc, hex) else {
+        return out.push_str("no instruction");
+    };
+    match state_of(alloc, state)? {
+        Some(state) => tell_step_in_place(limits, unit, &insn, &state, out),
+        None => out.push_str("no state"),
+    }
+}
+
+fn tell_step_in_place(
+    limits: Limits,
+    unit: u32,
+    insn: &Insn,
+    before: &AbsState,
+    out: &mut String,
+) -> Result<(), AllocError> {
+    let mut state = before.copy()?;
+    if !are_earlier(unit, &state.held) {
+        return out.push_str("no earlier references");
+    }
+    match step_in_place(limits, unit, insn, &mut state) {
+        Ok(jump) => {
+            out.push_str("next")?;
+            tell_changes(before, &state, out)?;
+            tell_jump(before, jump, out)
+        }
+        Err(fault) => tell_fault(fault, out),
+    }
+}
+
+fn tell_jump(
+    before: &AbsState,
+    jump: Option<AbsState>,
+    out: &mut String,
+) -> Result<(), AllocError> {
+    match jump {
+        Some(jump) => {
+            out.push_str("; jump")?;
+            tell_changes(before, &jump, out)
+        }
+        None => out.push_str("; no other jump"),
+    }
+}
+
+/// What is known of two states in common, told as changes of the first, and which of them are below it; and whether the first is below the
+/// second.
+pub(crate) fn answer_join(
+    alloc: Global,
+    first: &str,
+    second: &str,
+    out: &mut String,
+) -> Result<(), AllocError> {
+    match (state_of(alloc, first)?, state_of(alloc, second)?) {
+        (Some(first), Some(second)) => tell_join(&first, &second, out),
+        _ => out.push_str("no state"),
+    }
+}
+
+fn tell_join(first: &AbsState, second: &AbsState, out: &mut String) -> Result<(), AllocError> {
+    match join(first, second)? {
+        Some(both) => {
+            out.push_str("join")?;
+            tell_changes(first, &both, out)?;
+            let above = (below(first, &both), below(second, &both));
+            write!(
+                out,
+                "; above both {above:?} below the first {}",
+                below(&both, first)
+            )?;
+        }
+        None => out.push_str("no join")?,
+    }
+    write!(out, "; first below second {}", below(first, second))
+}

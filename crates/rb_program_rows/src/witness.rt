@@ -1,0 +1,80 @@
+//! Helpers that keep the bytes that went over.
+
+ghost use Rattle.std.specs.Prelude.{◌≡◌, length, true};
+
+use rb_helpers::{Done, Helpers, Listed};
+use rb_lend::{Lent, Sheet};
+use std::alloc::{AllocError, Global};
+
+/// Helpers that answer as others do, and keep the bytes of each record that is submitted or discarded, in order.
+#[derive(Drop)]
+pub(crate) struct Witness {
+    listed: Listed,
+    bytes: Vec<u8>,
+}
+
+impl Witness {
+    /// Helpers that answer as these.
+    pub(crate) fn new(alloc: Global, listed: Listed) -> Witness {
+        let bytes = Vec::new(alloc);
+        Witness { listed, bytes }
+    }
+
+    /// The bytes of all records that were submitted or discarded.
+    pub(crate) fn bytes(&self) -> &[u8] {
+        self.bytes.as_slice()
+    }
+
+    // Keeps some bytes, where there is memory for them.
+    fn keep(&mut self, bytes: &[u8])
+        ensures { self.new.listed ≡ self.old.listed }
+    {
+        let _kept = self.bytes.extend_from_slice(bytes);
+    }
+}
+
+impl Helpers for Witness {
+    type Record = Sheet;
+
+    ghost trace_of = { λ h. h.listed.trace };
+
+    ghost room_of = { λ h. length h.listed.left };
+
+    ghost has_ring = { λ h ring. true };
+
+    ghost leads = { λ first calls last. Unit {0} };
+
+    ghost leads_by_none = { λ h. tt };
+
+    ghost leads_on = { λ a b c first more ab bc. tt };
+
+    fn reserve(&mut self, ring: u32, n: u32, flags: u64) -> Option<Sheet> {
+        self.listed.reserve(ring, n, flags)
+    }
+
+    fn submit(&mut self, owned: Sheet, flags: u64) -> Result<(), Sheet> {
+        self.keep(owned.bytes());
+        self.listed.submit(owned, flags)
+    }
+
+    fn discard(&mut self, owned: Sheet, flags: u64) -> Result<(), Sheet> {
+        self.keep(owned.bytes());
+        self.listed.discard(owned, flags)
+    }
+
+    fn output(&mut self, ring: u32, bytes: &[u8], flags: u64) -> i64 {
+        self.listed.output(ring, bytes, flags)
+    }
+
+    fn query(&mut self, ring: u32, what: u64) -> u64 {
+        self.listed.query(ring, what)
+    }
+
+    fn trace(&self) -> &[Done] {
+        self.listed.trace()
+    }
+
+    fn room(&self) -> usize {
+        self.listed.room()
+    }
+}

@@ -1,0 +1,92 @@
+//! The command `sim`: a script of a world in, the lines of its turns out.
+
+ghost use Rattle.std.specs.Prelude.{◌≡◌, ◌⊎◌, ℕ, Err, IfErr, IfSome, OnOk};
+ghost use Rattle.std.specs.Io.KnownBytes.{Appends, Keeps};
+ghost use Rattle.rb_script.specs.Simulated.{BreaksOffSim, IsSimFaultOf, IsTold, PrintsSim};
+
+use crate::script::Script;
+use crate::script_fault::ScriptFault;
+use rb_io::write_whole;
+use rb_loader::{ProgramFault, read_all};
+use std::alloc::Global;
+use std::io::{Read, Write};
+use thiserror::Error;
+
+/// Why a script was not run to its end.
+#[derive(Clone, Copy, Debug, PartialEq, Eq, Error)]
+pub enum SimFault {
+    /// The line of this number, counted from 1, is at fault, or its program is refused.
+    #[error("line {0}")]
+    Line(usize),
+    /// Out of memory.
+    #[error("memory")]
+    Memory,
+    /// A read or a write failed.
+    #[error("device")]
+    Device,
+}
+
+/// Reads a whole script, verifies its programs, runs its turns in a world, and prints a line for each take and each chapter, and then for
+/// each worker and each ring. Nothing is printed where a line is at fault or a program is refused, and that is told, unless memory runs out or
+/// the device fails; where memory runs out, the lines of the turns before are printed, and nothing else.
+pub fn sim<R: Read, W: Write>(alloc: Global, input: &mut R, out: &mut W) -> Result<(), SimFault>
+    ensures printed { OnOk result (IfSome (R.remaining input.old) (λ text. PrintsSim text (W.contents out.old) (W.contents out.new))) }
+    ensures refused { IfErr result (λ fault. IfSome (R.remaining input.old) (λ text. IsSimFaultOf text fault)) }
+    ensures told { IfSome (R.remaining input.old) (λ text. (line : ℕ) → IsSimFaultOf text (SimFault.Line line) → IsTold line result) }
+    ensures broken_off { IfSome (R.remaining input.old) (λ text. result ≡ Err SimFault.Memory → BreaksOffSim text (W.contents out.old) (W.contents out.new)) }
+    ensures unprinted { (line : ℕ) → result ≡ Err (SimFault.Line line) → Keeps (W.contents out.old) (W.contents out.new) }
+{
+    let bytes = match read_all(alloc, input) {
+        Ok(bytes) => bytes,
+        Err(ProgramFault::Memory) => return Err(SimFault::Memory),
+        Err(_) => return Err(SimFault::Device),
+    };
+    sim_text(alloc, bytes.as_slice(), out)
+}
+
+// The same with the text that was read.
+fn sim_text<W: Write>(alloc: Global, text: &[u8], out: &mut W) -> Result<(), SimFault>
+    ensures printed { OnOk result (PrintsSim text.now (W.contents out.old) (W.contents out.new)) }
+    ensures refused { IfErr result (IsSimFaultOf text.now) }
+    ensures told { (line : ℕ) → IsSimFaultOf text.now (SimFault.Line line) → IsTold line result }
+    ensures broken_off { result ≡ Err SimFault.Memory → BreaksOffSim text.now (W.contents out.old) (W.contents out.new) }
+    ensures unprinted { (line : ℕ) → result ≡ Err (SimFault.Line line) → Keeps (W.contents out.old) (W.contents out.new) }
+{
+    let script = match Script::read(alloc, text) {
+        Ok(script) => script,
+        Err(ScriptFault::Line(line)) => return Err(SimFault::Line(line)),
+        Err(ScriptFault::Memory) => return Err(SimFault::Memory),
+    };
+    let mut turns = Vec::new(alloc);
+    let ends = match script.simulate(alloc, &mut turns) {
+        Ok(ends) => ends,
+        Err(ScriptFault::Line(refused)) => return Err(SimFault::Line(refused)),
+        Err(ScriptFault::Memory) => return Err(print_beginning(out, turns.as_slice())),
+    };
+    if let Err(fault) = print(out, turns.as_slice()) {
+        return Err(fault);
+    }
+    print(out, ends.as_slice())
+}
+
+// Prints the lines of the turns before memory ran out, and answers that it did, or that they could not be printed.
+fn print_beginning<W: Write>(out: &mut W, lines: &[u8]) -> SimFault
+    ensures printed { result ≡ SimFault.Memory → Appends (W.contents out.old) (W.contents out.new) lines.now }
+    ensures fault { (result ≡ SimFault.Memory) ⊎ (result ≡ SimFault.Device) }
+{
+    match print(out, lines) {
+        Ok(()) => SimFault::Memory,
+        Err(_) => SimFault::Device,
+    }
+}
+
+// Prints lines.
+fn print<W: Write>(out: &mut W, lines: &[u8]) -> Result<(), SimFault>
+    ensures printed { OnOk result (Appends (W.contents out.old) (W.contents out.new) lines.now) }
+    ensures fault { IfErr result (λ fault. fault ≡ SimFault.Device) }
+{
+    match write_whole(out, lines) {
+        Ok(()) => Ok(()),
+        Err(_) => Err(SimFault::Device),
+    }
+}
