@@ -1,2 +1,2 @@
 mod HandLock
-mod NoStranger
+pub mod NoStranger

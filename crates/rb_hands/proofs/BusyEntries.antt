@@ -72,6 +72,44 @@ module _ (h : List Entry) (e : Entry) where
         (list_any-snoc (is_discard p) h e ∙ ap (λ x. is_discarded_at h p || x) d ∙ or-false (is_discarded_at h p)) b.busy;
   }
 
+-- ---- an entry that grants
+
+-- nothing was granted or settled at the position of the next record
+module _ (r : Setup) (h : List Entry) (legal : IsLegal r h) (w k n p : ℕ) (longer : IsLegal r (h ++ Res w k n p ∷ [])) where
+  not-granted : is_granted_at h p ≡ false
+  not-granted = false_from_ne_true (is_granted_at h p) (λ was.
+      let before = (kept-from-legal r h legal).single p was in
+      let here : bit (is_grant_at p (Res w k n p)) ≡ 1 = ap bit (eq-eqb p p refl) in
+      let most = granted-once r (h ++ Res w k n p ∷ []) p longer in
+      omega (arith, before, here, most, sum_by-snoc (λ y. bit (is_grant_at p y)) h (Res w k n p)))
+
+  not-settled : (is_submitted_at h p ≡ false) × (is_discarded_at h p ≡ false)
+  not-settled = or_parts (is_submitted_at h p) (is_discarded_at h p) (false_from_ne_true (is_submitted_at h p || is_discarded_at h p) (λ was. true≢false (sym ((kept-from-legal r h legal).named p was) ∙ not-granted)))
+
+  -- a busy record is at another position
+  pub other-place : (q v j m : ℕ) → IsBusy h q v j m → q ≢ p
+  other-place q v j m b same = true≢false (sym (is-granted h v j m q b.granted_is) ∙ ap (is_granted_at h) same ∙ not-granted)
+
+  -- the record is busy then
+  pub new-busy : IsBusy (h ++ Res w k n p ∷ []) p w k n
+  new-busy = record {
+    granted_is = Contains-push h (Res w k n p);
+    busy = busy-from (is_submitted_at (h ++ Res w k n p ∷ []) p) (is_discarded_at (h ++ Res w k n p ∷ []) p) (is_taken_at (h ++ Res w k n p ∷ []) p)
+        (list_any-snoc (is_submit p) h (Res w k n p) ∙ or-false (is_submitted_at h p) ∙ not-settled.0)
+        (list_any-snoc (is_discard p) h (Res w k n p) ∙ or-false (is_discarded_at h p) ∙ not-settled.1);
+  }
+
+-- what is busy then was busy, or is the new record
+busy-cases : (h : List Entry) (w k n p q v j m : ℕ) → IsBusy (h ++ Res w k n p ∷ []) q v j m → IsBusy h q v j m ⊎ (Res v j m q ≡ Res w k n p)
+busy-cases h w k n p q v j m b = elim (Contains-push_cases h (Res w k n p) (Res v j m q) b.granted_is) [
+  | inl old ↦ inl (record {
+    granted_is = old;
+    busy = busy-same (h ++ Res w k n p ∷ []) h q (sym (list_any-snoc (is_submit q) h (Res w k n p) ∙ or-false (is_submitted_at h q)))
+        (sym (list_any-snoc (is_discard q) h (Res w k n p) ∙ or-false (is_discarded_at h q))) b.busy;
+  })
+  | inr new ↦ inr (sym new)
+]
+
 -- an entry that neither grants nor settles changes no busy record
 quiet : (h : List Entry) (e : Entry) (book : HandBook) → ((p w k n : ℕ) → Res w k n p ≡ e → ⊥) → ((p : ℕ) → is_submit p e ≡ false) → ((p : ℕ) → is_discard p e ≡ false) → IsBookOf book h → IsBookOf book (h ++ e ∷ [])
 quiet h e book other s d is = record {
@@ -128,7 +166,7 @@ contains_split (x ∷ h) e (suc i, l, is) = let c = contains_split h e (i, omega
 -- ---- an entry that settles a busy record
 
 -- a busy record that was submitted or discarded is busy no more
-no-more : (h : List Entry) (e : Entry) (p w k n : ℕ) → (is_submit p e || is_discard p e) ≡ true → IsBusy (h ++ e ∷ []) p w k n → ⊥
+pub no-more : (h : List Entry) (e : Entry) (p w k n : ℕ) → (is_submit p e || is_discard p e) ≡ true → IsBusy (h ++ e ∷ []) p w k n → ⊥
 no-more h e p w k n settles b =
     let parts = busy-parts (is_submitted_at (h ++ e ∷ []) p) (is_discarded_at (h ++ e ∷ []) p) (is_taken_at (h ++ e ∷ []) p) b.busy in
     let s = or_parts (is_submitted_at h p) (is_submit p e) (sym (list_any-snoc (is_submit p) h e) ∙ parts.0) in
@@ -180,38 +218,9 @@ module _ (r : Setup) (h : List Entry) (book : HandBook) (legal : IsLegal r h) (s
 
   -- ---- an entry that grants
 
-  -- nothing was granted or settled at the position of the next record
   module _ (w k n p : ℕ) (longer : IsLegal r (h ++ Res w k n p ∷ [])) where
-    pub not-granted : is_granted_at h p ≡ false
-    not-granted = false_from_ne_true (is_granted_at h p) (λ was.
-        let before = (kept-from-legal r h legal).single p was in
-        let here : bit (is_grant_at p (Res w k n p)) ≡ 1 = ap bit (eq-eqb p p refl) in
-        let most = granted-once r (h ++ Res w k n p ∷ []) p longer in
-        omega (arith, before, here, most, sum_by-snoc (λ y. bit (is_grant_at p y)) h (Res w k n p)))
-
-    not-settled : (is_submitted_at h p ≡ false) × (is_discarded_at h p ≡ false)
-    not-settled = or_parts (is_submitted_at h p) (is_discarded_at h p) (false_from_ne_true (is_submitted_at h p || is_discarded_at h p) (λ was. true≢false (sym ((kept-from-legal r h legal).named p was) ∙ not-granted)))
-
     elsewhere : (x : OutRecord) (v g : ℕ) → hand_at book v g ≡ Some x → x.pos ≢ p
-    elsewhere x v g at same = true≢false (sym (is-granted h v x.serial x.len x.pos (is.out_is_busy v g x at).granted_is) ∙ ap (is_granted_at h) same ∙ not-granted)
-
-    new-busy : IsBusy (h ++ Res w k n p ∷ []) p w k n
-    new-busy = record {
-      granted_is = Contains-push h (Res w k n p);
-      busy = busy-from (is_submitted_at (h ++ Res w k n p ∷ []) p) (is_discarded_at (h ++ Res w k n p ∷ []) p) (is_taken_at (h ++ Res w k n p ∷ []) p)
-          (list_any-snoc (is_submit p) h (Res w k n p) ∙ or-false (is_submitted_at h p) ∙ not-settled.0)
-          (list_any-snoc (is_discard p) h (Res w k n p) ∙ or-false (is_discarded_at h p) ∙ not-settled.1);
-    }
-
-    busy-cases : (q v j m : ℕ) → IsBusy (h ++ Res w k n p ∷ []) q v j m → IsBusy h q v j m ⊎ (Res v j m q ≡ Res w k n p)
-    busy-cases q v j m b = elim (Contains-push_cases h (Res w k n p) (Res v j m q) b.granted_is) [
-      | inl old ↦ inl (record {
-        granted_is = old;
-        busy = busy-same (h ++ Res w k n p ∷ []) h q (sym (list_any-snoc (is_submit q) h (Res w k n p) ∙ or-false (is_submitted_at h q)))
-            (sym (list_any-snoc (is_discard q) h (Res w k n p) ∙ or-false (is_discarded_at h q))) b.busy;
-      })
-      | inr new ↦ inr (sym new)
-    ]
+    elsewhere x v g at = other-place r h legal w k n p longer x.pos v x.serial x.len (is.out_is_busy v g x at)
 
     module _ (low : w < r.workers) (hand : ℕ) (free : IsFree (hands_of book w) hand) where
       there : (v g : ℕ) → (v ≡ w → g ≡ hand → ⊥) → hand_at (with_hand book w hand (Some (out_record p k n))) v g ≡ hand_at book v g
@@ -235,9 +244,9 @@ module _ (r : Setup) (h : List Entry) (book : HandBook) (legal : IsLegal r h) (s
       granted = record {
         out_is_busy = λ v g x at. elim (cases-now v g x at) [
           | inl old ↦ busy-after h (Res w k n p) x.pos v x.serial x.len refl refl (is.out_is_busy v g x old)
-          | inr new ↦ subst (λ y. IsBusy (h ++ Res w k n p ∷ []) y.pos v y.serial y.len) (sym new.2) (subst (λ u. IsBusy (h ++ Res w k n p ∷ []) p u k n) (sym new.0) new-busy)
+          | inr new ↦ subst (λ y. IsBusy (h ++ Res w k n p ∷ []) y.pos v y.serial y.len) (sym new.2) (subst (λ u. IsBusy (h ++ Res w k n p ∷ []) p u k n) (sym new.0) (new-busy r h legal w k n p longer))
         ];
-        busy_is_out = λ q v j m b. elim (busy-cases q v j m b) [
+        busy_is_out = λ q v j m b. elim (busy-cases h w k n p q v j m b) [
           | inl old ↦
               let o = is.busy_is_out q v j m old in
               let not_it : v ≡ w → o.0 ≡ hand → ⊥ = λ same same_hand. none-out (out_record q j m) (sym free.free ∙ (λ i. hand_at book (sym same i) (sym same_hand i)) ∙ o.1) in
@@ -276,7 +285,7 @@ module _ (r : Setup) (h : List Entry) (book : HandBook) (legal : IsLegal r h) (s
             busy-after mid (Sub p) x.pos v x.serial x.len (ne_eqb p x.pos (λ e. apart (sym e))) refl (busy-after h (Res w k n p) x.pos v x.serial x.len refl refl (is.out_is_busy v g x at));
         busy_is_out = λ q v j m b. elim (cases_eq q p) [
           | inl at ↦ absurd (no-more mid (Sub p) q v j m (or_left (p == q) false (eq-eqb p q (sym at))) b)
-          | inr apart ↦ elim (busy-cases w k n p granted_legal q v j m (busy-before mid (Sub p) q v j m (not-sub q v j m p) (ne_eqb p q (λ e. apart (sym e))) refl b)) [
+          | inr apart ↦ elim (busy-cases h w k n p q v j m (busy-before mid (Sub p) q v j m (not-sub q v j m p) (ne_eqb p q (λ e. apart (sym e))) refl b)) [
             | inl old ↦ is.busy_is_out q v j m old
             | inr new ↦ absurd (apart (ap entry-position new))
           ]

@@ -1,6 +1,6 @@
 //! The calls that a program may make.
 
-ghost use Rattle.std.specs.Prelude.{◌≡◌, ℕ, ◌+◌, ◌<◌, List, [], ◌∷◌, ◌++◌, length, replicate, IfErr, IfSome, is_some, is_ok, Bool, true};
+ghost use Rattle.std.specs.Prelude.{◌≡◌, ◌≢◌, ℕ, ◌+◌, ◌<◌, List, [], ◌∷◌, ◌++◌, length, replicate, IfErr, IfSome, is_some, is_ok, Bool, true};
 ghost use Rattle.rb_helpers.specs.declared.done.Done.{Done};
 ghost use Rattle.rb_helpers.specs.declared.done.Done.TheVariants.{Reserve, Submit, Discard, Output, Query};
 ghost use Rattle.rb_helpers.specs.AnsweredCalls.{AnsweredCall, Reserved, Submitted, Discarded, SentOut, Queried};
@@ -27,6 +27,15 @@ pub trait Helpers {
     /// Whether these calls, the oldest first, with these answers, lead from the first value to the second.
     ghost leads: { Self → List (AnsweredCall Self.Record) → Self → Type 0 };
 
+    /// Whether these helpers keep what they grant: each record until it is submitted or discarded, and a kept one is never handed back.
+    ghost keeps_records: { Bool };
+
+    /// Whether the helpers keep this record, with the bytes that it has.
+    ghost keeps: { Self → Self.Record → Type 0 };
+
+    /// A record's name: the number of its ring, and one of its own there. Records that are kept at once have different names.
+    ghost name_of: { Self.Record → ℕ × ℕ };
+
     /// A record of `n` zero bytes in the ring of this number, or null, which is `None` (bpf_ringbuf_reserve).
     fn reserve(&mut self, ring: u32, n: u32, flags: u64) -> Option<Self::Record>
         requires room { 0 < room_of self.old }
@@ -35,6 +44,8 @@ pub trait Helpers {
         ensures room { room_of self.new + 1 ≡ room_of self.old }
         ensures rings { has_ring self.new ≡ has_ring self.old }
         ensures called { leads self.old (Reserved ring n flags result ∷ []) self.new }
+        ensures kept { keeps_records ≡ true → IfSome result (λ r. keeps self.new r × ((s : Self.Record) → keeps self.old s → name_of s ≢ name_of r)) }
+        ensures still_kept { (s : Self.Record) → keeps self.old s → keeps self.new s }
         ensures zeros { IfSome result (λ r. Self.Record.bytes_of r ≡ replicate n 0) };
 
     /// Takes the record, to be consumed, or refuses it and hands the very record back (bpf_ringbuf_submit).
@@ -44,6 +55,9 @@ pub trait Helpers {
         ensures room { room_of self.new + 1 ≡ room_of self.old }
         ensures rings { has_ring self.new ≡ has_ring self.old }
         ensures called { leads self.old (Submitted owned flags (is_ok result) ∷ []) self.new }
+        ensures never_back { keeps self.old owned → is_ok result ≡ true }
+        ensures let_go { keeps self.new owned → ⊥ }
+        ensures still_kept { (s : Self.Record) → keeps self.old s → name_of s ≢ name_of owned → keeps self.new s }
         ensures handed_back { IfErr result (λ back. back ≡ owned) };
 
     /// Takes the record, to be passed over, or refuses it and hands the very record back (bpf_ringbuf_discard).
@@ -53,6 +67,9 @@ pub trait Helpers {
         ensures room { room_of self.new + 1 ≡ room_of self.old }
         ensures rings { has_ring self.new ≡ has_ring self.old }
         ensures called { leads self.old (Discarded owned flags (is_ok result) ∷ []) self.new }
+        ensures never_back { keeps self.old owned → is_ok result ≡ true }
+        ensures let_go { keeps self.new owned → ⊥ }
+        ensures still_kept { (s : Self.Record) → keeps self.old s → name_of s ≢ name_of owned → keeps self.new s }
         ensures handed_back { IfErr result (λ back. back ≡ owned) };
 
     /// Outputs a copy of the bytes to the ring. The answer is 0, or a failure below it, as `-EINVAL` or `-EAGAIN`
@@ -63,6 +80,7 @@ pub trait Helpers {
         ensures trace { trace_of self.new ≡ trace_of self.old ++ Output ring (length bytes.now) flags result ∷ [] }
         ensures room { room_of self.new + 1 ≡ room_of self.old }
         ensures rings { has_ring self.new ≡ has_ring self.old }
+        ensures still_kept { (s : Self.Record) → keeps self.old s → keeps self.new s }
         ensures called { leads self.old (SentOut ring bytes.now flags result ∷ []) self.new };
 
     /// Asks the ring for a number: 0 for the bytes that were not consumed yet, 1 for its size, 2 for the consumer position and
@@ -73,6 +91,7 @@ pub trait Helpers {
         ensures trace { trace_of self.new ≡ trace_of self.old ++ Query ring what result ∷ [] }
         ensures room { room_of self.new + 1 ≡ room_of self.old }
         ensures rings { has_ring self.new ≡ has_ring self.old }
+        ensures still_kept { (s : Self.Record) → keeps self.old s → keeps self.new s }
         ensures called { leads self.old (Queried ring what result ∷ []) self.new };
 
     /// The calls so far with their answers, the oldest first.
@@ -85,6 +104,12 @@ pub trait Helpers {
 
     /// No calls lead from a value to itself.
     ghost leads_by_none: { (h : Self) → leads h [] h };
+
+    /// A record is kept whatever is written to it.
+    ghost kept_written: { (h : Self) (r : Self.Record) (w : List ℕ) → keeps h r → keeps h (Self.Record.with_bytes r w) };
+
+    /// A record has its name whatever is written to it.
+    ghost name_stays: { (r : Self.Record) (w : List ℕ) → name_of (Self.Record.with_bytes r w) ≡ name_of r };
 
     /// Calls, and then calls from where those led, lead the whole way.
     ghost leads_on: { (a b c : Self) (first more : List (AnsweredCall Self.Record)) → leads a first b → leads b more c → leads a (first ++ more) c };

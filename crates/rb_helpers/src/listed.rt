@@ -1,6 +1,6 @@
 //! Helpers that answer from a list.
 
-ghost use Rattle.std.specs.Prelude.{◌≡◌, ℕ, ◌+◌, ◌<◌, ◌≤◌, List, [], ◌∷◌, ◌++◌, length, replicate, IfOk, IfErr, IfSome, is_some, is_ok, Bool, true, drop, ℤ, pos};
+ghost use Rattle.std.specs.Prelude.{◌≡◌, ℕ, ◌+◌, ◌<◌, ◌≤◌, List, [], ◌∷◌, ◌++◌, length, replicate, IfOk, IfErr, IfSome, is_some, is_ok, Bool, true, false, refl, drop, ℤ, pos};
 ghost use Rattle.rb_helpers.specs.declared.done.Done.{Done};
 ghost use Rattle.rb_helpers.specs.declared.done.Done.TheVariants.{Reserve, Submit, Discard, Output, Query};
 ghost use Rattle.rb_helpers.specs.ListedAnswers.{Answers, ListLeads, next_of, output_answer};
@@ -86,6 +86,16 @@ impl Helpers for Listed {
     ghost has_ring = { λ h ring. true };
 
     ghost leads = { ListLeads };
+
+    ghost keeps_records = { false };
+
+    ghost keeps = { λ h r. ⊥ };
+
+    ghost name_of = { λ r. (0, 0) };
+
+    ghost kept_written = { λ h r w kept. kept };
+
+    ghost name_stays = { λ r w. refl };
 
     ghost leads_by_none = { none_called };
 

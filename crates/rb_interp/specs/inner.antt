@@ -1,3 +1,4 @@
+pub mod Advancing
 pub mod ExecutedInstruction
 pub mod Reaching
 pub mod SlotTable
@@ -5,3 +6,4 @@ pub mod KeptPointers
 pub mod NearOffsets
 pub mod PendingRequests
 pub mod RegisterValues
+pub mod KeptRecords

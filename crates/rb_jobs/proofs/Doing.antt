@@ -1,7 +1,8 @@
 -- What a run of the helpers over seats shows of a job.
-use Rattle.std.proofs.Common.{false, ◌≡◌, ℕ, ◌^◌, ◌<◌, List, [], ◌++◌, length, ap, sym, ◌∙◌, subst, arith}
+use Rattle.std.proofs.Common.{false, ◌≡◌, ◌≢◌, Err, ℕ, ◌^◌, ◌<◌, List, [], ◌++◌, length, ap, sym, ◌∙◌, subst, arith}
 use Rattle.std.specs.Prelude.{OnOk}
 use Rattle.rb_helpers.specs.AnsweredCalls.{AnsweredCall, notes_of}
+use Rattle.rb_interp.specs.declared.fault.RunFault.TheVariants.{Stray}
 use Rattle.rb_interp.specs.RunTraces.{RunMatches, TellsLength, TraceBalances}
 use Rattle.rb_ledger.specs.Seats.{Shared, WorkerSeat}
 use Rattle.rb_seats.specs.declared.seat_record.SeatRecord.{SeatRecord}
@@ -16,13 +17,14 @@ use Rattle.rb_jobs.specs.inner.CallCount.{CountsCalls}
 -- the calls led from the one state of the seats to the other
 abbrev ran_by : (task : Task) (answer : JobAnswer) (calls : List (AnsweredCall SeatRecord)) (old new : List WorkerSeat)
     → TellsLength task.program task.context answer.result → RunMatches record_bytes with_record_bytes task.program task.context calls answer.result
-    → OnOk answer.result (TraceBalances [] (notes_of calls)) → SeatsLead old calls answer.unlogged new → JobRan task answer old new
-ran_by task answer calls old new told shows balanced led =
+    → answer.result ≢ Err Stray → OnOk answer.result (TraceBalances [] (notes_of calls)) → SeatsLead old calls answer.unlogged new → JobRan task answer old new
+ran_by task answer calls old new told shows kept balanced led =
     let rise = totals_rise old new calls answer.unlogged led in
     record {
       calls = calls;
       length_is = told;
       shows = shows;
+      never_stray = kept;
       led = led;
       may_answer = all_may_answer old new calls answer.unlogged led;
       balanced = balanced;
@@ -38,9 +40,9 @@ pub did_counted : (task : Task) (answer : JobAnswer) (calls : List (AnsweredCall
     (old new : List WorkerSeat) (before after : ℕ) → start ≡ record { rings = rings; seats = old; trace = []; room = room; unlogged = 0; due = false }
     → answer.unlogged ≡ now.unlogged → new ≡ now.seats → count ≡ before → after ≡ counted → before < 2 ^ 64
     → TellsLength task.program task.context answer.result → RunMatches record_bytes with_record_bytes task.program task.context calls answer.result
-    → OnOk answer.result (TraceBalances start.trace now.trace) → Leads start calls now → CountsCalls count (length calls) counted
+    → answer.result ≢ Err Stray → OnOk answer.result (TraceBalances start.trace now.trace) → Leads start calls now → CountsCalls count (length calls) counted
     → JobRanCounted task answer old new before after
-did_counted task answer calls start now rings room count counted old new before after fresh unlogged new_is before_is after_is fits told shows balanced leads counts =
+did_counted task answer calls start now rings room count counted old new before after fresh unlogged new_is before_is after_is fits told shows kept balanced leads counts =
     let led = leads_seats start now calls leads in
     let old_is : start.seats ≡ old = ap (λ (h : AtSeats). h.seats) fresh in
     let empty : start.trace ≡ [] = ap (λ (h : AtSeats). h.trace) fresh in
@@ -50,7 +52,7 @@ did_counted task answer calls start now rings room count counted old new before 
     let trace : now.trace ≡ notes_of calls = led.trace_is ∙ ap (λ t. t ++ notes_of calls) empty in
     let seats : SeatsLead old calls answer.unlogged new =
     subst (λ u. SeatsLead old calls u new) failed (subst (λ xs. SeatsLead old calls led.unlogged xs) (sym new_is) (subst (λ xs. SeatsLead xs calls led.unlogged now.seats) old_is led.seats_led)) in (
-      ran_by task answer calls old new told shows
+      ran_by task answer calls old new told shows kept
           (subst (λ t. OnOk answer.result (TraceBalances [] t)) trace (subst (λ t. OnOk answer.result (TraceBalances t now.trace)) empty balanced)) seats,
       after_is ∙ counts (omega (arith, before_is, fits)) ∙ ap (λ n. counted_on n (length calls)) before_is,
     )

@@ -1,4 +1,4 @@
--- A job that ends with a result submitted and discarded as many records as it made.
+-- A job submitted and discarded as many records as it made.
 use Rattle.std.proofs.Common.{◌≡◌, ◌≢◌, ℕ, zero, suc, ◌+◌, pos, negsuc, true, false, cond, List, [], ◌∷◌, map, Result, Ok, Err, refl, sym, subst, arith}
 use Rattle.std.specs.Prelude.{count_by, OnOk}
 use Rattle.rb_verifier.specs.Subject.{Subject}
@@ -136,7 +136,7 @@ calls_give_back subject context (Err ContextLength) calls shows balanced ends =
     subst (λ made. call_total makes (notes_of made) ≡ call_total submits (notes_of made) + call_total discards (notes_of made)) (sym shows) refl
 
 pub jobs_balance : JobsGiveBack
-jobs_balance task answer old new did ends =
-    let even = calls_give_back task.program task.context answer.result did.calls did.shows did.balanced ends in
+jobs_balance task answer old new did =
+    let even = calls_give_back task.program task.context answer.result did.calls did.shows did.balanced did.never_stray in
     let made = did.made_is in let submitted = did.submitted_is in let discarded = did.discarded_is in
     omega (arith, even, made, submitted, discarded)

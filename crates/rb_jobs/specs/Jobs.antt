@@ -21,13 +21,14 @@ pub record Task : Type 0 where
 abbrev pub task_of : Job → Task
 task_of job = record { worker = job.worker; program = job.program.now; context = job.ctx.now }
 
--- The job was run: it made these calls, with these answers. They are those of the program's meaning, which gives this answer; they lead from the
--- one state of the worker's seats to the other; and the seats' numbers together rose by what they say. Each null for flags 0 and each answer
--- -EAGAIN is refused in a ring's history, or unlogged.
+-- The job was run: it made these calls, with these answers. They are those of the program's meaning, which gives this answer; no record was handed
+-- back; they lead from the one state of the worker's seats to the other; and the seats' numbers together rose by what they say. Each null for flags 0
+-- and each answer -EAGAIN is refused in a ring's history, or unlogged.
 pub record JobRan (task : Task) (answer : JobAnswer) (old new : List WorkerSeat) : Type 0 where
   pub calls : List (AnsweredCall SeatRecord)
   pub length_is : TellsLength task.program task.context answer.result
   pub shows : RunMatches record_bytes with_record_bytes task.program task.context calls answer.result
+  pub never_stray : answer.result ≢ Err Stray
   pub led : SeatsLead old calls answer.unlogged new
   pub may_answer : AllMayAnswer (notes_of calls)
   pub balanced : OnOk answer.result (TraceBalances [] (notes_of calls))
@@ -45,8 +46,8 @@ counted_on count calls = min (count + calls) (2 ^ 64 - 1)
 abbrev pub JobRanCounted : Task → JobAnswer → List WorkerSeat → List WorkerSeat → ℕ → ℕ → Type 0
 JobRanCounted task answer old new count counted = (ran : JobRan task answer old new) × (counted ≡ counted_on count (length ran.calls))
 
--- a job that did not end with a stray record submitted and discarded as many records as it made
+-- a job submitted and discarded as many records as it made
 abbrev pub JobsGiveBack : Type 0
 JobsGiveBack =
-    (task : Task) (answer : JobAnswer) (old new : List WorkerSeat) → JobRan task answer old new → answer.result ≢ Err Stray
+    (task : Task) (answer : JobAnswer) (old new : List WorkerSeat) → JobRan task answer old new
     → made_in new + submitted_in old + discarded_in old ≡ made_in old + submitted_in new + discarded_in new

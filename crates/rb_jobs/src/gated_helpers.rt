@@ -70,6 +70,16 @@ impl<'g, H: Helpers + Drop, G: Gate> Helpers for GatedHelpers<'g, H, G> {
 
     ghost leads = { λ start made g. H.leads start.inner made g.inner × CountsCalls start.calls (length made) g.calls };
 
+    ghost keeps_records = { H.keeps_records };
+
+    ghost keeps = { λ g. H.keeps g.inner };
+
+    ghost name_of = { H.name_of };
+
+    ghost kept_written = { λ g. H.kept_written g.inner };
+
+    ghost name_stays = { H.name_stays };
+
     ghost leads_by_none = { λ g. (H.leads_by_none g.inner, none_counted g.calls) };
 
     ghost leads_on = { λ a b c first more before after. (H.leads_on a.inner b.inner c.inner first more before.0 after.0, both_counted a.calls b.calls c.calls first more before.1 after.1) };

@@ -2,7 +2,7 @@
 
 ghost use Rattle.rb_jobs.specs.Jobs.{JobsGiveBack};
 
-/// A job that did not end with a stray record submitted and discarded as many records as it made.
+/// A job submitted and discarded as many records as it made. The function does nothing; its contract is the law.
 pub fn jobs_give_back()
     ensures { JobsGiveBack }
 {}

@@ -1,6 +1,6 @@
 //! Helpers that keep the bytes that went over.
 
-ghost use Rattle.std.specs.Prelude.{◌≡◌, length, true};
+ghost use Rattle.std.specs.Prelude.{◌≡◌, length, false, refl, true};
 
 use rb_helpers::{Done, Helpers, Listed};
 use rb_lend::{Lent, Sheet};
@@ -43,6 +43,16 @@ impl Helpers for Witness {
     ghost has_ring = { λ h ring. true };
 
     ghost leads = { λ first calls last. Unit {0} };
+
+    ghost keeps_records = { false };
+
+    ghost keeps = { λ h r. ⊥ };
+
+    ghost name_of = { λ r. (0, 0) };
+
+    ghost kept_written = { λ h r w kept. kept };
+
+    ghost name_stays = { λ r w. refl };
 
     ghost leads_by_none = { λ h. tt };
 

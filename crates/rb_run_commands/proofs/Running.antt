@@ -1,5 +1,5 @@
 -- A run over one ring that was just opened.
-use Rattle.std.proofs.Common.{◌≡◌, ◌≤◌, ℕ, false, List, Result, Ok, Err, arith, [], ◌∷◌, length, map, refl, ap, sym, ◌∙◌, subst, inr}
+use Rattle.std.proofs.Common.{◌≡◌, ◌≤◌, ℕ, false, List, Result, Ok, Err, arith, [], ◌∷◌, length, map, sym, ◌∙◌, subst, inr}
 use Rattle.std.specs.Prelude.{All}
 use Rattle.std.specs.Result.{OkIff, result_unwrap_or}
 use Rattle.std.proofs.lemmas.List.Elements.{All-nil, All-cons}
@@ -7,7 +7,7 @@ use Rattle.rb_jobs.specs.Jobs.{task_of}
 use Rattle.rb_jobs.specs.declared.job.Job.{Job}
 use Rattle.rb_chapter.specs.Chapters.{IsChapterRoom, empty_chapter}
 use Rattle.rb_chapter_ledger.specs.ChapterSeats.{fresh_chapter_consumer}
-use Rattle.rb_ledger.specs.Seats.{HasSettledAll, WorkerSeat, fresh_book, fresh_seats}
+use Rattle.rb_ledger.specs.Seats.{HasSettledAll, fresh_book, fresh_seats}
 use Rattle.rb_verifier.specs.Subject.{Subject}
 use Rattle.rb_workers.specs.declared.opened.Opened.{Opened}
 use Rattle.rb_workers.specs.Opened.{IsOpened, AreOpened, workers_of}
@@ -56,9 +56,9 @@ module _ {S : Type 0} (position : S → ℕ) (takes : S → SinkItem → S → T
       → one.sink ≡ sink → All HasSettledAll one.seats.items
       → map task_of jobs ≡ tasks_of_workers subject workers request.jobs
       → IsReport position takes opened jobs report
-      → (report.strays ≡ 0 → EachSettled (workers_of opened) (seat_rows opened) → All EndsSettled report.rings.items)
+      → report.strays ≡ 0 → (EachSettled (workers_of opened) (seat_rows opened) → All EndsSettled report.rings.items)
       → RunsWorkers position takes sink subject request report
-  ran_workers as_many is seats consumer keeper same_sink nothing_made tasks reported settled = record {
+  ran_workers as_many is seats consumer keeper same_sink nothing_made tasks reported none settled = record {
     opened = one;
     jobs = jobs;
     just_opened = record {
@@ -69,7 +69,8 @@ module _ {S : Type 0} (position : S → ℕ) (takes : S → SinkItem → S → T
     };
     tasks_are = subst (λ n. map task_of jobs ≡ tasks_of_workers subject n request.jobs) as_many tasks;
     reported = subst (λ o. IsReport position takes o jobs report) is reported;
-    settled = λ none. settled none (one_settled one opened is nothing_made);
+    no_strays = none;
+    settled = settled (one_settled one opened is nothing_made);
   }
 
 -- an accepted program is refused for what its ring is refused for

@@ -23,7 +23,7 @@ use Rattle.rb_run_commands.specs.declared.jobs_fault.JobsFault.{JobsFault}
 use Rattle.rb_run_commands.specs.declared.jobs_fault.JobsFault.TheVariants.{Program, Size, Start, Workers}
 use Rattle.rb_loader.specs.declared.program.ProgramFault.TheVariants.{Memory}
 use Rattle.rb_run_commands.specs.declared.run_command.JobsRequest.{JobsRequest}
-use Rattle.rb_run_commands.specs.declared.run_command.NullSink.{NullSink}
+use Rattle.rb_workers.specs.declared.null_sink.NullSink.{NullSink}
 
 -- ---- the run
 
@@ -55,14 +55,15 @@ pub record IsJustOpened {S : Type 0} (sink : S) (request : JobsRequest) (o : Ope
   pub sink_is : o.sink ≡ sink
 
 -- each worker ran the program as often as is asked for, over one ring that was just opened with this sink, and this is the report on these jobs
--- and this ring; where no job had a record handed back, the ring ends with none that is busy
+-- and this ring; no job had a record handed back, and the ring ends with none that is busy
 pub record RunsWorkers {S : Type 0} (position : S → ℕ) (takes : S → SinkItem → S → Type 0) (sink : S) (subject : Subject) (request : JobsRequest) (report : Report S) : Type 0 where
   pub opened : Opened S
   pub jobs : List Job
   pub just_opened : IsJustOpened sink request opened
   pub tasks_are : map task_of jobs ≡ tasks_of_workers subject request.workers request.jobs
   pub reported : IsReport position takes (opened ∷ []) jobs report
-  pub settled : report.strays ≡ 0 → All EndsSettled report.rings.items
+  pub no_strays : report.strays ≡ 0
+  pub settled : All EndsSettled report.rings.items
 
 -- ---- what is printed
 

@@ -2,4 +2,5 @@ pub mod SeatCalls
 pub mod SeatHelpers
 pub mod SeatLaws
 pub mod SeatRecords
+pub mod KeptRecords
 pub mod inner

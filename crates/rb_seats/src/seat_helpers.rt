@@ -1,6 +1,6 @@
 //! Helpers over the seats of one worker.
 
-ghost use Rattle.std.specs.Prelude.{◌≡◌, ◌≢◌, ◌↔◌, ◌⊎◌, ◌+◌, ◌<◌, ◌≤◌, pos, neg_ℤ, true, false, [], ◌∷◌, ◌++◌, IfOk, IfErr, IfSome, IsErr, IsErrOf, is_ok, is_some, length, replicate};
+ghost use Rattle.std.specs.Prelude.{◌≡◌, ◌≢◌, ◌↔◌, ◌⊎◌, ◌+◌, ◌<◌, ◌≤◌, pos, neg_ℤ, refl, true, false, [], ◌∷◌, ◌++◌, IfOk, IfErr, IfSome, IsErr, IsErrOf, is_ok, is_some, length, replicate};
 ghost use Rattle.rb_helpers.specs.declared.done.Done.TheVariants.{Reserve, Submit, Discard, Output, Query};
 ghost use Rattle.rb_helpers.specs.AnsweredCalls.{Reserved, Submitted, Discarded, SentOut, Queried};
 ghost use Rattle.rb_helpers.specs.ErrorNumbers.{EAGAIN, EINVAL};
@@ -244,9 +244,7 @@ impl<'h, R: Wait, S: Stock> SeatHelpers<'h, R, S> {
         requires room { 0 < self.old.room }
         ensures noted { self.new ≡ with_call self.old done unlogged due }
     {
-        if self.trace.push(done).is_err() {
-            unreachable!()
-        }
+        self.trace.push_reserved(done);
         self.room -= 1;
         if unlogged {
             self.unlogged += 1;
@@ -257,7 +255,9 @@ impl<'h, R: Wait, S: Stock> SeatHelpers<'h, R, S> {
 
 impl<'h, R: Wait, S: Stock> Helpers for SeatHelpers<'h, R, S> {
     ghost use Rattle.rb_seats.specs.SeatHelpers.{Leads, has_number};
+    ghost use Rattle.rb_seats.specs.KeptRecords.{IsKept, record_name};
     ghost use Rattle.rb_seats.specs.inner.Chains.{none_called, called_on};
+    ghost use Rattle.rb_seats.specs.inner.WrittenRecords.{kept_written};
 
     type Record = SeatRecord;
 
@@ -268,6 +268,16 @@ impl<'h, R: Wait, S: Stock> Helpers for SeatHelpers<'h, R, S> {
     ghost has_ring = { has_number };
 
     ghost leads = { Leads };
+
+    ghost keeps_records = { true };
+
+    ghost keeps = { IsKept };
+
+    ghost name_of = { record_name };
+
+    ghost kept_written = { kept_written };
+
+    ghost name_stays = { λ r w. refl };
 
     ghost leads_by_none = { none_called };
 
@@ -303,7 +313,8 @@ impl<'h, R: Wait, S: Stock> Helpers for SeatHelpers<'h, R, S> {
         }
     }
 
-    /// Hands the record back where its ring is none of these, or where it is stray there.
+    /// Takes each record that these helpers granted and that was not given back since. Hands one back where its ring is none of these, or where it
+    /// is stray there.
     fn submit(&mut self, owned: SeatRecord, flags: u64) -> Result<(), SeatRecord>
         requires room { 0 < self.old.room }
         ensures trace { self.new.trace ≡ self.old.trace ++ Submit flags (is_ok result) ∷ [] }
@@ -329,7 +340,8 @@ impl<'h, R: Wait, S: Stock> Helpers for SeatHelpers<'h, R, S> {
         }
     }
 
-    /// Hands the record back where its ring is none of these, or where it is stray there.
+    /// Takes each record that these helpers granted and that was not given back since. Hands one back where its ring is none of these, or where it
+    /// is stray there.
     fn discard(&mut self, owned: SeatRecord, flags: u64) -> Result<(), SeatRecord>
         requires room { 0 < self.old.room }
         ensures trace { self.new.trace ≡ self.old.trace ++ Discard flags (is_ok result) ∷ [] }

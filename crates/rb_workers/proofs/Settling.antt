@@ -1,5 +1,5 @@
 -- Where each worker's seats together are settled, each seat is, and so no closed ring has a busy record.
-use Rattle.std.proofs.Common.{refl, ap, map, ◌≡◌, ℕ, zero, suc, ◌+◌, ◌<◌, ◌≤◌, List, [], ◌∷◌, length, sym, ◌∙◌, arith}
+use Rattle.std.proofs.Common.{refl, ap, map, ◌≡◌, ℕ, zero, suc, ◌+◌, ◌<◌, ◌≤◌, List, [], ◌∷◌, length, ◌∙◌, arith}
 use Rattle.std.proofs.lemmas.List.Elements.{All-head, All-tail, All-cons, All-nil, All-same, All-map}
 use Rattle.std.proofs.lemmas.Slice.Zip.{AllZip-long}
 use Rattle.std.specs.Prelude.{slice_get}
@@ -28,7 +28,7 @@ use Rattle.rb_workers.specs.JobRuns.{is_stray}
 use Rattle.rb_workers.specs.Settled.{AreSettled, EachSettled, IsEven, EndsSettled}
 use Rattle.rb_workers.proofs.Sums.{number_at, cons_sum}
 use Rattle.rb_workers.proofs.Numbered.{seats_length}
-use Rattle.rb_workers.proofs.Strays.{stays_settled}
+use Rattle.rb_workers.proofs.Strays.{none_strays, stays_settled}
 
 -- ---- one row
 
@@ -148,13 +148,17 @@ rows_at_end position takes count (o ∷ os) (e ∷ es) (row ∷ more) each ends 
     let same = AllZip-long IsSameSeat o.seats.items row ends.0.same_seats in
     All-cons (λ (row : List WorkerSeat). length row ≡ count) row more (same ∙ here) (rows_at_end position takes count os es more (All-tail (IsOpened position count) o os each) ends.1)
 
--- where no run ended with a stray record, and each worker's seats were settled before, each ring ends settled
-pub no_strays : {S : Type 0} (position : S → ℕ) (takes : S → SinkItem → S → Type 0) (opened : List (Opened S)) (jobs : List Job) (report : Report S) → AreOpened position opened → IsReport position takes opened jobs report
-    → report.strays ≡ 0 → EachSettled (workers_of opened) (seat_rows opened) → All EndsSettled report.rings.items
-no_strays position takes opened jobs report each told none settled =
+-- no run ended with a stray record
+pub no_strays : {S : Type 0} (position : S → ℕ) (takes : S → SinkItem → S → Type 0) (opened : List (Opened S)) (jobs : List Job) (report : Report S) → IsReport position takes opened jobs report → report.strays ≡ 0
+no_strays position takes opened jobs report told = told.strays_are ∙ ap (count_by is_stray) told.answers_are ∙ none_strays told.runs told.runs_match
+
+-- where each worker's seats were settled before, each ring ends settled
+pub all_settled : {S : Type 0} (position : S → ℕ) (takes : S → SinkItem → S → Type 0) (opened : List (Opened S)) (jobs : List Job) (report : Report S) → AreOpened position opened → IsReport position takes opened jobs report
+    → EachSettled (workers_of opened) (seat_rows opened) → All EndsSettled report.rings.items
+all_settled position takes opened jobs report each told settled =
     let count = workers_of opened in
     let still : EachSettled count told.seats =
-    λ k below. stays_settled k told.runs (worker_column k (seat_rows opened)) (worker_column k told.seats) told.runs_match (sym (told.strays_are ∙ ap (count_by is_stray) told.answers_are) ∙ none) (told.numbers_rose k below) (settled k below)
+    λ k below. stays_settled k told.runs (worker_column k (seat_rows opened)) (worker_column k told.seats) told.runs_match (told.numbers_rose k below) (settled k below)
     in
     let all = each_settled count told.seats (rows_at_end position takes count opened report.rings.items told.seats each told.rings_end) (rings_within position takes opened report.rings.items told.seats told.rings_end) still in
     rings_settled position takes opened report.rings.items told.seats told.rings_end all

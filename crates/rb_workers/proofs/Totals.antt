@@ -118,7 +118,7 @@ all_runs count (j ∷ js) (a ∷ rest) old new len known ran =
     let more = all_runs count js rest (after j.worker mid old) new (omega (arith, len)) (All-tail (λ (j : Job). j.worker < count) j js known)
     (λ k below. ran_rest j js a rest mid old new k (j.worker == k) refl here.2 (ran k below)) in
     let run : JobRun = record { job = j; answer = a; calls = did.calls } in
-    let is : IsRun run = record { length_is = did.length_is; shows = did.shows; balanced = did.balanced; may_answer = did.may_answer } in
+    let is : IsRun run = record { length_is = did.length_is; shows = did.shows; never_stray = did.never_stray; balanced = did.balanced; may_answer = did.may_answer } in
     record {
       runs = run ∷ more.runs;
       jobs_are = ap (λ l. j ∷ l) more.jobs_are;

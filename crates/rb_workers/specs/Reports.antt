@@ -1,10 +1,11 @@
 -- What a run of jobs over rings gives (own).
-use Rattle.std.specs.Prelude.{◌≡◌, All, ℕ, ◌+◌, ◌<◌, nat_lt, not, List, [], ◌∷◌, ◌++◌, Bool, map, Result, Ok, Err, OnOk}
+use Rattle.std.specs.Prelude.{◌≡◌, ◌≢◌, All, ℕ, ◌+◌, ◌<◌, nat_lt, not, List, [], ◌∷◌, ◌++◌, Bool, map, Result, Ok, Err, OnOk}
 use Rattle.std.specs.List.{AllZip, count_by, list_any, sum_by}
 use Rattle.rb_helpers.specs.declared.done.Done.{Done}
 use Rattle.rb_helpers.specs.AnsweredCalls.{AllMayAnswer, notes_of}
 use Rattle.rb_history.specs.RingModel.{Ring}
 use Rattle.rb_chapter.specs.ChapterCalls.{consumer_now}
+use Rattle.rb_interp.specs.declared.fault.RunFault.TheVariants.{Stray}
 use Rattle.rb_interp.specs.RunTraces.{RunMatches, TellsLength, TraceBalances}
 use Rattle.rb_ledger.specs.Roles.{BeginsWith, book_of}
 use Rattle.rb_ledger.specs.Seats.{WorkerSeat, IsSameSeat}
@@ -90,6 +91,7 @@ RingsEnd position takes _ _ _ = ⊥
 pub record IsRun (run : JobRun) : Type 0 where
   pub length_is : TellsLength run.job.program.now run.job.ctx.now run.answer.result
   pub shows : RunMatches record_bytes with_record_bytes run.job.program.now run.job.ctx.now run.calls run.answer.result
+  pub never_stray : run.answer.result ≢ Err Stray
   pub balanced : OnOk run.answer.result (TraceBalances [] (notes_of run.calls))
   pub may_answer : AllMayAnswer (notes_of run.calls)
 

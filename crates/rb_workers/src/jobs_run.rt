@@ -208,7 +208,8 @@ pub fn run_jobs<R: Threads + Wait + Sync, S: Sink + Send + Drop, G: Gate + Sync>
     ensures nothing_ran { IfErr result (λ e. e.0 ≢ JobFault.Memory → e.1 ≡ opened) }
     ensures handed_back { IfErr result (λ e. IsHandedBack S.position_of S.takes opened.items jobs.now e.1.items) }
     ensures report { IfOk result (IsReport S.position_of S.takes opened.items jobs.now) }
-    ensures no_strays { IfOk result (λ r. r.strays ≡ 0 → EachSettled (workers_of opened.items) (seat_rows opened.items) → All EndsSettled r.rings.items) }
+    ensures no_strays { IfOk result (λ r. r.strays ≡ 0) }
+    ensures settled { IfOk result (λ r. EachSettled (workers_of opened.items) (seat_rows opened.items) → All EndsSettled r.rings.items) }
 {
     if is_ring_unknown(jobs, opened.len()) {
         return Err((JobFault::UnknownRing, opened));

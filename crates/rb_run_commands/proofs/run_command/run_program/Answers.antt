@@ -39,4 +39,4 @@ returns-in-Ok-run_jobs-clause-ran g c =
     tasks_lent c.args.program.now c.unwrap_or-workers.result c.args.request.jobs _ _ _ _ c.in_ok-contexts.ensures.contexts c.as_slice.ensures.value c.in_ok-jobs.ensures.jobs c.as_slice-2.ensures.value in
     ran_workers _ _ c.args.sink c.args.program.now c.args.request c.unwrap_or-workers.result c.in-Ok.one c.in-Ok-list_of_one.opened.items c.as_slice-2.result.now c.in-Ok-run_jobs.report
     as_many c.in-Ok-list_of_one.ensures.items c.in-Ok.ensures.seats c.in-Ok.ensures.consumer c.in-Ok.ensures.keeper c.in-Ok.ensures.sink c.in-Ok.ensures.nothing_made tasks
-    c.in-Ok-run_jobs.ensures.report c.in-Ok-run_jobs.ensures.no_strays
+    c.in-Ok-run_jobs.ensures.report c.in-Ok-run_jobs.ensures.no_strays c.in-Ok-run_jobs.ensures.settled

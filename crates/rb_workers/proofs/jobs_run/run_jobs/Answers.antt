@@ -1,5 +1,5 @@
 use Rattle.rb_workers.proofs.Same.{unchanged}
-use Rattle.rb_workers.proofs.Settling.{no_strays}
+use Rattle.rb_workers.proofs.Settling.{all_settled, no_strays}
 use Rattle.rb_workers.proofs.jobs_run.run_jobs.Goals as goal
 
 pub returns-then-is_ring_unknown-clause-handed_back : goal.returns-then-is_ring_unknown-clause-handed_back
@@ -13,4 +13,8 @@ returns-in_default-clause-handed_back g c = unchanged g.S.Sink.position_of g.S.S
 
 pub returns-in-Ok-run_known-clause-no_strays : goal.returns-in-Ok-run_known-clause-no_strays
 returns-in-Ok-run_known-clause-no_strays g c =
-    no_strays g.S.Sink.position_of g.S.Sink.takes c.args.opened.items c.args.jobs.now c.in-Ok-run_known.report c.requires.opened c.in-Ok-run_known.ensures.report
+    no_strays g.S.Sink.position_of g.S.Sink.takes c.args.opened.items c.args.jobs.now c.in-Ok-run_known.report c.in-Ok-run_known.ensures.report
+
+pub returns-in-Ok-run_known-clause-settled : goal.returns-in-Ok-run_known-clause-settled
+returns-in-Ok-run_known-clause-settled g c =
+    all_settled g.S.Sink.position_of g.S.Sink.takes c.args.opened.items c.args.jobs.now c.in-Ok-run_known.report c.requires.opened c.in-Ok-run_known.ensures.report

@@ -1,0 +1,22 @@
+-- A record is kept whatever is written to it.
+use Rattle.std.proofs.Common.{◌≡◌, ℕ, List, length, sym, subst, length-append, arith}
+use Rattle.std.proofs.lemmas.List.{length-take, length-drop}
+use Rattle.rb_lend.specs.Ranges.{in_place_of}
+use Rattle.rb_history.specs.Calls.{IsBusy}
+use Rattle.rb_seats.specs.declared.seat_record.SeatRecord.{SeatRecord}
+use Rattle.rb_seats.specs.SeatRecords.{with_record_bytes}
+use Rattle.rb_seats.specs.SeatHelpers.{AtSeats}
+use Rattle.rb_seats.specs.KeptRecords.{IsKept}
+
+same_length : (old new : List ℕ) → length (in_place_of old new) ≡ length old
+same_length old new = grind (arith, length-append, length-take, length-drop)
+
+pub kept_written : (h : AtSeats) (r : SeatRecord) (w : List ℕ) → IsKept h r → IsKept h (with_record_bytes r w)
+kept_written h r w kept = record {
+  seat = kept.seat;
+  seat_is = kept.seat_is;
+  holds = record {
+    worker_is = kept.holds.worker_is;
+    busy = subst (λ n. IsBusy kept.seat.seen.history r.reservation.pos r.reservation.worker r.reservation.serial n) (sym (same_length r.reservation.bytes w)) kept.holds.busy;
+  };
+}
