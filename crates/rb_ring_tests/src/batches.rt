@@ -2,10 +2,12 @@
 
 ghost use Rattle.std.specs.Prelude.{◌≡◌};
 ghost use Rattle.rb_header.specs.TapeBytes.{AreItemsFrom};
-ghost use Rattle.rb_consumer.specs.Items.{tape_items};
+ghost use Rattle.rb_tape.specs.Items.{tape_items};
 
 use super::rings_with_seats::{discarded, granted, one_seat, output};
-use rb_consumer::{Batch, DeviceFault, Event, Item, TapeWriter};
+use rb_consumer::Batch;
+use rb_io::DeviceFault;
+use rb_tape::{Event, Item, TapeWriter};
 use std::io::{Error, ErrorKind, Result, Write};
 use std::process::Abort;
 
