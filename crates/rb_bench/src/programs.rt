@@ -2,7 +2,7 @@
 
 ghost use Rattle.std.specs.Prelude.{◌≤◌};
 
-use rb_insn::{BinaryOp, Insn, Operand, Reg, Size, Width};
+use rb_insn::{BinaryOp, Condition, Insn, Operand, Reg, Size, Width};
 use std::alloc::{AllocError, Global};
 
 /// A program of `units` arithmetic units and an exit: add, exclusive or, multiply, shift and add in turn.
@@ -79,6 +79,49 @@ fn spill_unit(unit: u32) -> Insn {
         offset: -8 - (unit % 64) as i16 * 8,
         src: Reg::R10,
     }
+}
+
+/// A program that reserves a record of eight bytes on ring 0, and ends with 1 where there is none; else it stores 42 there, submits it, and ends
+/// with 0.
+pub(crate) fn reserving(alloc: Global) -> Result<Vec<u8>, AllocError> {
+    let program = [
+        Insn::LoadRing {
+            dst: Reg::R1,
+            ring: 0,
+        },
+        set(Reg::R2, 8),
+        set(Reg::R3, 0),
+        Insn::Call { helper: 131 },
+        Insn::Branch {
+            width: Width::W64,
+            condition: Condition::NotEqual,
+            dst: Reg::R0,
+            operand: Operand::Immediate(0),
+            distance: 2,
+        },
+        set(Reg::R0, 1),
+        Insn::Exit,
+        Insn::StoreImmediate {
+            size: Size::Double,
+            base: Reg::R0,
+            offset: 0,
+            value: 42,
+        },
+        Insn::Move {
+            width: Width::W64,
+            dst: Reg::R1,
+            operand: Operand::Register(Reg::R0),
+        },
+        set(Reg::R2, 0),
+        Insn::Call { helper: 132 },
+        set(Reg::R0, 0),
+        Insn::Exit,
+    ];
+    let mut bytes = Vec::new(alloc);
+    for insn in &program {
+        push(&mut bytes, insn)?;
+    }
+    Ok(bytes)
 }
 
 fn set(dst: Reg, value: i32) -> Insn {

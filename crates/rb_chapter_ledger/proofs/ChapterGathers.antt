@@ -8,7 +8,7 @@ use Rattle.rb_chapter.specs.ChapterRing.{whole_ring}
 use Rattle.rb_chapter.proofs.Alike.{stands-alike}
 use Rattle.rb_ledger.specs.Roles.Role.{Consumer}
 use Rattle.rb_ledger.specs.RoleKnowledge.{PassView, role_knowledge, pass_view}
-use Rattle.rb_ledger.specs.inner.SeatRoles.{roles_of}
+use Rattle.rb_ledger.specs.SeatRoles.{roles_of}
 use Rattle.rb_ledger.specs.Headline.{IsRunFrom, IsClosed}
 use Rattle.rb_ledger.proofs.Runs.{whenever-free}
 use Rattle.rb_ledger.proofs.Gathers.{collected}

@@ -14,7 +14,8 @@ use Rattle.rb_ledger.specs.Roles.Role.{Consumer, Worker}
 use Rattle.rb_ledger.specs.RoleKnowledge.{RoleKnowledge, PassView, role_knowledge, pass_view, same_role, role_count, states_out, state_list, total}
 use Rattle.rb_ledger.specs.Ledger.{Ledger, IsRing, FitsLedger}
 use Rattle.rb_ledger.specs.LockRule.{AllFit, KeepsLockRule}
-use Rattle.rb_ledger.specs.inner.LockSteps.{TakesState, RoleStep, knowledge_after, unopened_ring, worker_roles, first_role, other_roles}
+use Rattle.rb_ledger.specs.LockSteps.{TakesState, RoleStep, knowledge_after}
+use Rattle.rb_ledger.specs.inner.OpenedLock.{unopened_ring, worker_roles, first_role, other_roles}
 use Rattle.rb_ledger.proofs.Views.{total_two, outs_take, single}
 use Rattle.rb_ledger.proofs.Opens.{open-step}
 use Rattle.rb_ledger.proofs.LockRule as old

@@ -10,7 +10,7 @@ use Rattle.rb_ledger.specs.Roles.{Book}
 use Rattle.rb_ledger.specs.Roles.Role.{Consumer}
 use Rattle.rb_ledger.specs.RoleKnowledge.{role_knowledge}
 use Rattle.rb_ledger.specs.Seats.{Shared, WorkerSeat, Ties, ConsumerTies, HasAll}
-use Rattle.rb_ledger.specs.inner.SeatRoles.{roles_of, HasOwnCounts}
+use Rattle.rb_ledger.specs.SeatRoles.{roles_of, HasOwnCounts}
 use Rattle.rb_ledger.specs.Headline.{IsClosed, ReservationsBalance}
 use Rattle.rb_chapter_ledger.specs.ChapteredRing.{chaptered_ring, whole_of, HasChapters}
 use Rattle.rb_chapter_ledger.specs.ChapterKnowledge.{ChapterKnowledge, ChapterPassView, chapter_view, whole_knowledge}

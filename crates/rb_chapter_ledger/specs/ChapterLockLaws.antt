@@ -11,7 +11,7 @@ use Rattle.rb_history.specs.RingModel.{IsWithinBounds}
 use Rattle.rb_chapter.specs.ChapterCalls.{IsSameChapter, HandsOut}
 use Rattle.rb_ledger.specs.Roles.Role.{Consumer}
 use Rattle.rb_ledger.specs.Ledger.{IsRing}
-use Rattle.rb_ledger.specs.inner.LockSteps.{RoleStep, knowledge_after}
+use Rattle.rb_ledger.specs.LockSteps.{RoleStep, knowledge_after}
 use Rattle.rb_chapter_ledger.specs.ChapteredRing.{ChapteredRing, chaptered_ring, whole_of, HasChapters, IsChapteredRing}
 use Rattle.rb_chapter_ledger.specs.ChapterKnowledge.{ChapterKnowledge, ChapterPassView, chapter_view}
 use Rattle.rb_chapter_ledger.specs.ChapterLockRule.{KeepsChapterLockRule}

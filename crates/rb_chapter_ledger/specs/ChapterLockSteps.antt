@@ -7,7 +7,7 @@ use Rattle.rb_chapter.specs.ChapterRing.{ChapterRing}
 use Rattle.rb_ledger.specs.Roles.{Role, Book, book_of}
 use Rattle.rb_ledger.specs.Roles.Role.{Consumer, Worker}
 use Rattle.rb_ledger.specs.RoleKnowledge.{role_knowledge}
-use Rattle.rb_ledger.specs.inner.LockSteps.{TakesState, RoleStep, knowledge_after}
+use Rattle.rb_ledger.specs.LockSteps.{TakesState, RoleStep, knowledge_after}
 use Rattle.rb_chapter_ledger.specs.ChapteredRing.{ChapteredRing, chaptered_ring, whole_of, HasChapters}
 use Rattle.rb_chapter_ledger.specs.ChapterKnowledge.{ChapterKnowledge, ChapterPassView, chapter_view, whole_view, AllKnowHandedOut}
 

@@ -17,7 +17,7 @@ use Rattle.rb_ledger.specs.Roles.Role.{Consumer, Worker}
 use Rattle.rb_ledger.specs.RoleKnowledge.{RoleKnowledge, PassView, pass_view, same_role, role_count, total, states_out, state_list}
 use Rattle.rb_ledger.specs.Ledger.{Ledger, IsRing, FitsLedger}
 use Rattle.rb_ledger.specs.LockRule.{AllFit}
-use Rattle.rb_ledger.specs.inner.LockSteps.{unopened_ring}
+use Rattle.rb_ledger.specs.inner.OpenedLock.{unopened_ring}
 use Rattle.rb_ledger.proofs.Views.{total_two, outs_take, single, same_role-refl}
 use Rattle.rb_chapter_ledger.specs.ChapteredRing.{ChapteredRing, chaptered_ring, whole_of, HasChapters}
 use Rattle.rb_chapter_ledger.specs.ChapterKnowledge.{ChapterPassView, chapter_view, whole_out, whole_knowledge, whole_view}

@@ -14,4 +14,5 @@ pub mod Steady
 mod HeldRecords
 mod Reaching
 mod RunSteps
+mod Advancing
 mod KeptRecords

@@ -1,3 +1,4 @@
+pub mod Advancing
 pub mod ExecutedInstruction
 pub mod Reaching
 pub mod SlotTable

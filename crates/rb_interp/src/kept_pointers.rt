@@ -109,6 +109,13 @@ impl KeptPointers {
         }
     }
 
+    /// No pointers from here on.
+    pub(crate) fn clear(&mut self)
+        ensures { self.new ≡ [] }
+    {
+        self.entries.clear();
+    }
+
     /// The pointer at the place that begins at a byte of the stack, where one does.
     #[inline(always)]
     pub(crate) fn beginning(&self, byte: i64) -> Option<Value>

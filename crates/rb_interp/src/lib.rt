@@ -27,6 +27,6 @@ mod step;
 
 pub use fault::RunFault;
 pub use machine::Machine;
-pub use program_run::run;
+pub use program_run::{MachineRoom, run, run_in};
 pub use request::{Answer, Request};
 pub use step::{Phase, Step};

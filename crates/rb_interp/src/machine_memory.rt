@@ -51,6 +51,18 @@ impl<C, R> MachineMemory<C, R> {
         }
     }
 
+    /// The same in the memory of an earlier program, whose records are given up. The table of its pointers is not cleared.
+    pub(crate) fn restart(&mut self, context: C)
+    where
+        C: Drop,
+        R: Drop,
+        ensures { self.new ≡ record { stack = replicate 512 0; pointers = []; context = context; records = [] } }
+    {
+        self.parts = Parts::new(context);
+        self.pointers.clear();
+        self.entries.clear();
+    }
+
     /// Holds one more record.
     pub(crate) fn hold(&mut self, id: u32, owned: R)
     where

@@ -13,3 +13,14 @@ pub(crate) struct Range {
     pub(crate) len: usize,
     ghost near: { is_near offset ≡ true },
 }
+
+impl Range {
+    /// No bytes, at the stack's end.
+    pub(crate) fn none() -> Range {
+        Range {
+            place: MemoryRegion::Stack,
+            offset: 0,
+            len: 0,
+        }
+    }
+}

@@ -32,6 +32,17 @@ impl PointerTable {
         PointerTable { table: None }
     }
 
+    /// No pointers from here on. A table that was made stays.
+    #[inline(always)]
+    pub(crate) fn clear(&mut self)
+        ensures { self.new ≡ [] }
+    {
+        match &mut self.table {
+            Some(kept) => kept.clear(),
+            None => {}
+        }
+    }
+
     /// The pointer at the place that begins at a byte of the stack, where one does.
     #[inline(always)]
     #[tactic(auto, using(crate::proofs::KeptEntries::none_beginning))]

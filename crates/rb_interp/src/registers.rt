@@ -1,7 +1,8 @@
 //! What r0 to r10 hold.
 
-ghost use Rattle.std.specs.Prelude.{◌≡◌, length, replicate, slice_index_or, slice_set, IfSome};
-ghost use Rattle.rb_semantics.specs.declared.value.Value.TheVariants.{Nothing};
+ghost use Rattle.std.specs.Prelude.{◌≡◌, length, replicate, slice_index_or, slice_set, IfSome, pos};
+ghost use Rattle.rb_semantics.specs.declared.value.MemoryRegion.TheVariants.{Stack, Context};
+ghost use Rattle.rb_semantics.specs.declared.value.Value.TheVariants.{Nothing, Pointer};
 ghost use Rattle.rb_interp.specs.inner.RegisterValues.{IsKeptAs, renumbered, shown_value};
 
 use crate::offsets::{signed, unsigned};
@@ -46,14 +47,26 @@ impl Model for Registers {
 }
 
 impl Registers {
-    /// Registers that hold nothing.
-    pub(crate) fn new() -> Registers
-        ensures { result ≡ replicate 11 Nothing }
+    /// Registers as a program begins: r1 points to its context, r10 behind its stack, and the others hold nothing.
+    pub(crate) fn at_entry() -> Registers
+        ensures { result ≡ slice_set (slice_set (replicate 11 Nothing) 1 (Pointer Context (pos 0))) 10 (Pointer Stack (pos 0)) }
     {
-        Registers {
+        let mut registers = Registers {
             kinds: [Kind::Nothing; 11],
             numbers: [0; 11],
-        }
+        };
+        registers.set_entry();
+        registers
+    }
+
+    /// The registers become as a program begins.
+    pub(crate) fn set_entry(&mut self)
+        ensures { self.new ≡ slice_set (slice_set (replicate 11 Nothing) 1 (Pointer Context (pos 0))) 10 (Pointer Stack (pos 0)) }
+    {
+        self.kinds = [Kind::Nothing; 11];
+        self.numbers = [0; 11];
+        self.set(Reg::R1, Value::Pointer(MemoryRegion::Context, 0));
+        self.set(Reg::R10, Value::Pointer(MemoryRegion::Stack, 0));
     }
 
     /// What all registers are: they are eleven. For the proofs of callers; it does nothing.

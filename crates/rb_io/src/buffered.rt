@@ -16,19 +16,24 @@ const CAPACITY: usize = 65_536;
 #[derive(Drop)]
 pub struct Buffered<W> {
     writer: W,
-    waiting: Vec<u8>,
+    // `CAPACITY` bytes, of which the first `count` wait. What stands behind them means nothing.
+    room: Vec<u8>,
+    count: usize,
 }
 
 impl<W> Model for Buffered<W> {
+    ghost use Rattle.std.specs.Prelude.{◌≡◌, ◌≤◌, length, take};
     ghost use Rattle.rb_io.specs.Gathered.{Gathered};
 
     ghost Value = { Gathered W };
 
-    ghost view = { λ b. record { writer = b.writer; waiting = b.waiting.items } };
+    ghost view = { λ b. record { writer = b.writer; waiting = take b.count b.room.items } };
+
+    ghost invariant = { λ b. (length b.room.items ≡ 65536) × (b.count ≤ 65536) };
 }
 
 impl<W: Write> Buffered<W> {
-    ghost use Rattle.std.specs.Prelude.{◌≡◌, ◌≤◌, [], IfOk, OnOk, length};
+    ghost use Rattle.std.specs.Prelude.{◌≡◌, ◌≤◌, ◌+◌, ◌++◌, [], IfOk, OnOk, length};
     ghost use Rattle.std.specs.Io.KnownBytes.{Keeps, WriteAppends, append_known};
 
     /// A buffer in front of the writer; the error is want of memory.
@@ -38,8 +43,13 @@ impl<W: Write> Buffered<W> {
         ensures writer { IfOk result (λ b. b.writer ≡ writer) }
         ensures empty { IfOk result (λ b. b.waiting ≡ []) }
     {
-        let waiting = Vec::with_capacity(alloc, CAPACITY)?;
-        Ok(Buffered { writer, waiting })
+        let mut room = Vec::new(alloc);
+        room.resize(CAPACITY, 0)?;
+        Ok(Buffered {
+            writer,
+            room,
+            count: 0,
+        })
     }
 
     // Hands on what waits, until a write fails or takes nothing.
@@ -47,16 +57,29 @@ impl<W: Write> Buffered<W> {
         ensures bytes { Keeps (append_known (W.contents self.old.writer) self.old.waiting) (append_known (W.contents self.new.writer) self.new.waiting) }
         ensures empty { OnOk result (self.new.waiting ≡ []) }
     {
-        let sent = write_out(&mut self.writer, self.waiting.as_slice());
-        if sent == self.waiting.len() {
-            self.waiting.clear();
+        let sent = write_out(&mut self.writer, &self.room[..self.count]);
+        if sent == self.count {
+            self.count = 0;
             return Ok(());
         }
-        self.waiting.drain(..sent);
+        self.room.copy_within(sent..self.count, 0);
+        self.count -= sent;
         Err(Error::from(ErrorKind::WriteZero))
     }
 
-    // Writes a piece that the buffer has no room for. The error is that of a write below, or want of memory.
+    // Puts a piece behind what waits.
+    #[inline(always)]
+    fn put(&mut self, piece: &[u8])
+        requires room { length self.old.waiting + length piece.now ≤ CAPACITY }
+        ensures waits { self.new.waiting ≡ self.old.waiting ++ piece.now }
+        ensures writer { self.new.writer ≡ self.old.writer }
+    {
+        let end = self.count + piece.len();
+        self.room[self.count..end].copy_from_slice(piece);
+        self.count = end;
+    }
+
+    // Writes a piece that the buffer has no room for. The error is that of a write below.
     #[cold]
     #[inline(never)]
     fn write_behind(&mut self, piece: &[u8]) -> Result<usize, DeviceFault>
@@ -72,10 +95,8 @@ impl<W: Write> Buffered<W> {
                 Err(_) => Err(DeviceFault),
             };
         }
-        match self.waiting.extend_from_slice(piece) {
-            Ok(()) => Ok(piece.len()),
-            Err(_) => Err(DeviceFault),
-        }
+        self.put(piece);
+        Ok(piece.len())
     }
 }
 
@@ -86,15 +107,13 @@ impl<W: Write> Write for Buffered<W> {
 
     #[inline(always)]
     fn write(&mut self, piece: &[u8]) -> io::Result<usize> {
-        if piece.len() > self.waiting.capacity() - self.waiting.len() {
+        if piece.len() > CAPACITY - self.count {
             return match self.write_behind(piece) {
                 Ok(n) => Ok(n),
                 Err(DeviceFault) => Err(Error::from(ErrorKind::WriteZero)),
             };
         }
-        if self.waiting.extend_from_slice(piece).is_err() {
-            unreachable!()
-        }
+        self.put(piece);
         Ok(piece.len())
     }
 

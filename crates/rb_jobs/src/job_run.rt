@@ -7,8 +7,8 @@ ghost use Rattle.rb_jobs.specs.Jobs.{JobRan, JobRanCounted, task_of};
 use crate::gated_helpers::GatedHelpers;
 use crate::job::{Gate, Job, JobAnswer};
 use rb_helpers::Done;
-use rb_interp::run;
-use rb_seats::{SeatHelpers, Stock};
+use rb_interp::{MachineRoom, run_in};
+use rb_seats::{SeatHelpers, SeatRecord, Stock};
 use rb_shared_ring::{Seat, SharedRing};
 use std::alloc::{AllocError, Global};
 use std::sync::Wait;
@@ -43,6 +43,7 @@ pub fn run_job<R: Wait, G: Gate, K: Stock>(
         rings,
         seats,
         Vec::new(alloc),
+        &mut MachineRoom::new(),
         job,
         gate,
         stock,
@@ -51,15 +52,16 @@ pub fn run_job<R: Wait, G: Gate, K: Stock>(
     (answer, seats)
 }
 
-/// Runs a job as `run_job` does, with the memory of an earlier job's trace, which is handed back for the next: memory is taken only where it
-/// has room for fewer calls than the program has.
-pub fn run_job_in<R: Wait, G: Gate, K: Stock>(
+/// Runs a job as `run_job` does, with the memory of an earlier job's trace, which is handed back for the next, and in the room of an earlier
+/// job's machine: memory is taken only where the trace has room for fewer calls than the program has.
+pub fn run_job_in<'j, R: Wait, G: Gate, K: Stock>(
     rt: &R,
     alloc: Global,
     rings: &[SharedRing],
     seats: Vec<Seat>,
     trace: Vec<Done>,
-    job: &Job<'_>,
+    machine: &mut MachineRoom<'j, SeatRecord>,
+    job: &Job<'j>,
     gate: &G,
     stock: &K,
     calls: &mut u64,
@@ -77,7 +79,7 @@ pub fn run_job_in<R: Wait, G: Gate, K: Stock>(
     match SeatHelpers::with_trace(rt, alloc, rings, seats, trace, room, stock) {
         Ok(helpers) => {
             let mut gated = GatedHelpers::new(helpers, job.worker, gate, finished);
-            let result = run(job.program, job.ctx, &mut gated);
+            let result = run_in(job.program, job.ctx, &mut gated, machine);
             *calls = gated.calls();
             let helpers = gated.into_inner();
             let unlogged = helpers.unlogged();

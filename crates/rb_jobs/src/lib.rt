@@ -1,7 +1,7 @@
 //! A job: one run of a verified program (RFC 9669, with the helper calls of bpf-helpers(7)) over a worker's seats at shared rings.
 //!
 //! `run_job` is for whoever runs a program over shared rings, and `run_job_in` for whoever runs many one after another, as rb_workers does:
-//! it uses the memory of one job's calls again for the next. What is promised: the result is the one
+//! it uses the memory of one job's calls, and of its machine, again for the next. What is promised: the result is the one
 //! that the program's meaning gives under the calls that were made; the numbers of the worker's seats rise by just what these calls
 //! say; no record is handed back in it, so it submitted and discarded as many as it made (`jobs_give_back`); and
 //! the seats come back, whatever the result. Before each helper call a `Gate` is called outside every lock.

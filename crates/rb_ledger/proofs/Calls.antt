@@ -22,10 +22,10 @@ use Rattle.rb_ledger.specs.Roles.{Role, Book}
 use Rattle.rb_history.specs.WorkerCounts.{is_record_of}
 use Rattle.rb_ledger.specs.Roles.Role.{Consumer, Worker}
 use Rattle.rb_ledger.specs.SentBytes.{IsWithin}
-use Rattle.rb_ledger.specs.inner.AddedBytes.{bytes_after, put_at}
+use Rattle.rb_ledger.specs.AddedBytes.{bytes_after, put_at}
 use Rattle.rb_ledger.specs.RoleKnowledge.{RoleKnowledge, role_knowledge}
 use Rattle.rb_ledger.specs.Ledger.{Ledger, IsRing, FitsLedger}
-use Rattle.rb_ledger.specs.inner.LockSteps.{RoleStep, knowledge_after}
+use Rattle.rb_ledger.specs.LockSteps.{RoleStep, knowledge_after}
 use Rattle.rb_ledger.specs.LockedCalls.{Reserves, SubmitsAt, DiscardsAt, OutputsAt}
 use Rattle.rb_history.proofs.RecordWorkers.{record-from, back-any, front-any}
 use Rattle.rb_history.proofs.WorkerCounts.{submitted-granted}

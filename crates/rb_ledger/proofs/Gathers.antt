@@ -18,10 +18,10 @@ use Rattle.rb_ledger.specs.SentBytes.{IsAllSentBy}
 use Rattle.rb_ledger.specs.RoleKnowledge.{RoleKnowledge, PassView, role_knowledge, pass_view, role_count}
 use Rattle.rb_ledger.specs.Ledger.{Ledger, IsRing, FitsLedger}
 use Rattle.rb_ledger.specs.LockRule.{AllFit}
-use Rattle.rb_ledger.specs.inner.LockSteps.{TakesState}
+use Rattle.rb_ledger.specs.LockSteps.{TakesState}
 use Rattle.rb_ledger.specs.Seats.{WorkerSeat, ConsumerSeatValue, ConsumerTies, are_tagged, has_seat, HasAll, seats_of}
 use Rattle.rb_ledger.specs.Headline.{Accounts, AreSent, IsClosed}
-use Rattle.rb_ledger.specs.inner.SeatRoles.{roles_of, HasOwnCounts}
+use Rattle.rb_ledger.specs.SeatRoles.{roles_of, HasOwnCounts}
 use Rattle.rb_history.proofs.RecordWorkers.{bit, record-from}
 use Rattle.rb_history.proofs.WorkerCounts.{submitted-granted}
 use Rattle.rb_ledger.proofs.Seated.{ties-goes, taker-goes-on}

@@ -9,7 +9,8 @@ use Rattle.rb_ledger.specs.Roles.{Role}
 use Rattle.rb_ledger.specs.RoleKnowledge.{RoleKnowledge, PassView, pass_view, same_role, role_count, states_out}
 use Rattle.rb_ledger.specs.Ledger.{Ledger, FitsLedger}
 use Rattle.rb_ledger.specs.LockRule.{AllFit, KeepsLockRule}
-use Rattle.rb_ledger.specs.inner.LockSteps.{TakesState, RoleStep, first_role, other_roles}
+use Rattle.rb_ledger.specs.LockSteps.{TakesState, RoleStep}
+use Rattle.rb_ledger.specs.inner.OpenedLock.{first_role, other_roles}
 use Rattle.rb_ledger.proofs.Views.{Everyone, everyone_set, total_set, total_one, total_two, total_snoc, total_none, single, both_nil, outs_same, outs_put, outs_take, outs_snoc, times_append, times_cut, same_role-refl}
 
 apart : (b : Bool) (n : ℕ) → cond b 1 0 + n ≡ 0 → (b ≡ false) × (n ≡ 0)

@@ -22,12 +22,12 @@ use Rattle.rb_history.proofs.Lists.{list_any-snoc, or-false, sum_by-cons}
 use Rattle.rb_ledger.specs.Roles.{Role, Book, book_of}
 use Rattle.rb_ledger.specs.Roles.Role.{Consumer}
 use Rattle.rb_ledger.specs.SentBytes.{IsWithin}
-use Rattle.rb_ledger.specs.inner.AddedBytes.{bytes_after, got_with, put_at}
+use Rattle.rb_ledger.specs.AddedBytes.{bytes_after, got_with, put_at}
 use Rattle.rb_ledger.specs.RoleKnowledge.{role_knowledge}
 use Rattle.rb_history.specs.WorkerCounts.{is_take_where}
 use Rattle.rb_ledger.specs.Ledger.{Ledger, IsRing, FitsLedger}
 use Rattle.rb_ledger.specs.Seats.{ConsumerTies}
-use Rattle.rb_ledger.specs.inner.LockSteps.{knowledge_after}
+use Rattle.rb_ledger.specs.LockSteps.{knowledge_after}
 use Rattle.rb_ledger.specs.LockedCalls.{LockedCall, events_in, skips_in, span_in}
 use Rattle.rb_ledger.specs.ManyTakes.{events_among, skips_among, span_among, AreTakenFrom, got_by_all}
 use Rattle.rb_ledger.proofs.Histories.{AllOwn}

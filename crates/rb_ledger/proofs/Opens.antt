@@ -12,7 +12,7 @@ use Rattle.rb_ledger.specs.SentBytes.{IsWithin}
 use Rattle.rb_ledger.specs.RoleKnowledge.{RoleKnowledge, PassView, role_knowledge, pass_view, role_count}
 use Rattle.rb_ledger.specs.Ledger.{IsRoleIn, BytesFit, Ledger, IsRing, FitsLedger}
 use Rattle.rb_ledger.specs.LockRule.{AllFit, KeepsLockRule}
-use Rattle.rb_ledger.specs.inner.LockSteps.{OpensState, unopened_ring, worker_roles}
+use Rattle.rb_ledger.specs.inner.OpenedLock.{OpensState, unopened_ring, worker_roles}
 use Rattle.rb_ledger.specs.Seats.{WorkerSeat, fresh_seat, fresh_seats}
 use Rattle.rb_ledger.proofs.LockRule.{away, opens}
 use Rattle.rb_ledger.proofs.Histories.{all-seen}

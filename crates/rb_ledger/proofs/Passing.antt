@@ -14,11 +14,11 @@ use Rattle.rb_history.specs.RingModel.{Ring, Contents}
 use Rattle.rb_history.specs.Calls.{Refuses, producer_now}
 use Rattle.rb_ledger.specs.Roles.{Role, Book, book_of, ExtendsSeen}
 use Rattle.rb_ledger.specs.Roles.Role.{Consumer, Worker}
-use Rattle.rb_ledger.specs.inner.AddedBytes.{bytes_after, put_at}
+use Rattle.rb_ledger.specs.AddedBytes.{bytes_after, put_at}
 use Rattle.rb_ledger.specs.RoleKnowledge.{PassView, role_knowledge, pass_view}
 use Rattle.rb_ledger.specs.Ledger.{IsRing, IsRoleIn, FitsLedger}
 use Rattle.rb_ledger.specs.LockRule.{AllFit}
-use Rattle.rb_ledger.specs.inner.LockSteps.{TakesState}
+use Rattle.rb_ledger.specs.LockSteps.{TakesState}
 use Rattle.rb_ledger.specs.inner.SeatPasses.{seen_in, pass_bytes, IsIdle}
 use Rattle.rb_ledger.specs.LockedCalls.{LockedCall, Reserves, SubmitsAt, DiscardsAt, OutputsAt, TakesAt, sent_by_submit, sent_by_output, got_by}
 use Rattle.rb_ledger.proofs.Calls.{no-bytes, sent-there, skipped-none}

@@ -14,10 +14,10 @@ use Rattle.rb_ledger.specs.Roles.{Role, book_of}
 use Rattle.rb_history.specs.WorkerCounts.{is_record_of}
 use Rattle.rb_ledger.specs.Roles.Role.{Consumer, Worker}
 use Rattle.rb_ledger.specs.SentBytes.{IsWithin, IsAllSentBy}
-use Rattle.rb_ledger.specs.inner.AddedBytes.{bytes_after}
+use Rattle.rb_ledger.specs.AddedBytes.{bytes_after}
 use Rattle.rb_ledger.specs.RoleKnowledge.{RoleKnowledge, role_knowledge, same_role}
 use Rattle.rb_ledger.specs.Ledger.{Ledger, IsRing, IsSoundLedger, IsRoleIn, BytesFit, FitsLedger}
-use Rattle.rb_ledger.specs.inner.LockSteps.{RoleStep, knowledge_after}
+use Rattle.rb_ledger.specs.LockSteps.{RoleStep, knowledge_after}
 use Rattle.rb_history.proofs.RecordWorkers.{front-any, record-unique, record-stays}
 use Rattle.rb_history.proofs.WorkerCounts.{submitted-granted}
 use Rattle.rb_ledger.proofs.Histories.{AllOwn, others, all-seen, goes-further}

@@ -7,7 +7,7 @@ use Rattle.rb_history.specs.RingModel.{Ring}
 use Rattle.rb_ledger.specs.Roles.{Role}
 use Rattle.rb_ledger.specs.Roles.Role.{Consumer, Worker}
 use Rattle.rb_ledger.specs.RoleKnowledge.{RoleKnowledge, PassView, total, role_count, states_out, state_list, same_role}
-use Rattle.rb_ledger.specs.inner.LockSteps.{first_role, other_roles}
+use Rattle.rb_ledger.specs.inner.OpenedLock.{first_role, other_roles}
 
 abbrev pub Everyone : (PassView → Type 0) → List PassView → Type 0
 Everyone P views = (pass : ℕ) (v : PassView) → get_elem? views pass ≡ some v → P v

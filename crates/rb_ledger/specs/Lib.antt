@@ -3,8 +3,11 @@ pub mod SentBytes
 pub mod RoleKnowledge
 pub mod Ledger
 pub mod LockRule
+pub mod AddedBytes
+pub mod LockSteps
 pub mod LockedCalls
 pub mod ManyTakes
 pub mod Seats
+pub mod SeatRoles
 pub mod Headline
 pub mod inner

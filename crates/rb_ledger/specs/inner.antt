@@ -1,4 +1,2 @@
-pub mod AddedBytes
-pub mod LockSteps
+pub mod OpenedLock
 pub mod SeatPasses
-pub mod SeatRoles

@@ -6,9 +6,8 @@ ghost use Rattle.rb_workers.specs.Opened.{AreOpened, IsOpened};
 use crate::fault::{SweepFault, TRIES, tell_memory};
 use crate::programs::{OUTPUT, RESERVE, verified};
 use crate::standing::tell_counts;
-use rb_header::span;
 use rb_shared_ring::OpenFault;
-use rb_workers::{Chapter, Gate, Job, JobFault, Opened, Report, Sink, run_jobs};
+use rb_workers::{Job, JobFault, NullSink, OpenGate, Opened, Report, run_jobs};
 use std::alloc::Global;
 use std::io::Print;
 use std::sync::Wait;
@@ -16,42 +15,6 @@ use std::thread::Threads;
 
 // The room of the chapters: all of the jobs have some in one.
 const JOBS_ROOM: u32 = 64;
-
-/// Gives all up that it is given.
-#[derive(Drop)]
-struct NullSink {
-    position: u64,
-}
-
-impl Sink for NullSink {
-    ghost use Rattle.std.specs.Prelude.{◌≡◌, ◌+◌, ℕ};
-    ghost use Rattle.rb_workers.specs.Sink.{SinkItem, sink_span};
-
-    ghost position_of = { λ s. s.position };
-
-    ghost takes = { λ old item new. new.position ≡ old.position + sink_span item };
-
-    fn position(&self) -> u64 {
-        self.position
-    }
-
-    fn event(&mut self, pos: u64, _: u32, _: u64, bytes: &[u8]) {
-        self.position = pos + span(bytes.len() as u32);
-    }
-
-    fn skipped(&mut self, pos: u64, n: u32) {
-        self.position = pos + span(n);
-    }
-
-    fn chapter(&mut self, _: &Chapter) {}
-}
-
-/// A gate that lets each call pass.
-struct OpenGate;
-
-impl Gate for OpenGate {
-    fn at(&self, _worker: u32, _call: u64) {}
-}
 
 /// Runs three jobs of each of two workers over one ring, once more where there was no memory for one.
 pub(crate) fn run<R: Threads + Wait + Sync + Print>(

@@ -1,3 +1,3 @@
 pub mod Acceptance
 pub mod Explained
-pub mod inner
+pub mod MachineFaults

@@ -2,7 +2,7 @@
 
 ghost use Rattle.std.specs.Prelude.{◌≡◌, ◌≢◌, ◌≤◌, ◌↔◌, Err, IfErr, IfOk, IfSome, IsErr, IsUtf8};
 ghost use Rattle.rb_loader.specs.Acceptance.{IsAccepted, IsRightFault, IsRightProgramFault, fault_of_text, fault_of_shape};
-ghost use Rattle.rb_loader.specs.inner.MachineFaults.{IsMachineFault};
+ghost use Rattle.rb_loader.specs.MachineFaults.{IsMachineFault};
 
 use rb_cfg::{ShapeFault, ShapeFaultKind, shape};
 use rb_decode::{DecodeFault, DecodeKind, TextFault, from_text};

@@ -23,7 +23,7 @@ use Rattle.rb_run_commands.specs.declared.jobs_fault.JobsFault.{JobsFault}
 use Rattle.rb_run_commands.specs.declared.jobs_fault.JobsFault.TheVariants.{Program, Size, Start, Workers}
 use Rattle.rb_loader.specs.declared.program.ProgramFault.TheVariants.{Memory}
 use Rattle.rb_run_commands.specs.declared.run_command.JobsRequest.{JobsRequest}
-use Rattle.rb_run_commands.specs.declared.run_command.NullSink.{NullSink}
+use Rattle.rb_workers.specs.declared.null_sink.NullSink.{NullSink}
 
 -- ---- the run
 

@@ -10,15 +10,12 @@ ghost use Rattle.rb_run_commands.specs.inner.OpeningFaults.{fault_of_opening};
 use crate::jobs_fault::JobsFault;
 use crate::report_lines::text_of_report;
 use crate::worker_jobs::{CONTEXT, contexts_of, jobs_of};
-use rb_chapter::Chapter;
-use rb_header::span;
 use rb_history::{OpenFault as SetupFault, check_setup};
 use rb_io::write_whole;
-use rb_jobs::OpenGate;
 use rb_loader::{Bounds, ProgramFault, read_program};
 use rb_shared_ring::OpenFault;
 use rb_verifier::Verified;
-use rb_workers::{JobFault, Opened, Report, Sink, run_jobs};
+use rb_workers::{JobFault, NullSink, OpenGate, Opened, Report, Sink, run_jobs};
 use std::alloc::{AllocError, Global};
 use std::io::{Read, Write};
 use std::sync::Wait;
@@ -48,35 +45,6 @@ const CHAPTER_ROOM: u32 = 65_536;
 
 /// How many entries early a chapter is handed out: half of its room, which the workers may use up until the consumer comes round.
 const CHAPTER_MARGIN: u32 = CHAPTER_ROOM / 2;
-
-/// Gives up all records and chapters that it is given.
-#[derive(Drop)]
-struct NullSink {
-    position: u64,
-}
-
-impl Sink for NullSink {
-    ghost use Rattle.std.specs.Prelude.{◌≡◌, ◌+◌, ℕ};
-    ghost use Rattle.rb_workers.specs.Sink.{SinkItem, sink_span};
-
-    ghost position_of = { λ s. s.position };
-
-    ghost takes = { λ old item new. new.position ≡ old.position + sink_span item };
-
-    fn position(&self) -> u64 {
-        self.position
-    }
-
-    fn event(&mut self, pos: u64, _worker: u32, _serial: u64, bytes: &[u8]) {
-        self.position = pos + span(bytes.len() as u32);
-    }
-
-    fn skipped(&mut self, pos: u64, n: u32) {
-        self.position = pos + span(n);
-    }
-
-    fn chapter(&mut self, _chapter: &Chapter) {}
-}
 
 /// Verifies the program whose text is the input for one ring and contexts of 16 bytes, and has each worker run it so often, each on a thread
 /// of its own, over one ring. A job's context is the worker's number and the job's, each in eight bytes, the lowest first. Prints what each

@@ -244,9 +244,7 @@ impl<'h, R: Wait, S: Stock> SeatHelpers<'h, R, S> {
         requires room { 0 < self.old.room }
         ensures noted { self.new ≡ with_call self.old done unlogged due }
     {
-        if self.trace.push(done).is_err() {
-            unreachable!()
-        }
+        self.trace.push_reserved(done);
         self.room -= 1;
         if unlogged {
             self.unlogged += 1;

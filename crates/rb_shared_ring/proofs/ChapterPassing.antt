@@ -5,7 +5,7 @@ use Rattle.rb_chapter.specs.ChapterCalls.{IsSameChapter}
 use Rattle.rb_ledger.specs.Roles.{Role, book_of, ExtendsSeen}
 use Rattle.rb_ledger.specs.RoleKnowledge.{role_knowledge}
 use Rattle.rb_ledger.specs.Ledger.{IsRoleIn, IsRing}
-use Rattle.rb_ledger.specs.inner.LockSteps.{RoleStep, knowledge_after}
+use Rattle.rb_ledger.specs.LockSteps.{RoleStep, knowledge_after}
 use Rattle.rb_ledger.proofs.Passing.{held}
 use Rattle.rb_chapter_ledger.specs.ChapteredRing.{ChapteredRing, chaptered_ring, whole_of, IsChapteredRing}
 use Rattle.rb_chapter_ledger.specs.ChapterKnowledge.{ChapterPassView, chapter_view, whole_view, KnowsHandedOut, AllKnowHandedOut}

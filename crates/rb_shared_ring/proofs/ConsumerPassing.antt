@@ -14,8 +14,8 @@ use Rattle.rb_chapter_ring.specs.ManyTakes.{TakesEachInChapter, TakesManyInChapt
 use Rattle.rb_ledger.specs.Ledger.{IsRing}
 use Rattle.rb_ledger.specs.Roles.Role.{Consumer}
 use Rattle.rb_ledger.specs.RoleKnowledge.{role_knowledge}
-use Rattle.rb_ledger.specs.inner.AddedBytes.{bytes_after}
-use Rattle.rb_ledger.specs.inner.LockSteps.{RoleStep, knowledge_after}
+use Rattle.rb_ledger.specs.AddedBytes.{bytes_after}
+use Rattle.rb_ledger.specs.LockSteps.{RoleStep, knowledge_after}
 use Rattle.rb_ledger.specs.LockedCalls.{got_by}
 use Rattle.rb_ledger.specs.ManyTakes.{got_by_all}
 use Rattle.rb_ledger.proofs.Calls.{put-same, put-taken}

@@ -3,7 +3,7 @@ use Rattle.std.proofs.Common.{◌≡◌, List, [], ◌∷◌, ◌++◌, None, re
 use Rattle.rb_ledger.specs.Roles.Role.{Worker}
 use Rattle.rb_ledger.specs.RoleKnowledge.{RoleKnowledge, PassView, role_knowledge, pass_view}
 use Rattle.rb_ledger.specs.Seats.{WorkerSeat}
-use Rattle.rb_ledger.specs.inner.SeatRoles.{roles_of}
+use Rattle.rb_ledger.specs.SeatRoles.{roles_of}
 use Rattle.rb_ledger.proofs.Gathers.{gather-step}
 use Rattle.rb_chapter_ledger.specs.ChapterKnowledge.{ChapterKnowledge, ChapterPassView, chapter_view, whole_knowledge}
 use Rattle.rb_shared_ring.specs.inner.SeatPasses.{seen_by, bytes_by, known_in}

@@ -115,11 +115,12 @@ module _ (c s p : ℕ) (b a : Book) (ties : ConsumerTies c s p b) (spaced : 8 * 
 
 -- ---- the consumer's seat
 
-pub keeps-after : (v after : ChapterPassView) (workers room chapters : ℕ) → KeepsConsumer v workers room chapters → IsIdleIn Consumer after → IsBook (seen_by after) → (seen_by after).setup ≡ (seen_by v).setup → room_by after ≡ room_by v
-    → (now : ℕ) → now ≡ length (handed_out_by after) → KeepsConsumer after workers room now
-keeps-after v after workers room chapters keeps idle book setup room_same now is = record {
+pub keeps-after : (v after : ChapterPassView) (size workers room chapters : ℕ) → KeepsConsumer v size workers room chapters → IsIdleIn Consumer after → IsBook (seen_by after) → (seen_by after).setup ≡ (seen_by v).setup → room_by after ≡ room_by v
+    → (now : ℕ) → now ≡ length (handed_out_by after) → KeepsConsumer after size workers room now
+keeps-after v after size workers room chapters keeps idle book setup room_same now is = record {
   idle = idle;
   book = book;
+  size_is = keeps.size_is ∙ ap (λ (x : Setup). x.size) (sym setup);
   workers_are = keeps.workers_are ∙ ap (λ (x : Setup). x.workers) (sym setup);
   room_is = keeps.room_is ∙ sym room_same;
   chapters_are = is;

@@ -13,8 +13,8 @@ use Rattle.rb_shared_ring.specs.declared.audit.Audit.{Audit}
 use Rattle.rb_ledger.specs.Ledger.{IsRing}
 use Rattle.rb_ledger.specs.Roles.Role.{Worker}
 use Rattle.rb_ledger.specs.RoleKnowledge.{role_knowledge}
-use Rattle.rb_ledger.specs.inner.AddedBytes.{bytes_after}
-use Rattle.rb_ledger.specs.inner.LockSteps.{RoleStep, knowledge_after}
+use Rattle.rb_ledger.specs.AddedBytes.{bytes_after}
+use Rattle.rb_ledger.specs.LockSteps.{RoleStep, knowledge_after}
 use Rattle.rb_ledger.specs.LockedCalls.{sent_by_submit}
 use Rattle.rb_ledger.proofs.Calls.{put-same, put-reserved, put-submitted, put-discarded, put-output}
 use Rattle.rb_ledger.proofs.Passing.{after-same, after-reserve, after-submit, after-discard, after-output}

@@ -6,7 +6,7 @@ ghost use Rattle.rb_chapter.specs.ChapterRing.{StandsForChapter};
 ghost use Rattle.rb_chapter.specs.ChapterCalls.{producer_now, consumer_now};
 ghost use Rattle.rb_chapter_ring.specs.OpenedRing.{told_counts};
 ghost use Rattle.rb_ledger.specs.Seats.{are_tagged, has_seat, HasAll};
-ghost use Rattle.rb_ledger.specs.inner.SeatRoles.{roles_of, HasOwnCounts};
+ghost use Rattle.rb_ledger.specs.SeatRoles.{roles_of, HasOwnCounts};
 ghost use Rattle.rb_chapter_ledger.specs.ChapterKnowledge.{ChapterKnowledge, chapter_view, whole_knowledge};
 ghost use Rattle.rb_chapter_ledger.specs.ChapterClosing.{IsClosedByChapters};
 

@@ -19,6 +19,7 @@ use std::marker::Model;
 #[derive(Drop)]
 pub struct ConsumerSeat {
     pub(crate) tag: u64,
+    pub(crate) size: u64,
     pub(crate) workers: u32,
     pub(crate) room: u32,
     pub(crate) chapters: u64,
@@ -57,7 +58,7 @@ impl Model for ConsumerSeat {
       out = (known_by s.pass).out;
     } };
 
-    ghost invariant = { λ s. (s.pass.me.1 ≡ []) × KeepsConsumer (known_by s.pass) s.workers s.room s.chapters × CountsTakes (known_by s.pass) s.consumed s.skipped s.position };
+    ghost invariant = { λ s. (s.pass.me.1 ≡ []) × KeepsConsumer (known_by s.pass) s.size s.workers s.room s.chapters × CountsTakes (known_by s.pass) s.consumed s.skipped s.position };
 }
 
 impl ConsumerSeat {
@@ -83,6 +84,13 @@ impl ConsumerSeat {
         ensures room { result ≡ self.now.room }
     {
         self.room
+    }
+
+    /// How many bytes the ring has.
+    pub fn size(&self) -> u64
+        ensures size { result ≡ self.now.seen.setup.size }
+    {
+        self.size
     }
 
     /// How many workers the ring has.
@@ -135,6 +143,7 @@ pub(crate) fn new_consumer(
     lock: &Lock,
     pass: &mut RingPass,
     tag: u64,
+    size: u64,
     workers: u32,
     start: u64,
     room: u32,
@@ -143,6 +152,7 @@ pub(crate) fn new_consumer(
     requires role { first_chapter_role (view pass.old).knows ≡ opening_role Consumer (seen_by (view pass.old)) (room_by (view pass.old)) ∷ [] }
     requires nothing { (seen_by (view pass.old)).history ≡ [] }
     requires book { IsBook (seen_by (view pass.old)) }
+    requires size { (seen_by (view pass.old)).setup.size ≡ size }
     requires workers { (seen_by (view pass.old)).setup.workers ≡ workers }
     requires start { (seen_by (view pass.old)).setup.start ≡ start }
     requires room { room_by (view pass.old) ≡ room }
@@ -152,6 +162,7 @@ pub(crate) fn new_consumer(
 {
     ConsumerSeat {
         tag,
+        size,
         workers,
         room,
         chapters: 0,

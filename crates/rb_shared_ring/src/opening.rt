@@ -44,7 +44,7 @@ pub fn open<R: Wait>(
         return Err(OpenFault::Memory);
     };
     put_first(rt, &lock, &mut pass, state);
-    let consumer = new_consumer(&lock, &mut pass, tag, workers, start, room);
+    let consumer = new_consumer(&lock, &mut pass, tag, size, workers, start, room);
     let mut seats = Vec::new(alloc);
     for worker in 0..workers {
         let seat = new_seat(&lock, &mut pass, tag, worker);

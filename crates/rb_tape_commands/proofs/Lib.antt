@@ -2,6 +2,7 @@ mod Answering
 mod ChapterPass
 mod Digits
 mod Feeding
+mod Gathering
 mod Inputs
 mod PayloadReads
 mod RingPass

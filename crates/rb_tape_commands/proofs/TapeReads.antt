@@ -1,30 +1,59 @@
 -- What was read of a tape so far, and what an answer says then of the whole input.
-use Rattle.std.proofs.Common.{◌≡◌, ◌≢◌, ℕ, ◌-◌, ◌≤◌, List, [], ◌∷◌, ◌++◌, length, take, drop, None, Some, IfSome, Result, Ok, Err, refl, sym, ap, ◌∙◌, subst, arith, append_assoc, append-nil, take-append-drop, true≢false, inl, inr}
+use Rattle.std.proofs.Common.{◌≡◌, ◌≢◌, ℕ, ◌+◌, ◌-◌, ◌≤◌, List, [], ◌∷◌, ◌++◌, length, take, drop, None, Some, IfSome, Result, Ok, Err, refl, sym, ap, ◌∙◌, subst, arith, append_assoc, append-nil, take-append-drop, true≢false, inl, inr}
 use Rattle.std.proofs.lemmas.List.{take-append-le, drop-append-le, length-append, length-drop}
 use Rattle.std.proofs.lemmas.Grind.{flat_map-append}
-use Rattle.std.specs.Prelude.{Option, Bool, true, false, is_err, OnOk}
-use Rattle.std.specs.Io.KnownBytes.{Appends, Consumes, Keeps, IsAtEnd}
+use Rattle.std.specs.Prelude.{Option, Bool, false, is_err, OnOk}
+use Rattle.std.specs.Io.KnownBytes.{Appends, Consumes, Keeps, IsAtEnd, append_known}
 use Rattle.std.proofs.KnownBytes.{Appends-nil, Appends-trans, Appends-kept, Consumes-nil, Consumes-trans, Keeps-refl, Keeps-trans}
 use Rattle.rb_header.specs.declared.headers.Header.{Header}
 use Rattle.rb_header.specs.Header.{header_bytes}
 use Rattle.rb_header.specs.TapeBytes.{Item, item_bytes, end_of, padding}
+use Rattle.rb_header.proofs.Laws.{length-item_bytes}
 use Rattle.rb_history.specs.RingModel.{IsRingSize}
 use Rattle.rb_reader.specs.declared.fault.TapeKind.{TapeKind}
 use Rattle.rb_reader.specs.declared.fault.TapeKind.TheVariants as kinds
 use Rattle.rb_reader.specs.declared.fault.TapeFault.{TapeFault}
 use Rattle.rb_reader.specs.TapeFront.{ShowsFault, IsUndecided, StartsWithItem, IsFirstTapeFault, HasWholeSpan}
-use Rattle.rb_reader.specs.TapeReading.{Reading, PassesItem, AddsPiece, reading_from}
+use Rattle.rb_reader.specs.TapeReading.{Reading, AddsPiece, reading_from}
 use Rattle.rb_reader.specs.LongestTape.{IsTapeAndRest, HasReadItems}
 use Rattle.rb_reader.proofs.ItemsRead.{begins, fed, goes_on, is_longest}
 use Rattle.rb_tape_commands.specs.TapeText.{tape_line, tape_lines, PrintsTape, PrintsFirst, PrintsSome, IsTape, TapeAnswer}
-use Rattle.rb_tape_commands.specs.inner.TapePrinting.{PrintsSoFar, PrintsNext, EndsTape}
+use Rattle.rb_tape_commands.specs.inner.TapePrinting.{PrintsSoFar, EndsTape}
+use Rattle.rb_tape_commands.specs.inner.LineGathering.{PassesItems, ReadsLines, GathersLines}
 use Rattle.rb_tape_commands.specs.declared.tape_refusal.TapeRefusal.{TapeRefusal}
 use Rattle.rb_tape_commands.specs.declared.tape_refusal.TapeRefusal.TheVariants.{Size, Start, Record, Memory, Device}
 
 -- ---- step by step
 
-tape_lines-push : (items : List Item) (item : Item) → tape_lines (items ++ item ∷ []) ≡ tape_lines items ++ tape_line item
-tape_lines-push items item = flat_map-append tape_line items (item ∷ []) ∙ ap (λ xs. tape_lines items ++ xs) (append-nil (tape_line item))
+Appends-known : (a : Option (List ℕ)) (bs : List ℕ) → Appends a (append_known a bs) bs
+Appends-known None bs = tt
+Appends-known (Some xs) bs = refl
+
+passes-size : (old new : Reading) (items : List Item) → PassesItems old items new → new.size ≡ old.size
+passes-size old new [] same = ap (λ r. r.size) same
+passes-size old new (item ∷ items) all = passes-size all.0 new items all.2 ∙ all.1.size
+
+passes-start : (old new : Reading) (items : List Item) → PassesItems old items new → new.start ≡ old.start
+passes-start old new [] same = ap (λ r. r.start) same
+passes-start old new (item ∷ items) all = passes-start all.0 new items all.2 ∙ all.1.start
+
+passes-told : (old new : Reading) (items : List Item) → old.told ≡ None → PassesItems old items new → new.told ≡ None
+passes-told old new [] none same = ap (λ r. r.told) same ∙ none
+passes-told old new (item ∷ items) none all = passes-told all.0 new items all.1.told all.2
+
+-- items that the reader goes over are read behind those before
+read_on : (size start : ℕ) (bytes : List ℕ) (before : List Item) (old new : Reading) (items : List Item) → old.size ≡ size → HasReadItems size start bytes before old.position old.rest → PassesItems old items new
+    → HasReadItems size start bytes (before ++ items) new.position new.rest
+read_on size start bytes before old new [] is read same =
+    subst (λ (r : Reading). HasReadItems size start bytes (before ++ []) r.position r.rest) (sym same)
+    (subst (λ items. HasReadItems size start bytes items old.position old.rest) (sym (append-nil before)) read)
+read_on size start bytes before old new (item ∷ items) is read all =
+    let next = all.0 in
+    let starts = subst (λ n. StartsWithItem n old.position old.rest item next.rest) is all.1.starts in
+    let one = goes_on size start bytes before old.position old.rest item next.rest read starts in
+    let moved = subst (λ at. HasReadItems size start bytes (before ++ item ∷ []) at next.rest) (sym all.1.moves) one in
+    subst (λ items. HasReadItems size start bytes items new.position new.rest) (append_assoc before (item ∷ []) items)
+    (read_on size start bytes (before ++ item ∷ []) next new items (all.1.size ∙ is) moved all.2)
 
 pub nothing_yet : (size start : ℕ) (u h : Option (List ℕ)) → PrintsSoFar size start u u h h (reading_from size start [])
 nothing_yet size start u h = record {
@@ -36,6 +65,18 @@ nothing_yet size start u h = record {
   no_fault = refl;
   items_read = begins size start [];
   printed = Appends-nil h;
+}
+
+-- no bytes show anything
+pub nothing_shown : (size position : ℕ) → IsUndecided size position []
+nothing_shown size position = record {
+  no_item = λ item rest s.
+      let whole : 0 ≡ length (item_bytes size item) + length rest = ap length s.text ∙ length-append (item_bytes size item) rest in
+      let own = length-item_bytes size item in
+      absurd (omega arith);
+  no_fault = λ kind s.
+      let whole : 0 ≡ 8 + length s.1 = ap length s.2.text ∙ length-append (header_bytes s.0) s.1 in
+      absurd (omega arith);
 }
 
 module _ (size start : ℕ) (u v h g : Option (List ℕ)) (r : Reading) (so_far : PrintsSoFar size start u v h g r) where
@@ -52,21 +93,18 @@ module _ (size start : ℕ) (u v h g : Option (List ℕ)) (r : Reading) (so_far 
     printed = so_far.printed;
   })
 
-  -- a record more was read, and its line was printed
-  pub item_more : (f : Option (List ℕ)) (item : Item) (new : Reading) → PassesItem r item new → Appends g f (tape_line item) → PrintsSoFar size start u v h f new
-  item_more f item new passes prints =
-      let starts = subst (λ n. StartsWithItem n r.position r.rest item new.rest) so_far.size_is passes.starts in
-      let read_on = goes_on size start so_far.bytes so_far.items r.position r.rest item new.rest so_far.items_read starts in
-      record {
-        bytes = so_far.bytes;
-        items = so_far.items ++ item ∷ [];
-        read = so_far.read;
-        size_is = passes.size ∙ so_far.size_is;
-        start_is = passes.start ∙ so_far.start_is;
-        no_fault = passes.told;
-        items_read = subst (λ at. HasReadItems size start so_far.bytes (so_far.items ++ item ∷ []) at new.rest) (sym passes.moves) read_on;
-        printed = subst (Appends h f) (sym (tape_lines-push so_far.items item)) (Appends-trans h g f _ _ so_far.printed prints);
-      }
+  -- records more were read, and their lines were printed
+  pub items_more : (f : Option (List ℕ)) (items : List Item) (new : Reading) → PassesItems r items new → Appends g f (tape_lines items) → PrintsSoFar size start u v h f new
+  items_more f items new passes prints = record {
+    bytes = so_far.bytes;
+    items = so_far.items ++ items;
+    read = so_far.read;
+    size_is = passes-size r new items passes ∙ so_far.size_is;
+    start_is = passes-start r new items passes ∙ so_far.start_is;
+    no_fault = passes-told r new items so_far.no_fault passes;
+    items_read = read_on size start so_far.bytes so_far.items r new items so_far.size_is so_far.items_read passes;
+    printed = subst (Appends h f) (sym (flat_map-append tape_line so_far.items items)) (Appends-trans h g f _ _ so_far.printed prints);
+  }
 
 -- ---- what more bytes leave of a fault that shows
 
@@ -171,22 +209,23 @@ module _ (size start : ℕ) (ring : IsRingSize size) where
   answers_memory (Some input) None h g f r s kept = absurd s.read
   answers_memory (Some input) (Some left) h g f r s kept = known_first size start ring input left h g r s f kept
 
-  -- the output failed within a line
-  pub answers_line : (u v h g f : Option (List ℕ)) (r new : Reading) (item : Item) (n : ℕ) → PrintsSoFar size start u v h g r → PassesItem r item new → Appends g f (take n (tape_line item)) → IfSome u (λ input. TapeAnswer size start input h f (Err Device))
-  answers_line None v h g f r new item n s passes prints = tt
-  answers_line (Some input) None h g f r new item n s passes prints = absurd s.read
-  answers_line (Some input) (Some left) h g f r new item n s passes prints =
-      let whole = take-append-drop n (tape_line item) in
-      let before = read_of_input size start ring input left h g r s in
-      let starts = starts_stays size r.position r.rest left item new.rest (subst (λ n. StartsWithItem n r.position r.rest item new.rest) s.size_is passes.starts) in
+  -- the output failed within the lines of these records
+  pub answers_lines : (u v h g f : Option (List ℕ)) (r new : Reading) (items : List Item) (n : ℕ) → PrintsSoFar size start u v h g r → PassesItems r items new → Appends g f (take n (tape_lines items)) → IfSome u (λ input. TapeAnswer size start input h f (Err Device))
+  unfolding items_more
+  answers_lines None v h g f r new items n s passes prints = tt
+  answers_lines (Some input) None h g f r new items n s passes prints = absurd s.read
+  answers_lines (Some input) (Some left) h g f r new items n s passes prints =
+      let lines = tape_lines items in
+      let all = append_known g lines in
+      let before = items_more size start (Some input) (Some left) h g r s all items new passes (Appends-known g lines) in
       record {
-        items = s.items ++ item ∷ [];
+        items = s.items ++ items;
         rest = new.rest ++ left;
-        splits = (goes_on size start input s.items r.position (r.rest ++ left) item (new.rest ++ left) before starts).splits;
-        out = tape_lines s.items ++ take n (tape_line item);
-        missing = drop n (tape_line item);
+        splits = (read_of_input size start ring input left h all new before).splits;
+        out = tape_lines s.items ++ take n lines;
+        missing = drop n lines;
         printed = Appends-trans h g f _ _ s.printed prints;
-        beginning = append_assoc (tape_lines s.items) (take n (tape_line item)) (drop n (tape_line item)) ∙ ap (λ x. tape_lines s.items ++ x) whole ∙ sym (tape_lines-push s.items item);
+        beginning = append_assoc (tape_lines s.items) (take n lines) (drop n lines) ∙ ap (λ x. tape_lines s.items ++ x) (take-append-drop n lines) ∙ sym (flat_map-append tape_line s.items items);
       }
 
   -- the input failed
@@ -208,20 +247,32 @@ module _ (size start : ℕ) (ring : IsRingSize size) where
   answers_end (Some input) (Some left) (Some none) h g r (Err Memory) s read at_end undecided ends = absurd ends
   answers_end (Some input) (Some left) (Some none) h g r (Err Device) s read at_end undecided ends = absurd ends
 
-  -- the next record was not printed whole, or there is none that stands
-  pub answers_next : (u v h g f : Option (List ℕ)) (r new : Reading) (e : TapeRefusal) → PrintsSoFar size start u v h g r → PrintsNext r new g f (Err e) → IfSome u (λ input. TapeAnswer size start input h f (Err e))
-  answers_next u v h g f r new (Record kind offset) s p = answers_fault u v h g f r kind offset s p.0 p.1 p.2
-  answers_next u v h g f r new Memory s p = answers_memory u v h g f r s p
-  answers_next u v h g f r new Device s p = answers_line u v h g f r new p.0 p.2 s p.1 p.3
-  answers_next u v h g f r new Size s p = absurd p
-  answers_next u v h g f r new Start s p = absurd p
+  -- the lines of what was read went out, and then a fault showed, or there was no memory
+  pub answers_gathered : (u v h g f : Option (List ℕ)) (r new : Reading) (lines : List ℕ) (e : TapeRefusal) → PrintsSoFar size start u v h g r → GathersLines r new lines (Err e) → Appends g f lines → IfSome u (λ input. TapeAnswer size start input h f (Err e))
+  answers_gathered u v h g f r new lines (Record kind offset) s p prints =
+      let all = p.1 in
+      answers_fault u v h f f p.0 kind offset (items_more size start u v h g r s f all.items p.0 all.passes (subst (Appends g f) all.text prints)) p.2.0 p.2.1 (Keeps-refl f)
+  answers_gathered u v h g f r new lines Memory s p prints =
+      let all = p.1 in
+      answers_memory u v h f f p.0 (items_more size start u v h g r s f all.items p.0 all.passes (subst (Appends g f) all.text prints)) (Keeps-refl f)
+  answers_gathered u v h g f r new lines Device s p prints = absurd p
+  answers_gathered u v h g f r new lines Size s p prints = absurd p
+  answers_gathered u v h g f r new lines Start s p prints = absurd p
 
--- ---- the next record, as it is printed
+  -- a beginning of the gathered lines went out, and then the output failed
+  pub answers_cut : (u v h g f : Option (List ℕ)) (r new : Reading) (lines : List ℕ) (n : ℕ) (result : Result (Unit {0}) TapeRefusal) → PrintsSoFar size start u v h g r → GathersLines r new lines result → Appends g f (take n lines) → IfSome u (λ input. TapeAnswer size start input h f (Err Device))
+  answers_cut u v h g f r new lines n (Ok _) s p prints = answers_lines u v h g f r new p.0.items n s p.0.passes (subst (λ l. Appends g f (take n l)) p.0.text prints)
+  answers_cut u v h g f r new lines n (Err (Record kind offset)) s p prints = answers_lines u v h g f r p.0 p.1.items n s p.1.passes (subst (λ l. Appends g f (take n l)) p.1.text prints)
+  answers_cut u v h g f r new lines n (Err Memory) s p prints = answers_lines u v h g f r p.0 p.1.items n s p.1.passes (subst (λ l. Appends g f (take n l)) p.1.text prints)
+  answers_cut u v h g f r new lines n (Err Device) s p prints = absurd p
+  answers_cut u v h g f r new lines n (Err Size) s p prints = absurd p
+  answers_cut u v h g f r new lines n (Err Start) s p prints = absurd p
 
-module _ (size start : ℕ) (u v h g f : Option (List ℕ)) (r new : Reading) (so_far : PrintsSoFar size start u v h g r) where
-  pub went_on : (more : Bool) → PrintsNext r new g f (Ok more) → more ≡ true → PrintsSoFar size start u v h f new
-  went_on true p is = item_more size start u v h g r so_far f p.0 new p.1 p.2
-  went_on false p is = absurd (true≢false (sym is))
+-- ---- the lines of a piece, as they are printed
+
+module _ (size start : ℕ) (u v h g f : Option (List ℕ)) (r new : Reading) (lines : List ℕ) (so_far : PrintsSoFar size start u v h g r) (prints : Appends g f lines) where
+  pub went_on : ReadsLines r new lines → PrintsSoFar size start u v h f new
+  went_on all = items_more size start u v h g r so_far f all.items new all.passes (subst (Appends g f) all.text prints)
 
 pub piece_added : (r new : Reading) (piece : List ℕ) (result : Result (Unit {0}) TapeFault) (failed : Bool) → AddsPiece r new piece result → failed ≡ is_err result → failed ≡ false → new ≡ record r { rest = r.rest ++ piece }
 piece_added r new piece (Ok _) failed a e f = a.1

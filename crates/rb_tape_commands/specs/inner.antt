@@ -1,7 +1,9 @@
 pub mod FeedRuns
 pub mod HexDigits
 pub mod LengthReads
+pub mod LineGathering
 pub mod OpenedFeed
 pub mod PayloadSteps
+pub mod RoomForText
 pub mod SeenPayloads
 pub mod TapePrinting

@@ -4,6 +4,8 @@ ghost use Rattle.std.specs.Prelude.{◌≡◌, ◌<◌, ◌*◌, length};
 ghost use Rattle.hex.specs.Hex.{encode_lower};
 ghost use Rattle.rb_tape_commands.specs.inner.HexDigits.{digit_code};
 
+// In a function of its own the compiler sees that the loop takes vectors; within a long one it does not.
+#[inline(never)]
 /// Writes each byte as two digits in lower case, the high four bits first.
 pub(crate) fn write_digits(bytes: &[u8], out: &mut [u8])
     requires room { length out.old ≡ 2 * length bytes.now }

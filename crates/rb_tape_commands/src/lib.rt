@@ -9,6 +9,7 @@ mod chapter_turns;
 mod feed_command;
 mod feed_fault;
 mod hex_digits;
+mod lines;
 mod payloads;
 mod retries;
 mod tape_command;

@@ -6,10 +6,11 @@ ghost use Rattle.rb_reader.specs.TapeReading.{reading_from};
 ghost use Rattle.rb_tape_commands.specs.inner.TapePrinting.{EndsTape};
 ghost use Rattle.rb_tape_commands.specs.TapeText.{TapeAnswer};
 
-use crate::tape_lines::print_next;
+use crate::lines::Lines;
+use crate::tape_lines::gather_lines;
 use crate::tape_refusal::TapeRefusal;
 use rb_history::OpenFault;
-use rb_io::Outgoing;
+use rb_io::{Outgoing, write_out};
 use rb_reader::Feed;
 use std::alloc::Global;
 use std::io::{Read, Write};
@@ -22,7 +23,7 @@ const PIECE: usize = 4096;
 /// the input. `Record` where bytes are left behind them, with what is wrong there.
 ///
 /// `Size` and `Start` come before anything is read. Whatever is returned, the lines of the records before were printed and handed on, unless
-/// the output itself failed. The output is called for each record: buffer it.
+/// the output itself failed. The output is called once for each piece that was read.
 pub fn tape<R: Read, W: Outgoing>(
     alloc: Global,
     input: &mut R,
@@ -43,8 +44,8 @@ pub fn tape<R: Read, W: Outgoing>(
         Err(OpenFault::Workers) => unreachable!(),
         Err(OpenFault::Memory) => unreachable!(),
     };
-    let mut line = Vec::new(alloc);
-    let printed = print_pieces(&mut feed, input, out, &mut line);
+    let mut lines = Lines::new(alloc);
+    let printed = print_pieces(&mut feed, input, out, &mut lines);
     match out.hand_out() {
         Ok(()) => printed,
         Err(_) => Err(TapeRefusal::Device),
@@ -56,7 +57,7 @@ fn print_pieces<R: Read, W: Write>(
     feed: &mut Feed,
     input: &mut R,
     out: &mut W,
-    line: &mut Vec<u8>,
+    lines: &mut Lines,
 ) -> Result<(), TapeRefusal>
     requires size { IsRingSize feed.old.size }
     requires fresh { feed.old ≡ reading_from feed.old.size feed.old.start [] }
@@ -75,7 +76,11 @@ fn print_pieces<R: Read, W: Write>(
         if feed.feed(&piece[..count]).is_err() {
             return Err(TapeRefusal::Memory);
         }
-        'records: while print_next(feed, out, line)? {}
+        let gathered = gather_lines(feed, lines);
+        if write_out(out, lines.text()) < lines.text().len() {
+            return Err(TapeRefusal::Device);
+        }
+        gathered?;
     }
     // No input has so many pieces.
     Err(TapeRefusal::Device)

@@ -1,34 +1,44 @@
 //! The lines of a tape's records.
 
-ghost use Rattle.std.specs.Prelude.{◌≡◌, ◌<◌, ◌^◌, ◌++◌, None, OnOk, length};
+ghost use Rattle.std.specs.Prelude.{◌≡◌, ◌<◌, ◌≤◌, ◌+◌, ◌*◌, ◌^◌, ◌++◌, None, OnOk, length};
 ghost use Rattle.rb_reader.specs.TapeReading.{HasItsLength, item_read};
 ghost use Rattle.rb_io.specs.Lines.{hex_text};
 ghost use Rattle.rb_tape_commands.specs.TapeText.{tape_line};
-ghost use Rattle.rb_tape_commands.specs.inner.TapePrinting.{PrintsLine, PrintsNext};
+ghost use Rattle.rb_tape_commands.specs.inner.LineGathering.{GathersLines, GathersNext};
 
-use crate::hex_digits::write_digits;
+use crate::lines::Lines;
 use crate::tape_refusal::TapeRefusal;
 use itoa::Buffer;
-use rb_io::write_out;
 use rb_reader::{Feed, Record};
-use std::alloc::AllocError;
-use std::io::Write;
 
-/// Prints the line of the next record that the reader has, and says whether there was one. `line` is room for it, whose bytes are given up.
-pub(crate) fn print_next<W: Write>(
-    feed: &mut Feed,
-    out: &mut W,
-    line: &mut Vec<u8>,
-) -> Result<bool, TapeRefusal>
+// What a line takes but for its hex digits, at most: its words, two numbers of 20 and 10 digits, and its end.
+const FRAME: usize = 64;
+
+/// Gathers the lines of the records that the reader has, so that they go out at once. What the list had before is given up. At an error it has
+/// the lines of the records before.
+pub(crate) fn gather_lines(feed: &mut Feed, lines: &mut Lines) -> Result<(), TapeRefusal>
     requires no_fault { feed.old.told ≡ None }
-    ensures printed { PrintsNext feed.old feed.new (W.contents out.old) (W.contents out.new) result }
+    ensures gathered { GathersLines feed.old feed.new lines.new.text result }
+{
+    lines.clear();
+    'records: while gather_next(feed, lines)? {}
+    Ok(())
+}
+
+// Adds the line of the next record that the reader has, and says whether there was one.
+fn gather_next(feed: &mut Feed, lines: &mut Lines) -> Result<bool, TapeRefusal>
+    requires no_fault { feed.old.told ≡ None }
+    ensures gathered { GathersNext feed.old feed.new lines.old.text lines.new.text result }
 {
     match feed.next() {
         None => Ok(false),
-        Some(Ok(record)) => match print_record(out, line, &record) {
-            Ok(()) => Ok(true),
-            Err(refusal) => Err(refusal),
-        },
+        Some(Ok(record)) => {
+            if lines.reserve(FRAME + 2 * record.bytes.len()).is_err() {
+                return Err(TapeRefusal::Memory);
+            }
+            put_line(lines, &record);
+            Ok(true)
+        }
         Some(Err(fault)) => Err(TapeRefusal::Record {
             kind: fault.kind,
             offset: fault.offset,
@@ -36,53 +46,38 @@ pub(crate) fn print_next<W: Write>(
     }
 }
 
-// Prints the line of a record.
-fn print_record<W: Write>(
-    out: &mut W,
-    line: &mut Vec<u8>,
-    found: &Record<'_>,
-) -> Result<(), TapeRefusal>
-    requires length { HasItsLength found.now }
-    ensures printed { PrintsLine (tape_line (item_read found.now)) (W.contents out.old) (W.contents out.new) result }
-{
-    line.clear();
-    if push_line(line, found).is_err() {
-        return Err(TapeRefusal::Memory);
-    }
-    if write_out(out, line.as_slice()) < line.len() {
-        return Err(TapeRefusal::Device);
-    }
-    Ok(())
-}
-
 // Adds the line of a record.
-fn push_line(line: &mut Vec<u8>, found: &Record<'_>) -> Result<(), AllocError>
+fn put_line(lines: &mut Lines, found: &Record<'_>)
     requires length { HasItsLength found.now }
-    ensures line { OnOk result (line.new.items ≡ line.old.items ++ tape_line (item_read found.now)) }
+    requires short { length found.now.bytes.now < 2 ^ 32 }
+    requires room { length lines.old.text + (64 + 2 * length found.now.bytes.now) ≤ lines.old.room }
+    ensures line { lines.new.text ≡ lines.old.text ++ tape_line (item_read found.now) }
 {
     let (mut pos, mut len) = (Buffer::new(), Buffer::new());
-    line.extend_from_slice(b"pos ")?;
-    line.extend_from_slice(pos.format(found.pos).as_bytes())?;
-    line.extend_from_slice(b" len ")?;
-    line.extend_from_slice(len.format(found.len).as_bytes())?;
-    line.extend_from_slice(b" ")?;
+    lines.put(b"pos ");
+    lines.put(pos.format(found.pos).as_bytes());
+    lines.put(b" len ");
+    lines.put(len.format(found.len).as_bytes());
     if found.discarded {
-        return line.extend_from_slice(b"discarded\n");
+        lines.put(b" discarded\n");
+        return;
     }
-    push_hex(line, found.bytes)?;
-    line.extend_from_slice(b"\n")
+    lines.put(b" ");
+    put_hex(lines, found.bytes);
+    lines.put(b"\n");
 }
 
 // Adds the bytes in hex; `-` where there are none.
-fn push_hex(line: &mut Vec<u8>, bytes: &[u8]) -> Result<(), AllocError>
+fn put_hex(lines: &mut Lines, bytes: &[u8])
     requires short { length bytes.now < 2 ^ 32 }
-    ensures hex { OnOk result (line.new.items ≡ line.old.items ++ hex_text bytes.now) }
+    requires room { length lines.old.text + (1 + 2 * length bytes.now) ≤ lines.old.room }
+    ensures hex { lines.new.text ≡ lines.old.text ++ hex_text bytes.now }
+    ensures length { length lines.new.text ≤ length lines.old.text + (1 + 2 * length bytes.now) }
+    ensures room { lines.new.room ≡ lines.old.room }
 {
     if bytes.is_empty() {
-        return line.extend_from_slice(b"-");
+        lines.put(b"-");
+    } else {
+        lines.put_digits(bytes);
     }
-    let end = line.len();
-    line.resize(end + 2 * bytes.len(), 0)?;
-    write_digits(bytes, &mut line[end..]);
-    Ok(())
 }

@@ -119,7 +119,7 @@ pub(crate) fn consume<R: Wait, S: Sink, K: Stock>(
     requires ready { IsConsumerTaskOf S.position_of ring.now task.old }
     ensures returned { Consumed S.position_of S.takes task.old task.new }
 {
-    let mut pace = Pace::new();
+    let mut pace = Pace::new(task.consumer.size());
     for _ in rt.forever() {
         let over = ended.load(Ordering::SeqCst);
         let looks = pace.is_look_due(task.consumer.room());

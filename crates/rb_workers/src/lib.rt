@@ -20,6 +20,7 @@ mod consumer_task;
 mod distribution;
 mod job_answers;
 mod jobs_run;
+mod null_sink;
 mod opened;
 mod pace;
 mod ring_close;
@@ -30,8 +31,9 @@ pub mod used_sheets;
 mod workers;
 
 pub use jobs_run::run_jobs;
+pub use null_sink::NullSink;
 pub use opened::{Ended, JobFault, Opened, Report};
 pub use rb_chapter::Chapter;
 pub use rb_consumer::Keeper;
-pub use rb_jobs::{Gate, Job};
+pub use rb_jobs::{Gate, Job, OpenGate};
 pub use sink::Sink;

@@ -4,19 +4,19 @@ use rb_shared_ring::WaitBackoff;
 use std::sync::atomic::{AtomicBool, Ordering};
 
 /// How many records a consumer takes at most under one holding of its ring's lock.
-pub(crate) const BATCH: usize = 64;
+pub(crate) const BATCH: usize = 128;
 
 // A batch of so many records has many of them.
 const MANY: usize = BATCH / 2;
 
-// A batch of so many bytes of the ring has many of them: a quarter of the smallest ring.
-const MANY_BYTES: u64 = 1_024;
+// A batch has many bytes where it has this part of the ring's.
+const PART_OF_RING: u64 = 4;
 
 // How often a consumer that found a few records looks whether the workers have ended before it comes again: a microsecond or so at least, and
-// some thirty at most.
+// some sixty at most.
 const SHORTEST: u32 = 1_024;
 
-const LONGEST: u32 = 32_768;
+const LONGEST: u32 = 65_536;
 
 // A keeper looks at its ring's chapter again after so many records as are this part of the chapter's room. A record has three entries.
 const PART_OF_ROOM: usize = 32;
@@ -25,6 +25,8 @@ const PART_OF_ROOM: usize = 32;
 /// than the consumer holds it. So the consumer comes seldom, but before much has gathered.
 #[derive(Clone, Copy)]
 pub(crate) struct Pace {
+    // How many bytes of the ring are many.
+    many_bytes: u64,
     // How often it looks before it comes again.
     pause: u32,
     // How long it waits where it found nothing.
@@ -34,9 +36,10 @@ pub(crate) struct Pace {
 }
 
 impl Pace {
-    /// The pace of a consumer that has not come yet: its keeper is to look first.
-    pub(crate) fn new() -> Pace {
+    /// The pace of the consumer of a ring of so many bytes that has not come yet: its keeper is to look first.
+    pub(crate) fn new(size: u64) -> Pace {
         Pace {
+            many_bytes: size / PART_OF_RING,
             pause: SHORTEST,
             backoff: WaitBackoff::new(),
             unlooked: usize::MAX,
@@ -60,16 +63,16 @@ impl Pace {
         let before = if looked { 0 } else { self.unlooked };
         self.unlooked = before.saturating_add(count);
         self.backoff = WaitBackoff::new();
-        self.pause = pause_after(self.pause, count, bytes);
+        self.pause = pause_after(self.pause, count >= MANY || bytes >= self.many_bytes);
         if count < BATCH {
             watch(ended, self.pause);
         }
     }
 }
 
-// How long to wait after a batch of so many records and bytes, where the last wait was so long.
-fn pause_after(pause: u32, count: usize, bytes: u64) -> u32 {
-    if count >= MANY || bytes >= MANY_BYTES {
+// How long to wait after a batch with many records or bytes or with few, where the last wait was so long.
+fn pause_after(pause: u32, is_many: bool) -> u32 {
+    if is_many {
         (pause / 2).max(SHORTEST)
     } else {
         pause.saturating_mul(2).min(LONGEST)

@@ -6,8 +6,9 @@ ghost use Rattle.rb_workers.specs.JobRuns.{own_jobs};
 ghost use Rattle.rb_workers.specs.inner.WorkerRuns.{HasSpareSeat, IsOneMore, IsOneAnswerMore, IsReady, GivesBack, RunsJobs, RunsOne};
 
 use rb_helpers::Done;
+use rb_interp::MachineRoom;
 use rb_jobs::{Gate, Job, JobAnswer, run_job_in};
-use rb_seats::Stock;
+use rb_seats::{SeatRecord, Stock};
 use rb_shared_ring::{Seat, SharedRing};
 use std::alloc::Global;
 use std::mem;
@@ -57,12 +58,13 @@ impl Worker {
     }
 
     // Runs one of the worker's jobs, and answers whether there was memory for it. Where there is none, nothing ran.
-    fn run_one<R: Wait, G: Gate, K: Stock>(
+    fn run_one<'j, R: Wait, G: Gate, K: Stock>(
         &mut self,
         rt: &R,
         alloc: Global,
         rings: &[SharedRing],
-        job: &Job<'_>,
+        machine: &mut MachineRoom<'j, SeatRecord>,
+        job: &Job<'j>,
         gate: &G,
         stock: &K,
     ) -> bool
@@ -83,6 +85,7 @@ impl Worker {
             rings,
             seats,
             trace,
+            machine,
             job,
             gate,
             stock,
@@ -99,7 +102,8 @@ impl Worker {
         }
     }
 
-    /// Runs the worker's jobs in their order, up to the first that finds no memory, and comes to the gate once more at the end.
+    /// Runs the worker's jobs in their order and in the room of one machine, up to the first that finds no memory, and comes to the gate once more
+    /// at the end.
     pub(crate) fn work<R: Wait, G: Gate, K: Stock>(
         &mut self,
         rt: &R,
@@ -113,11 +117,12 @@ impl Worker {
         requires ready { IsReady rings.now self.old }
         ensures returned { GivesBack rings.now jobs.now self.old self.new }
     {
+        let mut machine = MachineRoom::new();
         for job in jobs {
             if job.worker != self.number {
                 continue;
             }
-            if !self.run_one(rt, alloc, rings, job, gate, stock) {
+            if !self.run_one(rt, alloc, rings, &mut machine, job, gate, stock) {
                 self.short = true;
                 break;
             }

@@ -18,9 +18,10 @@ pub record CountsTakes (v : ChapterPassView) (consumed skipped position : ℕ) :
   pub spaced : 8 * (consumed + skipped) ≤ position
 
 -- the consumer's seat: its pass has its role alone; and its setup and its chapters, as its pass knows them
-pub record KeepsConsumer (v : ChapterPassView) (workers room chapters : ℕ) : Type 0 where
+pub record KeepsConsumer (v : ChapterPassView) (size workers room chapters : ℕ) : Type 0 where
   pub idle : IsIdleIn Consumer v
   pub book : IsBook (seen_by v)
+  pub size_is : size ≡ (seen_by v).setup.size
   pub workers_are : workers ≡ (seen_by v).setup.workers
   pub room_is : room ≡ room_by v
   pub chapters_are : chapters ≡ length (handed_out_by v)

@@ -1,7 +1,7 @@
 use Rattle.std.proofs.Common.{List, [], ◌∷◌, sym, subst}
 use Rattle.std.proofs.lemmas.List.Elements.{All-cons, All-nil}
 use Rattle.rb_workers.specs.declared.opened.Opened.{Opened}
-use Rattle.rb_library_sweep.specs.declared.jobs.NullSink.{NullSink}
+use Rattle.rb_workers.specs.declared.null_sink.NullSink.{NullSink}
 use Rattle.rb_workers.specs.Opened.{AreOpened, IsOpened}
 use Rattle.rb_workers.proofs.Fresh.{all_opened}
 use Rattle.rb_library_sweep.proofs.jobs.listed.Goals as goal

@@ -1,5 +1,5 @@
 use Rattle.std.proofs.Common.{◌∙◌, ap}
-use Rattle.rb_ledger.specs.inner.SeatRoles.{HasOwnCounts}
+use Rattle.rb_ledger.specs.SeatRoles.{HasOwnCounts}
 use Rattle.rb_ledger.proofs.Gathers.{rest-rings, all-each}
 use Rattle.rb_chapter_ledger.specs.ChapterKnowledge.{ChapterPassView}
 use Rattle.rb_chapter_ledger.proofs.ChapterLock.{merges}

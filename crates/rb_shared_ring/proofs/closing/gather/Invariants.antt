@@ -1,7 +1,7 @@
 use Rattle.std.proofs.Common.{◌≡◌, vec_len}
 use Rattle.std.specs.List.{All}
 use Rattle.crossbeam_queue.specs.Passes.{view, IsSamePass}
-use Rattle.rb_ledger.specs.inner.SeatRoles.{roles_of, HasOwnCounts}
+use Rattle.rb_ledger.specs.SeatRoles.{roles_of, HasOwnCounts}
 use Rattle.rb_shared_ring.proofs.GatheredSeats.{HasGathered}
 use Rattle.rb_shared_ring.proofs.closing.gather.Given as goal
 

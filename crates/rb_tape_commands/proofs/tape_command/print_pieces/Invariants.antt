@@ -1,4 +1,3 @@
-use Rattle.std.proofs.Common.{length}
 use Rattle.rb_reader.specs.TapeFront.{IsUndecided}
 use Rattle.rb_tape_commands.specs.inner.TapePrinting.{PrintsSoFar}
 use Rattle.rb_tape_commands.proofs.tape_command.print_pieces.Given as goal
@@ -9,10 +8,3 @@ invariant-pieces g l = record {
   so_far : PrintsSoFar l.fn.feed.size l.fn.feed.start (g.R.Read.remaining l.fn.input) (g.R.Read.remaining l.input) (g.W.Write.contents l.fn.out) (g.W.Write.contents l.out) l.feed;
   undecided : IsUndecided l.feed.size l.feed.position l.feed.rest;
 }
-
--- the same, while it has records
-abbrev pub invariant-records : goal.invariant-records
-invariant-records g l = PrintsSoFar l.fn.feed.size l.fn.feed.start (g.R.Read.remaining l.fn.input) (g.R.Read.remaining l.input) (g.W.Write.contents l.fn.out) (g.W.Write.contents l.out) l.feed
-
-abbrev pub decreases-records : goal.decreases-records
-decreases-records g l = length l.feed.rest

@@ -15,7 +15,7 @@ invariant_of-me g c =
     let n = next-counts me.consumed me.skipped me.position _ _ i.2.ties i.2.spaced _ x e.call in
     let more : me.chapters + 1 ≡ length (handed_out_by (view c.hand_out_with-chapter.new.pass)) = omega (arith, i.1.chapters_are, length-append (handed_out_by (view me.pass)) (x ∷ [])) ∙ ap length (sym e.chapters) in (
       e.same.2 ∙ i.0,
-      keeps-after _ _ _ _ _ i.1 e.idle (book-in _ _ _ _ e.call) n.1 e.room (me.chapters + 1) more,
+      keeps-after _ _ _ _ _ _ i.1 e.idle (book-in _ _ _ _ e.call) n.1 e.room (me.chapters + 1) more,
       record { ties = n.0; spaced = i.2.spaced },
     )
 

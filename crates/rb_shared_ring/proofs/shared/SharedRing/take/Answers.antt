@@ -12,7 +12,7 @@ invariant_of-me g c =
     let me = c.me.inside in
     let n = take-counts me.consumed me.skipped me.position _ _ i.2.ties i.2.spaced _ c.take_with-answer.result e.call in (
       e.same.2 ∙ i.0,
-      keeps-after _ _ _ _ _ i.1 e.idle (book-in _ _ _ _ e.call) n.setup_same e.room me.chapters (i.1.chapters_are ∙ ap length (sym e.chapters)),
+      keeps-after _ _ _ _ _ _ i.1 e.idle (book-in _ _ _ _ e.call) n.setup_same e.room me.chapters (i.1.chapters_are ∙ ap length (sym e.chapters)),
       counts-after _ _ _ _ _ _ _ _ _ _ _ n c.events.ensures.events c.skips.ensures.skips c.span_taken.ensures.span,
     )
 

@@ -77,7 +77,7 @@ invariant_of-me g c =
     let n = many-counts me.consumed me.skipped me.position _ _ i.2.ties i.2.spaced _ c.args.n ts e.call in
     let m = c.moves_of-moves.ensures in (
       e.same.2 ∙ i.0,
-      keeps-after _ _ _ _ _ i.1 e.idle (book-in _ _ _ _ e.call) n.setup_same e.room me.chapters (i.1.chapters_are ∙ ap length (sym e.chapters)),
+      keeps-after _ _ _ _ _ _ i.1 e.idle (book-in _ _ _ _ e.call) n.setup_same e.room me.chapters (i.1.chapters_are ∙ ap length (sym e.chapters)),
       counts-after _ _ _ _ _ _ _ _ _ _ _ n (m.events ∙ ap events_among part) (m.skips ∙ ap skips_among part) (m.span ∙ ap span_among part),
     )
 

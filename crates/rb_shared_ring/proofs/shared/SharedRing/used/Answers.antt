@@ -10,6 +10,6 @@ invariant_of-me g c =
     let me = c.me.inside in
     let n = used-counts me.consumed me.skipped me.position _ _ i.2.ties i.2.spaced _ c.used_with.result.0 c.used_with.result.1 e.call in (
       e.same.2 ∙ i.0,
-      keeps-after _ _ _ _ _ i.1 e.idle (book-in _ _ _ _ e.call) n.1 e.room me.chapters (i.1.chapters_are ∙ ap length (sym e.chapters)),
+      keeps-after _ _ _ _ _ _ i.1 e.idle (book-in _ _ _ _ e.call) n.1 e.room me.chapters (i.1.chapters_are ∙ ap length (sym e.chapters)),
       record { ties = n.0; spaced = i.2.spaced },
     )
