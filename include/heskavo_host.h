@@ -4,7 +4,7 @@
  * Every function is proved to do what is said here (crates/heskavo_c); the contracts stand at its exports. Nothing is kept between calls, no lock is
  * taken, no thread is started, and nothing aborts. Any number of threads may call at once, with buffers of their own.
  *
- * A buffer is a pointer and its length in bytes. A pointer may be null where its length is 0; no other one may. Buffers that a call writes overlap no
+ * A buffer is a pointer and its length in items. A pointer may be null where its length is 0; no other one may. Buffers that a call writes overlap no
  * other one of the same call, and no length is above PTRDIFF_MAX. Memory comes of malloc, and goes back to free before the call returns: so no function
  * is called from a signal handler, or in the child of a fork of a process with threads, and malloc aligns a block to each power of two up to 16 that
  * divides its size. Link with libheskavo.a, which tools/install puts beside this header.
@@ -115,6 +115,15 @@ uint32_t heskavo_verify(const uint8_t *program, size_t program_len, uint32_t ctx
  * program, HESKAVO_REFUSED of a refused one, HESKAVO_ROOM where `text` is shorter than that. Also answered: HESKAVO_ARGUMENT, HESKAVO_MEMORY.
  */
 uint32_t heskavo_explain(const uint8_t *program, size_t program_len, uint32_t ctx_len, uint32_t rings, uint8_t *text, size_t text_len, uint64_t *wanted);
+
+/*
+ * Verifies a program for this context and so many rings, runs it once over fresh rings of `size` bytes, and puts the records that it left in each ring as
+ * a tape into `tapes`, the tape of ring 0 first, each from position 0 on: HESKAVO_DONE with what the program ended with in `value`, and the length of each
+ * ring's tape in `written`, which has a place for each ring. HESKAVO_REFUSED with the verdict; HESKAVO_ROOM where all tapes together are longer than
+ * `tapes`, with their lengths told. Also answered: HESKAVO_ARGUMENT, HESKAVO_MEMORY, HESKAVO_BROKEN.
+ */
+uint32_t heskavo_run(const uint8_t *program, size_t program_len, const uint8_t *context, size_t context_len, uint64_t size, uint8_t *tapes, size_t tapes_len,
+                     uint64_t *written, size_t rings, uint64_t *value, struct heskavo_verdict *verdict);
 
 /*
  * What the bytes begin with, of the tape of a ring of `size` bytes (a power of two from 4,096 to 67,108,864), where the next record stands at `position`

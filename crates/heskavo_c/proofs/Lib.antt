@@ -1,3 +1,4 @@
 mod Fronts
 mod Records
 mod TapeLooks
+pub mod TapesLeft

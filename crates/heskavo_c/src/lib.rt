@@ -8,12 +8,16 @@
 mod explaining;
 mod load;
 mod outgoing;
+mod run_alone;
+mod run_tapes;
+mod running;
 mod status;
 mod tapes;
 mod verdict;
 mod verifying;
 
 pub use explaining::heskavo_explain;
+pub use running::heskavo_run;
 pub use status::{ARGUMENT, BROKEN, DONE, FAULT, MEMORY, MORE, REFUSED, ROOM};
 pub use tapes::{TapeRecord, heskavo_tape_next, heskavo_tape_put, heskavo_tape_put_discarded};
 pub use verdict::{BYTES, RULES, SHAPE, Verdict};

@@ -1,0 +1,107 @@
+//! A program's run over fresh rings that nobody else uses.
+
+ghost use Rattle.std.specs.Prelude.{◌≡◌, ◌≢◌, ◌++◌, All, IfOk, IsTrue, OnOk, length, replicate};
+ghost use Rattle.rb_decode.specs.Program.{unit_count};
+ghost use Rattle.rb_history.specs.RingModel.{IsRingSize};
+ghost use Rattle.heskavo_c.specs.Runs.{RunsAlone, turns_alone};
+
+use rb_verifier::Verified;
+use rb_world::{Actor, RingSetup, TurnDone, WorkerSetup, World, WorldFault, WorldOpenFault};
+use std::alloc::{AllocError, Global};
+
+/// The room of each ring's one chapter, in entries: a unit of a program logs three at most, and a program has 4,096 units at most.
+const ROOM: u32 = 16_384;
+
+/// Why a run came to no end.
+#[derive(Clone, Copy, Debug, PartialEq, Eq)]
+pub(crate) enum RunFault {
+    /// There was no memory.
+    Memory,
+    /// What the run left is no tape, or not all of it came out.
+    Broken,
+}
+
+impl From<AllocError> for RunFault {
+    fn from(_error: AllocError) -> RunFault {
+        RunFault::Memory
+    }
+}
+
+// Adds so many turns of an actor.
+fn push_turns(
+    alloc: Global,
+    turns: &mut Vec<Actor>,
+    actor: Actor,
+    count: usize,
+) -> Result<(), AllocError>
+    ensures { OnOk result (turns.new.items ≡ turns.old.items ++ replicate count actor) }
+{
+    let mut block = Vec::new(alloc);
+    block.resize(count, actor)?;
+    turns.extend_from_slice(block.as_slice())
+}
+
+// The turns of a run.
+fn turns_of(alloc: Global, units: u32, rings: u32) -> Result<Vec<Actor>, AllocError>
+    ensures { IfOk result (λ turns. turns.items ≡ turns_alone units rings) }
+{
+    let mut turns = Vec::new(alloc);
+    push_turns(alloc, &mut turns, Actor::Worker(0), units as usize)?;
+    for ring in 0..rings {
+        push_turns(alloc, &mut turns, Actor::Consumer(ring), units as usize)?;
+    }
+    Ok(turns)
+}
+
+// Whether no turn was refused memory.
+fn remembered(dones: &[TurnDone]) -> bool
+    ensures { IsTrue result → All (λ done. done ≢ TurnDone.Memory) dones.now }
+{
+    dones.iter().all(|done| *done != TurnDone::Memory)
+}
+
+// The rings, just opened, as many as the program was verified for.
+fn fresh_rings(alloc: Global, size: u64, rings: u32) -> Result<Vec<RingSetup>, AllocError>
+    ensures { IfOk result (λ setups. setups.items ≡ replicate rings (record { size = size; start = 0; room = 16384 })) }
+{
+    let mut setups = Vec::new(alloc);
+    let ring = RingSetup {
+        size,
+        start: 0,
+        room: ROOM,
+    };
+    setups.resize(rings as usize, ring)?;
+    Ok(setups)
+}
+
+/// Runs the program over the context and fresh rings of this size, as many as it was verified for, and takes what it left in them.
+pub(crate) fn run_alone<'p>(
+    alloc: Global,
+    program: &'p Verified,
+    context: &'p [u8],
+    size: u64,
+) -> Result<World<'p>, RunFault>
+    requires context { length context.now ≡ program.now.ctx_len }
+    requires size { IsRingSize size }
+    ensures ran { IfOk result (RunsAlone program.now context.now size) }
+    ensures rings { IfOk result (λ world. length world.rings ≡ program.now.rings) }
+{
+    let setups = fresh_rings(alloc, size, program.rings())?;
+    let turns = turns_of(alloc, program.program().units(), program.rings())?;
+    let workers = [WorkerSetup { program, context }];
+    let mut world = match World::new(alloc, setups.as_slice(), &workers) {
+        Ok(world) => world,
+        Err(WorldOpenFault::Memory) => return Err(RunFault::Memory),
+        Err(_) => return Err(RunFault::Broken),
+    };
+    match world.run(turns.as_slice()) {
+        Ok(report) => {
+            if !remembered(report.turns.as_slice()) {
+                return Err(RunFault::Memory);
+            }
+        }
+        Err(WorldFault::Memory) => return Err(RunFault::Memory),
+        Err(WorldFault::UnknownActor(_)) => return Err(RunFault::Broken),
+    }
+    Ok(world)
+}

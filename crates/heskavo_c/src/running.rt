@@ -1,0 +1,114 @@
+//! A run of a program.
+
+ghost use Rattle.std.specs.Prelude.{◌≡◌, ◌≢◌, ◌≤◌, ◌↔◌, IfErr, IfOk, IsTrue, Some, length};
+ghost use Rattle.rb_history.specs.RingModel.{IsRingSize};
+ghost use Rattle.rb_world.specs.WorldRuns.{result_of};
+ghost use Rattle.rb_world.specs.WorldValue.{world_of};
+ghost use Rattle.heskavo_c.specs.Runs.{LeavesOnce, MayRun, RunsInto, WantsTapes};
+ghost use Rattle.heskavo_c.specs.Verdicts.{IsRightVerdict};
+
+use crate::load::{are_bounds, load};
+use crate::outgoing::put_front;
+use crate::run_alone::{RunFault, run_alone};
+use crate::run_tapes::tapes_of;
+use crate::status::{ARGUMENT, BROKEN, DONE, MEMORY, REFUSED, ROOM};
+use crate::verdict::{Verdict, verdict_on};
+use rb_history::is_size;
+use rb_verifier::Verified;
+use rb_world::{Actor, World};
+use std::alloc::Global;
+
+// What a run left: what its program ended with, and the tapes of its rings with their lengths.
+#[derive(Drop)]
+struct Left {
+    value: u64,
+    bytes: Vec<u8>,
+    lengths: Vec<u64>,
+}
+
+// Whether a program may run over a context of so many bytes and so many rings of this size.
+fn may_run(context: usize, rings: usize, size: u64) -> bool
+    ensures { IsTrue result ↔ MayRun context rings size }
+{
+    if context > 65_536 || rings > 16 {
+        return false;
+    }
+    is_size(size)
+}
+
+// What the program of the world's one worker ended with.
+fn value_of(world: &World<'_>) -> Result<u64, RunFault>
+    ensures { IfOk result (λ value. result_of ((world_of world.now).workers 0) ≡ Some value) }
+{
+    if !world.has(Actor::Worker(0)) {
+        return Err(RunFault::Broken);
+    }
+    match world.result(0) {
+        Some(value) => Ok(value),
+        None => Err(RunFault::Broken),
+    }
+}
+
+// Runs a program once, and takes what it left.
+fn run_once(alloc: Global, program: &Verified, context: &[u8], size: u64) -> Result<Left, RunFault>
+    requires context { length context.now ≡ program.now.ctx_len }
+    requires size { IsRingSize size }
+    ensures { IfOk result (λ left. LeavesOnce program.now context.now size left.value left.bytes.items left.lengths.items) }
+{
+    let world = run_alone(alloc, program, context, size)?;
+    let value = value_of(&world)?;
+    let (bytes, lengths) = tapes_of(alloc, &world, size, program.rings())?;
+    Ok(Left {
+        value,
+        bytes,
+        lengths,
+    })
+}
+
+/// Verifies a program for `context` and as many rings as `written` has places, runs it once over fresh rings of `size` bytes, and puts what it left in
+/// each ring as a tape into `tapes`, the rings' tapes one after the other: `DONE` with what it ended with in `value`, and each tape's length in
+/// `written`. `REFUSED` with the verdict; `ROOM` where the tapes are longer than `tapes`, with their lengths told; `ARGUMENT` where the context is longer
+/// than 65,536 bytes, there are more than 16 rings, or no ring has this size. Time and memory are linear in the program and in what it writes.
+#[unsafe(no_mangle)]
+pub extern "C" fn heskavo_run(
+    alloc: Global,
+    program: &[u8],
+    context: &[u8],
+    size: u64,
+    tapes: &mut [u8],
+    written: &mut [u64],
+    value: &mut u64,
+    verdict: &mut Verdict,
+) -> u32
+    ensures ran { result ≡ DONE → RunsInto program.now context.now size value.new tapes.old tapes.new written.new }
+    ensures room { result ≡ ROOM → WantsTapes program.now context.now size tapes.old written.new }
+    ensures refused { result ≡ REFUSED → IsRightVerdict program.now (length context.now) (length written.old) verdict.new }
+    ensures argument { (result ≡ ARGUMENT) ↔ ¬ MayRun (length context.now) (length written.old) size }
+    ensures unwritten { result ≢ DONE → (tapes.new ≡ tapes.old) × (value.new ≡ value.old) }
+    ensures unchanged { result ≢ REFUSED → verdict.new ≡ verdict.old }
+    ensures answers { result ≤ BROKEN }
+{
+    if !may_run(context.len(), written.len(), size) {
+        return ARGUMENT;
+    }
+    let verified = match load(alloc, program, context.len() as u32, written.len() as u32) {
+        Ok(verified) => verified,
+        Err(Some(refused)) => {
+            *verdict = verdict_on(refused);
+            return REFUSED;
+        }
+        Err(None) => return MEMORY,
+    };
+    let left = match run_once(alloc, &verified, context, size) {
+        Ok(left) => left,
+        Err(RunFault::Memory) => return MEMORY,
+        Err(RunFault::Broken) => return BROKEN,
+    };
+    written.copy_from_slice(left.lengths.as_slice());
+    if tapes.len() < left.bytes.len() {
+        return ROOM;
+    }
+    put_front(tapes, left.bytes.as_slice());
+    *value = left.value;
+    DONE
+}

@@ -1,0 +1,3 @@
+module heskavo/agent
+
+go 1.19

@@ -1,0 +1,66 @@
+"""The answers of rows over programs: `units`, `shape`, `verify`, `run` and `compute`, by the plain model beside this file."""
+from program_checks import Refused, verified
+from program_code import Fault, decoded, insn_at, shaped
+from program_runs import Run, Stray
+from program_values import jumps, value_of
+
+
+def answers_units(code):
+    """The one answer of `units`, as a list."""
+    try:
+        insns = decoded(code)
+    except Fault as fault:
+        return [str(fault)]
+    return [f"{len(code) // 8} units and back"] if insns else []
+
+
+def answers_shape(code):
+    try:
+        shaped(decoded(code))
+    except Fault as fault:
+        return [str(fault)]
+    return [f"shaped {len(code) // 8} units {code.hex()}"]
+
+
+def refusals(code, context, rings):
+    """The instructions of an accepted program, and the answers of a refused one: one for each rule that is broken."""
+    try:
+        return verified(code, context, rings), []
+    except Fault as fault:
+        return None, [str(fault)]
+    except Refused as refused:
+        return None, [f"refused verify V{rule} unit {refused.unit}" for rule in sorted(refused.rules)]
+
+
+def calls_of(insns):
+    return sum(insn.kind == "call" for insn in insns.values())
+
+
+def answers_verify(code, context, rings):
+    insns, answers = refusals(code, context, rings)
+    if insns is None:
+        return answers
+    return [f"accepted units {len(code) // 8} calls {calls_of(insns)} context {context} rings {rings}"]
+
+
+def answers_run(code, limits, context, given):
+    insns, answers = refusals(code, *limits)
+    if insns is None:
+        return answers
+    if calls_of(insns) > len(given):
+        return ["too few answers"]
+    if len(context) != limits[0]:
+        return ["fault ContextLength"]
+    run = Run(insns, context, (answer == "y" for answer in given))
+    try:
+        end = f"result {run.result():#x}"
+    except Stray:
+        end = "fault Stray"
+    return ["; ".join([end, *run.calls, *([f"bytes {run.given_back.hex()}"] if run.given_back else [])])]
+
+
+def answers_compute(dst, src, code):
+    insn = insn_at(code, 0)
+    if insn.kind == "branch":
+        return ["jumps" if jumps(insn, dst, src) else "goes on"]
+    return [f"{value_of(insn, dst, src):#x}"]
