@@ -2,12 +2,14 @@
 
 ghost use Rattle.std.specs.Prelude.{◌≡◌};
 ghost use Rattle.rb_header.specs.TapeBytes.{AreItemsFrom};
-ghost use Rattle.rb_consumer.specs.Items.{tape_items};
+ghost use Rattle.rb_tape.specs.Items.{tape_items};
 
 use super::rings_in_chapters::{given_up, held, opened, sent};
-use rb_consumer::{Batch, DeviceFault, Event, Item, TapeWriter};
+use rb_consumer::Batch;
+use rb_io::DeviceFault;
 use rb_lend::Lent;
 use rb_shared_ring::Foreign;
+use rb_tape::{Event, Item, TapeWriter};
 use std::alloc::Global;
 use std::io::{Error, ErrorKind, Result, Write};
 use std::process::Abort;

@@ -4,9 +4,10 @@ ghost use Rattle.std.specs.Prelude.{◌≡◌};
 ghost use Rattle.rb_shared_ring.specs.SharedSeats.{IsSameChapterConsumer};
 
 use rb_chapter::Chapter;
-use rb_consumer::{Batch, Event, Keeper};
+use rb_consumer::{Batch, Keeper};
 use rb_ring_threads::{Consumer, Found, OpenRing, Outputs};
 use rb_shared_ring::{ConsumerSeat, SharedRing};
+use rb_tape::Event;
 use std::alloc::Global;
 use std::process::Abort;
 use std::sync::Wait;
