@@ -7,7 +7,7 @@ ghost use Rattle.rb_loader.specs.MachineFaults.{IsMachineFault};
 use rb_cfg::{ShapeFault, ShapeFaultKind, shape};
 use rb_decode::{DecodeFault, DecodeKind, TextFault, from_text};
 use rb_verifier::{Refusal, Verified, verify};
-use std::alloc::Global;
+use std::alloc::{AllocError, Global};
 use std::io;
 use std::io::Read;
 use thiserror::Error;
@@ -44,6 +44,17 @@ pub enum ProgramFault {
     /// A read or a write failed.
     #[error("device")]
     Device,
+}
+
+impl From<AllocError> for ProgramFault {
+    ghost use Rattle.std.specs.Prelude.{◌≡◌};
+    ghost use Rattle.rb_loader.specs.declared.program.ProgramFault.TheVariants.{Memory};
+
+    ghost from_gives = { λ _ made. made ≡ Memory };
+
+    fn from(_error: AllocError) -> ProgramFault {
+        ProgramFault::Memory
+    }
 }
 
 /// The verified program of a text in hex, with ASCII white space anywhere. A fault is the first one of the first layer that has one: the
