@@ -1,4 +1,4 @@
 pub mod ChangedHands
 pub mod BusyEntries
-pub mod FourHands
+mod FourHands
 pub mod HandCalls
