@@ -1,6 +1,5 @@
 -- What was explained of a text that was read was explained of the input.
-use Rattle.std.proofs.Common.{◌≡◌, ℕ, List, Option, Some, None, refl, ◌∙◌, sym, subst, inl, inr}
-use Rattle.std.specs.Prelude.{IfSome}
+use Rattle.std.proofs.Common.{◌≡◌, ℕ, List, Option, Some, None, refl, sym, subst, inr}
 use Rattle.std.specs.Io.KnownBytes.{Appends}
 use Rattle.rb_cfg.specs.declared.fault.ShapeFaultKind.{ShapeFaultKind}
 use Rattle.rb_cfg.specs.declared.fault.ShapeFaultKind.TheVariants.{Backward, OutOfProgram, IntoWide, FallsOff, Unreachable, Memory}
