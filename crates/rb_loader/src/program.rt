@@ -68,12 +68,17 @@ pub fn accept(alloc: Global, text: &str, bounds: Bounds) -> Result<Verified, Pro
         Ok(program) => program,
         Err(fault) => return Err(text_fault(fault)),
     };
+    program.facts();
     let shape = match shape(alloc, program) {
         Ok(shape) => shape,
         Err(fault) => return Err(shape_fault(fault)),
     };
     match verify(alloc, shape, bounds.ctx_len, bounds.rings) {
-        Ok(verified) => Ok(verified),
+        Ok(verified) => {
+            verified.facts();
+            verified.program().facts();
+            Ok(verified)
+        }
         Err(Refusal::Rule { unit, rule }) => Err(ProgramFault::Verify {
             rule: u32::from(rule.number()),
             unit,
