@@ -23,7 +23,7 @@
 //! }
 //! ```
 //!
-//! Its calls are tested in rb_consumer_tests, the example by `a_batch_is_written_as_a_tape`. `fill` and `turn` may wait for
+//! Its calls are tested in rb_ring_tests and rb_ring_rows, the example by `a_batch_is_written_as_a_tape`. `fill` and `turn` may wait for
 //! other threads, and no proof says that they return.
 #![tactic(auto)]
 

@@ -14,7 +14,7 @@
 //! }
 //! ```
 //!
-//! Its calls are tested in rb_consumer_tests.
+//! Its calls are tested in rb_ring_tests and rb_ring_rows.
 #![tactic(auto)]
 
 mod item;
