@@ -13,7 +13,7 @@ use Rattle.rb_world.specs.WorldValue.{WorldValue, world_of, IsThere}
 use Rattle.rb_world.specs.TurnsDone.{TellsEvent, IsTurnOf, TurnsChaptersOf}
 use Rattle.rb_world.specs.WorldRuns.{IsFirstUnknown, IsRunOf, TakesTurns}
 
-tell-push : (dones : List TurnDone) (events : List TurnEvent) (done : TurnDone) (event : TurnEvent) → AllZip TellsEvent dones events → TellsEvent done event → AllZip TellsEvent (dones ++ done ∷ []) (events ++ event ∷ [])
+pub tell-push : (dones : List TurnDone) (events : List TurnEvent) (done : TurnDone) (event : TurnEvent) → AllZip TellsEvent dones events → TellsEvent done event → AllZip TellsEvent (dones ++ done ∷ []) (events ++ event ∷ [])
 tell-push [] [] done event h t = (t, tt)
 tell-push [] (e ∷ events) done event h t = absurd h
 tell-push (d ∷ dones) [] done event h t = absurd h
@@ -28,7 +28,7 @@ run-more actors i d old mid new dones done low run turned = (
       (run-push (world_of old) (world_of mid) (world_of new) (take i actors) run.0 (get_or actors i d) turned.0 run.2 turned.2),
 )
 
-turns-push : (actors : List Actor) (old mid new : WorldValue) (dones : List TurnDone) (actor : Actor) (done : TurnDone) → TakesTurns actors old dones mid → IsTurnOf actor mid done new → TurnsChaptersOf actor done mid.rings new.rings → TakesTurns (actors ++ actor ∷ []) old (dones ++ done ∷ []) new
+pub turns-push : (actors : List Actor) (old mid new : WorldValue) (dones : List TurnDone) (actor : Actor) (done : TurnDone) → TakesTurns actors old dones mid → IsTurnOf actor mid done new → TurnsChaptersOf actor done mid.rings new.rings → TakesTurns (actors ++ actor ∷ []) old (dones ++ done ∷ []) new
 turns-push [] old mid new [] actor done same turned chapters = (new, subst (λ (v : WorldValue). IsTurnOf actor v done new) same turned, subst (λ (v : WorldValue). TurnsChaptersOf actor done v.rings new.rings) same chapters, refl)
 turns-push [] old mid new (d ∷ dones) actor done before turned chapters = absurd before
 turns-push (a ∷ actors) old mid new [] actor done before turned chapters = absurd before
