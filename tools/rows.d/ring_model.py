@@ -163,6 +163,7 @@ class Ring:
     def __init__(self, size, start, workers, room):
         opening = Standing(size, start, start, start, [], [Tally() for _ in range(workers)])
         self.chapter = Chapter(room, workers, 0, opening)
+        self.taken = []
 
     @property
     def now(self):
@@ -244,6 +245,7 @@ class Ring:
         record = now.records.pop(0)
         self.log(f"take {record.pos}")
         now.consumer += span(record.length)
+        self.taken.append(record)
         if record.status == "discarded":
             now.skipped += 1
             return f" skipped pos {record.pos} len {record.length}"
@@ -259,6 +261,31 @@ class Ring:
             text, many = text + ";" + one, many + 1
         return f" took {many}" + text
 
+    def fill(self, most):
+        """A batch of up to so many records."""
+        before = len(self.taken)
+        self.take_many(most)
+        items = self.taken[before:]
+        text = f" filled {len(items)}"
+        for record in items:
+            if record.status == "discarded":
+                text += f"; skipped pos {record.pos} len {record.length}"
+            else:
+                text += f"; event pos {record.pos} worker {record.worker} serial {record.serial} bytes" + runs(record.data)
+        events = sum(record.status == "waiting" for record in items)
+        return text + f"; events {events} sheets {events}"
+
+    def written(self):
+        """The tape of all that was taken: each record's header, its bytes, zeros where it was discarded, and zeros up to eights."""
+        tape = b""
+        for record in self.taken:
+            discarded = record.status == "discarded"
+            word = record.length + (1 << 30 if discarded else 0)
+            page = record.pos % self.now.size // 4096
+            data = bytes(record.length) if discarded else record.data
+            tape += word.to_bytes(4, "little") + page.to_bytes(4, "little") + data + bytes(-record.length % 8)
+        return runs(tape)
+
     def query(self, what):
         now = self.now
         answers = [now.producer - now.consumer, now.size, now.consumer, now.producer]
@@ -273,10 +300,13 @@ class Ring:
             f" waiting {status.count('waiting')} busy {status.count('busy')}"
         )
 
+    def fits(self, empty):
+        return not empty.entries and empty.room == self.chapter.room and len(empty.opening.tallies) == len(self.now.tallies)
+
     def hand_out(self, empty):
         """The chapter that is handed out, or None where the other one is unfit."""
         old = self.chapter
-        if empty.entries or empty.room != old.room or len(empty.opening.tallies) != len(self.now.tallies):
+        if not self.fits(empty):
             return None
         self.chapter = Chapter(old.room, 0, old.number + 1, old.closing.copy())
         return old
@@ -292,3 +322,51 @@ class Ring:
         if not is_first or not all(one.meets(other) for one, other in zip(chapters, chapters[1:])):
             return " not bound opening"
         return entries_text([entry for chapter in chapters for entry in chapter.entries])
+
+
+class SharedRing(Ring):
+    """A ring with seats, each call of which is one call of a ring."""
+
+    def __init__(self, tag, size, start, workers, room):
+        super().__init__(size, start, workers, room)
+        self.tag = tag
+
+    def seat(self, worker):
+        if not self.has_worker(worker):
+            return " fault: no such worker"
+        return f" tag {self.tag} worker {worker}" + self.now.tallies[worker].text()
+
+    def consumer(self):
+        now = self.now
+        return (
+            f" tag {self.tag} workers {len(now.tallies)} room {self.chapter.room} position {now.consumer}"
+            f" consumed {now.consumed} skipped {now.skipped} chapters {self.chapter.number}"
+        )
+
+    def audit(self, worker):
+        now = self.now
+        return f" producer {now.producer} consumer {now.consumer}" + self.counts() + "; own" + now.tallies[worker].text()
+
+    def used(self):
+        return f" used {len(self.chapter.entries)} owed {self.chapter.owed()}"
+
+    def totals(self):
+        now = self.now
+        return f" tag {self.tag} producer {now.producer} consumer {now.consumer}" + self.counts() + f" chapter {self.chapter.number}"
+
+
+class Keeper:
+    """A chapter that is handed in where a ring's is about to be full, and used again at the next turn."""
+
+    def __init__(self, chapter, margin):
+        self.chapter, self.margin, self.is_lent = chapter, margin, False
+
+    def turn(self, ring):
+        empty = Chapter(self.chapter.room, len(self.chapter.opening.tallies)) if self.is_lent else self.chapter
+        if not ring.fits(empty):
+            return " unfit"
+        used = len(ring.chapter.entries)
+        if not used or used + ring.chapter.owed() + 3 + self.margin <= ring.chapter.room:
+            return " none"
+        self.chapter, self.is_lent = ring.hand_out(empty), True
+        return f" chapter {self.chapter.number} used {used}"

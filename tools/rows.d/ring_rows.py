@@ -2,7 +2,7 @@
 import re
 
 import ring_model as model
-from ring_model import WRONG_WORDS, Chapter, Ring, Tally
+from ring_model import WRONG_WORDS, Chapter, Keeper, Ring, SharedRing
 
 
 class Row:
@@ -49,15 +49,21 @@ class Script:
 
     def __init__(self):
         self.rings, self.records, self.chapters = {}, {}, {}
+        self.shared, self.shared_records, self.closed, self.tags = {}, {}, {}, 0
+        self.keepers, self.sheets = {}, {}
 
     def answer(self, line):
         row = Row(line)
         if not row.is_right:
             return " fault: no word"
-        call = getattr(self, "call_" + row.verb, None)
-        if call is None:
-            return " fault: no such command"
-        return call(row)
+        first = row.names[0] if row.names else ""
+        if row.verb != "share" and first in self.shared:
+            call = getattr(self, "shared_" + row.verb, None)
+        elif row.verb == "bind" and first in self.closed:
+            call = self.bind_closed
+        else:
+            call = getattr(self, "call_" + row.verb, None)
+        return call(row) if call else " fault: no such command"
 
     def call_open(self, row):
         if row.shape() != ("open", 1, 4):
@@ -87,13 +93,15 @@ class Script:
     def call_write(self, row):
         if row.shape() != ("write", 1, 1):
             return " " + WRONG_WORDS
-        held, at = self.records.get(row.names[0]), row.numbers[0]
-        if held is None:
+        name, at = row.names[0], row.numbers[0]
+        held = self.records.get(name) or self.shared_records.get(name)
+        target = held.data if held else self.sheets.get(name)
+        if target is None:
             return " fault: no such record"
-        if at + len(row.data) > len(held.data):
+        if at + len(row.data) > len(target):
             return " fault: outside"
-        held.data[at : at + len(row.data)] = row.data
-        return held.record.numbers() + " bytes" + model.runs(held.data)
+        target[at : at + len(row.data)] = row.data
+        return (held.record.numbers() if held else f" len {len(target)}") + " bytes" + model.runs(target)
 
     def call_submit(self, row):
         return self.end(row, "waiting")
@@ -154,6 +162,12 @@ class Script:
             return fault
         return " " + WRONG_WORDS if row.numbers else ring.counts()
 
+    def call_written(self, row):
+        ring, fault = self.asked(row)
+        if ring is None:
+            return fault
+        return " " + WRONG_WORDS if row.numbers else ring.written()
+
     def call_handout(self, row):
         if row.shape() != ("handout", 2, 0):
             return " " + WRONG_WORDS
@@ -178,6 +192,189 @@ class Script:
         if len(set(names)) < len(names) or any(name not in self.chapters for name in names):
             return " fault: no such chapter"
         return ring.bind([self.chapters[name] for name in names])
+
+    def call_share(self, row):
+        if row.shape() != ("share", 1, 4):
+            return " " + WRONG_WORDS
+        self.tags += 1
+        size, start, workers, room = row.numbers
+        refused = model.refused_number(size, start, workers) or (None if 8 <= room <= 1 << 20 else "chapter")
+        if refused:
+            return f" refused {refused}"
+        self.shared[row.names[0]] = SharedRing(self.tags, size, start, workers, room)
+        return f" opened seats {workers}"
+
+    def seat(self, row, has_record, numbers):
+        """The ring, the home of the seat and its worker that a row names, or what is wrong with the row."""
+        names = row.names[2:] if has_record else row.names[1:]
+        if len(row.names) < 1 + has_record or len(names) > 1 or len(row.numbers) != numbers:
+            return None, " " + WRONG_WORDS
+        ring = self.shared[row.names[0]]
+        home = self.shared.get(names[0]) if names else ring
+        if home is None:
+            return None, " fault: no such ring"
+        worker = row.numbers[0]
+        if not home.has_worker(worker):
+            return None, " fault: no such worker"
+        return (ring, ring is not home, worker), ""
+
+    def shared_reserve(self, row):
+        seat, fault = self.seat(row, True, 2)
+        if not seat:
+            return fault
+        (ring, foreign, worker), length = seat, row.numbers[1]
+        if length > model.LONGEST:
+            return " " + WRONG_WORDS
+        if foreign:
+            return " refused foreign back" + model.runs(b"\xff" * length)
+        answer, held = ring.reserve(worker, length)
+        if held:
+            self.shared_records[row.names[1]] = held
+        return answer
+
+    def shared_submit(self, row):
+        return self.end_shared(row, "waiting")
+
+    def shared_discard(self, row):
+        return self.end_shared(row, "discarded")
+
+    def end_shared(self, row, status):
+        seat, fault = self.seat(row, True, 2)
+        if not seat:
+            return fault
+        held = self.shared_records.pop(row.names[1], None)
+        if held is None:
+            return " fault: no such record"
+        ring, foreign, worker = seat
+        answer, stray = " stray" + held.record.numbers(), held
+        if not foreign and held.record.worker == worker:
+            answer, stray = ring.end(held, status, row.numbers[1])
+        if stray:
+            self.shared_records[row.names[1]] = stray
+        return answer
+
+    def shared_output(self, row):
+        seat, fault = self.seat(row, False, 2)
+        if not seat:
+            return fault
+        ring, foreign, worker = seat
+        if foreign:
+            return " refused foreign back" + model.runs(row.data)
+        return ring.output(worker, bytes(row.data), row.numbers[1])
+
+    def shared_query(self, row):
+        seat, fault = self.seat(row, False, 2)
+        if not seat:
+            return fault
+        ring, foreign, _ = seat
+        return " foreign" if foreign else f" {ring.query(row.numbers[1])}"
+
+    def shared_audit(self, row):
+        seat, fault = self.seat(row, False, 1)
+        if not seat:
+            return fault
+        ring, foreign, worker = seat
+        return " foreign" if foreign else ring.audit(worker)
+
+    def shared_take(self, row):
+        many = row.numbers[0] if row.numbers else None
+        if len(row.numbers) > 1 or (many or 0) > model.MOST_TAKEN:
+            return " " + WRONG_WORDS
+        return self.consumed(row, lambda ring: ring.take() if many is None else ring.take_many(many))
+
+    def shared_fill(self, row):
+        if len(row.numbers) != 1 or row.numbers[0] > model.MOST_TAKEN:
+            return " " + WRONG_WORDS
+        return self.consumed(row, lambda ring: ring.fill(row.numbers[0]))
+
+    def shared_used(self, row):
+        return " " + WRONG_WORDS if row.numbers else self.consumed(row, SharedRing.used)
+
+    def consumed(self, row, call):
+        home = self.shared.get(row.names[-1]) if len(row.names) <= 2 else None
+        if home is None:
+            return " fault: no such ring"
+        ring = self.shared[row.names[0]]
+        return call(ring) if ring is home else " foreign"
+
+    def shared_handout(self, row):
+        if len(row.names) not in (2, 3) or row.numbers:
+            return " " + WRONG_WORDS
+        ring, home = self.shared[row.names[0]], self.shared.get(row.names[2] if row.names[2:] else row.names[0])
+        if home is None:
+            return " fault: no such ring"
+        empty = self.chapters.get(row.names[1])
+        if empty is None:
+            return " fault: no such chapter"
+        if ring is not home:
+            return " foreign"
+        chapter = ring.hand_out(empty)
+        if chapter is None:
+            return " unfit"
+        self.chapters[row.names[1]] = chapter
+        return f" chapter {chapter.number} used {len(chapter.entries)}"
+
+    def shared_turn(self, row):
+        if len(row.names) not in (2, 3) or row.numbers:
+            return " " + WRONG_WORDS
+        ring, home = self.shared[row.names[0]], self.shared.get(row.names[2] if row.names[2:] else row.names[0])
+        if home is None:
+            return " fault: no such ring"
+        keeper = self.keepers.get(row.names[1])
+        if keeper is None:
+            return " fault: no such keeper"
+        return keeper.turn(ring) if ring is home else " foreign"
+
+    def call_keeper(self, row):
+        if row.shape() != ("keeper", 2, 1):
+            return " " + WRONG_WORDS
+        chapter = self.chapters.pop(row.names[1], None)
+        if chapter is None:
+            return " fault: no such chapter"
+        self.keepers[row.names[0]] = Keeper(chapter, narrow(row.numbers[0]))
+        return " made"
+
+    def call_kept(self, row):
+        if row.shape() != ("kept", 2, 0):
+            return " " + WRONG_WORDS
+        keeper = self.keepers.pop(row.names[0], None)
+        if keeper is None:
+            return " fault: no such keeper"
+        chapter = self.chapters[row.names[1]] = keeper.chapter
+        return f" chapter {chapter.number} used {len(chapter.entries)}"
+
+    def shared_seat(self, row):
+        if len(row.names) != 1 or len(row.numbers) != 1:
+            return " " + WRONG_WORDS
+        return self.shared[row.names[0]].seat(row.numbers[0])
+
+    def shared_consumer(self, row):
+        if len(row.names) != 1 or row.numbers:
+            return " " + WRONG_WORDS
+        return self.shared[row.names[0]].consumer()
+
+    def shared_close(self, row):
+        if (len(row.names), len(row.numbers)) not in ((1, 0), (1, 1), (2, 0)):
+            return " " + WRONG_WORDS
+        if row.names[1:]:
+            return " not all" if row.names[1] in self.shared and row.names[1] != row.names[0] else " fault: no such ring"
+        if row.numbers:
+            return " not all"
+        ring = self.closed[row.names[0]] = self.shared.pop(row.names[0])
+        return " closed" + ring.totals()
+
+    def bind_closed(self, row):
+        if row.numbers:
+            return " " + WRONG_WORDS
+        names = row.names[1:]
+        if len(set(names)) < len(names) or any(name not in self.chapters for name in names):
+            return " fault: no such chapter"
+        answer = self.closed[row.names[0]].bind([self.chapters[name] for name in names])
+        if not answer.startswith(" not"):
+            del self.closed[row.names[0]]
+            for name in names:
+                del self.chapters[name]
+        return answer
 
     def call_chapter(self, row):
         if row.shape() != ("chapter", 1, 2):
@@ -239,6 +436,26 @@ class Script:
     def call_entries(self, row):
         chapter, fault = self.chapter_named(row)
         return fault if chapter is None else model.entries_text(chapter.entries)
+
+    def call_sheet(self, row):
+        if row.shape() != ("sheet", 1, 1) or row.numbers[0] > model.LONGEST:
+            return " " + WRONG_WORDS
+        return self.zeros(row.names[0], row.numbers[0])
+
+    def call_renew(self, row):
+        if row.shape() != ("renew", 1, 1) or row.numbers[0] > model.LONGEST:
+            return " " + WRONG_WORDS
+        return self.zeros(*row.names, *row.numbers) if row.names[0] in self.sheets else " fault: no such sheet"
+
+    def call_wipe(self, row):
+        if row.shape() != ("wipe", 1, 0):
+            return " " + WRONG_WORDS
+        name = row.names[0]
+        return self.zeros(name, len(self.sheets[name])) if name in self.sheets else " fault: no such sheet"
+
+    def zeros(self, name, length):
+        self.sheets[name] = bytearray(length)
+        return f" len {length} bytes" + model.runs(self.sheets[name])
 
     def call_span(self, row):
         return f" {model.span(narrow(row.numbers[0]))}" if len(row.numbers) == 1 else " fault: no such command"

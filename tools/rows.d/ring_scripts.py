@@ -13,7 +13,11 @@ MOST_HELD = 4
 
 
 class Drawing:
-    """One script. Each row is answered by the model as it is drawn, so that a later one can go on from it."""
+    """A script over rings of one thread. Each row is answered by the model as it is drawn, so that a later one can go on from it."""
+
+    opens = "open"
+    opened = " opened"
+    rings = ("a", "b")
 
     def __init__(self, seed):
         self.random = random.Random(seed)
@@ -24,7 +28,8 @@ class Drawing:
         self.handed_out = {}
         self.names = 0
 
-    def row(self, text):
+    def row(self, *words):
+        text = " ".join(str(word) for word in words if word != "")
         answer = self.script.answer(text)
         self.rows.append((text, answer))
         return answer
@@ -36,24 +41,27 @@ class Drawing:
     def one_of(self, *choices):
         return self.random.choice(choices)
 
+    def chance(self, probability):
+        return self.random.random() < probability
+
     def open(self, ring):
         size, start, room = (self.random.choice(choices) for choices in (SIZES, STARTS, ROOMS))
         workers = self.random.randrange(1, 5)
-        if self.random.random() < 0.05:
+        if self.chance(0.05):
             size, start, workers, room = self.one_of(
                 (4095, start, workers, room), (size, 4, workers, room), (size, start, 0, room), (size, start, 257, room),
                 (size, start, workers, 7), (size, (1 << 61) + 8, workers, room), (1 << 27, start, workers, room),
             )
-        if self.row(f"open {ring} {size} {start} {workers} {room}") == " opened":
+        if self.row(self.opens, ring, size, start, workers, room).startswith(self.opened):
             self.setups[ring] = (size, workers, room)
             self.handed_out[ring] = []
 
     def ring(self):
-        return self.random.choice(list(self.setups)) if self.random.random() < 0.98 else "nowhere"
+        return self.random.choice(list(self.setups)) if self.chance(0.98) else "nowhere"
 
     def worker(self, ring):
         workers = self.setups.get(ring, (0, 1, 0))[1]
-        return self.random.randrange(workers) if self.random.random() < 0.98 else workers + self.one_of(0, 1, 1 << 32)
+        return self.random.randrange(workers) if self.chance(0.98) else workers + self.one_of(0, 1, 1 << 32)
 
     def length(self, ring):
         size = self.setups.get(ring, (4096, 1, 8))[0]
@@ -71,8 +79,14 @@ class Drawing:
         pieces = zip([0, *cuts], [*cuts, length])
         return b"".join(bytes([self.random.randrange(256)]) * (end - start) for start, end in pieces)
 
+    def spelled(self, length):
+        return ":" + (model.runs(self.data(length)) if length else "")
+
     def held_by(self, ring, worker):
         return sum(1 for held in self.held.values() if held == (ring, worker))
+
+    def record_of(self, record):
+        return self.script.records[record].record
 
     def reserve(self):
         ring = self.ring()
@@ -80,104 +94,187 @@ class Drawing:
         if self.held_by(ring, worker) >= MOST_HELD:
             return
         record = self.name("r")
-        if self.row(f"reserve {ring} {record} {worker} {self.length(ring)}").startswith(" granted"):
+        if self.row("reserve", ring, record, self.home(ring), worker, self.length(ring)).startswith(" granted"):
             self.held[record] = (ring, worker)
-            if self.random.random() < 0.6:
+            if self.chance(0.6):
                 self.write(record)
 
+    def home(self, ring):
+        """The ring whose seat makes the call, where it is another one."""
+        return ""
+
     def write(self, record):
-        length = self.script.records[record].record.length
+        length = self.record_of(record).length
         start = self.random.randrange(length + 1)
-        many = self.random.randrange(length - start + 1) if self.random.random() < 0.95 else length - start + 1
-        self.row(f"write {record} {start} :{model.runs(self.data(many)) if many else ''}")
+        many = self.random.randrange(length - start + 1) if self.chance(0.95) else length - start + 1
+        self.row("write", record, start, self.spelled(many))
 
     def end(self):
         if not self.held:
             return
         record = self.one_of(*self.held)
-        ring = self.held[record][0] if self.random.random() < 0.9 else self.ring()
-        verb = self.one_of("submit", "submit", "discard")
-        answer = self.row(f"{verb} {ring} {record} {self.flags()}")
-        if "due" in answer:
+        ring = self.held[record][0] if self.chance(0.9) else self.ring()
+        if "due" in self.row(self.one_of("submit", "submit", "discard"), ring, record, *self.ender(ring, record), self.flags()):
             del self.held[record]
+
+    def ender(self, ring, record):
+        """The words by which a row says who ends a record."""
+        return ()
 
     def output(self):
         ring = self.ring()
-        length = self.length(ring)
-        data = model.runs(self.data(length)) if length else ""
-        self.row(f"output {ring} {self.worker(ring)} {self.one_of(0, 0, 0, self.flags())} :{data}")
+        self.row("output", ring, self.home(ring), self.worker(ring), self.one_of(0, 0, 0, self.flags()), self.spelled(self.length(ring)))
 
     def take(self):
-        self.row(f"take {self.ring()}" + self.one_of("", "", "", f" {self.random.randrange(5)}", f" {self.random.randrange(100)}"))
+        ring = self.ring()
+        self.row("take", ring, self.home(ring), self.one_of("", "", "", self.random.randrange(5), self.random.randrange(100)))
 
     def ask(self):
         ring = self.ring()
-        self.row(self.one_of(f"query {ring} {self.random.randrange(6)}", f"counts {ring}", f"show {ring}"))
+        self.row(*self.one_of(("query", ring, self.random.randrange(6)), ("counts", ring), ("show", ring)))
 
     def look(self):
-        self.row(f"{self.one_of('closing', 'opening', 'entries', 'show')} {self.ring()}")
+        if self.chance(0.5):
+            self.bind()
+        else:
+            self.row(self.one_of("closing", "opening", "entries", "show"), self.ring())
 
     def hand_out(self):
         ring = self.ring()
         if ring not in self.setups:
             return
         _, workers, room = self.setups[ring]
-        if self.random.random() < 0.1:
+        if self.chance(0.1):
             room, workers = self.one_of((room + 1, workers), (room, workers % 4 + 1))
         chapter = self.name("c")
-        self.row(f"chapter {chapter} {room} {workers}")
-        if self.row(f"handout {ring} {chapter}").startswith(" chapter"):
+        self.row("chapter", chapter, room, workers)
+        if self.row("handout", ring, chapter, self.home(ring)).startswith(" chapter"):
             self.handed_out[ring].append(chapter)
-            if self.random.random() < 0.2:
-                self.row(f"handout {ring} {chapter}")
+            if self.chance(0.2):
+                self.row("handout", ring, chapter)
 
     def bind(self):
         ring = self.ring()
         chapters = list(self.handed_out.get(ring, []))
-        if chapters and self.random.random() < 0.3:
+        if chapters and self.chance(0.3):
             self.random.shuffle(chapters)
-        if chapters and self.random.random() < 0.2:
+        if chapters and self.chance(0.2):
             chapters.pop()
-        self.row(" ".join(["bind", ring, *chapters]))
+        self.row("bind", ring, *chapters)
 
     def tape(self):
         size, start = self.one_of(4096, 8192), self.one_of(0, 8, 4088, 8184)
         data, position = bytearray(), start
         for _ in range(self.random.randrange(5)):
-            length, discarded = self.one_of(0, 1, 7, 8, 9, self.random.randrange(300)), self.random.random() < 0.3
+            length, discarded = self.one_of(0, 1, 7, 8, 9, self.random.randrange(300)), self.chance(0.3)
             payload = bytes(length) if discarded else self.data(length)
             word = length + (1 << 30 if discarded else 0)
             data += word.to_bytes(4, "little") + (position % size // 4096).to_bytes(4, "little") + payload + bytes(-length % 8)
             position += model.span(length)
-        if data and self.random.random() < 0.6:
+        if data and self.chance(0.6):
             data[self.random.randrange(len(data))] ^= 1 << self.random.randrange(8)
-        if data and self.random.random() < 0.4:
+        if data and self.chance(0.4):
             del data[self.random.randrange(len(data)) :]
-        self.row(f"tape {size} {start} :{model.runs(data) if data else ''}")
+        self.row("tape", size, start, ":" + (model.runs(data) if data else ""))
 
     def hostile(self):
         self.row(self.one_of(
             "submit a", "discard b nothing 0", "take", "take a 1 2", "bind nowhere", "handout a nothing", "write nothing 0 : 00",
             "output a 0 0 : 1", "open a 1", "reserve a", "reserve a r 0 67108865", "take a -1", "query a", "chapter c 7 1", "?", "what a 1",
+            "submit s", "discard t nothing 0 0", "take s 1 2", "handout s nothing", "output s 0 : 00", "share s 1", "audit s", "seat s",
+            "close s 1 1", "close nowhere", "used s 1",
         ))
 
+    def calls(self):
+        many = [self.reserve] * 10 + [self.output] * 6 + [self.end] * 9 + [self.take] * 8 + [self.ask] * 4
+        return many + [self.hand_out, self.hand_out, self.look, self.hostile, self.tape]
+
+    def finish(self):
+        if self.chance(0.1):
+            self.open(self.rings[0])
+        for ring in self.setups:
+            self.row("bind", ring, *self.handed_out[ring])
+            self.row("closing", ring)
+            self.row("written", ring)
+
     def draw(self):
-        self.open("a")
-        if self.random.random() < 0.5:
-            self.open("b")
-        calls = [self.reserve] * 10 + [self.output] * 6 + [self.end] * 9 + [self.take] * 8 + [self.ask] * 3
-        calls += [self.look, self.hand_out, self.hand_out, self.bind, self.hostile, self.tape]
+        self.open(self.rings[0])
+        if self.chance(0.5):
+            self.open(self.rings[1])
         for _ in range(self.random.randrange(10, 60)):
             if self.setups:
-                self.random.choice(calls)()
-        if self.random.random() < 0.1:
-            self.open("a")
-        for ring in self.setups:
-            self.row(" ".join(["bind", ring, *self.handed_out[ring]]))
-            self.row(f"closing {ring}")
+                self.random.choice(self.calls())()
+        self.finish()
         return self.rows
 
 
+class SharedDrawing(Drawing):
+    """A script over shared rings."""
+
+    opens = "share"
+    rings = ("s", "t")
+
+    def home(self, ring):
+        return self.one_of(*self.setups) if self.chance(0.04) else ""
+
+    def record_of(self, record):
+        return self.script.shared_records[record].record
+
+    def ender(self, ring, record):
+        worker = self.held[record][1] if self.chance(0.95) else self.worker(ring)
+        return self.home(ring), worker
+
+    def take(self):
+        if self.chance(0.2):
+            ring = self.ring()
+            self.row("fill", ring, self.home(ring), self.random.randrange(6))
+        else:
+            super().take()
+
+    def turn(self):
+        """A keeper of its own looks at a ring's chapter; what it lends has a name then."""
+        ring = self.ring()
+        if ring not in self.setups:
+            return
+        _, workers, room = self.setups[ring]
+        chapter = self.name("c")
+        self.row("chapter", chapter, room + self.one_of(0, 0, 0, 0, 0, 0, 1), workers)
+        self.row("keeper", "k", chapter, self.one_of(0, 1, 3, room, 1 << 32))
+        lent = self.row("turn", ring, "k", self.home(ring)).startswith(" chapter")
+        self.row("kept", "k", chapter)
+        if lent:
+            self.handed_out[ring].append(chapter)
+
+    def hand_out(self):
+        if self.chance(0.5):
+            self.turn()
+        else:
+            super().hand_out()
+
+    def ask(self):
+        ring = self.ring()
+        home, worker = self.home(ring), self.worker(ring)
+        self.row(*self.one_of(
+            ("query", ring, home, worker, self.random.randrange(6)), ("audit", ring, home, worker), ("seat", ring, worker),
+            ("consumer", ring), ("used", ring, home),
+        ))
+
+    def look(self):
+        chapters = self.handed_out.get(self.ring())
+        self.row(self.one_of("show", "opening", "closing", "entries"), self.one_of(*chapters) if chapters else "c0")
+
+    def finish(self):
+        for ring in list(self.setups):
+            if self.chance(0.2):
+                self.row("close", ring, self.one_of("1", *self.setups))
+            if self.row("close", ring).startswith(" closed"):
+                chapters = self.handed_out[ring]
+                if chapters and self.chance(0.3):
+                    self.row("bind", ring, *self.random.sample(chapters, len(chapters)))
+                self.row("bind", ring, *chapters)
+
+
 def drawn_script(seed, number):
-    """The rows of a script, each with its answer."""
-    return Drawing(f"{seed} {number}").draw()
+    """The rows of a script, each with its answer. Two scripts of five are over shared rings."""
+    kind = SharedDrawing if number % 5 > 2 else Drawing
+    return kind(f"{seed} {number}").draw()

@@ -1,10 +1,10 @@
 -- The pieces of eight bytes of a ring, and the records of a row that stand at them.
-use Rattle.std.proofs.Common.{◌≡◌, ◌≢◌, ℕ, zero, suc, ◌+◌, ◌*◌, ◌-◌, ◌/◌, ◌%◌, ◌<◌, ◌≤◌, ◌^◌, List, [], ◌∷◌, length, map, refl, sym, ap, ◌∙◌, inl, inr, arith, subst, bit_and}
+use Rattle.std.proofs.Common.{◌≡◌, ◌≢◌, ℕ, zero, suc, ◌+◌, ◌*◌, ◌-◌, ◌/◌, ◌%◌, ◌<◌, ◌≤◌, ◌^◌, List, [], ◌∷◌, length, map, refl, sym, ap, ◌∙◌, inl, inr, arith}
 use Rattle.std.specs.Int.{IsPowerOfTwo}
 use Rattle.std.specs.List.{Contains}
 use Rattle.std.proofs.Math.Nat.{mul-le-mul_left}
 use Rattle.std.proofs.lemmas.Bool.{cases_lt}
-use Rattle.std.proofs.lemmas.Nat.{pow_below, pow-add, and_mask}
+use Rattle.std.proofs.lemmas.Nat.{pow_below, pow-add}
 use Rattle.rb_header.specs.Span.{span}
 use Rattle.rb_history.specs.declared.stored_records.StoredRecord.{StoredRecord}
 use Rattle.rb_history.specs.inner.RecordRows.{InRow}
@@ -16,10 +16,6 @@ use Rattle.rb_chapter_ring.specs.inner.ChapterRingBody.{place_of}
 -- worked rows of a ring of 4,096 bytes: places go round
 places-go-round : (place_of 4096 0 ≡ 0) × (place_of 4096 4088 ≡ 511) × (place_of 4096 4096 ≡ 0) × (place_of 4096 8184 ≡ 511) × (place_of 4096 8192 ≡ 0)
 places-go-round = (refl, refl, refl, refl, refl)
-
--- a power of two is a mask
-pub mask-is : (size p : ℕ) → IsPowerOfTwo size → bit_and p (size - 1) ≡ p % size
-mask-is size p z = subst (λ s. bit_and p (s - 1) ≡ p % s) (sym z.1) (and_mask p z.0)
 
 -- a size is eight times a power of two
 eighth : (size : ℕ) → IsRingSize size → (k : ℕ) × (size ≡ 8 * 2 ^ k)

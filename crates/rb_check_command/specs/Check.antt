@@ -1,20 +1,16 @@
 -- What `check` does with the text of a program: it runs the program over fresh rings, and prints its result and the records that it
 -- left in them (own).
-use Rattle.std.specs.Prelude.{◌≡◌, ◌⊎◌, ℕ, List, map, replicate, Option, Result, Ok, Err, IsUtf8}
+use Rattle.std.specs.Prelude.{ℕ, List, map, replicate, Option, Result, Ok}
 use Rattle.std.specs.Io.KnownBytes.{Appends}
 use Rattle.rb_history.specs.declared.answers.Taken.{Taken}
 use Rattle.rb_interp.specs.declared.fault.RunFault.{RunFault}
-use Rattle.rb_interp.specs.declared.fault.RunFault.TheVariants.{Stray as RunStray}
 use Rattle.rb_jobs.specs.Jobs.{Task, JobRan}
 use Rattle.rb_ledger.specs.Seats.{Shared, WorkerSeat}
 use Rattle.rb_verifier.specs.Subject.{Subject}
-use Rattle.rb_loader.specs.Acceptance.{IsAccepted, IsRightFault}
+use Rattle.rb_loader.specs.Acceptance.{IsAccepted}
 use Rattle.rb_check_command.specs.DrainedRings.{DrainsRings}
 use Rattle.rb_check_command.specs.FreshRings.{AreNumbered, fresh_worker, fresh_taker}
 use Rattle.rb_check_command.specs.Printed.{run_text}
-use Rattle.rb_loader.specs.declared.program.ProgramFault.TheVariants.{Text}
-use Rattle.rb_check_command.specs.declared.check_fault.CheckFault.{CheckFault}
-use Rattle.rb_check_command.specs.declared.check_fault.CheckFault.TheVariants.{Program, Stray}
 
 -- ---- the run
 
@@ -42,21 +38,6 @@ pub record Checks (text : List ℕ) (ctx_len ring_count value : ℕ) (records : 
   pub seats : List WorkerSeat
   pub ran : RunsText text ctx_len ring_count (Ok value) rings seats
   pub drained : DrainsRings seats (map fresh_taker rings) records
-
--- the program of this text had a record handed back
-pub record StraysAt (text : List ℕ) (ctx_len ring_count : ℕ) : Type 0 where
-  pub rings : List Shared
-  pub seats : List WorkerSeat
-  pub ran : RunsText text ctx_len ring_count (Err RunStray) rings seats
-
--- the text is refused for this fault; out of memory and a failed device say nothing of the text
-abbrev pub IsRightCheckFault : List ℕ → ℕ → ℕ → CheckFault → Type 0
-IsRightCheckFault text ctx_len ring_count (Program fault) = IsRightFault text ctx_len ring_count fault
-IsRightCheckFault text ctx_len ring_count Stray = StraysAt text ctx_len ring_count
-
--- the same of an input, which may be no UTF-8
-abbrev pub IsRightInputFault : List ℕ → ℕ → ℕ → CheckFault → Type 0
-IsRightInputFault input ctx_len ring_count fault = ((fault ≡ Program Text) × ¬ IsUtf8 input) ⊎ IsRightCheckFault input ctx_len ring_count fault
 
 -- the program that the input spells was checked, and what `check` prints of it was printed, and nothing else
 pub record PrintsCheck (input : List ℕ) (ctx_len ring_count : ℕ) (before after : Option (List ℕ)) : Type 0 where

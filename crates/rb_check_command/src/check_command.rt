@@ -2,12 +2,10 @@
 
 ghost use Rattle.std.specs.Prelude.{◌≡◌, ◌≢◌, ◌≤◌, ℕ, List, Ok, Err, IfErr, IfOk, IfSome, IsErr, OnErr, OnOk, length, map, take};
 ghost use Rattle.std.specs.Io.KnownBytes.{Keeps};
-ghost use Rattle.rb_interp.specs.declared.fault.RunFault.TheVariants.{Stray as RunStray};
-ghost use Rattle.rb_ledger.specs.Seats.{WorkerSeat};
 ghost use Rattle.rb_seats.specs.SeatHelpers.{AtRings};
-ghost use Rattle.rb_check_command.specs.Check.{Checks, IsRightCheckFault, IsRightInputFault, PrintsCheck, RunsOnce};
+ghost use Rattle.rb_loader.specs.Acceptance.{IsRightFault, IsRightProgramFault};
+ghost use Rattle.rb_check_command.specs.Check.{Checks, PrintsCheck, RunsOnce};
 
-use crate::check_fault::CheckFault;
 use crate::drain::drain_rings;
 use crate::fresh_rings::{Fresh, fresh_rings};
 use crate::record_lines::text_of_run;
@@ -19,7 +17,7 @@ use rb_loader::{Bounds, ProgramFault, accept, read_all, text_of};
 use rb_seats::NoStock;
 use rb_shared_ring::{Seat, SharedRing};
 use rb_verifier::Verified;
-use std::alloc::Global;
+use std::alloc::{AllocError, Global};
 use std::io::{Read, Write};
 use std::sync::Wait;
 
@@ -41,10 +39,10 @@ pub fn check<T: Wait, R: Read, W: Write>(
     input: &mut R,
     out: &mut W,
     bounds: Bounds,
-) -> Result<(), CheckFault>
+) -> Result<(), ProgramFault>
     ensures printed { OnOk result (IfSome (R.remaining input.old) (λ text. PrintsCheck text bounds.ctx_len bounds.rings (W.contents out.old) (W.contents out.new))) }
-    ensures refused { IfErr result (λ fault. IfSome (R.remaining input.old) (λ text. IsRightInputFault text bounds.ctx_len bounds.rings fault)) }
-    ensures nothing_printed { IfErr result (λ fault. fault ≢ CheckFault.Program ProgramFault.Device → Keeps (W.contents out.old) (W.contents out.new)) }
+    ensures refused { IfErr result (λ fault. IfSome (R.remaining input.old) (λ text. IsRightProgramFault text bounds.ctx_len bounds.rings fault)) }
+    ensures nothing_printed { IfErr result (λ fault. fault ≢ ProgramFault.Device → Keeps (W.contents out.old) (W.contents out.new)) }
 {
     let bytes = read_all(alloc, input)?;
     let text = text_of(bytes.as_slice())?;
@@ -52,21 +50,20 @@ pub fn check<T: Wait, R: Read, W: Write>(
     let printed = text_of_run(alloc, value, records.as_slice())?;
     match write_whole(out, printed.as_bytes()) {
         Ok(()) => Ok(()),
-        Err(_) => Err(CheckFault::Program(ProgramFault::Device)),
+        Err(_) => Err(ProgramFault::Device),
     }
 }
 
-/// Verifies the program of a text in hex, and runs it once with a context of zeros over fresh rings. `Stray` where a record that it
-/// submits or discards is handed back.
+/// Verifies the program of a text in hex, and runs it once with a context of zeros over fresh rings.
 pub fn check_text<T: Wait>(
     rt: &T,
     alloc: Global,
     text: &str,
     bounds: Bounds,
-) -> Result<Checked, CheckFault>
+) -> Result<Checked, ProgramFault>
     ensures checked { IfOk result (λ c. Checks text.now bounds.ctx_len bounds.rings c.value (map (λ ring. ring.items) c.records.items)) }
-    ensures refused { IfErr result (IsRightCheckFault text.now bounds.ctx_len bounds.rings) }
-    ensures no_device { result ≢ Err (CheckFault.Program ProgramFault.Device) }
+    ensures refused { IfErr result (IsRightFault text.now bounds.ctx_len bounds.rings) }
+    ensures no_device { result ≢ Err ProgramFault.Device }
 {
     let verified = accept(alloc, text, bounds)?;
     let Fresh {
@@ -92,13 +89,11 @@ fn run_once<T: Wait>(
     verified: &Verified,
     rings: &[SharedRing],
     seats: Vec<Seat>,
-) -> Result<(u64, Vec<Seat>), CheckFault>
+) -> Result<(u64, Vec<Seat>), AllocError>
     requires rings { verified.now.rings ≤ length rings.now }
     requires seats { AtRings rings.now seats.items }
     ensures ran { IfOk result (λ ran. RunsOnce verified.now (Ok ran.0) seats.items ran.1.items) }
     ensures seats { IfOk result (λ ran. AtRings rings.now ran.1.items) }
-    ensures fault { IfErr result (λ fault. fault ≢ CheckFault.Stray → fault ≡ CheckFault.Program ProgramFault.Memory) }
-    ensures stray { result ≡ Err CheckFault.Stray → (left : List WorkerSeat) × RunsOnce verified.now (Err RunStray) seats.items left }
 {
     let context = vec![in alloc; 0; verified.ctx_len() as usize]?;
     let job = Job {
@@ -112,7 +107,6 @@ fn run_once<T: Wait>(
     );
     match answer?.result {
         Ok(value) => Ok((value, seats)),
-        Err(RunFault::ContextLength) => unreachable!(),
-        Err(RunFault::Stray) => Err(CheckFault::Stray),
+        Err(RunFault::ContextLength | RunFault::Stray) => unreachable!(),
     }
 }

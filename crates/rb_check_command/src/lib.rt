@@ -14,10 +14,8 @@
 #![tactic(auto)]
 
 mod check_command;
-mod check_fault;
 mod drain;
 mod fresh_rings;
 mod record_lines;
 
 pub use check_command::{Checked, check, check_text};
-pub use check_fault::CheckFault;

@@ -16,7 +16,8 @@ use Rattle.rb_chapter.specs.Chapters.{Chapter}
 use Rattle.rb_chapter_ring.specs.ManyTakes.{TakesManyInChapter}
 use Rattle.rb_chapter_ledger.specs.LockedChapterCalls.{LockedChapterCall, InKnownChapter}
 use Rattle.rb_shared_ring.specs.AnswersOverAll.{EachAnswerIsWhole}
-use Rattle.rb_consumer.specs.Batches.{AreRecords, IsBatch, is_event, GivesLastEvent}
+use Rattle.rb_tape.specs.Items.{AreRecords}
+use Rattle.rb_consumer.specs.Batches.{IsBatch, is_event, GivesLastEvent}
 use Rattle.rb_consumer.specs.inner.LastEvents.{IsLastEvent}
 
 pub records-each : (old new : Ring) (ts : List Taken) → TakesEach old ts new → AreRecords ts

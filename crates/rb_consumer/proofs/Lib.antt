@@ -1,4 +1,2 @@
-mod Pieces
 mod Batches
 mod TapeItems
-mod ItemsPut

@@ -18,8 +18,7 @@ use Rattle.rb_ledger.specs.LockedCalls.{LockedCall, span_in}
 use Rattle.rb_ledger.specs.ManyTakes.{span_among, AreTakenFrom}
 use Rattle.rb_ledger.proofs.ManyTakes.{takes_of, logs-each, many-ties, many-places, many-setup}
 use Rattle.rb_ledger.proofs.Seated.{taker-goes-on}
-use Rattle.rb_consumer.specs.Batches.{AreRecords}
-use Rattle.rb_consumer.specs.Items.{tape_items}
+use Rattle.rb_tape.specs.Items.{tape_items, AreRecords}
 use Rattle.rb_consumer.proofs.Batches.{records-each}
 
 -- ---- records that end within the ring's size stand on a tape

@@ -2,20 +2,13 @@
 use Rattle.std.specs.Prelude.{ℕ, ◌≡◌, ◌≤◌, Bool, true, false, List, [], ◌∷◌, ◌++◌, Option, None, Some, filter, length}
 use Rattle.rb_history.specs.declared.answers.Taken.{Taken}
 use Rattle.rb_history.specs.declared.answers.Taken.TheVariants.{Event}
-use Rattle.rb_history.specs.ManyTakes.{HasRecord}
-use Rattle.rb_consumer.specs.declared.item.Event as lent
-use Rattle.rb_consumer.specs.declared.item.Item as given
-use Rattle.rb_consumer.specs.Items.{event_taken, item_taken}
+use Rattle.rb_tape.specs.declared.item.Event as lent
+use Rattle.rb_tape.specs.Items.{event_taken, AreRecords}
 
 -- a batch: how many records it has room for, and what was taken into it
 pub record BatchValue : Type 0 where
   pub capacity : ℕ
   pub taken : List Taken
-
--- each found a record
-abbrev pub AreRecords : List Taken → Type 0
-AreRecords [] = Unit {0}
-AreRecords (t ∷ ts) = HasRecord t × AreRecords ts
 
 -- what holds of every batch
 pub record IsBatch (b : BatchValue) : Type 0 where
@@ -25,11 +18,6 @@ pub record IsBatch (b : BatchValue) : Type 0 where
 abbrev pub is_event : Taken → Bool
 is_event (Event p w k bytes) = true
 is_event _ = false
-
--- the next item is what was taken first; none where nothing is left
-abbrev pub LendsItem : List Taken → List Taken → Option given.Item → Type 0
-LendsItem old new None = (old ≡ []) × (new ≡ [])
-LendsItem old new (Some i) = old ≡ item_taken i ∷ new
 
 -- the next event, of those that are left
 abbrev pub LendsEvent : List Taken → List Taken → Option lent.Event → Type 0

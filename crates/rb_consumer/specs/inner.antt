@@ -1,3 +1,2 @@
 pub mod LastEvents
-pub mod RecordParts
 pub mod KeeperTurns

@@ -9,14 +9,15 @@ ghost use Rattle.rb_chapter_ring.specs.ManyTakes.{TakesManyInChapter};
 ghost use Rattle.rb_chapter_ledger.specs.LockedChapterCalls.{LockedChapterCall, InKnownChapter};
 ghost use Rattle.rb_shared_ring.specs.SharedSeats.{IsSameChapterConsumer};
 ghost use Rattle.rb_header.specs.TapeBytes.{AreItemsFrom, end_of};
-ghost use Rattle.rb_consumer.specs.Batches.{AreRecords, Recycles, is_event};
-ghost use Rattle.rb_consumer.specs.Items.{tape_items};
+ghost use Rattle.rb_tape.specs.Items.{tape_items, AreRecords};
+ghost use Rattle.rb_consumer.specs.Batches.{Recycles, is_event};
 ghost use Rattle.rb_consumer.specs.inner.LastEvents.{IsLastEvent};
 
-use crate::batch_items::{Events, Items};
+use crate::batch_items::Events;
 use rb_history::Taken;
 use rb_lend::Sheet;
 use rb_shared_ring::{ConsumerSeat, Foreign, SharedRing, each_answer_is_whole};
+use rb_tape::Items;
 use std::alloc::{AllocError, Global};
 use std::marker::Model;
 use std::sync::Wait;
@@ -109,9 +110,7 @@ impl Batch {
     pub fn items(&self) -> Items<'_>
         ensures value { result ≡ self.now.taken }
     {
-        Items {
-            rest: self.taken.as_slice(),
-        }
+        Items::new(self.taken.as_slice())
     }
 
     /// Takes the last submitted record out of the batch and returns its sheet, to be used again; `None` where there is none. In time linear

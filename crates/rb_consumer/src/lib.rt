@@ -1,13 +1,10 @@
 //! What a ring's consumer does with what it takes. A `Batch` takes many records of a ring of `rb_shared_ring` under one holding of its lock
-//! and lends them; a `TapeWriter` writes records as a tape, one behind the other, to any writer (`rb_header` has the tape's bytes; a
-//! record's header is that of Linux Documentation/bpf/ringbuf.rst); a `Keeper` hands the ring's chapters out in turn, so that the ring runs
-//! without end in the memory of two chapters. It is for programs that hand on what they take.
+//! and lends them, to be put on a tape (`rb_tape`) or to go elsewhere; a `Keeper` hands the ring's chapters out in turn, so that the ring
+//! runs without end in the memory of two chapters. It is for programs that hand on what they take.
 //!
 //! Proved: what a `Batch` lends is what its one `take_many` took, in order and with nothing left out, so positions follow each other and
 //! the seat's numbers rise by them; fewer records than the capacity only where the front was busy then, or no record was left. All that a
-//! batch was filled with may go on a tape that stands at the consumer position before. What a `put` wrote is the first `sent()` bytes of
-//! its record, and `resume` writes the rest; `put_all` writes the tape of the records before the one that it answers, and the first
-//! `sent()` bytes of that one; each for any writer that tells its bytes. A keeper hands a ring's chapter out exactly where it has entries and,
+//! batch was filled with may go on a tape that stands at the consumer position before. A keeper hands a ring's chapter out exactly where it has entries and,
 //! with its margin, no room for one grant more; it lends that chapter as it was under the lock, and keeps it for the next turn.
 //!
 //! ```text
@@ -26,19 +23,14 @@
 //! }
 //! ```
 //!
-//! Its calls are tested in rb_consumer_tests, the example by `a_batch_is_written_as_a_tape`. `fill` and `turn` may wait for
+//! Its calls are tested in rb_ring_tests and rb_ring_rows, the example by `a_batch_is_written_as_a_tape`. `fill` and `turn` may wait for
 //! other threads, and no proof says that they return.
 #![tactic(auto)]
 
 mod batch;
 mod batch_items;
-mod item;
 mod keeper;
-mod piece;
-mod tape_writer;
 
 pub use batch::Batch;
-pub use batch_items::{Events, Items};
-pub use item::{Event, Item};
+pub use batch_items::Events;
 pub use keeper::Keeper;
-pub use tape_writer::{DeviceFault, TapeWriter};

@@ -8,6 +8,7 @@ use Rattle.rb_decode.specs.Text.{IsHexOf, without_white_space}
 use Rattle.rb_decode.specs.FirstDecodeFault.{IsFirstDecodeFault}
 use Rattle.rb_decode.specs.declared.fault.DecodeKind.{DecodeKind}
 use Rattle.rb_decode.specs.declared.fault.DecodeKind.TheVariants.{Length, TooLong}
+use Rattle.rb_cfg.specs.Shape.{IsWellShaped}
 use Rattle.rb_cfg.specs.ShapeFaults.{IsFirstShapeFault}
 use Rattle.rb_refs.specs.declared.limits.Limits.{Limits}
 use Rattle.rb_refs.specs.declared.rule.Rule.{Rule}
@@ -104,15 +105,20 @@ pub record IsProgramOf (bytes : List ℕ) (program : List Insn) : Type 0 where
   pub bounds : IsProgram program
   pub spelled : SpellsAll program bytes
 
+-- the bytes spell the program, and it has no fault of its shape
+pub record IsShapedProgramOf (bytes : List ℕ) (program : List Insn) : Type 0 where
+  pub program_of : IsProgramOf bytes program
+  pub well_shaped : IsWellShaped program
+
 -- why bytes are refused, or that they are not, with the text that explains it
 abbrev pub ExplainsBytes : List ℕ → Limits → Option Reason → List ℕ → Type 0
-ExplainsBytes bytes limits None text = (program : List Insn) × IsProgramOf bytes program × IsListing limits program text
+ExplainsBytes bytes limits None text = (program : List Insn) × IsShapedProgramOf bytes program × IsListing limits program text
 ExplainsBytes bytes limits (Some Text) text = ⊥
 ExplainsBytes bytes limits (Some (Decode fault)) text = IsFirstDecodeFault bytes fault × ShowsFault bytes fault.unit fault.kind text
 ExplainsBytes bytes limits (Some (Shape fault)) text =
     (program : List Insn) × IsProgramOf bytes program × IsFirstShapeFault program fault × ShowsWindow program fault.unit text
 ExplainsBytes bytes limits (Some (Broken unit rule)) text =
-    (program : List Insn) × IsProgramOf bytes program × HasNoValid limits program × IsFirstBrokenRule limits program unit rule × ShowsRule program unit rule text
+    (program : List Insn) × IsShapedProgramOf bytes program × HasNoValid limits program × IsFirstBrokenRule limits program unit rule × ShowsRule program unit rule text
 
 -- the text is no bytes in hex
 abbrev pub IsNoHex : List ℕ → Type 0

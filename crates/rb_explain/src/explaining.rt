@@ -5,7 +5,7 @@ ghost use Rattle.rb_insn.specs.declared.insn.Insn.{Insn};
 ghost use Rattle.rb_decode.specs.FirstDecodeFault.{IsFirstDecodeFault, decode_no_memory};
 ghost use Rattle.rb_decode.specs.Text.{IsHexOf, without_white_space};
 ghost use Rattle.rb_decode.specs.inner.TextFaults.{IsTextFault};
-ghost use Rattle.rb_explain.specs.Explanations.{ExplainsBytes, Explains, IsNoHex, IsProgramOf, ShowsFault, ShowsWindow, ShowsRule};
+ghost use Rattle.rb_explain.specs.Explanations.{ExplainsBytes, Explains, IsNoHex, IsProgramOf, IsShapedProgramOf, ShowsFault, ShowsWindow, ShowsRule};
 
 use crate::advice::{decode_advice, rule_advice, shape_advice};
 use crate::explanation::{Explanation, Reason};
@@ -158,7 +158,7 @@ fn explain_shaped(
     ctx_len: u32,
     rings: u32,
 ) -> Result<Explanation, AllocError>
-    requires program { IsProgramOf bytes.now shape }
+    requires program { IsShapedProgramOf bytes.now shape }
     requires context { ctx_len ≤ 65536 }
     requires rings { rings ≤ 16 }
     ensures explained { IfOk result (λ explanation.

@@ -1,2 +1,3 @@
 mod HandLock
 pub mod NoStranger
+pub mod HeldRecords

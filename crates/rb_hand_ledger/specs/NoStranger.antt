@@ -1,16 +1,20 @@
--- No stranger: a reservation that was made on a ring by a seat is busy there, at its position, until that seat gives it back. A seat shows what is out
--- in its worker's hands. At every moment, and wherever the ring's state is, the ring's book has that record in that hand and it is busy; so in
--- whatever thread, a submit or a discard of it is not refused. Whatever else the seat does leaves a hand that is out (own).
-use Rattle.std.specs.Prelude.{◌≡◌, ◌↔◌, ℕ, List, [], ◌∷◌, Some, length}
+-- No stranger: a reservation that was made on a ring by a seat is busy there, at its position, until that seat gives it back, whatever other threads
+-- do; its submit and its discard are not refused, and all other calls of the seat leave it. So it is by what the seat has seen. And with hands: a seat shows
+-- what is out in its worker's hands, and at every moment, wherever the ring's state is, the ring's book has that record in that hand and it is busy (own).
+use Rattle.std.specs.Prelude.{◌≡◌, ◌≢◌, ◌↔◌, ℕ, true, List, [], ◌∷◌, Some, length, Result, is_ok}
 use Rattle.std.specs.List.{Contains}
 use mathlib.Core.Option.{some}
 use lib.ListN.{get_elem?}
 use Rattle.rb_history.specs.declared.entries.Entry.{Entry}
+use Rattle.rb_history.specs.declared.answers.Notice.{Notice}
+use Rattle.rb_history.specs.declared.answers.Stray.{Stray}
 use Rattle.rb_history.specs.Calls.{IsBusy}
 use Rattle.rb_history.specs.ReservationModel.{Granted}
-use Rattle.rb_chapter.specs.ChapterCalls.{IsBusyFrom, HoldsReservationFrom}
+use Rattle.rb_chapter.specs.ChapterRing.{ChapterRing}
+use Rattle.rb_chapter.specs.ChapterCalls.{IsBusyFrom, HoldsReservationFrom, Grants, FindsFull, FindsChapterFull, Outputs}
 use Rattle.rb_ledger.specs.Roles.{Book, ExtendsSeen}
 use Rattle.rb_ledger.specs.Roles.Role.{Worker}
+use Rattle.rb_chapter_ledger.specs.LockedChapterCalls.{LockedChapterCall, InOneChapter, SubmitsInChapter, DiscardsInChapter, QueriesInChapter}
 use Rattle.rb_hands.specs.declared.out_record.OutRecord.{OutRecord}
 use Rattle.rb_hands.specs.Hands.{out_record, Hands, HandBook, in_hand, hands_of, hand_at, IsBookOf}
 use Rattle.rb_hands.specs.HandRing.{HandRing, HasInHand}
@@ -18,7 +22,44 @@ use Rattle.rb_hand_ledger.specs.HandKnowledge.{ChapteredHandRing, hand_ring_of, 
 use Rattle.rb_hand_ledger.specs.HandLockRule.{KeepsHandLockRule}
 use Rattle.rb_hand_ledger.specs.HandLockSteps.{TakesHandState, PutsHandState}
 
--- ---- at every moment
+-- ---- at the calls of a seat
+
+-- the worker holds the record of the reservation: it is the worker's, and by what its seat has seen of the ring it is busy
+pub record IsHeld (w : ℕ) (seen : Book) (r : Granted) : Type 0 where
+  pub worker_is : r.worker ≡ w
+  pub busy : IsBusy seen.history r.pos r.worker r.serial (length r.bytes)
+
+-- one call of the ring at a worker's seat, which had seen the one book and then has seen the other
+abbrev pub SeatCall : ℕ → Book → Book → (ChapterRing → ChapterRing → Type 0) → Type 0
+SeatCall w before after Call = LockedChapterCall (Worker w) before after (InOneChapter Call)
+
+-- what the worker held before the call it holds after it
+abbrev pub LeavesHeld : ℕ → Book → Book → Type 0
+LeavesHeld w before after = (s : Granted) → IsHeld w before s → IsHeld w after s
+
+-- but for a record at this position
+abbrev pub LeavesHeldElsewhere : ℕ → Book → Book → ℕ → Type 0
+LeavesHeldElsewhere w before after p = (s : Granted) → s.pos ≢ p → IsHeld w before s → IsHeld w after s
+
+-- a record that is granted is held, at a position where none was; one that is held is taken at its submit and its discard, whatever others did since; and
+-- each call leaves all other held records
+pub record CallsKeepHeld (w : ℕ) (before after : Book) : Type 0 where
+  pub granted : (r : Granted) → r.worker ≡ w → SeatCall w before after (λ old new. Grants old new w (length r.bytes) r.pos r.serial) → IsHeld w after r
+  pub elsewhere : (n p k : ℕ) → SeatCall w before after (λ old new. Grants old new w n p k) → (s : Granted) → IsHeld w before s → s.pos ≢ p
+  pub grants : (n p k : ℕ) → SeatCall w before after (λ old new. Grants old new w n p k) → LeavesHeld w before after
+  pub finds_full : (n : ℕ) → SeatCall w before after (λ old new. FindsFull old new w n) → LeavesHeld w before after
+  pub outputs : (bytes : List ℕ) → SeatCall w before after (λ old new. Outputs old new w bytes) → LeavesHeld w before after
+  pub finds_chapter_full : (n : ℕ) → SeatCall w before after (λ old new. FindsChapterFull old new w n) → LeavesHeld w before after
+  pub queries : (what answer : ℕ) → SeatCall w before after (QueriesInChapter what answer) → LeavesHeld w before after
+  pub submit_taken : (r : Granted) (flags : ℕ) (answer : Result Notice Stray) → SeatCall w before after (SubmitsInChapter r flags answer) → IsHeld w before r → is_ok answer ≡ true
+  pub submits : (r : Granted) (flags : ℕ) (answer : Result Notice Stray) → SeatCall w before after (SubmitsInChapter r flags answer) → LeavesHeldElsewhere w before after r.pos
+  pub discard_taken : (r : Granted) (flags : ℕ) (answer : Result Notice Stray) → SeatCall w before after (DiscardsInChapter r flags answer) → IsHeld w before r → is_ok answer ≡ true
+  pub discards : (r : Granted) (flags : ℕ) (answer : Result Notice Stray) → SeatCall w before after (DiscardsInChapter r flags answer) → LeavesHeldElsewhere w before after r.pos
+
+abbrev pub HeldUntilGivenBack : Type 0
+HeldUntilGivenBack = (w : ℕ) (before after : Book) → CallsKeepHeld w before after
+
+-- ---- at every moment, with hands
 
 -- the ring's book has the record in the worker's hand, and it is busy
 pub record IsOutAt (v : HandRing) (w h : ℕ) (o : OutRecord) : Type 0 where
@@ -42,7 +83,7 @@ NoStranger =
     (queued : List HandRing) (views : List HandPassView) → KeepsHandLockRule queued views → (pass : ℕ) (v : HandPassView) → get_elem? views pass ≡ some v
     → (w h : ℕ) (o : OutRecord) → ShowsOut v w h o → IsOutWherever queued views w h o
 
--- ---- under the lock
+-- ---- under the lock, with hands
 
 -- where a pass takes the state out, that has what the pass shows: so what a submit or a discard of it asks for is so
 abbrev pub TakenAsShown : Type 0
@@ -56,7 +97,7 @@ StaysShown =
     (me : HandKnowledge) (out : ChapteredHandRing) (new : HandRing) (w : HandPassView) → PutsHandState (hand_view (me ∷ []) (Some out)) new w → (u h : ℕ) (o : OutRecord) → me.chapter.whole.role ≡ Worker u
     → hand_at out.hands u h ≡ Some o → hand_at new.hands u h ≡ hand_at out.hands u h → ShowsOut w u h o
 
--- ---- by the history that a seat has seen
+-- ---- hands by the history that a seat has seen
 
 -- one worker's hands are exactly its busy records, each once
 pub record HoldsOwnBusy (hands : Hands) (w : ℕ) (h : List Entry) : Type 0 where

@@ -21,4 +21,6 @@ mod hand_lock_laws;
 mod no_stranger;
 
 pub use hand_lock_laws::hand_lock_rule_is_kept;
-pub use no_stranger::{hands_are_what_was_seen, no_reservation_is_a_stranger};
+pub use no_stranger::{
+    hands_are_what_was_seen, no_reservation_is_a_stranger, seats_hold_what_they_granted,
+};

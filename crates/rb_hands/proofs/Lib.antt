@@ -1,4 +1,4 @@
 pub mod ChangedHands
 pub mod BusyEntries
 mod FourHands
-mod HandCalls
+pub mod HandCalls

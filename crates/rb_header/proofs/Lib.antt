@@ -1,2 +1,3 @@
-mod HeaderBytes
+pub mod HeaderBytes
 pub mod Laws
+pub mod Masks

@@ -1,5 +1,5 @@
 //! The bytes of the records of a BPF ring buffer, for whoever reads or writes a ring's memory or a tape. `span` is how far a
-//! record moves a ring's positions, `Header` the eight bytes in front of it (Linux Documentation/bpf/ringbuf.rst and
+//! record moves a ring's positions, `page_of` the page that it begins in, `Header` the eight bytes in front of it (Linux Documentation/bpf/ringbuf.rst and
 //! include/uapi/linux/bpf.h). A tape is what was taken from a ring, its records written one behind the other.
 //!
 //! Proved: `from_bytes` gives the one header whose bytes these are, and a fault exactly where both bits are set; `span` is the least
@@ -16,9 +16,11 @@
 #![tactic(auto)]
 
 mod headers;
+mod pages;
 mod spans;
 mod tapes;
 
 pub use headers::{BUSY_BIT, DISCARD_BIT, Header, HeaderFault};
+pub use pages::page_of;
 pub use spans::span;
 pub use tapes::tapes_are_unique;

@@ -4,9 +4,11 @@ ghost use Rattle.std.specs.Prelude.{◌≡◌, ◌<◌, ◌≤◌, ℕ, List, le
 ghost use Rattle.std.specs.Io.KnownBytes.{Appends, Consumes, IsAtEnd};
 
 use std::io::{Read, Write};
+use thiserror::Error;
 
 /// A read or a write failed, or a write took nothing. Interrupted calls count as failed.
-#[derive(Clone, Copy, Debug, PartialEq, Eq)]
+#[derive(Clone, Copy, Debug, Error, PartialEq, Eq)]
+#[error("a read or a write failed, or a write took nothing")]
 pub struct DeviceFault;
 
 /// Reads until the buffer is full or the input ends, and answers how many bytes were read.
@@ -27,8 +29,28 @@ pub fn read_full<R: Read>(reader: &mut R, buf: &mut [u8]) -> Result<usize, Devic
     Ok(at)
 }
 
+#[inline(always)]
 /// Writes the piece, and answers how many of its bytes went out: all of them, unless a write failed or took nothing.
 pub fn write_out<W: Write>(writer: &mut W, piece: &[u8]) -> usize
+    ensures bound { result ≤ length piece.now }
+    ensures bytes { Appends (W.contents writer.old) (W.contents writer.new) (take result piece.now) }
+{
+    if piece.is_empty() {
+        return 0;
+    }
+    let Ok(sent) = writer.write(piece) else {
+        return 0;
+    };
+    if sent == piece.len() || sent == 0 {
+        return sent;
+    }
+    sent + write_in_parts(writer, &piece[sent..])
+}
+
+// The same, where the first write did not take the whole piece.
+#[cold]
+#[inline(never)]
+fn write_in_parts<W: Write>(writer: &mut W, piece: &[u8]) -> usize
     ensures bound { result ≤ length piece.now }
     ensures bytes { Appends (W.contents writer.old) (W.contents writer.new) (take result piece.now) }
 {

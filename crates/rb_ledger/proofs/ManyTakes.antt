@@ -1,16 +1,14 @@
 -- Many takes under one holding of the lock, as their one-take steps one after the other.
-use Rattle.std.proofs.Common.{◌≡◌, ℕ, ◌+◌, ◌<◌, ◌≤◌, ◌^◌, Bool, true, false, List, [], ◌∷◌, ◌++◌, length, take, drop, ◌-◌, length-drop, refl, sym, ap, ◌∙◌, subst, append_assoc, arith, cond, Some}
-use Rattle.std.specs.List.{sum_by}
+use Rattle.std.proofs.Common.{◌≡◌, ℕ, ◌+◌, Bool, true, false, List, [], ◌∷◌, ◌++◌, length, take, drop, ◌-◌, length-drop, refl, sym, ap, ◌∙◌, subst, append_assoc, arith}
 use Rattle.std.specs.FinMap.{get, insert}
 use Rattle.std.proofs.lemmas.Bool.{true≢false}
 use Rattle.std.proofs.lemmas.List.{take_all}
 use Rattle.std.proofs.lemmas.List.Prefix.{front_rest}
-use Rattle.std.proofs.lemmas.List.Sums.{count_by-le-length}
 use Rattle.rb_history.specs.declared.entries.Entry.{Entry}
 use Rattle.rb_history.specs.declared.entries.Entry.TheVariants.{Take}
 use Rattle.rb_history.specs.declared.answers.Taken.{Taken}
 use Rattle.rb_history.specs.declared.answers.Taken.TheVariants.{Event, Skipped, BusyFront, Empty}
-use Rattle.rb_history.specs.History.{status_by, status_of, is_submitted_at, is_discarded_at, is_taken_at, is_discard, consumer_of}
+use Rattle.rb_history.specs.History.{status_by, is_submitted_at, is_discarded_at, is_taken_at, is_discard}
 use Rattle.rb_history.specs.History.Status.{Discarded}
 use Rattle.rb_history.specs.RoomRule.{Setup}
 use Rattle.rb_history.specs.Legal.{IsLegal}
@@ -19,12 +17,11 @@ use Rattle.rb_history.specs.Calls.{Logs, Takes}
 use Rattle.rb_history.specs.ManyTakes.{TakesEach, TakesMany, pushed}
 use Rattle.rb_history.proofs.Laws.{legal-front}
 use Rattle.rb_history.proofs.Lists.{list_any-snoc, or-false, sum_by-cons}
-use Rattle.rb_ledger.specs.Roles.{Role, Book, book_of}
+use Rattle.rb_ledger.specs.Roles.{Book, book_of}
 use Rattle.rb_ledger.specs.Roles.Role.{Consumer}
 use Rattle.rb_ledger.specs.SentBytes.{IsWithin}
 use Rattle.rb_ledger.specs.AddedBytes.{bytes_after, got_with, put_at}
 use Rattle.rb_ledger.specs.RoleKnowledge.{role_knowledge}
-use Rattle.rb_history.specs.WorkerCounts.{is_take_where}
 use Rattle.rb_ledger.specs.Ledger.{Ledger, IsRing, FitsLedger}
 use Rattle.rb_ledger.specs.Seats.{ConsumerTies}
 use Rattle.rb_ledger.specs.LockSteps.{knowledge_after}

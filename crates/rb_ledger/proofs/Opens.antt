@@ -1,7 +1,5 @@
 -- The first state is put in, and each later one is put back.
 use Rattle.std.proofs.Common.{◌≡◌, ℕ, zero, suc, ◌+◌, ◌-◌, ◌<◌, ◌≤◌, nat_cmp, List, [], ◌∷◌, ◌++◌, Some, None, sym, refl, ap, ◌∙◌, subst, append_assoc, arith}
-use Rattle.std.specs.List.{All}
-use Rattle.std.proofs.lemmas.List.Elements.{All-nil, All-cons}
 use Rattle.std.specs.FinMap.{get, empty, get-empty}
 use Rattle.crossbeam_queue.specs.Fifo.{Pushes, Learns}
 use Rattle.atomic_table.specs.Seated.{TableId}

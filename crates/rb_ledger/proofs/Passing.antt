@@ -1,5 +1,5 @@
 -- A call, from the pass that takes the state out to the pass that has put it back.
-use Rattle.std.proofs.Common.{◌≡◌, ℕ, List, [], ◌∷◌, ◌++◌, Some, None, length, drop, refl, sym, ap, ◌∙◌, subst, append-nil, Result, Ok, Err}
+use Rattle.std.proofs.Common.{◌≡◌, ℕ, List, [], ◌∷◌, ◌++◌, Some, length, drop, sym, ap, ◌∙◌, subst, append-nil, Result, Ok, Err}
 use Rattle.std.proofs.lemmas.List.Prefix.{front_rest}
 use Rattle.rb_history.specs.declared.entries.Entry.{Entry}
 use Rattle.rb_history.specs.declared.entries.Entry.TheVariants.{Res, Full, Sub, Dis, Take}
@@ -20,7 +20,7 @@ use Rattle.rb_ledger.specs.Ledger.{IsRing, IsRoleIn, FitsLedger}
 use Rattle.rb_ledger.specs.LockRule.{AllFit}
 use Rattle.rb_ledger.specs.LockSteps.{TakesState}
 use Rattle.rb_ledger.specs.inner.SeatPasses.{seen_in, pass_bytes, IsIdle}
-use Rattle.rb_ledger.specs.LockedCalls.{LockedCall, Reserves, SubmitsAt, DiscardsAt, OutputsAt, TakesAt, sent_by_submit, sent_by_output, got_by}
+use Rattle.rb_ledger.specs.LockedCalls.{Reserves, SubmitsAt, DiscardsAt, OutputsAt, TakesAt, sent_by_submit, sent_by_output, got_by}
 use Rattle.rb_ledger.proofs.Calls.{no-bytes, sent-there, skipped-none}
 
 -- what one role's pass knows once it has the state out

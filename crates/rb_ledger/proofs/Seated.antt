@@ -1,9 +1,8 @@
 -- A seat's numbers after each call.
-use Rattle.std.proofs.Common.{◌≡◌, ℕ, ◌+◌, ◌<◌, ◌≤◌, ◌^◌, true, false, List, [], ◌∷◌, ◌++◌, length, sym, ap, ◌∙◌, subst, append_assoc, add-zero, arith, Result, Ok, Err, IfOk}
+use Rattle.std.proofs.Common.{◌≡◌, ℕ, ◌+◌, ◌<◌, true, false, List, [], ◌∷◌, ◌++◌, length, sym, ap, ◌∙◌, subst, append_assoc, add-zero, Result, Ok, Err, IfOk}
 use Rattle.std.specs.List.{Contains}
 use Rattle.std.proofs.lemmas.Bool.{true≢false, false_from_ne_true}
 use Rattle.std.proofs.lemmas.List.Elements.{Contains-push}
-use Rattle.std.proofs.lemmas.List.Sums.{count_by-le-length}
 use Rattle.rb_header.specs.Span.{span}
 use Rattle.rb_history.specs.declared.entries.Entry.{Entry}
 use Rattle.rb_history.specs.declared.entries.Entry.TheVariants.{Res, Full, Sub, Dis, Take}
@@ -21,15 +20,14 @@ use Rattle.rb_history.specs.RingModel.{Ring}
 use Rattle.rb_history.specs.Calls.{Refuses, Takes, producer_now}
 use Rattle.rb_history.proofs.Laws.{legal-front}
 use Rattle.rb_history.specs.declared.tally.Tally.{Tally}
-use Rattle.rb_ledger.specs.Roles.{Role, Book, book_of, ExtendsSeen}
-use Rattle.rb_history.specs.WorkerCounts.{is_record_of, tally_of, is_take_where, events_of, skips_of}
+use Rattle.rb_ledger.specs.Roles.{Book, book_of, ExtendsSeen}
+use Rattle.rb_history.specs.WorkerCounts.{is_record_of, tally_of, events_of, skips_of}
 use Rattle.rb_ledger.specs.Roles.Role.{Consumer, Worker}
-use Rattle.rb_history.specs.inner.TallySteps.{IsCountable}
 use Rattle.rb_ledger.specs.Ledger.{IsRing}
 use Rattle.rb_ledger.specs.Seats.{IsBook, Ties, ConsumerTies}
 use Rattle.rb_ledger.specs.LockedCalls.{LockedCall, Reserves, SubmitsAt, DiscardsAt, OutputsAt, TakesAt, Queries, refused_by, reserved_by, output_by, submitted_by, discarded_by, events_in, skips_in, span_in, IsTakenAt}
 use Rattle.rb_history.proofs.RecordWorkers.{bit, granted-once, record-from}
-use Rattle.rb_history.proofs.WorkerCounts.{tally-res, tally-full, tally-sub, tally-dis, countable, events-next, skips-next}
+use Rattle.rb_history.proofs.WorkerCounts.{tally-res, tally-full, tally-sub, tally-dis, events-next, skips-next}
 use Rattle.rb_ledger.proofs.Tallies.{tally-goes, taker-goes}
 use Rattle.rb_history.proofs.TakenRecords.{position-taken, never-both, waiting-submitted, discarded-is}
 

@@ -1,6 +1,5 @@
 -- What was explained of a text that was read was explained of the input.
-use Rattle.std.proofs.Common.{◌≡◌, ℕ, List, Option, Some, None, refl, ◌∙◌, sym, subst, inl, inr}
-use Rattle.std.specs.Prelude.{IfSome}
+use Rattle.std.proofs.Common.{◌≡◌, ℕ, List, Option, Some, None, refl, sym, subst, inr}
 use Rattle.std.specs.Io.KnownBytes.{Appends}
 use Rattle.rb_cfg.specs.declared.fault.ShapeFaultKind.{ShapeFaultKind}
 use Rattle.rb_cfg.specs.declared.fault.ShapeFaultKind.TheVariants.{Backward, OutOfProgram, IntoWide, FallsOff, Unreachable, Memory}
@@ -20,7 +19,7 @@ module _ (text : List ℕ) (ctx_len rings : ℕ) where
   accepted_of reason told none explained =
       let e = subst (λ r. ExplainsAs text (record { ctx_len = ctx_len; rings = rings }) r told) none explained in (
         record { program = e.2.0; ctx_len = ctx_len; rings = rings },
-        record { bytes = e.0; hex = e.1; spelled = e.2.1.spelled; context = refl; known = refl; valid = (state_at e.2.2.states, e.2.2.least.valid) },
+        record { bytes = e.0; hex = e.1; spelled = e.2.1.program_of.spelled; bounds = e.2.1.program_of.bounds; well_shaped = e.2.1.well_shaped; context = refl; known = refl; valid = (state_at e.2.2.states, e.2.2.least.valid) },
       )
 
   module _ (before after : Option (List ℕ)) where

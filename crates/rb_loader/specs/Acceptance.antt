@@ -3,6 +3,7 @@ use Rattle.std.specs.Prelude.{◌≡◌, ◌⊎◌, ℕ, List, IsUtf8}
 use Rattle.rb_insn.specs.declared.insn.Insn.{Insn}
 use Rattle.rb_insn.specs.Spelling.{SpellsAll}
 use Rattle.rb_decode.specs.FirstDecodeFault.{IsFirstDecodeFault}
+use Rattle.rb_decode.specs.Program.{IsProgram}
 use Rattle.rb_decode.specs.Text.{IsHexOf, without_white_space}
 use Rattle.rb_decode.specs.declared.fault.DecodeKind.{DecodeKind}
 use Rattle.rb_decode.specs.declared.fault.TextFault.{TextFault}
@@ -19,12 +20,14 @@ use Rattle.rb_verifier.specs.Subject.{Subject, limits_of}
 use Rattle.rb_loader.specs.declared.program.ProgramFault.{ProgramFault}
 use Rattle.rb_loader.specs.declared.program.ProgramFault.TheVariants.{Text, Decode, Shape, Verify, Memory, Device}
 
--- the text is the program's bytes in hex, with white space anywhere, and the program has a valid annotation for a context of
--- this length and so many rings
+-- the text is the program's bytes in hex, with white space anywhere; the program is well shaped, and has a valid annotation for a
+-- context of this length and so many rings
 pub record IsAccepted (text : List ℕ) (ctx_len rings : ℕ) (subject : Subject) : Type 0 where
   pub bytes : List ℕ
   pub hex : IsHexOf (without_white_space text) bytes
   pub spelled : SpellsAll subject.program bytes
+  pub bounds : IsProgram subject.program
+  pub well_shaped : IsWellShaped subject.program
   pub context : subject.ctx_len ≡ ctx_len
   pub known : subject.rings ≡ rings
   pub valid : HasValid (limits_of subject) subject.program
@@ -45,6 +48,7 @@ pub record HasFirstShapeFault (text : List ℕ) (kind : ShapeFaultKind) (unit : 
   pub bytes : List ℕ
   pub hex : IsHexOf (without_white_space text) bytes
   pub spelled : SpellsAll program bytes
+  pub bounds : IsProgram program
   pub first : IsFirstShapeFault program (record { unit = unit; kind = kind })
 
 -- the text is a well-shaped program's bytes in hex, which no annotation fits for such a context and so many rings; and the rule of this
@@ -55,6 +59,7 @@ pub record HasFirstBrokenRule (text : List ℕ) (ctx_len rings number unit : ℕ
   pub rule : Rule
   pub hex : IsHexOf (without_white_space text) bytes
   pub spelled : SpellsAll program bytes
+  pub bounds : IsProgram program
   pub well_shaped : IsWellShaped program
   pub no_valid : HasNoValid (record { ctx_len = ctx_len; rings = rings }) program
   pub first : IsFirstBrokenRule (record { ctx_len = ctx_len; rings = rings }) program unit rule

@@ -1,5 +1,5 @@
 -- What `explain` prints of a program's text, and what it answers (own).
-use Rattle.std.specs.Prelude.{◌≡◌, ◌⊎◌, ℕ, List, Option, Some, None, IsUtf8}
+use Rattle.std.specs.Prelude.{◌≡◌, ◌⊎◌, ℕ, List, Option, Some, IsUtf8}
 use Rattle.std.specs.Io.KnownBytes.{Appends, Keeps}
 use Rattle.rb_explain.specs.Explanations.{ExplainsAs}
 use Rattle.rb_explain.specs.declared.explanation.Reason.{Reason}
@@ -7,7 +7,7 @@ use Rattle.rb_explain.specs.declared.explanation.Reason.TheVariants as reasons
 use Rattle.rb_refs.specs.Rules.{rule_number}
 use Rattle.rb_loader.specs.Acceptance.{fault_of_shape}
 use Rattle.rb_loader.specs.declared.program.ProgramFault.{ProgramFault}
-use Rattle.rb_loader.specs.declared.program.ProgramFault.TheVariants.{Text, Decode, Shape, Verify, Memory, Device}
+use Rattle.rb_loader.specs.declared.program.ProgramFault.TheVariants.{Text, Decode, Verify, Memory, Device}
 
 -- why a program is refused, as a fault of a program
 abbrev pub fault_of_reason : Reason → ProgramFault

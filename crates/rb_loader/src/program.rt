@@ -7,7 +7,7 @@ ghost use Rattle.rb_loader.specs.MachineFaults.{IsMachineFault};
 use rb_cfg::{ShapeFault, ShapeFaultKind, shape};
 use rb_decode::{DecodeFault, DecodeKind, TextFault, from_text};
 use rb_verifier::{Refusal, Verified, verify};
-use std::alloc::Global;
+use std::alloc::{AllocError, Global};
 use std::io;
 use std::io::Read;
 use thiserror::Error;
@@ -46,6 +46,17 @@ pub enum ProgramFault {
     Device,
 }
 
+impl From<AllocError> for ProgramFault {
+    ghost use Rattle.std.specs.Prelude.{◌≡◌};
+    ghost use Rattle.rb_loader.specs.declared.program.ProgramFault.TheVariants.{Memory};
+
+    ghost from_gives = { λ _ made. made ≡ Memory };
+
+    fn from(_error: AllocError) -> ProgramFault {
+        ProgramFault::Memory
+    }
+}
+
 /// The verified program of a text in hex, with ASCII white space anywhere. A fault is the first one of the first layer that has one: the
 /// text, its bytes, the program's shape, its verification. Out of memory may come in place of any other answer.
 pub fn accept(alloc: Global, text: &str, bounds: Bounds) -> Result<Verified, ProgramFault>
@@ -57,12 +68,17 @@ pub fn accept(alloc: Global, text: &str, bounds: Bounds) -> Result<Verified, Pro
         Ok(program) => program,
         Err(fault) => return Err(text_fault(fault)),
     };
+    program.facts();
     let shape = match shape(alloc, program) {
         Ok(shape) => shape,
         Err(fault) => return Err(shape_fault(fault)),
     };
     match verify(alloc, shape, bounds.ctx_len, bounds.rings) {
-        Ok(verified) => Ok(verified),
+        Ok(verified) => {
+            verified.facts();
+            verified.program().facts();
+            Ok(verified)
+        }
         Err(Refusal::Rule { unit, rule }) => Err(ProgramFault::Verify {
             rule: u32::from(rule.number()),
             unit,

@@ -2,31 +2,20 @@
 
 ghost use Rattle.std.specs.Prelude.{◌≡◌, ◌↔◌, ◌≤◌, ◌^◌, IsTrue, length, drop};
 ghost use Rattle.rb_header.specs.Span as spans;
-ghost use Rattle.rb_header.specs.TapeBytes.{page_of, zeros};
+ghost use Rattle.rb_header.specs.TapeBytes.{zeros};
 ghost use Rattle.rb_history.specs.RingModel.{IsRingSize};
 ghost use Rattle.rb_reader.specs.TapeReading.{item_read, HasItsLength};
 ghost use Rattle.rb_reader.specs.inner.FrontLook.{FindsAtFront, item_behind};
 
 use crate::fault::TapeKind;
 use crate::record::Record;
-use rb_header::{Header, span};
+use rb_header::{Header, page_of, span};
 use rb_history::POSITION_LIMIT;
-
-// A page of the ring's bytes (Linux Documentation/bpf/ringbuf.rst counts a record's place in pages).
-const PAGE: u64 = 4096;
 
 fn is_zero(bytes: &[u8]) -> bool
     ensures { IsTrue result ↔ (bytes.now ≡ zeros (length bytes.now)) }
 {
     bytes.iter().all(|byte| *byte == 0)
-}
-
-// The page of a position, counted from the front of the ring's bytes. A size is a power of two, so no division is needed.
-fn page_at(size: u64, position: u64) -> u64
-    requires size { IsRingSize size }
-    ensures page { result ≡ page_of size position }
-{
-    (position & (size - 1)) / PAGE
 }
 
 // The header of the whole record that the bytes begin with, `None` where they show nothing yet, or the first fault that they show. In time
@@ -49,7 +38,7 @@ pub(crate) fn look(bytes: &[u8], size: u64, position: u64) -> Result<Option<Head
     if header.busy {
         return Err(TapeKind::Busy);
     }
-    if u64::from(header.page) != page_at(size, position) {
+    if u64::from(header.page) != page_of(size, position) {
         return Err(TapeKind::Page);
     }
     let span = span(header.len);

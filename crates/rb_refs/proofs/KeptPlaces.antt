@@ -1,7 +1,7 @@
 -- What is known of the places of the stack, as a list of them and as code keeps it.
 use Rattle.std.proofs.Common.{◌≡◌, ◌≢◌, ℕ, zero, suc, ◌+◌, ◌-◌, ◌<◌, ◌≤◌, Bool, true, false, eqb, List, [], ◌∷◌, ◌++◌, length, get_or, refl, sym, ◌∙◌, ap, subst, arith, below_more, ⊎_elim}
 use Rattle.std.specs.Prelude.{◌&&◌, ◌||◌, ◌↔◌, nat_le, not, if◌then◌else◌, IsTrue}
-use Rattle.std.proofs.lemmas.Bool.{cases_lt}
+use Rattle.std.proofs.lemmas.Bool.{cases_lt, eq-eqb}
 use Rattle.std.proofs.lemmas.Bool.Decides.{nat_tests}
 use Rattle.std.proofs.lemmas.List.{get_or_past, get_or_append_left, get_or-append_right}
 use Rattle.std.proofs.lemmas.List.FromFn.{length-map-range_with_len, get_or-map-range_with_len, fill_by_all}
@@ -9,7 +9,7 @@ use Rattle.rb_refs.specs.declared.value.Abs.{Abs}
 use Rattle.rb_refs.specs.declared.value.Abs.TheVariants.{Unreadable, Number, Known, Ctx, Stack, Ring, Perhaps, Record}
 use Rattle.rb_refs.specs.AbstractValues.{IsNumber}
 use Rattle.rb_refs.specs.StackPlaces.{touches, any_place}
-use Rattle.rb_refs.specs.KeptPointers.{KnownPlaces, listed_places, known_in, is_data, with_place, with_data}
+use Rattle.rb_refs.specs.KeptPointers.{KnownPlaces, all_data, listed_places, known_in, is_data, with_place, with_data}
 use Rattle.rb_refs.specs.declared.reference_changes.Change.{Change}
 use Rattle.rb_refs.specs.declared.reference_changes.Change.TheVariants.{IsNull, IsThere, GivenBack}
 use Rattle.rb_refs.specs.inner.ChangedValues.{place_after}
@@ -48,6 +48,30 @@ known_unlisted xs place le = known_there xs place (omega arith) ∙ get_or_past 
 
 pub known_beyond : (xs : List Abs) (place : ℕ) → 63 < place → known_in (listed_places (from_last xs)) place ≡ Number
 known_beyond xs place lt = known-from_last xs place ∙ from-past xs place lt
+
+-- ---- places that all have data
+
+pub data_listed : (g : KnownPlaces) → ((place : ℕ) → g place ≡ Number) → all_data ≡ listed_places g
+data_listed g h = listed_same (λ place. Number) g (λ place lt. sym (h place))
+
+pub known-data : (places : List Abs) → places ≡ all_data → (place : ℕ) → known_in places place ≡ Number
+known-data places e place = ap (λ p. known_in p place) e ∙ ⊎_elim (λ lt. known-listed (λ other. Number) place lt) (λ le. known-past (λ other. Number) place le) (cases_lt place 64)
+
+pub all-data : (xs : List Abs) → ((i : ℕ) → get_or xs i Number ≡ Number) → listed_places (from_last xs) ≡ all_data
+all-data xs h = listed_same (from_last xs) (λ place. Number) (λ place lt. from-in xs place (omega arith) ∙ h (63 - place))
+
+pub one-pointer : (xs : List Abs) (i : ℕ) → i < length xs → length xs ≤ 64 → (get_or xs i Number ≡ Number → ⊥) → listed_places (from_last xs) ≡ all_data → ⊥
+one-pointer xs i lt few other e =
+    let back : 63 - (63 - i) ≡ i = omega arith in
+    other (ap (λ k. get_or xs k Number) (sym back) ∙ (sym (known_there xs (63 - i) (omega arith)) ∙ known-data (listed_places (from_last xs)) e (63 - i)))
+
+-- a place that keeps a pointer
+pub keeps-pointer : (place : ℕ) (v : Abs) (f : KnownPlaces) → place ≤ 63 → is_data v ≡ false → listed_places (with_place place v f) ≡ all_data → ⊥
+keeps-pointer place v f le pointer e =
+    let kept : with_place place v f place ≡ v = rw (eq-eqb place place refl) refl in
+    let number : v ≡ Number = sym kept ∙ (sym (known-listed (with_place place v f) place (omega arith)) ∙ known-data (listed_places (with_place place v f)) e place) in
+    let no : is_data v ≡ true = ap is_data number in
+    absurd (let e : true ≡ false = sym no ∙ pointer in cc)
 
 -- ---- a list that is built from the last place down
 

@@ -1,4 +1,5 @@
 pub mod KeptPlaces
+mod Stores
 mod Numbers
 mod Ascending
 pub mod Order

@@ -1,11 +1,11 @@
 -- What is known before an instruction, and the order of such knowledge (own profile).
-use Rattle.std.specs.Prelude.{◌≡◌, ℕ, pos, [], length, slice_set, slice_index_or, replicate, Option, Some, None, Result, Ok, Err}
+use Rattle.std.specs.Prelude.{◌≡◌, ◌⊎◌, ℕ, pos, [], length, slice_set, slice_index_or, replicate, Option, Some, None, Result, Ok, Err}
 use Rattle.rb_refs.specs.declared.rule.Rule.{Rule}
 use Rattle.rb_refs.specs.declared.rule.StepFault.{StepFault}
 use Rattle.rb_refs.specs.declared.rule.StepFault.TheVariants as fault
 use Rattle.rb_refs.specs.declared.value.Abs.{Abs}
 use Rattle.rb_refs.specs.declared.value.Abs.TheVariants.{Unreadable, Ctx, Stack}
-use Rattle.rb_refs.specs.KeptPointers.{known_in, all_data}
+use Rattle.rb_refs.specs.KeptPointers.{known_in, all_data, MayKeepPointer}
 use Rattle.rb_refs.specs.declared.state.AbsState.{AbsState}
 use Rattle.rb_refs.specs.declared.state.Effect.{Effect}
 use Rattle.rb_refs.specs.AbstractValues.{BelowValue}
@@ -40,17 +40,21 @@ abbrev pub effect_left : Result (Option AbsState) Rule → AbsState → Result E
 effect_left (Ok jump) next = Ok (record { next = next; jump = along_jump jump next })
 effect_left (Err broken) next = Err broken
 
--- what a step in place answers so and leaves: a rule that is broken, or an effect; or there was no memory, which says nothing
+-- memory may be wanted: the stack may keep a pointer, or it may once the step was made
+abbrev pub MayWantMemory : AbsState → Result Effect Rule → Type 0
+MayWantMemory s answer = MayKeepPointer s.places ⊎ ((effect : Effect) × (answer ≡ Ok effect) × MayKeepPointer effect.next.places)
+
+-- what a step in place answers so and leaves: a rule that is broken, or an effect; or there was no memory, where it may be wanted
 abbrev pub IsLeft : Result (Option AbsState) StepFault → AbsState → Result Effect Rule → Type 0
 IsLeft (Ok jump) next answer = answer ≡ Ok (record { next = next; jump = along_jump jump next })
 IsLeft (Err (fault.Rule broken)) next answer = answer ≡ Err broken
-IsLeft (Err fault.Memory) next answer = Unit {0}
+IsLeft (Err fault.Memory) next answer = MayWantMemory next answer
 
--- a step answers so: a rule that is broken, or an effect; or there was no memory, which says nothing
-abbrev pub IsStep : Result Effect StepFault → Result Effect Rule → Type 0
-IsStep (Ok effect) answer = answer ≡ Ok effect
-IsStep (Err (fault.Rule broken)) answer = answer ≡ Err broken
-IsStep (Err fault.Memory) answer = Unit {0}
+-- a step from a state answers so: a rule that is broken, or an effect; or there was no memory, where it may be wanted
+abbrev pub IsStep : AbsState → Result Effect StepFault → Result Effect Rule → Type 0
+IsStep s (Ok effect) answer = answer ≡ Ok effect
+IsStep s (Err (fault.Rule broken)) answer = answer ≡ Err broken
+IsStep s (Err fault.Memory) answer = MayWantMemory s answer
 
 -- the order of states: the references are the same, and what is known of each register and of each place is below
 pub record Below (s t : AbsState) : Type 0 where

@@ -1,6 +1,6 @@
 -- What is known of the places of the stack: of each, what is known of a register that loads it. A number says that the place has
 -- data, a pointer that it keeps this one, and Unreadable that it may have either (own profile).
-use Rattle.std.specs.Prelude.{ℕ, ℤ, ◌+◌, ◌+ℤ◌, ◌==◌, ◌&&◌, Bool, true, false, not, List, map, slice_index_or, Option, Some, None, Result, Ok, Err, if◌then◌else◌}
+use Rattle.std.specs.Prelude.{◌≢◌, ℕ, ℤ, ◌+◌, ◌+ℤ◌, ◌==◌, ◌&&◌, Bool, true, false, not, List, map, slice_index_or, Option, Some, None, Result, Ok, Err, if◌then◌else◌}
 use Rattle.std.specs.List.{range_with_len}
 use Rattle.rb_refs.specs.declared.rule.Rule.{Rule}
 use Rattle.rb_refs.specs.declared.rule.Rule.TheVariants as rule
@@ -23,6 +23,10 @@ known_in places place = slice_index_or places place Number
 -- each place has data
 abbrev pub all_data : List Abs
 all_data = listed_places (λ place. Number)
+
+-- some place may keep a pointer
+abbrev pub MayKeepPointer : List Abs → Type 0
+MayKeepPointer places = places ≢ all_data
 
 -- a number, so that a place has data
 abbrev pub is_data : Abs → Bool

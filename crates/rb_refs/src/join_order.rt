@@ -1,6 +1,7 @@
 //! The order of states, and the least state above two.
 
-ghost use Rattle.std.specs.Prelude.{◌≡◌, ◌≢◌, ◌↔◌, IsTrue, MatchOption, IfOk};
+ghost use Rattle.std.specs.Prelude.{◌≡◌, ◌≢◌, ◌↔◌, IsTrue, MatchOption, IfOk, IsErr};
+ghost use Rattle.rb_refs.specs.KeptPointers.{all_data};
 ghost use Rattle.rb_refs.specs.AbstractValues.{IsNumber, BelowValue};
 ghost use Rattle.rb_refs.specs.AbstractStates.{Below};
 ghost use Rattle.rb_refs.specs.Joins.{IsJoin};
@@ -63,7 +64,8 @@ pub fn below(state: &AbsState, upper: &AbsState) -> bool
 /// The least state above both; none exactly where the references differ. It takes memory only where the stack may keep
 /// pointers.
 pub fn join(left: &AbsState, right: &AbsState) -> Result<Option<AbsState>, AllocError>
-    ensures { IfOk result (λ answer. MatchOption answer (left.now.held ≢ right.now.held) (λ join. IsJoin left.now right.now join)) }
+    ensures joined { IfOk result (λ answer. MatchOption answer (left.now.held ≢ right.now.held) (λ join. IsJoin left.now right.now join)) }
+    ensures memory { IsErr result → ¬ ((left.now.places ≡ all_data) × (right.now.places ≡ all_data)) }
 {
     if !left.held.is_same(&right.held) {
         return Ok(None);

@@ -1,9 +1,9 @@
 //! The loads and stores of what is kept on the stack.
 
-ghost use Rattle.std.specs.Prelude.{◌≡◌, ◌+◌, ◌≤◌, ◌+ℤ◌, true, Some, Ok, Err, IfOk, IfErr};
+ghost use Rattle.std.specs.Prelude.{◌≡◌, ◌+◌, ◌≤◌, ◌+ℤ◌, true, false, Some, Ok, Err, IfOk, IfErr};
 ghost use Rattle.rb_refs.specs.Extents.{contains_range, stack_extent};
 ghost use Rattle.rb_refs.specs.StackPlaces.{stack_byte};
-ghost use Rattle.rb_refs.specs.KeptPointers.{known_in, byte_behind, check_data, check_loaded, check_kept, check_stored};
+ghost use Rattle.rb_refs.specs.KeptPointers.{known_in, byte_behind, is_data, check_data, check_loaded, check_kept, check_stored};
 ghost use Rattle.rb_refs.specs.ValueChecks.{check_inside};
 ghost use Rattle.rb_refs.specs.inner.StackReach.{IsPlace, IsPlaced, LiesInside};
 
@@ -88,7 +88,8 @@ pub(crate) fn check_loaded(byte: Option<u64>, len: u64, places: &Places) -> Resu
 
 /// What a store of a pointer leaves of the places: the one that has exactly the bytes keeps it, and no other bytes do.
 fn keep_at(place: Option<u64>, value: Abs, places: &mut Places) -> Result<(), StepFault>
-    requires { IsPlace place }
+    requires place { IsPlace place }
+    requires pointer { is_data value ≡ false }
     ensures placed { IsPlaced result places.new (check_kept place value (known_in places.old)) }
     ensures unchanged { IfErr result (λ _. places.new ≡ places.old) }
 {

@@ -1,9 +1,9 @@
 //! What is known of the places of the stack.
 
-ghost use Rattle.std.specs.Prelude.{◌≡◌, ◌≤◌, ◌<◌, ◌+◌, ◌-◌, ◌↔◌, ℕ, IfOk, IsTrue};
+ghost use Rattle.std.specs.Prelude.{◌≡◌, ◌≤◌, ◌<◌, ◌+◌, ◌-◌, ◌↔◌, ℕ, IfOk, ◌≢◌, IsErr, IsTrue, true, false, length, slice_index_or};
 ghost use Rattle.rb_refs.specs.AbstractValues.{BelowValue};
 ghost use Rattle.rb_refs.specs.StackPlaces.{touches, whole_place};
-ghost use Rattle.rb_refs.specs.KeptPointers.{all_data, known_in, listed_places, with_place, with_data, may_keep};
+ghost use Rattle.rb_refs.specs.KeptPointers.{all_data, known_in, listed_places, with_place, with_data, may_keep, MayKeepPointer};
 ghost use Rattle.rb_refs.specs.inner.ChangedValues.{place_after};
 ghost use Rattle.rb_refs.specs.inner.ValueJoins.{IsJoinValue};
 
@@ -58,6 +58,19 @@ fn touches(at: u64, len: u64, place: u64) -> bool
     0 < len && at / 8 <= place && place <= (at + len - 1) / 8
 }
 
+/// Whether each of these is a number.
+fn are_numbers(values: &[Abs]) -> bool
+    ensures all { result ≡ true → (k : ℕ) → slice_index_or values.now k Abs.Number ≡ Abs.Number }
+    ensures other { result ≡ false → (k : ℕ) × (k < length values.now) × (slice_index_or values.now k Abs.Number ≢ Abs.Number) }
+{
+    for value in values {
+        if *value != Abs::Number {
+            return false;
+        }
+    }
+    true
+}
+
 impl Places {
     /// Each place has data. It takes no memory.
     pub fn data(alloc: Global) -> Places
@@ -68,11 +81,20 @@ impl Places {
         }
     }
 
-    /// The same places.
-    pub fn copy(&self) -> Result<Places, AllocError>
-        ensures { IfOk result (λ copy. copy ≡ self.now) }
+    /// Whether each place has data.
+    fn have_data(&self) -> bool
+        ensures all { result ≡ true → self.now ≡ all_data }
+        ensures pointer { result ≡ false → MayKeepPointer self.now }
     {
-        if self.items.is_empty() {
+        are_numbers(self.items.as_slice())
+    }
+
+    /// The same places. It takes memory only where one may keep a pointer.
+    pub fn copy(&self) -> Result<Places, AllocError>
+        ensures same { IfOk result (λ copy. copy ≡ self.now) }
+        ensures memory { IsErr result → MayKeepPointer self.now }
+    {
+        if self.have_data() {
             return Ok(Places::data(*self.items.allocator()));
         }
         let items = Vec::from_slice(*self.items.allocator(), self.items.as_slice())?;
@@ -141,8 +163,12 @@ impl Places {
     /// The places, of which those that have one of the `len` bytes from byte `at` on have data.
     pub(crate) fn with_data(&self, at: u64, len: u64) -> Result<Places, AllocError>
         requires { at + len ≤ 512 }
-        ensures { IfOk result (λ new. new ≡ listed_places (with_data at len (known_in self.now))) }
+        ensures stored { IfOk result (λ new. new ≡ listed_places (with_data at len (known_in self.now))) }
+        ensures memory { IsErr result → MayKeepPointer self.now }
     {
+        if self.have_data() {
+            return Ok(Places::data(*self.items.allocator()));
+        }
         let mut items = Vec::with_capacity(*self.items.allocator(), self.count())?;
         for i in 0..self.count() {
             let here = LAST_PLACE - i as u64;
@@ -153,8 +179,12 @@ impl Places {
 
     /// What is known of the places from a change on.
     pub(crate) fn changed(&self, change: Change) -> Result<Places, AllocError>
-        ensures { IfOk result (λ new. new ≡ listed_places (λ place. place_after change (known_in self.now place))) }
+        ensures changed { IfOk result (λ new. new ≡ listed_places (λ place. place_after change (known_in self.now place))) }
+        ensures memory { IsErr result → MayKeepPointer self.now }
     {
+        if self.have_data() {
+            return Ok(Places::data(*self.items.allocator()));
+        }
         let mut items = Vec::with_capacity(*self.items.allocator(), self.count())?;
         for i in 0..self.count() {
             let here = LAST_PLACE - i as u64;
@@ -165,8 +195,12 @@ impl Places {
 
     /// The least above both, place by place.
     pub(crate) fn joined(&self, other: &Places) -> Result<Places, AllocError>
-        ensures { IfOk result (λ join. (place : ℕ) → IsJoinValue (known_in self.now place) (known_in other.now place) (known_in join place)) }
+        ensures joined { IfOk result (λ join. (place : ℕ) → IsJoinValue (known_in self.now place) (known_in other.now place) (known_in join place)) }
+        ensures memory { IsErr result → ¬ ((self.now ≡ all_data) × (other.now ≡ all_data)) }
     {
+        if self.have_data() && other.have_data() {
+            return Ok(Places::data(*self.items.allocator()));
+        }
         let count = self.count().max(other.count());
         let mut items = Vec::with_capacity(*self.items.allocator(), count)?;
         for i in 0..count {

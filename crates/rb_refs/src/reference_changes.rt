@@ -1,6 +1,7 @@
 //! What a null test and the giving back of a record tell of every register, place of the stack and reference.
 
-ghost use Rattle.std.specs.Prelude.{◌≡◌, map, IfOk};
+ghost use Rattle.std.specs.Prelude.{◌≡◌, map, IfOk, IsErr};
+ghost use Rattle.rb_refs.specs.KeptPointers.{MayKeepPointer};
 ghost use Rattle.rb_refs.specs.ReferenceChanges.{null_state, there_state, given_back_state};
 ghost use Rattle.rb_refs.specs.inner.ChangedValues.{after_change, place_after};
 
@@ -56,7 +57,8 @@ fn changed_values(mut values: [Abs; 11], change: Change) -> [Abs; 11]
 impl AbsState {
     /// Where the reservation was null.
     pub(crate) fn where_null(&self, id: u32) -> Result<AbsState, AllocError>
-        ensures { IfOk result (λ state. state ≡ null_state id self.now) }
+        ensures changed { IfOk result (λ state. state ≡ null_state id self.now) }
+        ensures memory { IsErr result → MayKeepPointer self.now.places }
     {
         let change = Change::IsNull(id);
         let places = self.places.changed(change)?;
@@ -70,7 +72,8 @@ impl AbsState {
 
     /// Where the reservation was a record.
     pub(crate) fn where_there(&self, id: u32) -> Result<AbsState, AllocError>
-        ensures { IfOk result (λ state. state ≡ there_state id self.now) }
+        ensures changed { IfOk result (λ state. state ≡ there_state id self.now) }
+        ensures memory { IsErr result → MayKeepPointer self.now.places }
     {
         let change = Change::IsThere(id);
         let places = self.places.changed(change)?;
@@ -83,7 +86,8 @@ impl AbsState {
 
     /// Once the record was given back.
     pub(crate) fn once_given_back(&self, id: u32) -> Result<AbsState, AllocError>
-        ensures { IfOk result (λ state. state ≡ given_back_state id self.now) }
+        ensures changed { IfOk result (λ state. state ≡ given_back_state id self.now) }
+        ensures memory { IsErr result → MayKeepPointer self.now.places }
     {
         let change = Change::GivenBack(id);
         let places = self.places.changed(change)?;

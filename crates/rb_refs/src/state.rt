@@ -1,7 +1,8 @@
 //! What is known before an instruction.
 
-ghost use Rattle.std.specs.Prelude.{◌≡◌, IfOk};
+ghost use Rattle.std.specs.Prelude.{◌≡◌, IfOk, IsErr};
 ghost use Rattle.rb_refs.specs.AbstractStates.{value_in, put, entry_state, effect_on_both};
+ghost use Rattle.rb_refs.specs.KeptPointers.{MayKeepPointer};
 
 use crate::places::Places;
 use crate::references::Held;
@@ -47,7 +48,8 @@ impl AbsState {
 
     /// The same state. It takes memory only where the stack may keep pointers.
     pub fn copy(&self) -> Result<Self, AllocError>
-        ensures { IfOk result (λ copy. copy ≡ self.now) }
+        ensures same { IfOk result (λ copy. copy ≡ self.now) }
+        ensures memory { IsErr result → MayKeepPointer self.now.places }
     {
         let places = self.places.copy()?;
         Ok(AbsState {
@@ -74,7 +76,8 @@ impl AbsState {
 
     /// The same along both edges.
     pub(crate) fn along_both(self) -> Result<Effect, AllocError>
-        ensures { IfOk result (λ effect. effect ≡ effect_on_both self) }
+        ensures same { IfOk result (λ effect. effect ≡ effect_on_both self) }
+        ensures memory { IsErr result → MayKeepPointer self.places }
     {
         Ok(Effect {
             next: self.copy()?,

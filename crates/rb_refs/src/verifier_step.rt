@@ -316,7 +316,7 @@ pub fn step_in_place(
 /// keep pointers, and constant time.
 pub fn step(limits: Limits, unit: u32, insn: &Insn, state: &AbsState) -> Result<Effect, StepFault>
     requires { AreEarlier unit state.now.held }
-    ensures { IsStep result (abstract_step limits unit insn.now state.now) }
+    ensures { IsStep state.now result (abstract_step limits unit insn.now state.now) }
 {
     let mut next = state.copy()?;
     match step_in_place(limits, unit, insn, &mut next)? {

@@ -2,6 +2,7 @@
 
 use crate::text::Text;
 use rb_chapter::Chapter;
+use rb_chapter_ledger::BindFault;
 use rb_chapter_ring::{OpenFault, ReserveFault};
 use rb_history::{Counts, Entry, Notice, Reservation, Stray, Taken, Tally};
 use rb_lend::{Lent, Sheet};
@@ -161,5 +162,14 @@ pub(crate) fn reserve_word(fault: ReserveFault) -> &'static str {
         ReserveFault::Flags => "flags",
         ReserveFault::ChapterFull => "chapter full",
         ReserveFault::Foreign => "foreign",
+    }
+}
+
+/// Why chapters are not bound.
+pub(crate) fn bind_word(fault: BindFault) -> &'static str {
+    match fault {
+        BindFault::Number => "not bound number",
+        BindFault::Opening => "not bound opening",
+        BindFault::Memory => "not bound memory",
     }
 }

@@ -1,10 +1,11 @@
 //! Rows on chapters, which a ring keeps or a script has by name.
 
-use crate::answers::{tell_entries, tell_tally};
+use crate::answers::{tell_entries, tell_handed_out, tell_tally};
 use crate::row::Row;
 use crate::script::{Script, WRONG_WORDS, keep, narrow};
 use crate::text::Text;
 use rb_chapter::{Chapter, Opening, UntakenRecord, UntakenStatus};
+use rb_consumer::Keeper;
 
 /// What a row on chapters answers.
 pub(crate) fn answer(script: &mut Script, row: &Row<'_>, out: &mut Text) {
@@ -12,6 +13,10 @@ pub(crate) fn answer(script: &mut Script, row: &Row<'_>, out: &mut Text) {
         ("chapter", [name], [room, workers]) => {
             make(script, name, narrow(*room), narrow(*workers), out)
         }
+        ("keeper", [name, chapter], [margin]) => {
+            make_keeper(script, name, chapter, narrow(*margin), out)
+        }
+        ("kept", [name, chapter], []) => end_keeper(script, name, chapter, out),
         ("clear", [name], []) => match script.chapters.get_mut(*name) {
             Some(chapter) => {
                 chapter.clear();
@@ -26,7 +31,9 @@ pub(crate) fn answer(script: &mut Script, row: &Row<'_>, out: &mut Text) {
                 _ => out.word("fault: no such chapter"),
             }
         }
-        (verb, [name], []) => show(script, verb, name, out),
+        ("show" | "opening" | "closing" | "entries", [name], []) => {
+            show(script, row.verb, name, out)
+        }
         _ => out.word(WRONG_WORDS),
     }
 }
@@ -46,6 +53,30 @@ fn make(script: &mut Script, name: &str, room: u32, workers: u32, out: &mut Text
             keep(script.alloc, &mut script.chapters, name, chapter, out);
         }
         Err(_) => out.word("fault: no memory"),
+    }
+}
+
+// Makes a keeper of a chapter, which has no name then.
+fn make_keeper(script: &mut Script, name: &str, chapter: &str, margin: u32, out: &mut Text) {
+    match script.chapters.remove(chapter) {
+        Some(chapter) => {
+            out.word("made");
+            let keeper = Keeper::with_margin(chapter, margin);
+            keep(script.alloc, &mut script.keepers, name, keeper, out);
+        }
+        None => out.word("fault: no such chapter"),
+    }
+}
+
+// Gives the chapter of a keeper a name. The keeper is gone then.
+fn end_keeper(script: &mut Script, name: &str, chapter: &str, out: &mut Text) {
+    match script.keepers.remove(name) {
+        Some(keeper) => {
+            let kept = keeper.into_chapter();
+            tell_handed_out(out, &kept);
+            keep(script.alloc, &mut script.chapters, chapter, kept, out);
+        }
+        None => out.word("fault: no such keeper"),
     }
 }
 

@@ -3,18 +3,25 @@
 ghost use Rattle.std.specs.Prelude.{◌≡◌, ◌<◌, IfSome};
 
 use crate::row::{Row, RowFault};
+use crate::shared_rings::{SharedPlace, write_record};
+use crate::sheet_rows::write_sheet;
 use crate::text::Text;
 use crate::twin_rings::{Ending, TwinRecord, TwinRings};
-use crate::{chapter_rows, value_rows};
+use crate::{chapter_rows, shared_rows, sheet_rows, value_rows};
 use rb_chapter::Chapter;
+use rb_consumer::Keeper;
+use rb_history::Reservation;
+use rb_lend::Sheet;
+use rb_shared_ring::Closing;
 use std::alloc::Global;
 use std::collections::BTreeMap;
+use std::sync::Wait;
 
-// The longest record that is asked for: what the greatest ring has.
-const LONGEST: u64 = 1 << 26;
+/// The longest record that is asked for: what the greatest ring has.
+pub(crate) const LONGEST: u64 = 1 << 26;
 
-// How many records one call takes at most.
-const MOST_TAKEN: u64 = 1 << 16;
+/// How many records one call takes at most.
+pub(crate) const MOST_TAKEN: u64 = 1 << 16;
 
 /// What a row answers that has not the words of its command, or whose numbers are too great for it.
 pub(crate) const WRONG_WORDS: &str = "fault: wrong words";
@@ -26,6 +33,13 @@ pub(crate) struct Script {
     pub(crate) rings: BTreeMap<String, TwinRings>,
     pub(crate) records: BTreeMap<String, TwinRecord>,
     pub(crate) chapters: BTreeMap<String, Chapter>,
+    pub(crate) shared: BTreeMap<String, SharedPlace>,
+    pub(crate) shared_records: BTreeMap<String, Reservation>,
+    pub(crate) closings: BTreeMap<String, Closing>,
+    pub(crate) keepers: BTreeMap<String, Keeper>,
+    pub(crate) sheets: BTreeMap<String, Sheet>,
+    /// How many shared rings were asked for; the tag of the last one.
+    pub(crate) tags: u64,
 }
 
 impl Script {
@@ -36,19 +50,39 @@ impl Script {
             rings: BTreeMap::new(alloc),
             records: BTreeMap::new(alloc),
             chapters: BTreeMap::new(alloc),
+            shared: BTreeMap::new(alloc),
+            shared_records: BTreeMap::new(alloc),
+            closings: BTreeMap::new(alloc),
+            keepers: BTreeMap::new(alloc),
+            sheets: BTreeMap::new(alloc),
+            tags: 0,
         }
     }
 
     /// What a row answers.
-    pub(crate) fn answer(&mut self, line: &str, out: &mut Text) {
+    pub(crate) fn answer<R: Wait>(&mut self, rt: &R, line: &str, out: &mut Text) {
         match Row::read(self.alloc, line) {
-            Ok(row) => self.answer_row(&row, out),
+            Ok(row) => self.answer_row(rt, &row, out),
             Err(RowFault::Word) => out.word("fault: no word"),
             Err(RowFault::Memory) => out.word("fault: no memory"),
         }
     }
 
-    fn answer_row(&mut self, row: &Row<'_>, out: &mut Text) {
+    // A name of a shared ring stands for that ring, and of a closed one for it, before it stands for anything else.
+    fn answer_row<R: Wait>(&mut self, rt: &R, row: &Row<'_>, out: &mut Text) {
+        let first = row.names.first().copied().unwrap_or("");
+        if row.verb == "share" {
+            shared_rows::share(rt, self, row, out);
+        } else if self.shared.contains_key(first) {
+            shared_rows::answer(rt, self, row, out);
+        } else if row.verb == "bind" && self.closings.contains_key(first) {
+            shared_rows::bind(self, row, out);
+        } else {
+            self.answer_other(row, out);
+        }
+    }
+
+    fn answer_other(&mut self, row: &Row<'_>, out: &mut Text) {
         match row.verb {
             "open" => self.open(row, out),
             "reserve" => self.reserve(row, out),
@@ -56,11 +90,20 @@ impl Script {
             "submit" => self.end(Ending::Submit, row, out),
             "discard" => self.end(Ending::Discard, row, out),
             "output" => self.output(row, out),
-            "take" | "query" | "counts" => self.ask(row, out),
+            "take" | "query" | "counts" | "written" => self.ask(row, out),
             "handout" => self.hand_out(row, out),
             "bind" => self.bind(row, out),
-            "chapter" | "clear" | "after" | "meets" | "show" | "opening" | "closing" | "entries" =>
-                chapter_rows::answer(self, row, out),
+            "keeper"
+            | "kept"
+            | "chapter"
+            | "clear"
+            | "after"
+            | "meets"
+            | "show"
+            | "opening"
+            | "closing"
+            | "entries" => chapter_rows::answer(self, row, out),
+            "sheet" | "renew" | "wipe" => sheet_rows::answer(self, row, out),
             _ => value_rows::answer(self.alloc, row, out),
         }
     }
@@ -95,9 +138,14 @@ impl Script {
         let ([record], [at]) = (row.names.as_slice(), row.numbers.as_slice()) else {
             return out.word(WRONG_WORDS);
         };
-        match self.records.get_mut(*record) {
-            Some(held) => held.write(*at, row.bytes.as_slice(), out),
-            None => out.word("fault: no such record"),
+        if let Some(held) = self.records.get_mut(*record) {
+            held.write(*at, row.bytes.as_slice(), out);
+        } else if let Some(held) = self.shared_records.get_mut(*record) {
+            write_record(held, *at, row.bytes.as_slice(), out);
+        } else if let Some(sheet) = self.sheets.get_mut(*record) {
+            write_sheet(sheet, *at, row.bytes.as_slice(), out);
+        } else {
+            out.word("fault: no such record");
         }
     }
 
@@ -147,6 +195,7 @@ impl Script {
             ("take", [n]) if *n <= MOST_TAKEN => twins.take_many(self.alloc, *n as usize, out),
             ("query", [what]) => twins.query(*what, out),
             ("counts", []) => twins.counts(out),
+            ("written", []) => twins.written(self.alloc, out),
             _ => out.word(WRONG_WORDS),
         }
     }

@@ -1,10 +1,16 @@
 //! Rows on tapes.
 
-ghost use Rattle.std.specs.Prelude.{◌<◌};
+ghost use Rattle.std.specs.Prelude.{◌≡◌, ◌+◌, ◌<◌, ◌≤◌, ◌^◌, IsTrue};
+ghost use Rattle.rb_header.specs.Span.{span};
+ghost use Rattle.rb_header.specs.TapeBytes.{IsItemAt};
+ghost use Rattle.rb_tape.specs.Items.{item_of as item_in};
 
 use crate::text::Text;
-use rb_history::OpenFault;
+use rb_header::span;
+use rb_history::{OpenFault, Taken, is_size, is_start};
+use rb_lend::Lent;
 use rb_reader::{Feed, Record, Tape, TapeFault, TapeKind, count_records};
+use rb_tape::{Event, Item, TapeWriter};
 use std::alloc::Global;
 
 // How long the pieces are in which a tape is fed.
@@ -108,4 +114,62 @@ fn tell_fault(fault: TapeFault, out: &mut Text) {
         TapeKind::Memory => "memory",
     });
     out.field("at", fault.offset);
+}
+
+/// The tape of records that were taken of a ring of `size` bytes whose positions begin at `start`.
+pub(crate) fn tell_written(alloc: Global, size: u64, start: u64, taken: &[Taken], out: &mut Text) {
+    if !is_size(size) || !is_start(start) {
+        return out.word("fault: no ring");
+    }
+    let mut tape = TapeWriter::new(Vec::new(alloc), size, start);
+    for one in taken {
+        let Some(item) = item_of(one) else {
+            continue;
+        };
+        if !stands(&item, size, tape.position()) {
+            return out.word("fault: out of place");
+        }
+        if tape.put(&item).is_err() {
+            return out.word("fault: no memory");
+        }
+    }
+    out.bytes(tape.into_writer().as_slice());
+}
+
+// The record that was taken.
+fn item_of(taken: &Taken) -> Option<Item<'_>> {
+    match taken {
+        Taken::Event(pos, worker, serial, sheet) => Some(Item::Event(Event {
+            pos: *pos,
+            worker: *worker,
+            serial: *serial,
+            bytes: sheet.bytes(),
+        })),
+        Taken::Skipped(pos, len) => Some(Item::Skip(*pos, *len)),
+        Taken::BusyFront | Taken::Empty => None,
+    }
+}
+
+// Whether a ring of this size may have had the record at this position.
+fn stands(item: &Item<'_>, size: u64, position: u64) -> bool
+    ensures { IsTrue result → IsItemAt size position (item_in item.now) }
+{
+    match item {
+        Item::Event(event) => fits(event.pos, event.bytes.len() as u64, size, position),
+        Item::Skip(pos, len) => fits(*pos, u64::from(*len), size, position),
+    }
+}
+
+// Whether a record of this position and length fits.
+fn fits(pos: u64, len: u64, size: u64, position: u64) -> bool
+    ensures here { IsTrue result → pos ≡ position }
+    ensures has_header { IsTrue result → len < 2 ^ 30 }
+    ensures has_fitted { IsTrue result → span len < size }
+    ensures bounded { IsTrue result → position + span len ≤ 2 ^ 62 }
+{
+    if pos != position || len >= 1 << 30 || position > 1 << 62 {
+        return false;
+    }
+    let span = span(len as u32);
+    span < size && span <= (1 << 62) - position
 }

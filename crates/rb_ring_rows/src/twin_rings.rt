@@ -3,15 +3,16 @@
 ghost use Rattle.std.specs.Prelude.{◌≡◌, ◌<◌, IfSome, IsTrue, length};
 
 use crate::answers::{
-    open_word, reserve_word, tell_all_taken, tell_counts, tell_end, tell_entries, tell_granted,
-    tell_handed_out, tell_notice, tell_record, tell_refusal, tell_taken,
+    bind_word, open_word, reserve_word, tell_all_taken, tell_counts, tell_end, tell_entries,
+    tell_granted, tell_handed_out, tell_notice, tell_record, tell_refusal, tell_taken,
 };
 use crate::sheets::{copied, filled, write_at};
+use crate::tape_rows::tell_written;
 use crate::text::Text;
 use rb_chapter::Chapter;
-use rb_chapter_ledger::{BindFault, bind_chapters};
+use rb_chapter_ledger::bind_chapters;
 use rb_chapter_ring::{ReserveFault, RingState};
-use rb_history::{OpenFault as ListOpenFault, Reservation, ReserveFault as ListFault};
+use rb_history::{OpenFault as ListOpenFault, Reservation, ReserveFault as ListFault, Taken};
 use rb_lend::{Lent, Sheet};
 use rb_ring_list::RingState as ListState;
 use std::alloc::Global;
@@ -19,11 +20,15 @@ use std::alloc::Global;
 /// A ring over chapters and its twin over a list, for the same workers.
 #[derive(Drop)]
 pub(crate) struct TwinRings {
+    size: u64,
+    start: u64,
     workers: u32,
     ring: RingState,
     list: ListState,
     // How many entries the chapters have that were handed out.
     handed_out: u64,
+    // All that was taken, in order.
+    taken: Vec<Taken>,
     ghost list_workers: { list.setup.workers ≡ workers },
 }
 
@@ -80,10 +85,13 @@ impl TwinRings {
         }
         match (ring, list) {
             (Some(ring), Some(list)) => Some(TwinRings {
+                size,
+                start,
                 workers,
                 ring,
                 list,
                 handed_out: 0,
+                taken: Vec::new(alloc),
             }),
             _ => None,
         }
@@ -189,7 +197,11 @@ impl TwinRings {
     /// Takes one record.
     pub(crate) fn take(&mut self, alloc: Global, out: &mut Text) {
         let mut told = Text::new(alloc);
-        tell_taken(out, &self.ring.take());
+        let taken = self.ring.take();
+        tell_taken(out, &taken);
+        if self.taken.push(taken).is_err() {
+            out.word("fault: no memory");
+        }
         tell_taken(&mut told, &self.list.take());
         self.compare(out, &told);
     }
@@ -208,6 +220,9 @@ impl TwinRings {
         let many = self.list.take_many(n, &mut other);
         tell_all_taken(&mut told, many, other.as_slice());
         self.compare(out, &told);
+        if self.taken.append(&mut taken).is_err() {
+            out.word("fault: no memory");
+        }
     }
 
     /// Has the ring over chapters go on in an empty chapter; the one that comes back is the chapter that was handed out, or the empty one.
@@ -238,6 +253,11 @@ impl TwinRings {
         tell_counts(out, self.ring.counts());
     }
 
+    /// The tape of all that was taken.
+    pub(crate) fn written(&self, alloc: Global, out: &mut Text) {
+        tell_written(alloc, self.size, self.start, self.taken.as_slice(), out);
+    }
+
     /// The chapter that the ring keeps.
     pub(crate) fn chapter(&self) -> &Chapter {
         self.ring.chapter()
@@ -253,9 +273,7 @@ impl TwinRings {
                     tell_entries(out, self.list.history());
                 }
             }
-            Err(BindFault::Number) => out.word("not bound number"),
-            Err(BindFault::Opening) => out.word("not bound opening"),
-            Err(BindFault::Memory) => out.word("not bound memory"),
+            Err(fault) => out.word(bind_word(fault)),
         }
     }
 

@@ -20,9 +20,3 @@ pub(crate) fn sheet(rt: &impl Abort, alloc: Global, n: u32) -> Sheet
 pub(crate) fn same_bytes(rt: &impl Abort, found: &[u8], wanted: &[u8]) {
     assert_eq!(rt; found, wanted);
 }
-
-/// Ends the test where the bytes are not `n` times this one.
-pub(crate) fn all_bytes(rt: &impl Abort, found: &[u8], n: u32, byte: u8) {
-    let holds = found.len() == n as usize && found.iter().all(|b| *b == byte);
-    assert!(rt; holds, "not {n} times {byte}: {found:?}");
-}

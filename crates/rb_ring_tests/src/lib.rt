@@ -1,6 +1,11 @@
-//! Tests of the ring's crates, by their public calls alone: the lines of their module docs, and what is no row of `rb_ring_rows`.
+//! Tests of the ring's crates, by their public calls alone: the lines of their module docs, and what is no row of `rb_ring_rows`: values that no ring
+//! makes, devices that fail, what a caller may conclude, and threads.
 #![tactic(auto)]
 
+#[cfg(test)]
+mod batches;
+#[cfg(test)]
+mod closing;
 #[cfg(test)]
 mod examples;
 #[cfg(test)]
@@ -8,10 +13,14 @@ mod expected;
 #[cfg(test)]
 mod histories;
 #[cfg(test)]
+mod keeper_threads;
+#[cfg(test)]
 mod parts;
 #[cfg(test)]
-mod sheets;
+mod rings_with_seats;
 #[cfg(test)]
 mod tape_reader;
 #[cfg(test)]
-mod tapes;
+mod threads;
+#[cfg(test)]
+mod wait_backoff;

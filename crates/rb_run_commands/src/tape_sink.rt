@@ -1,8 +1,8 @@
 //! A sink that writes a tape.
 
 use rb_chapter::Chapter;
-use rb_consumer::{Event, Item, TapeWriter};
 use rb_header::span;
+use rb_tape::{Event, Item, TapeWriter};
 use rb_workers::Sink;
 use std::io::Write;
 use std::marker::Model;
@@ -33,7 +33,7 @@ impl<W: Write> TapeSink<W> {
     ghost use Rattle.std.specs.Prelude.{◌≡◌, ◌+◌, ◌<◌, ◌≤◌, ◌^◌, [], ◌∷◌, false};
     ghost use Rattle.rb_header.specs.TapeBytes.{item_len, item_position, item_span};
     ghost use Rattle.rb_history.specs.RingModel.{IsRingSize, IsStartPosition};
-    ghost use Rattle.rb_consumer.specs.Items.{item_of};
+    ghost use Rattle.rb_tape.specs.Items.{item_of};
     ghost use Rattle.rb_run_commands.specs.TapedRun.{WritesOn};
 
     /// A tape of a ring of `size` bytes, whose first record stands at `start`. Nothing is written yet.

@@ -1,28 +1,26 @@
 -- What each call leaves of the records that helpers over seats keep.
-use Rattle.std.proofs.Common.{◌≡◌, ◌≢◌, ℕ, zero, suc, ◌<◌, ◌≤◌, ◌⊎◌, inl, inr, ℤ, pos, negsuc, Bool, true, false, List, [], ◌∷◌, ◌++◌, length, set, Option, Some, None, refl, sym, ap, ◌∙◌, subst, append_assoc, arith}
+use Rattle.std.proofs.Common.{◌≡◌, ◌≢◌, ℕ, zero, suc, ◌<◌, ◌≤◌, ◌⊎◌, inl, inr, ℤ, pos, negsuc, Bool, true, false, List, [], ◌∷◌, ◌++◌, length, set, Option, Some, None, refl, sym, ap, ◌∙◌, subst, arith}
 use Rattle.std.specs.Prelude.{◌==◌, slice_get, IfSome}
 use Rattle.std.proofs.lemmas.Bool.{cases_eq, cases_lt, eq-eqb, ne_eqb, or_left}
 use Rattle.std.proofs.lemmas.List.{length-replicate}
-use Rattle.rb_history.specs.declared.entries.Entry.{Entry}
 use Rattle.rb_history.specs.declared.entries.Entry.TheVariants.{Res, Full, Sub, Dis}
-use Rattle.rb_history.specs.History.{is_submit, is_discard}
-use Rattle.rb_history.specs.Legal.{IsLegal}
-use Rattle.rb_history.specs.Calls.{IsBusy, Logs}
+use Rattle.rb_history.specs.Calls.{IsBusy}
 use Rattle.rb_history.specs.ReservationModel.{Granted}
 use Rattle.rb_history.specs.RingModel.{Ring}
-use Rattle.rb_history.proofs.Laws.{legal-front}
-use Rattle.rb_ledger.specs.Roles.{Book, book_of}
 use Rattle.rb_ledger.specs.Seats.{WorkerSeat}
-use Rattle.rb_ledger.specs.Roles.Role.{Worker}
-use Rattle.rb_chapter_ledger.specs.ChapteredRing.{ChapteredRing, whole_of}
-use Rattle.rb_chapter_ledger.specs.LockedChapterCalls.{LockedChapterCall}
-use Rattle.rb_hands.proofs.BusyEntries.{busy-after, no-more, other-place, new-busy}
-use Rattle.rb_hand_ledger.proofs.NoStranger.{own-busy-is-seen}
+use Rattle.rb_chapter_ledger.specs.ChapteredRing.{whole_of}
+use Rattle.rb_hands.proofs.BusyEntries.{no-more, other-place, new-busy}
+use Rattle.rb_hand_ledger.specs.NoStranger.{IsHeld}
+use Rattle.rb_hand_ledger.proofs.HeldRecords.{busy-there, seen-then, left-then, after-entry, after-none, after-output, point-legal, left-legal}
 use Rattle.rb_helpers.specs.AnsweredCalls.{Reserved, Submitted, Discarded, SentOut, Queried}
 use Rattle.rb_seats.specs.declared.seat_record.SeatRecord.{SeatRecord}
 use Rattle.rb_seats.specs.SeatCalls.{AtSeat, SeatQueries, SeatIsGranted, SeatIsRefused, SeatSubmits, SeatDiscards, SeatOutputs, ReserveAnswered, RecordAnswered, OutputAnswered}
 use Rattle.rb_seats.specs.SeatHelpers.{AtSeats, CallsHelpers}
-use Rattle.rb_seats.specs.KeptRecords.{HoldsRecord, IsKept, record_name}
+use Rattle.rb_seats.specs.KeptRecords.{IsKept, record_name}
+
+-- the seat's worker holds the record
+abbrev Holds : WorkerSeat → Granted → Type 0
+Holds seat r = IsHeld seat.worker seat.seen r
 
 -- ---- one seat of many
 
@@ -46,36 +44,6 @@ some-below [] i x at = absurd (cc)
 some-below (y ∷ xs) zero x at = omega arith
 some-below (y ∷ xs) (suc i) x at = let below = some-below xs i x at in omega (arith, below)
 
--- ---- a call of the ring, by one seat
-
-module _ (b a : WorkerSeat) (Call : ChapteredRing → ChapteredRing → Type 0) (call : LockedChapterCall (Worker b.worker) b.seen a.seen Call) where
-  -- what is busy by what the seat has seen is busy where the call is made
-  busy-there : (w p k n : ℕ) → w ≡ b.worker → IsBusy b.seen.history p w k n → IsBusy (whole_of call.point).history p w k n
-  busy-there w p k n own busy =
-      subst (λ v. IsBusy (whole_of call.point).history p v k n) (sym own)
-      ((own-busy-is-seen b.worker b.seen (book_of (whole_of call.point)) call.goes_on p k n).0 (subst (λ v. IsBusy b.seen.history p v k n) own busy))
-
-  -- and what is busy once it was made is so by what the seat has seen then
-  seen-then : (w p k n : ℕ) → IsBusy (whole_of call.left).history p w k n → IsBusy a.seen.history p w k n
-  seen-then w p k n = subst (λ (s : Book). IsBusy s.history p w k n) (sym call.seen)
-
-  left-then : (w p k n : ℕ) → IsBusy a.seen.history p w k n → IsBusy (whole_of call.left).history p w k n
-  left-then w p k n = subst (λ (s : Book). IsBusy s.history p w k n) call.seen
-
-  -- the call added an entry, or none
-  after-entry : (e : Entry) → Logs (whole_of call.point) (whole_of call.left) (e ∷ []) → (w p k n : ℕ) → w ≡ b.worker → is_submit p e ≡ false → is_discard p e ≡ false → IsBusy b.seen.history p w k n → IsBusy a.seen.history p w k n
-  after-entry e logged w p k n own s d busy =
-      seen-then w p k n (subst (λ h. IsBusy h p w k n) (sym logged.history_is) (busy-after (whole_of call.point).history e p w k n s d (busy-there w p k n own busy)))
-
-  after-none : whole_of call.left ≡ whole_of call.point → (w p k n : ℕ) → w ≡ b.worker → IsBusy b.seen.history p w k n → IsBusy a.seen.history p w k n
-  after-none same w p k n own busy = seen-then w p k n (subst (λ (r : Ring). IsBusy r.history p w k n) (sym same) (busy-there w p k n own busy))
-
-  point-legal : IsLegal (whole_of call.point).setup (whole_of call.point).history
-  point-legal = call.was_ring.is_ring.legal
-
-  left-legal : (es : List Entry) → Logs (whole_of call.point) (whole_of call.left) es → IsLegal (whole_of call.point).setup ((whole_of call.point).history ++ es)
-  left-legal es logged = subst (λ s. IsLegal s ((whole_of call.point).history ++ es)) logged.setup_same (subst (IsLegal (whole_of call.left).setup) logged.history_is call.is_ring.is_ring.legal)
-
 -- ---- what a call leaves of one seat's records
 
 -- it is the same worker's, and each record at such a position stays busy
@@ -90,38 +58,24 @@ nothing-done : (At : ℕ → Type 0) (b a : WorkerSeat) → a ≡ b → StaysBus
 nothing-done At b a same = record { worker_same = ap (λ (s : WorkerSeat). s.worker) same; still = λ w p k n own at busy. subst (λ (s : WorkerSeat). IsBusy s.seen.history p w k n) (sym same) busy }
 
 queried : (what answer : ℕ) (b a : WorkerSeat) → SeatQueries what answer b a → StaysBusy Anywhere b a
-queried what answer b a did = record { worker_same = ap (λ (s : WorkerSeat). s.worker) did.1; still = λ w p k n own at. after-none b a _ did.0 did.0.called.1.0 w p k n own }
+queried what answer b a did = record { worker_same = ap (λ (s : WorkerSeat). s.worker) did.1; still = λ w p k n own at. after-none b.worker b.seen a.seen _ did.0 did.0.called.1.0 w p k n own }
 
 refused : (n unlogged : ℕ) (b a : WorkerSeat) → SeatIsRefused n unlogged b a → StaysBusy Anywhere b a
-refused n unlogged b a (inl full) = record { worker_same = ap (λ (s : WorkerSeat). s.worker) full.0.1; still = λ w p k m own at. after-entry b a _ full.0.0 (Full b.worker n) full.0.0.called.1.logged w p k m own refl refl }
-refused n unlogged b a (inr (inl full)) = record { worker_same = ap (λ (s : WorkerSeat). s.worker) full.0.1; still = λ w p k m own at. after-none b a _ full.0.0 full.0.0.called.1 w p k m own }
+refused n unlogged b a (inl full) = record { worker_same = ap (λ (s : WorkerSeat). s.worker) full.0.1; still = λ w p k m own at. after-entry b.worker b.seen a.seen _ full.0.0 (Full b.worker n) full.0.0.called.1.logged w p k m own refl refl }
+refused n unlogged b a (inr (inl full)) = record { worker_same = ap (λ (s : WorkerSeat). s.worker) full.0.1; still = λ w p k m own at. after-none b.worker b.seen a.seen _ full.0.0 full.0.0.called.1 w p k m own }
 refused n unlogged b a (inr (inr none)) = nothing-done Anywhere b a none.0
 
 granted : (n : ℕ) (r : Granted) (b a : WorkerSeat) → SeatIsGranted n r b a → StaysBusy Anywhere b a
 granted n r b a did = record {
   worker_same = ap (λ (s : WorkerSeat). s.worker) did.2;
-  still = λ w p k m own at. after-entry b a _ did.0 (Res b.worker r.serial n r.pos) did.0.called.1.0.logged w p k m own refl refl;
+  still = λ w p k m own at. after-entry b.worker b.seen a.seen _ did.0 (Res b.worker r.serial n r.pos) did.0.called.1.0.logged w p k m own refl refl;
 }
 
 sent : (bytes : List ℕ) (flags : ℕ) (due : Bool) (b a : WorkerSeat) → SeatOutputs bytes flags due b a → StaysBusy Anywhere b a
-sent bytes flags due b a did = record { worker_same = ap (λ (s : WorkerSeat). s.worker) did.called.1.1; still = λ w q k m own at busy. later w q k m own busy }
-  where
-    later : (w q k m : ℕ) → w ≡ b.worker → IsBusy b.seen.history q w k m → IsBusy a.seen.history q w k m
-    later w q k m own busy =
-        let h = (whole_of did.point).history in
-        let logged = did.called.1.0.0.logged in
-        let was = busy-there b a _ did w q k m own busy in
-        by_entries h _ _ _ _ (point-legal b a _ did) (left-legal b a _ did _ logged) was logged.history_is
-      where
-        by_entries : (h : List Entry) (v j l p : ℕ) → IsLegal (whole_of did.point).setup h → IsLegal (whole_of did.point).setup (h ++ Res v j l p ∷ Sub p ∷ []) → IsBusy h q w k m
-            → (whole_of did.left).history ≡ h ++ Res v j l p ∷ Sub p ∷ [] → IsBusy a.seen.history q w k m
-        by_entries h v j l p legal longer was is =
-            let mid = h ++ Res v j l p ∷ [] in
-            let same : mid ++ Sub p ∷ [] ≡ h ++ Res v j l p ∷ Sub p ∷ [] = append_assoc h (Res v j l p ∷ []) (Sub p ∷ []) in
-            let mid_legal = legal-front (whole_of did.point).setup mid (Sub p ∷ []) (subst (IsLegal (whole_of did.point).setup) (sym same) longer) in
-            let apart = other-place (whole_of did.point).setup h legal v j l p mid_legal q w k m was in
-            let still = busy-after mid (Sub p) q w k m (ne_eqb p q (λ e. apart (sym e))) refl (busy-after h (Res v j l p) q w k m refl refl was) in
-            seen-then b a _ did w q k m (subst (λ x. IsBusy x q w k m) (same ∙ sym is) still)
+sent bytes flags due b a did = record {
+  worker_same = ap (λ (s : WorkerSeat). s.worker) did.called.1.1;
+  still = λ w p k n own at. after-output b.worker b.seen a.seen _ did _ _ _ _ did.called.1.0.0.logged w p k n own;
+}
 
 abbrev ButAt : ℕ → ℕ → Type 0
 ButAt q p = p ≢ q
@@ -129,71 +83,71 @@ ButAt q p = p ≢ q
 submitted : (r : Granted) (flags : ℕ) (taken due : Bool) (b a : WorkerSeat) → (r.worker ≡ b.worker) ⊎ (r.worker ≢ b.worker) → SeatSubmits r flags taken due b a → StaysBusy (ButAt r.pos) b a
 submitted r flags true due b a (inl own) did = record {
   worker_same = ap (λ (s : WorkerSeat). s.worker) did.3;
-  still = λ w p k n mine at. after-entry b a _ (did.0 own) (Sub r.pos) (did.0 own).called.1.0.logged w p k n mine (ne_eqb r.pos p (λ e. at (sym e))) refl;
+  still = λ w p k n mine at. after-entry b.worker b.seen a.seen _ (did.0 own) (Sub r.pos) (did.0 own).called.1.0.logged w p k n mine (ne_eqb r.pos p (λ e. at (sym e))) refl;
 }
-submitted r flags false due b a (inl own) did = record { worker_same = ap (λ (s : WorkerSeat). s.worker) did.3; still = λ w p k n mine at. after-none b a _ (did.0 own) (did.0 own).called.1.same w p k n mine }
+submitted r flags false due b a (inl own) did = record { worker_same = ap (λ (s : WorkerSeat). s.worker) did.3; still = λ w p k n mine at. after-none b.worker b.seen a.seen _ (did.0 own) (did.0 own).called.1.same w p k n mine }
 submitted r flags taken due b a (inr other) did = nothing-done (ButAt r.pos) b a (did.1 other).1
 
 discarded : (r : Granted) (flags : ℕ) (taken due : Bool) (b a : WorkerSeat) → (r.worker ≡ b.worker) ⊎ (r.worker ≢ b.worker) → SeatDiscards r flags taken due b a → StaysBusy (ButAt r.pos) b a
 discarded r flags true due b a (inl own) did = record {
   worker_same = ap (λ (s : WorkerSeat). s.worker) did.3;
-  still = λ w p k n mine at. after-entry b a _ (did.0 own) (Dis r.pos) (did.0 own).called.1.0.logged w p k n mine refl (ne_eqb r.pos p (λ e. at (sym e)));
+  still = λ w p k n mine at. after-entry b.worker b.seen a.seen _ (did.0 own) (Dis r.pos) (did.0 own).called.1.0.logged w p k n mine refl (ne_eqb r.pos p (λ e. at (sym e)));
 }
-discarded r flags false due b a (inl own) did = record { worker_same = ap (λ (s : WorkerSeat). s.worker) did.3; still = λ w p k n mine at. after-none b a _ (did.0 own) (did.0 own).called.1.same w p k n mine }
+discarded r flags false due b a (inl own) did = record { worker_same = ap (λ (s : WorkerSeat). s.worker) did.3; still = λ w p k n mine at. after-none b.worker b.seen a.seen _ (did.0 own) (did.0 own).called.1.same w p k n mine }
 discarded r flags taken due b a (inr other) did = nothing-done (ButAt r.pos) b a (did.1 other).1
 
 -- ---- a record that the seat holds is taken, and then it holds it no more
 
-submit-taken : (r : Granted) (flags : ℕ) (taken due : Bool) (b a : WorkerSeat) → HoldsRecord b r → SeatSubmits r flags taken due b a → taken ≡ true
+submit-taken : (r : Granted) (flags : ℕ) (taken due : Bool) (b a : WorkerSeat) → Holds b r → SeatSubmits r flags taken due b a → taken ≡ true
 submit-taken r flags true due b a holds did = refl
-submit-taken r flags false due b a holds did = absurd ((did.0 holds.worker_is).called.1.not_busy (busy-there b a _ (did.0 holds.worker_is) r.worker r.pos r.serial (length r.bytes) holds.worker_is holds.busy))
+submit-taken r flags false due b a holds did = absurd ((did.0 holds.worker_is).called.1.not_busy (busy-there b.worker b.seen a.seen _ (did.0 holds.worker_is) r.worker r.pos r.serial (length r.bytes) holds.worker_is holds.busy))
 
-discard-taken : (r : Granted) (flags : ℕ) (taken due : Bool) (b a : WorkerSeat) → HoldsRecord b r → SeatDiscards r flags taken due b a → taken ≡ true
+discard-taken : (r : Granted) (flags : ℕ) (taken due : Bool) (b a : WorkerSeat) → Holds b r → SeatDiscards r flags taken due b a → taken ≡ true
 discard-taken r flags true due b a holds did = refl
-discard-taken r flags false due b a holds did = absurd ((did.0 holds.worker_is).called.1.not_busy (busy-there b a _ (did.0 holds.worker_is) r.worker r.pos r.serial (length r.bytes) holds.worker_is holds.busy))
+discard-taken r flags false due b a holds did = absurd ((did.0 holds.worker_is).called.1.not_busy (busy-there b.worker b.seen a.seen _ (did.0 holds.worker_is) r.worker r.pos r.serial (length r.bytes) holds.worker_is holds.busy))
 
-submit-let-go : (r : Granted) (flags : ℕ) (taken due : Bool) (b a : WorkerSeat) → (r.worker ≡ b.worker) ⊎ (r.worker ≢ b.worker) → SeatSubmits r flags taken due b a → HoldsRecord a r → ⊥
+submit-let-go : (r : Granted) (flags : ℕ) (taken due : Bool) (b a : WorkerSeat) → (r.worker ≡ b.worker) ⊎ (r.worker ≢ b.worker) → SeatSubmits r flags taken due b a → Holds a r → ⊥
 submit-let-go r flags true due b a (inl own) did holds =
     let call = did.0 own in
     no-more (whole_of call.point).history (Sub r.pos) r.pos r.worker r.serial (length r.bytes) (or_left (r.pos == r.pos) false (eq-eqb r.pos r.pos refl))
-    (subst (λ h. IsBusy h r.pos r.worker r.serial (length r.bytes)) call.called.1.0.logged.history_is (left-then b a _ call r.worker r.pos r.serial (length r.bytes) holds.busy))
+    (subst (λ h. IsBusy h r.pos r.worker r.serial (length r.bytes)) call.called.1.0.logged.history_is (left-then b.worker b.seen a.seen _ call r.worker r.pos r.serial (length r.bytes) holds.busy))
 submit-let-go r flags false due b a (inl own) did holds =
     let call = did.0 own in
-    call.called.1.not_busy (subst (λ (v : Ring). IsBusy v.history r.pos r.worker r.serial (length r.bytes)) call.called.1.same (left-then b a _ call r.worker r.pos r.serial (length r.bytes) holds.busy))
+    call.called.1.not_busy (subst (λ (v : Ring). IsBusy v.history r.pos r.worker r.serial (length r.bytes)) call.called.1.same (left-then b.worker b.seen a.seen _ call r.worker r.pos r.serial (length r.bytes) holds.busy))
 submit-let-go r flags taken due b a (inr other) did holds = other (holds.worker_is ∙ ap (λ (s : WorkerSeat). s.worker) (did.1 other).1)
 
-discard-let-go : (r : Granted) (flags : ℕ) (taken due : Bool) (b a : WorkerSeat) → (r.worker ≡ b.worker) ⊎ (r.worker ≢ b.worker) → SeatDiscards r flags taken due b a → HoldsRecord a r → ⊥
+discard-let-go : (r : Granted) (flags : ℕ) (taken due : Bool) (b a : WorkerSeat) → (r.worker ≡ b.worker) ⊎ (r.worker ≢ b.worker) → SeatDiscards r flags taken due b a → Holds a r → ⊥
 discard-let-go r flags true due b a (inl own) did holds =
     let call = did.0 own in
     no-more (whole_of call.point).history (Dis r.pos) r.pos r.worker r.serial (length r.bytes) (eq-eqb r.pos r.pos refl)
-    (subst (λ h. IsBusy h r.pos r.worker r.serial (length r.bytes)) call.called.1.0.logged.history_is (left-then b a _ call r.worker r.pos r.serial (length r.bytes) holds.busy))
+    (subst (λ h. IsBusy h r.pos r.worker r.serial (length r.bytes)) call.called.1.0.logged.history_is (left-then b.worker b.seen a.seen _ call r.worker r.pos r.serial (length r.bytes) holds.busy))
 discard-let-go r flags false due b a (inl own) did holds =
     let call = did.0 own in
-    call.called.1.not_busy (subst (λ (v : Ring). IsBusy v.history r.pos r.worker r.serial (length r.bytes)) call.called.1.same (left-then b a _ call r.worker r.pos r.serial (length r.bytes) holds.busy))
+    call.called.1.not_busy (subst (λ (v : Ring). IsBusy v.history r.pos r.worker r.serial (length r.bytes)) call.called.1.same (left-then b.worker b.seen a.seen _ call r.worker r.pos r.serial (length r.bytes) holds.busy))
 discard-let-go r flags taken due b a (inr other) did holds = other (holds.worker_is ∙ ap (λ (s : WorkerSeat). s.worker) (did.1 other).1)
 
 -- ---- a granted record
 
-grant-held : (n : ℕ) (r : Granted) (b a : WorkerSeat) → SeatIsGranted n r b a → HoldsRecord a r
+grant-held : (n : ℕ) (r : Granted) (b a : WorkerSeat) → SeatIsGranted n r b a → Holds a r
 grant-held n r b a did =
     let call = did.0 in
     let logged = call.called.1.0.logged in
     let own : r.worker ≡ b.worker = call.called.1.1 in
     let long : n ≡ length r.bytes = sym (ap length call.called.1.2 ∙ length-replicate n 0) in
-    let busy = new-busy (whole_of call.point).setup (whole_of call.point).history (point-legal b a _ call) b.worker r.serial n r.pos (left-legal b a _ call (Res b.worker r.serial n r.pos ∷ []) logged) in
+    let busy = new-busy (whole_of call.point).setup (whole_of call.point).history (point-legal b.worker b.seen a.seen _ call) b.worker r.serial n r.pos (left-legal b.worker b.seen a.seen _ call (Res b.worker r.serial n r.pos ∷ []) logged) in
     record {
       worker_is = own ∙ sym (ap (λ (s : WorkerSeat). s.worker) did.2);
-      busy = seen-then b a _ call r.worker r.pos r.serial (length r.bytes)
+      busy = seen-then b.worker b.seen a.seen _ call r.worker r.pos r.serial (length r.bytes)
           (subst (λ h. IsBusy h r.pos r.worker r.serial (length r.bytes)) (sym logged.history_is)
           (subst (λ w. IsBusy ((whole_of call.point).history ++ Res b.worker r.serial n r.pos ∷ []) r.pos w r.serial (length r.bytes)) (sym own)
           (subst (λ l. IsBusy ((whole_of call.point).history ++ Res b.worker r.serial n r.pos ∷ []) r.pos b.worker r.serial l) long busy)));
     }
 
-grant-apart : (n : ℕ) (r s : Granted) (b a : WorkerSeat) → SeatIsGranted n r b a → HoldsRecord b s → s.pos ≢ r.pos
+grant-apart : (n : ℕ) (r s : Granted) (b a : WorkerSeat) → SeatIsGranted n r b a → Holds b s → s.pos ≢ r.pos
 grant-apart n r s b a did holds =
     let call = did.0 in
-    other-place (whole_of call.point).setup (whole_of call.point).history (point-legal b a _ call) b.worker r.serial n r.pos (left-legal b a _ call (Res b.worker r.serial n r.pos ∷ []) call.called.1.0.logged)
-    s.pos s.worker s.serial (length s.bytes) (busy-there b a _ call s.worker s.pos s.serial (length s.bytes) holds.worker_is holds.busy)
+    other-place (whole_of call.point).setup (whole_of call.point).history (point-legal b.worker b.seen a.seen _ call) b.worker r.serial n r.pos (left-legal b.worker b.seen a.seen _ call (Res b.worker r.serial n r.pos ∷ []) call.called.1.0.logged)
+    s.pos s.worker s.serial (length s.bytes) (busy-there b.worker b.seen a.seen _ call s.worker s.pos s.serial (length s.bytes) holds.worker_is holds.busy)
 
 -- ---- all seats
 
@@ -252,7 +206,7 @@ module _ (old new : AtSeats) where
         },
         λ s kept same.
             let ring_same : s.ring ≡ ring = ap (λ (x : ℕ × ℕ). x.0) same ∙ led.2 in
-            let holds = subst (λ (x : WorkerSeat). HoldsRecord x s.reservation) (was (SeatIsGranted n r.reservation) ring at s kept ring_same) kept.holds in
+            let holds = subst (λ (x : WorkerSeat). Holds x s.reservation) (was (SeatIsGranted n r.reservation) ring at s kept ring_same) kept.holds in
             grant-apart n r.reservation s.reservation at.before at.after at.did holds (ap (λ (x : ℕ × ℕ). x.1) same),
       )
 
@@ -277,8 +231,8 @@ module _ (old new : AtSeats) where
     | inr beyond ↦ same-seats (led.no_ring beyond).2 s kept
   ]
 
-  kept-holds : (Did : WorkerSeat → WorkerSeat → Type 0) (owned : SeatRecord) (kept : IsKept old owned) (at : AtSeat owned.ring Did old.seats new.seats) → HoldsRecord at.before owned.reservation
-  kept-holds Did owned kept at = subst (λ (x : WorkerSeat). HoldsRecord x owned.reservation) (was Did owned.ring at owned kept refl) kept.holds
+  kept-holds : (Did : WorkerSeat → WorkerSeat → Type 0) (owned : SeatRecord) (kept : IsKept old owned) (at : AtSeat owned.ring Did old.seats new.seats) → Holds at.before owned.reservation
+  kept-holds Did owned kept at = subst (λ (x : WorkerSeat). Holds x owned.reservation) (was Did owned.ring at owned kept refl) kept.holds
 
   submit-never-back : (owned : SeatRecord) (flags : ℕ) (taken due : Bool) → RecordAnswered owned.ring taken due (SeatSubmits owned.reservation flags taken due) old.seats new.seats → IsKept old owned → taken ≡ true
   submit-never-back owned flags taken due led kept =
@@ -299,7 +253,7 @@ module _ (old new : AtSeats) where
     | inl below ↦
         let at = led.at_ring below in
         submit-let-go owned.reservation flags taken due at.before at.after (cases_eq owned.reservation.worker at.before.worker) at.did
-        (subst (λ (x : WorkerSeat). HoldsRecord x owned.reservation) (now (SeatSubmits owned.reservation flags taken due) owned.ring at owned kept refl) kept.holds)
+        (subst (λ (x : WorkerSeat). Holds x owned.reservation) (now (SeatSubmits owned.reservation flags taken due) owned.ring at owned kept refl) kept.holds)
     | inr beyond ↦ ring-there owned (led.no_ring beyond).2 beyond kept
   ]
 
@@ -308,7 +262,7 @@ module _ (old new : AtSeats) where
     | inl below ↦
         let at = led.at_ring below in
         discard-let-go owned.reservation flags taken due at.before at.after (cases_eq owned.reservation.worker at.before.worker) at.did
-        (subst (λ (x : WorkerSeat). HoldsRecord x owned.reservation) (now (SeatDiscards owned.reservation flags taken due) owned.ring at owned kept refl) kept.holds)
+        (subst (λ (x : WorkerSeat). Holds x owned.reservation) (now (SeatDiscards owned.reservation flags taken due) owned.ring at owned kept refl) kept.holds)
     | inr beyond ↦ ring-there owned (led.no_ring beyond).2 beyond kept
   ]
 

@@ -1,8 +1,8 @@
 //! What a consumer has seen of its ring's records.
 
 use crate::bytes::are_right;
-use rb_consumer::{Event, Item};
 use rb_header::span;
+use rb_tape::{Event, Item};
 use std::alloc::{AllocError, Global};
 
 // What was seen of a worker's records.

@@ -5,6 +5,7 @@ use Rattle.std.specs.Int.{w32, to_le_bytes}
 use Rattle.rb_header.specs.Span.{span}
 use Rattle.rb_header.specs.TapeBytes.{IsItemAt, AreItemsFrom, end_of}
 use Rattle.rb_header.specs.TapeBytes.Item.{Event}
+use Rattle.rb_header.proofs.HeaderBytes.{halves}
 use Rattle.rb_header.proofs.Laws.{same_first_word, end_of-nil, end_of-cons}
 use Rattle.rb_tape_commands.specs.Input.{framed, framed_all, events_from, Ending, Follows, InputIs}
 use Rattle.rb_tape_commands.specs.Input.Ending.{Whole, Unfit, Cut}
@@ -13,16 +14,6 @@ use Rattle.rb_tape_commands.specs.Input.Ending.{Whole, Unfit, Cut}
 
 regroup : (payload rest : List ℕ) → framed payload ++ rest ≡ to_le_bytes w32 (length payload) ++ (payload ++ rest)
 regroup payload rest = append_assoc (to_le_bytes w32 (length payload)) payload rest
-
-halves : (a b c d : List ℕ) → length a ≡ length c → a ++ b ≡ c ++ d → (a ≡ c) × (b ≡ d)
-halves [] b [] d l e = (refl, e)
-halves [] b (y ∷ c) d l e = absurd (omega arith)
-halves (x ∷ a) b [] d l e = absurd (omega arith)
-halves (x ∷ a) b (y ∷ c) d l e =
-    let tails : a ++ b ≡ c ++ d = cc in
-    let heads : x ≡ y = cc in
-    let more = halves a b c d (omega arith) tails in
-    (let t = more.0 in cc, more.1)
 
 same_payload : (p q xs ys : List ℕ) → length p < 2 ^ 32 → length q < 2 ^ 32 → framed p ++ xs ≡ framed q ++ ys → (p ≡ q) × (xs ≡ ys)
 same_payload p q xs ys hp hq e =

@@ -18,9 +18,9 @@ use crate::retries::{hand_out_with_retries, put_with_retries};
 use crate::transfer::transfer_payload;
 use rb_chapter::Chapter;
 use rb_chapter_ring::{OpenFault, RingState};
-use rb_consumer::{Event, Item, TapeWriter};
 use rb_io::Outgoing;
 use rb_lend::{Lent, Sheet};
+use rb_tape::{Event, Item, TapeWriter};
 use std::alloc::Global;
 use std::io::{BufRead, Write};
 

@@ -3,10 +3,10 @@
 ghost use Rattle.std.specs.Prelude.{◌≡◌, ◌<◌, ◌≤◌, ◌+◌, [], false, not, is_ok, if◌then◌else◌, take, OnOk, OnErr};
 ghost use Rattle.std.specs.Io.KnownBytes.{Appends, Keeps};
 ghost use Rattle.rb_header.specs.TapeBytes.{item_bytes, item_span, IsItemAt};
-ghost use Rattle.rb_consumer.specs.Items.{item_of};
+ghost use Rattle.rb_tape.specs.Items.{item_of};
 
-use rb_consumer::{Item, TapeWriter};
 use rb_io::{DeviceFault, Outgoing};
+use rb_tape::{Item, TapeWriter};
 use std::io::Write;
 
 /// Writes the record as `TapeWriter::put` does, and has its rest written again after each write that failed, as long as there are

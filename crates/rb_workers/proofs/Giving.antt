@@ -6,7 +6,7 @@ use Rattle.rb_header.specs.TapeBytes.Item.{Event as TapeEvent, Skip as TapeSkip}
 use Rattle.rb_header.proofs.Laws.{end_of-nil, end_of-cons}
 use Rattle.rb_history.specs.declared.answers.Taken.{Taken}
 use Rattle.rb_history.specs.declared.answers.Taken.TheVariants.{Event as TakenEvent, Skipped}
-use Rattle.rb_consumer.specs.Items.{tape_items}
+use Rattle.rb_tape.specs.Items.{tape_items}
 use Rattle.rb_workers.specs.Sink.{SinkItem, TakesAll}
 use Rattle.rb_workers.specs.Sink.SinkItem.{Event, Skip}
 use Rattle.rb_workers.specs.inner.ConsumerTasks.{items_among}

@@ -2,16 +2,17 @@
 
 ghost use Rattle.std.specs.Prelude.{◌≡◌, ℕ};
 ghost use Rattle.rb_header.specs.TapeBytes.{AreItemsFrom, end_of};
-ghost use Rattle.rb_consumer.specs.Items.{tape_items};
+ghost use Rattle.rb_tape.specs.Items.{tape_items};
 ghost use Rattle.rb_workers.specs.Opened.{IsKeeperFor};
 ghost use Rattle.rb_workers.specs.Sink.{TakesAll};
 ghost use Rattle.rb_workers.specs.inner.ConsumerTasks.{IsConsumerTaskOf, IsSameConsumer, Consumed, HasGiven, items_among};
 
 use crate::pace::Pace;
 use crate::sink::Sink;
-use rb_consumer::{Batch, Item, Items, Keeper};
+use rb_consumer::{Batch, Keeper};
 use rb_seats::Stock;
 use rb_shared_ring::{ConsumerSeat, Foreign, Seat, SharedRing};
+use rb_tape::{Item, Items};
 use std::sync::Wait;
 use std::sync::atomic::{AtomicBool, Ordering};
 

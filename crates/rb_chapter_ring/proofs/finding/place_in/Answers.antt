@@ -1,5 +1,6 @@
 use Rattle.std.proofs.Common.{◌/◌, ◌<◌, ap, subst, sym}
-use Rattle.rb_chapter_ring.proofs.Places.{mask-is, place-lt}
+use Rattle.rb_header.proofs.Masks.{mask-is}
+use Rattle.rb_chapter_ring.proofs.Places.{place-lt}
 use Rattle.rb_chapter_ring.proofs.finding.place_in.Goals as goal
 
 pub returns-clause-value : goal.returns-clause-value

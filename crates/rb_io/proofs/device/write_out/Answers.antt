@@ -4,13 +4,11 @@ use Rattle.std.specs.Io.KnownBytes.{Appends}
 use Rattle.std.proofs.KnownBytes.{Appends-trans}
 use Rattle.rb_io.proofs.device.write_out.Goals as goal
 
-pub loop-sent-preserved : goal.loop-sent-preserved
-loop-sent-preserved g c =
-    let sent = c.loop-sent.sent in
-    let n = c.in-Ok.n in
+pub returns-clause-bytes : goal.returns-clause-bytes
+returns-clause-bytes g c =
+    let sent = c.in-Ok.sent in
+    let rest = c.write_in_parts in
     let all = c.args.piece.now in
-    let before = c.loop-sent.invariant in
-    let fits = c.in-Ok.ensures.bound in
     let most = length-take (length all - sent) (drop sent all) in
-    let joined = ap (λ l. take sent all ++ l) (take-take n (length all - sent) (drop sent all) (omega arith)) ∙ sym (take-add sent n all) in
-    record { within = omega arith; bytes = subst (Appends _ _) joined (Appends-trans _ _ _ _ _ before.bytes c.in-Ok.ensures.bytes) }
+    let joined = ap (λ l. take sent all ++ l) (take-take rest.result (length all - sent) (drop sent all) (omega (arith, rest.ensures.bound, most))) ∙ sym (take-add sent rest.result all) in
+    subst (Appends _ _) joined (Appends-trans _ _ _ _ _ c.in-Ok.ensures.bytes rest.ensures.bytes)

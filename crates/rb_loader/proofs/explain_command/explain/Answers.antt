@@ -1,5 +1,4 @@
 use Rattle.std.proofs.Common.{◌∙◌}
-use Rattle.rb_loader.specs.Explained.{ExplainsRefusal}
 use Rattle.rb_loader.proofs.Explaining.{accepted_of, refusal_of}
 use Rattle.rb_loader.proofs.InputText.{holds_of_input}
 use Rattle.rb_loader.proofs.explain_command.explain.Goals as goal

@@ -13,7 +13,7 @@ begins c = begins_bytes c.args.bytes.now c.in-Ok.header c.in-Ok.ensures.found.0.
 header_at : (c : goal.Then-not-is_zero-2) → IsHeaderAt c.args.size c.args.position c.in-Ok.header
 header_at c = record {
   taken = c.if-header.false;
-  page = sym c.from.ensures ∙ c.if-from-page_at.false ∙ c.page_at.ensures.page;
+  page = sym c.from.ensures ∙ c.if-from-page_of.false ∙ c.page_of.ensures.value;
   fits = (omega arith, omega arith);
 }
 

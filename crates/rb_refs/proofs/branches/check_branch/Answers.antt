@@ -10,8 +10,8 @@ returns-in-JumpsIfNull-clause-effect c =
     let id = c.in-Some-Perhaps.id in
     let test : c.args.test ≡ Some JumpsIfNull = search rules in
     let dst : c.args.dst ≡ Perhaps id = search rules in
-    let there : c.in_ok-there.there ≡ there_state id c.args.state.now = c.in_ok-there.ensures in
-    let null : c.in_ok-null.null ≡ null_state id c.args.state.now = c.in_ok-null.ensures in
+    let there : c.in_ok-there.there ≡ there_state id c.args.state.now = c.in_ok-there.ensures.changed in
+    let null : c.in_ok-null.null ≡ null_state id c.args.state.now = c.in_ok-null.ensures.changed in
     ap (λ t. check_branch t c.args.dst c.args.operand c.args.state.now) test ∙ ap (λ v. check_branch (Some JumpsIfNull) v c.args.operand c.args.state.now) dst
     ∙ ap (λ s. Ok (record { next = s; jump = null_state id c.args.state.now })) (sym there) ∙ ap (λ s. Ok (record { next = c.in_ok-there.there; jump = s })) (sym null)
 
@@ -20,7 +20,7 @@ returns-in-JumpsIfThere-clause-effect c =
     let id = c.in-Some-Perhaps.id in
     let test : c.args.test ≡ Some JumpsIfThere = search rules in
     let dst : c.args.dst ≡ Perhaps id = search rules in
-    let there : c.in_ok-there.there ≡ there_state id c.args.state.now = c.in_ok-there.ensures in
-    let null : c.in_ok-null.null ≡ null_state id c.args.state.now = c.in_ok-null.ensures in
+    let there : c.in_ok-there.there ≡ there_state id c.args.state.now = c.in_ok-there.ensures.changed in
+    let null : c.in_ok-null.null ≡ null_state id c.args.state.now = c.in_ok-null.ensures.changed in
     ap (λ t. check_branch t c.args.dst c.args.operand c.args.state.now) test ∙ ap (λ v. check_branch (Some JumpsIfThere) v c.args.operand c.args.state.now) dst
     ∙ ap (λ s. Ok (record { next = null_state id c.args.state.now; jump = s })) (sym there) ∙ ap (λ s. Ok (record { next = s; jump = c.in_ok-there.there })) (sym null)

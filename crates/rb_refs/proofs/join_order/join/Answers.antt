@@ -11,11 +11,11 @@ loop-i-preserved c = record {
   left = λ r k. let ne : r ≢ c.loop-i.i = omega arith in get_or-set_other c.loop-i.values c.loop-i.i r c.join_value.result Unreadable ne ∙ c.loop-i.invariant.left r (omega arith);
 }
 
-pub returns : goal.returns
-returns c =
+pub returns-clause-joined : goal.returns-clause-joined
+returns-clause-joined c =
     let same : c.args.left.now.held ≡ c.args.right.now.held = search rules in
     let left : length c.args.left.now.values ≡ 11 = omega arith in
     let right : length c.args.right.now.values ≡ 11 = omega arith in
     join_by_values c.args.left.now c.args.right.now _ same c.copy.ensures (left ∙ sym right) (c.loop-i.invariant.count ∙ sym left)
     (everywhere IsJoinValue c.args.left.now.values c.args.right.now.values c.loop-i.values unreadable_join left right c.loop-i.invariant.count (λ r k. c.loop-i.invariant.joined r (omega arith)))
-    c.in_ok-places.ensures
+    c.in_ok-places.ensures.joined

@@ -1,6 +1,6 @@
 use Rattle.std.proofs.Common.{◌+◌, ◌∙◌, sym, ap, not, arith, if◌then◌else◌}
 use Rattle.rb_header.specs.TapeBytes.{item_bytes, item_span}
-use Rattle.rb_consumer.specs.Items.{item_of}
+use Rattle.rb_tape.specs.Items.{item_of}
 use Rattle.rb_tape_commands.proofs.Sending.{resumed, on_not_ok}
 use Rattle.rb_tape_commands.proofs.retries.put_with_retries.Goals as goal
 

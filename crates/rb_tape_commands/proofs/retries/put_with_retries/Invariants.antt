@@ -1,7 +1,7 @@
 use Rattle.std.proofs.Common.{◌≡◌, ◌<◌, ◌≤◌, true, take}
 use Rattle.std.specs.Io.KnownBytes.{Appends}
 use Rattle.rb_header.specs.TapeBytes.{item_bytes, item_span}
-use Rattle.rb_consumer.specs.Items.{item_of}
+use Rattle.rb_tape.specs.Items.{item_of}
 use Rattle.rb_tape_commands.proofs.retries.put_with_retries.Given as goal
 
 -- the bytes of the record that are counted went out, and some are left

@@ -1,5 +1,5 @@
 use Rattle.std.proofs.Common.{sym, subst, arith}
-use Rattle.rb_consumer.specs.Batches.{AreRecords}
+use Rattle.rb_tape.specs.Items.{AreRecords}
 use Rattle.rb_consumer.specs.inner.LastEvents.{IsLastEvent}
 use Rattle.rb_consumer.proofs.Batches.{records-remove, gives-last}
 use Rattle.rb_consumer.proofs.batch.Batch.recycle.Goals as goal

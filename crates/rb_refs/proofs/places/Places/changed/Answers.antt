@@ -1,7 +1,7 @@
 use Rattle.std.proofs.Common.{◌≡◌, ◌+◌, [], ◌∷◌, length, ◌∙◌, ap, sym, subst, arith, length-append}
 use Rattle.rb_refs.specs.KeptPointers.{known_in}
 use Rattle.rb_refs.specs.inner.ChangedValues.{place_after}
-use Rattle.rb_refs.proofs.KeptPlaces.{AreBuilt, built_more, built_list, after_change-data}
+use Rattle.rb_refs.proofs.KeptPlaces.{AreBuilt, built_more, built_list, after_change-data, data_listed, known-data}
 use Rattle.rb_refs.proofs.places.Places.changed.Goals as goal
 
 pub loop-i-preserved : goal.loop-i-preserved
@@ -11,7 +11,11 @@ loop-i-preserved c = record {
       (built_more (λ place x. x ≡ place_after c.args.change (known_in c.args.self.now place)) c.loop-i.items.items c.loop-i.i c.changed_place.result c.loop-i.invariant.count c.loop-i.invariant.built (c.changed_place.ensures ∙ ap (place_after c.args.change) c.get.ensures));
 }
 
-pub returns : goal.returns
-returns c =
+pub returns-clause-changed : goal.returns-clause-changed
+returns-clause-changed c =
     built_list (λ place. place_after c.args.change (known_in c.args.self.now place)) c.loop-i.items.items c.loop-i.i c.loop-i.invariant.count c.loop-i.invariant.built
     (λ place le past. ap (place_after c.args.change) (c.count-i-end.ensures.others place (omega arith)) ∙ after_change-data c.args.change)
+
+pub returns-then-have_data-clause-changed : goal.returns-then-have_data-clause-changed
+returns-then-have_data-clause-changed c =
+    c.data.ensures ∙ data_listed (λ place. place_after c.args.change (known_in c.args.self.now place)) (λ place. ap (place_after c.args.change) (known-data c.args.self.now (c.have_data.ensures.all c.if-have_data.true) place) ∙ after_change-data c.args.change)

@@ -12,8 +12,8 @@ loop-i-preserved c = record {
       (built_more (λ place x. IsJoinValue (known_in c.args.self.now place) (known_in c.args.other.now place) x) c.loop-i.items.items c.loop-i.i c.join_value.result c.loop-i.invariant.count c.loop-i.invariant.built (subst (λ v. IsJoinValue v (known_in c.args.other.now (63 - c.loop-i.i)) c.join_value.result) c.get.ensures (subst (λ w. IsJoinValue c.get.result w c.join_value.result) c.get-in-loop-i.ensures c.join_value.ensures)));
 }
 
-pub returns : goal.returns
-returns c =
+pub returns-clause-joined : goal.returns-clause-joined
+returns-clause-joined c =
     each_place (λ place. IsJoinValue (known_in c.args.self.now place) (known_in c.args.other.now place) (known_in (listed_places (from_last c.loop-i.items.items)) place)) 64
     (λ i lt. subst (IsJoinValue (known_in c.args.self.now (63 - i)) (known_in c.args.other.now (63 - i))) (sym (known-from_last c.loop-i.items.items (63 - i)))
     (built_all (λ place x. IsJoinValue (known_in c.args.self.now place) (known_in c.args.other.now place) x) c.loop-i.items.items c.loop-i.i c.loop-i.invariant.count c.loop-i.invariant.built

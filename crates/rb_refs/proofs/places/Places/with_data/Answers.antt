@@ -1,6 +1,6 @@
 use Rattle.std.proofs.Common.{◌≡◌, ◌+◌, [], ◌∷◌, length, ◌∙◌, ap, sym, subst, arith, length-append}
 use Rattle.rb_refs.specs.KeptPointers.{known_in, with_data}
-use Rattle.rb_refs.proofs.KeptPlaces.{AreBuilt, built_more, built_list, with_data-data}
+use Rattle.rb_refs.proofs.KeptPlaces.{AreBuilt, built_more, built_list, with_data-data, data_listed, known-data}
 use Rattle.rb_refs.proofs.places.Places.with_data.Goals as goal
 
 pub loop-i-preserved : goal.loop-i-preserved
@@ -10,7 +10,11 @@ loop-i-preserved c = record {
       (built_more (λ place x. x ≡ with_data c.args.at c.args.len (known_in c.args.self.now) place) c.loop-i.items.items c.loop-i.i c.once_stored.result c.loop-i.invariant.count c.loop-i.invariant.built c.once_stored.ensures);
 }
 
-pub returns : goal.returns
-returns c =
+pub returns-clause-stored : goal.returns-clause-stored
+returns-clause-stored c =
     built_list (with_data c.args.at c.args.len (known_in c.args.self.now)) c.loop-i.items.items c.loop-i.i c.loop-i.invariant.count c.loop-i.invariant.built
     (λ place le past. with_data-data c.args.at c.args.len (known_in c.args.self.now) place (c.count-i-end.ensures.others place (omega arith)))
+
+pub returns-then-have_data-clause-stored : goal.returns-then-have_data-clause-stored
+returns-then-have_data-clause-stored c =
+    c.data.ensures ∙ data_listed (with_data c.args.at c.args.len (known_in c.args.self.now)) (λ place. with_data-data c.args.at c.args.len (known_in c.args.self.now) place (known-data c.args.self.now (c.have_data.ensures.all c.if-have_data.true) place))

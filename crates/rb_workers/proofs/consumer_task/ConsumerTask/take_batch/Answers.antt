@@ -1,7 +1,7 @@
 use Rattle.std.proofs.Common.{◌≡◌, List, refl, ap, sym, ◌∙◌, subst}
 use Rattle.rb_header.specs.TapeBytes.{end_of}
 use Rattle.rb_history.specs.declared.answers.Taken.{Taken}
-use Rattle.rb_consumer.specs.Items.{tape_items}
+use Rattle.rb_tape.specs.Items.{tape_items}
 use Rattle.rb_workers.specs.Sink.{TakesAll}
 use Rattle.rb_workers.specs.inner.ConsumerTasks.{items_among}
 use Rattle.rb_workers.proofs.SinkItems.{many_given, same_by_many, same_on, given_on, keeper_on}

@@ -1,9 +1,0 @@
-use Rattle.std.proofs.Common.{◌≡◌, false}
-use Rattle.rb_consumer.proofs.ItemsPut.{PutSoFar}
-use Rattle.rb_consumer.proofs.tape_writer.TapeWriter.put_all.Given as goal
-
-abbrev pub invariant-loop-item : goal.invariant-loop-item
-invariant-loop-item g l = record {
-  finished : l.self.unfinished ≡ false;
-  so_far : PutSoFar g.row.W.Denot g.W.Write.contents l.fn.self l.fn.items l.self l.items;
-}

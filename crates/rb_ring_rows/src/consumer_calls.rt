@@ -1,0 +1,180 @@
+//! The calls of a shared ring's consumer.
+
+ghost use Rattle.std.specs.Prelude.{◌≡◌};
+ghost use Rattle.rb_shared_ring.specs.SharedSeats.{IsSameChapterConsumer};
+
+use crate::answers::{tell_all_taken, tell_handed_out, tell_taken};
+use crate::text::Text;
+use rb_chapter::Chapter;
+use rb_consumer::{Batch, Keeper};
+use rb_shared_ring::{ConsumerSeat, Foreign, HandFault, SharedRing};
+use rb_tape::Item;
+use std::alloc::Global;
+use std::sync::Wait;
+
+/// A call of the consumer.
+#[derive(Clone, Copy)]
+pub(crate) enum ConsumerCall {
+    Take,
+    TakeMany(usize),
+    Fill(usize),
+    Used,
+}
+
+/// A call at a ring, by a consumer's seat.
+pub(crate) fn consume<R: Wait>(
+    rt: &R,
+    alloc: Global,
+    ring: &SharedRing,
+    seat: &mut ConsumerSeat,
+    call: ConsumerCall,
+    out: &mut Text,
+)
+    requires ring { seat.old.tag ≡ ring.now.tag → seat.old.ring ≡ ring.now.ring }
+    ensures seat { IsSameChapterConsumer seat.old seat.new }
+{
+    match call {
+        ConsumerCall::Take => match ring.take(rt, seat) {
+            Ok(taken) => tell_taken(out, &taken),
+            Err(Foreign) => out.word("foreign"),
+        },
+        ConsumerCall::TakeMany(n) => take_many(rt, alloc, ring, seat, n, out),
+        ConsumerCall::Fill(n) => fill(rt, alloc, ring, seat, n, out),
+        ConsumerCall::Used => match ring.used(rt, seat) {
+            Ok((used, owed)) => {
+                out.field("used", u64::from(used));
+                out.field("owed", u64::from(owed));
+            }
+            Err(Foreign) => out.word("foreign"),
+        },
+    }
+}
+
+fn take_many<R: Wait>(
+    rt: &R,
+    alloc: Global,
+    ring: &SharedRing,
+    seat: &mut ConsumerSeat,
+    n: usize,
+    out: &mut Text,
+)
+    requires ring { seat.old.tag ≡ ring.now.tag → seat.old.ring ≡ ring.now.ring }
+    ensures seat { IsSameChapterConsumer seat.old seat.new }
+{
+    let Ok(mut taken) = Vec::with_capacity(alloc, n) else {
+        return out.word("fault: no memory");
+    };
+    match ring.take_many(rt, seat, n, &mut taken) {
+        Ok(many) => tell_all_taken(out, many, taken.as_slice()),
+        Err(Foreign) => out.word("foreign"),
+    }
+}
+
+/// Has a ring go on in an empty chapter, by a consumer's seat; the one that comes back is the chapter that was handed out, or the empty one.
+pub(crate) fn hand_out<R: Wait>(
+    rt: &R,
+    ring: &SharedRing,
+    seat: &mut ConsumerSeat,
+    empty: Chapter,
+    out: &mut Text,
+) -> Chapter
+    requires ring { seat.old.tag ≡ ring.now.tag → seat.old.ring ≡ ring.now.ring }
+    ensures seat { IsSameChapterConsumer seat.old seat.new }
+{
+    match ring.hand_out(rt, seat, empty) {
+        Ok(chapter) => {
+            tell_handed_out(out, &chapter);
+            chapter
+        }
+        Err((HandFault::Foreign, back)) => {
+            out.word("foreign");
+            back
+        }
+        Err((HandFault::Unfit, back)) => {
+            out.word("unfit");
+            back
+        }
+    }
+}
+
+// Fills a batch for so many records, and tells what it lends: all records, how many events, and how many sheets it gives back.
+fn fill<R: Wait>(
+    rt: &R,
+    alloc: Global,
+    ring: &SharedRing,
+    seat: &mut ConsumerSeat,
+    n: usize,
+    out: &mut Text,
+)
+    requires ring { seat.old.tag ≡ ring.now.tag → seat.old.ring ≡ ring.now.ring }
+    ensures seat { IsSameChapterConsumer seat.old seat.new }
+{
+    let Ok(mut batch) = Batch::with_capacity(alloc, n) else {
+        return out.word("fault: no memory");
+    };
+    match batch.fill(rt, ring, seat) {
+        Ok(count) => {
+            out.field("filled", count as u64);
+            tell_batch(batch, count, out);
+        }
+        Err(Foreign) => out.word("foreign"),
+    }
+}
+
+fn tell_batch(batch: Batch, count: usize, out: &mut Text) {
+    let mut batch = batch;
+    for item in batch.items() {
+        out.push(";");
+        tell_item(&item, out);
+    }
+    let mut events = 0u64;
+    for _ in batch.events() {
+        events = events.wrapping_add(1);
+    }
+    out.push(";");
+    out.field("events", events);
+    let mut sheets = 0u64;
+    for _ in 0..count {
+        if batch.recycle().is_some() {
+            sheets = sheets.wrapping_add(1);
+        }
+    }
+    out.field("sheets", sheets);
+}
+
+fn tell_item(item: &Item<'_>, out: &mut Text) {
+    match item {
+        Item::Event(event) => {
+            out.word("event");
+            out.field("pos", event.pos);
+            out.field("worker", u64::from(event.worker));
+            out.field("serial", event.serial);
+            out.word("bytes");
+            out.bytes(event.bytes);
+        }
+        Item::Skip(pos, len) => {
+            out.word("skipped");
+            out.field("pos", *pos);
+            out.field("len", u64::from(*len));
+        }
+    }
+}
+
+/// Has a keeper look at a ring's chapter, by a consumer's seat.
+pub(crate) fn turn<R: Wait>(
+    rt: &R,
+    ring: &SharedRing,
+    seat: &mut ConsumerSeat,
+    keeper: &mut Keeper,
+    out: &mut Text,
+)
+    requires ring { seat.old.tag ≡ ring.now.tag → seat.old.ring ≡ ring.now.ring }
+    ensures seat { IsSameChapterConsumer seat.old seat.new }
+{
+    match keeper.turn(rt, ring, seat) {
+        Ok(Some(chapter)) => tell_handed_out(out, chapter),
+        Ok(None) => out.word("none"),
+        Err(HandFault::Foreign) => out.word("foreign"),
+        Err(HandFault::Unfit) => out.word("unfit"),
+    }
+}

@@ -1,0 +1,388 @@
+//! A ring that threads share, with its seats, here all on one thread.
+
+ghost use Rattle.std.specs.Prelude.{◌≡◌, IfSome};
+ghost use Rattle.rb_ledger.specs.Seats.{IsSameSeat};
+ghost use Rattle.rb_ring_rows.specs.SharedPlaces.{AreOwnSeats, IsOwnSeat};
+
+use crate::answers::{
+    open_word, reserve_word, tell_counts, tell_end, tell_granted, tell_notice, tell_record,
+    tell_refusal, tell_tally,
+};
+use crate::consumer_calls::{ConsumerCall, consume, hand_out, turn};
+use crate::sheets::write_at;
+use crate::text::Text;
+use rb_chapter::Chapter;
+use rb_consumer::Keeper;
+use rb_history::{Notice, Reservation};
+use rb_lend::{Lent, Sheet};
+use rb_shared_ring::{
+    Audit, Closing, ConsumerSeat, Foreign, NotAll, ReserveFault, Seat, SharedRing, open,
+};
+use std::alloc::Global;
+use std::sync::Wait;
+
+/// A shared ring and its seats, those of its workers in their order.
+#[derive(Drop)]
+pub(crate) struct SharedPlace {
+    ring: SharedRing,
+    seats: Vec<Seat>,
+    consumer: ConsumerSeat,
+    ghost own_seats: { AreOwnSeats ring seats.items },
+    ghost own_consumer: { (consumer.tag ≡ ring.tag) × (consumer.ring ≡ ring.ring) },
+}
+
+/// The numbers with which a ring is opened: its size, its start, how many workers it has, and the room of its chapters.
+#[derive(Clone, Copy)]
+pub(crate) struct RingNumbers {
+    pub(crate) size: u64,
+    pub(crate) start: u64,
+    pub(crate) workers: u32,
+    pub(crate) room: u32,
+}
+
+/// A call of a worker. A record is reserved that is as long as its sheet.
+#[derive(Drop)]
+pub(crate) enum WorkerCall {
+    Reserve(Sheet),
+    Submit(Reservation, u64),
+    Discard(Reservation, u64),
+    Output(Sheet, u64),
+    Query(u64),
+    Audit,
+}
+
+impl SharedPlace {
+    /// Opens a ring with this tag, unless it is refused.
+    pub(crate) fn open<R: Wait>(
+        rt: &R,
+        alloc: Global,
+        tag: u64,
+        setup: RingNumbers,
+        out: &mut Text,
+    ) -> Option<SharedPlace> {
+        let RingNumbers {
+            size,
+            start,
+            workers,
+            room,
+        } = setup;
+        match open(rt, alloc, tag, size, start, workers, room) {
+            Ok((ring, seats, consumer)) => {
+                out.word("opened");
+                out.field("seats", seats.len() as u64);
+                Some(SharedPlace {
+                    ring,
+                    seats,
+                    consumer,
+                })
+            }
+            Err(fault) => {
+                out.word(open_word(fault));
+                None
+            }
+        }
+    }
+
+    /// Whether there is a worker of this number.
+    pub(crate) fn has_worker(&self, worker: u64) -> bool {
+        worker < self.seats.len() as u64
+    }
+
+    /// A call of a worker at this ring, by the worker's own seat. The reservation that the call grants or hands back is returned.
+    pub(crate) fn work<R: Wait>(
+        &mut self,
+        rt: &R,
+        worker: u64,
+        call: WorkerCall,
+        out: &mut Text,
+    ) -> Option<Reservation> {
+        if worker >= self.seats.len() as u64 {
+            return None;
+        }
+        work(rt, &self.ring, &mut self.seats[worker as usize], call, out)
+    }
+
+    /// The same at another ring.
+    pub(crate) fn work_at<R: Wait>(
+        &mut self,
+        rt: &R,
+        other: &SharedPlace,
+        worker: u64,
+        call: WorkerCall,
+        out: &mut Text,
+    ) -> Option<Reservation> {
+        if worker >= self.seats.len() as u64 {
+            return None;
+        }
+        let seat = &mut self.seats[worker as usize];
+        if seat.tag() == other.ring.tag() {
+            return None;
+        }
+        work(rt, &other.ring, seat, call, out)
+    }
+
+    /// A call of the consumer at this ring, by its own seat.
+    pub(crate) fn consume<R: Wait>(
+        &mut self,
+        rt: &R,
+        alloc: Global,
+        call: ConsumerCall,
+        out: &mut Text,
+    ) {
+        consume(rt, alloc, &self.ring, &mut self.consumer, call, out);
+    }
+
+    /// The same at another ring.
+    pub(crate) fn consume_at<R: Wait>(
+        &mut self,
+        rt: &R,
+        alloc: Global,
+        other: &SharedPlace,
+        call: ConsumerCall,
+        out: &mut Text,
+    ) {
+        if self.consumer.tag() != other.ring.tag() {
+            consume(rt, alloc, &other.ring, &mut self.consumer, call, out);
+        }
+    }
+
+    /// Has this ring go on in an empty chapter; the one that comes back is the chapter that was handed out, or the empty one.
+    pub(crate) fn hand_out<R: Wait>(&mut self, rt: &R, empty: Chapter, out: &mut Text) -> Chapter {
+        hand_out(rt, &self.ring, &mut self.consumer, empty, out)
+    }
+
+    /// The same by this ring's consumer at another ring.
+    pub(crate) fn hand_out_at<R: Wait>(
+        &mut self,
+        rt: &R,
+        other: &SharedPlace,
+        empty: Chapter,
+        out: &mut Text,
+    ) -> Chapter {
+        if self.consumer.tag() == other.ring.tag() {
+            return empty;
+        }
+        hand_out(rt, &other.ring, &mut self.consumer, empty, out)
+    }
+
+    /// Has a keeper look at this ring's chapter.
+    pub(crate) fn turn<R: Wait>(&mut self, rt: &R, keeper: &mut Keeper, out: &mut Text) {
+        turn(rt, &self.ring, &mut self.consumer, keeper, out);
+    }
+
+    /// The same by this ring's consumer at another ring.
+    pub(crate) fn turn_at<R: Wait>(
+        &mut self,
+        rt: &R,
+        other: &SharedPlace,
+        keeper: &mut Keeper,
+        out: &mut Text,
+    ) {
+        if self.consumer.tag() != other.ring.tag() {
+            turn(rt, &other.ring, &mut self.consumer, keeper, out);
+        }
+    }
+
+    /// What a worker's seat counted.
+    pub(crate) fn tell_seat(&self, worker: u64, out: &mut Text) {
+        match self.seats.get(worker as usize) {
+            Some(seat) => {
+                out.field("tag", seat.tag());
+                out.field("worker", u64::from(seat.worker()));
+                out.field("made", seat.made());
+                out.field("refused", seat.refused());
+                out.field("submitted", seat.submitted());
+                out.field("discarded", seat.discarded());
+            }
+            None => out.word("fault: no such worker"),
+        }
+    }
+
+    /// What the consumer's seat counted.
+    pub(crate) fn tell_consumer(&self, out: &mut Text) {
+        let seat = &self.consumer;
+        out.field("tag", seat.tag());
+        out.field("workers", u64::from(seat.workers()));
+        out.field("room", u64::from(seat.room()));
+        out.field("position", seat.position());
+        out.field("consumed", seat.consumed());
+        out.field("skipped", seat.skipped());
+        out.field("chapters", seat.chapters());
+    }
+
+    /// Closes the ring with all its seats, or with all but the last. Where it is not closed, all is as before.
+    pub(crate) fn close<R: Wait>(self, rt: &R, all: bool) -> Result<Closing, SharedPlace> {
+        let SharedPlace {
+            ring,
+            mut seats,
+            consumer,
+        } = self;
+        let last = if all {
+            None
+        } else {
+            last_of(&ring, &mut seats)
+        };
+        let NotAll {
+            ring,
+            mut seats,
+            consumer,
+        } = match ring.close(rt, seats, consumer) {
+            Ok(closing) => return Ok(closing),
+            Err(back) => back,
+        };
+        put_back(&ring, &mut seats, last);
+        Err(SharedPlace {
+            ring,
+            seats,
+            consumer,
+        })
+    }
+
+    /// Tries to close this ring with the seats of another one, and its own consumer.
+    pub(crate) fn close_with<R: Wait>(
+        self,
+        rt: &R,
+        other: SharedPlace,
+    ) -> Option<(SharedPlace, SharedPlace)> {
+        let SharedPlace {
+            ring,
+            seats: own,
+            consumer,
+        } = self;
+        let SharedPlace {
+            ring: home,
+            seats,
+            consumer: stranger,
+        } = other;
+        if home.tag() == ring.tag() {
+            return None;
+        }
+        match ring.close(rt, seats, consumer) {
+            Ok(_) => None,
+            Err(
+                NotAll {
+                    ring,
+                    seats,
+                    consumer,
+                },
+            ) => Some((
+                SharedPlace {
+                    ring,
+                    seats: own,
+                    consumer,
+                },
+                SharedPlace {
+                    ring: home,
+                    seats,
+                    consumer: stranger,
+                },
+            )),
+        }
+    }
+}
+
+// Takes the last seat of a ring's own out of them.
+fn last_of(ring: &SharedRing, seats: &mut Vec<Seat>) -> Option<Seat>
+    requires own { AreOwnSeats ring.now seats.old.items }
+    ensures own { AreOwnSeats ring.now seats.new.items }
+    ensures last { IfSome result (IsOwnSeat ring.now) }
+{
+    let _ = ring.tag();
+    seats.pop()
+}
+
+// Puts a ring's last seat back behind the others. There is room for it.
+fn put_back(ring: &SharedRing, seats: &mut Vec<Seat>, last: Option<Seat>)
+    requires own { AreOwnSeats ring.now seats.old.items }
+    requires last { IfSome last (IsOwnSeat ring.now) }
+    ensures own { AreOwnSeats ring.now seats.new.items }
+{
+    let _ = ring.tag();
+    if let Some(seat) = last {
+        let _ = seats.push(seat);
+    }
+}
+
+// A call at a ring, by a seat.
+fn work<R: Wait>(
+    rt: &R,
+    ring: &SharedRing,
+    seat: &mut Seat,
+    call: WorkerCall,
+    out: &mut Text,
+) -> Option<Reservation>
+    requires ring { seat.old.tag ≡ ring.now.tag → seat.old.ring ≡ ring.now.ring }
+    ensures seat { IsSameSeat seat.old seat.new }
+{
+    match call {
+        WorkerCall::Reserve(sheet) => tell_reserved(
+            ring.reserve(rt, seat, sheet.len(), sheet),
+            out,
+        ),
+        WorkerCall::Submit(record, flags) => tell_end(ring.submit(rt, seat, record, flags), out),
+        WorkerCall::Discard(record, flags) => tell_end(ring.discard(rt, seat, record, flags), out),
+        WorkerCall::Output(sheet, flags) => {
+            tell_output(ring.output(rt, seat, sheet, flags), out);
+            None
+        }
+        WorkerCall::Query(what) => {
+            match ring.query(rt, seat, what) {
+                Ok(number) => out.number(number),
+                Err(Foreign) => out.word("foreign"),
+            }
+            None
+        }
+        WorkerCall::Audit => {
+            tell_audit(ring.audit(rt, seat), out);
+            None
+        }
+    }
+}
+
+/// Writes bytes of a reserved record from byte `at` on, where they fit.
+pub(crate) fn write_record(record: &mut Reservation, at: u64, bytes: &[u8], out: &mut Text) {
+    if write_at(record, at, bytes) {
+        tell_record(out, record);
+        out.word("bytes");
+        out.bytes(record.bytes());
+    } else {
+        out.word("fault: outside");
+    }
+}
+
+// What a reserve answered, and the reservation that it granted.
+fn tell_reserved(
+    answer: Result<Reservation, (ReserveFault, Sheet)>,
+    out: &mut Text,
+) -> Option<Reservation> {
+    match answer {
+        Ok(record) => {
+            tell_granted(out, &record);
+            Some(record)
+        }
+        Err((fault, back)) => {
+            tell_refusal(out, reserve_word(fault), &back);
+            None
+        }
+    }
+}
+
+fn tell_output(answer: Result<Notice, (ReserveFault, Sheet)>, out: &mut Text) {
+    match answer {
+        Ok(notice) => tell_notice(out, notice),
+        Err((fault, back)) => tell_refusal(out, reserve_word(fault), &back),
+    }
+}
+
+fn tell_audit(answer: Result<Audit, Foreign>, out: &mut Text) {
+    match answer {
+        Ok(audit) => {
+            out.field("producer", audit.producer);
+            out.field("consumer", audit.consumer);
+            tell_counts(out, audit.counts);
+            out.push("; own");
+            tell_tally(out, audit.own);
+        }
+        Err(Foreign) => out.word("foreign"),
+    }
+}

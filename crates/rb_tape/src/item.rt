@@ -1,0 +1,61 @@
+//! A record that was taken.
+
+ghost use Rattle.std.specs.Prelude.{◌≡◌, ◌<◌, ◌^◌};
+ghost use Rattle.rb_header.specs.TapeBytes.{item_len, item_position};
+ghost use Rattle.rb_tape.specs.Items.{item_of};
+ghost use Rattle.rb_tape.specs.inner.RecordParts.{bytes_before_zeros};
+
+/// A submitted record that was taken, with its bytes.
+#[derive(Clone, Copy, Debug, PartialEq, Eq)]
+pub struct Event<'a> {
+    /// The record's position, in bytes.
+    pub pos: u64,
+    /// The number of the worker that submitted it.
+    pub worker: u32,
+    /// How many records the ring granted that worker before.
+    pub serial: u64,
+    /// The record's bytes.
+    pub bytes: &'a [u8],
+}
+
+/// A record that was taken (Linux Documentation/bpf/ringbuf.rst: discarded records are consumed too, and ignored).
+#[derive(Clone, Copy, Debug, PartialEq, Eq)]
+pub enum Item<'a> {
+    /// A submitted record.
+    Event(Event<'a>),
+    /// A discarded record that was passed over: its position, and its length in bytes.
+    Skip(u64, u32),
+}
+
+impl Item<'_> {
+    // The record's position.
+    pub(crate) fn pos(&self) -> u64
+        ensures { result ≡ item_position (item_of self.now) }
+    {
+        match self {
+            Item::Event(event) => event.pos,
+            Item::Skip(pos, _) => *pos,
+        }
+    }
+
+    // How many bytes the record has.
+    pub(crate) fn len(&self) -> u32
+        requires { item_len (item_of self.now) < 2 ^ 30 }
+        ensures { result ≡ item_len (item_of self.now) }
+    {
+        match self {
+            Item::Event(event) => event.bytes.len() as u32,
+            Item::Skip(_, n) => *n,
+        }
+    }
+
+    // The bytes that stand behind the record's header before zeros do: none of a discarded record.
+    pub(crate) fn payload(&self) -> &[u8]
+        ensures { result.now ≡ bytes_before_zeros (item_of self.now) }
+    {
+        match self {
+            Item::Event(event) => event.bytes,
+            Item::Skip(_, _) => &[],
+        }
+    }
+}

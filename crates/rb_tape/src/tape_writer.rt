@@ -1,0 +1,160 @@
+//! Writing the tape: the records that were taken, one behind the other.
+
+use crate::item::Item;
+use crate::items::Items;
+use crate::piece::write_from;
+use rb_header::span;
+use rb_io::DeviceFault;
+use std::io::Write;
+use std::marker::Model;
+
+/// Writes records to a writer as a tape, one behind the other. Each call writes a record in a few pieces, so let the writer be a buffered
+/// one, and flush it at the end. No call takes memory.
+#[derive(Drop)]
+pub struct TapeWriter<W> {
+    writer: W,
+    size: u64,
+    position: u64,
+    // How many bytes of the last record went out.
+    sent: u64,
+    // Whether some bytes of the last record are still to be written.
+    unfinished: bool,
+}
+
+impl<W> Model for TapeWriter<W> {
+    ghost use Rattle.rb_history.specs.RingModel.{IsRingSize};
+    ghost use Rattle.rb_tape.specs.TapeOutput.{TapeOutput};
+
+    ghost Value = { TapeOutput W };
+
+    ghost view = { λ t. record { writer = t.writer; size = t.size; position = t.position; sent = t.sent; unfinished = t.unfinished } };
+
+    ghost invariant = { λ t. IsRingSize t.size };
+}
+
+impl<W: Write> TapeWriter<W> {
+    ghost use Rattle.std.specs.Prelude.{◌≡◌, ◌<◌, ◌≤◌, ◌+◌, [], false, true, not, is_ok, if◌then◌else◌, take, drop, OnOk, OnErr, IfErr};
+    ghost use Rattle.std.specs.Io.KnownBytes.{Appends};
+    ghost use Rattle.rb_header.specs.TapeBytes.{item_bytes, item_span, tape, end_of, IsItemAt, AreItemsFrom};
+    ghost use Rattle.rb_history.specs.RingModel.{IsRingSize, IsStartPosition};
+    ghost use Rattle.rb_tape.specs.Items.{item_of, tape_items, sent_after};
+    ghost use Rattle.rb_tape.specs.TapeOutput.{StopsWithin};
+
+    /// A tape of a ring of `size` bytes, whose first record stands at `start`. Nothing is written yet.
+    pub fn new(writer: W, size: u64, start: u64) -> TapeWriter<W>
+        requires size { IsRingSize size }
+        requires start { IsStartPosition start }
+        ensures value { result ≡ record { writer = writer; size = size; position = start; sent = 0; unfinished = false } }
+    {
+        TapeWriter {
+            writer,
+            size,
+            position: start,
+            sent: 0,
+            unfinished: false,
+        }
+    }
+
+    /// Writes one record: its header, its bytes, and zeros up to a multiple of eight. It stops at the first write that fails or takes
+    /// nothing; the record is then unfinished, `sent` tells how many of its bytes went out, and `resume` writes the rest. The position moves
+    /// once the record is whole.
+    pub fn put(&mut self, item: &Item<'_>) -> Result<(), DeviceFault>
+        requires finished { self.old.unfinished ≡ false }
+        requires stands { IsItemAt self.old.size self.old.position (item_of item.now) }
+        ensures bytes { Appends (W.contents self.old.writer) (W.contents self.new.writer) (take self.new.sent (item_bytes self.old.size (item_of item.now))) }
+        ensures all_sent { OnOk result (self.new.sent ≡ item_span (item_of item.now)) }
+        ensures not_all_sent { OnErr result (self.new.sent < item_span (item_of item.now)) }
+        ensures unfinished { self.new.unfinished ≡ not (is_ok result) }
+        ensures size { self.new.size ≡ self.old.size }
+        ensures position { self.new.position ≡ (if is_ok result then self.old.position + item_span (item_of item.now) else self.old.position) }
+    {
+        self.write_on(item, 0)
+    }
+
+    /// Writes the records that are left of `items`, one behind the other, each as `put` does. It stops at the first write that fails or
+    /// takes nothing; the error is the record that is unfinished then. `items` has those behind it, so that they are written once `resume`
+    /// has written its rest.
+    pub fn put_all<'a>(&mut self, items: &mut Items<'a>) -> Result<(), Item<'a>>
+        requires finished { self.old.unfinished ≡ false }
+        requires stand { AreItemsFrom self.old.size self.old.position (tape_items items.old) }
+        ensures none_left { OnOk result (items.new ≡ []) }
+        ensures bytes { OnOk result (Appends (W.contents self.old.writer) (W.contents self.new.writer) (tape self.old.size (tape_items items.old))) }
+        ensures position { OnOk result (self.new.position ≡ end_of self.old.position (tape_items items.old)) }
+        ensures sent { OnOk result (self.new.sent ≡ sent_after self.old.sent (tape_items items.old)) }
+        ensures stops { IfErr result (λ item. StopsWithin W W.contents self.old self.new items.old items.new item) }
+        ensures not_all_sent { IfErr result (λ item. self.new.sent < item_span (item_of item)) }
+        ensures stands { IfErr result (λ item. IsItemAt self.new.size self.new.position (item_of item)) }
+        ensures rest { IfErr result (λ item. AreItemsFrom self.new.size (self.new.position + item_span (item_of item)) (tape_items items.new)) }
+        ensures unfinished { self.new.unfinished ≡ not (is_ok result) }
+        ensures size { self.new.size ≡ self.old.size }
+    {
+        while let Some(item) = items.next() {
+            if self.put(&item).is_err() {
+                return Err(item);
+            }
+        }
+        Ok(())
+    }
+
+    /// Writes the bytes of the unfinished record that did not go out yet; `item` is the one that `put` was called with. It stops as `put`
+    /// does, and may be called again then.
+    pub fn resume(&mut self, item: &Item<'_>) -> Result<(), DeviceFault>
+        requires unfinished { self.old.unfinished ≡ true }
+        requires stands { IsItemAt self.old.size self.old.position (item_of item.now) }
+        requires sent { self.old.sent < item_span (item_of item.now) }
+        ensures bytes { Appends (W.contents self.old.writer) (W.contents self.new.writer) (drop self.old.sent (take self.new.sent (item_bytes self.old.size (item_of item.now)))) }
+        ensures more { self.old.sent ≤ self.new.sent }
+        ensures all_sent { OnOk result (self.new.sent ≡ item_span (item_of item.now)) }
+        ensures not_all_sent { OnErr result (self.new.sent < item_span (item_of item.now)) }
+        ensures unfinished { self.new.unfinished ≡ not (is_ok result) }
+        ensures size { self.new.size ≡ self.old.size }
+        ensures position { self.new.position ≡ (if is_ok result then self.old.position + item_span (item_of item.now) else self.old.position) }
+    {
+        self.write_on(item, self.sent)
+    }
+
+    // Writes the record from its byte `from` on.
+    #[inline(always)]
+    fn write_on(&mut self, item: &Item<'_>, from: u64) -> Result<(), DeviceFault>
+        requires stands { IsItemAt self.old.size self.old.position (item_of item.now) }
+        requires from { from < item_span (item_of item.now) }
+        ensures bytes { Appends (W.contents self.old.writer) (W.contents self.new.writer) (drop from (take self.new.sent (item_bytes self.old.size (item_of item.now)))) }
+        ensures more { from ≤ self.new.sent }
+        ensures all_sent { OnOk result (self.new.sent ≡ item_span (item_of item.now)) }
+        ensures not_all_sent { OnErr result (self.new.sent < item_span (item_of item.now)) }
+        ensures unfinished { self.new.unfinished ≡ not (is_ok result) }
+        ensures size { self.new.size ≡ self.old.size }
+        ensures position { self.new.position ≡ (if is_ok result then self.old.position + item_span (item_of item.now) else self.old.position) }
+    {
+        let sent = write_from(&mut self.writer, self.size, item, from);
+        let span = span(item.len());
+        self.sent = sent;
+        self.unfinished = sent < span;
+        if sent < span {
+            return Err(DeviceFault);
+        }
+        self.position += span;
+        Ok(())
+    }
+
+    /// How many bytes of the last record went out; 0 before the first.
+    pub fn sent(&self) -> u64
+        ensures value { result ≡ self.now.sent }
+    {
+        self.sent
+    }
+
+    /// Where the next record stands, or the one that is unfinished.
+    pub fn position(&self) -> u64
+        ensures value { result ≡ self.now.position }
+    {
+        self.position
+    }
+
+    /// The writer, with what was written to it.
+    pub fn into_writer(self) -> W
+        ensures value { result ≡ self.writer }
+    {
+        self.writer
+    }
+}
