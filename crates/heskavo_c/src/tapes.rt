@@ -12,12 +12,9 @@ ghost use Rattle.heskavo_c.specs.Writing.{WritesFront};
 
 use crate::outgoing::put_parts;
 use crate::status::{ARGUMENT, DONE, FAULT, MORE, ROOM};
-use rb_header::{Header, span};
+use rb_header::{Header, page_of, span};
 use rb_history::{is_size, is_start};
 use rb_reader::{Record, Tape, TapeKind};
-
-// A page of a ring's bytes (Linux Documentation/bpf/ringbuf.rst counts a record's place in pages).
-const PAGE: u64 = 4096;
 
 /// What the bytes of a tape begin with: a record, or what is wrong there.
 #[repr(C)]
@@ -124,7 +121,7 @@ fn header_at(size: u64, position: u64, len: u32, discard: bool) -> [u8; 8]
         len,
         busy: false,
         discard,
-        page: (position % size / PAGE) as u32,
+        page: page_of(size, position) as u32,
     }
     .to_bytes()
 }

@@ -1,5 +1,5 @@
 -- A ring as `new` makes it, its bounds, and which chapters it hands its own out for (own).
-use Rattle.std.specs.Prelude.{ℕ, ◌≡◌, ◌+◌, ◌-◌, ◌<◌, ◌≤◌, ◌^◌, []}
+use Rattle.std.specs.Prelude.{ℕ, ◌≡◌, ◌+◌, ◌-◌, ◌<◌, ◌≤◌, ◌^◌, [], min}
 use Rattle.std.specs.FinMap.{empty}
 use Rattle.rb_history.specs.declared.answers.Counts.{Counts}
 use Rattle.rb_history.specs.RoomRule.{Setup}
@@ -31,7 +31,7 @@ pub record MayGoOnIn (v : ChapterRing) (c : Chapter) : Type 0 where
 
 -- a number, as far as 64 bits hold it
 abbrev pub capped : ℕ → ℕ
-capped n = n - (n - (2 ^ 64 - 1))
+capped n = min n (2 ^ 64 - 1)
 
 -- of the refusals 2^64 - 1 at most are told
 abbrev pub capped_counts : Counts → Counts

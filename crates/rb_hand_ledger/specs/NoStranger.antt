@@ -11,10 +11,10 @@ use Rattle.rb_history.specs.declared.answers.Stray.{Stray}
 use Rattle.rb_history.specs.Calls.{IsBusy}
 use Rattle.rb_history.specs.ReservationModel.{Granted}
 use Rattle.rb_chapter.specs.ChapterRing.{ChapterRing}
-use Rattle.rb_chapter.specs.ChapterCalls.{IsBusyFrom, HoldsReservationFrom, Grants, FindsFull, Outputs}
+use Rattle.rb_chapter.specs.ChapterCalls.{IsBusyFrom, HoldsReservationFrom, Grants, FindsFull, FindsChapterFull, Outputs}
 use Rattle.rb_ledger.specs.Roles.{Book, ExtendsSeen}
 use Rattle.rb_ledger.specs.Roles.Role.{Worker}
-use Rattle.rb_chapter_ledger.specs.LockedChapterCalls.{LockedChapterCall, InOneChapter, SubmitsInChapter, DiscardsInChapter}
+use Rattle.rb_chapter_ledger.specs.LockedChapterCalls.{LockedChapterCall, InOneChapter, SubmitsInChapter, DiscardsInChapter, QueriesInChapter}
 use Rattle.rb_hands.specs.declared.out_record.OutRecord.{OutRecord}
 use Rattle.rb_hands.specs.Hands.{out_record, Hands, HandBook, in_hand, hands_of, hand_at, IsBookOf}
 use Rattle.rb_hands.specs.HandRing.{HandRing, HasInHand}
@@ -49,7 +49,8 @@ pub record CallsKeepHeld (w : ℕ) (before after : Book) : Type 0 where
   pub grants : (n p k : ℕ) → SeatCall w before after (λ old new. Grants old new w n p k) → LeavesHeld w before after
   pub finds_full : (n : ℕ) → SeatCall w before after (λ old new. FindsFull old new w n) → LeavesHeld w before after
   pub outputs : (bytes : List ℕ) → SeatCall w before after (λ old new. Outputs old new w bytes) → LeavesHeld w before after
-  pub same : SeatCall w before after (λ old new. new ≡ old) → LeavesHeld w before after
+  pub finds_chapter_full : (n : ℕ) → SeatCall w before after (λ old new. FindsChapterFull old new w n) → LeavesHeld w before after
+  pub queries : (what answer : ℕ) → SeatCall w before after (QueriesInChapter what answer) → LeavesHeld w before after
   pub submit_taken : (r : Granted) (flags : ℕ) (answer : Result Notice Stray) → SeatCall w before after (SubmitsInChapter r flags answer) → IsHeld w before r → is_ok answer ≡ true
   pub submits : (r : Granted) (flags : ℕ) (answer : Result Notice Stray) → SeatCall w before after (SubmitsInChapter r flags answer) → LeavesHeldElsewhere w before after r.pos
   pub discard_taken : (r : Granted) (flags : ℕ) (answer : Result Notice Stray) → SeatCall w before after (DiscardsInChapter r flags answer) → IsHeld w before r → is_ok answer ≡ true
