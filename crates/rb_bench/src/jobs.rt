@@ -4,7 +4,9 @@ ghost use Rattle.std.specs.Prelude.{◌≡◌, IfOk, vec_len};
 ghost use Rattle.rb_workers.specs.Opened.{AreOpened, IsOpened};
 
 use crate::fault::BenchFault;
+use crate::loading::load;
 use crate::one_thread::ROOM;
+use crate::programs::reserving;
 use rb_verifier::Verified;
 use rb_workers::{Job, NullSink, OpenGate, Opened, run_jobs};
 use std::alloc::Global;
@@ -20,6 +22,11 @@ const MARGIN: u32 = ROOM / 2;
 // Each job's context.
 static CONTEXT: [u8; 16] = [0; 16];
 
+/// The program that each job runs, verified for one ring.
+pub(crate) fn reserving_program(alloc: Global) -> Result<Verified, BenchFault> {
+    load(alloc, reserving(alloc)?.as_slice(), 1)
+}
+
 /// So many jobs of each worker, worker by worker.
 pub(crate) fn jobs_of<'j>(
     alloc: Global,
@@ -30,13 +37,15 @@ pub(crate) fn jobs_of<'j>(
     let count = (workers as usize).saturating_mul(each as usize);
     let mut jobs = Vec::with_capacity(alloc, count)?;
     for worker in 0..workers {
-        jobs.reserve(each as usize)?;
         for _ in 0..each {
-            jobs.push_reserved(Job {
+            let job = Job {
                 worker,
                 program,
                 ctx: CONTEXT.as_slice(),
-            });
+            };
+            if jobs.push(job).is_err() {
+                return Err(BenchFault::Memory);
+            }
         }
     }
     Ok(jobs)
@@ -91,4 +100,17 @@ pub(crate) fn run_all<R: Threads + Wait + Sync>(
         }
     }
     Ok(refused)
+}
+
+/// Opens a ring, runs so many jobs of each worker over it, and answers how many got no record.
+pub(crate) fn run_over<R: Threads + Wait + Sync>(
+    rt: &R,
+    alloc: Global,
+    program: &Verified,
+    workers: u32,
+    each: u32,
+) -> Result<u64, BenchFault> {
+    let jobs = jobs_of(alloc, program, workers, each)?;
+    let rings = opened(rt, alloc, workers)?;
+    run_all(rt, alloc, rings, jobs.as_slice())
 }

@@ -1,5 +1,7 @@
 //! From bytes to a verified program.
 
+ghost use Rattle.std.specs.Prelude.{◌≤◌};
+
 use crate::fault::BenchFault;
 use rb_cfg::shape;
 use rb_decode::decode;
@@ -10,7 +12,9 @@ use std::alloc::Global;
 pub(crate) const CONTEXT: u32 = 16;
 
 /// Decodes, shapes and verifies a program, for so many rings.
-pub(crate) fn load(alloc: Global, bytes: &[u8], rings: u32) -> Result<Verified, BenchFault> {
+pub(crate) fn load(alloc: Global, bytes: &[u8], rings: u32) -> Result<Verified, BenchFault>
+    requires { rings ≤ 16 }
+{
     let Ok(program) = decode(alloc, bytes) else {
         return Err(BenchFault::Refused);
     };

@@ -2,10 +2,10 @@
 
 use crate::fault::BenchFault;
 use crate::interpreting::run_rounds;
-use crate::jobs::{jobs_of, opened, run_all};
+use crate::jobs::{reserving_program, run_over};
 use crate::loading::load;
 use crate::one_thread::{output_and_take, reserve_and_submit};
-use crate::programs::{arithmetic, memory, reserving};
+use crate::programs::{arithmetic, memory};
 use crate::threads::share;
 use std::alloc::Global;
 use std::io::Print;
@@ -40,10 +40,13 @@ pub(crate) fn run<R: Threads + Wait + Sync + Print>(
         "loads and stores end with",
         run_rounds(alloc, &program, 1)?,
     )?;
-    let program = load(alloc, reserving(alloc)?.as_slice(), 1)?;
-    let jobs = jobs_of(alloc, &program, 2, 500)?;
-    let refused = run_all(rt, alloc, opened(rt, alloc, 2)?, jobs.as_slice())?;
-    tell(rt, "jobs refused", refused)
+    tell(rt, "jobs refused", jobs_refused(rt, alloc)?)
+}
+
+// How many of 1,000 jobs got no record.
+fn jobs_refused<R: Threads + Wait + Sync>(rt: &R, alloc: Global) -> Result<u64, BenchFault> {
+    let program = reserving_program(alloc)?;
+    run_over(rt, alloc, &program, 2, 500)
 }
 
 fn tell<R: Print>(rt: &R, what: &str, value: u64) -> Result<(), BenchFault> {

@@ -1,13 +1,17 @@
 //! How long the rounds of a workload take.
 
+ghost use Rattle.rb_workers.specs.Opened.{AreOpened};
+
 use crate::fault::BenchFault;
 use crate::interpreting::run_rounds;
-use crate::jobs::{jobs_of, opened, run_all};
+use crate::jobs::{jobs_of, opened, reserving_program, run_all};
 use crate::loading::{load, load_often};
 use crate::one_thread::{output_and_take, reserve_and_submit};
-use crate::programs::{arithmetic, memory, reserving, spilling};
+use crate::programs::{arithmetic, memory, spilling};
 use crate::threads::share;
 use crate::workload::Workload;
+use rb_verifier::Verified;
+use rb_workers::{Job, NullSink, Opened};
 use std::alloc::Global;
 use std::io::Print;
 use std::sync::Wait;
@@ -92,11 +96,33 @@ fn jobs<R: Threads + Wait + Sync + Clock>(
     workers: u32,
     each: u32,
 ) -> Result<Round, BenchFault> {
-    let program = load(alloc, reserving(alloc)?.as_slice(), 1)?;
-    let jobs = jobs_of(alloc, &program, workers, each)?;
+    let program = reserving_program(alloc)?;
+    jobs_over(rt, alloc, &program, workers, each)
+}
+
+fn jobs_over<R: Threads + Wait + Sync + Clock>(
+    rt: &R,
+    alloc: Global,
+    program: &Verified,
+    workers: u32,
+    each: u32,
+) -> Result<Round, BenchFault> {
+    let jobs = jobs_of(alloc, program, workers, each)?;
     let rings = opened(rt, alloc, workers)?;
+    timed_jobs(rt, alloc, rings, jobs.as_slice())
+}
+
+// The time from the threads' start to their end.
+fn timed_jobs<R: Threads + Wait + Sync + Clock>(
+    rt: &R,
+    alloc: Global,
+    rings: Vec<Opened<NullSink>>,
+    jobs: &[Job<'_>],
+) -> Result<Round, BenchFault>
+    requires { AreOpened (λ s. s.position) rings.items }
+{
     let start = Instant::now(rt)?;
-    let refused = run_all(rt, alloc, rings, jobs.as_slice())?;
+    let refused = run_all(rt, alloc, rings, jobs)?;
     ended(rt, start, refused)
 }
 
