@@ -20,7 +20,7 @@ pub record BeginsVerified (x : WorkerState) : Type 0 where
   pub holds_none : (id : ℕ) → x.held id ≡ None
   pub runs : x.status ≡ Running
 
--- a ring for so many workers, without a history
+-- a ring of any size and start, whatever a ring's bounds are, for so many workers and without a history
 pub record IsFreshRing (workers : ℕ) (b : WorldRing) : Type 0 where
   pub size : ℕ
   pub start : ℕ

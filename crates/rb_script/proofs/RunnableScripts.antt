@@ -1,5 +1,5 @@
 -- Scripts that were read can be run, and a world opens for them.
-use Rattle.std.proofs.Common.{◌≡◌, ◌<◌, ◌≤◌, ◌+◌, ◌↔◌, ◌⊎◌, ℕ, List, [], ◌∷◌, ◌++◌, length, map, replicate, Result, Ok, Err, OnErr, refl, sym, ap, subst, ◌∙◌, append_assoc, inl, inr, arith}
+use Rattle.std.proofs.Common.{◌≡◌, ◌≤◌, ◌+◌, ◌↔◌, ◌⊎◌, ℕ, List, [], ◌∷◌, ◌++◌, length, map, replicate, Result, Ok, Err, OnErr, refl, sym, ap, subst, ◌∙◌, append_assoc, inl, inr, arith}
 use Rattle.std.specs.Prelude.{All}
 use Rattle.std.specs.List.{AllZip}
 use Rattle.std.proofs.lemmas.List.{length-append, length-map, take_all}
@@ -8,14 +8,12 @@ use Rattle.rb_chapter.specs.Chapters.{IsChapterRoom}
 use Rattle.rb_history.specs.RingModel.{IsWorkerCount}
 use Rattle.rb_interleavings.specs.declared.actor.Actor.{Actor}
 use Rattle.rb_interleavings.specs.declared.actor.Actor.TheVariants.{Worker, Consumer, Keeper}
-use Rattle.rb_interp.specs.MachineState.{MachineState}
 use Rattle.rb_verifier.specs.Subject.{Subject}
 use Rattle.rb_world.specs.declared.opening.RingSetup.{RingSetup}
 use Rattle.rb_world.specs.declared.opening.WorkerSetup.{WorkerSetup}
 use Rattle.rb_world.specs.declared.world_fault.WorldOpenFault.{WorldOpenFault}
 use Rattle.rb_world.specs.declared.world_fault.WorldOpenFault.TheVariants as fault
-use Rattle.rb_world.specs.declared.world_record.WorldRecord.{WorldRecord}
-use Rattle.rb_world.specs.OpenedWorlds.{IsRingSetup, AreRings, HaveContexts, HaveRings, HaveRooms, MayOpen, IsOpenedWorld, IsStarted, opened_ring}
+use Rattle.rb_world.specs.OpenedWorlds.{IsRingSetup, AreRings, HaveContexts, HaveRings, HaveRooms, MayOpen, IsOpenedWorld, opened_ring}
 use Rattle.rb_world.specs.WorldValue.{WorldValue, IsThere}
 use Rattle.rb_script.specs.declared.script.Script.{Script}
 use Rattle.rb_script.specs.declared.script.ScriptWorker.{ScriptWorker}

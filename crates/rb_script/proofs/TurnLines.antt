@@ -13,17 +13,12 @@ use Rattle.std.proofs.lemmas.Bool.{eq-eqb}
 use Rattle.rb_interleavings.proofs.WholeRuns.{run-push}
 use Rattle.rb_world.specs.declared.turn_done.TurnDone.{TurnDone}
 use Rattle.rb_world.specs.declared.turn_done.TurnDone.TheVariants as turn
-use Rattle.rb_world.specs.WorldValue.{WorldValue, world_of, IsThere}
-use Rattle.rb_world.specs.TurnsDone.{TellsEvent, IsTurnOf}
+use Rattle.rb_world.specs.WorldValue.{WorldValue, world_of}
+use Rattle.rb_world.specs.TurnsDone.{TellsEvent, IsTurnOf, TurnsChaptersOf}
+use Rattle.rb_world.proofs.Runs.{tell-push, turns-push}
 use Rattle.rb_script.specs.OutputLines.{take_line}
 use Rattle.rb_script.specs.Simulation.{turn_text, turns_text, WritesRun}
 use Rattle.rb_script.specs.inner.ShownTurns.{last_line, consumer_text, keeper_text, shown_text}
-
--- the same actors are there in a world of as many workers and rings
-pub there-still : (old new : WorldValue) (actor : Actor) → length new.machines ≡ length old.machines → length new.rings ≡ length old.rings → IsThere old actor → IsThere new actor
-there-still old new (Worker w) workers rings there = subst (λ n. w < n) (sym workers) there
-there-still old new (Consumer r) workers rings there = subst (λ n. r < n) (sym rings) there
-there-still old new (Keeper r) workers rings there = subst (λ n. r < n) (sym rings) there
 
 pub last-pushed : (r : ℕ) (taken : List Taken) (found : Taken) → last_line r (taken ++ found ∷ []) ≡ take_line r found
 last-pushed r [] found = refl
@@ -126,12 +121,6 @@ shown-is (Consumer r) old new done HandedChapter tells step = absurd step
 
 -- ---- one more turn
 
-tell-push : (dones : List TurnDone) (events : List TurnEvent) (done : TurnDone) (event : TurnEvent) → AllZip TellsEvent dones events → TellsEvent done event → AllZip TellsEvent (dones ++ done ∷ []) (events ++ event ∷ [])
-tell-push [] [] done event h t = (t, tt)
-tell-push [] (e ∷ events) done event h t = absurd h
-tell-push (d ∷ dones) [] done event h t = absurd h
-tell-push (d ∷ dones) (e ∷ events) done event h t = (h.0, tell-push dones events done event h.1 t)
-
 text-push : (old new : World) (actors : List Actor) (dones : List TurnDone) (events : List TurnEvent) (actor : Actor) (done : TurnDone) (event : TurnEvent) → AllZip TellsEvent dones events → WorldRun old actors events new
     → turns_text (actors ++ actor ∷ []) (dones ++ done ∷ []) (events ++ event ∷ []) ≡ turns_text actors dones events ++ turn_text actor done event
 text-push old new [] [] [] actor done event told run = append-nil (turn_text actor done event)
@@ -147,11 +136,11 @@ pub line-joined : (text cleared line shown joined : List ℕ) → cleared ≡ []
 line-joined text cleared line shown joined none wrote more = more ∙ ap (λ l. text ++ l) (wrote ∙ ap (λ l. l ++ shown) none)
 
 pub writes-none : (v : WorldValue) (text : List ℕ) → WritesRun [] v v text text
-writes-none v text = record { dones = []; events = []; told = tt; run = refl; text_is = sym (append-nil text) }
+writes-none v text = record { dones = []; events = []; told = tt; run = refl; turns = refl; text_is = sym (append-nil text) }
 
 pub writes-more : (actors : List Actor) (i : ℕ) (d : Actor) (old mid new : WorldValue) (before between after : List ℕ) (done : TurnDone) → i < length actors → WritesRun (take i actors) old mid before between → IsTurnOf (get_or actors i d) mid done new
-    → after ≡ between ++ shown_text (get_or actors i d) done (world_of new) → WritesRun (take (i + 1) actors) old new before after
-writes-more actors i d old mid new before between after done low w turned wrote =
+    → TurnsChaptersOf (get_or actors i d) done mid.rings new.rings → after ≡ between ++ shown_text (get_or actors i d) done (world_of new) → WritesRun (take (i + 1) actors) old new before after
+writes-more actors i d old mid new before between after done low w turned chapters wrote =
     let actor = get_or actors i d in
     let event = turned.0 in
     subst (λ l. WritesRun l old new before after) (sym (take_more actors i d low)) (record {
@@ -159,6 +148,7 @@ writes-more actors i d old mid new before between after done low w turned wrote 
       events = w.events ++ event ∷ [];
       told = tell-push w.dones w.events done event w.told turned.1;
       run = run-push (world_of old) (world_of mid) (world_of new) (take i actors) w.events actor event w.run turned.2;
+      turns = turns-push (take i actors) old mid new w.dones actor done w.turns turned chapters;
       text_is =
           wrote
           ∙ (ap (λ t. between ++ t) (shown-is actor (world_of mid) (world_of new) done event turned.1 turned.2)

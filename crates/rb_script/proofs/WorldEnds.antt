@@ -1,10 +1,16 @@
 -- The lines of a world at the end.
-use Rattle.std.proofs.Common.{◌≡◌, ◌≤◌, ℕ, List, [], ◌∷◌, length, ap, ◌∙◌, refl, arith}
+use Rattle.std.proofs.Common.{◌≡◌, ◌≤◌, ℕ, ◌+◌, List, [], ◌∷◌, ◌++◌, length, ap, ◌∙◌, refl, arith, add-one, append_assoc}
 use Rattle.std.specs.List.{AllZip}
+use Rattle.rb_history.specs.Calls.{producer_now, consumer_now}
+use Rattle.rb_history.specs.RingModel.{Ring}
 use Rattle.rb_history.specs.declared.answers.Counts.{Counts}
-use Rattle.rb_chapter.specs.ChapterRing.{ChapterRing}
+use Rattle.rb_history.specs.declared.entries.Entry.{Entry}
+use Rattle.rb_history.specs.declared.notices_and_queries.TheConstants.{CONS_POS, PROD_POS}
+use Rattle.rb_chapter.specs.ChapterRing.{ChapterRing, whole_ring}
 use Rattle.rb_chapter.specs.CountedFrom.{producer_from, consumer_from}
-use Rattle.rb_chapter_ring.specs.OpenedRing.{told_counts}
+use Rattle.rb_chapter.specs.WholeHistory.{IsKept, IsSameFrom}
+use Rattle.rb_chapter.proofs.Stands.{goes-on}
+use Rattle.rb_chapter_ring.specs.OpenedRing.{capped_counts, told_counts}
 use Rattle.rb_interp.specs.MachineState.{MachineState}
 use Rattle.rb_world.specs.OpenedWorlds.{IsOpenedWorld, IsStarted, MayOpen}
 use Rattle.rb_world.specs.WorldValue.{WorldValue}
@@ -12,7 +18,7 @@ use Rattle.rb_world.specs.declared.opening.RingSetup.{RingSetup}
 use Rattle.rb_world.specs.declared.opening.WorkerSetup.{WorkerSetup}
 use Rattle.rb_world.specs.declared.world_record.WorldRecord.{WorldRecord}
 use Rattle.rb_script.specs.OutputLines.{ring_line}
-use Rattle.rb_script.specs.Simulation.{ring_text}
+use Rattle.rb_script.specs.Simulation.{lines_below, ring_text}
 
 pub machines-long : (setups : List WorkerSetup) (machines : List (MachineState WorldRecord)) → AllZip IsStarted setups machines → length setups ≡ length machines
 machines-long [] [] h = refl
@@ -24,10 +30,18 @@ machines-long (x ∷ setups) (y ∷ machines) h = ap ℕ.suc (machines-long setu
 pub few-machines : (rings : List RingSetup) (setups : List WorkerSetup) (v : WorldValue) → IsOpenedWorld rings setups v → MayOpen rings setups → length v.machines ≤ 256
 few-machines rings setups v opened allowed = let same = machines-long setups v.machines opened.machines_are in let most = allowed.worker_count.1 in omega arith
 
--- the line of a ring by what it tells
-pub ring-shown : (r : ℕ) (ring whole : ChapterRing) → ring ≡ whole → (producer consumer : ℕ) (counts : Counts) → producer ≡ producer_from ring.chapter.opening ring.chapter.entries → consumer ≡ consumer_from ring.chapter.opening ring.chapter.entries
-    → counts ≡ told_counts ring → ring_line r producer consumer counts ≡ ring_text r whole
-ring-shown r ring whole e producer consumer counts p q k =
-    ap (λ n. ring_line r n consumer counts) p
-    ∙ (ap (λ n. ring_line r (producer_from ring.chapter.opening ring.chapter.entries) n counts) q
-    ∙ (ap (λ n. ring_line r (producer_from ring.chapter.opening ring.chapter.entries) (consumer_from ring.chapter.opening ring.chapter.entries) n) k ∙ ap (λ s. ring_text r s) e))
+-- one more line
+pub line-more : (line_at : ℕ → List ℕ) (n : ℕ) (start before after : List ℕ) → before ≡ start ++ lines_below line_at n → after ≡ before ++ line_at n → after ≡ start ++ lines_below line_at (n + 1)
+line-more line_at n start before after so_far more = rw add-one (more ∙ (ap (λ l. l ++ line_at n) so_far ∙ append_assoc start (lines_below line_at n) (line_at n)))
+
+-- the line of a ring by what it tells, which it counts from its chapter's opening
+module _ (earlier : List Entry) (ring : ChapterRing) (kept : IsKept earlier ring.chapter) where
+  same : IsSameFrom ring.chapter.opening.setup earlier ring.chapter.opening ring.chapter.entries
+  same = (goes-on ring.chapter.opening.setup earlier ring.chapter.opening kept.continues.earlier_legal kept.continues.opened ring.chapter.entries).1 kept.continues.legal
+
+  pub ring-shown : (r : ℕ) (whole : Ring) → whole_ring earlier ring ≡ whole → (producer consumer : ℕ) (counts : Counts) → producer ≡ producer_from ring.chapter.opening ring.chapter.entries → consumer ≡ consumer_from ring.chapter.opening ring.chapter.entries
+      → counts ≡ told_counts ring → ring_line r producer consumer counts ≡ ring_text r whole
+  ring-shown r whole e producer consumer counts p q k =
+      ap (λ n. ring_line r n consumer counts) (p ∙ same.query PROD_POS)
+      ∙ (ap (λ n. ring_line r (producer_now (whole_ring earlier ring)) n counts) (q ∙ same.query CONS_POS)
+      ∙ (ap (λ c. ring_line r (producer_now (whole_ring earlier ring)) (consumer_now (whole_ring earlier ring)) c) (k ∙ ap capped_counts same.counts) ∙ ap (λ s. ring_text r s) e))

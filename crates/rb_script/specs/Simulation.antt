@@ -6,14 +6,14 @@ use Rattle.rb_interleavings.specs.declared.actor.Actor.TheVariants.{Consumer, Ke
 use Rattle.rb_interleavings.specs.Turns.{TurnEvent, Took, WorldRun}
 use Rattle.rb_world.specs.declared.turn_done.TurnDone.{TurnDone}
 use Rattle.rb_world.specs.declared.turn_done.TurnDone.TheVariants.{Chapter}
-use Rattle.rb_world.specs.WorldValue.{WorldValue, world_of, ring_at}
-use Rattle.rb_world.specs.WorldRuns.{next_unit, result_of}
+use Rattle.rb_world.specs.WorldValue.{WorldValue, world_of}
+use Rattle.rb_world.specs.WorldRuns.{next_unit, result_of, TakesTurns}
 use Rattle.rb_world.specs.TurnsDone.{TellsEvent}
 use Rattle.rb_world.specs.OpenedWorlds.{IsOpenedWorld}
 use Rattle.rb_world.specs.declared.opening.WorkerSetup.{WorkerSetup}
-use Rattle.rb_chapter.specs.ChapterRing.{ChapterRing}
-use Rattle.rb_chapter.specs.CountedFrom.{producer_from, consumer_from}
-use Rattle.rb_chapter_ring.specs.OpenedRing.{told_counts}
+use Rattle.rb_history.specs.Calls.{producer_now, consumer_now}
+use Rattle.rb_history.specs.Counting.{counts_of}
+use Rattle.rb_history.specs.RingModel.{Ring}
 use Rattle.rb_verifier.specs.Subject.{Subject}
 use Rattle.rb_script.specs.declared.script.Script.{Script}
 use Rattle.rb_script.specs.declared.script.ScriptWorker.{ScriptWorker}
@@ -32,13 +32,14 @@ abbrev pub turns_text : List Actor → List TurnDone → List TurnEvent → List
 turns_text (actor ∷ actors) (done ∷ dones) (event ∷ events) = turn_text actor done event ++ turns_text actors dones events
 turns_text _ _ _ = []
 
--- the turns of these actors, one after the other, are a run of the world; some answers tell what happened in each; and the lines of
--- these turns were added to the text
+-- the turns of these actors, one after the other, are a run of the world, and were made as the turns of a run are, with what becomes of the
+-- chapters; some answers tell what happened in each; and the lines of these turns were added to the text
 pub record WritesRun (actors : List Actor) (old new : WorldValue) (before after : List ℕ) : Type 0 where
   pub dones : List TurnDone
   pub events : List TurnEvent
   pub told : AllZip TellsEvent dones events
   pub run : WorldRun (world_of old) actors events (world_of new)
+  pub turns : TakesTurns actors old dones new
   pub text_is : after ≡ before ++ turns_text actors dones events
 
 -- so many of the turns of these actors were made and their lines were added to the text; if one more was made, it has no line there
@@ -58,12 +59,12 @@ status_line w None None = []
 abbrev pub worker_line : WorldValue → ℕ → List ℕ
 worker_line v w = status_line w (result_of ((world_of v).workers w)) (next_unit ((world_of v).workers w))
 
--- a ring's: its positions and its counts
-abbrev pub ring_text : ℕ → ChapterRing → List ℕ
-ring_text r ring = ring_line r (producer_from ring.chapter.opening ring.chapter.entries) (consumer_from ring.chapter.opening ring.chapter.entries) (told_counts ring)
+-- a ring's: its positions and its counts, by its whole history
+abbrev pub ring_text : ℕ → Ring → List ℕ
+ring_text r ring = ring_line r (producer_now ring) (consumer_now ring) (counts_of ring.history)
 
 abbrev pub ring_end_of : WorldValue → ℕ → List ℕ
-ring_end_of v r = ring_text r (ring_at v r).ring
+ring_end_of v r = ring_text r ((world_of v).rings r).ring
 
 -- the lines of the numbers below this one, in their order
 abbrev pub lines_below : (ℕ → List ℕ) → ℕ → List ℕ

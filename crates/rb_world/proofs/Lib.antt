@@ -10,4 +10,4 @@ mod WholeTurns
 mod KeptChapters
 mod Refusals
 mod Openings
-mod Runs
+pub mod Runs

@@ -1,12 +1,12 @@
 -- Runs of a world (own).
-use Rattle.std.specs.Prelude.{ℕ, List, [], ◌∷◌, Option, Some, None}
+use Rattle.std.specs.Prelude.{ℕ, ◌≡◌, List, [], ◌∷◌, Option, Some, None}
 use Rattle.std.specs.List.{AllZip}
 use Rattle.rb_interleavings.specs.declared.actor.Actor.{Actor}
 use Rattle.rb_interleavings.specs.Worlds.{WorkerStatus, Running, Finished, WorkerState}
 use Rattle.rb_interleavings.specs.Turns.{TurnEvent, WorldRun}
 use Rattle.rb_world.specs.declared.turn_done.TurnDone.{TurnDone}
 use Rattle.rb_world.specs.WorldValue.{WorldValue, world_of, IsThere}
-use Rattle.rb_world.specs.TurnsDone.{TellsEvent}
+use Rattle.rb_world.specs.TurnsDone.{TellsEvent, IsTurnOf, TurnsChaptersOf}
 
 -- the actor at this place is not there, and those before it are
 abbrev pub IsFirstUnknown : WorldValue → List Actor → ℕ → Type 0
@@ -17,6 +17,14 @@ IsFirstUnknown v (actor ∷ actors) (ℕ.suc place) = IsThere v actor × IsFirst
 -- the turns of these actors, one after the other, are a run of the world, and these answers tell what happened in each
 abbrev pub IsRunOf : List Actor → WorldValue → List TurnDone → WorldValue → Type 0
 IsRunOf actors old dones new = (events : List TurnEvent) × AllZip TellsEvent dones events × WorldRun (world_of old) actors events (world_of new)
+
+-- the turns of these actors were made one after the other, each in the world that the turns before it left, and so were answered; and in
+-- each, the chapters became what that actor's turn makes of them
+abbrev pub TakesTurns : List Actor → WorldValue → List TurnDone → WorldValue → Type 0
+TakesTurns [] old [] new = new ≡ old
+TakesTurns (actor ∷ actors) old (done ∷ dones) new =
+    (next : WorldValue) × IsTurnOf actor old done next × TurnsChaptersOf actor done old.rings next.rings × TakesTurns actors next dones new
+TakesTurns _ old _ new = ⊥
 
 -- the next unit of a worker that runs
 abbrev pub unit_by : WorkerStatus → ℕ → Option ℕ

@@ -1,7 +1,7 @@
 //! Runs of a world: the turns of a list of actors.
 
 ghost use Rattle.std.specs.Prelude.{◌≡◌, ◌↔◌, ℕ, All, IfOk, IfErr, IsErrOf, OnOk, OnErr, length};
-ghost use Rattle.rb_world.specs.WorldRuns.{IsFirstUnknown, IsRunOf};
+ghost use Rattle.rb_world.specs.WorldRuns.{IsFirstUnknown, IsRunOf, TakesTurns};
 ghost use Rattle.rb_world.specs.inner.Refusals.{IsRefusedRun};
 ghost use Rattle.rb_world.specs.WorldValue.{IsThere};
 
@@ -35,6 +35,7 @@ impl<'p> World<'p> {
     /// told, and exactly then; where that or the report's want of memory is told, no turn is made.
     pub fn run(&mut self, actors: &[Actor]) -> Result<Report, WorldFault>
         ensures ran { IfOk result (λ report. IsRunOf actors.now self.old report.turns.items self.new) }
+        ensures turns { IfOk result (λ report. TakesTurns actors.now self.old report.turns.items self.new) }
         ensures known { OnOk result (All (IsThere self.old) actors.now) }
         ensures unknown { (place : ℕ) → IsErrOf result (WorldFault.UnknownActor place) ↔ IsFirstUnknown self.old actors.now place }
         ensures memory { IsErrOf result WorldFault.Memory → All (IsThere self.old) actors.now }

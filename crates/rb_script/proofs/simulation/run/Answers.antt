@@ -1,7 +1,8 @@
 use Rattle.std.proofs.Common.{◌≡◌, ◌++◌, ◌∙◌, refl, rules}
 use Rattle.std.proofs.lemmas.List.Elements.{All-get_or}
 use Rattle.rb_world.specs.WorldValue.{IsThere}
-use Rattle.rb_script.proofs.TurnLines.{writes-none, writes-more, line-joined, there-still}
+use Rattle.rb_world.proofs.Runs.{there-still}
+use Rattle.rb_script.proofs.TurnLines.{writes-none, writes-more, line-joined}
 use Rattle.rb_script.proofs.simulation.run.Goals as goal
 
 pub loop-actor-init : goal.loop-actor-init
@@ -25,7 +26,7 @@ loop-actor-preserved c =
     record {
       written =
           writes-more c.args.actors.now c.loop-actor.actor-index _ c.args.world.now c.loop-actor.world c.turn-done.new.self c.args.text.now.items c.loop-actor.text.items c.extend_from_slice.new.self.items c.turn-done.result c.loop-actor-test.true
-          c.loop-actor.invariant.written c.turn-done.ensures.turned (line-joined _ _ _ _ _ c.clear.ensures.items c.in-Ok.ensures.line more);
+          c.loop-actor.invariant.written c.turn-done.ensures.turned c.turn-done.ensures.chapters (line-joined _ _ _ _ _ c.clear.ensures.items c.in-Ok.ensures.line more);
       workers = c.turn-done.ensures.workers ∙ c.loop-actor.invariant.workers;
       rings = c.turn-done.ensures.rings ∙ c.loop-actor.invariant.rings;
     }

@@ -1,10 +1,10 @@
 use Rattle.std.proofs.Common.{◌+◌, take, sym, subst, ◌∙◌, arith}
 use Rattle.std.proofs.lemmas.List.Elements.{All-get_or}
 use Rattle.rb_world.specs.WorldValue.{IsThere}
-use Rattle.rb_world.specs.WorldRuns.{IsRunOf}
+use Rattle.rb_world.specs.WorldRuns.{IsRunOf, TakesTurns}
 use Rattle.rb_world.specs.declared.world_fault.WorldFault.TheVariants.{Memory}
 use Rattle.rb_world.proofs.Refusals.{none-unknown, unknown-exactly}
-use Rattle.rb_world.proofs.Runs.{run-more, there-still}
+use Rattle.rb_world.proofs.Runs.{run-more, turns-more, there-still}
 use Rattle.rb_world.proofs.world.World.run.Goals as goal
 
 pub turn-done-requires : goal.turn-done-requires
@@ -16,6 +16,8 @@ pub loop-actor-preserved : goal.loop-actor-preserved
 loop-actor-preserved c = record {
   so_far = subst (λ l. IsRunOf (take (c.loop-actor.actor-index + 1) c.args.actors.now) c.args.self.now l c.turn-done.new.self) (sym c.push_reserved.ensures.items)
       (run-more c.args.actors.now c.loop-actor.actor-index _ c.args.self.now c.loop-actor.self c.turn-done.new.self c.loop-actor.turns.items c.turn-done.result c.loop-actor-test.true c.loop-actor.invariant.so_far c.turn-done.ensures.turned);
+  turns_so_far = subst (λ l. TakesTurns (take (c.loop-actor.actor-index + 1) c.args.actors.now) c.args.self.now l c.turn-done.new.self) (sym c.push_reserved.ensures.items)
+      (turns-more c.args.actors.now c.loop-actor.actor-index _ c.args.self.now c.loop-actor.self c.turn-done.new.self c.loop-actor.turns.items c.turn-done.result c.loop-actor-test.true c.loop-actor.invariant.turns_so_far c.turn-done.ensures.turned c.turn-done.ensures.chapters);
   count = (let more = c.push_reserved.ensures.len in let before = c.loop-actor.invariant.count in omega arith);
   room = (let same = c.push_reserved.ensures.capacity in let before = c.loop-actor.invariant.room in omega arith);
   workers = c.turn-done.ensures.workers ∙ c.loop-actor.invariant.workers;
