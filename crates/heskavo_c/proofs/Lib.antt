@@ -1,4 +1,5 @@
 mod Fronts
 mod Records
+mod ShapeRefusals
 mod TapeLooks
 pub mod TapesLeft

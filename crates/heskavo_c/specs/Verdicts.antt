@@ -3,6 +3,7 @@ use Rattle.std.specs.Prelude.{◌≡◌, ℕ, ◌≤◌, List}
 use Rattle.rb_insn.specs.declared.insn.Insn.{Insn}
 use Rattle.rb_insn.specs.Spelling.{SpellsAll}
 use Rattle.rb_decode.specs.FirstDecodeFault.{IsFirstDecodeFault}
+use Rattle.rb_decode.specs.Program.{IsProgram}
 use Rattle.rb_decode.specs.declared.fault.DecodeKind.{DecodeKind}
 use Rattle.rb_decode.specs.declared.fault.DecodeKind.TheVariants as decode_faults
 use Rattle.rb_cfg.specs.Shape.{IsWellShaped}
@@ -22,9 +23,10 @@ use Rattle.heskavo_c.specs.declared.verdict.Verdict.{Verdict}
 abbrev pub AreBounds : ℕ → ℕ → Type 0
 AreBounds ctx_len rings = (ctx_len ≤ 65536) × (rings ≤ 16)
 
--- the bytes are the program's, which is well shaped and has a valid annotation for a context of this length and so many rings
+-- the bytes are the program's, which has 1 to 4096 units, is well shaped and has a valid annotation for a context of this length and so many rings
 pub record IsAccepted (bytes : List ℕ) (ctx_len rings : ℕ) (subject : Subject) : Type 0 where
   pub spelled : SpellsAll subject.program bytes
+  pub bounds : IsProgram subject.program
   pub context : subject.ctx_len ≡ ctx_len
   pub known : subject.rings ≡ rings
   pub well_shaped : IsWellShaped subject.program
@@ -34,12 +36,14 @@ pub record IsAccepted (bytes : List ℕ) (ctx_len rings : ℕ) (subject : Subjec
 pub record HasFirstShapeFault (bytes : List ℕ) (fault : ShapeFault) : Type 0 where
   pub program : List Insn
   pub spelled : SpellsAll program bytes
+  pub bounds : IsProgram program
   pub first : IsFirstShapeFault program fault
 
 -- the bytes are a well-shaped program's, which no annotation fits for such a context and so many rings; and this rule is the first that it breaks
 pub record HasFirstBrokenRule (bytes : List ℕ) (ctx_len rings unit : ℕ) (rule : BrokenRule) : Type 0 where
   pub program : List Insn
   pub spelled : SpellsAll program bytes
+  pub bounds : IsProgram program
   pub well_shaped : IsWellShaped program
   pub no_valid : HasNoValid (record { ctx_len = ctx_len; rings = rings }) program
   pub first : IsFirstBrokenRule (record { ctx_len = ctx_len; rings = rings }) program unit rule

@@ -5,6 +5,8 @@
 //! A program is its bytes, eight a unit, as RFC 9669 lays them out. Memory comes of the caller's `malloc`, and goes back before a call returns.
 #![tactic(auto)]
 
+#[cfg(test)]
+mod calls;
 mod explaining;
 mod load;
 mod outgoing;

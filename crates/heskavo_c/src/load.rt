@@ -70,12 +70,16 @@ pub(crate) fn load(
         Ok(program) => program,
         Err(fault) => return Err(refused_for_bytes(fault)),
     };
+    program.facts();
     let shape = match shape(alloc, program) {
         Ok(shape) => shape,
         Err(fault) => return Err(refused_for_shape(fault)),
     };
     match verify(alloc, shape, ctx_len, rings) {
-        Ok(verified) => Ok(verified),
+        Ok(verified) => {
+            verified.program().facts();
+            Ok(verified)
+        }
         Err(Refusal::Rule { unit, rule }) => Err(Some(Refused::Rule { unit, rule })),
         Err(Refusal::Memory) => Err(None),
     }

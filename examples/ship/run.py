@@ -1,0 +1,131 @@
+#!/usr/bin/env python3
+"""Ships the tapes of two hosts through Redis Streams, kills senders, readers and the server in the middle, and compares what was read with the tapes.
+
+Usage: examples/ship/run.py [RBHOST]
+
+RBHOST is tools/rbhost unless given. Debian's package `redis-server` has the server, which is started on loopback alone, with each command on the disk
+before it is answered. Once a quarter of a host's records was read, its sender is killed and started again, from the front of its tape; once half of all
+was read, the server is; once three quarters of a host's were, its reader. The script's status is 1 where what was read is not the tape, line by line.
+"""
+import pathlib
+import shutil
+import signal
+import socket
+import subprocess
+import sys
+import tempfile
+import time
+
+HERE = pathlib.Path(__file__).resolve().parent
+ROOT = HERE.parent.parent
+SIZE = 1048576
+HOSTS = {"alpha": 2500, "beta": 4000}
+WORKERS = 4
+
+
+def free_port():
+    """A port of loopback that nobody listens on."""
+    with socket.socket() as found:
+        found.bind(("127.0.0.1", 0))
+        return found.getsockname()[1]
+
+
+def start_server(folder, port):
+    """A server of its own, whose stream is on the disk before it answers."""
+    words = ["redis-server", "--bind", "127.0.0.1", "--port", str(port), "--dir", str(folder), "--save", "", "--appendonly", "yes", "--appendfsync", "always"]
+    return subprocess.Popen(words, stdout=subprocess.DEVNULL)
+
+
+class Host:
+    """A host: its tape, and what sends and reads it."""
+
+    def __init__(self, rbhost, folder, name, jobs, port):
+        self.rbhost, self.name, self.port = rbhost, name, port
+        self.tape, self.read = folder / f"{name}.tape", folder / f"{name}.read"
+        program = (ROOT / "examples" / "output_context.hex").read_bytes()
+        run = [rbhost, "run", "--workers", str(WORKERS), "--jobs", str(jobs), "--size", str(SIZE), "--tape", str(self.tape)]
+        subprocess.run(run, input=program, stdout=subprocess.DEVNULL, check=True)
+        self.lines = subprocess.run([rbhost, "tape", "--size", str(SIZE)], stdin=self.tape.open("rb"), stdout=subprocess.PIPE, check=True).stdout
+        self.records = self.lines.count(b"\n")
+        self.starts, self.reads = 0, 0
+        self.start_reader()
+        self.start_sender()
+
+    def start_reader(self):
+        """Reads on behind what the file has."""
+        self.reader = subprocess.Popen([str(HERE / "read.py"), self.name, str(self.port), str(self.read)])
+        self.reads += 1
+
+    def start_sender(self):
+        """Sends the tape from its front."""
+        words = [self.rbhost, "tape", "--size", str(SIZE)]
+        tape = subprocess.Popen(words, stdin=self.tape.open("rb"), stdout=subprocess.PIPE, stderr=subprocess.DEVNULL)
+        self.sender = subprocess.Popen([str(HERE / "send.py"), self.name, str(self.port)], stdin=tape.stdout)
+        tape.stdout.close()
+        self.starts += 1
+
+    def count(self):
+        """How many records were read."""
+        return self.read.read_bytes().count(b"\n") if self.read.exists() else 0
+
+    def kill_sender(self):
+        """Kills the sender, and starts it again."""
+        self.sender.send_signal(signal.SIGKILL)
+        self.sender.wait()
+        self.start_sender()
+
+    def kill_reader(self):
+        """Kills the reader, and starts it again."""
+        self.reader.send_signal(signal.SIGKILL)
+        self.reader.wait()
+        self.start_reader()
+
+
+def ship(hosts, folder, port, server):
+    """Waits until all was read; the senders and the server are killed on the way. Returns how often the server was started."""
+    starts, total, end = 1, sum(host.records for host in hosts), time.monotonic() + 120
+    while (count := sum(host.count() for host in hosts)) < total:
+        for host in hosts:
+            if host.starts == 1 and host.count() >= host.records // 4:
+                host.kill_sender()
+            if host.reads == 1 and host.count() >= 3 * host.records // 4:
+                host.kill_reader()
+        if starts == 1 and count >= total // 2:
+            server[0].send_signal(signal.SIGKILL)
+            server[0].wait()
+            server[0] = start_server(folder, port)
+            starts += 1
+        if time.monotonic() > end:
+            sys.exit(f"after two minutes {count} of {total} records were read")
+        time.sleep(0.002)
+    return starts
+
+
+def main():
+    """Ships, and compares."""
+    if not shutil.which("redis-server"):
+        sys.exit("redis-server is not there: it is in Debian's package redis-server")
+    rbhost = sys.argv[1] if len(sys.argv) > 1 else str(ROOT / "tools" / "rbhost")
+    with tempfile.TemporaryDirectory() as name:
+        folder, port = pathlib.Path(name), free_port()
+        server, hosts = [start_server(folder, port)], []
+        try:
+            for host, jobs in HOSTS.items():
+                hosts.append(Host(rbhost, folder, host, jobs, port))
+            starts = ship(hosts, folder, port, server)
+            for host in hosts:
+                host.sender.wait(30)
+            time.sleep(1)
+            same = [host.read.read_bytes() == host.lines for host in hosts]
+        finally:
+            for process in [*(host.reader for host in hosts), *(host.sender for host in hosts), *server]:
+                process.kill()
+                process.wait()
+    for host, equal in zip(hosts, same):
+        print(f"{host.name}: {host.records} records, sender started {host.starts} times, reader {host.reads}, {'what was read is the tape' if equal else 'WHAT WAS READ IS NOT THE TAPE'}")
+    print(f"server started {starts} times")
+    sys.exit(0 if all(same) else 1)
+
+
+if __name__ == "__main__":
+    main()
