@@ -80,17 +80,33 @@ impl<'a> Row<'a> {
 
     fn add_run(&mut self, run: &str) -> Result<(), RowFault> {
         let (digits, times) = match run.split_once('*') {
-            Some((digits, times)) => (digits, times.parse::<usize>()),
-            None => (run, Ok(1)),
+            Some((digits, times)) => (digits, decimal(times)),
+            None => (run, Some(1)),
         };
-        let (Ok(byte), Ok(times)) = (u8::from_str_radix(digits, 16), times) else {
+        let (Some(byte), Some(times)) = (hex_byte(digits), times) else {
             return Err(RowFault::Word);
         };
         let length = self.bytes.len();
-        if digits.len() != 2 || length > MOST_BYTES || times > MOST_BYTES - length {
+        if length > MOST_BYTES || times > MOST_BYTES - length {
             return Err(RowFault::Word);
         }
         self.bytes.resize(length + times, byte)?;
         Ok(())
     }
+}
+
+// The number that decimal digits spell. `parse` alone would take a plus in front.
+fn decimal(digits: &str) -> Option<usize> {
+    if !digits.bytes().all(|byte| byte.is_ascii_digit()) {
+        return None;
+    }
+    digits.parse().ok()
+}
+
+// The byte that two hex digits spell.
+fn hex_byte(digits: &str) -> Option<u8> {
+    if digits.len() != 2 || !digits.bytes().all(|byte| byte.is_ascii_hexdigit()) {
+        return None;
+    }
+    u8::from_str_radix(digits, 16).ok()
 }
