@@ -1,4 +1,4 @@
 pub mod ChangedHands
 pub mod BusyEntries
-mod FourHands
+pub mod FourHands
 pub mod HandCalls
