@@ -1,4 +1,3 @@
-use Rattle.std.proofs.Common.{refl}
 use Rattle.rb_history.specs.ManyTakes.{pushed}
 use Rattle.rb_hand_ring.proofs.StateSteps.{many-keep}
 use Rattle.rb_hand_ring.proofs.hand_state.HandState.take_many.Goals as goal
