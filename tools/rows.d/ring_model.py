@@ -324,17 +324,46 @@ class Ring:
         return entries_text([entry for chapter in chapters for entry in chapter.entries])
 
 
+# how many records a worker holds at once
+HANDS = 4
+
+
+def handed_back(held):
+    return " handed back" + held.record.numbers()
+
+
 class SharedRing(Ring):
     """A ring with seats, each call of which is one call of a ring."""
 
     def __init__(self, tag, size, start, workers, room):
         super().__init__(size, start, workers, room)
         self.tag = tag
+        self.hands = [[None] * HANDS for _ in range(workers)]
 
     def seat(self, worker):
         if not self.has_worker(worker):
             return " fault: no such worker"
-        return f" tag {self.tag} worker {worker}" + self.now.tallies[worker].text()
+        hands = "".join(" -" if out is None else f" {out.pos}" for out in self.hands[worker])
+        return f" tag {self.tag} worker {worker}" + self.now.tallies[worker].text() + " hands" + hands
+
+    def reserve(self, worker, length):
+        """A record goes into the lowest free hand of its worker, whose seat names it then."""
+        hands = self.hands[worker]
+        if None not in hands:
+            return " refused hands full back" + runs(b"\xff" * length), None
+        answer, held = super().reserve(worker, length)
+        if held:
+            held.tag, held.hand = self.tag, hands.index(None)
+            hands[held.hand] = held.record
+        return answer, held
+
+    def give_back(self, worker, held, status, flags):
+        """Taken where the worker's hand that the reservation names is out with its numbers, and handed back else."""
+        hands, record = self.hands[worker], held.record
+        if held.tag != self.tag or record.worker != worker or hands[held.hand] is None or hands[held.hand].numbers() != record.numbers():
+            return handed_back(held), held
+        hands[held.hand] = None
+        return self.end(held, status, flags)
 
     def consumer(self):
         now = self.now

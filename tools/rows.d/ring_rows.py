@@ -246,11 +246,11 @@ class Script:
         if held is None:
             return " fault: no such record"
         ring, foreign, worker = seat
-        answer, stray = " stray" + held.record.numbers(), held
-        if not foreign and held.record.worker == worker:
-            answer, stray = ring.end(held, status, row.numbers[1])
-        if stray:
-            self.shared_records[row.names[1]] = stray
+        answer, back = model.handed_back(held), held
+        if not foreign:
+            answer, back = ring.give_back(worker, held, status, row.numbers[1])
+        if back:
+            self.shared_records[row.names[1]] = back
         return answer
 
     def shared_output(self, row):

@@ -8,14 +8,13 @@ SIZES = [4096] * 6 + [8192, 8192, 65536]
 STARTS = [0, 0, 0, 8, 4088, 4096, (1 << 61) - 8, 1 << 61]
 ROOMS = [8, 8, 9, 12, 16, 64, 65536]
 
-# How many records a worker holds at most.
-MOST_HELD = 4
-
 
 class Drawing:
     """A script over rings of one thread. Each row is answered by the model as it is drawn, so that a later one can go on from it."""
 
     opens = "open"
+    # how many records a worker holds at most
+    most_held = 4
     opened = " opened"
     rings = ("a", "b")
 
@@ -91,7 +90,7 @@ class Drawing:
     def reserve(self):
         ring = self.ring()
         worker = self.worker(ring)
-        if self.held_by(ring, worker) >= MOST_HELD:
+        if self.held_by(ring, worker) >= self.most_held:
             return
         record = self.name("r")
         if self.row("reserve", ring, record, self.home(ring), worker, self.length(ring)).startswith(" granted"):
@@ -213,6 +212,8 @@ class SharedDrawing(Drawing):
 
     opens = "share"
     rings = ("s", "t")
+    # so that a worker is refused a record for want of a hand
+    most_held = model.HANDS + 1
 
     def home(self, ring):
         return self.one_of(*self.setups) if self.chance(0.04) else ""

@@ -20,7 +20,7 @@ use Rattle.rb_ledger.specs.Roles.{Role, Book}
 use Rattle.rb_ledger.specs.Roles.Role.{Consumer, Worker}
 use Rattle.rb_ledger.specs.LockedCalls.{LockedCall, SubmitsAt, DiscardsAt, TakesAt, Queries}
 use Rattle.rb_chapter_ledger.specs.ChapteredRing.{chaptered_ring, whole_of}
-use Rattle.rb_chapter_ledger.specs.LockedChapterCalls.{LockedChapterCall, InOneChapter, InKnownChapter, SubmitsInChapter, DiscardsInChapter, TakesInChapter, QueriesInChapter, HandsOutNext, EachCallIsWhole}
+use Rattle.rb_chapter_ledger.specs.LockedChapterCalls.{LockedChapterCall, InOneChapter, InRoomAt, InKnownChapter, SubmitsInChapter, DiscardsInChapter, TakesInChapter, QueriesInChapter, HandsOutNext, EachCallIsWhole}
 use Rattle.rb_chapter.proofs.Chain.{binds-continue, binds-number}
 use Rattle.rb_chapter_ledger.proofs.ChapterSteps.{handed-out-whole}
 
@@ -56,6 +56,10 @@ module _ (earlier : List Entry) (old new : ChapterRing) (is : ContinuesHistory e
   queries-whole what answer a = (ap (whole_ring earlier) a.0, a.1 ∙ said.query what)
 
 -- ---- from what a role had seen to what it has seen
+
+-- a call in a chapter with its room is a call in one chapter
+pub in-one-chapter : (role : Role) (before after : Book) (room cut : ℕ) (Call : ChapterRing → ChapterRing → Type 0) → LockedChapterCall role before after (InRoomAt room cut Call) → LockedChapterCall role before after (InOneChapter Call)
+in-one-chapter role before after room cut Call t = record { point = t.point; left = t.left; goes_on = t.goes_on; was_ring = t.was_ring; called = t.called.call; is_ring = t.is_ring; seen = t.seen }
 
 module _ (role : Role) (before after : Book) (call : ChapterRing → ChapterRing → Type 0) (whole : Ring → Ring → Type 0) where
   pub call-whole : ((earlier : List Entry) (old new : ChapterRing) → ContinuesHistory earlier old.chapter → call old new → whole (whole_ring earlier old) (whole_ring earlier new)) → LockedChapterCall role before after (InOneChapter call) → LockedCall role before after whole

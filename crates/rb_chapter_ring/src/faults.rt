@@ -38,4 +38,7 @@ pub enum ReserveFault {
     /// The seat is another ring's. Nothing changed. A ring of one thread never answers so.
     #[error("the seat is another ring's")]
     Foreign,
+    /// None of the seat's four hands is free. Nothing changed. A ring of one thread never answers so, and no `output` does.
+    #[error("no hand is free")]
+    HandsFull,
 }

@@ -9,8 +9,8 @@ use Rattle.rb_check_command.specs.DrainedRings.{AreConsumersOf}
 use Rattle.rb_check_command.specs.FreshRings.{fresh_worker, fresh_taker}
 
 -- the last seat of a ring for one worker is its one seat
-pub one_seat : (tag : ℕ) (ring : TableId) (seen : Book) (seats rest : List WorkerSeat) (seat : WorkerSeat) → seats ≡ fresh_seats tag ring seen 0 1 → seats ≡ rest ++ seat ∷ [] → seat ≡ fresh_seat tag ring 0 seen
-one_seat tag ring seen seats rest seat is parts = (same_from_push rest [] seat (fresh_seat tag ring 0 seen) (sym parts ∙ is)).1
+pub one_seat : (tag : ℕ) (ring : TableId) (room : ℕ) (seen : Book) (seats rest : List WorkerSeat) (seat : WorkerSeat) → seats ≡ fresh_seats tag ring room seen 0 1 → seats ≡ rest ++ seat ∷ [] → seat ≡ fresh_seat tag ring room 0 seen
+one_seat tag ring room seen seats rest seat is parts = (same_from_push rest [] seat (fresh_seat tag ring room 0 seen) (sym parts ∙ is)).1
 
 pub fresh_at : (rings : List Shared) → AtRings rings (map fresh_worker rings)
 fresh_at [] = tt

@@ -7,7 +7,7 @@ use Rattle.rb_chapter_ledger.specs.ChapterSeats.{ChapterConsumerSeat, fresh_chap
 
 -- the seat of a ring's one worker
 abbrev pub fresh_worker : Shared → WorkerSeat
-fresh_worker ring = fresh_seat ring.tag ring.ring 0 (fresh_book 4096 0 1)
+fresh_worker ring = fresh_seat ring.tag ring.ring 65536 0 (fresh_book 4096 0 1)
 
 -- the seat of a ring's consumer, which has handed no chapter out
 abbrev pub fresh_taker : Shared → ChapterConsumerSeat

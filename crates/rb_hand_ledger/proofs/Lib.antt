@@ -1,3 +1,3 @@
-mod HandLock
+pub mod HandLock
 pub mod NoStranger
 pub mod HeldRecords

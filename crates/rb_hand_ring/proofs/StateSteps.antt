@@ -11,7 +11,7 @@ use Rattle.rb_chapter.specs.ChapterRing.{ChapterRing, IsGranted}
 use Rattle.rb_chapter.specs.ChapterCalls.{Outputs, Takes, HandsOut}
 use Rattle.rb_chapter.specs.WholeHistory.{IsKept}
 use Rattle.rb_chapter_ring.specs.declared.faults.ReserveFault.{ReserveFault}
-use Rattle.rb_chapter_ring.specs.declared.faults.ReserveFault.TheVariants.{Full, Flags, ChapterFull, Foreign}
+use Rattle.rb_chapter_ring.specs.declared.faults.ReserveFault.TheVariants.{Full, Flags, ChapterFull, Foreign, HandsFull}
 use Rattle.rb_chapter.proofs.Keeping.{calls-keep}
 use Rattle.rb_chapter_ring.specs.ManyTakes.{TakesEachInChapter}
 use Rattle.rb_chapter_ring.specs.OpenedRing.{opened_ring}
@@ -41,6 +41,7 @@ module _ (earlier : List Entry) (old new : HandRing) (kept : IsKept earlier old.
   refused-keeps w n low ChapterFull a same = (keep-hands earlier old new kept has).finds_chapter_full w n a same
   refused-keeps w n low Flags a same = subst HasHands (λ i. hand_ring (sym a i) (sym same i)) has
   refused-keeps w n low Foreign a same = absurd a
+  refused-keeps w n low HandsFull a same = absurd a
 
   pub granted-keeps : (w hand n p k : ℕ) → w < old.ring.chapter.opening.setup.workers → GrantsToHand old new w hand n p k → HasHands new
   granted-keeps = (keep-hands earlier old new kept has).grants

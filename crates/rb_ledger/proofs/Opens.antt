@@ -66,15 +66,15 @@ open-step n pass v r e is_ring none =
 
 -- ---- the seats that are cut off
 
-seats-step : (tag : ℕ) (ring : TableId) (b : Book) (i n : ℕ) → i < n → fresh_seats tag ring b i (n - i) ≡ fresh_seat tag ring i b ∷ fresh_seats tag ring b (i + 1) (n - (i + 1))
-seats-step tag ring b i n h = let e : n - i ≡ suc (n - (i + 1)) = omega arith in ap (fresh_seats tag ring b i) e
+seats-step : (tag : ℕ) (ring : TableId) (room : ℕ) (b : Book) (i n : ℕ) → i < n → fresh_seats tag ring room b i (n - i) ≡ fresh_seat tag ring room i b ∷ fresh_seats tag ring room b (i + 1) (n - (i + 1))
+seats-step tag ring room b i n h = let e : n - i ≡ suc (n - (i + 1)) = omega arith in ap (fresh_seats tag ring room b i) e
 
 -- one seat more
-pub seats-more : (tag : ℕ) (ring ring' : TableId) (b : Book) (i n : ℕ) (items more : List WorkerSeat) (s : WorkerSeat) (all : List WorkerSeat) → i < n → ring' ≡ ring → s ≡ fresh_seat tag ring i b → more ≡ items ++ s ∷ []
-    → items ++ fresh_seats tag ring b i (n - i) ≡ all → more ++ fresh_seats tag ring' b (i + 1) (n - (i + 1)) ≡ all
-seats-more tag ring ring' b i n items more s all h same is e before =
-    ap (λ m. m ++ fresh_seats tag ring' b (i + 1) (n - (i + 1))) e
-    ∙ append_assoc items (s ∷ []) (fresh_seats tag ring' b (i + 1) (n - (i + 1)))
-    ∙ ap (λ (y : WorkerSeat × TableId). items ++ y.0 ∷ fresh_seats tag y.1 b (i + 1) (n - (i + 1))) (λ k. (is k, same k))
-    ∙ ap (λ ss. items ++ ss) (sym (seats-step tag ring b i n h))
+pub seats-more : (tag : ℕ) (ring ring' : TableId) (room : ℕ) (b : Book) (i n : ℕ) (items more : List WorkerSeat) (s : WorkerSeat) (all : List WorkerSeat) → i < n → ring' ≡ ring → s ≡ fresh_seat tag ring room i b → more ≡ items ++ s ∷ []
+    → items ++ fresh_seats tag ring room b i (n - i) ≡ all → more ++ fresh_seats tag ring' room b (i + 1) (n - (i + 1)) ≡ all
+seats-more tag ring ring' room b i n items more s all h same is e before =
+    ap (λ m. m ++ fresh_seats tag ring' room b (i + 1) (n - (i + 1))) e
+    ∙ append_assoc items (s ∷ []) (fresh_seats tag ring' room b (i + 1) (n - (i + 1)))
+    ∙ ap (λ (y : WorkerSeat × TableId). items ++ y.0 ∷ fresh_seats tag y.1 room b (i + 1) (n - (i + 1))) (λ k. (is k, same k))
+    ∙ ap (λ ss. items ++ ss) (sym (seats-step tag ring room b i n h))
     ∙ before

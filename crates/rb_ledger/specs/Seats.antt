@@ -7,6 +7,7 @@ use Rattle.rb_history.specs.History.{consumer_of}
 use Rattle.rb_history.specs.Legal.{IsLegal}
 use Rattle.rb_history.specs.RingModel.{Ring, Contents, IsRingSize, IsStartPosition, IsWorkerCount}
 use Rattle.rb_history.specs.declared.tally.Tally.{Tally}
+use Rattle.rb_hands.specs.Hands.{Hands, free_hands}
 use Rattle.rb_ledger.specs.Roles.{Book}
 use Rattle.rb_history.specs.WorkerCounts.{tally_of, events_of, skips_of}
 
@@ -15,14 +16,18 @@ pub record Shared : Type 0 where
   pub tag : ℕ
   pub ring : TableId
 
--- a worker's seat: the tag and the ring that it was opened with, its numbers, the book as it saw it last, the bytes that it submitted
--- or output, by position, and the ring's state where the seat has it out of the lock
+-- a worker's seat: the tag and the ring that it was opened with, how many entries each chapter of the ring has room for, its numbers, its four
+-- hands, the book as it saw it last, of which so many entries had been handed out in chapters, the bytes that it submitted or output, by
+-- position, and the ring's state where the seat has it out of the lock
 pub record WorkerSeat : Type 0 where
   pub tag : ℕ
   pub ring : TableId
+  pub room : ℕ
   pub worker : ℕ
   pub tally : Tally
+  pub hands : Hands
   pub seen : Book
+  pub cut : ℕ
   pub sent : Contents
   pub out : Option Ring
 
@@ -61,6 +66,7 @@ pub record ConsumerTies (consumed skipped position : ℕ) (b : Book) : Type 0 wh
 pub record IsSameSeat (old new : WorkerSeat) : Type 0 where
   pub tag_same : new.tag ≡ old.tag
   pub ring_same : new.ring ≡ old.ring
+  pub room_same : new.room ≡ old.room
   pub worker_same : new.worker ≡ old.worker
 
 -- ---- seats at a ring that was just opened
@@ -68,14 +74,24 @@ pub record IsSameSeat (old new : WorkerSeat) : Type 0 where
 abbrev pub fresh_book : ℕ → ℕ → ℕ → Book
 fresh_book size start workers = record { setup = record { size = size; start = start; workers = workers }; history = [] }
 
-abbrev pub fresh_seat : ℕ → TableId → ℕ → Book → WorkerSeat
-fresh_seat tag ring worker seen =
-    record { tag = tag; ring = ring; worker = worker; tally = record { made = 0; refused = 0; submitted = 0; discarded = 0 }; seen = seen; sent = empty; out = None }
+abbrev pub fresh_seat : ℕ → TableId → ℕ → ℕ → Book → WorkerSeat
+fresh_seat tag ring room worker seen = record {
+  tag = tag;
+  ring = ring;
+  room = room;
+  worker = worker;
+  tally = record { made = 0; refused = 0; submitted = 0; discarded = 0 };
+  hands = free_hands;
+  seen = seen;
+  cut = 0;
+  sent = empty;
+  out = None;
+}
 
 -- seats of the workers from `first` on
-abbrev pub fresh_seats : ℕ → TableId → Book → ℕ → ℕ → List WorkerSeat
-fresh_seats tag ring seen first zero = []
-fresh_seats tag ring seen first (suc n) = fresh_seat tag ring first seen ∷ fresh_seats tag ring seen (first + 1) n
+abbrev pub fresh_seats : ℕ → TableId → ℕ → Book → ℕ → ℕ → List WorkerSeat
+fresh_seats tag ring room seen first zero = []
+fresh_seats tag ring room seen first (suc n) = fresh_seat tag ring room first seen ∷ fresh_seats tag ring room seen (first + 1) n
 
 -- ---- all seats of a ring
 

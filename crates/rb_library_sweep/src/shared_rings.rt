@@ -64,7 +64,7 @@ pub(crate) fn opened<R: Wait + Print>(
     alloc: Global,
 ) -> Result<(SharedRing, Vec<Seat>, ConsumerSeat), SweepFault>
     ensures tag { IfOk result (λ o. o.0.tag ≡ 7) }
-    ensures seats { IfOk result (λ o. o.1.items ≡ fresh_seats 7 o.0.ring (fresh_book 4096 0 2) 0 2) }
+    ensures seats { IfOk result (λ o. o.1.items ≡ fresh_seats 7 o.0.ring 8 (fresh_book 4096 0 2) 0 2) }
     ensures consumer { IfOk result (λ o. o.2 ≡ fresh_chapter_consumer 7 o.0.ring 8 (fresh_book 4096 0 2)) }
 {
     for _ in 0..TRIES {

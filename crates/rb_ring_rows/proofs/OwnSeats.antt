@@ -7,14 +7,14 @@ use Rattle.rb_ledger.specs.Seats.{Shared, WorkerSeat, fresh_seat, fresh_seats}
 use Rattle.rb_chapter_ledger.specs.ChapterSeats.{ChapterConsumerSeat, fresh_chapter_consumer}
 use Rattle.rb_ring_rows.specs.SharedPlaces.{IsOwnSeat, AreOwnSeats}
 
-fresh_own : (ring : Shared) (seen : Book) (first n : ℕ) → AreOwnSeats ring (fresh_seats ring.tag ring.ring seen first n)
-fresh_own ring seen first zero = λ k d below. absurd (omega arith)
-fresh_own ring seen first (suc n) = All-cons (IsOwnSeat ring) (fresh_seat ring.tag ring.ring first seen) (fresh_seats ring.tag ring.ring seen (first + 1) n) (refl, refl) (fresh_own ring seen (first + 1) n)
+fresh_own : (ring : Shared) (room : ℕ) (seen : Book) (first n : ℕ) → AreOwnSeats ring (fresh_seats ring.tag ring.ring room seen first n)
+fresh_own ring room seen first zero = λ k d below. absurd (omega arith)
+fresh_own ring room seen first (suc n) = All-cons (IsOwnSeat ring) (fresh_seat ring.tag ring.ring room first seen) (fresh_seats ring.tag ring.ring room seen (first + 1) n) (refl, refl) (fresh_own ring room seen (first + 1) n)
 
-pub opened_own : (ring : Shared) (tag : ℕ) (seen : Book) (workers : ℕ) (seats : List WorkerSeat) → ring.tag ≡ tag → seats ≡ fresh_seats tag ring.ring seen 0 workers
+pub opened_own : (ring : Shared) (tag room : ℕ) (seen : Book) (workers : ℕ) (seats : List WorkerSeat) → ring.tag ≡ tag → seats ≡ fresh_seats tag ring.ring room seen 0 workers
     → AreOwnSeats ring seats
-opened_own ring tag seen workers seats same are =
-    subst (AreOwnSeats ring) (sym (are ∙ ap (λ t. fresh_seats t ring.ring seen 0 workers) (sym same))) (fresh_own ring seen 0 workers)
+opened_own ring tag room seen workers seats same are =
+    subst (AreOwnSeats ring) (sym (are ∙ ap (λ t. fresh_seats t ring.ring room seen 0 workers) (sym same))) (fresh_own ring room seen 0 workers)
 
 pub opened_consumer : (ring : Shared) (tag room : ℕ) (seen : Book) (seat : ChapterConsumerSeat) → ring.tag ≡ tag → seat ≡ fresh_chapter_consumer tag ring.ring room seen
     → (seat.tag ≡ ring.tag) × (seat.ring ≡ ring.ring)

@@ -162,6 +162,7 @@ pub(crate) fn reserve_word(fault: ReserveFault) -> &'static str {
         ReserveFault::Flags => "flags",
         ReserveFault::ChapterFull => "chapter full",
         ReserveFault::Foreign => "foreign",
+        ReserveFault::HandsFull => "hands full",
     }
 }
 

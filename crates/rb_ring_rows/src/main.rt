@@ -33,6 +33,7 @@ mod consumer_calls;
 mod fault;
 mod row;
 mod script;
+mod shared_answers;
 mod shared_rings;
 mod shared_rows;
 mod sheet_rows;

@@ -3,16 +3,16 @@
 ghost use Rattle.std.specs.Prelude.{◌≡◌, ◌<◌, IfSome};
 
 use crate::row::{Row, RowFault};
-use crate::shared_rings::{SharedPlace, write_record};
+use crate::shared_answers::write_record;
+use crate::shared_rings::SharedPlace;
 use crate::sheet_rows::write_sheet;
 use crate::text::Text;
 use crate::twin_rings::{Ending, TwinRecord, TwinRings};
 use crate::{chapter_rows, shared_rows, sheet_rows, value_rows};
 use rb_chapter::Chapter;
 use rb_consumer::Keeper;
-use rb_history::Reservation;
 use rb_lend::Sheet;
-use rb_shared_ring::Closing;
+use rb_shared_ring::{Closing, Reservation};
 use std::alloc::Global;
 use std::collections::BTreeMap;
 use std::sync::Wait;

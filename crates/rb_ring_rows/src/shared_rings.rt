@@ -4,19 +4,17 @@ ghost use Rattle.std.specs.Prelude.{◌≡◌, IfSome};
 ghost use Rattle.rb_ledger.specs.Seats.{IsSameSeat};
 ghost use Rattle.rb_ring_rows.specs.SharedPlaces.{AreOwnSeats, IsOwnSeat};
 
-use crate::answers::{
-    open_word, reserve_word, tell_counts, tell_end, tell_granted, tell_notice, tell_record,
-    tell_refusal, tell_tally,
-};
+use crate::answers::{open_word, reserve_word, tell_counts, tell_notice, tell_refusal, tell_tally};
 use crate::consumer_calls::{ConsumerCall, consume, hand_out, turn};
-use crate::sheets::write_at;
+use crate::shared_answers::{tell_given_back, tell_hands, tell_reserved};
 use crate::text::Text;
 use rb_chapter::Chapter;
 use rb_consumer::Keeper;
-use rb_history::{Notice, Reservation};
-use rb_lend::{Lent, Sheet};
+use rb_history::Notice;
+use rb_lend::Sheet;
 use rb_shared_ring::{
-    Audit, Closing, ConsumerSeat, Foreign, NotAll, ReserveFault, Seat, SharedRing, open,
+    Audit, Closing, ConsumerSeat, Foreign, NotAll, Reservation, ReserveFault, Seat, SharedRing,
+    open,
 };
 use std::alloc::Global;
 use std::sync::Wait;
@@ -193,6 +191,7 @@ impl SharedPlace {
                 out.field("refused", seat.refused());
                 out.field("submitted", seat.submitted());
                 out.field("discarded", seat.discarded());
+                tell_hands(seat, out);
             }
             None => out.word("fault: no such worker"),
         }
@@ -319,8 +318,14 @@ fn work<R: Wait>(
             ring.reserve(rt, seat, sheet.len(), sheet),
             out,
         ),
-        WorkerCall::Submit(record, flags) => tell_end(ring.submit(rt, seat, record, flags), out),
-        WorkerCall::Discard(record, flags) => tell_end(ring.discard(rt, seat, record, flags), out),
+        WorkerCall::Submit(record, flags) => tell_given_back(
+            ring.submit(rt, seat, record, flags),
+            out,
+        ),
+        WorkerCall::Discard(record, flags) => tell_given_back(
+            ring.discard(rt, seat, record, flags),
+            out,
+        ),
         WorkerCall::Output(sheet, flags) => {
             tell_output(ring.output(rt, seat, sheet, flags), out);
             None
@@ -334,34 +339,6 @@ fn work<R: Wait>(
         }
         WorkerCall::Audit => {
             tell_audit(ring.audit(rt, seat), out);
-            None
-        }
-    }
-}
-
-/// Writes bytes of a reserved record from byte `at` on, where they fit.
-pub(crate) fn write_record(record: &mut Reservation, at: u64, bytes: &[u8], out: &mut Text) {
-    if write_at(record, at, bytes) {
-        tell_record(out, record);
-        out.word("bytes");
-        out.bytes(record.bytes());
-    } else {
-        out.word("fault: outside");
-    }
-}
-
-// What a reserve answered, and the reservation that it granted.
-fn tell_reserved(
-    answer: Result<Reservation, (ReserveFault, Sheet)>,
-    out: &mut Text,
-) -> Option<Reservation> {
-    match answer {
-        Ok(record) => {
-            tell_granted(out, &record);
-            Some(record)
-        }
-        Err((fault, back)) => {
-            tell_refusal(out, reserve_word(fault), &back);
             None
         }
     }

@@ -7,8 +7,7 @@ use crate::script::{LONGEST, MOST_TAKEN, Script, WRONG_WORDS, collect, keep, nar
 use crate::shared_rings::{RingNumbers, SharedPlace, WorkerCall};
 use crate::sheets::{copied, filled};
 use crate::text::Text;
-use rb_history::Reservation;
-use rb_shared_ring::Closing;
+use rb_shared_ring::{Closing, Reservation};
 use std::alloc::Global;
 use std::sync::Wait;
 

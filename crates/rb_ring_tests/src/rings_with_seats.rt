@@ -3,9 +3,9 @@
 ghost use Rattle.std.specs.Prelude.{◌≡◌, length};
 ghost use Rattle.rb_ledger.specs.Seats.{IsSameSeat, fresh_seats, fresh_book};
 
-use rb_history::{Notice, Reservation};
+use rb_history::Notice;
 use rb_lend::{Lent, Sheet};
-use rb_shared_ring::{ConsumerSeat, Seat, SharedRing, open};
+use rb_shared_ring::{ConsumerSeat, Reservation, Seat, SharedRing, open};
 use std::alloc::Global;
 use std::process::Abort;
 use std::sync::Wait;
@@ -90,7 +90,7 @@ pub(super) fn submitted<R: Wait + Abort>(
 {
     match ring.submit(rt, seat, reservation, flags) {
         Ok(notice) => notice,
-        Err(_) => rt.panic("a stray submit"),
+        Err(_) => rt.panic("a submit was handed back"),
     }
 }
 
@@ -105,7 +105,7 @@ pub(super) fn discarded<R: Wait + Abort>(
 {
     match ring.discard(rt, seat, reservation, 0) {
         Ok(notice) => notice,
-        Err(_) => rt.panic("a stray discard"),
+        Err(_) => rt.panic("a discard was handed back"),
     }
 }
 

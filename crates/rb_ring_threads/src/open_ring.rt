@@ -40,7 +40,7 @@ impl OpenRing {
     ) -> Result<OpenRing, OpenFault>
         ensures own { IfOk result HasOwnSeats }
         ensures tag { IfOk result (λ o. o.ring.tag ≡ tag) }
-        ensures seats { IfOk result (λ o. o.seats.items ≡ fresh_seats tag o.ring.ring (fresh_book size 0 workers) 0 workers) }
+        ensures seats { IfOk result (λ o. o.seats.items ≡ fresh_seats tag o.ring.ring room (fresh_book size 0 workers) 0 workers) }
         ensures consumer { IfOk result (λ o. o.consumer ≡ fresh_chapter_consumer tag o.ring.ring room (fresh_book size 0 workers)) }
         ensures size { IsErrOf result OpenFault.Size ↔ ¬ IsRingSize size }
         ensures workers { IsErrOf result OpenFault.Workers ↔ (IsRingSize size × ¬ IsWorkerCount workers) }

@@ -50,7 +50,7 @@ one_settled one opened is settled =
 module _ {S : Type 0} (position : S → ℕ) (takes : S → SinkItem → S → Type 0) (sink : S) (subject : Subject) (request : JobsRequest) (workers : ℕ) (one : Opened S) (opened : List (Opened S)) (jobs : List Job) (report : Report S) where
   pub ran_workers :
       workers ≡ request.workers → opened ≡ one ∷ []
-      → one.seats.items ≡ fresh_seats 0 one.ring.ring (fresh_book request.size request.start workers) 0 workers
+      → one.seats.items ≡ fresh_seats 0 one.ring.ring 65536 (fresh_book request.size request.start workers) 0 workers
       → one.consumer ≡ fresh_chapter_consumer 0 one.ring.ring 65536 (fresh_book request.size request.start workers)
       → one.keeper ≡ record { chapter = empty_chapter 65536 workers; margin = 32768; is_lent = false }
       → one.sink ≡ sink → All HasSettledAll one.seats.items
@@ -62,7 +62,7 @@ module _ {S : Type 0} (position : S → ℕ) (takes : S → SinkItem → S → T
     opened = one;
     jobs = jobs;
     just_opened = record {
-      seats_are = subst (λ n. one.seats.items ≡ fresh_seats 0 one.ring.ring (fresh_book request.size request.start n) 0 n) as_many seats;
+      seats_are = subst (λ n. one.seats.items ≡ fresh_seats 0 one.ring.ring 65536 (fresh_book request.size request.start n) 0 n) as_many seats;
       consumer_is = subst (λ n. one.consumer ≡ fresh_chapter_consumer 0 one.ring.ring 65536 (fresh_book request.size request.start n)) as_many consumer;
       keeper_is = subst (λ n. one.keeper ≡ record { chapter = empty_chapter 65536 n; margin = 32768; is_lent = false }) as_many keeper;
       sink_is = same_sink;

@@ -49,7 +49,7 @@ first_keeper request = record { chapter = empty_chapter 65536 request.workers; m
 
 -- the ring was just opened, with the size, the start and the workers that are asked for and chapters of 65,536 entries, and with this sink
 pub record IsJustOpened {S : Type 0} (sink : S) (request : JobsRequest) (o : Opened S) : Type 0 where
-  pub seats_are : o.seats.items ≡ fresh_seats 0 o.ring.ring (first_book request) 0 request.workers
+  pub seats_are : o.seats.items ≡ fresh_seats 0 o.ring.ring 65536 (first_book request) 0 request.workers
   pub consumer_is : o.consumer ≡ fresh_chapter_consumer 0 o.ring.ring 65536 (first_book request)
   pub keeper_is : o.keeper ≡ first_keeper request
   pub sink_is : o.sink ≡ sink

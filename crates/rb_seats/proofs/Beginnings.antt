@@ -1,8 +1,10 @@
 -- What each seat has seen begins with what it had seen before.
-use Rattle.std.proofs.Common.{◌≡◌, ◌≢◌, ℕ, ◌<◌, ◌≤◌, ◌⊎◌, inl, inr, ℤ, pos, negsuc, Bool, true, false, List, [], ◌∷◌, length, Option, Some, None, Ok, sym, subst, arith}
+use Rattle.std.proofs.Common.{◌≡◌, ◌≢◌, ℕ, ◌<◌, ◌≤◌, ◌⊎◌, inl, inr, ℤ, pos, negsuc, Bool, true, false, List, [], ◌∷◌, length, Option, Some, None, Ok, refl, sym, subst, arith}
 use Rattle.std.proofs.lemmas.Bool.{cases_lt}
 use Rattle.std.specs.List.{AllZip}
+use Rattle.rb_history.specs.declared.answers.Notice.{Notice}
 use Rattle.rb_history.specs.ReservationModel.{Granted}
+use Rattle.rb_hand_ring.specs.HandGranted.{HandGranted}
 use Rattle.rb_history.specs.RingModel.{Ring}
 use Rattle.rb_history.specs.Calls.{FindsFull, producer_now}
 use Rattle.rb_chapter.specs.ChapterRing.{ChapterRing}
@@ -14,7 +16,7 @@ use Rattle.rb_ledger.proofs.Beginnings.{begins_with_all, begins_through, logged_
 use Rattle.rb_shared_ring.specs.SharedCalls.{OutputsInChapter}
 use Rattle.rb_helpers.specs.AnsweredCalls.{AnsweredCall, Reserved, Submitted, Discarded, SentOut, Queried}
 use Rattle.rb_seats.specs.declared.seat_record.SeatRecord.{SeatRecord}
-use Rattle.rb_seats.specs.SeatCalls.{AtSeat, CallsSeats, OutputAnswered, RecordAnswered, SeatCallsRing, SeatDiscards, SeatIsRefused, SeatOutputs, SeatSubmits, ReserveAnswered, notice_of, settled_answer}
+use Rattle.rb_seats.specs.SeatCalls.{AtSeat, CallsSeats, OutputAnswered, RecordAnswered, SeatCallsRing, SeatDiscards, SeatIsRefused, SeatOutputs, SeatSubmits, ReserveAnswered, notice_of}
 use Rattle.rb_seats.specs.SeatLaws.{SeatsGoOn, SeatBegins}
 use Rattle.rb_seats.proofs.Lists.{zip_self, zip_through, zip_one}
 use Rattle.rb_seats.proofs.RingCalls.{called_over_all}
@@ -48,34 +50,28 @@ refused_begins n unlogged b a (inr (inl full)) =
     seat_begins b a _ _ full.0.0 same_begins
 refused_begins n unlogged b a (inr (inr none)) = subst (λ (s : WorkerSeat). SeatBegins b s) (sym none.0) (begins_itself b)
 
-same_or_other : (x y : ℕ) → (x < y) ⊎ (y ≤ x) → (y < x) ⊎ (x ≤ y) → (x ≡ y) ⊎ (x ≢ y)
-same_or_other x y (inl below) other = inr (λ e. absurd (omega (arith, below, e)))
-same_or_other x y (inr above) (inl beyond) = inr (λ e. absurd (omega (arith, beyond, e)))
-same_or_other x y (inr above) (inr within) = inl (omega (arith, above, within))
+ring_submits : (r : Granted) (flags : ℕ) (notice : Notice) (old new : Ring) → SubmitsAt r flags (Ok notice) old new → BeginsWith (book_of new) (book_of old)
+ring_submits r flags notice old new called = logged_begins old new _ called.0.logged
 
-ring_submits : (r : Granted) (flags : ℕ) (taken due : Bool) (old new : Ring) → SubmitsAt r flags (settled_answer r taken due) old new → BeginsWith (book_of new) (book_of old)
-ring_submits r flags true due old new called = logged_begins old new _ called.0.logged
-ring_submits r flags false due old new called = same_begins old new called.same
+ring_discards : (r : Granted) (flags : ℕ) (notice : Notice) (old new : Ring) → DiscardsAt r flags (Ok notice) old new → BeginsWith (book_of new) (book_of old)
+ring_discards r flags notice old new called = logged_begins old new _ called.0.logged
 
-ring_discards : (r : Granted) (flags : ℕ) (taken due : Bool) (old new : Ring) → DiscardsAt r flags (settled_answer r taken due) old new → BeginsWith (book_of new) (book_of old)
-ring_discards r flags true due old new called = logged_begins old new _ called.0.logged
-ring_discards r flags false due old new called = same_begins old new called.same
+same_begun : (b a : WorkerSeat) → a ≡ b → SeatBegins b a
+same_begun b a same = subst (λ (s : WorkerSeat). SeatBegins b s) (sym same) (begins_itself b)
 
-submit_begins : (r : Granted) (flags : ℕ) (taken due : Bool) (b a : WorkerSeat) → (r.worker ≡ b.worker) ⊎ (r.worker ≢ b.worker) → SeatSubmits r flags taken due b a → SeatBegins b a
-submit_begins r flags taken due b a (inl own) did =
-    seat_begins b a _ _ (did.0 own) (ring_submits r flags taken due)
-submit_begins r flags taken due b a (inr other) did = subst (λ (s : WorkerSeat). SeatBegins b s) (sym (did.1 other).1) (begins_itself b)
+submit_begins : (r : HandGranted) (flags : ℕ) (taken due : Bool) (b a : WorkerSeat) → SeatSubmits r flags taken due b a → SeatBegins b a
+submit_begins r flags true due b a did = seat_begins b a _ _ (did.takes refl).0 (ring_submits r.granted flags (notice_of due))
+submit_begins r flags false due b a did = same_begun b a (did.hands_back refl).1
 
-discard_begins : (r : Granted) (flags : ℕ) (taken due : Bool) (b a : WorkerSeat) → (r.worker ≡ b.worker) ⊎ (r.worker ≢ b.worker) → SeatDiscards r flags taken due b a → SeatBegins b a
-discard_begins r flags taken due b a (inl own) did =
-    seat_begins b a _ _ (did.0 own) (ring_discards r flags taken due)
-discard_begins r flags taken due b a (inr other) did = subst (λ (s : WorkerSeat). SeatBegins b s) (sym (did.1 other).1) (begins_itself b)
+discard_begins : (r : HandGranted) (flags : ℕ) (taken due : Bool) (b a : WorkerSeat) → SeatDiscards r flags taken due b a → SeatBegins b a
+discard_begins r flags true due b a did = seat_begins b a _ _ (did.takes refl).0 (ring_discards r.granted flags (notice_of due))
+discard_begins r flags false due b a did = same_begun b a (did.hands_back refl).1
 
 sent_begins : (bytes : List ℕ) (flags : ℕ) (due : Bool) (b a : WorkerSeat) → SeatOutputs bytes flags due b a → SeatBegins b a
 sent_begins bytes flags due b a did =
     seat_begins b a (OutputsInChapter b.worker bytes flags (Ok (notice_of due))) (λ old new.
     OutputsAt b.worker bytes flags (Ok (notice_of due)) old new
-    × (a ≡ record b { seen = a.seen; tally = output_by b.tally (Ok (notice_of due)); sent = sent_by_output b.sent (producer_now old) bytes (Ok (notice_of due)) })) did
+    × (a ≡ record b { seen = a.seen; cut = a.cut; tally = output_by b.tally (Ok (notice_of due)); sent = sent_by_output b.sent (producer_now old) bytes (Ok (notice_of due)) })) did
     (λ old new called. logged_begins old new _ called.0.0.logged)
 
 -- ---- all seats, by one call
@@ -95,7 +91,7 @@ record_begins ring taken due Did old new begins answered (inr beyond) = begins_n
 reserve_begins : (ring n flags : ℕ) (answer : Option SeatRecord) (unlogged : ℕ) (old new : List WorkerSeat) → ReserveAnswered ring n flags answer unlogged old new → (0 < flags) ⊎ (flags ≤ 0) → AllZip SeatBegins old new
 reserve_begins ring n flags (Some r) unlogged old new led flagged =
     begins_at ring _ old new
-    (λ b a did. seat_begins b a _ _ did.0 (ring_grants b.worker n r.reservation)) led.3
+    (λ b a did. seat_begins b a _ _ did.0 (ring_grants b.worker n r.reservation.granted)) led.3
 reserve_begins ring n flags None unlogged old new led (inl above) = begins_nowhere old new (led.1 (λ e. absurd (omega (arith, above, e)))).0
 reserve_begins ring n flags None unlogged old new led (inr zero) = begins_at ring _ old new (refused_begins n unlogged) (led.0 (omega (arith, zero)))
 
@@ -110,11 +106,11 @@ call_goes_on : (call : AnsweredCall SeatRecord) (due : Bool) (unlogged : ℕ) (o
 call_goes_on (Reserved ring n flags answer) due unlogged old new led = reserve_begins ring n flags answer unlogged old new led.0 (cases_lt 0 flags)
 call_goes_on (Submitted owned flags taken) due unlogged old new led =
     record_begins owned.ring taken due _ old new
-    (λ b a did. submit_begins owned.reservation flags taken due b a (same_or_other owned.reservation.worker b.worker (cases_lt owned.reservation.worker b.worker) (cases_lt b.worker owned.reservation.worker)) did)
+    (submit_begins owned.reservation flags taken due)
     led.0 (cases_lt owned.ring (length old))
 call_goes_on (Discarded owned flags taken) due unlogged old new led =
     record_begins owned.ring taken due _ old new
-    (λ b a did. discard_begins owned.reservation flags taken due b a (same_or_other owned.reservation.worker b.worker (cases_lt owned.reservation.worker b.worker) (cases_lt b.worker owned.reservation.worker)) did)
+    (discard_begins owned.reservation flags taken due)
     led.0 (cases_lt owned.ring (length old))
 call_goes_on (SentOut ring bytes flags answer) due unlogged old new led = output_begins ring bytes flags answer due unlogged old new led led.answer_is.1
 call_goes_on (Queried ring what answer) due unlogged old new led =

@@ -1,26 +1,17 @@
 -- What each call leaves of the records that helpers over seats keep.
-use Rattle.std.proofs.Common.{◌≡◌, ◌≢◌, ℕ, zero, suc, ◌<◌, ◌≤◌, ◌⊎◌, inl, inr, ℤ, pos, negsuc, Bool, true, false, List, [], ◌∷◌, ◌++◌, length, set, Option, Some, None, refl, sym, ap, ◌∙◌, subst, arith}
-use Rattle.std.specs.Prelude.{◌==◌, slice_get, IfSome}
-use Rattle.std.proofs.lemmas.Bool.{cases_eq, cases_lt, eq-eqb, ne_eqb, or_left}
-use Rattle.std.proofs.lemmas.List.{length-replicate}
-use Rattle.rb_history.specs.declared.entries.Entry.TheVariants.{Res, Full, Sub, Dis}
-use Rattle.rb_history.specs.Calls.{IsBusy}
-use Rattle.rb_history.specs.ReservationModel.{Granted}
-use Rattle.rb_history.specs.RingModel.{Ring}
+use Rattle.std.proofs.Common.{◌≡◌, ◌≢◌, ℕ, zero, suc, ◌<◌, ◌≤◌, ◌⊎◌, inl, inr, ℤ, pos, negsuc, Bool, true, false, List, [], ◌∷◌, length, set, get_or, Option, Some, None, refl, sym, ap, ◌∙◌, subst, arith}
+use Rattle.std.specs.Prelude.{slice_get, IfSome}
+use Rattle.std.proofs.lemmas.Bool.{cases_eq, cases_lt}
+use Rattle.std.proofs.lemmas.List.{get_or-set_other}
 use Rattle.rb_ledger.specs.Seats.{WorkerSeat}
-use Rattle.rb_chapter_ledger.specs.ChapteredRing.{whole_of}
-use Rattle.rb_hands.proofs.BusyEntries.{no-more, other-place, new-busy}
-use Rattle.rb_hand_ledger.specs.NoStranger.{IsHeld}
-use Rattle.rb_hand_ledger.proofs.HeldRecords.{busy-there, seen-then, left-then, after-entry, after-none, after-output, point-legal, left-legal}
+use Rattle.rb_hands.specs.declared.out_record.OutRecord.{OutRecord}
+use Rattle.rb_hands.specs.Hands.{Hands, out_record, in_hand}
+use Rattle.rb_hand_ring.specs.HandGranted.{HandGranted}
 use Rattle.rb_helpers.specs.AnsweredCalls.{Reserved, Submitted, Discarded, SentOut, Queried}
 use Rattle.rb_seats.specs.declared.seat_record.SeatRecord.{SeatRecord}
-use Rattle.rb_seats.specs.SeatCalls.{AtSeat, SeatQueries, SeatIsGranted, SeatIsRefused, SeatSubmits, SeatDiscards, SeatOutputs, ReserveAnswered, RecordAnswered, OutputAnswered}
+use Rattle.rb_seats.specs.SeatCalls.{AtSeat, IsOutAtSeat, SeatQueries, SeatIsGranted, SeatIsRefused, SeatSubmits, SeatDiscards, SeatOutputs, ReserveAnswered, RecordAnswered, OutputAnswered}
 use Rattle.rb_seats.specs.SeatHelpers.{AtSeats, CallsHelpers}
 use Rattle.rb_seats.specs.KeptRecords.{IsKept, record_name}
-
--- the seat's worker holds the record
-abbrev Holds : WorkerSeat → Granted → Type 0
-Holds seat r = IsHeld seat.worker seat.seen r
 
 -- ---- one seat of many
 
@@ -44,116 +35,103 @@ some-below [] i x at = absurd (cc)
 some-below (y ∷ xs) zero x at = omega arith
 some-below (y ∷ xs) (suc i) x at = let below = some-below xs i x at in omega (arith, below)
 
--- ---- what a call leaves of one seat's records
+-- ---- what a call leaves of one seat's hands
 
--- it is the same worker's, and each record at such a position stays busy
-record StaysBusy (At : ℕ → Type 0) (b a : WorkerSeat) : Type 0 where
+none-some : (o : OutRecord) → ◌≡◌ {A = Option OutRecord} None (Some o) → ⊥
+none-some o e = cc
+
+-- a hand that was freed has nothing
+freed : (hands : Hands) (h : ℕ) → get_or (set hands h None) h None ≡ None
+freed [] h = refl
+freed (x ∷ hands) zero = refl
+freed (x ∷ hands) (suc h) = freed hands h
+
+-- it is the same worker's seat at the same ring, and each such hand that is out stays out
+record StaysOut (At : ℕ → Type 0) (b a : WorkerSeat) : Type 0 where
+  tag_same : a.tag ≡ b.tag
   worker_same : a.worker ≡ b.worker
-  still : (w p k n : ℕ) → w ≡ b.worker → At p → IsBusy b.seen.history p w k n → IsBusy a.seen.history p w k n
+  still : (h : ℕ) (o : OutRecord) → At h → in_hand b.hands h ≡ Some o → in_hand a.hands h ≡ Some o
 
 abbrev Anywhere : ℕ → Type 0
-Anywhere p = Unit {0}
-
-nothing-done : (At : ℕ → Type 0) (b a : WorkerSeat) → a ≡ b → StaysBusy At b a
-nothing-done At b a same = record { worker_same = ap (λ (s : WorkerSeat). s.worker) same; still = λ w p k n own at busy. subst (λ (s : WorkerSeat). IsBusy s.seen.history p w k n) (sym same) busy }
-
-queried : (what answer : ℕ) (b a : WorkerSeat) → SeatQueries what answer b a → StaysBusy Anywhere b a
-queried what answer b a did = record { worker_same = ap (λ (s : WorkerSeat). s.worker) did.1; still = λ w p k n own at. after-none b.worker b.seen a.seen _ did.0 did.0.called.1.0 w p k n own }
-
-refused : (n unlogged : ℕ) (b a : WorkerSeat) → SeatIsRefused n unlogged b a → StaysBusy Anywhere b a
-refused n unlogged b a (inl full) = record { worker_same = ap (λ (s : WorkerSeat). s.worker) full.0.1; still = λ w p k m own at. after-entry b.worker b.seen a.seen _ full.0.0 (Full b.worker n) full.0.0.called.1.logged w p k m own refl refl }
-refused n unlogged b a (inr (inl full)) = record { worker_same = ap (λ (s : WorkerSeat). s.worker) full.0.1; still = λ w p k m own at. after-none b.worker b.seen a.seen _ full.0.0 full.0.0.called.1 w p k m own }
-refused n unlogged b a (inr (inr none)) = nothing-done Anywhere b a none.0
-
-granted : (n : ℕ) (r : Granted) (b a : WorkerSeat) → SeatIsGranted n r b a → StaysBusy Anywhere b a
-granted n r b a did = record {
-  worker_same = ap (λ (s : WorkerSeat). s.worker) did.2;
-  still = λ w p k m own at. after-entry b.worker b.seen a.seen _ did.0 (Res b.worker r.serial n r.pos) did.0.called.1.0.logged w p k m own refl refl;
-}
-
-sent : (bytes : List ℕ) (flags : ℕ) (due : Bool) (b a : WorkerSeat) → SeatOutputs bytes flags due b a → StaysBusy Anywhere b a
-sent bytes flags due b a did = record {
-  worker_same = ap (λ (s : WorkerSeat). s.worker) did.called.1.1;
-  still = λ w p k n own at. after-output b.worker b.seen a.seen _ did _ _ _ _ did.called.1.0.0.logged w p k n own;
-}
+Anywhere h = Unit {0}
 
 abbrev ButAt : ℕ → ℕ → Type 0
-ButAt q p = p ≢ q
+ButAt hand h = h ≢ hand
 
-submitted : (r : Granted) (flags : ℕ) (taken due : Bool) (b a : WorkerSeat) → (r.worker ≡ b.worker) ⊎ (r.worker ≢ b.worker) → SeatSubmits r flags taken due b a → StaysBusy (ButAt r.pos) b a
-submitted r flags true due b a (inl own) did = record {
-  worker_same = ap (λ (s : WorkerSeat). s.worker) did.3;
-  still = λ w p k n mine at. after-entry b.worker b.seen a.seen _ (did.0 own) (Sub r.pos) (did.0 own).called.1.0.logged w p k n mine (ne_eqb r.pos p (λ e. at (sym e))) refl;
+same-hands : (At : ℕ → Type 0) (b a : WorkerSeat) → a.tag ≡ b.tag → a.worker ≡ b.worker → a.hands ≡ b.hands → StaysOut At b a
+same-hands At b a tag worker hands = record { tag_same = tag; worker_same = worker; still = λ h o at out. ap (λ hs. in_hand hs h) hands ∙ out }
+
+nothing-done : (At : ℕ → Type 0) (b a : WorkerSeat) → a ≡ b → StaysOut At b a
+nothing-done At b a same = same-hands At b a (ap (λ (s : WorkerSeat). s.tag) same) (ap (λ (s : WorkerSeat). s.worker) same) (ap (λ (s : WorkerSeat). s.hands) same)
+
+queried : (what answer : ℕ) (b a : WorkerSeat) → SeatQueries what answer b a → StaysOut Anywhere b a
+queried what answer b a did = same-hands Anywhere b a (ap (λ (s : WorkerSeat). s.tag) did.1) (ap (λ (s : WorkerSeat). s.worker) did.1) (ap (λ (s : WorkerSeat). s.hands) did.1)
+
+refused : (n unlogged : ℕ) (b a : WorkerSeat) → SeatIsRefused n unlogged b a → StaysOut Anywhere b a
+refused n unlogged b a (inl full) = same-hands Anywhere b a (ap (λ (s : WorkerSeat). s.tag) full.0.1) (ap (λ (s : WorkerSeat). s.worker) full.0.1) (ap (λ (s : WorkerSeat). s.hands) full.0.1)
+refused n unlogged b a (inr (inl full)) = same-hands Anywhere b a (ap (λ (s : WorkerSeat). s.tag) full.0.1) (ap (λ (s : WorkerSeat). s.worker) full.0.1) (ap (λ (s : WorkerSeat). s.hands) full.0.1)
+refused n unlogged b a (inr (inr none)) = nothing-done Anywhere b a none.0
+
+sent : (bytes : List ℕ) (flags : ℕ) (due : Bool) (b a : WorkerSeat) → SeatOutputs bytes flags due b a → StaysOut Anywhere b a
+sent bytes flags due b a did =
+    let is = did.called.1.1 in same-hands Anywhere b a (ap (λ (s : WorkerSeat). s.tag) is) (ap (λ (s : WorkerSeat). s.worker) is) (ap (λ (s : WorkerSeat). s.hands) is)
+
+-- a change of one hand leaves the others
+one-changed : (b a : WorkerSeat) (hand : ℕ) (x : Option OutRecord) → a.tag ≡ b.tag → a.worker ≡ b.worker → a.hands ≡ set b.hands hand x → StaysOut (ButAt hand) b a
+one-changed b a hand x tag worker hands = record {
+  tag_same = tag;
+  worker_same = worker;
+  still = λ h o apart out. ap (λ hs. in_hand hs h) hands ∙ get_or-set_other b.hands hand h x None apart ∙ out;
 }
-submitted r flags false due b a (inl own) did = record { worker_same = ap (λ (s : WorkerSeat). s.worker) did.3; still = λ w p k n mine at. after-none b.worker b.seen a.seen _ (did.0 own) (did.0 own).called.1.same w p k n mine }
-submitted r flags taken due b a (inr other) did = nothing-done (ButAt r.pos) b a (did.1 other).1
 
-discarded : (r : Granted) (flags : ℕ) (taken due : Bool) (b a : WorkerSeat) → (r.worker ≡ b.worker) ⊎ (r.worker ≢ b.worker) → SeatDiscards r flags taken due b a → StaysBusy (ButAt r.pos) b a
-discarded r flags true due b a (inl own) did = record {
-  worker_same = ap (λ (s : WorkerSeat). s.worker) did.3;
-  still = λ w p k n mine at. after-entry b.worker b.seen a.seen _ (did.0 own) (Dis r.pos) (did.0 own).called.1.0.logged w p k n mine refl (ne_eqb r.pos p (λ e. at (sym e)));
-}
-discarded r flags false due b a (inl own) did = record { worker_same = ap (λ (s : WorkerSeat). s.worker) did.3; still = λ w p k n mine at. after-none b.worker b.seen a.seen _ (did.0 own) (did.0 own).called.1.same w p k n mine }
-discarded r flags taken due b a (inr other) did = nothing-done (ButAt r.pos) b a (did.1 other).1
-
--- ---- a record that the seat holds is taken, and then it holds it no more
-
-submit-taken : (r : Granted) (flags : ℕ) (taken due : Bool) (b a : WorkerSeat) → Holds b r → SeatSubmits r flags taken due b a → taken ≡ true
-submit-taken r flags true due b a holds did = refl
-submit-taken r flags false due b a holds did = absurd ((did.0 holds.worker_is).called.1.not_busy (busy-there b.worker b.seen a.seen _ (did.0 holds.worker_is) r.worker r.pos r.serial (length r.bytes) holds.worker_is holds.busy))
-
-discard-taken : (r : Granted) (flags : ℕ) (taken due : Bool) (b a : WorkerSeat) → Holds b r → SeatDiscards r flags taken due b a → taken ≡ true
-discard-taken r flags true due b a holds did = refl
-discard-taken r flags false due b a holds did = absurd ((did.0 holds.worker_is).called.1.not_busy (busy-there b.worker b.seen a.seen _ (did.0 holds.worker_is) r.worker r.pos r.serial (length r.bytes) holds.worker_is holds.busy))
-
-submit-let-go : (r : Granted) (flags : ℕ) (taken due : Bool) (b a : WorkerSeat) → (r.worker ≡ b.worker) ⊎ (r.worker ≢ b.worker) → SeatSubmits r flags taken due b a → Holds a r → ⊥
-submit-let-go r flags true due b a (inl own) did holds =
-    let call = did.0 own in
-    no-more (whole_of call.point).history (Sub r.pos) r.pos r.worker r.serial (length r.bytes) (or_left (r.pos == r.pos) false (eq-eqb r.pos r.pos refl))
-    (subst (λ h. IsBusy h r.pos r.worker r.serial (length r.bytes)) call.called.1.0.logged.history_is (left-then b.worker b.seen a.seen _ call r.worker r.pos r.serial (length r.bytes) holds.busy))
-submit-let-go r flags false due b a (inl own) did holds =
-    let call = did.0 own in
-    call.called.1.not_busy (subst (λ (v : Ring). IsBusy v.history r.pos r.worker r.serial (length r.bytes)) call.called.1.same (left-then b.worker b.seen a.seen _ call r.worker r.pos r.serial (length r.bytes) holds.busy))
-submit-let-go r flags taken due b a (inr other) did holds = other (holds.worker_is ∙ ap (λ (s : WorkerSeat). s.worker) (did.1 other).1)
-
-discard-let-go : (r : Granted) (flags : ℕ) (taken due : Bool) (b a : WorkerSeat) → (r.worker ≡ b.worker) ⊎ (r.worker ≢ b.worker) → SeatDiscards r flags taken due b a → Holds a r → ⊥
-discard-let-go r flags true due b a (inl own) did holds =
-    let call = did.0 own in
-    no-more (whole_of call.point).history (Dis r.pos) r.pos r.worker r.serial (length r.bytes) (eq-eqb r.pos r.pos refl)
-    (subst (λ h. IsBusy h r.pos r.worker r.serial (length r.bytes)) call.called.1.0.logged.history_is (left-then b.worker b.seen a.seen _ call r.worker r.pos r.serial (length r.bytes) holds.busy))
-discard-let-go r flags false due b a (inl own) did holds =
-    let call = did.0 own in
-    call.called.1.not_busy (subst (λ (v : Ring). IsBusy v.history r.pos r.worker r.serial (length r.bytes)) call.called.1.same (left-then b.worker b.seen a.seen _ call r.worker r.pos r.serial (length r.bytes) holds.busy))
-discard-let-go r flags taken due b a (inr other) did holds = other (holds.worker_is ∙ ap (λ (s : WorkerSeat). s.worker) (did.1 other).1)
-
--- ---- a granted record
-
-grant-held : (n : ℕ) (r : Granted) (b a : WorkerSeat) → SeatIsGranted n r b a → Holds a r
-grant-held n r b a did =
-    let call = did.0 in
-    let logged = call.called.1.0.logged in
-    let own : r.worker ≡ b.worker = call.called.1.1 in
-    let long : n ≡ length r.bytes = sym (ap length call.called.1.2 ∙ length-replicate n 0) in
-    let busy = new-busy (whole_of call.point).setup (whole_of call.point).history (point-legal b.worker b.seen a.seen _ call) b.worker r.serial n r.pos (left-legal b.worker b.seen a.seen _ call (Res b.worker r.serial n r.pos ∷ []) logged) in
+-- a hand that is out is not the one into which a record is granted
+granted : (n : ℕ) (r : HandGranted) (b a : WorkerSeat) → SeatIsGranted n r b a → StaysOut Anywhere b a
+granted n r b a did =
+    let left = one-changed b a r.hand (Some (out_record r.granted.pos r.granted.serial n)) (ap (λ (s : WorkerSeat). s.tag) did.4) (ap (λ (s : WorkerSeat). s.worker) did.4) (ap (λ (s : WorkerSeat). s.hands) did.4) in
     record {
-      worker_is = own ∙ sym (ap (λ (s : WorkerSeat). s.worker) did.2);
-      busy = seen-then b.worker b.seen a.seen _ call r.worker r.pos r.serial (length r.bytes)
-          (subst (λ h. IsBusy h r.pos r.worker r.serial (length r.bytes)) (sym logged.history_is)
-          (subst (λ w. IsBusy ((whole_of call.point).history ++ Res b.worker r.serial n r.pos ∷ []) r.pos w r.serial (length r.bytes)) (sym own)
-          (subst (λ l. IsBusy ((whole_of call.point).history ++ Res b.worker r.serial n r.pos ∷ []) r.pos b.worker r.serial l) long busy)));
+      tag_same = left.tag_same;
+      worker_same = left.worker_same;
+      still = λ h o at out. left.still h o (λ e. none-some o (sym did.2.is_free.free ∙ ap (λ i. in_hand b.hands i) (sym e) ∙ out)) out;
     }
 
-grant-apart : (n : ℕ) (r s : Granted) (b a : WorkerSeat) → SeatIsGranted n r b a → Holds b s → s.pos ≢ r.pos
-grant-apart n r s b a did holds =
-    let call = did.0 in
-    other-place (whole_of call.point).setup (whole_of call.point).history (point-legal b.worker b.seen a.seen _ call) b.worker r.serial n r.pos (left-legal b.worker b.seen a.seen _ call (Res b.worker r.serial n r.pos ∷ []) call.called.1.0.logged)
-    s.pos s.worker s.serial (length s.bytes) (busy-there b.worker b.seen a.seen _ call s.worker s.pos s.serial (length s.bytes) holds.worker_is holds.busy)
+submitted : (r : HandGranted) (flags : ℕ) (taken due : Bool) (b a : WorkerSeat) → SeatSubmits r flags taken due b a → StaysOut (ButAt r.hand) b a
+submitted r flags true due b a did =
+    let is = (did.takes refl).1 in one-changed b a r.hand None (ap (λ (s : WorkerSeat). s.tag) is) (ap (λ (s : WorkerSeat). s.worker) is) (ap (λ (s : WorkerSeat). s.hands) is)
+submitted r flags false due b a did = nothing-done (ButAt r.hand) b a (did.hands_back refl).1
+
+discarded : (r : HandGranted) (flags : ℕ) (taken due : Bool) (b a : WorkerSeat) → SeatDiscards r flags taken due b a → StaysOut (ButAt r.hand) b a
+discarded r flags true due b a did =
+    let is = (did.takes refl).1 in one-changed b a r.hand None (ap (λ (s : WorkerSeat). s.tag) is) (ap (λ (s : WorkerSeat). s.worker) is) (ap (λ (s : WorkerSeat). s.hands) is)
+discarded r flags false due b a did = nothing-done (ButAt r.hand) b a (did.hands_back refl).1
+
+still-out : (At : ℕ → Type 0) (r : HandGranted) (b a : WorkerSeat) → StaysOut At b a → At r.hand → IsOutAtSeat b r → IsOutAtSeat a r
+still-out At r b a left at out = record {
+  tag_is = out.tag_is ∙ sym left.tag_same;
+  worker_is = out.worker_is ∙ sym left.worker_same;
+  out = left.still r.hand (out_record r.granted.pos r.granted.serial (length r.granted.bytes)) at out.out;
+}
+
+-- ---- what was given back is out no more
+
+hand-freed : (r : HandGranted) (b a : WorkerSeat) → a.hands ≡ set b.hands r.hand None → IsOutAtSeat a r → ⊥
+hand-freed r b a hands out = none-some (out_record r.granted.pos r.granted.serial (length r.granted.bytes)) (sym (ap (λ hs. in_hand hs r.hand) hands ∙ freed b.hands r.hand) ∙ out.out)
+
+true-false : true ≡ false → ⊥
+true-false e = cc
+
+submit-let-go : (r : HandGranted) (flags : ℕ) (taken due : Bool) (b a : WorkerSeat) → SeatSubmits r flags taken due b a → IsOutAtSeat a r → ⊥
+submit-let-go r flags true due b a did out = hand-freed r b a (ap (λ (s : WorkerSeat). s.hands) (did.takes refl).1) out
+submit-let-go r flags false due b a did out = true-false (sym (did.exact.1 (subst (λ (s : WorkerSeat). IsOutAtSeat s r) (did.hands_back refl).1 out)))
+
+discard-let-go : (r : HandGranted) (flags : ℕ) (taken due : Bool) (b a : WorkerSeat) → SeatDiscards r flags taken due b a → IsOutAtSeat a r → ⊥
+discard-let-go r flags true due b a did out = hand-freed r b a (ap (λ (s : WorkerSeat). s.hands) (did.takes refl).1) out
+discard-let-go r flags false due b a did out = true-false (sym (did.exact.1 (subst (λ (s : WorkerSeat). IsOutAtSeat s r) (did.hands_back refl).1 out)))
 
 -- ---- all seats
 
 module _ (old new : AtSeats) where
   same-seats : new.seats ≡ old.seats → (s : SeatRecord) → IsKept old s → IsKept new s
-  same-seats same s kept = record { seat = kept.seat; seat_is = ap (λ l. slice_get l s.ring) same ∙ kept.seat_is; holds = kept.holds }
+  same-seats same s kept = record { seat = kept.seat; seat_is = ap (λ l. slice_get l s.ring) same ∙ kept.seat_is; out = kept.out }
 
   -- the seat of a kept record is the one at its ring
   was : (Did : WorkerSeat → WorkerSeat → Type 0) (ring : ℕ) (at : AtSeat ring Did old.seats new.seats) (s : SeatRecord) (kept : IsKept old s) → s.ring ≡ ring → kept.seat ≡ at.before
@@ -162,23 +140,15 @@ module _ (old new : AtSeats) where
   now : (Did : WorkerSeat → WorkerSeat → Type 0) (ring : ℕ) (at : AtSeat ring Did old.seats new.seats) (s : SeatRecord) (kept : IsKept new s) → s.ring ≡ ring → kept.seat ≡ at.after
   now Did ring at s kept same = some-same kept.seat at.after (sym kept.seat_is ∙ ap (slice_get new.seats) same ∙ ap (λ l. slice_get l ring) at.new_is ∙ here old.seats ring at.before at.after at.before_is)
 
-  kept-at : (Did : WorkerSeat → WorkerSeat → Type 0) (At : ℕ → Type 0) (ring : ℕ) → ((b a : WorkerSeat) → Did b a → StaysBusy At b a) → AtSeat ring Did old.seats new.seats
-      → (s : SeatRecord) → (s.ring ≡ ring → At s.reservation.pos) → IsKept old s → IsKept new s
+  kept-at : (Did : WorkerSeat → WorkerSeat → Type 0) (At : ℕ → Type 0) (ring : ℕ) → ((b a : WorkerSeat) → Did b a → StaysOut At b a) → AtSeat ring Did old.seats new.seats
+      → (s : SeatRecord) → (s.ring ≡ ring → At s.reservation.hand) → IsKept old s → IsKept new s
   kept-at Did At ring stays at s where_at kept = elim (cases_eq s.ring ring) [
-    | inl same ↦
-        let left = stays at.before at.after at.did in
-        let is = was Did ring at s kept same in
-        let own : s.reservation.worker ≡ at.before.worker = kept.holds.worker_is ∙ ap (λ (x : WorkerSeat). x.worker) is in
-        record {
-          seat = at.after;
-          seat_is = ap (λ l. slice_get l s.ring) at.new_is ∙ ap (slice_get (set old.seats ring at.after)) same ∙ here old.seats ring at.before at.after at.before_is;
-          holds = record {
-            worker_is = own ∙ sym left.worker_same;
-            busy = left.still s.reservation.worker s.reservation.pos s.reservation.serial (length s.reservation.bytes) own (where_at same)
-                (subst (λ (x : WorkerSeat). IsBusy x.seen.history s.reservation.pos s.reservation.worker s.reservation.serial (length s.reservation.bytes)) is kept.holds.busy);
-          };
-        }
-    | inr other ↦ record { seat = kept.seat; seat_is = ap (λ l. slice_get l s.ring) at.new_is ∙ there old.seats ring s.ring at.after other ∙ kept.seat_is; holds = kept.holds }
+    | inl same ↦ record {
+      seat = at.after;
+      seat_is = ap (λ l. slice_get l s.ring) at.new_is ∙ ap (slice_get (set old.seats ring at.after)) same ∙ here old.seats ring at.before at.after at.before_is;
+      out = still-out At s.reservation at.before at.after (stays at.before at.after at.did) (where_at same) (subst (λ (x : WorkerSeat). IsOutAtSeat x s.reservation) (was Did ring at s kept same) kept.out);
+    }
+    | inr other ↦ record { seat = kept.seat; seat_is = ap (λ l. slice_get l s.ring) at.new_is ∙ there old.seats ring s.ring at.after other ∙ kept.seat_is; out = kept.out }
   ]
 
   -- ---- reserve
@@ -202,47 +172,47 @@ module _ (old new : AtSeats) where
         record {
           seat = at.after;
           seat_is = ap (λ l. slice_get l r.ring) at.new_is ∙ ap (slice_get (set old.seats ring at.after)) led.2 ∙ here old.seats ring at.before at.after at.before_is;
-          holds = grant-held n r.reservation at.before at.after at.did;
+          out = at.did.3;
         },
         λ s kept same.
             let ring_same : s.ring ≡ ring = ap (λ (x : ℕ × ℕ). x.0) same ∙ led.2 in
-            let holds = subst (λ (x : WorkerSeat). Holds x s.reservation) (was (SeatIsGranted n r.reservation) ring at s kept ring_same) kept.holds in
-            grant-apart n r.reservation s.reservation at.before at.after at.did holds (ap (λ (x : ℕ × ℕ). x.1) same),
+            let out = subst (λ (x : WorkerSeat). IsOutAtSeat x s.reservation) (was (SeatIsGranted n r.reservation) ring at s kept ring_same) kept.out in
+            none-some (out_record s.reservation.granted.pos s.reservation.granted.serial (length s.reservation.granted.bytes)) (sym at.did.2.is_free.free ∙ ap (λ (x : ℕ × ℕ). in_hand at.before.hands x.1) (sym same) ∙ out.out),
       )
 
   -- ---- submit and discard
 
-  elsewhere : (s owned : SeatRecord) → record_name s ≢ record_name owned → s.ring ≡ owned.ring → ButAt owned.reservation.pos s.reservation.pos
+  elsewhere : (s owned : SeatRecord) → record_name s ≢ record_name owned → s.ring ≡ owned.ring → ButAt owned.reservation.hand s.reservation.hand
   elsewhere s owned apart ring place = apart (λ i. (ring i, place i))
 
   submit-keeps : (owned : SeatRecord) (flags : ℕ) (taken due : Bool) → RecordAnswered owned.ring taken due (SeatSubmits owned.reservation flags taken due) old.seats new.seats
       → (s : SeatRecord) → IsKept old s → record_name s ≢ record_name owned → IsKept new s
   submit-keeps owned flags taken due led s kept apart = elim (cases_lt owned.ring (length old.seats)) [
-    | inl below ↦ kept-at (SeatSubmits owned.reservation flags taken due) (ButAt owned.reservation.pos) owned.ring
-        (λ b a. submitted owned.reservation flags taken due b a (cases_eq owned.reservation.worker b.worker)) (led.at_ring below) s (elsewhere s owned apart) kept
+    | inl below ↦ kept-at (SeatSubmits owned.reservation flags taken due) (ButAt owned.reservation.hand) owned.ring
+        (submitted owned.reservation flags taken due) (led.at_ring below) s (elsewhere s owned apart) kept
     | inr beyond ↦ same-seats (led.no_ring beyond).2 s kept
   ]
 
   discard-keeps : (owned : SeatRecord) (flags : ℕ) (taken due : Bool) → RecordAnswered owned.ring taken due (SeatDiscards owned.reservation flags taken due) old.seats new.seats
       → (s : SeatRecord) → IsKept old s → record_name s ≢ record_name owned → IsKept new s
   discard-keeps owned flags taken due led s kept apart = elim (cases_lt owned.ring (length old.seats)) [
-    | inl below ↦ kept-at (SeatDiscards owned.reservation flags taken due) (ButAt owned.reservation.pos) owned.ring
-        (λ b a. discarded owned.reservation flags taken due b a (cases_eq owned.reservation.worker b.worker)) (led.at_ring below) s (elsewhere s owned apart) kept
+    | inl below ↦ kept-at (SeatDiscards owned.reservation flags taken due) (ButAt owned.reservation.hand) owned.ring
+        (discarded owned.reservation flags taken due) (led.at_ring below) s (elsewhere s owned apart) kept
     | inr beyond ↦ same-seats (led.no_ring beyond).2 s kept
   ]
 
-  kept-holds : (Did : WorkerSeat → WorkerSeat → Type 0) (owned : SeatRecord) (kept : IsKept old owned) (at : AtSeat owned.ring Did old.seats new.seats) → Holds at.before owned.reservation
-  kept-holds Did owned kept at = subst (λ (x : WorkerSeat). Holds x owned.reservation) (was Did owned.ring at owned kept refl) kept.holds
+  kept-out : (Did : WorkerSeat → WorkerSeat → Type 0) (owned : SeatRecord) (kept : IsKept old owned) (at : AtSeat owned.ring Did old.seats new.seats) → IsOutAtSeat at.before owned.reservation
+  kept-out Did owned kept at = subst (λ (x : WorkerSeat). IsOutAtSeat x owned.reservation) (was Did owned.ring at owned kept refl) kept.out
 
   submit-never-back : (owned : SeatRecord) (flags : ℕ) (taken due : Bool) → RecordAnswered owned.ring taken due (SeatSubmits owned.reservation flags taken due) old.seats new.seats → IsKept old owned → taken ≡ true
   submit-never-back owned flags taken due led kept =
       let at = led.at_ring (some-below old.seats owned.ring kept.seat kept.seat_is) in
-      submit-taken owned.reservation flags taken due at.before at.after (kept-holds (SeatSubmits owned.reservation flags taken due) owned kept at) at.did
+      at.did.exact.1 (kept-out (SeatSubmits owned.reservation flags taken due) owned kept at)
 
   discard-never-back : (owned : SeatRecord) (flags : ℕ) (taken due : Bool) → RecordAnswered owned.ring taken due (SeatDiscards owned.reservation flags taken due) old.seats new.seats → IsKept old owned → taken ≡ true
   discard-never-back owned flags taken due led kept =
       let at = led.at_ring (some-below old.seats owned.ring kept.seat kept.seat_is) in
-      discard-taken owned.reservation flags taken due at.before at.after (kept-holds (SeatDiscards owned.reservation flags taken due) owned kept at) at.did
+      at.did.exact.1 (kept-out (SeatDiscards owned.reservation flags taken due) owned kept at)
 
   -- a seat that is there after a call was there before it
   ring-there : (owned : SeatRecord) → new.seats ≡ old.seats → length old.seats ≤ owned.ring → IsKept new owned → ⊥
@@ -252,8 +222,8 @@ module _ (old new : AtSeats) where
   submit-frees owned flags taken due led kept = elim (cases_lt owned.ring (length old.seats)) [
     | inl below ↦
         let at = led.at_ring below in
-        submit-let-go owned.reservation flags taken due at.before at.after (cases_eq owned.reservation.worker at.before.worker) at.did
-        (subst (λ (x : WorkerSeat). Holds x owned.reservation) (now (SeatSubmits owned.reservation flags taken due) owned.ring at owned kept refl) kept.holds)
+        submit-let-go owned.reservation flags taken due at.before at.after at.did
+        (subst (λ (x : WorkerSeat). IsOutAtSeat x owned.reservation) (now (SeatSubmits owned.reservation flags taken due) owned.ring at owned kept refl) kept.out)
     | inr beyond ↦ ring-there owned (led.no_ring beyond).2 beyond kept
   ]
 
@@ -261,8 +231,8 @@ module _ (old new : AtSeats) where
   discard-frees owned flags taken due led kept = elim (cases_lt owned.ring (length old.seats)) [
     | inl below ↦
         let at = led.at_ring below in
-        discard-let-go owned.reservation flags taken due at.before at.after (cases_eq owned.reservation.worker at.before.worker) at.did
-        (subst (λ (x : WorkerSeat). Holds x owned.reservation) (now (SeatDiscards owned.reservation flags taken due) owned.ring at owned kept refl) kept.holds)
+        discard-let-go owned.reservation flags taken due at.before at.after at.did
+        (subst (λ (x : WorkerSeat). IsOutAtSeat x owned.reservation) (now (SeatDiscards owned.reservation flags taken due) owned.ring at owned kept refl) kept.out)
     | inr beyond ↦ ring-there owned (led.no_ring beyond).2 beyond kept
   ]
 

@@ -1,9 +1,8 @@
 -- A call that was made at a seat and noted is a call of the helpers.
 use Rattle.std.proofs.Common.{◌≡◌, ◌≢◌, ◌↔◌, ℕ, zero, suc, ◌+◌, ◌<◌, ◌≤◌, inl, inr, ℤ, pos, negsuc, Bool, false, cond, List, [], ◌∷◌, length, Option, Some, None, Result, Ok, Err, IsErrOf, is_ok, refl, ap, sym, ◌∙◌, subst, arith, w64, to_z, of_z}
 use Rattle.rb_history.specs.declared.answers.Notice.{Notice}
-use Rattle.rb_history.specs.declared.answers.Stray.{Stray}
-use Rattle.rb_history.specs.ReservationModel.{Granted}
-use Rattle.rb_chapter_ring.specs.declared.faults.ReserveFault.TheVariants.{Full, Flags, ChapterFull, Foreign}
+use Rattle.rb_hand_ring.specs.HandGranted.{HandGranted}
+use Rattle.rb_chapter_ring.specs.declared.faults.ReserveFault.TheVariants.{Full, Flags, ChapterFull, Foreign, HandsFull}
 use Rattle.rb_ledger.specs.Seats.{WorkerSeat}
 use Rattle.rb_helpers.specs.declared.done.Done.TheVariants.{Reserve, Submit, Discard, Output, Query}
 use Rattle.rb_helpers.specs.AnsweredCalls.{AnsweredCall, Reserved, Submitted, Discarded, SentOut, Queried, note_of}
@@ -42,7 +41,7 @@ abbrev answer_number : {T : Type 0} → Result T NoRecord → ℕ
 answer_number (Ok x) = 0
 answer_number (Err fault) = fault_number fault
 
-abbrev granted_answer : Granted → Result Granted NoRecord
+abbrev granted_answer : HandGranted → Result HandGranted NoRecord
 granted_answer r = Ok r
 
 abbrev made_answer : Notice → Result Notice NoRecord
@@ -67,42 +66,43 @@ at_most flags few = omega (arith, few)
 
 -- no record was made
 refused_for : (ring n : ℕ) (fault : NoRecord) (old new : List WorkerSeat) → AtSeat ring (SeatFails n fault) old new
-    → AtSeat ring (SeatIsRefused n (cond (unlogged_in {T = Granted} (Err fault)) 1 0)) old new
+    → AtSeat ring (SeatIsRefused n (cond (unlogged_in {T = HandGranted} (Err fault)) 1 0)) old new
 refused_for ring n BadFlags old new at = absurd at.did
 refused_for ring n NoSheet old new at = at_seat_as (SeatFails n NoSheet) (SeatIsRefused n 1) ring old new (λ b a none. inr (inr (none, refl))) at
 refused_for ring n (Refused Full) old new at = at_seat_as (SeatFails n (Refused Full)) (SeatIsRefused n 0) ring old new (λ b a full. inl (full, refl)) at
 refused_for ring n (Refused ChapterFull) old new at = at_seat_as (SeatFails n (Refused ChapterFull)) (SeatIsRefused n 1) ring old new (λ b a full. inr (inl (full, refl))) at
 refused_for ring n (Refused Flags) old new at = absurd at.did
 refused_for ring n (Refused Foreign) old new at = absurd at.did
+refused_for ring n (Refused HandsFull) old new at = at_seat_as (SeatFails n (Refused HandsFull)) (SeatIsRefused n 1) ring old new (λ b a none. inr (inr (none, refl))) at
 
 -- ---- reserve
 
 -- the helpers' answer
-abbrev pub record_in : ℕ → Result Granted NoRecord → Option SeatRecord
+abbrev pub record_in : ℕ → Result HandGranted NoRecord → Option SeatRecord
 record_in ring (Ok r) = Some (record { ring = ring; reservation = r })
 record_in ring (Err fault) = None
 
-nothing_logged : (fault : NoRecord) (flags : ℕ) → IsErrOf {T = Granted} (Err fault) BadFlags ↔ (flags ≢ 0) → flags ≢ 0 → ◌≡◌ {A = ℕ} (cond (unlogged_in {T = Granted} (Err fault)) 1 0) 0
+nothing_logged : (fault : NoRecord) (flags : ℕ) → IsErrOf {T = HandGranted} (Err fault) BadFlags ↔ (flags ≢ 0) → flags ≢ 0 → ◌≡◌ {A = ℕ} (cond (unlogged_in {T = HandGranted} (Err fault)) 1 0) 0
 nothing_logged BadFlags flags bad other = refl
 nothing_logged NoSheet flags bad other = absurd (let e : 1 ≡ 3 = ap (λ x. answer_number x) (bad.1 other) in omega (arith, e))
 nothing_logged (Refused fault) flags bad other = absurd (let e : 2 ≡ 3 = ap (λ x. answer_number x) (bad.1 other) in omega (arith, e))
 
-reserve_seats : (ring n flags : ℕ) (answer : Result Granted NoRecord) (old new : List WorkerSeat) → IsErrOf answer BadFlags ↔ (flags ≢ 0) → (flags ≢ 0 → new ≡ old)
+reserve_seats : (ring n flags : ℕ) (answer : Result HandGranted NoRecord) (old new : List WorkerSeat) → IsErrOf answer BadFlags ↔ (flags ≢ 0) → (flags ≢ 0 → new ≡ old)
     → (flags ≡ 0 → AtSeat ring (SeatReserves n answer) old new) → CallsSeats (Reserved ring n flags (record_in ring answer)) false (cond (unlogged_in answer) 1 0) old new
 reserve_seats ring n flags (Ok r) old new bad no_step at =
     let none = no_flags (granted_answer r) flags bad (λ e. absurd (omega (arith, e))) in ((none, refl, refl, at none), refl)
 reserve_seats ring n flags (Err fault) old new bad no_step at =
     ((λ none. refused_for ring n fault old new (at none), λ other. (no_step other, nothing_logged fault flags bad other)), refl)
 
-reserve_noted : (old mid next : AtSeats) (ring n flags : ℕ) (answer : Result Granted NoRecord) → mid ≡ record old { seats = mid.seats } → IsErrOf answer BadFlags ↔ (flags ≢ 0)
+reserve_noted : (old mid next : AtSeats) (ring n flags : ℕ) (answer : Result HandGranted NoRecord) → mid ≡ record old { seats = mid.seats } → IsErrOf answer BadFlags ↔ (flags ≢ 0)
     → (flags ≢ 0 → mid.seats ≡ old.seats) → (flags ≡ 0 → AtSeat ring (SeatReserves n answer) old.seats mid.seats) → 0 < old.room
     → next ≡ with_call mid (Reserve ring n flags (is_ok answer)) (unlogged_in answer) false → CallsHelpers (Reserved ring n flags (record_in ring answer)) old next
 reserve_noted old mid next ring n flags (Ok r) rest bad no_step at room note =
     noted (Reserved ring n flags (Some (record { ring = ring; reservation = r }))) old mid next false false rest note room (reserve_seats ring n flags (Ok r) old.seats mid.seats bad no_step at)
 reserve_noted old mid next ring n flags (Err fault) rest bad no_step at room note =
-    noted (Reserved ring n flags None) old mid next (unlogged_in {T = Granted} (Err fault)) false rest note room (reserve_seats ring n flags (Err fault) old.seats mid.seats bad no_step at)
+    noted (Reserved ring n flags None) old mid next (unlogged_in {T = HandGranted} (Err fault)) false rest note room (reserve_seats ring n flags (Err fault) old.seats mid.seats bad no_step at)
 
-pub reserved : (old mid next : AtSeats) (ring n flags : ℕ) (answer : Result Granted NoRecord) (given : Option SeatRecord) (granted unlogged : Bool)
+pub reserved : (old mid next : AtSeats) (ring n flags : ℕ) (answer : Result HandGranted NoRecord) (given : Option SeatRecord) (granted unlogged : Bool)
     → given ≡ record_in ring answer → granted ≡ is_ok answer → unlogged ≡ unlogged_in answer
     → mid ≡ record old { seats = mid.seats } → IsErrOf answer BadFlags ↔ (flags ≢ 0) → (flags ≢ 0 → mid.seats ≡ old.seats)
     → (flags ≡ 0 → AtSeat ring (SeatReserves n answer) old.seats mid.seats) → 0 < old.room
@@ -114,7 +114,7 @@ reserved old mid next ring n flags answer given granted unlogged given_is grante
 
 -- ---- submit and discard
 
-pub submitted : (old mid next : AtSeats) (owned : SeatRecord) (flags : ℕ) (answer : Result Notice Stray) (taken logged due : Bool)
+pub submitted : {E : Type 0} (old mid next : AtSeats) (owned : SeatRecord) (flags : ℕ) (answer : Result Notice E) (taken logged due : Bool)
     → taken ≡ is_ok answer → logged ≡ is_ok answer → due ≡ due_in answer → mid ≡ record old { seats = mid.seats }
     → RecordAnswered owned.ring (is_ok answer) (due_in answer) (SeatSubmits owned.reservation flags (is_ok answer) (due_in answer)) old.seats mid.seats
     → 0 < old.room → next ≡ with_call mid (Submit flags logged) false due → CallsHelpers (Submitted owned flags taken) old next
@@ -125,7 +125,7 @@ submitted old mid next owned flags answer taken logged due taken_is logged_is du
       refl,
     )
 
-pub discarded : (old mid next : AtSeats) (owned : SeatRecord) (flags : ℕ) (answer : Result Notice Stray) (taken logged due : Bool)
+pub discarded : {E : Type 0} (old mid next : AtSeats) (owned : SeatRecord) (flags : ℕ) (answer : Result Notice E) (taken logged due : Bool)
     → taken ≡ is_ok answer → logged ≡ is_ok answer → due ≡ due_in answer → mid ≡ record old { seats = mid.seats }
     → RecordAnswered owned.ring (is_ok answer) (due_in answer) (SeatDiscards owned.reservation flags (is_ok answer) (due_in answer)) old.seats mid.seats
     → 0 < old.room → next ≡ with_call mid (Discard flags logged) false due → CallsHelpers (Discarded owned flags taken) old next

@@ -18,14 +18,14 @@ use Rattle.rb_seats.proofs.Lists.{zip_self, zip_through, zip_one}
 -- ---- the seats are the same
 
 pub same_seat : (s : WorkerSeat) → IsSameSeat s s
-same_seat s = record { tag_same = refl; ring_same = refl; worker_same = refl }
+same_seat s = record { tag_same = refl; ring_same = refl; room_same = refl; worker_same = refl }
 
 same_seats : (xs : List WorkerSeat) → AllZip IsSameSeat xs xs
 same_seats xs = zip_self IsSameSeat same_seat xs
 
 pub same_through : (x y z : WorkerSeat) → IsSameSeat x y → IsSameSeat y z → IsSameSeat x z
 same_through x y z first second =
-    record { tag_same = second.tag_same ∙ first.tag_same; ring_same = second.ring_same ∙ first.ring_same; worker_same = second.worker_same ∙ first.worker_same }
+    record { tag_same = second.tag_same ∙ first.tag_same; ring_same = second.ring_same ∙ first.ring_same; room_same = second.room_same ∙ first.room_same; worker_same = second.worker_same ∙ first.worker_same }
 
 -- ---- one seat's numbers
 
@@ -93,9 +93,9 @@ rises_nowhere d unlogged old new is none makes_is fails_is submits_is discards_i
 -- what a seat that was refused a record adds
 refusal_adds : (n unlogged : ℕ) (b a : WorkerSeat) → SeatIsRefused n unlogged b a → (r : ℕ) × Adds 0 r 0 0 b a × (r + unlogged ≡ 1)
 refusal_adds n unlogged b a (inl full) =
-    (1, adds_as 0 1 0 0 b a _ full.0.1 (record { tag_same = refl; ring_same = refl; worker_same = refl }, add_zero _, refl, add_zero _, add_zero _), omega (arith, full.1))
+    (1, adds_as 0 1 0 0 b a _ full.0.1 (record { tag_same = refl; ring_same = refl; room_same = refl; worker_same = refl }, add_zero _, refl, add_zero _, add_zero _), omega (arith, full.1))
 refusal_adds n unlogged b a (inr (inl full)) =
-    (0, adds_as 0 0 0 0 b a _ full.0.1 (record { tag_same = refl; ring_same = refl; worker_same = refl }, add_zero _, add_zero _, add_zero _, add_zero _), omega (arith, full.1))
+    (0, adds_as 0 0 0 0 b a _ full.0.1 (record { tag_same = refl; ring_same = refl; room_same = refl; worker_same = refl }, add_zero _, add_zero _, add_zero _, add_zero _), omega (arith, full.1))
 refusal_adds n unlogged b a (inr (inr none)) = (0, adds_as 0 0 0 0 b a _ none.0 (same_seat b, add_zero _, add_zero _, add_zero _, add_zero _), omega (arith, none.1))
 
 refused_rises : (d : Done) (ring n unlogged : ℕ) (old new : List WorkerSeat) → AtSeat ring (SeatIsRefused n unlogged) old new → 0 ≡ makes d → 1 ≡ fails d → 0 ≡ submits d → 0 ≡ discards d
@@ -108,12 +108,12 @@ not_zero : (n : ℕ) → suc n ≢ 0
 not_zero n e = absurd (omega (arith, e))
 
 submit_adds : (owned : SeatRecord) (flags : ℕ) (taken due : Bool) (b a : WorkerSeat) → SeatSubmits owned.reservation flags taken due b a → Adds 0 0 (submits (Submit flags taken)) 0 b a
-submit_adds owned flags true due b a did = adds_as 0 0 1 0 b a _ did.3 (record { tag_same = refl; ring_same = refl; worker_same = refl }, add_zero _, add_zero _, refl, add_zero _)
-submit_adds owned flags false due b a did = adds_as 0 0 0 0 b a _ did.3 (record { tag_same = refl; ring_same = refl; worker_same = refl }, add_zero _, add_zero _, add_zero _, add_zero _)
+submit_adds owned flags true due b a did = adds_as 0 0 1 0 b a _ (did.takes refl).1 (record { tag_same = refl; ring_same = refl; room_same = refl; worker_same = refl }, add_zero _, add_zero _, refl, add_zero _)
+submit_adds owned flags false due b a did = adds_as 0 0 0 0 b a _ (did.hands_back refl).1 (same_seat b, add_zero _, add_zero _, add_zero _, add_zero _)
 
 discard_adds : (owned : SeatRecord) (flags : ℕ) (taken due : Bool) (b a : WorkerSeat) → SeatDiscards owned.reservation flags taken due b a → Adds 0 0 0 (discards (Discard flags taken)) b a
-discard_adds owned flags true due b a did = adds_as 0 0 0 1 b a _ did.3 (record { tag_same = refl; ring_same = refl; worker_same = refl }, add_zero _, add_zero _, add_zero _, refl)
-discard_adds owned flags false due b a did = adds_as 0 0 0 0 b a _ did.3 (record { tag_same = refl; ring_same = refl; worker_same = refl }, add_zero _, add_zero _, add_zero _, add_zero _)
+discard_adds owned flags true due b a did = adds_as 0 0 0 1 b a _ (did.takes refl).1 (record { tag_same = refl; ring_same = refl; room_same = refl; worker_same = refl }, add_zero _, add_zero _, add_zero _, refl)
+discard_adds owned flags false due b a did = adds_as 0 0 0 0 b a _ (did.hands_back refl).1 (same_seat b, add_zero _, add_zero _, add_zero _, add_zero _)
 
 submit_none : (flags : ℕ) (taken : Bool) → taken ≡ false → 0 ≡ submits (Submit flags taken)
 submit_none flags taken is = ap (λ t. submits (Submit flags t)) (sym is)
@@ -141,7 +141,7 @@ output_rises ring bytes flags answer due unlogged old new led (inl is) =
     let sent = led.sent is in
     subst (λ x. CallRises (Output ring (length bytes) flags x) unlogged old new) (sym is)
     (rises_at (Output ring (length bytes) flags (pos 0)) unlogged 1 0 1 0 ring _ old new sent.0
-    (adds_as 1 0 1 0 sent.0.before sent.0.after _ sent.0.did.called.1.1 (record { tag_same = refl; ring_same = refl; worker_same = refl }, refl, add_zero _, refl, add_zero _)) refl (none_added unlogged sent.1) refl refl)
+    (adds_as 1 0 1 0 sent.0.before sent.0.after _ sent.0.did.called.1.1 (record { tag_same = refl; ring_same = refl; room_same = refl; worker_same = refl }, refl, add_zero _, refl, add_zero _)) refl (none_added unlogged sent.1) refl refl)
 output_rises ring bytes flags answer due unlogged old new led (inr (inl is)) =
     subst (λ x. CallRises (Output ring (length bytes) flags x) unlogged old new) (sym is)
     (refused_rises (Output ring (length bytes) flags (negsuc 10)) ring (length bytes) unlogged old new (led.refused is).0 refl refl refl refl)
@@ -153,7 +153,7 @@ output_rises ring bytes flags answer due unlogged old new led (inr (inr is)) =
 call_rises : (call : AnsweredCall SeatRecord) (due : Bool) (unlogged : ℕ) (old new : List WorkerSeat) → CallsSeats call due unlogged old new → CallRises (note_of call) unlogged old new
 call_rises (Reserved ring n zero (Some r)) due unlogged old new led =
     rises_at (Reserve ring n 0 true) unlogged 1 0 0 0 ring _ old new led.0.3
-    (adds_as 1 0 0 0 led.0.3.before led.0.3.after _ led.0.3.did.2 (record { tag_same = refl; ring_same = refl; worker_same = refl }, refl, add_zero _, add_zero _, add_zero _)) refl (none_added unlogged led.0.1) refl refl
+    (adds_as 1 0 0 0 led.0.3.before led.0.3.after _ led.0.3.did.4 (record { tag_same = refl; ring_same = refl; room_same = refl; worker_same = refl }, refl, add_zero _, add_zero _, add_zero _)) refl (none_added unlogged led.0.1) refl refl
 call_rises (Reserved ring n (suc f) (Some r)) due unlogged old new led = absurd (not_zero f led.0.0)
 call_rises (Reserved ring n zero None) due unlogged old new led = refused_rises (Reserve ring n 0 false) ring n unlogged old new (led.0.0 refl) refl refl refl refl
 call_rises (Reserved ring n (suc f) None) due unlogged old new led =
@@ -163,7 +163,7 @@ call_rises (Discarded owned flags taken) due unlogged old new led = discard_rise
 call_rises (SentOut ring bytes flags answer) due unlogged old new led = output_rises ring bytes flags answer due unlogged old new led led.answer_is.1
 call_rises (Queried ring what answer) due unlogged old new led =
     rises_at (Query ring what answer) unlogged 0 0 0 0 ring _ old new led.0
-    (adds_as 0 0 0 0 led.0.before led.0.after _ led.0.did.1 (record { tag_same = refl; ring_same = refl; worker_same = refl }, add_zero _, add_zero _, add_zero _, add_zero _)) refl (none_added unlogged led.2) refl refl
+    (adds_as 0 0 0 0 led.0.before led.0.after _ led.0.did.1 (record { tag_same = refl; ring_same = refl; room_same = refl; worker_same = refl }, add_zero _, add_zero _, add_zero _, add_zero _)) refl (none_added unlogged led.2) refl refl
 
 -- ---- the law
 

@@ -1,16 +1,16 @@
--- Which records helpers over seats keep: those that their seats hold (own).
+-- Which records helpers over seats keep: those that are out in a hand of their seats (own).
 use Rattle.std.specs.Prelude.{◌≡◌, ℕ, slice_get, Some}
 use Rattle.rb_ledger.specs.Seats.{WorkerSeat}
-use Rattle.rb_hand_ledger.specs.NoStranger.{IsHeld}
 use Rattle.rb_seats.specs.declared.seat_record.SeatRecord.{SeatRecord}
+use Rattle.rb_seats.specs.SeatCalls.{IsOutAtSeat}
 use Rattle.rb_seats.specs.SeatHelpers.{AtSeats}
 
--- there is a seat at the record's ring, and its worker holds the record there
+-- there is a seat at the record's ring, and its reservation is out there
 pub record IsKept (h : AtSeats) (r : SeatRecord) : Type 0 where
   pub seat : WorkerSeat
   pub seat_is : slice_get h.seats r.ring ≡ Some seat
-  pub holds : IsHeld seat.worker seat.seen r.reservation
+  pub out : IsOutAtSeat seat r.reservation
 
--- a record's name: its ring, and its position there
+-- a record's name: its ring, and the hand in which it is there
 abbrev pub record_name : SeatRecord → ℕ × ℕ
-record_name r = (r.ring, r.reservation.pos)
+record_name r = (r.ring, r.reservation.hand)

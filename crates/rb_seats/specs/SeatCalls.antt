@@ -1,19 +1,20 @@
 -- What each call of a helper does to the one seat that it uses, before and after it, as the shared ring answers it, by its chapter and over
 -- its whole history (own).
-use Rattle.std.specs.Prelude.{◌≡◌, ◌≢◌, ℕ, ◌+◌, ◌<◌, ◌≤◌, ◌⊎◌, ℤ, pos, neg_ℤ, Bool, true, false, List, length, slice_get, slice_set, Option, Some, None, Result, Ok, Err}
+use Rattle.std.specs.FinMap.{insert}
+use Rattle.std.specs.Prelude.{◌≡◌, ◌≢◌, ℕ, ◌+◌, ◌<◌, ◌≤◌, ◌⊎◌, ℤ, ◌↔◌, pos, neg_ℤ, Bool, true, false, List, length, slice_get, slice_set, Option, Some, None, Ok}
 use Rattle.rb_history.specs.declared.answers.Notice.{Notice}
 use Rattle.rb_history.specs.declared.answers.Notice.TheVariants.{Due, NotDue}
-use Rattle.rb_history.specs.declared.answers.Stray.{Stray}
-use Rattle.rb_history.specs.ReservationModel.{Granted}
 use Rattle.rb_history.specs.RingModel.{Ring}
 use Rattle.rb_history.specs.Calls.{FindsFull as FindsAllFull, producer_now}
 use Rattle.rb_chapter.specs.ChapterRing.{ChapterRing}
 use Rattle.rb_chapter.specs.ChapterCalls.{FindsFull, FindsChapterFull}
 use Rattle.rb_ledger.specs.Roles.Role.{Worker}
 use Rattle.rb_ledger.specs.Seats.{WorkerSeat}
-use Rattle.rb_ledger.specs.LockedCalls.{Reserves, SubmitsAt, DiscardsAt, OutputsAt, Queries, submitted_by, discarded_by, output_by, sent_by_submit, sent_by_output}
+use Rattle.rb_ledger.specs.LockedCalls.{Reserves, SubmitsAt, DiscardsAt, OutputsAt, Queries, output_by, sent_by_output}
 use Rattle.rb_chapter_ledger.specs.ChapteredRing.{whole_of}
-use Rattle.rb_chapter_ledger.specs.LockedChapterCalls.{LockedChapterCall, InOneChapter, SubmitsInChapter, DiscardsInChapter, QueriesInChapter}
+use Rattle.rb_chapter_ledger.specs.LockedChapterCalls.{LockedChapterCall, InRoomAt, SubmitsInChapter, DiscardsInChapter, QueriesInChapter}
+use Rattle.rb_hands.specs.Hands.{out_record, in_hand, IsLowestFree}
+use Rattle.rb_hand_ring.specs.HandGranted.{HandGranted}
 use Rattle.rb_shared_ring.specs.SharedCalls.{ReservesInChapter, OutputsInChapter}
 use Rattle.rb_helpers.specs.ErrorNumbers.{EAGAIN, EINVAL}
 use Rattle.rb_helpers.specs.AnsweredCalls.{AnsweredCall, Reserved, Submitted, Discarded, SentOut, Queried, MayAnswerOutput}
@@ -22,34 +23,42 @@ use Rattle.rb_seats.specs.declared.seat_record.SeatRecord.{SeatRecord}
 -- ---- one seat
 
 -- The seat made one call of the ring, at one moment under its lock: there the ring did the one by its chapter, and so the other over its whole
--- history, which begins with what the seat had seen. What others had added since has no entry of the seat's worker.
+-- history, which begins with what the seat had seen. What others had added since has no entry of the seat's worker. The chapter had the seat's room,
+-- and so many entries had been handed out before it as the seat then knows.
 abbrev pub SeatCallsRing : (ByChapter : ChapterRing → ChapterRing → Type 0) (OverAll : Ring → Ring → Type 0) → WorkerSeat → WorkerSeat → Type 0
 SeatCallsRing ByChapter OverAll b a =
-    LockedChapterCall (Worker b.worker) b.seen a.seen (λ old new. InOneChapter ByChapter old new × OverAll (whole_of old) (whole_of new))
+    LockedChapterCall (Worker b.worker) b.seen a.seen (λ old new. InRoomAt b.room a.cut ByChapter old new × OverAll (whole_of old) (whole_of new))
+
+-- the reservation is out at the seat: it has the seat's tag and worker, and the hand that it names is out with its position, serial and length
+pub record IsOutAtSeat (seat : WorkerSeat) (r : HandGranted) : Type 0 where
+  pub tag_is : r.tag ≡ seat.tag
+  pub worker_is : r.granted.worker ≡ seat.worker
+  pub out : in_hand seat.hands r.hand ≡ Some (out_record r.granted.pos r.granted.serial (length r.granted.bytes))
 
 -- at one call of the ring it answered this number; of the seat only what it has seen is another
 abbrev pub SeatQueries : ℕ → ℕ → WorkerSeat → WorkerSeat → Type 0
-SeatQueries what answer b a = SeatCallsRing (QueriesInChapter what answer) (Queries what answer) b a × (a ≡ record b { seen = a.seen })
+SeatQueries what answer b a = SeatCallsRing (QueriesInChapter what answer) (Queries what answer) b a × (a ≡ record b { seen = a.seen; cut = a.cut })
 
--- at one call the ring granted this very reservation of n bytes to the seat's worker
-abbrev pub SeatIsGranted : ℕ → Granted → WorkerSeat → WorkerSeat → Type 0
+-- at one call the ring granted this very reservation of n bytes to the seat's worker, into the seat's lowest free hand
+abbrev pub SeatIsGranted : ℕ → HandGranted → WorkerSeat → WorkerSeat → Type 0
 SeatIsGranted n r b a =
-    SeatCallsRing (ReservesInChapter b.worker n (Ok r)) (Reserves b.worker n (Ok r)) b a × (r.serial ≡ b.tally.made)
-    × (a ≡ record b { seen = a.seen; tally = record b.tally { made = b.tally.made + 1 } })
+    SeatCallsRing (ReservesInChapter b.worker n (Ok r.granted)) (Reserves b.worker n (Ok r.granted)) b a × (r.granted.serial ≡ b.tally.made)
+    × IsLowestFree b.hands r.hand × IsOutAtSeat a r
+    × (a ≡ record b { seen = a.seen; cut = a.cut; tally = record b.tally { made = b.tally.made + 1 }; hands = slice_set b.hands r.hand (Some (out_record r.granted.pos r.granted.serial n)) })
 
 -- at one call the ring had no room for n bytes, which its history says
 abbrev pub SeatFindsFull : ℕ → WorkerSeat → WorkerSeat → Type 0
 SeatFindsFull n b a =
     SeatCallsRing (λ old new. FindsFull old new b.worker n) (λ old new. FindsAllFull old new b.worker n) b a
-    × (a ≡ record b { seen = a.seen; tally = record b.tally { refused = b.tally.refused + 1 } })
+    × (a ≡ record b { seen = a.seen; cut = a.cut; tally = record b.tally { refused = b.tally.refused + 1 } })
 
 -- at one call the chapter had no room: for all that a record would log where the ring had room for n bytes, else for their refusal.
 -- Nothing was added to the history
 abbrev pub SeatFindsChapterFull : ℕ → WorkerSeat → WorkerSeat → Type 0
-SeatFindsChapterFull n b a = SeatCallsRing (λ old new. FindsChapterFull old new b.worker n) (λ old new. new ≡ old) b a × (a ≡ record b { seen = a.seen })
+SeatFindsChapterFull n b a = SeatCallsRing (λ old new. FindsChapterFull old new b.worker n) (λ old new. new ≡ old) b a × (a ≡ record b { seen = a.seen; cut = a.cut })
 
--- no record of n bytes was made: the ring had no room; or its chapter had none, or no sheet could be had, which makes no call of the ring.
--- These two are unlogged
+-- no record of n bytes was made: the ring had no room; or its chapter had none; or no hand was free for a reservation, or no sheet could be had,
+-- which make no call of the ring. All but the first are unlogged
 abbrev pub SeatIsRefused : ℕ → ℕ → WorkerSeat → WorkerSeat → Type 0
 SeatIsRefused n unlogged b a =
     (SeatFindsFull n b a × (unlogged ≡ 0)) ⊎ (SeatFindsChapterFull n b a × (unlogged ≡ 1)) ⊎ ((a ≡ b) × (unlogged ≡ 1))
@@ -58,34 +67,28 @@ abbrev pub notice_of : Bool → Notice
 notice_of true = Due
 notice_of false = NotDue
 
--- the ring's answer to a submit or a discard of this reservation: taken, with a notice due or not, or handed back
-abbrev pub settled_answer : Granted → Bool → Bool → Result Notice Stray
-settled_answer r true due = Ok (notice_of due)
-settled_answer r false due = Err (record { reservation = r })
-
--- what is handed back makes no notice due
-abbrev pub NoNoticeUnless : Bool → Bool → Type 0
-NoNoticeUnless taken due = taken ≡ false → due ≡ false
-
--- at one call the ring answered so to a submit of the reservation with these flags; another worker's is handed back without a call
-abbrev pub SeatSubmits : Granted → ℕ → Bool → Bool → WorkerSeat → WorkerSeat → Type 0
-SeatSubmits r flags taken due b a =
-    (r.worker ≡ b.worker → SeatCallsRing (SubmitsInChapter r flags (settled_answer r taken due)) (SubmitsAt r flags (settled_answer r taken due)) b a)
-    × (r.worker ≢ b.worker → (taken ≡ false) × (a ≡ b)) × NoNoticeUnless taken due
-    × (a ≡ record b { seen = a.seen; tally = submitted_by b.tally (settled_answer r taken due); sent = sent_by_submit b.sent r (settled_answer r taken due) })
+-- a submit of the reservation with these flags was taken exactly where it is out at the seat; then the ring took it at one call, and the hand is free.
+-- Else it is handed back without a call
+pub record SeatSubmits (r : HandGranted) (flags : ℕ) (taken due : Bool) (b a : WorkerSeat) : Type 0 where
+  pub exact : (taken ≡ true) ↔ IsOutAtSeat b r
+  pub takes : taken ≡ true
+      → SeatCallsRing (SubmitsInChapter r.granted flags (Ok (notice_of due))) (SubmitsAt r.granted flags (Ok (notice_of due))) b a
+      × (a ≡ record b { seen = a.seen; cut = a.cut; tally = record b.tally { submitted = b.tally.submitted + 1 }; hands = slice_set b.hands r.hand None; sent = insert b.sent r.granted.pos r.granted.bytes })
+  pub hands_back : taken ≡ false → (due ≡ false) × (a ≡ b)
 
 -- a discard, likewise; it sends nothing
-abbrev pub SeatDiscards : Granted → ℕ → Bool → Bool → WorkerSeat → WorkerSeat → Type 0
-SeatDiscards r flags taken due b a =
-    (r.worker ≡ b.worker → SeatCallsRing (DiscardsInChapter r flags (settled_answer r taken due)) (DiscardsAt r flags (settled_answer r taken due)) b a)
-    × (r.worker ≢ b.worker → (taken ≡ false) × (a ≡ b)) × NoNoticeUnless taken due
-    × (a ≡ record b { seen = a.seen; tally = discarded_by b.tally (settled_answer r taken due) })
+pub record SeatDiscards (r : HandGranted) (flags : ℕ) (taken due : Bool) (b a : WorkerSeat) : Type 0 where
+  pub exact : (taken ≡ true) ↔ IsOutAtSeat b r
+  pub takes : taken ≡ true
+      → SeatCallsRing (DiscardsInChapter r.granted flags (Ok (notice_of due))) (DiscardsAt r.granted flags (Ok (notice_of due))) b a
+      × (a ≡ record b { seen = a.seen; cut = a.cut; tally = record b.tally { discarded = b.tally.discarded + 1 }; hands = slice_set b.hands r.hand None })
+  pub hands_back : taken ≡ false → (due ≡ false) × (a ≡ b)
 
 -- at one call the ring took these bytes with these flags, as the record that stands where the producer was
 abbrev pub SeatOutputs : List ℕ → ℕ → Bool → WorkerSeat → WorkerSeat → Type 0
 SeatOutputs bytes flags due b a = SeatCallsRing (OutputsInChapter b.worker bytes flags (Ok (notice_of due))) (λ old new.
     OutputsAt b.worker bytes flags (Ok (notice_of due)) old new
-    × (a ≡ record b { seen = a.seen; tally = output_by b.tally (Ok (notice_of due)); sent = sent_by_output b.sent (producer_now old) bytes (Ok (notice_of due)) })) b a
+    × (a ≡ record b { seen = a.seen; cut = a.cut; tally = output_by b.tally (Ok (notice_of due)); sent = sent_by_output b.sent (producer_now old) bytes (Ok (notice_of due)) })) b a
 
 -- ---- all seats of the helpers
 

@@ -21,7 +21,10 @@ pub(crate) fn is_unlogged<T>(answer: &Result<T, NoRecord>) -> bool
 {
     matches!(
         answer,
-        Err(NoRecord::NoSheet | NoRecord::Refused(ReserveFault::ChapterFull))
+        Err(
+            NoRecord::NoSheet
+                | NoRecord::Refused(ReserveFault::ChapterFull | ReserveFault::HandsFull)
+        )
     )
 }
 

@@ -15,8 +15,8 @@ use crate::seat_record::SeatRecord;
 use crate::sheets::{copied_sheet, give_back, zero_sheet};
 use crate::stock::Stock;
 use rb_helpers::{Done, Helpers};
-use rb_history::{Notice, Reservation, Stray};
-use rb_shared_ring::{Foreign, Seat, SharedRing};
+use rb_history::Notice;
+use rb_shared_ring::{Foreign, Reservation, Seat, SharedRing};
 use std::alloc::{AllocError, Global};
 use std::marker::Model;
 use std::sync::Wait;
@@ -42,12 +42,13 @@ impl<'h, R, S> Model for SeatHelpers<'h, R, S> {
     ghost use Rattle.rb_history.specs.RingModel.{contents_code};
     ghost use Rattle.rb_history.specs.contracts.entries.Entry as entry;
     ghost use Rattle.rb_history.specs.contracts.tally.Tally as tally_row;
+    ghost use Rattle.rb_hands.specs.contracts.out_record.OutRecord as out_row;
     ghost use Rattle.rb_helpers.specs.contracts.done.Done as done_row;
     ghost use Rattle.rb_seats.specs.SeatHelpers.{AtSeats, AtRings};
 
     ghost Value = { AtSeats };
 
-    ghost coded = { Prim.hlevel (codes, contents_code, table_id_coded, entry.the_row.coded, tally_row.the_row.coded, done_row.the_row.coded) };
+    ghost coded = { Prim.hlevel (codes, contents_code, table_id_coded, entry.the_row.coded, tally_row.the_row.coded, out_row.the_row.coded, done_row.the_row.coded) };
 
     ghost view = { λ h. record { rings = h.rings.now; seats = h.seats.items; trace = h.trace.items; room = h.room; unlogged = h.unlogged; due = h.due } };
 
@@ -148,7 +149,7 @@ impl<'h, R: Wait, S: Stock> SeatHelpers<'h, R, S> {
         ensures flags { IsErrOf result BadFlags ↔ (flags ≢ 0) }
         ensures no_step { flags ≢ 0 → self.new.seats ≡ self.old.seats }
         ensures seat { flags ≡ 0 → AtSeat ring (SeatReserves n result) self.old.seats self.new.seats }
-        ensures zeros { IfOk result (λ r. r.bytes ≡ replicate n 0) }
+        ensures zeros { IfOk result (λ r. r.granted.bytes ≡ replicate n 0) }
     {
         if flags != 0 {
             return Err(NoRecord::BadFlags);
@@ -166,38 +167,38 @@ impl<'h, R: Wait, S: Stock> SeatHelpers<'h, R, S> {
         }
     }
 
-    // Submits a record at the ring's seat, without noting the call. One of no ring here is stray.
+    // Submits a record at the ring's seat, without noting the call. One of no ring here is handed back.
     fn try_submit(
         &mut self,
         ring: u32,
         reservation: Reservation,
         flags: u64,
-    ) -> Result<Notice, Stray>
+    ) -> Result<Notice, Reservation>
         ensures rest { self.new ≡ record self.old { seats = self.new.seats } }
         ensures seat { RecordAnswered ring (is_ok result) (due_in result) (SeatSubmits reservation flags (is_ok result) (due_in result)) self.old.seats self.new.seats }
-        ensures handed_back { IfErr result (λ stray. stray.reservation ≡ reservation) }
+        ensures handed_back { IfErr result (λ back. back ≡ reservation) }
     {
         let at = ring as usize;
         if at >= self.rings.len() {
-            return Err(Stray { reservation });
+            return Err(reservation);
         }
         self.rings[at].submit(self.rt, &mut self.seats[at], reservation, flags)
     }
 
-    // Discards a record at the ring's seat, without noting the call. One of no ring here is stray.
+    // Discards a record at the ring's seat, without noting the call. One of no ring here is handed back.
     fn try_discard(
         &mut self,
         ring: u32,
         reservation: Reservation,
         flags: u64,
-    ) -> Result<Notice, Stray>
+    ) -> Result<Notice, Reservation>
         ensures rest { self.new ≡ record self.old { seats = self.new.seats } }
         ensures seat { RecordAnswered ring (is_ok result) (due_in result) (SeatDiscards reservation flags (is_ok result) (due_in result)) self.old.seats self.new.seats }
-        ensures handed_back { IfErr result (λ stray. stray.reservation ≡ reservation) }
+        ensures handed_back { IfErr result (λ back. back ≡ reservation) }
     {
         let at = ring as usize;
         if at >= self.rings.len() {
-            return Err(Stray { reservation });
+            return Err(reservation);
         }
         self.rings[at].discard(self.rt, &mut self.seats[at], reservation, flags)
     }
@@ -284,14 +285,14 @@ impl<'h, R: Wait, S: Stock> Helpers for SeatHelpers<'h, R, S> {
     ghost leads_on = { called_on };
 
     /// Null where flags are not 0, without memory and without a step of the ring; where the ring has no room, which its history says; and
-    /// where its chapter has no room or memory is refused, which are unlogged.
+    /// where its chapter has no room, where none of the seat's four hands is free, or memory is refused, which are unlogged.
     fn reserve(&mut self, ring: u32, n: u32, flags: u64) -> Option<SeatRecord>
         requires room { 0 < self.old.room }
         requires ring { has_number self.old ring ≡ true }
         ensures trace { self.new.trace ≡ self.old.trace ++ Reserve ring n flags (is_some result) ∷ [] }
         ensures room { self.new.room + 1 ≡ self.old.room }
         ensures rings { has_number self.new ≡ has_number self.old }
-        ensures zeros { IfSome result (λ r. r.reservation.bytes ≡ replicate n 0) }
+        ensures zeros { IfSome result (λ r. r.reservation.granted.bytes ≡ replicate n 0) }
         ensures called { Leads self.old (Reserved ring n flags result ∷ []) self.new }
         ensures call { CallsHelpers (Reserved ring n flags result) self.old self.new }
     {
@@ -314,7 +315,7 @@ impl<'h, R: Wait, S: Stock> Helpers for SeatHelpers<'h, R, S> {
     }
 
     /// Takes each record that these helpers granted and that was not given back since. Hands one back where its ring is none of these, or where it
-    /// is stray there.
+    /// is out in no hand of the seat there.
     fn submit(&mut self, owned: SeatRecord, flags: u64) -> Result<(), SeatRecord>
         requires room { 0 < self.old.room }
         ensures trace { self.new.trace ≡ self.old.trace ++ Submit flags (is_ok result) ∷ [] }
@@ -336,12 +337,12 @@ impl<'h, R: Wait, S: Stock> Helpers for SeatHelpers<'h, R, S> {
         );
         match answer {
             Ok(_) => Ok(()),
-            Err(Stray { reservation }) => Err(SeatRecord { ring, reservation }),
+            Err(reservation) => Err(SeatRecord { ring, reservation }),
         }
     }
 
     /// Takes each record that these helpers granted and that was not given back since. Hands one back where its ring is none of these, or where it
-    /// is stray there.
+    /// is out in no hand of the seat there.
     fn discard(&mut self, owned: SeatRecord, flags: u64) -> Result<(), SeatRecord>
         requires room { 0 < self.old.room }
         ensures trace { self.new.trace ≡ self.old.trace ++ Discard flags (is_ok result) ∷ [] }
@@ -363,7 +364,7 @@ impl<'h, R: Wait, S: Stock> Helpers for SeatHelpers<'h, R, S> {
         );
         match answer {
             Ok(_) => Ok(()),
-            Err(Stray { reservation }) => Err(SeatRecord { ring, reservation }),
+            Err(reservation) => Err(SeatRecord { ring, reservation }),
         }
     }
 

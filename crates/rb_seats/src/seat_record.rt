@@ -1,7 +1,7 @@
 //! The records of helpers over seats.
 
-use rb_history::Reservation;
 use rb_lend::Lent;
+use rb_shared_ring::Reservation;
 
 /// A record that was granted at one of the helpers' rings: the reservation, and the ring's number among them.
 #[derive(Drop)]
@@ -32,5 +32,5 @@ impl Lent for SeatRecord {
         self.reservation.range_mut(at, len)
     }
 
-    ghost rewritten = { λ s w e. rewritten_in_place s.reservation.bytes w e };
+    ghost rewritten = { λ s w e. rewritten_in_place s.reservation.granted.bytes w e };
 }

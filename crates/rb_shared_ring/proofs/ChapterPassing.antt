@@ -1,5 +1,6 @@
 -- A call, from the pass that takes the state out to the pass that has put it back.
-use Rattle.std.proofs.Common.{◌≡◌, [], ◌∷◌, Some, None, refl, sym, ap, ◌∙◌, subst}
+use Rattle.std.proofs.Common.{◌≡◌, ℕ, [], ◌∷◌, Option, Some, None, length, refl, sym, ap, ◌∙◌, subst}
+use Rattle.rb_chapter.specs.Chapters.{joined}
 use Rattle.rb_chapter.specs.ChapterRing.{ChapterRing}
 use Rattle.rb_chapter.specs.ChapterCalls.{IsSameChapter}
 use Rattle.rb_ledger.specs.Roles.{Role, book_of, ExtendsSeen}
@@ -10,7 +11,7 @@ use Rattle.rb_ledger.proofs.Passing.{held}
 use Rattle.rb_chapter_ledger.specs.ChapteredRing.{ChapteredRing, chaptered_ring, whole_of, IsChapteredRing}
 use Rattle.rb_chapter_ledger.specs.ChapterKnowledge.{ChapterPassView, chapter_view, whole_view, KnowsHandedOut, AllKnowHandedOut}
 use Rattle.rb_chapter_ledger.specs.ChapterLockSteps.{TakesChapterState, MayPutChapter, PutsChapterState, chapter_view_after_put, handed_out_known_by}
-use Rattle.rb_chapter_ledger.specs.LockedChapterCalls.{LockedChapterCall, InOneChapter, InKnownChapter}
+use Rattle.rb_chapter_ledger.specs.LockedChapterCalls.{LockedChapterCall, InOneChapter, InRoomAt, InKnownChapter}
 use Rattle.rb_chapter_ledger.proofs.ChapterSteps.{has-same, handed-out-same, calls-may-put, facts-make-ring}
 use Rattle.rb_shared_ring.specs.inner.SeatPasses.{seen_by, bytes_by, room_by, handed_out_by, known_in, IsIdleIn}
 use Rattle.rb_shared_ring.specs.inner.LentState.{IsKeptRing}
@@ -37,6 +38,13 @@ held-in role v r w idle took =
       is_role = whole.is_role;
       knows = (subst (λ (x : ChapterPassView). AllKnowHandedOut took.taken.ring.chapter.room took.taken.handed_out x.knows) idle took.known).0;
     }
+
+some-chaptered : (x y : ChapteredRing) → ◌≡◌ {A = Option ChapteredRing} (Some x) (Some y) → x ≡ y
+some-chaptered x y e = cc
+
+-- what is out with the pass is what it holds
+pub held-is-out : (role : Role) (v : ChapterPassView) (r : ChapterRing) (w : ChapterPassView) (h : HeldChapter role v r w) (c : ChapteredRing) → w.out ≡ Some c → h.taken ≡ c
+held-is-out role v r w h c is = some-chaptered h.taken c (sym (ap (λ (x : ChapterPassView). x.out) h.now) ∙ is)
 
 -- what a call does from the ring that it was shown to the one that it left
 pub called-in : (Call : ChapterRing → ChapterRing → Type 0) (shown old left new : ChapterRing) → shown ≡ old → left ≡ new → Call shown left → Call old new
@@ -88,13 +96,14 @@ module _ (role : Role) (v : ChapterPassView) (r new : ChapterRing) (w : ChapterP
     pub handed-out-in : handed_out_by after ≡ handed_out_known_by role h.taken.handed_out (handed_out_by v)
     handed-out-in = ap handed_out_by back-in
 
-    pub is-locked-in : (Call : ChapterRing → ChapterRing → Type 0) → Call h.taken.ring new → LockedChapterCall role (seen_by v) (seen_by after) (InOneChapter Call)
-    is-locked-in Call call = record {
+    pub is-locked-in : (room cut : ℕ) → h.taken.ring.chapter.room ≡ room → length (joined h.taken.handed_out) ≡ cut → (Call : ChapterRing → ChapterRing → Type 0) → Call h.taken.ring new
+        → LockedChapterCall role (seen_by v) (seen_by after) (InRoomAt room cut Call)
+    is-locked-in room cut room_is cut_is Call call = record {
       point = h.taken;
       left = left_by;
       goes_on = h.goes_on;
       was_ring = h.was_ring;
-      called = (refl, call);
+      called = record { room_is = room_is; cut_is = cut_is; call = (refl, call) };
       is_ring = left-ring;
       seen = seen-in;
     }

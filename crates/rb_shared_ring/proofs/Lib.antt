@@ -2,6 +2,9 @@ mod LockedSteps
 mod ChapterPassing
 pub mod WholeAnswers
 mod WorkerPassing
+mod HandPassing
+mod SeatPassing
+mod TakerPassing
 mod ConsumerPassing
 mod AnswersMeet
 mod SeatNumbers

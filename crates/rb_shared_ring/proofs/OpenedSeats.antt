@@ -1,5 +1,5 @@
 -- The seats that are cut off a lock that was just opened.
-use Rattle.std.proofs.Common.{◌≡◌, ℕ, suc, ◌+◌, ◌-◌, ◌<◌, [], ◌∷◌, None, refl, sym, ap, ◌∙◌, subst, arith}
+use Rattle.std.proofs.Common.{◌≡◌, ℕ, zero, suc, ◌+◌, ◌-◌, ◌<◌, [], ◌∷◌, Some, None, refl, sym, ap, ◌∙◌, subst, arith}
 use Rattle.std.specs.FinMap.{empty}
 use Rattle.rb_history.specs.RoomRule.{Setup}
 use Rattle.rb_chapter.specs.Chapters.{empty_ring}
@@ -10,11 +10,17 @@ use Rattle.rb_ledger.specs.Roles.Role.{Consumer, Worker}
 use Rattle.rb_ledger.specs.Seats.{IsBook, fresh_book}
 use Rattle.rb_ledger.proofs.Seated.{ring-book}
 use Rattle.rb_chapter_ledger.specs.ChapteredRing.{chaptered_ring, whole_of, IsChapteredRing}
-use Rattle.rb_chapter_ledger.specs.ChapterKnowledge.{ChapterPassView, chapter_view}
-use Rattle.rb_chapter_ledger.specs.ChapterLockSteps.{OpensChapterState, opening_role, opening_workers, first_chapter_role, other_chapter_roles}
+use Rattle.rb_chapter_ledger.specs.ChapterLockSteps.{opening_role}
 use Rattle.rb_chapter.proofs.Chain.{handed-out-bind}
 use Rattle.rb_chapter_ledger.proofs.ChapterSteps.{facts-make-ring}
-use Rattle.rb_shared_ring.specs.inner.SeatPasses.{seen_by, room_by}
+use Rattle.rb_history.specs.Calls.{IsBusy}
+use Rattle.rb_hands.specs.declared.out_record.OutRecord.{OutRecord}
+use Rattle.rb_hands.specs.Hands.{in_hand, free_hands, free_book}
+use Rattle.rb_hands.specs.HandRing.{HandRing, hand_ring}
+use Rattle.rb_hand_ledger.specs.HandKnowledge.{HandPassView, hand_view}
+use Rattle.rb_hand_ledger.specs.HandLockSteps.{OpensHandState, opening_hands, opening_worker_hands, first_hand_role, other_hand_roles}
+use Rattle.rb_hand_ledger.specs.NoStranger.{HoldsOwnBusy}
+use Rattle.rb_shared_ring.specs.inner.HandPasses.{seen_with, room_with}
 use Rattle.rb_shared_ring.specs.inner.LentState.{IsKeptRing}
 
 -- the ring that was just made is one with its first chapter, and its contents are empty
@@ -29,29 +35,51 @@ first-ring r room s is kept =
     )
 
 -- what the pass of `open` knows when the consumer's seat is next
-pub record NextConsumer (b : Book) (room workers : ℕ) (v : ChapterPassView) : Type 0 where
-  pub first_is : first_chapter_role v.knows ≡ opening_role Consumer (seen_by v) (room_by v) ∷ []
-  pub seen_is : seen_by v ≡ b
-  pub room_is : room_by v ≡ room
-  pub rest_is : chapter_view (other_chapter_roles v.knows) v.out ≡ chapter_view (opening_workers b room 0 workers) None
+pub record NextConsumer (b : Book) (room workers : ℕ) (v : HandPassView) : Type 0 where
+  pub first_is : first_hand_role v.knows ≡ opening_hands (opening_role Consumer (seen_with v) (room_with v)) ∷ []
+  pub seen_is : seen_with v ≡ b
+  pub room_is : room_with v ≡ room
+  pub rest_is : hand_view (other_hand_roles v.knows) v.out ≡ hand_view (opening_worker_hands b room 0 workers) None
 
-pub next-consumer : (r : ChapterRing) (room size start workers : ℕ) (w v : ChapterPassView) → r ≡ opened_ring room (record { size = size; start = start; workers = workers }) → OpensChapterState w r v → NextConsumer (fresh_book size start workers) room workers v
+pub next-consumer : (r : HandRing) (room size start workers : ℕ) (w v : HandPassView) → r.ring ≡ opened_ring room (record { size = size; start = start; workers = workers }) → OpensHandState w r v → NextConsumer (fresh_book size start workers) room workers v
 next-consumer r room size start workers w v is opens =
-    let s : Setup = record { size = size; start = start; workers = workers } in
-    let here : v ≡ chapter_view (opening_role Consumer (fresh_book size start workers) room ∷ opening_workers (fresh_book size start workers) room 0 workers) None = subst (λ x. OpensChapterState w x v) is opens in
+    let here : v ≡ hand_view (opening_hands (opening_role Consumer (fresh_book size start workers) room) ∷ opening_worker_hands (fresh_book size start workers) room 0 workers) None =
+    subst (λ x. OpensHandState w (hand_ring x r.hands) v) is opens in
     subst (NextConsumer (fresh_book size start workers) room workers) (sym here) (record { first_is = refl; seen_is = refl; room_is = refl; rest_is = refl })
 
 pub opened-book : (r : ChapterRing) (room size start workers : ℕ) → r ≡ opened_ring room (record { size = size; start = start; workers = workers }) → IsChapteredRing (chaptered_ring [] r) → IsBook (fresh_book size start workers)
 opened-book r room size start workers is ring = subst (λ x. IsBook (book_of (whole_of (chaptered_ring [] x)))) is (ring-book (whole_of (chaptered_ring [] r)) ring.is_ring)
 
 -- what it knows when the seat of worker i is next
-pub record NextWorker (b : Book) (room i n : ℕ) (v : ChapterPassView) : Type 0 where
-  pub first_is : first_chapter_role v.knows ≡ opening_role (Worker i) (seen_by v) (room_by v) ∷ []
-  pub seen_is : seen_by v ≡ b
-  pub rest_is : chapter_view (other_chapter_roles v.knows) v.out ≡ chapter_view (opening_workers b room (i + 1) (n - (i + 1))) None
+pub record NextWorker (b : Book) (room i n : ℕ) (v : HandPassView) : Type 0 where
+  pub first_is : first_hand_role v.knows ≡ opening_hands (opening_role (Worker i) (seen_with v) (room_with v)) ∷ []
+  pub seen_is : seen_with v ≡ b
+  pub room_is : room_with v ≡ room
+  pub rest_is : hand_view (other_hand_roles v.knows) v.out ≡ hand_view (opening_worker_hands b room (i + 1) (n - (i + 1))) None
 
-pub next-worker : (b : Book) (room i n : ℕ) (v : ChapterPassView) → i < n → v ≡ chapter_view (opening_workers b room i (n - i)) None → NextWorker b room i n v
+pub next-worker : (b : Book) (room i n : ℕ) (v : HandPassView) → i < n → v ≡ hand_view (opening_worker_hands b room i (n - i)) None → NextWorker b room i n v
 next-worker b room i n v low is =
     let more : n - i ≡ suc (n - (i + 1)) = omega arith in
-    let here : v ≡ chapter_view (opening_role (Worker i) b room ∷ opening_workers b room (i + 1) (n - (i + 1))) None = is ∙ ap (λ k. chapter_view (opening_workers b room i k) None) more in
-    subst (NextWorker b room i n) (sym here) (record { first_is = refl; seen_is = refl; rest_is = refl })
+    let here : v ≡ hand_view (opening_hands (opening_role (Worker i) b room) ∷ opening_worker_hands b room (i + 1) (n - (i + 1))) None = is ∙ ap (λ k. hand_view (opening_worker_hands b room i k) None) more in
+    subst (NextWorker b room i n) (sym here) (record { first_is = refl; seen_is = refl; room_is = refl; rest_is = refl })
+
+-- free hands are the busy records of a history without entries
+free-holds : (w : ℕ) → HoldsOwnBusy free_hands w []
+free-holds w = record {
+  out_is_busy = λ g o at. absurd (none-there g o at);
+  busy_is_out = λ p k n b. absurd (not-busy p k n b);
+  each_once = λ f g x y a c same. absurd (none-there f x a);
+}
+  where
+    none-there : (g : ℕ) (o : OutRecord) → in_hand free_hands g ≡ Some o → ⊥
+    none-there zero o at = cc
+    none-there (suc zero) o at = cc
+    none-there (suc (suc zero)) o at = cc
+    none-there (suc (suc (suc zero))) o at = cc
+    none-there (suc (suc (suc (suc g)))) o at = cc
+
+    not-busy : (p k n : ℕ) → IsBusy [] p w k n → ⊥
+    not-busy p k n b = let none : b.granted_is.0 < 0 = b.granted_is.1 in absurd (omega arith)
+
+pub free-holds-of : (w : ℕ) (b : Book) → b.history ≡ [] → HoldsOwnBusy free_hands w b.history
+free-holds-of w b none = subst (HoldsOwnBusy free_hands w) (sym none) (free-holds w)

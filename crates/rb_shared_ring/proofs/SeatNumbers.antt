@@ -17,7 +17,7 @@ use Rattle.rb_chapter.specs.WholeHistory.{ContinuesHistory}
 use Rattle.rb_chapter.proofs.Limits.{spans-low}
 use Rattle.rb_chapter.proofs.Numbers.{length-below, tally-after, tally-at}
 use Rattle.rb_chapter_ring.specs.declared.faults.ReserveFault.{ReserveFault}
-use Rattle.rb_chapter_ring.specs.declared.faults.ReserveFault.TheVariants.{Full, Flags, ChapterFull, Foreign}
+use Rattle.rb_chapter_ring.specs.declared.faults.ReserveFault.TheVariants.{Full, Flags, ChapterFull, Foreign, HandsFull}
 use Rattle.rb_chapter_ring.specs.RingFaults.{RefusesInChapter}
 use Rattle.rb_shared_ring.specs.declared.audit.Audit.{Audit}
 use Rattle.rb_ledger.specs.Roles.{Role, Book, book_of}
@@ -30,6 +30,10 @@ use Rattle.rb_chapter_ledger.specs.LockedChapterCalls.{LockedChapterCall, InOneC
 use Rattle.rb_chapter.proofs.Chain.{binds-continue}
 use Rattle.rb_chapter_ledger.proofs.WholeCalls.{said, call-whole, with-worker, each-call-is-whole}
 use Rattle.rb_shared_ring.specs.SharedCalls.{ReservesInChapter, OutputsInChapter, AuditsInChapter, IsRefusedInChapterAs, reserved_in_chapter_by, output_in_chapter_by}
+use Rattle.rb_hands.specs.Hands.{Hands}
+use Rattle.rb_hand_ledger.specs.HandKnowledge.{HandPassView}
+use Rattle.rb_hand_ledger.specs.NoStranger.{HoldsOwnBusy}
+use Rattle.rb_shared_ring.specs.inner.HandPasses.{hands_by, seen_with, KeepsHands}
 use Rattle.rb_shared_ring.specs.AnswersOverAll.{whole_answer}
 use Rattle.rb_shared_ring.proofs.WholeAnswers.{tally-reserved, tally-output, reserves-whole, outputs-whole}
 
@@ -54,6 +58,10 @@ tied-low w t b book ties =
     let low = spans-low b.setup h book.legal in
     record { made = omega (arith, made, granted, low); submitted = omega (arith, submitted, most, granted, low); discarded = omega (arith, discarded, most, granted, low) }
 
+-- a seat's hands after a call are those that its pass shows then
+pub keeps-hands : (before after : HandPassView) (w : ℕ) (old new : Hands) → KeepsHands before w old → hands_by after ≡ new → length new ≡ 4 → HoldsOwnBusy (hands_by after) w (seen_with after).history → KeepsHands after w new
+keeps-hands before after w old new keeps shows four holds = record { shows = shows; four = four; holds = subst (λ hs. HoldsOwnBusy hs w (seen_with after).history) shows holds }
+
 -- a worker's totals by the chapter are those of the whole history
 pub totals-are : (earlier : List Entry) (old new : ChapterRing) (w : ℕ) → ContinuesHistory earlier old.chapter → w < old.chapter.opening.setup.workers → tally_from old.chapter.opening w old.chapter.entries ≡ tally_of w (earlier ++ old.chapter.entries)
 totals-are earlier old new w is low =
@@ -76,6 +84,7 @@ module _ (w : ℕ) (t : Tally) (b a : Book) (ties : Ties w t b) where
   full-at old new n Flags is call = let no_way : Flags ≡ Full = is in cc
   full-at old new n ChapterFull is call = let no_way : ChapterFull ≡ Full = is in cc
   full-at old new n Foreign is call = absurd call
+  full-at old new n HandsFull is call = absurd call
 
   full-reserve : (old new : ChapterRing) (n : ℕ) (r : Result Granted (ReserveFault × List ℕ)) → ReservesInChapter w n r old new → IsRefusedInChapterAs Full r → (tally_from old.chapter.opening w old.chapter.entries).refused < 2 ^ 62
   full-reserve old new n (Ok g) call full = absurd full

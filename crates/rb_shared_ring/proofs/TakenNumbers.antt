@@ -22,8 +22,8 @@ use Rattle.rb_chapter_ledger.specs.ChapteredRing.{whole_of}
 use Rattle.rb_chapter_ledger.specs.LockedChapterCalls.{LockedChapterCall, InKnownChapter, TakesInChapter, TellsUsed, HandsOutNext}
 use Rattle.rb_chapter.proofs.Chain.{binds-continue}
 use Rattle.rb_chapter_ledger.proofs.WholeCalls.{each-call-is-whole}
-use Rattle.rb_chapter_ledger.specs.ChapterKnowledge.{ChapterPassView}
-use Rattle.rb_shared_ring.specs.inner.SeatPasses.{seen_by, room_by, handed_out_by, IsIdleIn}
+use Rattle.rb_hand_ledger.specs.HandKnowledge.{HandPassView}
+use Rattle.rb_shared_ring.specs.inner.HandPasses.{seen_with, room_with, handed_out_with, IsIdleWith}
 use Rattle.rb_shared_ring.specs.inner.SeatsKeep.{KeepsConsumer, CountsTakes}
 use Rattle.rb_shared_ring.proofs.ConsumerPassing.{many-whole}
 
@@ -115,8 +115,8 @@ module _ (c s p : ℕ) (b a : Book) (ties : ConsumerTies c s p b) (spaced : 8 * 
 
 -- ---- the consumer's seat
 
-pub keeps-after : (v after : ChapterPassView) (size workers room chapters : ℕ) → KeepsConsumer v size workers room chapters → IsIdleIn Consumer after → IsBook (seen_by after) → (seen_by after).setup ≡ (seen_by v).setup → room_by after ≡ room_by v
-    → (now : ℕ) → now ≡ length (handed_out_by after) → KeepsConsumer after size workers room now
+pub keeps-after : (v after : HandPassView) (size workers room chapters : ℕ) → KeepsConsumer v size workers room chapters → IsIdleWith Consumer after → IsBook (seen_with after) → (seen_with after).setup ≡ (seen_with v).setup → room_with after ≡ room_with v
+    → (now : ℕ) → now ≡ length (handed_out_with after) → KeepsConsumer after size workers room now
 keeps-after v after size workers room chapters keeps idle book setup room_same now is = record {
   idle = idle;
   book = book;
@@ -126,5 +126,5 @@ keeps-after v after size workers room chapters keeps idle book setup room_same n
   chapters_are = is;
 }
 
-pub counts-after : (after : ChapterPassView) (b : Book) (c s p e k m x y z : ℕ) → AreTakerNumbers c s p e k m (seen_by after) b → x ≡ e → y ≡ k → z ≡ m → CountsTakes after (c + x) (s + y) (p + z)
+pub counts-after : (after : HandPassView) (b : Book) (c s p e k m x y z : ℕ) → AreTakerNumbers c s p e k m (seen_with after) b → x ≡ e → y ≡ k → z ≡ m → CountsTakes after (c + x) (s + y) (p + z)
 counts-after after b c s p e k m x y z n xe yk zm = subst (λ (q : ℕ × ℕ × ℕ). CountsTakes after (c + q.0) (s + q.1) (p + q.2)) (λ i. (sym xe i, sym yk i, sym zm i)) (record { ties = n.ties; spaced = n.spaced })

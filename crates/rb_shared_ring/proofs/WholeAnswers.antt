@@ -19,7 +19,7 @@ use Rattle.rb_chapter.specs.ChapterCalls.{IsSameChapter, Logs, Takes, producer_n
 use Rattle.rb_chapter.specs.WholeHistory.{ContinuesHistory}
 use Rattle.rb_chapter.proofs.Alike.{calls-alike}
 use Rattle.rb_chapter_ring.specs.declared.faults.ReserveFault.{ReserveFault}
-use Rattle.rb_chapter_ring.specs.declared.faults.ReserveFault.TheVariants.{Full, Flags, ChapterFull, Foreign}
+use Rattle.rb_chapter_ring.specs.declared.faults.ReserveFault.TheVariants.{Full, Flags, ChapterFull, Foreign, HandsFull}
 use Rattle.rb_chapter_ring.specs.RingFaults.{RefusesInChapter}
 use Rattle.rb_ledger.specs.LockedCalls.{Reserves, OutputsAt, reserved_by, output_by, sent_by_output}
 use Rattle.rb_chapter_ledger.specs.LockedChapterCalls.{SubmitsInChapter, DiscardsInChapter}
@@ -34,6 +34,7 @@ tally-refused t Full b = refl
 tally-refused t Flags b = refl
 tally-refused t ChapterFull b = refl
 tally-refused t Foreign b = refl
+tally-refused t HandsFull b = refl
 
 pub tally-reserved : (t : Tally) (a : Result Granted (ReserveFault × List ℕ)) → reserved_by t (whole_answer a) ≡ reserved_in_chapter_by t a
 tally-reserved t (Ok r) = refl
@@ -52,12 +53,14 @@ flags-not Full off e = let no_way : WholeFull ≡ WholeFlags = e in cc
 flags-not Flags off e = absurd (off refl)
 flags-not ChapterFull off e = let no_way : Memory ≡ WholeFlags = e in cc
 flags-not Foreign off e = let no_way : WholeForeign ≡ WholeFlags = e in cc
+flags-not HandsFull off e = let no_way : WholeForeign ≡ WholeFlags = e in cc
 
 flags-exact : (f : ReserveFault) (X : Type 0) → (f ≡ Flags) ↔ X → (whole_fault f ≡ WholeFlags) ↔ X
 flags-exact Full X is = ((λ e. let no_way : WholeFull ≡ WholeFlags = e in cc), (λ x. let no_way : Full ≡ Flags = is.1 x in cc))
 flags-exact Flags X is = ((λ e. is.0 refl), (λ x. refl))
 flags-exact ChapterFull X is = ((λ e. let no_way : Memory ≡ WholeFlags = e in cc), (λ x. let no_way : ChapterFull ≡ Flags = is.1 x in cc))
 flags-exact Foreign X is = ((λ e. let no_way : WholeForeign ≡ WholeFlags = e in cc), (λ x. let no_way : Foreign ≡ Flags = is.1 x in cc))
+flags-exact HandsFull X is = ((λ e. let no_way : WholeForeign ≡ WholeFlags = e in cc), (λ x. let no_way : HandsFull ≡ Flags = is.1 x in cc))
 
 -- ---- the same chapter
 
@@ -73,6 +76,7 @@ module _ (old new : ChapterRing) where
   same-refused w n Flags a = stays old new a
   same-refused w n ChapterFull a = stays old new a.same
   same-refused w n Foreign a = absurd a
+  same-refused w n HandsFull a = absurd a
 
   pub same-reserved : (w n : ℕ) (a : Result Granted (ReserveFault × List ℕ)) → ReservesInChapter w n a old new → IsSameChapter old new
   same-reserved w n (Ok r) a = logs-same old new _ a.0.logged
@@ -107,6 +111,7 @@ module _ (earlier : List Entry) (old new : ChapterRing) (is : ContinuesHistory e
   refuses-whole w n Flags a = ap (whole_ring earlier) a
   refuses-whole w n ChapterFull a = ap (whole_ring earlier) a.same
   refuses-whole w n Foreign a = absurd a
+  refuses-whole w n HandsFull a = absurd a
 
   pub reserves-whole : (w n : ℕ) (a : Result Granted (ReserveFault × List ℕ)) → w < old.chapter.opening.setup.workers → ReservesInChapter w n a old new → Reserves w n (whole_answer a) (whole_ring earlier old) (whole_ring earlier new)
   reserves-whole w n (Ok r) low a = let whole = ((calls-alike earlier old new is).grants w n r.pos r.serial low).0 a.0 in (whole.2, a.1, a.2)

@@ -1,5 +1,5 @@
 -- A worker's call under the lock: that the state may be put back, and what the worker's pass knows then.
-use Rattle.std.proofs.Common.{◌≡◌, ℕ, ◌<◌, List, length, drop, refl, sym, ap, ◌∙◌, subst, Result}
+use Rattle.std.proofs.Common.{◌≡◌, ℕ, ◌<◌, List, Some, length, drop, refl, sym, ap, ◌∙◌, subst, Result}
 use Rattle.rb_history.specs.declared.answers.Notice.{Notice}
 use Rattle.rb_history.specs.declared.answers.Stray.{Stray}
 use Rattle.rb_history.specs.ReservationModel.{Granted}
@@ -18,24 +18,25 @@ use Rattle.rb_ledger.specs.LockSteps.{RoleStep, knowledge_after}
 use Rattle.rb_ledger.specs.LockedCalls.{sent_by_submit}
 use Rattle.rb_ledger.proofs.Calls.{put-same, put-reserved, put-submitted, put-discarded, put-output}
 use Rattle.rb_ledger.proofs.Passing.{after-same, after-reserve, after-submit, after-discard, after-output}
-use Rattle.rb_chapter_ledger.specs.ChapteredRing.{chaptered_ring, whole_of}
+use Rattle.rb_chapter_ledger.specs.ChapteredRing.{ChapteredRing, chaptered_ring, whole_of}
 use Rattle.rb_chapter_ledger.specs.ChapterKnowledge.{ChapterPassView}
 use Rattle.rb_chapter_ledger.specs.ChapterLockSteps.{TakesChapterState, MayPutChapter, PutsChapterState}
-use Rattle.rb_chapter_ledger.specs.LockedChapterCalls.{LockedChapterCall, InOneChapter, SubmitsInChapter, DiscardsInChapter, QueriesInChapter}
+use Rattle.rb_chapter_ledger.specs.LockedChapterCalls.{LockedChapterCall, InRoomAt, SubmitsInChapter, DiscardsInChapter, QueriesInChapter}
 use Rattle.rb_chapter.proofs.Chain.{binds-continue}
 use Rattle.rb_chapter_ledger.proofs.WholeCalls.{submits-whole, discards-whole, queries-whole}
-use Rattle.rb_shared_ring.specs.inner.SeatPasses.{seen_by, bytes_by, IsIdleIn}
+use Rattle.rb_shared_ring.specs.inner.SeatPasses.{seen_by, bytes_by, room_by, IsIdleIn}
 use Rattle.rb_shared_ring.specs.inner.LentState.{IsKeptRing}
 use Rattle.rb_shared_ring.specs.SharedCalls.{ReservesInChapter, OutputsInChapter, AuditsInChapter, sent_by_chapter_output}
-use Rattle.rb_shared_ring.proofs.ChapterPassing.{HeldChapter, held-in, may-put-in, idle-in, bytes-in, is-locked-in}
+use Rattle.rb_shared_ring.proofs.ChapterPassing.{HeldChapter, held-in, held-is-out, may-put-in, idle-in, bytes-in, room-in, is-locked-in}
 use Rattle.rb_shared_ring.specs.AnswersOverAll.{whole_answer}
 use Rattle.rb_shared_ring.proofs.WholeAnswers.{stays, same-reserved, same-output, same-submitted, same-discarded, reserves-whole, outputs-whole, producer-same, sent-output}
 
--- what a worker's call leaves
-pub record LeavesWorker (w : ℕ) (v after : ChapterPassView) (sent : Contents) (Call : ChapterRing → ChapterRing → Type 0) : Type 0 where
+-- what a worker's call leaves, which was made on this ring
+pub record LeavesWorker (w : ℕ) (v after : ChapterPassView) (c : ChapteredRing) (sent : Contents) (Call : ChapterRing → ChapterRing → Type 0) : Type 0 where
   pub idle : IsIdleIn (Worker w) after
-  pub call : LockedChapterCall (Worker w) (seen_by v) (seen_by after) (InOneChapter Call)
+  pub call : LockedChapterCall (Worker w) (seen_by v) (seen_by after) (InRoomAt c.ring.chapter.room (length (joined c.handed_out)) Call)
   pub bytes : bytes_by after ≡ sent
+  pub room : room_by after ≡ room_by v
 
 module _ (w : ℕ) (v : ChapterPassView) (r new : ChapterRing) (out : ChapterPassView) (idle : IsIdleIn (Worker w) v) (took : TakesChapterState v r out) (kept : IsKeptRing new) where
   -- the step of the whole ring that a call is
@@ -50,17 +51,18 @@ module _ (w : ℕ) (v : ChapterPassView) (r new : ChapterRing) (out : ChapterPas
       let h = held-in (Worker w) v r out idle took in
       may-put-in (Worker w) v r new out h same kept (steps h (binds-continue h.taken.handed_out h.taken.ring.chapter h.was_ring.has_chapters.binds) h.is_role (subst (λ x. Call x new) (sym h.ring_is) call))
 
-  pub leaves : (after : ChapterPassView) → PutsChapterState out new after → (Call : ChapterRing → ChapterRing → Type 0) → Call r new → IsSameChapter r new → (sent : Contents)
+  pub leaves : (after : ChapterPassView) → PutsChapterState out new after → (c : ChapteredRing) → out.out ≡ Some c → (Call : ChapterRing → ChapterRing → Type 0) → Call r new → IsSameChapter r new → (sent : Contents)
       → ((h : HeldChapter (Worker w) v r out) → ContinuesHistory (joined h.taken.handed_out) h.taken.ring.chapter → w < h.taken.ring.chapter.opening.setup.workers → Call h.taken.ring new
       → bytes_after (Worker w) (whole_of h.taken) (whole_of (chaptered_ring h.taken.handed_out new)) (drop (length (whole_of h.taken).history) (whole_of (chaptered_ring h.taken.handed_out new)).history) (bytes_by v) ≡ sent)
-      → LeavesWorker w v after sent Call
-  leaves after put Call call same sent bytes =
+      → LeavesWorker w v after c sent Call
+  leaves after put c there Call call same sent bytes =
       let h = held-in (Worker w) v r out idle took in
       let here = subst (λ x. Call x new) (sym h.ring_is) call in
       record {
         idle = idle-in (Worker w) v r new out h same kept after put;
-        call = is-locked-in (Worker w) v r new out h same kept after put Call here;
+        call = is-locked-in (Worker w) v r new out h same kept after put c.ring.chapter.room (length (joined c.handed_out)) (ap (λ (x : ChapteredRing). x.ring.chapter.room) (held-is-out (Worker w) v r out h c there)) (ap (λ (x : ChapteredRing). length (joined x.handed_out)) (held-is-out (Worker w) v r out h c there)) Call here;
         bytes = bytes-in (Worker w) v r new out h same kept after put ∙ bytes h (binds-continue h.taken.handed_out h.taken.ring.chapter h.was_ring.has_chapters.binds) h.is_role here;
+        room = room-in (Worker w) v r new out h same kept after put;
       }
 
   -- ---- each call
@@ -83,24 +85,24 @@ module _ (w : ℕ) (v : ChapterPassView) (r new : ChapterRing) (out : ChapterPas
   pub put-out : (b : List ℕ) (flags : ℕ) (a : Result Notice (ReserveFault × List ℕ)) → OutputsInChapter w b flags a r new → MayPutChapter out new
   put-out b flags a call = puts-back (OutputsInChapter w b flags a) call (same-output r new w b flags a call) (λ h is low c ring. put-output w _ _ _ _ b flags (whole_answer a) (outputs-whole _ _ _ is w b flags a low c) ring)
 
-  module _ (after : ChapterPassView) (put : PutsChapterState out new after) where
-    pub queried : (what answer : ℕ) → QueriesInChapter what answer r new → LeavesWorker w v after (bytes_by v) (QueriesInChapter what answer)
-    queried what answer call = leaves after put (QueriesInChapter what answer) call (stays r new call.0) (bytes_by v) (λ h is low c. after-same (seen_by v) _ _ _ (Worker w) (queries-whole _ _ _ is what answer c).0)
+  module _ (after : ChapterPassView) (put : PutsChapterState out new after) (c : ChapteredRing) (there : out.out ≡ Some c) where
+    pub queried : (what answer : ℕ) → QueriesInChapter what answer r new → LeavesWorker w v after c (bytes_by v) (QueriesInChapter what answer)
+    queried what answer call = leaves after put c there (QueriesInChapter what answer) call (stays r new call.0) (bytes_by v) (λ h is low x. after-same (seen_by v) _ _ _ (Worker w) (queries-whole _ _ _ is what answer x).0)
 
-    pub audited : (a : Audit) → AuditsInChapter w a r new → LeavesWorker w v after (bytes_by v) (AuditsInChapter w a)
-    audited a call = leaves after put (AuditsInChapter w a) call (stays r new call.same) (bytes_by v) (λ h is low c. after-same (seen_by v) _ _ _ (Worker w) (ap (λ x. whole_of (chaptered_ring h.taken.handed_out x)) c.same))
+    pub audited : (a : Audit) → AuditsInChapter w a r new → LeavesWorker w v after c (bytes_by v) (AuditsInChapter w a)
+    audited a call = leaves after put c there (AuditsInChapter w a) call (stays r new call.same) (bytes_by v) (λ h is low x. after-same (seen_by v) _ _ _ (Worker w) (ap (λ y. whole_of (chaptered_ring h.taken.handed_out y)) x.same))
 
-    pub reserved : (n : ℕ) (a : Result Granted (ReserveFault × List ℕ)) → ReservesInChapter w n a r new → LeavesWorker w v after (bytes_by v) (ReservesInChapter w n a)
-    reserved n a call = leaves after put (ReservesInChapter w n a) call (same-reserved r new w n a call) (bytes_by v) (λ h is low c. after-reserve (seen_by v) _ _ _ w n (whole_answer a) (reserves-whole _ _ _ is w n a low c))
+    pub reserved : (n : ℕ) (a : Result Granted (ReserveFault × List ℕ)) → ReservesInChapter w n a r new → LeavesWorker w v after c (bytes_by v) (ReservesInChapter w n a)
+    reserved n a call = leaves after put c there (ReservesInChapter w n a) call (same-reserved r new w n a call) (bytes_by v) (λ h is low x. after-reserve (seen_by v) _ _ _ w n (whole_answer a) (reserves-whole _ _ _ is w n a low x))
 
-    pub submitted : (g : Granted) (flags : ℕ) (a : Result Notice Stray) → SubmitsInChapter g flags a r new → LeavesWorker w v after (sent_by_submit (bytes_by v) g a) (SubmitsInChapter g flags a)
-    submitted g flags a call = leaves after put (SubmitsInChapter g flags a) call (same-submitted r new g flags a call) (sent_by_submit (bytes_by v) g a) (λ h is low c. after-submit (seen_by v) _ _ _ w g flags a (submits-whole _ _ _ is g flags a c))
+    pub submitted : (g : Granted) (flags : ℕ) (a : Result Notice Stray) → SubmitsInChapter g flags a r new → LeavesWorker w v after c (sent_by_submit (bytes_by v) g a) (SubmitsInChapter g flags a)
+    submitted g flags a call = leaves after put c there (SubmitsInChapter g flags a) call (same-submitted r new g flags a call) (sent_by_submit (bytes_by v) g a) (λ h is low x. after-submit (seen_by v) _ _ _ w g flags a (submits-whole _ _ _ is g flags a x))
 
-    pub discarded : (g : Granted) (flags : ℕ) (a : Result Notice Stray) → DiscardsInChapter g flags a r new → LeavesWorker w v after (bytes_by v) (DiscardsInChapter g flags a)
-    discarded g flags a call = leaves after put (DiscardsInChapter g flags a) call (same-discarded r new g flags a call) (bytes_by v) (λ h is low c. after-discard (seen_by v) _ _ _ w g flags a (discards-whole _ _ _ is g flags a c))
+    pub discarded : (g : Granted) (flags : ℕ) (a : Result Notice Stray) → DiscardsInChapter g flags a r new → LeavesWorker w v after c (bytes_by v) (DiscardsInChapter g flags a)
+    discarded g flags a call = leaves after put c there (DiscardsInChapter g flags a) call (same-discarded r new g flags a call) (bytes_by v) (λ h is low x. after-discard (seen_by v) _ _ _ w g flags a (discards-whole _ _ _ is g flags a x))
 
     pub output : (b : List ℕ) (flags : ℕ) (a : Result Notice (ReserveFault × List ℕ)) → OutputsInChapter w b flags a r new
-        → LeavesWorker w v after (bytes_by after) (λ old left. OutputsInChapter w b flags a old left × (bytes_by after ≡ sent_by_chapter_output (bytes_by v) (producer_now old) b a))
+        → LeavesWorker w v after c (bytes_by after) (λ old left. OutputsInChapter w b flags a old left × (bytes_by after ≡ sent_by_chapter_output (bytes_by v) (producer_now old) b a))
     output b flags a call =
         let h = held-in (Worker w) v r out idle took in
         let same = same-output r new w b flags a call in
@@ -109,8 +111,10 @@ module _ (w : ℕ) (v : ChapterPassView) (r new : ChapterRing) (out : ChapterPas
         let bytes = bytes-in (Worker w) v r new out h same kept after put
         ∙ after-output (seen_by v) _ _ _ w b flags (whole_answer a) (outputs-whole _ _ _ is w b flags a h.is_role here)
         ∙ sent-output (bytes_by v) _ _ b a (producer-same (joined h.taken.handed_out) h.taken.ring new is) in
+        let is_out = held-is-out (Worker w) v r out h c there in
         record {
           idle = idle-in (Worker w) v r new out h same kept after put;
-          call = is-locked-in (Worker w) v r new out h same kept after put (λ old left. OutputsInChapter w b flags a old left × (bytes_by after ≡ sent_by_chapter_output (bytes_by v) (producer_now old) b a)) (here, bytes);
+          call = is-locked-in (Worker w) v r new out h same kept after put c.ring.chapter.room (length (joined c.handed_out)) (ap (λ (x : ChapteredRing). x.ring.chapter.room) is_out) (ap (λ (x : ChapteredRing). length (joined x.handed_out)) is_out) (λ old left. OutputsInChapter w b flags a old left × (bytes_by after ≡ sent_by_chapter_output (bytes_by v) (producer_now old) b a)) (here, bytes);
           bytes = refl;
+          room = room-in (Worker w) v r new out h same kept after put;
         }

@@ -12,7 +12,7 @@ use Rattle.rb_history.specs.Calls.{producer_now, consumer_now}
 use Rattle.rb_history.specs.ManyTakes.{TakesMany}
 use Rattle.rb_chapter.specs.Chapters.{Chapter}
 use Rattle.rb_chapter_ring.specs.declared.faults.ReserveFault.{ReserveFault}
-use Rattle.rb_chapter_ring.specs.declared.faults.ReserveFault.TheVariants.{Full, Flags, ChapterFull, Foreign}
+use Rattle.rb_chapter_ring.specs.declared.faults.ReserveFault.TheVariants.{Full, Flags, ChapterFull, Foreign, HandsFull}
 use Rattle.rb_chapter_ring.specs.OpenedRing.{capped_counts}
 use Rattle.rb_chapter_ring.specs.ManyTakes.{TakesManyInChapter}
 use Rattle.rb_shared_ring.specs.declared.audit.Audit.{Audit}
@@ -28,6 +28,7 @@ whole_fault Full = WholeFull
 whole_fault Flags = WholeFlags
 whole_fault ChapterFull = Memory
 whole_fault Foreign = WholeForeign
+whole_fault HandsFull = WholeForeign
 
 abbrev pub whole_answer : {A : Type 0} → Result A (ReserveFault × List ℕ) → Result A (WholeFault × List ℕ)
 whole_answer (Ok a) = Ok a

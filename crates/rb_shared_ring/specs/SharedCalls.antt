@@ -1,6 +1,6 @@
 -- What the calls on a shared ring over chapters do and answer, beside those that rb_chapter_ledger defines; and what an answer adds to a
 -- seat's numbers and bytes (own).
-use Rattle.std.specs.Prelude.{◌≡◌, ◌≢◌, ℕ, ◌+◌, ◌≤◌, ◌<◌, ◌↔◌, List, length, replicate, Result, Ok, Err}
+use Rattle.std.specs.Prelude.{◌≡◌, ◌≢◌, ℕ, ◌+◌, ◌≤◌, ◌<◌, ◌↔◌, List, Option, Some, None, length, replicate, slice_set as set, Result, Ok, Err}
 use Rattle.std.specs.FinMap.{insert}
 use Rattle.rb_history.specs.declared.answers.Notice.{Notice}
 use Rattle.rb_history.specs.declared.answers.Notice.TheVariants.{Due}
@@ -12,9 +12,13 @@ use Rattle.rb_chapter.specs.CountedFrom.{tally_from}
 use Rattle.rb_chapter.specs.ChapterRing.{ChapterRing}
 use Rattle.rb_chapter.specs.ChapterCalls.{Grants, Outputs, producer_now, consumer_now}
 use Rattle.rb_chapter_ring.specs.declared.faults.ReserveFault.{ReserveFault}
-use Rattle.rb_chapter_ring.specs.declared.faults.ReserveFault.TheVariants.{Full, Flags, ChapterFull, Foreign}
+use Rattle.rb_chapter_ring.specs.declared.faults.ReserveFault.TheVariants.{Full, Flags, ChapterFull, Foreign, HandsFull}
 use Rattle.rb_chapter_ring.specs.OpenedRing.{told_counts}
 use Rattle.rb_chapter_ring.specs.RingFaults.{RefusesInChapter}
+use Rattle.rb_hands.specs.declared.out_record.OutRecord.{OutRecord}
+use Rattle.rb_hands.specs.Hands.{Hands, in_hand, out_record}
+use Rattle.rb_hand_ring.specs.HandGranted.{HandGranted}
+use Rattle.rb_ledger.specs.Seats.{Shared, WorkerSeat}
 use Rattle.rb_shared_ring.specs.declared.audit.Audit.{Audit}
 
 -- ---- the calls, as their arguments and answers say
@@ -51,6 +55,7 @@ refused_in_chapter_by t Full = record t { refused = t.refused + 1 }
 refused_in_chapter_by t Flags = t
 refused_in_chapter_by t ChapterFull = t
 refused_in_chapter_by t Foreign = t
+refused_in_chapter_by t HandsFull = t
 
 abbrev pub reserved_in_chapter_by : Tally → Result Granted (ReserveFault × List ℕ) → Tally
 reserved_in_chapter_by t (Ok r) = record t { made = t.made + 1 }
@@ -64,3 +69,33 @@ output_in_chapter_by t (Err e) = refused_in_chapter_by t e.0
 abbrev pub sent_by_chapter_output : Contents → ℕ → List ℕ → Result Notice (ReserveFault × List ℕ) → Contents
 sent_by_chapter_output sent p bytes (Ok _) = insert sent p bytes
 sent_by_chapter_output sent p bytes (Err e) = sent
+
+-- ---- a seat's hands
+
+-- what was granted, without the ring's tag and the hand
+abbrev pub granted_in : {E : Type 0} → Result HandGranted E → Result Granted E
+granted_in (Ok r) = Ok r.granted
+granted_in (Err e) = Err e
+
+-- a granted record is in the hand
+abbrev pub hands_reserved : {E : Type 0} → Hands → ℕ → ℕ → Result HandGranted E → Hands
+hands_reserved hands hand n (Ok r) = set hands hand (Some (out_record r.granted.pos r.granted.serial n))
+hands_reserved hands hand n (Err e) = hands
+
+-- and so it is for the hand that the reservation names
+abbrev pub hands_after_reserve : {E : Type 0} → Hands → ℕ → Result HandGranted E → Hands
+hands_after_reserve hands n (Ok r) = set hands r.hand (Some (out_record r.granted.pos r.granted.serial n))
+hands_after_reserve hands n (Err e) = hands
+
+-- the position of what is in a hand
+abbrev pub position_of : Option OutRecord → Option ℕ
+position_of None = None
+position_of (Some o) = Some o.pos
+
+-- the reservation is one that the seat may give back to the ring: all three have one tag, the worker is the seat's, and the seat's hand of its number
+-- is out with its position, serial and length
+pub record IsInSeatsHand (ring : Shared) (seat : WorkerSeat) (r : HandGranted) : Type 0 where
+  pub seat_is : seat.tag ≡ ring.tag
+  pub tag_is : r.tag ≡ seat.tag
+  pub worker_is : r.granted.worker ≡ seat.worker
+  pub out : in_hand seat.hands r.hand ≡ Some (out_record r.granted.pos r.granted.serial (length r.granted.bytes))

@@ -1,3 +1,5 @@
 pub mod SeatPasses
 pub mod LentState
 pub mod SeatsKeep
+pub mod HandPasses
+pub mod HandCalls

@@ -5,15 +5,17 @@ ghost use Rattle.crossbeam_queue.specs.Passes.{view, IsPassOf, IsSamePass, ruled
 ghost use Rattle.rb_chapter.specs.Opening.{no_tally};
 ghost use Rattle.rb_ledger.specs.Roles.Role.{Worker};
 ghost use Rattle.rb_ledger.specs.Seats.{IsSameSeat};
-ghost use Rattle.rb_chapter_ledger.specs.LockedChapterCalls.{LockedChapterCall, InOneChapter};
+ghost use Rattle.rb_chapter_ledger.specs.LockedChapterCalls.{LockedChapterCall, InRoomAt};
+ghost use Rattle.rb_hand_ledger.specs.NoStranger.{HoldsOwnBusy};
 ghost use Rattle.rb_shared_ring.specs.SharedCalls.{AuditsInChapter};
-ghost use Rattle.rb_shared_ring.specs.inner.SeatPasses.{seen_by, bytes_by, IsIdleIn};
+ghost use Rattle.rb_shared_ring.specs.inner.HandCalls.{LeavesHands};
+ghost use Rattle.rb_shared_ring.specs.inner.HandPasses.{seen_with, bytes_with, room_with, hands_by, cut_by, IsIdleWith};
 
 use crate::lock::{Lock, RingPass};
 use crate::locked_calls::with_state;
 use crate::shared::{Foreign, SharedRing};
 use crate::worker_seat::Seat;
-use rb_chapter_ring::RingState;
+use rb_hand_ring::HandState;
 use rb_history::{Counts, Tally};
 use std::sync::Wait;
 
@@ -31,9 +33,9 @@ pub struct Audit {
 }
 
 // The ring's positions and counts, and the numbers of a worker's entries. In constant time.
-fn audit_of(state: &RingState, worker: u32) -> Audit
-    requires worker { worker < state.now.chapter.opening.setup.workers }
-    ensures audit { AuditsInChapter worker result state.now state.now }
+fn audit_of(state: &HandState, worker: u32) -> Audit
+    requires worker { worker < state.now.ring.chapter.opening.setup.workers }
+    ensures audit { AuditsInChapter worker result state.now.ring state.now.ring }
 {
     let closing = state.chapter().closing();
     Audit {
@@ -55,19 +57,22 @@ fn tally_in(tallies: &[Tally], worker: u32) -> Tally
 // An audit for the worker whose pass it is.
 fn audit_with<R: Wait>(rt: &R, lock: &Lock, pass: &mut RingPass, worker: u32) -> Audit
     requires pass { IsPassOf lock.now pass.old × (ruled_capacity lock.now ≡ 1) }
-    requires idle { IsIdleIn (Worker worker) (view pass.old) }
+    requires idle { IsIdleWith (Worker worker) (view pass.old) }
     ensures same { IsSamePass pass.old pass.new }
-    ensures idle { IsIdleIn (Worker worker) (view pass.new) }
-    ensures call { LockedChapterCall (Worker worker) (seen_by (view pass.old)) (seen_by (view pass.new)) (InOneChapter (AuditsInChapter worker result)) }
-    ensures bytes { bytes_by (view pass.new) ≡ bytes_by (view pass.old) }
+    ensures idle { IsIdleWith (Worker worker) (view pass.new) }
+    ensures call { LockedChapterCall (Worker worker) (seen_with (view pass.old)) (seen_with (view pass.new)) (InRoomAt (room_with (view pass.old)) (cut_by (view pass.new)) (AuditsInChapter worker result)) }
+    ensures bytes { bytes_with (view pass.new) ≡ bytes_with (view pass.old) }
+    ensures room { room_with (view pass.new) ≡ room_with (view pass.old) }
+    ensures hands { hands_by (view pass.new) ≡ hands_by (view pass.old) }
+    ensures holds { HoldsOwnBusy (hands_by (view pass.new)) worker (seen_with (view pass.new)).history }
 {
     with_state(
         rt,
         lock,
         pass,
         |state|
-            requires worker { worker < state.old.chapter.opening.setup.workers }
-            ensures call { AuditsInChapter worker result state.old state.new }
+            requires worker { worker < state.old.ring.chapter.opening.setup.workers }
+            ensures call { LeavesHands (AuditsInChapter worker result) state.old state.new }
         { audit_of(state, worker) },
     )
 }
@@ -81,9 +86,10 @@ impl SharedRing {
         ensures unchanged { me.old.tag ≢ self.now.tag → me.new ≡ me.old }
         ensures seat { IsSameSeat me.old me.new }
         ensures released { (me.old.out ≡ None) × (me.new.out ≡ None) }
-        ensures call { IfOk result (λ a. LockedChapterCall (Worker me.old.worker) me.old.seen me.new.seen (InOneChapter (AuditsInChapter me.old.worker a))) }
+        ensures call { IfOk result (λ a. LockedChapterCall (Worker me.old.worker) me.old.seen me.new.seen (InRoomAt me.old.room me.new.cut (AuditsInChapter me.old.worker a))) }
         ensures own { IfOk result (λ a. a.own ≡ me.old.tally) }
         ensures tally { me.new.tally ≡ me.old.tally }
+        ensures hands { me.new.hands ≡ me.old.hands }
         ensures sent { me.new.sent ≡ me.old.sent }
     {
         if me.tag != self.tag {

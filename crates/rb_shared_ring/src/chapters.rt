@@ -8,14 +8,15 @@ ghost use Rattle.rb_ledger.specs.Roles.Role.{Consumer};
 ghost use Rattle.rb_chapter_ledger.specs.ChapterSeats.{IsFitChapter};
 ghost use Rattle.rb_chapter_ledger.specs.LockedChapterCalls.{LockedChapterCall, InKnownChapter, TellsUsed, HandsOutNext};
 ghost use Rattle.rb_shared_ring.specs.SharedSeats.{IsSameChapterConsumer, TakesNothing, IsHandFault};
-ghost use Rattle.rb_shared_ring.specs.inner.SeatPasses.{seen_by, bytes_by, room_by, handed_out_by, IsIdleIn};
+ghost use Rattle.rb_shared_ring.specs.inner.HandCalls.{LeavesHands};
+ghost use Rattle.rb_shared_ring.specs.inner.HandPasses.{seen_with, bytes_with, room_with, handed_out_with, IsIdleWith};
 
 use crate::consumer_seat::ConsumerSeat;
 use crate::lock::{Lock, RingPass};
 use crate::locked_calls::with_state;
 use crate::shared::{Foreign, SharedRing};
 use rb_chapter::Chapter;
-use rb_chapter_ring::RingState;
+use rb_hand_ring::HandState;
 use std::sync::Wait;
 use thiserror::Error;
 
@@ -34,35 +35,37 @@ pub enum HandFault {
 // `RingState::hand_out`, for the consumer, of a chapter in which the ring may go on.
 fn hand_out_with<R: Wait>(rt: &R, lock: &Lock, pass: &mut RingPass, empty: Chapter) -> Chapter
     requires pass { IsPassOf lock.now pass.old × (ruled_capacity lock.now ≡ 1) }
-    requires idle { IsIdleIn Consumer (view pass.old) }
+    requires idle { IsIdleWith Consumer (view pass.old) }
     requires no_entries { empty.entries ≡ [] }
-    requires room { empty.room ≡ room_by (view pass.old) }
-    requires workers { empty.opening.setup.workers ≡ (seen_by (view pass.old)).setup.workers }
-    requires next_number { length (handed_out_by (view pass.old)) < 2 ^ 62 }
+    requires room { empty.room ≡ room_with (view pass.old) }
+    requires workers { empty.opening.setup.workers ≡ (seen_with (view pass.old)).setup.workers }
+    requires next_number { length (handed_out_with (view pass.old)) < 2 ^ 62 }
     ensures same { IsSamePass pass.old pass.new }
-    ensures idle { IsIdleIn Consumer (view pass.new) }
-    ensures call { LockedChapterCall Consumer (seen_by (view pass.old)) (seen_by (view pass.new)) (HandsOutNext (handed_out_by (view pass.old)) result) }
-    ensures bytes { bytes_by (view pass.new) ≡ bytes_by (view pass.old) }
-    ensures room { room_by (view pass.new) ≡ room_by (view pass.old) }
-    ensures chapters { handed_out_by (view pass.new) ≡ handed_out_by (view pass.old) ++ result ∷ [] }
-    ensures chapter_room { result.room ≡ room_by (view pass.old) }
-    ensures chapter_workers { result.opening.setup.workers ≡ (seen_by (view pass.old)).setup.workers }
+    ensures idle { IsIdleWith Consumer (view pass.new) }
+    ensures call { LockedChapterCall Consumer (seen_with (view pass.old)) (seen_with (view pass.new)) (HandsOutNext (handed_out_with (view pass.old)) result) }
+    ensures bytes { bytes_with (view pass.new) ≡ bytes_with (view pass.old) }
+    ensures room { room_with (view pass.new) ≡ room_with (view pass.old) }
+    ensures chapters { handed_out_with (view pass.new) ≡ handed_out_with (view pass.old) ++ result ∷ [] }
+    ensures chapter_room { result.room ≡ room_with (view pass.old) }
+    ensures chapter_workers { result.opening.setup.workers ≡ (seen_with (view pass.old)).setup.workers }
 {
     with_state(
         rt,
         lock,
         pass,
         |state|
-            requires fits { MayGoOnIn state.old empty }
-            ensures hands_out { HandsOut state.old state.new result }
+            requires fits { MayGoOnIn state.old.ring empty }
+            ensures hands_out { HandsOut state.old.ring state.new.ring result }
+            ensures same_hands { state.new.hands ≡ state.old.hands }
         { next_chapter(state, empty) },
     )
 }
 
 // Hands the ring's chapter out, which goes on in a chapter that fits.
-fn next_chapter(state: &mut RingState, empty: Chapter) -> Chapter
-    requires fits { MayGoOnIn state.old empty }
-    ensures hands_out { HandsOut state.old state.new result }
+fn next_chapter(state: &mut HandState, empty: Chapter) -> Chapter
+    requires fits { MayGoOnIn state.old.ring empty }
+    ensures hands_out { HandsOut state.old.ring state.new.ring result }
+    ensures same_hands { state.new.hands ≡ state.old.hands }
 {
     match state.hand_out(empty) {
         Ok(chapter) => chapter,
@@ -73,20 +76,20 @@ fn next_chapter(state: &mut RingState, empty: Chapter) -> Chapter
 // How many entries the ring's chapter has, and how many it owes.
 fn used_with<R: Wait>(rt: &R, lock: &Lock, pass: &mut RingPass) -> (u32, u32)
     requires pass { IsPassOf lock.now pass.old × (ruled_capacity lock.now ≡ 1) }
-    requires idle { IsIdleIn Consumer (view pass.old) }
+    requires idle { IsIdleWith Consumer (view pass.old) }
     ensures same { IsSamePass pass.old pass.new }
-    ensures idle { IsIdleIn Consumer (view pass.new) }
-    ensures call { LockedChapterCall Consumer (seen_by (view pass.old)) (seen_by (view pass.new)) (InKnownChapter (handed_out_by (view pass.old)) (TellsUsed result.0 result.1)) }
-    ensures bytes { bytes_by (view pass.new) ≡ bytes_by (view pass.old) }
-    ensures room { room_by (view pass.new) ≡ room_by (view pass.old) }
-    ensures chapters { handed_out_by (view pass.new) ≡ handed_out_by (view pass.old) }
+    ensures idle { IsIdleWith Consumer (view pass.new) }
+    ensures call { LockedChapterCall Consumer (seen_with (view pass.old)) (seen_with (view pass.new)) (InKnownChapter (handed_out_with (view pass.old)) (TellsUsed result.0 result.1)) }
+    ensures bytes { bytes_with (view pass.new) ≡ bytes_with (view pass.old) }
+    ensures room { room_with (view pass.new) ≡ room_with (view pass.old) }
+    ensures chapters { handed_out_with (view pass.new) ≡ handed_out_with (view pass.old) }
 {
     with_state(
         rt,
         lock,
         pass,
         |state|
-            ensures call { TellsUsed result.0 result.1 state.old state.new }
+            ensures call { LeavesHands (TellsUsed result.0 result.1) state.old state.new }
         { (state.chapter().used(), state.chapter().owed()) },
     )
 }

@@ -9,13 +9,14 @@ ghost use Rattle.rb_ledger.specs.Seats.{are_tagged, has_seat, HasAll};
 ghost use Rattle.rb_ledger.specs.SeatRoles.{roles_of, HasOwnCounts};
 ghost use Rattle.rb_chapter_ledger.specs.ChapterKnowledge.{ChapterKnowledge, chapter_view, whole_knowledge};
 ghost use Rattle.rb_chapter_ledger.specs.ChapterClosing.{IsClosedByChapters};
+ghost use Rattle.rb_hand_ledger.specs.HandKnowledge.{without_hands};
 
 use crate::consumer_seat::ConsumerSeat;
 use crate::lock::{JoinRoles, Lock, RingPass, take_out};
 use crate::shared::SharedRing;
 use crate::worker_seat::Seat;
 use rb_chapter::Chapter;
-use rb_chapter_ring::RingState;
+use rb_hand_ring::HandState;
 use rb_history::Counts;
 use std::marker::Model;
 use std::sync::Wait;
@@ -25,7 +26,7 @@ use std::sync::Wait;
 #[derive(Drop)]
 pub struct Closing {
     ring: SharedRing,
-    state: Box<RingState>,
+    state: Box<HandState>,
 }
 
 impl Model for Closing {
@@ -34,13 +35,14 @@ impl Model for Closing {
     ghost use Rattle.rb_history.specs.RingModel.{contents_code};
     ghost use Rattle.rb_history.specs.contracts.entries.Entry as entry;
     ghost use Rattle.rb_history.specs.contracts.tally.Tally as tally_row;
+    ghost use Rattle.rb_hands.specs.contracts.out_record.OutRecord as out_row;
     ghost use Rattle.rb_chapter_ledger.specs.ChapterClosing.{ClosedChapterRing};
 
     ghost Value = { ClosedChapterRing };
 
-    ghost coded = { Prim.hlevel (codes, contents_code, table_id_coded, entry.the_row.coded, tally_row.the_row.coded) };
+    ghost coded = { Prim.hlevel (codes, contents_code, table_id_coded, entry.the_row.coded, tally_row.the_row.coded, out_row.the_row.coded) };
 
-    ghost view = { λ c. record { shared = c.ring; at_end = c.state.value } };
+    ghost view = { λ c. record { shared = c.ring; at_end = c.state.value.ring } };
 }
 
 impl Closing {
@@ -55,7 +57,7 @@ impl Closing {
     pub fn chapter(&self) -> &Chapter
         ensures chapter { result.now ≡ self.now.at_end.chapter }
     {
-        self.state.chapter()
+        self.state.as_ref().chapter()
     }
 
     /// The counts of the whole history. Of the refusals it tells 2^64 - 1 at most. In constant time.
@@ -132,7 +134,8 @@ fn gather(lock: &Lock, pass: &mut RingPass, mut seats: Vec<Seat>)
     requires pass { IsPassOf lock.now pass.old }
     requires seats { All (λ s. s.ring ≡ pass.old.table_id) seats.items }
     ensures same { IsSamePass pass.old pass.new }
-    ensures knows { (workers : List ChapterKnowledge) × (view pass.new ≡ chapter_view (workers ++ (view pass.old).knows) (view pass.old).out) × (whole_knowledge workers ≡ roles_of seats.items) }
+    ensures knows { (workers : List ChapterKnowledge) × (without_hands (view pass.new) ≡ chapter_view (workers ++ (without_hands (view pass.old)).knows) (without_hands (view pass.old)).out) × (whole_knowledge workers ≡ roles_of seats.items) }
+    ensures out { (view pass.new).out ≡ (view pass.old).out }
     ensures ties { All HasOwnCounts seats.items }
 {
     while let Some(seat) = seats.pop() {
@@ -142,11 +145,11 @@ fn gather(lock: &Lock, pass: &mut RingPass, mut seats: Vec<Seat>)
 }
 
 // Takes the state out by a pass that has taken in all roles.
-fn collect<R: Wait>(rt: &R, lock: &Lock, seats: Vec<Seat>, consumer: ConsumerSeat) -> Box<RingState>
+fn collect<R: Wait>(rt: &R, lock: &Lock, seats: Vec<Seat>, consumer: ConsumerSeat) -> Box<HandState>
     requires consumer { consumer.ring ≡ lock.now.table.shared.table_id }
     requires seats { All (λ s. s.ring ≡ consumer.ring) seats.items }
     requires all { HasAll consumer.seen.setup.workers seats.items }
-    ensures closed { IsClosedByChapters result.value seats.items consumer }
+    ensures closed { IsClosedByChapters result.value.ring seats.items consumer }
 {
     let mut pass = consumer.into_pass();
     gather(lock, &mut pass, seats);

@@ -6,9 +6,11 @@ ghost use Rattle.rb_ledger.specs.Roles.Role.{Consumer};
 ghost use Rattle.rb_ledger.specs.Seats.{IsBook, ConsumerTies};
 ghost use Rattle.rb_chapter_ledger.specs.ChapterKnowledge.{chapter_view};
 ghost use Rattle.rb_chapter_ledger.specs.ChapterClosing.{consumer_knowledge};
-ghost use Rattle.rb_chapter_ledger.specs.ChapterLockSteps.{first_chapter_role, other_chapter_roles, opening_role};
+ghost use Rattle.rb_chapter_ledger.specs.ChapterLockSteps.{opening_role};
+ghost use Rattle.rb_hand_ledger.specs.HandKnowledge.{hand_view, without_hands};
+ghost use Rattle.rb_hand_ledger.specs.HandLockSteps.{first_hand_role, other_hand_roles, opening_hands};
 ghost use Rattle.rb_chapter_ledger.specs.ChapterSeats.{fresh_chapter_consumer};
-ghost use Rattle.rb_shared_ring.specs.inner.SeatPasses.{seen_by, room_by};
+ghost use Rattle.rb_shared_ring.specs.inner.HandPasses.{seen_with, room_with};
 
 use crate::lock::{Lock, RingPass, SplitFirstRole};
 use std::marker::Model;
@@ -38,24 +40,26 @@ impl Model for ConsumerSeat {
     ghost use Rattle.rb_history.specs.contracts.entries.Entry as entry;
     ghost use Rattle.rb_history.specs.contracts.tally.Tally as tally_row;
     ghost use Rattle.rb_chapter_ledger.specs.ChapterSeats.{ChapterConsumerSeat};
-    ghost use Rattle.rb_shared_ring.specs.inner.SeatPasses.{seen_by, bytes_by, room_by, handed_out_by};
+    ghost use Rattle.rb_hands.specs.contracts.out_record.OutRecord as out_row;
+    ghost use Rattle.rb_hand_ledger.specs.HandKnowledge.{chapters_out};
+    ghost use Rattle.rb_shared_ring.specs.inner.HandPasses.{seen_with, bytes_with, room_with, handed_out_with};
     ghost use Rattle.rb_shared_ring.specs.inner.SeatsKeep.{KeepsConsumer, CountsTakes};
 
     ghost Value = { ChapterConsumerSeat };
 
-    ghost coded = { Prim.hlevel (codes, contents_code, table_id_coded, entry.the_row.coded, tally_row.the_row.coded) };
+    ghost coded = { Prim.hlevel (codes, contents_code, table_id_coded, entry.the_row.coded, tally_row.the_row.coded, out_row.the_row.coded) };
 
     ghost view = { λ s. record {
       tag = s.tag;
       ring = s.pass.table_id;
-      room = room_by (known_by s.pass);
+      room = room_with (known_by s.pass);
       consumed = s.consumed;
       skipped = s.skipped;
       position = s.position;
-      seen = seen_by (known_by s.pass);
-      got = bytes_by (known_by s.pass);
-      handed_out = handed_out_by (known_by s.pass);
-      out = (known_by s.pass).out;
+      seen = seen_with (known_by s.pass);
+      got = bytes_with (known_by s.pass);
+      handed_out = handed_out_with (known_by s.pass);
+      out = chapters_out (known_by s.pass).out;
     } };
 
     ghost invariant = { λ s. (s.pass.me.1 ≡ []) × KeepsConsumer (known_by s.pass) s.size s.workers s.room s.chapters × CountsTakes (known_by s.pass) s.consumed s.skipped s.position };
@@ -131,7 +135,8 @@ impl ConsumerSeat {
     // The seat's pass, which is the consumer's role and what it has seen and got.
     pub(crate) fn into_pass(self) -> RingPass
         ensures ring { (result.table_id ≡ self.ring) × (result.me.1 ≡ []) }
-        ensures knows { view result ≡ chapter_view (consumer_knowledge self ∷ []) None }
+        ensures knows { without_hands (view result) ≡ chapter_view (consumer_knowledge self ∷ []) None }
+        ensures free { (view result).out ≡ None }
         ensures ties { ConsumerTies self.consumed self.skipped self.position self.seen }
     {
         self.pass
@@ -149,16 +154,16 @@ pub(crate) fn new_consumer(
     room: u32,
 ) -> ConsumerSeat
     requires pass { IsPassOf lock.now pass.old }
-    requires role { first_chapter_role (view pass.old).knows ≡ opening_role Consumer (seen_by (view pass.old)) (room_by (view pass.old)) ∷ [] }
-    requires nothing { (seen_by (view pass.old)).history ≡ [] }
-    requires book { IsBook (seen_by (view pass.old)) }
-    requires size { (seen_by (view pass.old)).setup.size ≡ size }
-    requires workers { (seen_by (view pass.old)).setup.workers ≡ workers }
-    requires start { (seen_by (view pass.old)).setup.start ≡ start }
-    requires room { room_by (view pass.old) ≡ room }
+    requires role { first_hand_role (view pass.old).knows ≡ opening_hands (opening_role Consumer (seen_with (view pass.old)) (room_with (view pass.old))) ∷ [] }
+    requires nothing { (seen_with (view pass.old)).history ≡ [] }
+    requires book { IsBook (seen_with (view pass.old)) }
+    requires size { (seen_with (view pass.old)).setup.size ≡ size }
+    requires workers { (seen_with (view pass.old)).setup.workers ≡ workers }
+    requires start { (seen_with (view pass.old)).setup.start ≡ start }
+    requires room { room_with (view pass.old) ≡ room }
     ensures same { IsSamePass pass.old pass.new }
-    ensures rest { view pass.new ≡ chapter_view (other_chapter_roles (view pass.old).knows) (view pass.old).out }
-    ensures seat { result ≡ fresh_chapter_consumer tag pass.old.table_id room (seen_by (view pass.old)) }
+    ensures rest { view pass.new ≡ hand_view (other_hand_roles (view pass.old).knows) (view pass.old).out }
+    ensures seat { result ≡ fresh_chapter_consumer tag pass.old.table_id room (seen_with (view pass.old)) }
 {
     ConsumerSeat {
         tag,

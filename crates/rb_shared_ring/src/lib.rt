@@ -7,11 +7,14 @@
 //! out, then those of the chapter under the lock (`rb_ledger` and `rb_chapter_ledger` have the definitions, with drawings, and the laws).
 //! `SharedRing` says what each call promises, `Closing::bind` what holds once all seats are back and the chapters are bound.
 //!
+//! Each seat has four hands, in which its reservations are out, and what they show are exactly its worker's busy records. So no reservation is a
+//! stranger to its ring: until its seat gives it back it is busy there, and giving it back is not refused (`rb_hand_ledger`).
+//!
 //! ```text
 //! let (ring, mut seats, mut consumer) = open(rt, alloc, 7, 4096, 0, 1, 8)?;  // tag 7, 4096 bytes, one worker, chapters of 8 entries
 //! let mut seat = seats.pop()?;
-//! let record = ring.reserve(rt, &mut seat, 8, Sheet::new(alloc, 8)?)?;
-//! ring.submit(rt, &mut seat, record, 0)?;
+//! let record = ring.reserve(rt, &mut seat, 8, Sheet::new(alloc, 8)?)?;       // it names tag 7 and hand 0, and seat.hand(0) is Some(0)
+//! ring.submit(rt, &mut seat, record, 0)?;                                    // hand 0 is free again
 //! ring.used(rt, &mut consumer)?;                                             // (2, 1): two entries, and a take is owed
 //! let chapter = ring.hand_out(rt, &mut consumer, Chapter::new(alloc, 8, 1)?)?;
 //! ring.take(rt, &mut consumer)?;                                             // Taken::Event(0, 0, 0, ..), in chapter 1
@@ -29,6 +32,7 @@ mod audit;
 mod chapters;
 mod closing;
 mod consumer_seat;
+mod hands;
 mod lock;
 mod locked_calls;
 mod opening;
@@ -47,6 +51,7 @@ pub use consumer_seat::ConsumerSeat;
 pub use opening::open;
 pub use rb_chapter_ledger::BindFault;
 pub use rb_chapter_ring::{OpenFault, ReserveFault};
+pub use rb_hand_ring::Reservation;
 pub use shared::{Foreign, SharedRing};
 pub use wait_backoff::WaitBackoff;
 pub use whole::Whole;

@@ -1,17 +1,19 @@
-//! The lock of a shared ring over chapters: a queue of one place, with the ring's state in it, or nothing while a thread has the state.
+//! The lock of a shared ring: a queue of one place, with the ring's state and its book of hands in it, or nothing while a thread has the state.
 //! Each seat has a pass, which is its right to use the lock.
 
 ghost use Rattle.std.specs.Prelude.{◌≡◌, [], Some, None, IfOk};
 ghost use Rattle.std.specs.FinMap.{empty};
 ghost use Rattle.crossbeam_queue.specs.Passes.{view, IsPassOf, IsSamePass, ruled_capacity};
 ghost use Rattle.rb_chapter_ledger.specs.ChapteredRing.{chaptered_ring, IsChapteredRing};
-ghost use Rattle.rb_chapter_ledger.specs.ChapterKnowledge.{chapter_view};
-ghost use Rattle.rb_chapter_ledger.specs.ChapterLockSteps.{TakesChapterState, PutsChapterState, OpensChapterState, MayPutChapter, unopened_chapters};
+ghost use Rattle.rb_hands.specs.Hands.{free_book};
+ghost use Rattle.rb_hands.specs.HandRing.{HasHands};
+ghost use Rattle.rb_hand_ledger.specs.HandKnowledge.{hand_view};
+ghost use Rattle.rb_hand_ledger.specs.HandLockSteps.{TakesHandState, PutsHandState, OpensHandState, MayPutHands, unopened_hands};
 
 use crate::wait_backoff::WaitBackoff;
 use crossbeam_queue::protocol::{Join, Lesson, Outcome, Protocol, Split};
 use crossbeam_queue::{Pass, RuledArrayQueue};
-use rb_chapter_ring::RingState;
+use rb_hand_ring::HandState;
 use std::alloc::{AllocError, Global};
 use std::marker::Model;
 use std::sync::Wait;
@@ -25,19 +27,20 @@ impl Model for PassKnowledge {
     ghost use Rattle.rb_history.specs.RingModel.{contents_code};
     ghost use Rattle.rb_history.specs.contracts.entries.Entry as entry;
     ghost use Rattle.rb_history.specs.contracts.tally.Tally as tally_row;
-    ghost use Rattle.rb_chapter_ledger.specs.ChapterKnowledge.{ChapterPassView, chapter_view};
+    ghost use Rattle.rb_hands.specs.contracts.out_record.OutRecord as out_row;
+    ghost use Rattle.rb_hand_ledger.specs.HandKnowledge.{HandPassView, hand_view};
 
-    ghost Value = { ChapterPassView };
+    ghost Value = { HandPassView };
 
-    ghost coded = { Prim.hlevel (codes, contents_code, entry.the_row.coded, tally_row.the_row.coded) };
+    ghost coded = { Prim.hlevel (codes, contents_code, entry.the_row.coded, tally_row.the_row.coded, out_row.the_row.coded) };
 
-    ghost view = { λ k. chapter_view [] None };
+    ghost view = { λ k. hand_view [] None };
 }
 
 /// A ring's state while it is in the lock. It is on the heap, so that taking it out and putting it back moves a pointer.
 #[derive(Drop)]
 pub struct LockedState {
-    ring: Box<RingState>,
+    ring: Box<HandState>,
 }
 
 impl Model for LockedState {
@@ -45,36 +48,37 @@ impl Model for LockedState {
     ghost use Rattle.rb_history.specs.RingModel.{contents_code};
     ghost use Rattle.rb_history.specs.contracts.entries.Entry as entry;
     ghost use Rattle.rb_history.specs.contracts.tally.Tally as tally_row;
-    ghost use Rattle.rb_chapter.specs.ChapterRing.{ChapterRing};
+    ghost use Rattle.rb_hands.specs.contracts.out_record.OutRecord as out_row;
+    ghost use Rattle.rb_hands.specs.HandRing.{HandRing};
 
-    ghost Value = { ChapterRing };
+    ghost Value = { HandRing };
 
-    ghost coded = { Prim.hlevel (codes, contents_code, entry.the_row.coded, tally_row.the_row.coded) };
+    ghost coded = { Prim.hlevel (codes, contents_code, entry.the_row.coded, tally_row.the_row.coded, out_row.the_row.coded) };
 
     ghost view = { λ r. r.ring.value };
 }
 
-/// The lock's rule over chapters, which each step of each thread keeps.
+/// The lock's rule with hands, which each step of each thread keeps.
 pub struct LockRule;
 
 impl Protocol<LockedState, PassKnowledge> for LockRule {
     ghost use Rattle.std.specs.Prelude.{[], Some};
-    ghost use Rattle.rb_chapter_ledger.specs.ChapterKnowledge.{chapter_view};
-    ghost use Rattle.rb_chapter_ledger.specs.ChapterLockRule.{KeepsChapterLockRule};
-    ghost use Rattle.rb_chapter_ledger.specs.ChapterLockSteps.{unopened_chapters};
+    ghost use Rattle.rb_hand_ledger.specs.HandKnowledge.{hand_view};
+    ghost use Rattle.rb_hand_ledger.specs.HandLockRule.{KeepsHandLockRule};
+    ghost use Rattle.rb_hand_ledger.specs.HandLockSteps.{unopened_hands};
 
-    ghost holds = { KeepsChapterLockRule };
+    ghost holds = { KeepsHandLockRule };
 
-    ghost first = { chapter_view [] (Some unopened_chapters) };
+    ghost first = { hand_view [] (Some unopened_hands) };
 }
 
 // The step in which a pass takes the state out.
 struct TakeOut;
 
 impl Outcome<LockedState, PassKnowledge> for TakeOut {
-    ghost use Rattle.rb_chapter_ledger.specs.ChapterLockSteps.{TakesChapterState};
+    ghost use Rattle.rb_hand_ledger.specs.HandLockSteps.{TakesHandState};
 
-    ghost then = { TakesChapterState };
+    ghost then = { TakesHandState };
 }
 
 impl Lesson<LockedState, PassKnowledge> for TakeOut {
@@ -85,9 +89,9 @@ impl Lesson<LockedState, PassKnowledge> for TakeOut {
 struct PutBack;
 
 impl Outcome<LockedState, PassKnowledge> for PutBack {
-    ghost use Rattle.rb_chapter_ledger.specs.ChapterLockSteps.{PutsChapterState};
+    ghost use Rattle.rb_hand_ledger.specs.HandLockSteps.{PutsHandState};
 
-    ghost then = { PutsChapterState };
+    ghost then = { PutsHandState };
 }
 
 impl Lesson<LockedState, PassKnowledge> for PutBack {
@@ -100,9 +104,9 @@ impl Lesson<LockedState, PassKnowledge> for PutBack {
 struct PutFirst;
 
 impl Outcome<LockedState, PassKnowledge> for PutFirst {
-    ghost use Rattle.rb_chapter_ledger.specs.ChapterLockSteps.{OpensChapterState};
+    ghost use Rattle.rb_hand_ledger.specs.HandLockSteps.{OpensHandState};
 
-    ghost then = { OpensChapterState };
+    ghost then = { OpensHandState };
 }
 
 impl Lesson<LockedState, PassKnowledge> for PutFirst {
@@ -116,12 +120,12 @@ pub struct SplitFirstRole;
 
 impl Split<PassKnowledge> for SplitFirstRole {
     ghost use Rattle.std.specs.Prelude.{None};
-    ghost use Rattle.rb_chapter_ledger.specs.ChapterKnowledge.{chapter_view};
-    ghost use Rattle.rb_chapter_ledger.specs.ChapterLockSteps.{first_chapter_role, other_chapter_roles};
+    ghost use Rattle.rb_hand_ledger.specs.HandKnowledge.{hand_view};
+    ghost use Rattle.rb_hand_ledger.specs.HandLockSteps.{first_hand_role, other_hand_roles};
 
-    ghost left = { λ v. chapter_view (other_chapter_roles v.knows) v.out };
+    ghost left = { λ v. hand_view (other_hand_roles v.knows) v.out };
 
-    ghost right = { λ v. chapter_view (first_chapter_role v.knows) None };
+    ghost right = { λ v. hand_view (first_hand_role v.knows) None };
 }
 
 /// Joins another pass's roles to a pass's own, in front of them.
@@ -129,14 +133,14 @@ pub struct JoinRoles;
 
 impl Join<PassKnowledge> for JoinRoles {
     ghost use Rattle.std.specs.Prelude.{None, [], ◌++◌};
-    ghost use Rattle.rb_chapter_ledger.specs.ChapterKnowledge.{chapter_view};
+    ghost use Rattle.rb_hand_ledger.specs.HandKnowledge.{hand_view};
 
-    ghost both = { λ v w. chapter_view (w.knows ++ v.knows) v.out };
+    ghost both = { λ v w. hand_view (w.knows ++ v.knows) v.out };
 
-    ghost spent = { chapter_view [] None };
+    ghost spent = { hand_view [] None };
 }
 
-/// A seat's right to use the lock, and what it has seen and sent or got.
+/// A seat's right to use the lock, and what it has seen, sent or got, and holds.
 pub type RingPass = Pass<LockedState, PassKnowledge>;
 
 /// The queue of one place that holds a ring's state.
@@ -146,17 +150,17 @@ pub type Lock = RuledArrayQueue<LockedState, PassKnowledge, LockRule>;
 pub(crate) fn new_lock(alloc: Global) -> Result<(Lock, RingPass), AllocError>
     ensures capacity { IfOk result (λ l. ruled_capacity l.0 ≡ 1) }
     ensures pass { IfOk result (λ l. IsPassOf l.0 l.1) }
-    ensures unopened { IfOk result (λ l. view l.1 ≡ chapter_view [] (Some unopened_chapters)) }
+    ensures unopened { IfOk result (λ l. view l.1 ≡ hand_view [] (Some unopened_hands)) }
 {
     Lock::ruled(alloc, 1)
 }
 
 /// Takes the state out, once it is there. A thread that finds the queue empty waits, for longer each time, and looks again.
-pub(crate) fn take_out<R: Wait>(rt: &R, lock: &Lock, pass: &mut RingPass) -> Box<RingState>
+pub(crate) fn take_out<R: Wait>(rt: &R, lock: &Lock, pass: &mut RingPass) -> Box<HandState>
     requires pass { IsPassOf lock.now pass.old }
     requires free { (view pass.old).out ≡ None }
     ensures same { IsSamePass pass.old pass.new }
-    ensures took { TakesChapterState (view pass.old) result.value (view pass.new) }
+    ensures took { TakesHandState (view pass.old) result.value (view pass.new) }
 {
     let mut wait_backoff = WaitBackoff::new();
     for _ in rt.forever() {
@@ -169,11 +173,11 @@ pub(crate) fn take_out<R: Wait>(rt: &R, lock: &Lock, pass: &mut RingPass) -> Box
 }
 
 /// Puts the state back, after a call of the pass's one role.
-pub(crate) fn put_back<R: Wait>(rt: &R, lock: &Lock, pass: &mut RingPass, state: Box<RingState>)
+pub(crate) fn put_back<R: Wait>(rt: &R, lock: &Lock, pass: &mut RingPass, state: Box<HandState>)
     requires pass { IsPassOf lock.now pass.old × (ruled_capacity lock.now ≡ 1) }
-    requires step { MayPutChapter (view pass.old) state.value }
+    requires step { MayPutHands (view pass.old) state.value }
     ensures same { IsSamePass pass.old pass.new }
-    ensures put { PutsChapterState (view pass.old) state.value (view pass.new) }
+    ensures put { PutsHandState (view pass.old) state.value (view pass.new) }
 {
     let resting = LockedState { ring: state };
     if lock.push_as::<PutBack, R>(rt, pass, resting).is_err() {
@@ -182,12 +186,13 @@ pub(crate) fn put_back<R: Wait>(rt: &R, lock: &Lock, pass: &mut RingPass, state:
 }
 
 /// Puts the first state in. From then on the pass has the roles of the consumer and of all workers.
-pub(crate) fn put_first<R: Wait>(rt: &R, lock: &Lock, pass: &mut RingPass, state: Box<RingState>)
+pub(crate) fn put_first<R: Wait>(rt: &R, lock: &Lock, pass: &mut RingPass, state: Box<HandState>)
     requires pass { IsPassOf lock.now pass.old × (ruled_capacity lock.now ≡ 1) }
-    requires unopened { view pass.old ≡ chapter_view [] (Some unopened_chapters) }
-    requires opened { IsChapteredRing (chaptered_ring [] state.value) × (state.value.contents ≡ empty) }
+    requires unopened { view pass.old ≡ hand_view [] (Some unopened_hands) }
+    requires opened { IsChapteredRing (chaptered_ring [] state.value.ring) × (state.value.ring.contents ≡ empty) }
+    requires hands { HasHands state.value × (state.value.hands ≡ free_book state.value.ring.chapter.opening.setup.workers) }
     ensures same { IsSamePass pass.old pass.new }
-    ensures put { OpensChapterState (view pass.old) state.value (view pass.new) }
+    ensures put { OpensHandState (view pass.old) state.value (view pass.new) }
 {
     let resting = LockedState { ring: state };
     if lock.push_as::<PutFirst, R>(rt, pass, resting).is_err() {

@@ -1,31 +1,36 @@
 //! The calls of a ring of one thread, each on the state that the lock holds. The lock is held for that one call alone.
 
-ghost use Rattle.std.specs.Prelude.{◌≡◌, ◌<◌, None, IfErr, length};
+ghost use Rattle.std.specs.Prelude.{◌≡◌, ◌<◌, None, Some, Ok, IfOk, IfErr, length, slice_set};
+ghost use Rattle.std.specs.FinMap.{insert};
 ghost use Rattle.std.specs.Fn.{FnOnceTakesAtMut, FnOnceReturnsAtMut};
 ghost use Rattle.crossbeam_queue.specs.Passes.{view, IsPassOf, IsSamePass, ruled_capacity};
 ghost use Rattle.rb_chapter.specs.ChapterCalls.{producer_now};
 ghost use Rattle.rb_ledger.specs.Roles.Role.{Worker};
-ghost use Rattle.rb_ledger.specs.LockedCalls.{sent_by_submit};
-ghost use Rattle.rb_chapter_ledger.specs.LockedChapterCalls.{LockedChapterCall, InOneChapter, QueriesInChapter, SubmitsInChapter, DiscardsInChapter};
-ghost use Rattle.rb_shared_ring.specs.inner.SeatPasses.{seen_by, bytes_by, IsIdleIn};
-ghost use Rattle.rb_shared_ring.specs.inner.LentState.{IsKeptRing, MayLend, MayCall, LendsState};
-ghost use Rattle.rb_shared_ring.specs.SharedCalls.{ReservesInChapter, OutputsInChapter, sent_by_chapter_output};
+ghost use Rattle.rb_chapter_ledger.specs.LockedChapterCalls.{LockedChapterCall, InRoomAt, QueriesInChapter, SubmitsInChapter, DiscardsInChapter};
+ghost use Rattle.rb_hands.specs.Hands.{out_record, in_hand, hands_of, IsFree};
+ghost use Rattle.rb_hands.specs.HandRing.{HasInHand};
+ghost use Rattle.rb_hand_ledger.specs.NoStranger.{HoldsOwnBusy};
+ghost use Rattle.rb_shared_ring.specs.inner.HandPasses.{seen_with, bytes_with, room_with, hands_by, cut_by, IsIdleWith};
+ghost use Rattle.rb_shared_ring.specs.inner.HandCalls.{ReservesToHand, SubmitsOut, DiscardsOut, LeavesHands};
+ghost use Rattle.rb_shared_ring.specs.inner.LentState.{IsKeptHandRing, MayLend, MayCall, LendsState};
+ghost use Rattle.rb_shared_ring.specs.SharedCalls.{ReservesInChapter, OutputsInChapter, granted_in, hands_reserved, sent_by_chapter_output};
 
 use crate::lock::{Lock, RingPass, put_back, take_out};
-use rb_chapter_ring::{ReserveFault, RingState};
-use rb_history::{Notice, Reservation, Stray};
+use rb_chapter_ring::ReserveFault;
+use rb_hand_ring::{HandState, Reservation};
+use rb_history::Notice;
 use rb_lend::Sheet;
 use std::sync::Wait;
 
 /// What the ring of one thread tells of each state.
-pub(crate) fn facts_of(state: &RingState)
-    ensures kept { IsKeptRing state.now }
+pub(crate) fn facts_of(state: &HandState)
+    ensures kept { IsKeptHandRing state.now }
 {
     state.facts();
 }
 
 /// Takes the state out of the lock, lends it to one call, and puts it back.
-pub(crate) fn with_state<R: Wait, T, F: FnOnce(&mut RingState) -> T>(
+pub(crate) fn with_state<R: Wait, T, F: FnOnce(&mut HandState) -> T>(
     rt: &R,
     lock: &Lock,
     pass: &mut RingPass,
@@ -46,7 +51,7 @@ pub(crate) fn with_state<R: Wait, T, F: FnOnce(&mut RingState) -> T>(
     answer
 }
 
-/// `RingState::query`, for the worker whose pass it is.
+/// `HandState::query`, for the worker whose pass it is.
 pub(crate) fn query_with<R: Wait>(
     rt: &R,
     lock: &Lock,
@@ -55,38 +60,49 @@ pub(crate) fn query_with<R: Wait>(
     what: u64,
 ) -> u64
     requires pass { IsPassOf lock.now pass.old × (ruled_capacity lock.now ≡ 1) }
-    requires idle { IsIdleIn (Worker worker) (view pass.old) }
+    requires idle { IsIdleWith (Worker worker) (view pass.old) }
     ensures same { IsSamePass pass.old pass.new }
-    ensures idle { IsIdleIn (Worker worker) (view pass.new) }
-    ensures call { LockedChapterCall (Worker worker) (seen_by (view pass.old)) (seen_by (view pass.new)) (InOneChapter (QueriesInChapter what result)) }
-    ensures bytes { bytes_by (view pass.new) ≡ bytes_by (view pass.old) }
+    ensures idle { IsIdleWith (Worker worker) (view pass.new) }
+    ensures call { LockedChapterCall (Worker worker) (seen_with (view pass.old)) (seen_with (view pass.new)) (InRoomAt (room_with (view pass.old)) (cut_by (view pass.new)) (QueriesInChapter what result)) }
+    ensures bytes { bytes_with (view pass.new) ≡ bytes_with (view pass.old) }
+    ensures room { room_with (view pass.new) ≡ room_with (view pass.old) }
+    ensures hands { hands_by (view pass.new) ≡ hands_by (view pass.old) }
+    ensures holds { HoldsOwnBusy (hands_by (view pass.new)) worker (seen_with (view pass.new)).history }
 {
     with_state(
         rt,
         lock,
         pass,
         |state|
-            ensures call { QueriesInChapter what result state.old state.new }
+            ensures call { LeavesHands (QueriesInChapter what result) state.old state.new }
         { state.query(what) },
     )
 }
 
-/// `RingState::reserve`, for the worker whose pass it is.
+/// `HandState::reserve`, into a free hand of the worker whose pass it is.
 pub(crate) fn reserve_with<R: Wait>(
     rt: &R,
     lock: &Lock,
     pass: &mut RingPass,
+    tag: u64,
     worker: u32,
+    hand: u32,
     n: u32,
     sheet: Sheet,
 ) -> Result<Reservation, (ReserveFault, Sheet)>
     requires pass { IsPassOf lock.now pass.old × (ruled_capacity lock.now ≡ 1) }
-    requires idle { IsIdleIn (Worker worker) (view pass.old) }
+    requires idle { IsIdleWith (Worker worker) (view pass.old) }
+    requires hand { IsFree (hands_by (view pass.old)) hand }
     requires sized { length sheet ≡ n }
     ensures same { IsSamePass pass.old pass.new }
-    ensures idle { IsIdleIn (Worker worker) (view pass.new) }
-    ensures call { LockedChapterCall (Worker worker) (seen_by (view pass.old)) (seen_by (view pass.new)) (InOneChapter (ReservesInChapter worker n result)) }
-    ensures bytes { bytes_by (view pass.new) ≡ bytes_by (view pass.old) }
+    ensures idle { IsIdleWith (Worker worker) (view pass.new) }
+    ensures call { LockedChapterCall (Worker worker) (seen_with (view pass.old)) (seen_with (view pass.new)) (InRoomAt (room_with (view pass.old)) (cut_by (view pass.new)) (ReservesInChapter worker n (granted_in result))) }
+    ensures bytes { bytes_with (view pass.new) ≡ bytes_with (view pass.old) }
+    ensures room { room_with (view pass.new) ≡ room_with (view pass.old) }
+    ensures hands { hands_by (view pass.new) ≡ hands_reserved (hands_by (view pass.old)) hand n result }
+    ensures holds { HoldsOwnBusy (hands_by (view pass.new)) worker (seen_with (view pass.new)).history }
+    ensures tag { IfOk result (λ r. r.tag ≡ tag) }
+    ensures hand { IfOk result (λ r. r.hand ≡ hand) }
     ensures handed_back { IfErr result (λ e. e.1 ≡ sheet) }
 {
     with_state(
@@ -94,15 +110,18 @@ pub(crate) fn reserve_with<R: Wait>(
         lock,
         pass,
         |state|
-            requires worker { worker < state.old.chapter.opening.setup.workers }
+            requires worker { worker < state.old.ring.chapter.opening.setup.workers }
+            requires hand { IsFree (hands_of state.old.hands worker) hand }
             requires sized { length sheet ≡ n }
-            ensures call { ReservesInChapter worker n result state.old state.new }
+            ensures call { ReservesToHand worker hand n result state.old state.new }
+            ensures tag { IfOk result (λ r. r.tag ≡ tag) }
+            ensures hand { IfOk result (λ r. r.hand ≡ hand) }
             ensures handed_back { IfErr result (λ e. e.1 ≡ sheet) }
-        { state.reserve(worker, n, sheet) },
+        { state.reserve(tag, worker, hand, n, sheet) },
     )
 }
 
-/// `RingState::submit`, of a reservation of the worker whose pass it is.
+/// `HandState::submit`, of a reservation that is out in a hand of the worker whose pass it is. There is no refusal.
 pub(crate) fn submit_with<R: Wait>(
     rt: &R,
     lock: &Lock,
@@ -110,28 +129,31 @@ pub(crate) fn submit_with<R: Wait>(
     worker: u32,
     reservation: Reservation,
     flags: u64,
-) -> Result<Notice, Stray>
+) -> Notice
     requires pass { IsPassOf lock.now pass.old × (ruled_capacity lock.now ≡ 1) }
-    requires idle { IsIdleIn (Worker worker) (view pass.old) }
-    requires mine { reservation.worker ≡ worker }
+    requires idle { IsIdleWith (Worker worker) (view pass.old) }
+    requires mine { reservation.granted.worker ≡ worker }
+    requires out { in_hand (hands_by (view pass.old)) reservation.hand ≡ Some (out_record reservation.granted.pos reservation.granted.serial (length reservation.granted.bytes)) }
     ensures same { IsSamePass pass.old pass.new }
-    ensures idle { IsIdleIn (Worker worker) (view pass.new) }
-    ensures call { LockedChapterCall (Worker worker) (seen_by (view pass.old)) (seen_by (view pass.new)) (InOneChapter (SubmitsInChapter reservation flags result)) }
-    ensures bytes { bytes_by (view pass.new) ≡ sent_by_submit (bytes_by (view pass.old)) reservation result }
-    ensures handed_back { IfErr result (λ s. s.reservation ≡ reservation) }
+    ensures idle { IsIdleWith (Worker worker) (view pass.new) }
+    ensures call { LockedChapterCall (Worker worker) (seen_with (view pass.old)) (seen_with (view pass.new)) (InRoomAt (room_with (view pass.old)) (cut_by (view pass.new)) (SubmitsInChapter reservation.granted flags (Ok result))) }
+    ensures bytes { bytes_with (view pass.new) ≡ insert (bytes_with (view pass.old)) reservation.granted.pos reservation.granted.bytes }
+    ensures room { room_with (view pass.new) ≡ room_with (view pass.old) }
+    ensures hands { hands_by (view pass.new) ≡ slice_set (hands_by (view pass.old)) reservation.hand None }
+    ensures holds { HoldsOwnBusy (hands_by (view pass.new)) worker (seen_with (view pass.new)).history }
 {
     with_state(
         rt,
         lock,
         pass,
         |state|
-            ensures call { SubmitsInChapter reservation flags result state.old state.new }
-            ensures handed_back { IfErr result (λ s. s.reservation ≡ reservation) }
+            requires out { HasInHand state.old reservation.hand reservation.granted }
+            ensures call { SubmitsOut reservation flags result state.old state.new }
         { state.submit(reservation, flags) },
     )
 }
 
-/// `RingState::discard`, of a reservation of the worker whose pass it is.
+/// `HandState::discard`, of a reservation that is out in a hand of the worker whose pass it is. There is no refusal.
 pub(crate) fn discard_with<R: Wait>(
     rt: &R,
     lock: &Lock,
@@ -139,28 +161,31 @@ pub(crate) fn discard_with<R: Wait>(
     worker: u32,
     reservation: Reservation,
     flags: u64,
-) -> Result<Notice, Stray>
+) -> Notice
     requires pass { IsPassOf lock.now pass.old × (ruled_capacity lock.now ≡ 1) }
-    requires idle { IsIdleIn (Worker worker) (view pass.old) }
-    requires mine { reservation.worker ≡ worker }
+    requires idle { IsIdleWith (Worker worker) (view pass.old) }
+    requires mine { reservation.granted.worker ≡ worker }
+    requires out { in_hand (hands_by (view pass.old)) reservation.hand ≡ Some (out_record reservation.granted.pos reservation.granted.serial (length reservation.granted.bytes)) }
     ensures same { IsSamePass pass.old pass.new }
-    ensures idle { IsIdleIn (Worker worker) (view pass.new) }
-    ensures call { LockedChapterCall (Worker worker) (seen_by (view pass.old)) (seen_by (view pass.new)) (InOneChapter (DiscardsInChapter reservation flags result)) }
-    ensures bytes { bytes_by (view pass.new) ≡ bytes_by (view pass.old) }
-    ensures handed_back { IfErr result (λ s. s.reservation ≡ reservation) }
+    ensures idle { IsIdleWith (Worker worker) (view pass.new) }
+    ensures call { LockedChapterCall (Worker worker) (seen_with (view pass.old)) (seen_with (view pass.new)) (InRoomAt (room_with (view pass.old)) (cut_by (view pass.new)) (DiscardsInChapter reservation.granted flags (Ok result))) }
+    ensures bytes { bytes_with (view pass.new) ≡ bytes_with (view pass.old) }
+    ensures room { room_with (view pass.new) ≡ room_with (view pass.old) }
+    ensures hands { hands_by (view pass.new) ≡ slice_set (hands_by (view pass.old)) reservation.hand None }
+    ensures holds { HoldsOwnBusy (hands_by (view pass.new)) worker (seen_with (view pass.new)).history }
 {
     with_state(
         rt,
         lock,
         pass,
         |state|
-            ensures call { DiscardsInChapter reservation flags result state.old state.new }
-            ensures handed_back { IfErr result (λ s. s.reservation ≡ reservation) }
+            requires out { HasInHand state.old reservation.hand reservation.granted }
+            ensures call { DiscardsOut reservation flags result state.old state.new }
         { state.discard(reservation, flags) },
     )
 }
 
-/// `RingState::output`, for the worker whose pass it is.
+/// `HandState::output`, for the worker whose pass it is. It needs no hand.
 pub(crate) fn output_with<R: Wait>(
     rt: &R,
     lock: &Lock,
@@ -170,10 +195,13 @@ pub(crate) fn output_with<R: Wait>(
     flags: u64,
 ) -> Result<Notice, (ReserveFault, Sheet)>
     requires pass { IsPassOf lock.now pass.old × (ruled_capacity lock.now ≡ 1) }
-    requires idle { IsIdleIn (Worker worker) (view pass.old) }
+    requires idle { IsIdleWith (Worker worker) (view pass.old) }
     ensures same { IsSamePass pass.old pass.new }
-    ensures idle { IsIdleIn (Worker worker) (view pass.new) }
-    ensures call { LockedChapterCall (Worker worker) (seen_by (view pass.old)) (seen_by (view pass.new)) (InOneChapter (λ old new. OutputsInChapter worker sheet flags result old new × (bytes_by (view pass.new) ≡ sent_by_chapter_output (bytes_by (view pass.old)) (producer_now old) sheet result))) }
+    ensures idle { IsIdleWith (Worker worker) (view pass.new) }
+    ensures call { LockedChapterCall (Worker worker) (seen_with (view pass.old)) (seen_with (view pass.new)) (InRoomAt (room_with (view pass.old)) (cut_by (view pass.new)) (λ old new. OutputsInChapter worker sheet flags result old new × (bytes_with (view pass.new) ≡ sent_by_chapter_output (bytes_with (view pass.old)) (producer_now old) sheet result))) }
+    ensures room { room_with (view pass.new) ≡ room_with (view pass.old) }
+    ensures hands { hands_by (view pass.new) ≡ hands_by (view pass.old) }
+    ensures holds { HoldsOwnBusy (hands_by (view pass.new)) worker (seen_with (view pass.new)).history }
     ensures handed_back { IfErr result (λ e. e.1 ≡ sheet) }
 {
     with_state(
@@ -181,8 +209,8 @@ pub(crate) fn output_with<R: Wait>(
         lock,
         pass,
         |state|
-            requires worker { worker < state.old.chapter.opening.setup.workers }
-            ensures call { OutputsInChapter worker sheet flags result state.old state.new }
+            requires worker { worker < state.old.ring.chapter.opening.setup.workers }
+            ensures call { LeavesHands (OutputsInChapter worker sheet flags result) state.old state.new }
             ensures handed_back { IfErr result (λ e. e.1 ≡ sheet) }
         { state.output(worker, sheet, flags) },
     )

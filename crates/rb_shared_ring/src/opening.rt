@@ -11,11 +11,12 @@ use crate::lock::{new_lock, put_first};
 use crate::locked_calls::facts_of;
 use crate::shared::SharedRing;
 use crate::worker_seat::{Seat, new_seat};
-use rb_chapter_ring::{OpenFault, RingState};
+use rb_chapter_ring::OpenFault;
+use rb_hand_ring::HandState;
 use std::alloc::Global;
 use std::sync::Wait;
 
-/// A shared ring for 1 to 256 workers, with a seat for each, in the order of their numbers, and the consumer's. Each chapter of its history has
+/// A shared ring for 1 to 256 workers, with a seat for each, in the order of their numbers, whose four hands are free, and the consumer's. Each chapter of its history has
 /// room for `room` entries, 8 to 1,048,576. The tag is the caller's number for the ring, and all seats have it. Of the `OpenFault`s that
 /// apply the first is returned; `Memory` is the last. It takes all memory that the ring and its seats will ever need.
 pub fn open<R: Wait>(
@@ -28,14 +29,14 @@ pub fn open<R: Wait>(
     room: u32,
 ) -> Result<(SharedRing, Vec<Seat>, ConsumerSeat), OpenFault>
     ensures tag { IfOk result (λ o. o.0.tag ≡ tag) }
-    ensures seats { IfOk result (λ o. o.1.items ≡ fresh_seats tag o.0.ring (fresh_book size start workers) 0 workers) }
+    ensures seats { IfOk result (λ o. o.1.items ≡ fresh_seats tag o.0.ring room (fresh_book size start workers) 0 workers) }
     ensures consumer { IfOk result (λ o. o.2 ≡ fresh_chapter_consumer tag o.0.ring room (fresh_book size start workers)) }
     ensures size { IsErrOf result OpenFault.Size ↔ ¬ IsRingSize size }
     ensures start { IsErrOf result OpenFault.Start ↔ (IsRingSize size × ¬ IsStartPosition start) }
     ensures workers { IsErrOf result OpenFault.Workers ↔ (IsRingSize size × IsStartPosition start × ¬ IsWorkerCount workers) }
     ensures chapter { IsErrOf result OpenFault.Chapter ↔ (IsRingSize size × IsStartPosition start × IsWorkerCount workers × ¬ IsChapterRoom room) }
 {
-    let state = RingState::new(alloc, size, start, workers, room)?;
+    let state = HandState::new(alloc, size, start, workers, room)?;
     facts_of(&state);
     let Ok((lock, mut pass)) = new_lock(alloc) else {
         return Err(OpenFault::Memory);

@@ -1,20 +1,25 @@
 //! A ring over chapters that threads share.
 
-ghost use Rattle.std.specs.Prelude.{◌≡◌, ◌≢◌, ◌↔◌, ◌⊎◌, IfOk, IfErr, IsErr, None, length};
-ghost use Rattle.rb_chapter_ring.specs.declared.faults.ReserveFault.TheVariants.{Foreign as FaultForeign};
+ghost use Rattle.std.specs.Prelude.{◌≡◌, ◌≢◌, ◌↔◌, ◌⊎◌, Ok, IfOk, OnOk, IfErr, IsOk, IsErr, None, length, slice_set};
+ghost use Rattle.std.specs.FinMap.{insert};
+ghost use Rattle.rb_chapter_ring.specs.declared.faults.ReserveFault.TheVariants.{Foreign as FaultForeign, HandsFull};
 ghost use Rattle.rb_chapter.specs.ChapterCalls.{producer_now};
+ghost use Rattle.rb_hands.specs.Hands.{AreAllOut, IsLowestFree};
 ghost use Rattle.rb_ledger.specs.Roles.Role.{Worker};
 ghost use Rattle.rb_ledger.specs.Seats.{IsSameSeat};
-ghost use Rattle.rb_ledger.specs.LockedCalls.{submitted_by, discarded_by, sent_by_submit};
-ghost use Rattle.rb_chapter_ledger.specs.LockedChapterCalls.{LockedChapterCall, InOneChapter, SubmitsInChapter, DiscardsInChapter, QueriesInChapter};
-ghost use Rattle.rb_shared_ring.specs.SharedCalls.{ReservesInChapter, OutputsInChapter, IsRefusedInChapterAs, reserved_in_chapter_by, output_in_chapter_by, sent_by_chapter_output};
+ghost use Rattle.rb_ledger.specs.LockedCalls.{submitted_by, discarded_by};
+ghost use Rattle.rb_chapter_ledger.specs.LockedChapterCalls.{LockedChapterCall, InRoomAt, SubmitsInChapter, DiscardsInChapter, QueriesInChapter};
+ghost use Rattle.rb_shared_ring.specs.SharedCalls.{ReservesInChapter, OutputsInChapter, IsInSeatsHand, IsRefusedInChapterAs, granted_in, hands_after_reserve, reserved_in_chapter_by, output_in_chapter_by, sent_by_chapter_output};
 
+use crate::hands::is_out_with;
 use crate::lock::Lock;
 use crate::locked_calls::{discard_with, output_with, query_with, reserve_with, submit_with};
 use crate::tally::{after_discard, after_output, after_reserve, after_submit};
 use crate::worker_seat::Seat;
 use rb_chapter_ring::ReserveFault;
-use rb_history::{Notice, Reservation, Stray};
+use rb_hand_ring::Reservation;
+use rb_hands::{OutRecord, lowest_free};
+use rb_history::Notice;
 use rb_lend::Sheet;
 use std::marker::Model;
 use std::sync::Wait;
@@ -32,7 +37,8 @@ pub struct Foreign;
 /// Each call takes the caller's seat. The ring has one history: the entries of the chapters that were handed out, then those of the chapter
 /// under the lock. Up to the moment of the call it begins with all that the seat has seen, and what was added since is other roles'; there the
 /// ring of one thread answers as this call does, by its chapter, for the seat's worker; and the seat has then seen the whole history with
-/// this call in it (`call`). By that history each call is the one of a ring that keeps all its entries
+/// this call in it (`call`). Which entries the chapter had then, and its room, the seat knows (`cut`, `room`), so that `ChapterFull` is told exactly
+/// where the chapter has no room. By that history each call is the one of a ring that keeps all its entries
 /// (`rb_chapter_ledger::each_locked_call_is_whole`). A seat that was opened with another tag is `Foreign`. Rings with the same tag are not told
 /// apart: each call requires that a seat with the ring's tag was opened with this ring.
 ///
@@ -68,8 +74,9 @@ impl SharedRing {
         self.tag
     }
 
-    /// Grants the seat's worker a record of `n` bytes, in a sheet of as many, which become zeros. `Foreign` comes first; `Full` is
-    /// logged, and raises the refused count; `ChapterFull`, where the chapter has no room, changes nothing. A refusal hands the sheet back.
+    /// Grants the seat's worker a record of `n` bytes into the seat's lowest free hand, in a sheet of as many, which become zeros. `Foreign` comes first,
+    /// then `HandsFull`, where no hand is free; `Full` is logged, and raises the refused count; `ChapterFull`, where the chapter has no room,
+    /// changes nothing. A refusal hands the sheet back.
     pub fn reserve<R: Wait>(
         &self,
         rt: &R,
@@ -80,79 +87,106 @@ impl SharedRing {
         requires ring { me.old.tag ≡ self.now.tag → me.old.ring ≡ self.now.ring }
         requires sized { length sheet ≡ n }
         ensures foreign { IsRefusedInChapterAs FaultForeign result ↔ (me.old.tag ≢ self.now.tag) }
-        ensures unchanged { me.old.tag ≢ self.now.tag → me.new ≡ me.old }
+        ensures hands_full { IsRefusedInChapterAs HandsFull result ↔ ((me.old.tag ≡ self.now.tag) × AreAllOut me.old.hands) }
+        ensures unchanged { (me.old.tag ≢ self.now.tag) ⊎ AreAllOut me.old.hands → me.new ≡ me.old }
         ensures seat { IsSameSeat me.old me.new }
         ensures released { (me.old.out ≡ None) × (me.new.out ≡ None) }
-        ensures call { me.old.tag ≡ self.now.tag → LockedChapterCall (Worker me.old.worker) me.old.seen me.new.seen (InOneChapter (ReservesInChapter me.old.worker n result)) }
-        ensures tally { me.new.tally ≡ reserved_in_chapter_by me.old.tally result }
-        ensures serial { IfOk result (λ r. r.serial ≡ me.old.tally.made) }
+        ensures call { me.old.tag ≡ self.now.tag → ¬ AreAllOut me.old.hands → LockedChapterCall (Worker me.old.worker) me.old.seen me.new.seen (InRoomAt me.old.room me.new.cut (ReservesInChapter me.old.worker n (granted_in result))) }
+        ensures tally { me.new.tally ≡ reserved_in_chapter_by me.old.tally (granted_in result) }
+        ensures serial { IfOk result (λ r. r.granted.serial ≡ me.old.tally.made) }
+        ensures tag { IfOk result (λ r. r.tag ≡ me.old.tag) }
+        ensures hand { IfOk result (λ r. IsLowestFree me.old.hands r.hand) }
+        ensures hands { me.new.hands ≡ hands_after_reserve me.old.hands n result }
         ensures sent { me.new.sent ≡ me.old.sent }
         ensures handed_back { IfErr result (λ e. e.1 ≡ sheet) }
     {
         if me.tag != self.tag {
             return Err((ReserveFault::Foreign, sheet));
         }
-        let worker = me.worker;
-        let answer = reserve_with(rt, &self.lock, &mut me.pass, worker, n, sheet);
+        let Some(hand) = lowest_free(&me.hands) else {
+            return Err((ReserveFault::HandsFull, sheet));
+        };
+        let (tag, worker) = (me.tag, me.worker);
+        let answer = reserve_with(rt, &self.lock, &mut me.pass, tag, worker, hand, n, sheet);
         me.tally = after_reserve(me.tally, &answer);
+        if let Ok(reservation) = &answer {
+            me.hands[hand as usize] = Some(OutRecord {
+                pos: reservation.pos(),
+                serial: reservation.serial(),
+                len: n,
+            });
+        }
         answer
     }
 
-    /// Hands the reservation's bytes to the consumer. Where no busy record has its four numbers, and where it is another worker's or the
-    /// seat is foreign, it is stray and handed back. Of the flags only bits 0 and 1 are looked at.
+    /// Hands the reservation's bytes to the consumer, and frees the seat's hand. The reservation is handed back, and nothing changes, exactly where the
+    /// seat is foreign, the reservation's tag or worker is not the seat's, or the seat's hand of its number is not out with its position, serial
+    /// and length. Of the flags only bits 0 and 1 are looked at.
     pub fn submit<R: Wait>(
         &self,
         rt: &R,
         me: &mut Seat,
         reservation: Reservation,
         flags: u64,
-    ) -> Result<Notice, Stray>
+    ) -> Result<Notice, Reservation>
         requires ring { me.old.tag ≡ self.now.tag → me.old.ring ≡ self.now.ring }
-        ensures foreign { (me.old.tag ≢ self.now.tag) ⊎ (reservation.worker ≢ me.old.worker) → IsErr result × (me.new ≡ me.old) }
+        ensures exact { IsOk result ↔ IsInSeatsHand self.now me.old reservation }
+        ensures handed_back { IfErr result (λ back. (back ≡ reservation) × (me.new ≡ me.old)) }
         ensures seat { IsSameSeat me.old me.new }
         ensures released { (me.old.out ≡ None) × (me.new.out ≡ None) }
-        ensures call { me.old.tag ≡ self.now.tag → reservation.worker ≡ me.old.worker → LockedChapterCall (Worker me.old.worker) me.old.seen me.new.seen (InOneChapter (SubmitsInChapter reservation flags result)) }
-        ensures tally { me.new.tally ≡ submitted_by me.old.tally result }
-        ensures sent { me.new.sent ≡ sent_by_submit me.old.sent reservation result }
-        ensures handed_back { IfErr result (λ s. s.reservation ≡ reservation) }
+        ensures call { IfOk result (λ notice. LockedChapterCall (Worker me.old.worker) me.old.seen me.new.seen (InRoomAt me.old.room me.new.cut (SubmitsInChapter reservation.granted flags (Ok notice)))) }
+        ensures tally { IfOk result (λ notice. me.new.tally ≡ submitted_by me.old.tally (Ok notice)) }
+        ensures hands { OnOk result (me.new.hands ≡ slice_set me.old.hands reservation.hand None) }
+        ensures sent { OnOk result (me.new.sent ≡ insert me.old.sent reservation.granted.pos reservation.granted.bytes) }
     {
-        if me.tag != self.tag || reservation.worker() != me.worker {
-            return Err(Stray { reservation });
+        if me.tag != self.tag
+            || reservation.tag() != me.tag
+            || reservation.worker() != me.worker
+            || !is_out_with(&me.hands, &reservation)
+        {
+            return Err(reservation);
         }
-        let worker = me.worker;
-        let answer = submit_with(rt, &self.lock, &mut me.pass, worker, reservation, flags);
-        me.tally = after_submit(me.tally, &answer);
-        answer
+        let (worker, hand) = (me.worker, reservation.hand());
+        let notice = submit_with(rt, &self.lock, &mut me.pass, worker, reservation, flags);
+        me.tally = after_submit(me.tally);
+        me.hands[hand as usize] = None;
+        Ok(notice)
     }
 
-    /// Gives the reservation's record up, so that the consumer passes over it. It is stray as in `submit`.
+    /// Gives the reservation's record up, so that the consumer passes over it, and frees the seat's hand. It is handed back as in `submit`.
     pub fn discard<R: Wait>(
         &self,
         rt: &R,
         me: &mut Seat,
         reservation: Reservation,
         flags: u64,
-    ) -> Result<Notice, Stray>
+    ) -> Result<Notice, Reservation>
         requires ring { me.old.tag ≡ self.now.tag → me.old.ring ≡ self.now.ring }
-        ensures foreign { (me.old.tag ≢ self.now.tag) ⊎ (reservation.worker ≢ me.old.worker) → IsErr result × (me.new ≡ me.old) }
+        ensures exact { IsOk result ↔ IsInSeatsHand self.now me.old reservation }
+        ensures handed_back { IfErr result (λ back. (back ≡ reservation) × (me.new ≡ me.old)) }
         ensures seat { IsSameSeat me.old me.new }
         ensures released { (me.old.out ≡ None) × (me.new.out ≡ None) }
-        ensures call { me.old.tag ≡ self.now.tag → reservation.worker ≡ me.old.worker → LockedChapterCall (Worker me.old.worker) me.old.seen me.new.seen (InOneChapter (DiscardsInChapter reservation flags result)) }
-        ensures tally { me.new.tally ≡ discarded_by me.old.tally result }
+        ensures call { IfOk result (λ notice. LockedChapterCall (Worker me.old.worker) me.old.seen me.new.seen (InRoomAt me.old.room me.new.cut (DiscardsInChapter reservation.granted flags (Ok notice)))) }
+        ensures tally { IfOk result (λ notice. me.new.tally ≡ discarded_by me.old.tally (Ok notice)) }
+        ensures hands { OnOk result (me.new.hands ≡ slice_set me.old.hands reservation.hand None) }
         ensures sent { me.new.sent ≡ me.old.sent }
-        ensures handed_back { IfErr result (λ s. s.reservation ≡ reservation) }
     {
-        if me.tag != self.tag || reservation.worker() != me.worker {
-            return Err(Stray { reservation });
+        if me.tag != self.tag
+            || reservation.tag() != me.tag
+            || reservation.worker() != me.worker
+            || !is_out_with(&me.hands, &reservation)
+        {
+            return Err(reservation);
         }
-        let worker = me.worker;
-        let answer = discard_with(rt, &self.lock, &mut me.pass, worker, reservation, flags);
-        me.tally = after_discard(me.tally, &answer);
-        answer
+        let (worker, hand) = (me.worker, reservation.hand());
+        let notice = discard_with(rt, &self.lock, &mut me.pass, worker, reservation, flags);
+        me.tally = after_discard(me.tally);
+        me.hands[hand as usize] = None;
+        Ok(notice)
     }
 
     /// Grants the seat's worker a record and submits it at once, with the sheet's bytes. `Foreign` comes first, then `Flags` for flags
-    /// above 3, which logs nothing; else it refuses as `reserve` does. A refusal hands the sheet back.
+    /// above 3, which logs nothing; else it refuses as `reserve` does, but it needs no hand. A refusal hands the sheet back.
     pub fn output<R: Wait>(
         &self,
         rt: &R,
@@ -165,8 +199,9 @@ impl SharedRing {
         ensures unchanged { me.old.tag ≢ self.now.tag → me.new ≡ me.old }
         ensures seat { IsSameSeat me.old me.new }
         ensures released { (me.old.out ≡ None) × (me.new.out ≡ None) }
-        ensures call { me.old.tag ≡ self.now.tag → LockedChapterCall (Worker me.old.worker) me.old.seen me.new.seen (InOneChapter (λ old new. OutputsInChapter me.old.worker sheet flags result old new × (me.new.sent ≡ sent_by_chapter_output me.old.sent (producer_now old) sheet result))) }
+        ensures call { me.old.tag ≡ self.now.tag → LockedChapterCall (Worker me.old.worker) me.old.seen me.new.seen (InRoomAt me.old.room me.new.cut (λ old new. OutputsInChapter me.old.worker sheet flags result old new × (me.new.sent ≡ sent_by_chapter_output me.old.sent (producer_now old) sheet result))) }
         ensures tally { me.new.tally ≡ output_in_chapter_by me.old.tally result }
+        ensures hands { me.new.hands ≡ me.old.hands }
         ensures handed_back { IfErr result (λ e. e.1 ≡ sheet) }
     {
         if me.tag != self.tag {
@@ -186,8 +221,9 @@ impl SharedRing {
         ensures unchanged { me.old.tag ≢ self.now.tag → me.new ≡ me.old }
         ensures seat { IsSameSeat me.old me.new }
         ensures released { (me.old.out ≡ None) × (me.new.out ≡ None) }
-        ensures call { IfOk result (λ n. LockedChapterCall (Worker me.old.worker) me.old.seen me.new.seen (InOneChapter (QueriesInChapter what n))) }
+        ensures call { IfOk result (λ n. LockedChapterCall (Worker me.old.worker) me.old.seen me.new.seen (InRoomAt me.old.room me.new.cut (QueriesInChapter what n))) }
         ensures tally { me.new.tally ≡ me.old.tally }
+        ensures hands { me.new.hands ≡ me.old.hands }
         ensures sent { me.new.sent ≡ me.old.sent }
     {
         if me.tag != self.tag {

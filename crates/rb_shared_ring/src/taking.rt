@@ -9,7 +9,8 @@ ghost use Rattle.rb_ledger.specs.LockedCalls.{got_by, events_in, skips_in, span_
 ghost use Rattle.rb_ledger.specs.ManyTakes.{events_among, skips_among, span_among, AreTakenFrom, got_by_all};
 ghost use Rattle.rb_chapter_ledger.specs.LockedChapterCalls.{LockedChapterCall, InKnownChapter, TakesInChapter};
 ghost use Rattle.rb_shared_ring.specs.SharedSeats.{IsSameChapterConsumer};
-ghost use Rattle.rb_shared_ring.specs.inner.SeatPasses.{seen_by, bytes_by, room_by, handed_out_by, IsIdleIn};
+ghost use Rattle.rb_shared_ring.specs.inner.HandCalls.{LeavesHands};
+ghost use Rattle.rb_shared_ring.specs.inner.HandPasses.{seen_with, bytes_with, room_with, handed_out_with, IsIdleWith};
 
 use crate::consumer_seat::ConsumerSeat;
 use crate::lock::{Lock, RingPass, put_back, take_out};
@@ -22,20 +23,20 @@ use std::sync::Wait;
 // `RingState::take`, for the consumer.
 fn take_with<R: Wait>(rt: &R, lock: &Lock, pass: &mut RingPass) -> Taken
     requires pass { IsPassOf lock.now pass.old × (ruled_capacity lock.now ≡ 1) }
-    requires idle { IsIdleIn Consumer (view pass.old) }
+    requires idle { IsIdleWith Consumer (view pass.old) }
     ensures same { IsSamePass pass.old pass.new }
-    ensures idle { IsIdleIn Consumer (view pass.new) }
-    ensures call { LockedChapterCall Consumer (seen_by (view pass.old)) (seen_by (view pass.new)) (InKnownChapter (handed_out_by (view pass.old)) (TakesInChapter result)) }
-    ensures bytes { bytes_by (view pass.new) ≡ got_by (bytes_by (view pass.old)) result }
-    ensures room { room_by (view pass.new) ≡ room_by (view pass.old) }
-    ensures chapters { handed_out_by (view pass.new) ≡ handed_out_by (view pass.old) }
+    ensures idle { IsIdleWith Consumer (view pass.new) }
+    ensures call { LockedChapterCall Consumer (seen_with (view pass.old)) (seen_with (view pass.new)) (InKnownChapter (handed_out_with (view pass.old)) (TakesInChapter result)) }
+    ensures bytes { bytes_with (view pass.new) ≡ got_by (bytes_with (view pass.old)) result }
+    ensures room { room_with (view pass.new) ≡ room_with (view pass.old) }
+    ensures chapters { handed_out_with (view pass.new) ≡ handed_out_with (view pass.old) }
 {
     with_state(
         rt,
         lock,
         pass,
         |state|
-            ensures call { TakesInChapter result state.old state.new }
+            ensures call { LeavesHands (TakesInChapter result) state.old state.new }
         { state.take() },
     )
 }
@@ -49,14 +50,14 @@ fn take_many_with<R: Wait>(
     out: &mut Vec<Taken>,
 ) -> usize
     requires pass { IsPassOf lock.now pass.old × (ruled_capacity lock.now ≡ 1) }
-    requires idle { IsIdleIn Consumer (view pass.old) }
+    requires idle { IsIdleWith Consumer (view pass.old) }
     requires room { vec_len out.old + n ≤ vec_capacity out.old }
     ensures same { IsSamePass pass.old pass.new }
-    ensures idle { IsIdleIn Consumer (view pass.new) }
-    ensures call { LockedChapterCall Consumer (seen_by (view pass.old)) (seen_by (view pass.new)) (InKnownChapter (handed_out_by (view pass.old)) (TakesManyInChapter n (pushed out.old.items out.new.items))) }
-    ensures bytes { bytes_by (view pass.new) ≡ got_by_all (bytes_by (view pass.old)) (pushed out.old.items out.new.items) }
-    ensures room { room_by (view pass.new) ≡ room_by (view pass.old) }
-    ensures chapters { handed_out_by (view pass.new) ≡ handed_out_by (view pass.old) }
+    ensures idle { IsIdleWith Consumer (view pass.new) }
+    ensures call { LockedChapterCall Consumer (seen_with (view pass.old)) (seen_with (view pass.new)) (InKnownChapter (handed_out_with (view pass.old)) (TakesManyInChapter n (pushed out.old.items out.new.items))) }
+    ensures bytes { bytes_with (view pass.new) ≡ got_by_all (bytes_with (view pass.old)) (pushed out.old.items out.new.items) }
+    ensures room { room_with (view pass.new) ≡ room_with (view pass.old) }
+    ensures chapters { handed_out_with (view pass.new) ≡ handed_out_with (view pass.old) }
     ensures kept { out.new.items ≡ out.old.items ++ pushed out.old.items out.new.items }
     ensures count { result ≡ length (pushed out.old.items out.new.items) }
     ensures capacity { vec_capacity out.new ≡ vec_capacity out.old }

@@ -1,12 +1,12 @@
 //! What an answer adds to a seat's numbers.
 
-ghost use Rattle.std.specs.Prelude.{◌≡◌, ◌<◌, ◌≤◌, ◌^◌};
+ghost use Rattle.std.specs.Prelude.{◌≡◌, ◌<◌, ◌≤◌, ◌+◌, ◌^◌};
 ghost use Rattle.rb_chapter_ring.specs.declared.faults.ReserveFault.TheVariants.{Full as FaultFull};
-ghost use Rattle.rb_ledger.specs.LockedCalls.{submitted_by, discarded_by};
-ghost use Rattle.rb_shared_ring.specs.SharedCalls.{IsRefusedInChapterAs, refused_in_chapter_by, reserved_in_chapter_by, output_in_chapter_by};
+ghost use Rattle.rb_shared_ring.specs.SharedCalls.{IsRefusedInChapterAs, granted_in, refused_in_chapter_by, reserved_in_chapter_by, output_in_chapter_by};
 
 use rb_chapter_ring::ReserveFault;
-use rb_history::{Notice, Reservation, Stray, Tally};
+use rb_hand_ring::Reservation;
+use rb_history::{Notice, Tally};
 use rb_lend::Sheet;
 
 // After a refusal.
@@ -30,7 +30,7 @@ pub(crate) fn after_reserve(
 ) -> Tally
     requires made { tally.made ≤ 2 ^ 62 }
     requires refused { IsRefusedInChapterAs FaultFull answer.now → tally.refused < 2 ^ 62 }
-    ensures counted { result ≡ reserved_in_chapter_by tally answer.now }
+    ensures counted { result ≡ reserved_in_chapter_by tally (granted_in answer.now) }
 {
     match answer {
         Ok(_) => Tally {
@@ -58,30 +58,24 @@ pub(crate) fn after_output(tally: Tally, answer: &Result<Notice, (ReserveFault, 
     }
 }
 
-/// After a submit that was answered so.
-pub(crate) fn after_submit(tally: Tally, answer: &Result<Notice, Stray>) -> Tally
+/// After a submit that was taken.
+pub(crate) fn after_submit(tally: Tally) -> Tally
     requires submitted { tally.submitted ≤ 2 ^ 62 }
-    ensures counted { result ≡ submitted_by tally answer.now }
+    ensures counted { result ≡ record tally { submitted = tally.submitted + 1 } }
 {
-    match answer {
-        Ok(_) => Tally {
-            submitted: tally.submitted + 1,
-            ..tally
-        },
-        Err(_) => tally,
+    Tally {
+        submitted: tally.submitted + 1,
+        ..tally
     }
 }
 
-/// After a discard that was answered so.
-pub(crate) fn after_discard(tally: Tally, answer: &Result<Notice, Stray>) -> Tally
+/// After a discard that was taken.
+pub(crate) fn after_discard(tally: Tally) -> Tally
     requires discarded { tally.discarded ≤ 2 ^ 62 }
-    ensures counted { result ≡ discarded_by tally answer.now }
+    ensures counted { result ≡ record tally { discarded = tally.discarded + 1 } }
 {
-    match answer {
-        Ok(_) => Tally {
-            discarded: tally.discarded + 1,
-            ..tally
-        },
-        Err(_) => tally,
+    Tally {
+        discarded: tally.discarded + 1,
+        ..tally
     }
 }

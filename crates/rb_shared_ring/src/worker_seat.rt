@@ -1,26 +1,33 @@
 //! A worker's seat at a shared ring over chapters.
 
-ghost use Rattle.std.specs.Prelude.{◌≡◌, ◌<◌, [], ◌∷◌, None};
+ghost use Rattle.std.specs.Prelude.{◌≡◌, ◌<◌, [], ◌∷◌, None, length};
 ghost use Rattle.std.specs.FinMap.{empty};
 ghost use Rattle.crossbeam_queue.specs.Passes.{view, IsPassOf, IsSamePass};
 ghost use Rattle.rb_ledger.specs.Roles.Role.{Worker};
 ghost use Rattle.rb_ledger.specs.Seats.{IsBook, Ties, SettlesWithin, fresh_seat};
-ghost use Rattle.rb_chapter_ledger.specs.ChapterKnowledge.{chapter_view};
-ghost use Rattle.rb_chapter_ledger.specs.ChapterLockSteps.{first_chapter_role, other_chapter_roles, opening_role};
-ghost use Rattle.rb_shared_ring.specs.inner.SeatPasses.{seen_by, bytes_by, room_by, known_in};
+ghost use Rattle.rb_chapter_ledger.specs.ChapterLockSteps.{opening_role};
+ghost use Rattle.rb_hands.specs.Hands.{in_hand};
+ghost use Rattle.rb_hand_ledger.specs.HandKnowledge.{hand_view};
+ghost use Rattle.rb_hand_ledger.specs.HandLockSteps.{first_hand_role, other_hand_roles, opening_hands};
+ghost use Rattle.rb_hand_ledger.specs.NoStranger.{HoldsOwnBusy};
+ghost use Rattle.rb_shared_ring.specs.SharedCalls.{position_of};
+ghost use Rattle.rb_shared_ring.specs.inner.HandPasses.{seen_with, bytes_with, room_with, known_with};
 
 use crate::lock::{Lock, RingPass, SplitFirstRole};
+use rb_hands::OutRecord;
 use rb_history::Tally;
 use std::marker::Model;
 
 /// A worker's seat at a shared ring: the right to make calls for this worker, and the worker's numbers. It can't be cloned, so a worker
-/// has one; it may be sent to another thread. Contracts also see the whole history up to the seat's last call, whatever chapters were handed
-/// out, and the bytes that it sent, by position.
+/// has one; it may be sent to another thread. It has four hands, in which the records are that it was granted and has not given back. Contracts also
+/// see the whole history up to the seat's last call, how many of its entries had been handed out in chapters, how many entries each chapter has
+/// room for, and the bytes that the seat sent, by position.
 #[derive(Drop)]
 pub struct Seat {
     pub(crate) tag: u64,
     pub(crate) worker: u32,
     pub(crate) tally: Tally,
+    pub(crate) hands: [Option<OutRecord>; 4],
     pub(crate) pass: RingPass,
 }
 
@@ -34,33 +41,41 @@ impl Model for Seat {
     ghost use Rattle.rb_history.specs.contracts.tally.Tally as tally_row;
     ghost use Rattle.rb_ledger.specs.Seats.{WorkerSeat};
     ghost use Rattle.rb_chapter_ledger.specs.ChapterKnowledge.{whole_out};
-    ghost use Rattle.rb_shared_ring.specs.inner.SeatPasses.{seen_by, bytes_by};
+    ghost use Rattle.rb_hands.specs.contracts.out_record.OutRecord as out_row;
+    ghost use Rattle.rb_hand_ledger.specs.HandKnowledge.{chapters_out};
+    ghost use Rattle.rb_shared_ring.specs.inner.HandPasses.{seen_with, bytes_with, room_with, cut_by, KeepsHands};
     ghost use Rattle.rb_shared_ring.specs.inner.SeatsKeep.{KeepsWorker};
 
     ghost Value = { WorkerSeat };
 
-    ghost coded = { Prim.hlevel (codes, contents_code, table_id_coded, entry.the_row.coded, tally_row.the_row.coded) };
+    ghost coded = { Prim.hlevel (codes, contents_code, table_id_coded, entry.the_row.coded, tally_row.the_row.coded, out_row.the_row.coded) };
 
     ghost view = { λ s. record {
       tag = s.tag;
       ring = s.pass.table_id;
+      room = room_with (known_by s.pass);
       worker = s.worker;
       tally = s.tally;
-      seen = seen_by (known_by s.pass);
-      sent = bytes_by (known_by s.pass);
-      out = whole_out (known_by s.pass).out;
+      hands = s.hands;
+      seen = seen_with (known_by s.pass);
+      cut = cut_by (known_by s.pass);
+      sent = bytes_with (known_by s.pass);
+      out = whole_out (chapters_out (known_by s.pass).out);
     } };
 
-    ghost invariant = { λ s. (s.pass.me.1 ≡ []) × KeepsWorker (known_by s.pass) s.worker s.tally };
+    ghost invariant = { λ s. (s.pass.me.1 ≡ []) × KeepsWorker (known_by s.pass) s.worker s.tally × KeepsHands (known_by s.pass) s.worker s.hands };
 }
 
 impl Seat {
     /// What holds of each seat: what it has seen is legal, its numbers are those of its worker's entries there, it submitted and
-    /// discarded no more records than it was granted, and it does not have the ring's state out of the lock.
+    /// discarded no more records than it was granted, what is in its four hands are exactly its worker's busy records there, each once, and it does
+    /// not have the ring's state out of the lock.
     pub fn facts(&self)
         ensures book { IsBook self.now.seen }
         ensures ties { Ties self.now.worker self.now.tally self.now.seen }
         ensures within { SettlesWithin self.now }
+        ensures four { length self.now.hands ≡ 4 }
+        ensures hands { HoldsOwnBusy self.now.hands self.now.worker self.now.seen.history }
         ensures released { self.now.out ≡ None }
     {
         let _ = &self.tag;
@@ -108,11 +123,22 @@ impl Seat {
         self.tally.discarded
     }
 
+    /// The position of the record that is out in one of the seat's hands, if one is.
+    pub fn hand(&self, h: u32) -> Option<u64>
+        requires hand { h < 4 }
+        ensures position { result ≡ position_of (in_hand self.now.hands h) }
+    {
+        match self.hands[h as usize] {
+            None => None,
+            Some(out) => Some(out.pos),
+        }
+    }
+
     // The seat's pass, which is its role and what it has seen and sent.
     pub(crate) fn into_pass(self) -> RingPass
         ensures ring { (result.table_id ≡ self.ring) × (result.me.1 ≡ []) }
-        ensures knows { view result ≡ chapter_view (known_in (Worker self.worker) (view result) ∷ []) None }
-        ensures seen { (seen_by (view result) ≡ self.seen) × (bytes_by (view result) ≡ self.sent) }
+        ensures knows { view result ≡ hand_view (known_with (Worker self.worker) (view result) ∷ []) None }
+        ensures seen { (seen_with (view result) ≡ self.seen) × (bytes_with (view result) ≡ self.sent) }
         ensures ties { Ties self.worker self.tally self.seen }
     {
         self.pass
@@ -122,17 +148,18 @@ impl Seat {
 /// Splits the pass's first role off, as the seat of a worker that has sent nothing.
 pub(crate) fn new_seat(lock: &Lock, pass: &mut RingPass, tag: u64, worker: u32) -> Seat
     requires pass { IsPassOf lock.now pass.old }
-    requires role { first_chapter_role (view pass.old).knows ≡ opening_role (Worker worker) (seen_by (view pass.old)) (room_by (view pass.old)) ∷ [] }
-    requires nothing { (seen_by (view pass.old)).history ≡ [] }
-    requires book { IsBook (seen_by (view pass.old)) × (worker < (seen_by (view pass.old)).setup.workers) }
+    requires role { first_hand_role (view pass.old).knows ≡ opening_hands (opening_role (Worker worker) (seen_with (view pass.old)) (room_with (view pass.old))) ∷ [] }
+    requires nothing { (seen_with (view pass.old)).history ≡ [] }
+    requires book { IsBook (seen_with (view pass.old)) × (worker < (seen_with (view pass.old)).setup.workers) }
     ensures same { IsSamePass pass.old pass.new }
-    ensures rest { view pass.new ≡ chapter_view (other_chapter_roles (view pass.old).knows) (view pass.old).out }
-    ensures seat { result ≡ fresh_seat tag pass.old.table_id worker (seen_by (view pass.old)) }
+    ensures rest { view pass.new ≡ hand_view (other_hand_roles (view pass.old).knows) (view pass.old).out }
+    ensures seat { result ≡ fresh_seat tag pass.old.table_id (room_with (view pass.old)) worker (seen_with (view pass.old)) }
 {
     Seat {
         tag,
         worker,
         tally: Tally::none(),
+        hands: [None; 4],
         pass: lock.another::<SplitFirstRole>(pass),
     }
 }

@@ -6,10 +6,9 @@ ghost use Rattle.rb_ledger.specs.Seats.{IsSameSeat};
 use crate::bytes::write;
 use crate::draw::Draw;
 use crate::plan::Plan;
-use rb_history::Reservation;
 use rb_lend::Lent;
 use rb_ring_threads::{Producer, output, sheet};
-use rb_shared_ring::{Seat, SharedRing, WaitBackoff};
+use rb_shared_ring::{Reservation, Seat, SharedRing, WaitBackoff};
 use std::alloc::Global;
 use std::sync::Wait;
 

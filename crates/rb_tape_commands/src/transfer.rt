@@ -33,7 +33,9 @@ pub(crate) fn transfer_payload(
         Err((ReserveFault::Full | ReserveFault::ChapterFull, _)) => {
             return Err(FeedFault::Fit(number));
         }
-        Err((ReserveFault::Flags | ReserveFault::Foreign, _)) => unreachable!(),
+        Err((ReserveFault::Flags | ReserveFault::Foreign | ReserveFault::HandsFull, _)) => {
+            unreachable!()
+        }
     }
     match ring.take() {
         Taken::Event(position, _, _, payload) => Ok((position, payload)),

@@ -17,32 +17,32 @@ use Rattle.rb_workers.proofs.Numbered.{seats_length}
 use Rattle.rb_workers.proofs.Parts.{all_first}
 
 -- one worker more at the end
-last_worker : (tag : ℕ) (ring : TableId) (seen : Book) (first n : ℕ) → map (λ (s : WorkerSeat). s.worker) (fresh_seats tag ring seen first (suc n)) ≡ map (λ (s : WorkerSeat). s.worker) (fresh_seats tag ring seen first n) ++ (first + n) ∷ []
-last_worker tag ring seen first zero = let e : first ≡ first + 0 = omega arith in ap (λ k. k ∷ []) e
-last_worker tag ring seen first (suc n) =
-    let rest = last_worker tag ring seen (first + 1) n in
+last_worker : (tag : ℕ) (ring : TableId) (room : ℕ) (seen : Book) (first n : ℕ) → map (λ (s : WorkerSeat). s.worker) (fresh_seats tag ring room seen first (suc n)) ≡ map (λ (s : WorkerSeat). s.worker) (fresh_seats tag ring room seen first n) ++ (first + n) ∷ []
+last_worker tag ring room seen first zero = let e : first ≡ first + 0 = omega arith in ap (λ k. k ∷ []) e
+last_worker tag ring room seen first (suc n) =
+    let rest = last_worker tag ring room seen (first + 1) n in
     let e : first + 1 + n ≡ first + suc n = omega arith in
-    ap (λ l. first ∷ l) (rest ∙ ap (λ k. map (λ (s : WorkerSeat). s.worker) (fresh_seats tag ring seen (first + 1) n) ++ k ∷ []) e)
+    ap (λ l. first ∷ l) (rest ∙ ap (λ k. map (λ (s : WorkerSeat). s.worker) (fresh_seats tag ring room seen (first + 1) n) ++ k ∷ []) e)
 
-fresh_numbers : (tag : ℕ) (ring : TableId) (seen : Book) (n : ℕ) → map (λ (s : WorkerSeat). s.worker) (fresh_seats tag ring seen 0 n) ≡ numbers_below n
-fresh_numbers tag ring seen zero = refl
-fresh_numbers tag ring seen (suc n) = last_worker tag ring seen 0 n ∙ (λ i. fresh_numbers tag ring seen n i ++ zero_plus n i ∷ [])
+fresh_numbers : (tag : ℕ) (ring : TableId) (room : ℕ) (seen : Book) (n : ℕ) → map (λ (s : WorkerSeat). s.worker) (fresh_seats tag ring room seen 0 n) ≡ numbers_below n
+fresh_numbers tag ring room seen zero = refl
+fresh_numbers tag ring room seen (suc n) = last_worker tag ring room seen 0 n ∙ (λ i. fresh_numbers tag ring room seen n i ++ zero_plus n i ∷ [])
   where
     zero_plus : (n : ℕ) → 0 + n ≡ n
     zero_plus n = omega arith
 
-fresh_at : (shared : Shared) (seen : Book) (first n : ℕ) → All (IsAt shared) (fresh_seats shared.tag shared.ring seen first n)
-fresh_at shared seen first zero = λ k d below. absurd (omega arith)
-fresh_at shared seen first (suc n) = All-cons (IsAt shared) (fresh_seat shared.tag shared.ring first seen) (fresh_seats shared.tag shared.ring seen (first + 1) n) (refl, refl) (fresh_at shared seen (first + 1) n)
+fresh_at : (shared : Shared) (room : ℕ) (seen : Book) (first n : ℕ) → All (IsAt shared) (fresh_seats shared.tag shared.ring room seen first n)
+fresh_at shared room seen first zero = λ k d below. absurd (omega arith)
+fresh_at shared room seen first (suc n) = All-cons (IsAt shared) (fresh_seat shared.tag shared.ring room first seen) (fresh_seats shared.tag shared.ring room seen (first + 1) n) (refl, refl) (fresh_at shared room seen (first + 1) n)
 
-pub fresh_opened : {S : Type 0} (position : S → ℕ) (tag size start workers room margin : ℕ) (o : Opened S) → o.ring.tag ≡ tag → o.seats.items ≡ fresh_seats tag o.ring.ring (fresh_book size start workers) 0 workers
+pub fresh_opened : {S : Type 0} (position : S → ℕ) (tag size start workers room margin : ℕ) (o : Opened S) → o.ring.tag ≡ tag → o.seats.items ≡ fresh_seats tag o.ring.ring room (fresh_book size start workers) 0 workers
     → o.consumer ≡ fresh_chapter_consumer tag o.ring.ring room (fresh_book size start workers) → o.keeper ≡ record { chapter = empty_chapter room workers; margin = margin; is_lent = false }
     → position o.sink ≡ start → IsOpened position workers o
 fresh_opened position tag size start workers room margin o tagged seats consumer keeper begins =
     let book = fresh_book size start workers in
     record {
-      numbered = ap (map (λ (s : WorkerSeat). s.worker)) seats ∙ fresh_numbers tag o.ring.ring book workers;
-      seats_at = subst (All (IsAt o.ring)) (sym seats) (subst (λ t. All (IsAt o.ring) (fresh_seats t o.ring.ring book 0 workers)) tagged (fresh_at o.ring book 0 workers));
+      numbered = ap (map (λ (s : WorkerSeat). s.worker)) seats ∙ fresh_numbers tag o.ring.ring room book workers;
+      seats_at = subst (All (IsAt o.ring)) (sym seats) (subst (λ t. All (IsAt o.ring) (fresh_seats t o.ring.ring room book 0 workers)) tagged (fresh_at o.ring room book 0 workers));
       as_many = ap (λ (c : ChapterConsumerSeat). c.seen.setup.workers) consumer;
       consumer_tag = ap (λ (c : ChapterConsumerSeat). c.tag) consumer ∙ sym tagged;
       consumer_at = ap (λ (c : ChapterConsumerSeat). c.ring) consumer;
@@ -68,6 +68,6 @@ room_within room not_out = (at_most 8 room (λ low. not_out (λ is. low is.0)), 
     at_most a b never = ⊎_elim (λ is. is.1) (λ above. absurd (never (λ le. omega (arith, above.1, le)))) (leb_tells a b)
 
 -- seats that have made nothing
-pub fresh_settled : (tag : ℕ) (ring : TableId) (seen : Book) (first n : ℕ) → All HasSettledAll (fresh_seats tag ring seen first n)
-fresh_settled tag ring seen first zero = λ k d below. absurd (omega arith)
-fresh_settled tag ring seen first (suc n) = All-cons HasSettledAll (fresh_seat tag ring first seen) (fresh_seats tag ring seen (first + 1) n) refl (fresh_settled tag ring seen (first + 1) n)
+pub fresh_settled : (tag : ℕ) (ring : TableId) (room : ℕ) (seen : Book) (first n : ℕ) → All HasSettledAll (fresh_seats tag ring room seen first n)
+fresh_settled tag ring room seen first zero = λ k d below. absurd (omega arith)
+fresh_settled tag ring room seen first (suc n) = All-cons HasSettledAll (fresh_seat tag ring room first seen) (fresh_seats tag ring room seen (first + 1) n) refl (fresh_settled tag ring room seen (first + 1) n)

@@ -52,7 +52,7 @@ impl<S: Sink + Drop> Opened<S> {
         requires begins { S.position_of sink ≡ start }
         ensures opened { IfOk result (IsOpened S.position_of workers) }
         ensures tag { IfOk result (λ o. o.ring.tag ≡ tag) }
-        ensures seats { IfOk result (λ o. o.seats.items ≡ fresh_seats tag o.ring.ring (fresh_book size start workers) 0 workers) }
+        ensures seats { IfOk result (λ o. o.seats.items ≡ fresh_seats tag o.ring.ring room (fresh_book size start workers) 0 workers) }
         ensures consumer { IfOk result (λ o. o.consumer ≡ fresh_chapter_consumer tag o.ring.ring room (fresh_book size start workers)) }
         ensures keeper { IfOk result (λ o. o.keeper ≡ record { chapter = empty_chapter room workers; margin = margin; is_lent = false }) }
         ensures sink { IfOk result (λ o. o.sink ≡ sink) }

@@ -18,7 +18,7 @@ use Rattle.rb_chapter.proofs.Keeping.{calls-keep}
 use Rattle.rb_chapter.proofs.Stands.{goes-on}
 use Rattle.rb_chapter_ring.specs.RingFaults.{RefusesInChapter}
 use Rattle.rb_chapter_ring.specs.declared.faults.ReserveFault.{ReserveFault}
-use Rattle.rb_chapter_ring.specs.declared.faults.ReserveFault.TheVariants.{Full, Flags, ChapterFull, Foreign}
+use Rattle.rb_chapter_ring.specs.declared.faults.ReserveFault.TheVariants.{Full, Flags, ChapterFull, Foreign, HandsFull}
 use Rattle.rb_semantics.specs.HelperCalls.{Taken as TakenAnswer}
 use Rattle.rb_interleavings.specs.Worlds.{WorldRing}
 use Rattle.rb_interleavings.specs.CallsInWorld.{RingSteps, BadFlags, Unlogged, NoRoom, Made}
@@ -71,6 +71,7 @@ module _ (old new : ChapterRing) (w : ℕ) where
   reserve-refused len flags Flags there none stands h = reserve-unlogged len flags none h
   reserve-refused len flags ChapterFull there none stands h = reserve-unlogged len flags none h.same
   reserve-refused len flags Foreign there none stands h = absurd h
+  reserve-refused len flags HandsFull there none stands h = absurd h
 
   pub output-bad : (bytes : List ℕ) (flags : ℕ) → 3 < flags → new ≡ old → IsWholeAnswer (λ v v'. IsOutput v v' w bytes flags (negsuc 21)) old new
   output-bad bytes flags bad same = λ earlier kept. (subst (λ (v : ChapterRing). IsKept earlier v.chapter) (sym same) kept, (BadFlags, refl, (bad, ap (λ v. untaken_ring (whole_ring earlier v)) same)))
@@ -95,6 +96,7 @@ module _ (old new : ChapterRing) (w : ℕ) where
   output-refused n bytes flags Flags there few long stands h = output-unlogged bytes flags few h
   output-refused n bytes flags ChapterFull there few long stands h = output-unlogged bytes flags few h.same
   output-refused n bytes flags Foreign there few long stands h = absurd h
+  output-refused n bytes flags HandsFull there few long stands h = absurd h
 
 -- ---- records that are given back, and takes
 

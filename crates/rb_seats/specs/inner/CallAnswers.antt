@@ -2,8 +2,8 @@
 use Rattle.std.specs.Prelude.{◌≡◌, ℕ, ◌+◌, ◌-◌, cond, ℤ, pos, neg_ℤ, Bool, true, false, List, [], ◌∷◌, ◌++◌, length, Result, Ok, Err}
 use Rattle.rb_history.specs.declared.answers.Notice.{Notice}
 use Rattle.rb_history.specs.declared.answers.Notice.TheVariants.{Due, NotDue}
-use Rattle.rb_history.specs.ReservationModel.{Granted}
-use Rattle.rb_chapter_ring.specs.declared.faults.ReserveFault.TheVariants.{Full, Flags, ChapterFull, Foreign}
+use Rattle.rb_hand_ring.specs.HandGranted.{HandGranted}
+use Rattle.rb_chapter_ring.specs.declared.faults.ReserveFault.TheVariants.{Full, Flags, ChapterFull, Foreign, HandsFull}
 use Rattle.rb_ledger.specs.Seats.{WorkerSeat}
 use Rattle.rb_helpers.specs.ErrorNumbers.{EAGAIN, EINVAL}
 use Rattle.rb_helpers.specs.declared.done.Done.{Done}
@@ -20,8 +20,9 @@ SeatFails n (Refused Full) b a = SeatFindsFull n b a
 SeatFails n (Refused ChapterFull) b a = SeatFindsChapterFull n b a
 SeatFails n (Refused Flags) b a = ⊥
 SeatFails n (Refused Foreign) b a = ⊥
+SeatFails n (Refused HandsFull) b a = a ≡ b
 
-abbrev pub SeatReserves : ℕ → Result Granted NoRecord → WorkerSeat → WorkerSeat → Type 0
+abbrev pub SeatReserves : ℕ → Result HandGranted NoRecord → WorkerSeat → WorkerSeat → Type 0
 SeatReserves n (Ok r) b a = SeatIsGranted n r b a
 SeatReserves n (Err fault) b a = SeatFails n fault b a
 
@@ -47,6 +48,7 @@ unlogged_in (Err (Refused Full)) = false
 unlogged_in (Err (Refused ChapterFull)) = true
 unlogged_in (Err (Refused Flags)) = false
 unlogged_in (Err (Refused Foreign)) = false
+unlogged_in (Err (Refused HandsFull)) = true
 
 -- the answer of an output
 abbrev pub output_number : Result Notice NoRecord → ℤ

@@ -1,8 +1,8 @@
 -- A record is kept whatever is written to it.
-use Rattle.std.proofs.Common.{◌≡◌, ℕ, List, length, sym, subst, length-append, arith}
+use Rattle.std.proofs.Common.{◌≡◌, ℕ, List, Some, length, sym, subst, length-append, arith}
 use Rattle.std.proofs.lemmas.List.{length-take, length-drop}
 use Rattle.rb_lend.specs.Ranges.{in_place_of}
-use Rattle.rb_history.specs.Calls.{IsBusy}
+use Rattle.rb_hands.specs.Hands.{out_record, in_hand}
 use Rattle.rb_seats.specs.declared.seat_record.SeatRecord.{SeatRecord}
 use Rattle.rb_seats.specs.SeatRecords.{with_record_bytes}
 use Rattle.rb_seats.specs.SeatHelpers.{AtSeats}
@@ -15,8 +15,9 @@ pub kept_written : (h : AtSeats) (r : SeatRecord) (w : List ℕ) → IsKept h r 
 kept_written h r w kept = record {
   seat = kept.seat;
   seat_is = kept.seat_is;
-  holds = record {
-    worker_is = kept.holds.worker_is;
-    busy = subst (λ n. IsBusy kept.seat.seen.history r.reservation.pos r.reservation.worker r.reservation.serial n) (sym (same_length r.reservation.bytes w)) kept.holds.busy;
+  out = record {
+    tag_is = kept.out.tag_is;
+    worker_is = kept.out.worker_is;
+    out = subst (λ n. in_hand kept.seat.hands r.reservation.hand ≡ Some (out_record r.reservation.granted.pos r.reservation.granted.serial n)) (sym (same_length r.reservation.granted.bytes w)) kept.out.out;
   };
 }

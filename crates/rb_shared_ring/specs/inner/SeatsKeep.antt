@@ -1,27 +1,27 @@
--- What the seats of a shared ring over chapters keep between calls.
+-- What the seats of a shared ring keep between calls.
 use Rattle.std.specs.Prelude.{◌≡◌, ℕ, ◌+◌, ◌*◌, ◌≤◌, length}
 use Rattle.rb_history.specs.declared.tally.Tally.{Tally}
 use Rattle.rb_ledger.specs.Roles.Role.{Consumer, Worker}
 use Rattle.rb_ledger.specs.Seats.{IsBook, Ties, ConsumerTies}
-use Rattle.rb_chapter_ledger.specs.ChapterKnowledge.{ChapterPassView}
-use Rattle.rb_shared_ring.specs.inner.SeatPasses.{seen_by, room_by, handed_out_by, IsIdleIn}
+use Rattle.rb_hand_ledger.specs.HandKnowledge.{HandPassView}
+use Rattle.rb_shared_ring.specs.inner.HandPasses.{seen_with, room_with, handed_out_with, IsIdleWith}
 
 -- a worker's seat: its pass has this role alone, and its numbers are those of its worker's entries in the whole history as it saw it
-pub record KeepsWorker (v : ChapterPassView) (worker : ℕ) (tally : Tally) : Type 0 where
-  pub idle : IsIdleIn (Worker worker) v
-  pub book : IsBook (seen_by v)
-  pub ties : Ties worker tally (seen_by v)
+pub record KeepsWorker (v : HandPassView) (worker : ℕ) (tally : Tally) : Type 0 where
+  pub idle : IsIdleWith (Worker worker) v
+  pub book : IsBook (seen_with v)
+  pub ties : Ties worker tally (seen_with v)
 
 -- the consumer's numbers: those of the takes that it saw, each of which moved its position by a header at least
-pub record CountsTakes (v : ChapterPassView) (consumed skipped position : ℕ) : Type 0 where
-  pub ties : ConsumerTies consumed skipped position (seen_by v)
+pub record CountsTakes (v : HandPassView) (consumed skipped position : ℕ) : Type 0 where
+  pub ties : ConsumerTies consumed skipped position (seen_with v)
   pub spaced : 8 * (consumed + skipped) ≤ position
 
 -- the consumer's seat: its pass has its role alone; and its setup and its chapters, as its pass knows them
-pub record KeepsConsumer (v : ChapterPassView) (size workers room chapters : ℕ) : Type 0 where
-  pub idle : IsIdleIn Consumer v
-  pub book : IsBook (seen_by v)
-  pub size_is : size ≡ (seen_by v).setup.size
-  pub workers_are : workers ≡ (seen_by v).setup.workers
-  pub room_is : room ≡ room_by v
-  pub chapters_are : chapters ≡ length (handed_out_by v)
+pub record KeepsConsumer (v : HandPassView) (size workers room chapters : ℕ) : Type 0 where
+  pub idle : IsIdleWith Consumer v
+  pub book : IsBook (seen_with v)
+  pub size_is : size ≡ (seen_with v).setup.size
+  pub workers_are : workers ≡ (seen_with v).setup.workers
+  pub room_is : room ≡ room_with v
+  pub chapters_are : chapters ≡ length (handed_out_with v)

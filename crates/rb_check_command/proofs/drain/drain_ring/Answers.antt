@@ -1,5 +1,6 @@
 use Rattle.std.proofs.Common.{◌∙◌, refl, sym, subst}
 use Rattle.std.specs.Prelude.{IsNone}
+use Rattle.rb_chapter_ledger.proofs.WholeCalls.{in-one-chapter}
 use Rattle.rb_check_command.specs.DrainedRings.{TakesEach}
 use Rattle.rb_check_command.proofs.Draining.{each_then_none, each_then_one, told_end}
 use Rattle.rb_check_command.proofs.drain.drain_ring.Goals as goal
@@ -10,7 +11,7 @@ returns-then-position-end g c = record {
     seen = c.audit.new.me.seen;
     after = c.loop.consumer;
     each = c.loop.invariant.each;
-    none_left = told_end _ _ _ c.in-Ok.audit _ (sym c.position.ensures.position ∙ c.if-position-end.true) c.in-Ok.ensures.call;
+    none_left = told_end _ _ _ c.in-Ok.audit _ (sym c.position.ensures.position ∙ c.if-position-end.true) (in-one-chapter _ _ _ _ _ _ c.in-Ok.ensures.call);
   };
 }
 

@@ -1,13 +1,13 @@
 use Rattle.std.proofs.Common.{◌∙◌, ap}
 use Rattle.rb_ledger.specs.SeatRoles.{HasOwnCounts}
 use Rattle.rb_ledger.proofs.Gathers.{rest-rings, all-each}
-use Rattle.rb_chapter_ledger.specs.ChapterKnowledge.{ChapterPassView}
-use Rattle.rb_chapter_ledger.proofs.ChapterLock.{merges}
+use Rattle.rb_hand_ledger.specs.HandKnowledge.{HandPassView}
+use Rattle.rb_hand_ledger.proofs.HandLock.{merges}
 use Rattle.rb_shared_ring.proofs.GatheredSeats.{gather-more}
 use Rattle.rb_shared_ring.proofs.closing.gather.Goals as goal
 
 pub absorb-requires-clause-rule : goal.absorb-requires-clause-rule
-absorb-requires-clause-rule c = merges _ _ _ _ (ap (λ (v : ChapterPassView). v.out) c.into_pass-own.ensures.knows)
+absorb-requires-clause-rule c = merges _ _ _ _ (ap (λ (v : HandPassView). v.out) c.into_pass-own.ensures.knows)
 
 pub loop-seat-preserved : goal.loop-seat-preserved
 loop-seat-preserved c =
@@ -17,6 +17,7 @@ loop-seat-preserved c =
     let cut = c.in-Some.ensures.items in (
       (s.0 ∙ i.0.0, s.1 ∙ i.0.1, s.2 ∙ i.0.2),
       gather-more _ _ _ _ _ _ _ _ cut own.knows own.seen.0 own.seen.1 c.absorb.ensures.rule i.1,
-      rest-rings _ _ _ _ cut i.2,
-      (λ all. i.3 (all-each HasOwnCounts _ _ _ cut own.ties all)),
+      ap (λ (v : HandPassView). v.out) c.absorb.ensures.rule ∙ i.2,
+      rest-rings _ _ _ _ cut i.3,
+      (λ all. i.4 (all-each HasOwnCounts _ _ _ cut own.ties all)),
     )

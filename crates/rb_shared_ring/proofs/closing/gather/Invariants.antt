@@ -9,6 +9,7 @@ abbrev pub invariant-loop-seat : goal.invariant-loop-seat
 invariant-loop-seat l =
     IsSamePass l.initial.pass l.pass
     × HasGathered l.seats.items (view l.pass) (view l.initial.pass) (roles_of l.initial.seats.items)
+    × ((view l.pass).out ≡ (view l.initial.pass).out)
     × All (λ s. s.ring ≡ l.initial.pass.table_id) l.seats.items
     × (All HasOwnCounts l.seats.items → All HasOwnCounts l.initial.seats.items)
 

@@ -1,14 +1,14 @@
 use Rattle.std.proofs.Common.{ap, sym, subst, ◌∙◌}
-use Rattle.rb_chapter_ledger.specs.ChapterKnowledge.{ChapterPassView}
-use Rattle.rb_chapter_ledger.specs.ChapterLockSteps.{TakesChapterState}
 use Rattle.crossbeam_queue.specs.Passes.{view}
-use Rattle.rb_chapter_ledger.proofs.ChapterLock.{takes}
+use Rattle.rb_hand_ledger.specs.HandKnowledge.{HandPassView}
+use Rattle.rb_hand_ledger.specs.HandLockSteps.{TakesHandState}
+use Rattle.rb_hand_ledger.proofs.HandLock.{takes}
 use Rattle.rb_shared_ring.proofs.lock.take_out.Goals as goal
 
 pub pop_as-requires-clause-rule : goal.pop_as-requires-clause-rule
-pop_as-requires-clause-rule g c = (takes _ _ (ap (λ (v : ChapterPassView). v.out) c.loop.invariant.1 ∙ c.requires.free), λ _ _ _ _. tt)
+pop_as-requires-clause-rule g c = (takes _ _ (ap (λ (v : HandPassView). v.out) c.loop.invariant.1 ∙ c.requires.free), λ _ _ _ _. tt)
 
 pub returns-in-Some-pop_as-clause-took : goal.returns-in-Some-pop_as-clause-took
 returns-in-Some-pop_as-clause-took g c =
-    let took = subst (λ (v : ChapterPassView). TakesChapterState v c.in-Some-pop_as.state (view c.pop_as.new.pass)) c.loop.invariant.1 c.in-Some-pop_as.ensures.rule in
-    subst (λ r. TakesChapterState (view c.args.pass.now) r (view c.pop_as.new.pass)) (sym c.state.view_is) took
+    let took = subst (λ (v : HandPassView). TakesHandState v c.in-Some-pop_as.state (view c.pop_as.new.pass)) c.loop.invariant.1 c.in-Some-pop_as.ensures.rule in
+    subst (λ r. TakesHandState (view c.args.pass.now) r (view c.pop_as.new.pass)) (sym c.state.view_is) took

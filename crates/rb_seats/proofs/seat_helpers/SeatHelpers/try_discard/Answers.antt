@@ -1,6 +1,6 @@
-use Rattle.std.proofs.Common.{ap, arith, inr}
+use Rattle.std.proofs.Common.{ap, arith}
 use Rattle.rb_seats.specs.SeatHelpers.{AtSeats}
-use Rattle.rb_seats.proofs.OneSeat.{is_seat, seat_there, stays_at, at_seat, at_no_ring, at_own_ring, discarded_at}
+use Rattle.rb_seats.proofs.OneSeat.{is_seat, seat_there, stays_at, at_seat, at_no_ring, at_own_ring, discarded_at, unchanged, tallied}
 use Rattle.rb_seats.proofs.seat_helpers.SeatHelpers.try_discard.Goals as goal
 
 pub returns-then-at-self-clause-seat : goal.returns-then-at-self-clause-seat
@@ -21,4 +21,4 @@ returns-clause-seat g c =
     let tag = (seat_there _ _ _ _ _ c.self.invariant.0 (omega (arith, c.if-at-self.false)) c.index_mut.ensures.value).0 in
     at_own_ring _ _ _ c.args.self.now _ _ _ _ are c.self.invariant.0 (omega (arith, c.if-at-self.false))
     (at_seat _ c.args.self.now _ _ _ _ _ are c.self.invariant.0 (omega (arith, c.if-at-self.false)) c.index_mut.ensures.value
-    (discarded_at _ _ _ _ _ c.discard.ensures.seat c.discard.ensures.released (c.discard.ensures.call tag) (λ other. c.discard.ensures.foreign (inr other)) c.discard.ensures.tally c.discard.ensures.sent))
+    (discarded_at _ _ _ _ _ _ tag c.discard.ensures.seat c.discard.ensures.released c.discard.ensures.exact (unchanged _ _ _ _ c.discard.ensures.handed_back) c.discard.ensures.call (tallied _ _ _ c.discard.ensures.tally) c.discard.ensures.hands c.discard.ensures.sent))

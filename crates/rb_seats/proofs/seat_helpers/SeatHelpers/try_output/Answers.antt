@@ -38,7 +38,7 @@ returns-clause-seat g c =
     let tag = (seat_there _ _ _ _ _ c.self.invariant.0 below c.index_mut.ensures.value).0 in
     λ few. elim c.match-output.branch [
       | in-Ok w ↦ sends_as c.args.bytes.now c.in_ok-sheet.sheet c.args.flags _ _ _ _ _ copied w.result-is (at_seat _ c.args.self.now _ _ _ _ _ are c.self.invariant.0 below c.index_mut.ensures.value
-          (sent_at c.in_ok-sheet.sheet c.args.flags _ _ _ low c.output.ensures.seat c.output.ensures.released w.in-Ok.ensures.tally (w.in-Ok.ensures.call tag)))
+          (sent_at c.in_ok-sheet.sheet c.args.flags _ _ _ low c.output.ensures.seat c.output.ensures.released w.in-Ok.ensures.tally c.output.ensures.hands (w.in-Ok.ensures.call tag)))
       | in-Err w ↦ sends_as c.args.bytes.now c.in_ok-sheet.sheet c.args.flags _ _ _ _ _ copied w.result-is (at_seat _ c.args.self.now _ _ _ _ _ are c.self.invariant.0 below c.index_mut.ensures.value
-          (not_sent_at c.in_ok-sheet.sheet c.args.flags w.in-Err.refused _ _ few c.output.ensures.seat c.output.ensures.released w.in-Err.ensures.tally (w.in-Err.ensures.call tag)))
+          (not_sent_at c.in_ok-sheet.sheet c.args.flags w.in-Err.refused _ _ few c.output.ensures.seat c.output.ensures.released w.in-Err.ensures.tally c.output.ensures.hands (w.in-Err.ensures.call tag)))
     ]

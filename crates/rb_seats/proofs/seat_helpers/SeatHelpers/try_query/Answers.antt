@@ -25,4 +25,4 @@ pub returns-clause-seat : goal.returns-clause-seat
 returns-clause-seat g c =
     let below : c.args.ring < length c.self.inside.rings.now = search rules in
     at_seat _ c.args.self.now _ _ _ _ _ (ap (λ (h : AtSeats). h.seats) c.self.view_is) c.self.invariant.0 below c.index_mut.ensures.value
-    (queried_at c.args.what c.in-Ok.answer _ _ c.query.ensures.seat c.query.ensures.released c.query.ensures.tally c.query.ensures.sent c.in-Ok.ensures.call)
+    (queried_at c.args.what c.in-Ok.answer _ _ c.query.ensures.seat c.query.ensures.released c.query.ensures.tally c.query.ensures.hands c.query.ensures.sent c.in-Ok.ensures.call)

@@ -1,13 +1,17 @@
 use Rattle.std.proofs.Common.{◌≡◌, ◌∙◌, subst}
 use Rattle.rb_ledger.specs.Seats.{WorkerSeat}
-use Rattle.rb_shared_ring.proofs.SeatNumbers.{book-in, audit-tied, audit-own}
+use Rattle.rb_chapter_ledger.proofs.WholeCalls.{in-one-chapter}
+use Rattle.rb_shared_ring.proofs.SeatNumbers.{book-in, audit-tied, audit-own, keeps-hands}
 use Rattle.rb_shared_ring.proofs.shared.SharedRing.audit.Goals as goal
 
 pub invariant_of-me : goal.invariant_of-me
 invariant_of-me g c =
     let e = c.audit_with.ensures in
-    let i = c.me.invariant in
-    (e.same.2 ∙ i.0, record { idle = e.idle; book = book-in _ _ _ _ e.call; ties = audit-tied c.me.inside.worker c.me.inside.tally _ _ i.1.ties c.audit_with.result e.call })
+    let i = c.me.invariant in (
+      e.same.2 ∙ i.0,
+      record { idle = e.idle; book = book-in _ _ _ _ e.call; ties = audit-tied c.me.inside.worker c.me.inside.tally _ _ i.1.ties c.audit_with.result (in-one-chapter _ _ _ _ _ _ e.call) },
+      keeps-hands _ _ _ _ _ i.2 (e.hands ∙ i.2.shows) i.2.four e.holds,
+    )
 
 pub returns-clause-own : goal.returns-clause-own
-returns-clause-own g c = subst (λ (s : WorkerSeat). c.audit_with.result.own ≡ s.tally) c.me.view_is (audit-own c.me.inside.worker c.me.inside.tally _ _ c.me.invariant.1.ties c.audit_with.result c.audit_with.ensures.call)
+returns-clause-own g c = subst (λ (s : WorkerSeat). c.audit_with.result.own ≡ s.tally) c.me.view_is (audit-own c.me.inside.worker c.me.inside.tally _ _ c.me.invariant.1.ties c.audit_with.result (in-one-chapter _ _ _ _ _ _ c.audit_with.ensures.call))

@@ -1,7 +1,7 @@
 use Rattle.std.proofs.Common.{◌≡◌, ◌+◌, ◌∙◌, ◌∷◌, [], ap, sym, subst, length, length-append, arith}
 use Rattle.crossbeam_queue.specs.Passes.{view}
 use Rattle.rb_chapter_ledger.specs.ChapterSeats.{ChapterConsumerSeat}
-use Rattle.rb_shared_ring.specs.inner.SeatPasses.{handed_out_by}
+use Rattle.rb_shared_ring.specs.inner.HandPasses.{handed_out_with}
 use Rattle.rb_shared_ring.proofs.SeatNumbers.{book-in}
 use Rattle.rb_shared_ring.proofs.TakenNumbers.{next-counts, next-number, keeps-after}
 use Rattle.rb_shared_ring.proofs.shared.SharedRing.hand_out.Goals as goal
@@ -13,7 +13,7 @@ invariant_of-me g c =
     let me = c.me.inside in
     let x = c.hand_out_with-chapter.result in
     let n = next-counts me.consumed me.skipped me.position _ _ i.2.ties i.2.spaced _ x e.call in
-    let more : me.chapters + 1 ≡ length (handed_out_by (view c.hand_out_with-chapter.new.pass)) = omega (arith, i.1.chapters_are, length-append (handed_out_by (view me.pass)) (x ∷ [])) ∙ ap length (sym e.chapters) in (
+    let more : me.chapters + 1 ≡ length (handed_out_with (view c.hand_out_with-chapter.new.pass)) = omega (arith, i.1.chapters_are, length-append (handed_out_with (view me.pass)) (x ∷ [])) ∙ ap length (sym e.chapters) in (
       e.same.2 ∙ i.0,
       keeps-after _ _ _ _ _ _ i.1 e.idle (book-in _ _ _ _ e.call) n.1 e.room (me.chapters + 1) more,
       record { ties = n.0; spaced = i.2.spaced },

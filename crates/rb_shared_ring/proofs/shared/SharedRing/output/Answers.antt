@@ -3,10 +3,11 @@ use Rattle.crossbeam_queue.specs.Passes.{view}
 use Rattle.rb_chapter.specs.ChapterCalls.{producer_now}
 use Rattle.rb_ledger.specs.Roles.Role.{Worker}
 use Rattle.rb_ledger.specs.Seats.{WorkerSeat, Ties}
-use Rattle.rb_chapter_ledger.specs.LockedChapterCalls.{LockedChapterCall, InOneChapter}
-use Rattle.rb_shared_ring.specs.inner.SeatPasses.{seen_by, bytes_by}
+use Rattle.rb_chapter_ledger.specs.LockedChapterCalls.{LockedChapterCall, InRoomAt}
+use Rattle.rb_chapter_ledger.proofs.WholeCalls.{in-one-chapter}
+use Rattle.rb_shared_ring.specs.inner.HandPasses.{seen_with, bytes_with, cut_by}
 use Rattle.rb_shared_ring.specs.SharedCalls.{OutputsInChapter, sent_by_chapter_output}
-use Rattle.rb_shared_ring.proofs.SeatNumbers.{book-in, tied-low, output-fits, output-tied}
+use Rattle.rb_shared_ring.proofs.SeatNumbers.{book-in, tied-low, output-fits, output-tied, keeps-hands}
 use Rattle.rb_shared_ring.proofs.shared.SharedRing.output.Goals as goal
 
 pub after_output-me-inside-requires-clause-made : goal.after_output-me-inside-requires-clause-made
@@ -16,14 +17,17 @@ pub after_output-me-inside-requires-clause-submitted : goal.after_output-me-insi
 after_output-me-inside-requires-clause-submitted g c = (tied-low _ _ _ c.me.invariant.1.book c.me.invariant.1.ties).submitted
 
 pub after_output-me-inside-requires-clause-refused : goal.after_output-me-inside-requires-clause-refused
-after_output-me-inside-requires-clause-refused g c = output-fits c.me.inside.worker c.me.inside.tally _ _ c.me.invariant.1.ties c.args.sheet c.args.flags c.output_with-answer.result _ c.output_with-answer.ensures.call
+after_output-me-inside-requires-clause-refused g c = output-fits c.me.inside.worker c.me.inside.tally _ _ c.me.invariant.1.ties c.args.sheet c.args.flags c.output_with-answer.result _ (in-one-chapter _ _ _ _ _ _ c.output_with-answer.ensures.call)
 
 pub invariant_of-me : goal.invariant_of-me
 invariant_of-me g c =
     let e = c.output_with-answer.ensures in
     let i = c.me.invariant in
-    let ties = output-tied c.me.inside.worker c.me.inside.tally _ _ i.1.ties c.args.sheet c.args.flags c.output_with-answer.result _ e.call in
-    (e.same.2 ∙ i.0, record { idle = e.idle; book = book-in _ _ _ _ e.call; ties = subst (λ t. Ties c.me.inside.worker t (seen_by (view c.output_with-answer.new.pass))) (sym c.after_output-me-inside.ensures.counted) ties })
+    let ties = output-tied c.me.inside.worker c.me.inside.tally _ _ i.1.ties c.args.sheet c.args.flags c.output_with-answer.result _ (in-one-chapter _ _ _ _ _ _ e.call) in (
+      e.same.2 ∙ i.0,
+      record { idle = e.idle; book = book-in _ _ _ _ e.call; ties = subst (λ t. Ties c.me.inside.worker t (seen_with (view c.output_with-answer.new.pass))) (sym c.after_output-me-inside.ensures.counted) ties },
+      keeps-hands _ _ _ _ _ i.2 (e.hands ∙ i.2.shows) i.2.four e.holds,
+    )
 
 pub returns-clause-call : goal.returns-clause-call
-returns-clause-call g c = λ _. subst (λ (s : WorkerSeat). LockedChapterCall (Worker s.worker) s.seen (seen_by (view c.output_with-answer.new.pass)) (InOneChapter (λ old new. OutputsInChapter s.worker c.args.sheet c.args.flags c.output_with-answer.result old new × (bytes_by (view c.output_with-answer.new.pass) ≡ sent_by_chapter_output s.sent (producer_now old) c.args.sheet c.output_with-answer.result)))) c.me.view_is c.output_with-answer.ensures.call
+returns-clause-call g c = λ _. subst (λ (s : WorkerSeat). LockedChapterCall (Worker s.worker) s.seen (seen_with (view c.output_with-answer.new.pass)) (InRoomAt s.room (cut_by (view c.output_with-answer.new.pass)) (λ old new. OutputsInChapter s.worker c.args.sheet c.args.flags c.output_with-answer.result old new × (bytes_with (view c.output_with-answer.new.pass) ≡ sent_by_chapter_output s.sent (producer_now old) c.args.sheet c.output_with-answer.result)))) c.me.view_is c.output_with-answer.ensures.call

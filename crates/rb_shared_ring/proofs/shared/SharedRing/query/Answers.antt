@@ -1,9 +1,17 @@
-use Rattle.std.proofs.Common.{◌∙◌}
-use Rattle.rb_shared_ring.proofs.SeatNumbers.{book-in, query-tied}
+use Rattle.std.proofs.Common.{◌∙◌, subst}
+use Rattle.crossbeam_queue.specs.Passes.{view}
+use Rattle.rb_chapter_ledger.proofs.WholeCalls.{in-one-chapter}
+use Rattle.rb_hands.specs.Hands.{Hands}
+use Rattle.rb_hand_ledger.specs.NoStranger.{HoldsOwnBusy}
+use Rattle.rb_shared_ring.specs.inner.HandPasses.{seen_with}
+use Rattle.rb_shared_ring.proofs.SeatNumbers.{book-in, query-tied, keeps-hands}
 use Rattle.rb_shared_ring.proofs.shared.SharedRing.query.Goals as goal
 
 pub invariant_of-me : goal.invariant_of-me
 invariant_of-me g c =
     let e = c.query_with.ensures in
-    let i = c.me.invariant in
-    (e.same.2 ∙ i.0, record { idle = e.idle; book = book-in _ _ _ _ e.call; ties = query-tied c.me.inside.worker c.me.inside.tally _ _ i.1.ties c.args.what c.query_with.result e.call })
+    let i = c.me.invariant in (
+      e.same.2 ∙ i.0,
+      record { idle = e.idle; book = book-in _ _ _ _ e.call; ties = query-tied c.me.inside.worker c.me.inside.tally _ _ i.1.ties c.args.what c.query_with.result (in-one-chapter _ _ _ _ _ _ e.call) },
+      keeps-hands _ _ _ _ _ i.2 (e.hands ∙ i.2.shows) i.2.four e.holds,
+    )

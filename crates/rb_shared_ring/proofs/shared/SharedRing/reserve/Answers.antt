@@ -1,28 +1,58 @@
-use Rattle.std.proofs.Common.{◌≡◌, ◌∙◌, sym, subst, IfOk}
+use Rattle.std.proofs.Common.{◌≡◌, ◌∙◌, Some, sym, ap, subst, set, IfOk}
+use Rattle.std.proofs.lemmas.List.{length-set}
 use Rattle.crossbeam_queue.specs.Passes.{view}
+use Rattle.rb_hands.specs.Hands.{out_record}
 use Rattle.rb_ledger.specs.Roles.Role.{Worker}
 use Rattle.rb_ledger.specs.Seats.{WorkerSeat, Ties}
-use Rattle.rb_chapter_ledger.specs.LockedChapterCalls.{LockedChapterCall, InOneChapter}
-use Rattle.rb_shared_ring.specs.inner.SeatPasses.{seen_by}
-use Rattle.rb_shared_ring.specs.SharedCalls.{ReservesInChapter}
-use Rattle.rb_shared_ring.proofs.SeatNumbers.{book-in, tied-low, reserve-fits, reserve-tied, serial-in}
+use Rattle.rb_chapter_ledger.specs.LockedChapterCalls.{LockedChapterCall, InRoomAt}
+use Rattle.rb_chapter_ledger.proofs.WholeCalls.{in-one-chapter}
+use Rattle.rb_shared_ring.specs.inner.HandPasses.{seen_with, hands_by, cut_by}
+use Rattle.rb_shared_ring.specs.SharedCalls.{ReservesInChapter, granted_in, hands_reserved}
+use Rattle.rb_shared_ring.proofs.SeatNumbers.{book-in, tied-low, reserve-fits, reserve-tied, serial-in, keeps-hands}
+use Rattle.rb_chapter_ring.specs.declared.faults.ReserveFault.TheVariants.{Full}
+use Rattle.rb_shared_ring.proofs.SeatPassing.{refused-in, serial-in-hand, hands-kept}
 use Rattle.rb_shared_ring.proofs.shared.SharedRing.reserve.Goals as goal
 
 pub after_reserve-me-inside-requires-clause-made : goal.after_reserve-me-inside-requires-clause-made
 after_reserve-me-inside-requires-clause-made g c = (tied-low _ _ _ c.me.invariant.1.book c.me.invariant.1.ties).made
 
 pub after_reserve-me-inside-requires-clause-refused : goal.after_reserve-me-inside-requires-clause-refused
-after_reserve-me-inside-requires-clause-refused g c = reserve-fits c.me.inside.worker c.me.inside.tally _ _ c.me.invariant.1.ties c.args.n c.reserve_with-answer.result c.reserve_with-answer.ensures.call
+after_reserve-me-inside-requires-clause-refused g c = λ is.
+    reserve-fits c.me.inside.worker c.me.inside.tally _ _ c.me.invariant.1.ties c.args.n (granted_in c.reserve_with-answer.result) (in-one-chapter _ _ _ _ _ _ c.reserve_with-answer.ensures.call) (refused-in Full c.reserve_with-answer.result is)
 
 pub invariant_of-me : goal.invariant_of-me
 invariant_of-me g c =
     let e = c.reserve_with-answer.ensures in
     let i = c.me.invariant in
-    let ties = reserve-tied c.me.inside.worker c.me.inside.tally _ _ i.1.ties c.args.n c.reserve_with-answer.result e.call in
-    (e.same.2 ∙ i.0, record { idle = e.idle; book = book-in _ _ _ _ e.call; ties = subst (λ t. Ties c.me.inside.worker t (seen_by (view c.reserve_with-answer.new.pass))) (sym c.after_reserve-me-inside.ensures.counted) ties })
+    let hand = c.in-Some.hand in
+    let ties = reserve-tied c.me.inside.worker c.me.inside.tally _ _ i.1.ties c.args.n (granted_in c.reserve_with-answer.result) (in-one-chapter _ _ _ _ _ _ e.call) in (
+      e.same.2 ∙ i.0,
+      record { idle = e.idle; book = book-in _ _ _ _ e.call; ties = subst (λ t. Ties c.me.inside.worker t (seen_with (view c.reserve_with-answer.new.pass))) (sym c.after_reserve-me-inside.ensures.counted) ties },
+      keeps-hands _ _ _ _ _ i.2
+          (e.hands ∙ ap (hands_reserved (hands_by (view c.me.inside.pass)) hand c.args.n) c.in-Ok.is ∙ (λ k. set (i.2.shows k) hand (Some (out_record (sym c.pos.ensures.pos k) (sym c.serial.ensures.serial k) c.args.n))))
+          (length-set c.me.inside.hands hand (Some (out_record c.pos.result c.serial.result c.args.n)) ∙ i.2.four)
+          e.holds,
+    )
 
-pub returns-clause-call : goal.returns-clause-call
-returns-clause-call g c = λ _. subst (λ (s : WorkerSeat). LockedChapterCall (Worker s.worker) s.seen (seen_by (view c.reserve_with-answer.new.pass)) (InOneChapter (ReservesInChapter s.worker c.args.n c.reserve_with-answer.result))) c.me.view_is c.reserve_with-answer.ensures.call
+pub invariant_of-me-in_default-answer : goal.invariant_of-me-in_default-answer
+invariant_of-me-in_default-answer g c =
+    let e = c.reserve_with-answer.ensures in
+    let i = c.me.invariant in
+    let ties = reserve-tied c.me.inside.worker c.me.inside.tally _ _ i.1.ties c.args.n (granted_in c.reserve_with-answer.result) (in-one-chapter _ _ _ _ _ _ e.call) in (
+      e.same.2 ∙ i.0,
+      record { idle = e.idle; book = book-in _ _ _ _ e.call; ties = subst (λ t. Ties c.me.inside.worker t (seen_with (view c.reserve_with-answer.new.pass))) (sym c.after_reserve-me-inside.ensures.counted) ties },
+      keeps-hands _ _ _ _ _ i.2 (e.hands ∙ hands-kept (hands_by (view c.me.inside.pass)) c.in-Some.hand c.args.n c.reserve_with-answer.result c.in_default-answer.not-Ok ∙ i.2.shows) i.2.four e.holds,
+    )
 
-pub returns-clause-serial : goal.returns-clause-serial
-returns-clause-serial g c = subst (λ (s : WorkerSeat). IfOk c.reserve_with-answer.result (λ r. r.serial ≡ s.tally.made)) c.me.view_is (serial-in c.me.inside.worker c.me.inside.tally _ _ c.me.invariant.1.ties c.args.n c.reserve_with-answer.result c.reserve_with-answer.ensures.call)
+pub returns-in-Ok-clause-call : goal.returns-in-Ok-clause-call
+returns-in-Ok-clause-call g c =
+    λ _ _. subst (λ (s : WorkerSeat). LockedChapterCall (Worker s.worker) s.seen (seen_with (view c.reserve_with-answer.new.pass)) (InRoomAt s.room (cut_by (view c.reserve_with-answer.new.pass)) (ReservesInChapter s.worker c.args.n (granted_in c.reserve_with-answer.result)))) c.me.view_is c.reserve_with-answer.ensures.call
+
+pub returns-in_default-answer-clause-call : goal.returns-in_default-answer-clause-call
+returns-in_default-answer-clause-call g c =
+    λ _ _. subst (λ (s : WorkerSeat). LockedChapterCall (Worker s.worker) s.seen (seen_with (view c.reserve_with-answer.new.pass)) (InRoomAt s.room (cut_by (view c.reserve_with-answer.new.pass)) (ReservesInChapter s.worker c.args.n (granted_in c.reserve_with-answer.result)))) c.me.view_is c.reserve_with-answer.ensures.call
+
+pub returns-in-Ok-clause-serial : goal.returns-in-Ok-clause-serial
+returns-in-Ok-clause-serial g c =
+    let made = serial-in c.me.inside.worker c.me.inside.tally _ _ c.me.invariant.1.ties c.args.n (granted_in c.reserve_with-answer.result) (in-one-chapter _ _ _ _ _ _ c.reserve_with-answer.ensures.call) in
+    subst (λ (s : WorkerSeat). IfOk c.reserve_with-answer.result (λ r. r.granted.serial ≡ s.tally.made)) c.me.view_is (serial-in-hand c.me.inside.tally.made c.reserve_with-answer.result made)

@@ -1,10 +1,13 @@
-use Rattle.std.proofs.Common.{◌∙◌, sym, subst}
+use Rattle.std.proofs.Common.{◌≡◌, ◌∙◌, None, Ok, sym, ap, subst, set}
+use Rattle.std.proofs.lemmas.List.{length-set}
 use Rattle.crossbeam_queue.specs.Passes.{view}
+use Rattle.rb_hands.specs.Hands.{Hands}
 use Rattle.rb_ledger.specs.Roles.Role.{Worker}
 use Rattle.rb_ledger.specs.Seats.{WorkerSeat, Ties}
-use Rattle.rb_chapter_ledger.specs.LockedChapterCalls.{LockedChapterCall, InOneChapter, SubmitsInChapter}
-use Rattle.rb_shared_ring.specs.inner.SeatPasses.{seen_by}
-use Rattle.rb_shared_ring.proofs.SeatNumbers.{book-in, tied-low, submit-tied}
+use Rattle.rb_chapter_ledger.specs.LockedChapterCalls.{LockedChapterCall, InRoomAt, SubmitsInChapter}
+use Rattle.rb_chapter_ledger.proofs.WholeCalls.{in-one-chapter}
+use Rattle.rb_shared_ring.specs.inner.HandPasses.{seen_with, cut_by}
+use Rattle.rb_shared_ring.proofs.SeatNumbers.{book-in, tied-low, submit-tied, keeps-hands}
 use Rattle.rb_shared_ring.proofs.shared.SharedRing.submit.Goals as goal
 
 pub after_submit-me-inside-requires : goal.after_submit-me-inside-requires
@@ -12,10 +15,14 @@ after_submit-me-inside-requires g c = record { submitted = (tied-low _ _ _ c.me.
 
 pub invariant_of-me : goal.invariant_of-me
 invariant_of-me g c =
-    let e = c.submit_with-answer.ensures in
+    let e = c.submit_with-notice.ensures in
     let i = c.me.invariant in
-    let ties = submit-tied c.me.inside.worker c.me.inside.tally _ _ i.1.ties c.args.reservation c.args.flags c.submit_with-answer.result (sym c.worker.ensures.value ∙ c.if-worker-me.false) e.call in
-    (e.same.2 ∙ i.0, record { idle = e.idle; book = book-in _ _ _ _ e.call; ties = subst (λ t. Ties c.me.inside.worker t (seen_by (view c.submit_with-answer.new.pass))) (sym c.after_submit-me-inside.ensures.counted) ties })
+    let ties = submit-tied c.me.inside.worker c.me.inside.tally _ _ i.1.ties c.args.reservation.granted c.args.flags (Ok c.submit_with-notice.result) (sym c.worker.ensures.worker ∙ c.if-worker-me.false) (in-one-chapter _ _ _ _ _ _ e.call) in (
+      e.same.2 ∙ i.0,
+      record { idle = e.idle; book = book-in _ _ _ _ e.call; ties = subst (λ t. Ties c.me.inside.worker t (seen_with (view c.submit_with-notice.new.pass))) (sym c.after_submit-me-inside.ensures.counted) ties },
+      keeps-hands _ _ _ _ _ i.2 (e.hands ∙ (λ k. set (i.2.shows k) (sym c.hand-hand.ensures.hand k) None)) (length-set c.me.inside.hands c.hand-hand.result None ∙ i.2.four) e.holds,
+    )
 
 pub returns-clause-call : goal.returns-clause-call
-returns-clause-call g c = λ _ _. subst (λ (s : WorkerSeat). LockedChapterCall (Worker s.worker) s.seen (seen_by (view c.submit_with-answer.new.pass)) (InOneChapter (SubmitsInChapter c.args.reservation c.args.flags c.submit_with-answer.result))) c.me.view_is c.submit_with-answer.ensures.call
+returns-clause-call g c =
+    subst (λ (s : WorkerSeat). LockedChapterCall (Worker s.worker) s.seen (seen_with (view c.submit_with-notice.new.pass)) (InRoomAt s.room (cut_by (view c.submit_with-notice.new.pass)) (SubmitsInChapter c.args.reservation.granted c.args.flags (Ok c.submit_with-notice.result)))) c.me.view_is c.submit_with-notice.ensures.call

@@ -13,4 +13,4 @@ returns-in-Ok-new-clause-opened g c =
 
 pub returns-in-Ok-new-clause-nothing_made : goal.returns-in-Ok-new-clause-nothing_made
 returns-in-Ok-new-clause-nothing_made g c =
-    subst (λ (l : List WorkerSeat). All HasSettledAll l) (sym c.in-Ok.ensures.seats) (fresh_settled c.args.tag c.in-Ok.ring.ring (fresh_book c.args.size c.args.start c.args.workers) 0 c.args.workers)
+    subst (λ (l : List WorkerSeat). All HasSettledAll l) (sym c.in-Ok.ensures.seats) (fresh_settled c.args.tag c.in-Ok.ring.ring c.args.room (fresh_book c.args.size c.args.start c.args.workers) 0 c.args.workers)

@@ -1,0 +1,76 @@
+//! What calls by a worker's seat answer of reservations, as text.
+
+use crate::answers::{reserve_word, tell_notice, tell_refusal};
+use crate::sheets::write_at;
+use crate::text::Text;
+use rb_history::Notice;
+use rb_lend::{Lent, Sheet};
+use rb_shared_ring::{Reservation, ReserveFault, Seat};
+
+/// What a reserve answered, and the reservation that it granted.
+pub(crate) fn tell_reserved(
+    answer: Result<Reservation, (ReserveFault, Sheet)>,
+    out: &mut Text,
+) -> Option<Reservation> {
+    match answer {
+        Ok(record) => {
+            out.word("granted");
+            tell_record(&record, out);
+            out.word("bytes");
+            out.bytes(record.bytes());
+            Some(record)
+        }
+        Err((fault, back)) => {
+            tell_refusal(out, reserve_word(fault), &back);
+            None
+        }
+    }
+}
+
+/// What a submit or a discard answered; the reservation that was handed back, where it was.
+pub(crate) fn tell_given_back(
+    answer: Result<Notice, Reservation>,
+    out: &mut Text,
+) -> Option<Reservation> {
+    match answer {
+        Ok(notice) => {
+            tell_notice(out, notice);
+            None
+        }
+        Err(back) => {
+            out.word("handed back");
+            tell_record(&back, out);
+            Some(back)
+        }
+    }
+}
+
+/// Writes bytes of a reserved record from byte `at` on, where they fit.
+pub(crate) fn write_record(record: &mut Reservation, at: u64, bytes: &[u8], out: &mut Text) {
+    if write_at(record, at, bytes) {
+        tell_record(record, out);
+        out.word("bytes");
+        out.bytes(record.bytes());
+    } else {
+        out.word("fault: outside");
+    }
+}
+
+/// The position of what is in each of a seat's hands; one that is free is a dash.
+pub(crate) fn tell_hands(seat: &Seat, out: &mut Text) {
+    out.word("hands");
+    for hand in 0..4 {
+        match seat.hand(hand) {
+            Some(pos) => out.number(pos),
+            None => out.word("-"),
+        }
+    }
+}
+
+// The four numbers of a reservation.
+fn tell_record(record: &Reservation, out: &mut Text) {
+    out.field("pos", record.pos());
+    out.field("worker", u64::from(record.worker()));
+    out.field("serial", record.serial());
+    out.field("len", u64::from(record.len()));
+}
