@@ -2,6 +2,7 @@
 
 use rb_chapter::Chapter;
 use rb_chapter_ring::RingState;
+use rb_hand_ring::HandState;
 use rb_header::{Header, span};
 use rb_history::{
     Entry, FORCE_WAKEUP, NO_WAKEUP, Notice, OpenFault, Taken, check_setup, notice_for,
@@ -86,6 +87,17 @@ fn example_of_rb_chapter_ring(rt: HostRuntime) {
     };
     assert_eq!(rt; (chapter.number(), chapter.used()), (0, 2));
     assert!(rt; matches!(&ring.take(), Taken::Event(0, 0, 0, _)));
+}
+
+#[test]
+fn example_of_rb_hand_ring(rt: HostRuntime) -> Result<(), Fail> {
+    let mut ring = HandState::new(rt.alloc(), 4096, 0, 1, 8)?;
+    let Ok(record) = ring.reserve(7, 0, 2, 4, Sheet::new(rt.alloc(), 4)?) else {
+        return Err(Fail::from("no record"));
+    };
+    assert_eq!(rt; (record.tag(), record.hand()), (7, 2));
+    assert!(rt; matches!(ring.submit(record, 0), Notice::Due));
+    Ok(())
 }
 
 #[test]
