@@ -10,8 +10,7 @@ use Rattle.rb_verifier.specs.Subject.{Subject}
 use Rattle.rb_loader.specs.Acceptance.{IsAccepted}
 use Rattle.rb_check_command.specs.DrainedRings.{DrainsRings}
 use Rattle.rb_check_command.specs.FreshRings.{AreNumbered, fresh_worker, fresh_taker}
-use Rattle.rb_check_command.specs.Printed.{run_lines}
-use Rattle.rb_json.specs.declared.form.LineForm.{LineForm}
+use Rattle.rb_check_command.specs.Printed.{run_text}
 
 -- ---- the run
 
@@ -41,8 +40,8 @@ pub record Checks (text : List ℕ) (ctx_len ring_count value : ℕ) (records : 
   pub drained : DrainsRings seats (map fresh_taker rings) records
 
 -- the program that the input spells was checked, and what `check` prints of it was printed, and nothing else
-pub record PrintsCheck (input : List ℕ) (ctx_len ring_count : ℕ) (form : LineForm) (before after : Option (List ℕ)) : Type 0 where
+pub record PrintsCheck (input : List ℕ) (ctx_len ring_count : ℕ) (before after : Option (List ℕ)) : Type 0 where
   pub value : ℕ
   pub records : List (List Taken)
   pub checked : Checks input ctx_len ring_count value records
-  pub printed : Appends before after (run_lines form value records)
+  pub printed : Appends before after (run_text value records)

@@ -6,7 +6,6 @@ ghost use Rattle.std.specs.Str.Parse.{IsNumeral, digits_value};
 
 use clap::error::ErrorKind;
 use clap::{Arg, ArgAction, ArgMatches, Command, Error};
-use rb_json::LineForm;
 use rb_loader::Bounds;
 use rb_run_commands::JobsRequest;
 use std::alloc::{AllocError, Global};
@@ -21,17 +20,13 @@ pub enum Request<'a> {
         start: u64,
         retries: u32,
     },
-    /// Prints the records of a tape: the ring's size and its first position, and how a record is printed.
+    /// Prints the records of a tape: the ring's size and its first position.
     Tape {
         size: u64,
         start: u64,
-        form: LineForm,
     },
-    /// Verifies a program and runs it once, and how what came of it is printed.
-    Check {
-        bounds: Bounds,
-        form: LineForm,
-    },
+    /// Verifies a program and runs it once.
+    Check(Bounds),
     /// Explains a program.
     Explain(Bounds),
     /// Verifies a program and runs it as jobs on threads, and writes what they sent as a tape to the file of this name, where there is one.
@@ -57,12 +52,8 @@ pub fn parse<'a, S: AsStr>(alloc: Global, words: &'a [S]) -> Result<Request<'a>,
         Some(("tape", options)) => Ok(Request::Tape {
             size: number(alloc, &mut program, options, "size")?,
             start: number(alloc, &mut program, options, "start")?,
-            form: form(options),
         }),
-        Some(("check", options)) => Ok(Request::Check {
-            bounds: bounds(alloc, &mut program, options)?,
-            form: form(options),
-        }),
+        Some(("check", options)) => Ok(Request::Check(bounds(alloc, &mut program, options)?)),
         Some(("explain", options)) => Ok(Request::Explain(bounds(alloc, &mut program, options)?)),
         Some(("run", options)) => Ok(Request::Run {
             jobs: jobs_request(alloc, &mut program, options)?,
@@ -96,17 +87,7 @@ fn jobs_request(
         jobs: bounded(alloc, program, options, "jobs", 1, 1_000_000)?,
         size: number(alloc, program, options, "size")?,
         start: number(alloc, program, options, "start")?,
-        form: form(options),
     })
-}
-
-// How lines of output are written.
-fn form(options: &ArgMatches<'_>) -> LineForm {
-    if options.get_flag("json") {
-        LineForm::Json
-    } else {
-        LineForm::Words
-    }
 }
 
 // What the command line may say.
@@ -143,8 +124,7 @@ fn tape<'a>(alloc: Global) -> Result<Command<'a>, AllocError> {
             "Example: printf '\\001\\000\\000\\000*' | rbhost feed --size 4096 | rbhost tape --size 4096",
         )
         .arg(size(alloc))?
-        .arg(start(alloc))?
-        .arg(json(alloc))
+        .arg(start(alloc))
 }
 
 fn check<'a>(alloc: Global) -> Result<Command<'a>, AllocError> {
@@ -152,8 +132,7 @@ fn check<'a>(alloc: Global) -> Result<Command<'a>, AllocError> {
         .about("Verifies a program, given as text in hex, and runs it once")
         .after_help("Example: tools/bpf-hex examples/c/event.c | rbhost check")
         .arg(ctx(alloc))?
-        .arg(rings(alloc))?
-        .arg(json(alloc))
+        .arg(rings(alloc))
 }
 
 fn explain<'a>(alloc: Global) -> Result<Command<'a>, AllocError> {
@@ -178,8 +157,7 @@ fn run<'a>(alloc: Global) -> Result<Command<'a>, AllocError> {
         .arg(jobs(alloc))?
         .arg(size(alloc))?
         .arg(start(alloc))?
-        .arg(tape_file(alloc))?
-        .arg(json(alloc))
+        .arg(tape_file(alloc))
 }
 
 fn sim<'a>(alloc: Global) -> Result<Command<'a>, AllocError> {
@@ -243,13 +221,6 @@ fn retry<'a>(alloc: Global) -> Arg<'a> {
         .value_name("N")
         .default_value("0")
         .help("How often writing goes on after a write that failed, at most 100")
-}
-
-fn json<'a>(alloc: Global) -> Arg<'a> {
-    Arg::new(alloc, "json")
-        .long("json")
-        .action(ArgAction::SetTrue)
-        .help("Print an object of JSON in the place of each line")
 }
 
 // An option with a value.

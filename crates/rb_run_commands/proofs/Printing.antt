@@ -8,7 +8,7 @@ use Rattle.rb_history.specs.declared.answers.Counts.{Counts}
 use Rattle.rb_history.specs.declared.tally.Tally.{Tally}
 use Rattle.rb_io.specs.Lines.{line}
 use Rattle.rb_workers.specs.declared.opened.Ended.{Ended}
-use Rattle.rb_run_commands.specs.ReportLines.{counts_line, tally_line}
+use Rattle.rb_run_commands.specs.ReportLines.{closing_lines, counts_line, tally_line}
 
 -- the text of a seat's line, as it is put together
 tally_pieces : (worker made refused submitted discarded : List ℕ)
@@ -35,10 +35,10 @@ counts_written (Ok a) old new c wrote = wrote ∙ ap (λ l. old ++ l) (counts_pi
 counts_written (Err e) old new c wrote = tt
 
 -- the lines of one ring more
-pub closing_written : {S : Type 0} (lines_of : Ended S → List ℕ) (old new : List ℕ) (rings : List (Ended S)) (i : ℕ) (ended : Ended S) → i < length rings → ended ≡ get_or rings i ended → old ≡ flat_map lines_of (take i rings) → new ≡ old ++ lines_of ended
-    → new ≡ flat_map lines_of (take (i + 1) rings)
-closing_written lines_of old new rings i ended below is before wrote =
+pub closing_written : {S : Type 0} (old new : List ℕ) (rings : List (Ended S)) (i : ℕ) (ended : Ended S) → i < length rings → ended ≡ get_or rings i ended → old ≡ flat_map closing_lines (take i rings) → new ≡ old ++ closing_lines ended
+    → new ≡ flat_map closing_lines (take (i + 1) rings)
+closing_written old new rings i ended below is before wrote =
     wrote
-    ∙ (ap (λ t. t ++ lines_of ended) before
-    ∙ (flat_map_more lines_of [] (take i rings) ended
-    ∙ ap (flat_map lines_of) (ap (λ e. take i rings ++ e ∷ []) is ∙ sym (take_more rings i ended below))))
+    ∙ (ap (λ t. t ++ closing_lines ended) before
+    ∙ (flat_map_more closing_lines [] (take i rings) ended
+    ∙ ap (flat_map closing_lines) (ap (λ e. take i rings ++ e ∷ []) is ∙ sym (take_more rings i ended below))))

@@ -13,7 +13,7 @@ use Rattle.rb_workers.specs.Sink.{SinkItem, IsRecordIn, positions_among, takes_i
 use Rattle.rb_workers.specs.declared.opened.Ended.{Ended}
 use Rattle.rb_workers.specs.declared.opened.Report.{Report}
 use Rattle.rb_loader.specs.Acceptance.{IsAccepted}
-use Rattle.rb_run_commands.specs.ReportLines.{report_lines}
+use Rattle.rb_run_commands.specs.ReportLines.{report_text}
 use Rattle.rb_run_commands.specs.RunCommand.{RunsWorkers}
 use Rattle.rb_io.specs.Gathered.{Gathered}
 use Rattle.rb_run_commands.specs.declared.run_command.JobsRequest.{JobsRequest}
@@ -77,7 +77,7 @@ pub record TapesRing {S : Type 0} (size : ℕ) (whole : Bool) (before after : Op
 pub record TapesRun {W : Type 0} (contents : W → Option (List ℕ)) (writer : W) (subject : Subject) (request : JobsRequest) (before after : Option (List ℕ)) (whole : Bool) (left : W) : Type 0 where
   pub report : Report (SinkTape W)
   pub ran : RunsWorkers tape_position (tape_takes contents) (first_tape writer request) subject request report
-  pub printed : Appends before after (report_lines request.form report)
+  pub printed : Appends before after (report_text report)
   pub taped : All (TapesRing request.size whole (contents writer) (contents left)) report.rings.items
 
 -- a program that the input spells, where that is known, was run so, and all of its tape went through a buffer, in which nothing waits any more,

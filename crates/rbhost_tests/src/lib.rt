@@ -15,8 +15,6 @@ mod feed_command;
 #[cfg(test)]
 mod feed_retries;
 #[cfg(test)]
-mod json_lines;
-#[cfg(test)]
 mod run_command;
 #[cfg(test)]
 mod tape_command;
