@@ -157,12 +157,17 @@ def entries_text(entries):
     return f" {len(entries)}" + "".join("; " + entry for entry in entries)
 
 
+# how many records a worker holds at once
+HANDS = 4
+
+
 class Ring:
-    """One ring, and the chapter that it keeps."""
+    """One ring, the chapter that it keeps, and what is out in the hands of its workers."""
 
     def __init__(self, size, start, workers, room):
         opening = Standing(size, start, start, start, [], [Tally() for _ in range(workers)])
         self.chapter = Chapter(room, workers, 0, opening)
+        self.hands = [[None] * HANDS for _ in range(workers)]
         self.taken = []
 
     @property
@@ -211,17 +216,34 @@ class Ring:
                 return record
         return None
 
+    def full_hands(self, length):
+        """What a worker is told that holds as many records as it may."""
+        return " fault: no free hand"
+
     def reserve(self, worker, length):
+        """A record goes into the lowest free hand of its worker."""
+        hands = self.hands[worker]
+        if None not in hands:
+            return self.full_hands(length), None
         answer = self.grant(worker, length)
         if isinstance(answer, str):
             return f" refused {answer} back" + runs(b"\xff" * length), None
         held = Reservation(dataclasses.replace(answer), bytearray(length))
+        held.hand = hands.index(None)
+        hands[held.hand] = held.record
         return " granted" + answer.numbers() + " bytes" + runs(held.data), held
 
+    def is_out(self, held):
+        """Whether the hand that the reservation names is out with its numbers."""
+        worker = held.record.worker
+        out = self.hands[worker][held.hand] if self.has_worker(worker) else None
+        return out is not None and out.numbers() == held.record.numbers()
+
     def end(self, held, status, flags):
-        record = self.busy_record(held.record)
-        if record is None:
+        if not self.is_out(held):
             return " stray" + held.record.numbers(), held
+        record = self.busy_record(held.record)
+        self.hands[record.worker][held.hand] = None
         due = is_due(self.now.consumer, record.pos, flags)
         self.settle(record, status, bytes(held.data))
         return notice(due), None
@@ -324,10 +346,6 @@ class Ring:
         return entries_text([entry for chapter in chapters for entry in chapter.entries])
 
 
-# how many records a worker holds at once
-HANDS = 4
-
-
 def handed_back(held):
     return " handed back" + held.record.numbers()
 
@@ -338,7 +356,6 @@ class SharedRing(Ring):
     def __init__(self, tag, size, start, workers, room):
         super().__init__(size, start, workers, room)
         self.tag = tag
-        self.hands = [[None] * HANDS for _ in range(workers)]
 
     def seat(self, worker):
         if not self.has_worker(worker):
@@ -346,23 +363,19 @@ class SharedRing(Ring):
         hands = "".join(" -" if out is None else f" {out.pos}" for out in self.hands[worker])
         return f" tag {self.tag} worker {worker}" + self.now.tallies[worker].text() + " hands" + hands
 
+    def full_hands(self, length):
+        return " refused hands full back" + runs(b"\xff" * length)
+
     def reserve(self, worker, length):
-        """A record goes into the lowest free hand of its worker, whose seat names it then."""
-        hands = self.hands[worker]
-        if None not in hands:
-            return " refused hands full back" + runs(b"\xff" * length), None
         answer, held = super().reserve(worker, length)
         if held:
-            held.tag, held.hand = self.tag, hands.index(None)
-            hands[held.hand] = held.record
+            held.tag = self.tag
         return answer, held
 
     def give_back(self, worker, held, status, flags):
         """Taken where the worker's hand that the reservation names is out with its numbers, and handed back else."""
-        hands, record = self.hands[worker], held.record
-        if held.tag != self.tag or record.worker != worker or hands[held.hand] is None or hands[held.hand].numbers() != record.numbers():
+        if held.tag != self.tag or held.record.worker != worker or not self.is_out(held):
             return handed_back(held), held
-        hands[held.hand] = None
         return self.end(held, status, flags)
 
     def consumer(self):

@@ -13,8 +13,8 @@ class Drawing:
     """A script over rings of one thread. Each row is answered by the model as it is drawn, so that a later one can go on from it."""
 
     opens = "open"
-    # how many records a worker holds at most
-    most_held = 4
+    # how many records a worker holds at most: one more than it has hands, so that it is refused one
+    most_held = model.HANDS + 1
     opened = " opened"
     rings = ("a", "b")
 
@@ -212,8 +212,6 @@ class SharedDrawing(Drawing):
 
     opens = "share"
     rings = ("s", "t")
-    # so that a worker is refused a record for want of a hand
-    most_held = model.HANDS + 1
 
     def home(self, ring):
         return self.one_of(*self.setups) if self.chance(0.04) else ""

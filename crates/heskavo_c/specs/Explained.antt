@@ -2,12 +2,13 @@
 use Rattle.std.specs.Prelude.{◌≡◌, ℕ, ◌<◌, List, Option, length}
 use Rattle.rb_explain.specs.Explanations.{ExplainsBytes}
 use Rattle.rb_explain.specs.declared.explanation.Reason.{Reason}
+use Rattle.rb_json.specs.declared.form.LineForm.TheVariants.{Words}
 use Rattle.heskavo_c.specs.Writing.{WritesFront}
 
 -- the explanation of the bytes, as a program that is refused for this reason or for none, stands at the front of the buffer, and it has so many bytes
 pub record ExplainsInto (bytes : List ℕ) (ctx_len rings : ℕ) (reason : Option Reason) (old new : List ℕ) (wanted : ℕ) : Type 0 where
   pub text : List ℕ
-  pub explained : ExplainsBytes bytes (record { ctx_len = ctx_len; rings = rings }) reason text
+  pub explained : ExplainsBytes Words bytes (record { ctx_len = ctx_len; rings = rings }) reason text
   pub written : WritesFront text old new
   pub wanted_is : wanted ≡ length text
 
@@ -15,6 +16,6 @@ pub record ExplainsInto (bytes : List ℕ) (ctx_len rings : ℕ) (reason : Optio
 pub record WantsRoom (bytes : List ℕ) (ctx_len rings : ℕ) (buffer : List ℕ) (wanted : ℕ) : Type 0 where
   pub reason : Option Reason
   pub text : List ℕ
-  pub explained : ExplainsBytes bytes (record { ctx_len = ctx_len; rings = rings }) reason text
+  pub explained : ExplainsBytes Words bytes (record { ctx_len = ctx_len; rings = rings }) reason text
   pub wanted_is : wanted ≡ length text
   pub longer : length buffer < wanted

@@ -71,7 +71,7 @@ tape_left world size ring = tape size (items_left world ring)
 -- nothing is left in the ring of this number
 abbrev pub IsDrained : WorldValue → ℕ → Type 0
 IsDrained world ring =
-    producer_from (ring_at world ring).ring.chapter.opening (ring_at world ring).ring.chapter.entries ≡ consumer_from (ring_at world ring).ring.chapter.opening (ring_at world ring).ring.chapter.entries
+    producer_from (ring_at world ring).ring.state.ring.chapter.opening (ring_at world ring).ring.state.ring.chapter.entries ≡ consumer_from (ring_at world ring).ring.state.ring.chapter.opening (ring_at world ring).ring.state.ring.chapter.entries
 
 -- the lengths of the tapes of the rings below this number
 abbrev pub lengths_below : (ℕ → List ℕ) → ℕ → List ℕ

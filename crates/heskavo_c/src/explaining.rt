@@ -9,6 +9,7 @@ use crate::load::are_bounds;
 use crate::outgoing::put_front;
 use crate::status::{ARGUMENT, DONE, MEMORY, REFUSED, ROOM};
 use rb_explain::{Explanation, explain_bytes};
+use rb_json::LineForm;
 use std::alloc::Global;
 
 /// Puts the explanation of a program to the front of `text`, and tells in `wanted` how many bytes it has: `DONE` of a program that is accepted for a
@@ -33,7 +34,7 @@ pub extern "C" fn heskavo_explain(
     if !are_bounds(ctx_len, rings) {
         return ARGUMENT;
     }
-    let Ok(explanation) = explain_bytes(alloc, program, ctx_len, rings) else {
+    let Ok(explanation) = explain_bytes(alloc, program, ctx_len, rings, LineForm::Words) else {
         return MEMORY;
     };
     *wanted = explanation.text.len() as u64;

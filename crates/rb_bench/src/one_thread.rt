@@ -35,8 +35,8 @@ pub(crate) fn output_and_take(alloc: Global, records: u32, len: u32) -> Result<u
 #[inline(always)]
 // One record through the ring: the sheet is filled, output and taken.
 fn pass(ring: &mut RingState, mut sheet: Sheet) -> Result<Sheet, BenchFault>
-    requires { ring.old.chapter.opening.setup.workers ≡ 1 }
-    ensures { ring.new.chapter.opening ≡ ring.old.chapter.opening }
+    requires { ring.old.state.ring.chapter.opening.setup.workers ≡ 1 }
+    ensures { ring.new.state.ring.chapter.opening ≡ ring.old.state.ring.chapter.opening }
 {
     sheet.bytes_mut().fill(FILL);
     if ring.output(0, sheet, 0).is_err() {
@@ -53,25 +53,37 @@ pub(crate) fn reserve_and_submit(alloc: Global, records: u32, len: u32) -> Resul
     let mut sum: u64 = 0;
     for _ in 0..records {
         make_chapter_room(&mut ring, &mut spare)?;
-        let n = sheet.len();
-        let Ok(mut reservation) = ring.reserve(0, n, sheet) else {
-            return Err(BenchFault::Lost);
-        };
-        reservation.bytes_mut().fill(FILL);
-        if ring.submit(reservation, 0).is_err() {
-            return Err(BenchFault::Lost);
-        }
+        hold_and_submit(&mut ring, sheet)?;
         sheet = next_sheet(&mut ring)?;
         sum = sum.wrapping_add(first_byte(&sheet));
     }
     Ok(sum)
 }
 
+#[inline(always)]
+// One record of the sheet's length is reserved, written and submitted.
+fn hold_and_submit(ring: &mut RingState, sheet: Sheet) -> Result<(), BenchFault>
+    requires { ring.old.state.ring.chapter.opening.setup.workers ≡ 1 }
+    ensures { ring.new.state.ring.chapter.opening ≡ ring.old.state.ring.chapter.opening }
+{
+    let Some(hand) = ring.free_hand(0) else {
+        return Err(BenchFault::Lost);
+    };
+    let n = sheet.len();
+    ring.facts();
+    let Ok(mut reservation) = ring.reserve(0, hand, n, sheet) else {
+        return Err(BenchFault::Lost);
+    };
+    reservation.bytes_mut().fill(FILL);
+    ring.submit(reservation, 0);
+    Ok(())
+}
+
 /// An empty ring for one worker, and the chapter in which it goes on.
 fn opened(alloc: Global) -> Result<(RingState, Option<Chapter>), BenchFault>
-    ensures { IfOk result (λ o. o.0.chapter.opening.setup.workers ≡ 1) }
+    ensures { IfOk result (λ o. o.0.state.ring.chapter.opening.setup.workers ≡ 1) }
 {
-    let Ok(ring) = RingState::new(alloc, SIZE, 0, 1, ROOM) else {
+    let Ok(ring) = RingState::new(alloc, 0, SIZE, 0, 1, ROOM) else {
         return Err(BenchFault::Memory);
     };
     let spare = Chapter::new(alloc, ROOM, 1)?;
@@ -81,7 +93,7 @@ fn opened(alloc: Global) -> Result<(RingState, Option<Chapter>), BenchFault>
 #[inline(always)]
 // Has the ring go on in the spare chapter, where its own has no room for one more record.
 fn make_chapter_room(ring: &mut RingState, spare: &mut Option<Chapter>) -> Result<(), BenchFault>
-    ensures { ring.new.chapter.opening.setup ≡ ring.old.chapter.opening.setup }
+    ensures { ring.new.state.ring.chapter.opening.setup ≡ ring.old.state.ring.chapter.opening.setup }
 {
     if ring.chapter().may_grant() {
         return Ok(());
@@ -93,7 +105,7 @@ fn make_chapter_room(ring: &mut RingState, spare: &mut Option<Chapter>) -> Resul
 #[inline(never)]
 // Hands the ring's chapter out for the spare one. The old one is emptied, and is the next spare one.
 fn turn_chapter(ring: &mut RingState, spare: &mut Option<Chapter>) -> Result<(), BenchFault>
-    ensures { ring.new.chapter.opening.setup ≡ ring.old.chapter.opening.setup }
+    ensures { ring.new.state.ring.chapter.opening.setup ≡ ring.old.state.ring.chapter.opening.setup }
 {
     let Some(empty) = spare.take() else {
         return Err(BenchFault::Lost);
@@ -109,7 +121,7 @@ fn turn_chapter(ring: &mut RingState, spare: &mut Option<Chapter>) -> Result<(),
 #[inline(always)]
 // The bytes of the record that is taken next.
 fn next_sheet(ring: &mut RingState) -> Result<Sheet, BenchFault>
-    ensures { ring.new.chapter.opening ≡ ring.old.chapter.opening }
+    ensures { ring.new.state.ring.chapter.opening ≡ ring.old.state.ring.chapter.opening }
 {
     match ring.take() {
         Taken::Event(_, _, _, sheet) => Ok(sheet),

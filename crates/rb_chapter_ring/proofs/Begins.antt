@@ -1,6 +1,5 @@
 -- A ring that did nothing yet.
-use Rattle.std.proofs.Common.{◌≡◌, ℕ, ◌/◌, [], replicate, refl, sym, ap, subst, arith}
-use Rattle.std.proofs.lemmas.List.{length-replicate}
+use Rattle.std.proofs.Common.{◌≡◌, ℕ, [], refl, sym, ap, subst, arith}
 use Rattle.std.proofs.lemmas.List.Elements.{All-nil}
 use Rattle.rb_history.specs.RoomRule.{Setup}
 use Rattle.rb_history.specs.RingModel.{IsRingSize, IsStartPosition, IsWorkerCount}
@@ -9,21 +8,21 @@ use Rattle.rb_chapter.specs.Chapters.{IsChapterRoom, closing_of, empty_ring, fir
 use Rattle.rb_chapter.proofs.Empty.{empty-kept}
 use Rattle.rb_chapter.proofs.Running.{closing-none}
 use Rattle.rb_chapter_ring.proofs.CountSteps.{zero_counts}
-use Rattle.rb_chapter_ring.specs.inner.ChapterRingBody.{taken_before, IsStored, IsRingOf}
+use Rattle.rb_chapter_ring.specs.inner.Ordinals.{taken_before}
+use Rattle.rb_chapter_ring.specs.inner.ChapterRingBody.{IsStored, IsRingOf}
 
 -- what it stands for
 pub begins-closing : (room : ℕ) (r : Setup) → closing_of (first_chapter room r) ≡ empty_ring r
 begins-closing room r = closing-none [] (first_chapter room r) (empty-kept room r).continues refl
 
-pub begins : (room : ℕ) (r : Setup) → IsRingSize r.size → IsStartPosition r.start → IsWorkerCount r.workers → IsChapterRoom room → IsRingOf [] (first_chapter room r) [] (replicate (r.size / 8) 0) zero_counts
+pub begins : (room : ℕ) (r : Setup) → IsRingSize r.size → IsStartPosition r.start → IsWorkerCount r.workers → IsChapterRoom room → IsRingOf [] (first_chapter room r) [] zero_counts
 begins room r size start workers fits =
     let kept = empty-kept room r in
-    let stands : IsStored r.size (empty_ring r) [] (replicate (r.size / 8) 0) = record {
+    let stands : IsStored r.size (empty_ring r) [] = record {
       limit = omega (arith, start.1);
       space = omega arith;
       aligned = start.0;
       shown = refl;
-      numbered = λ i l. absurd (omega arith);
       behind = omega arith;
     } in
     record {
@@ -32,9 +31,8 @@ begins room r size start workers fits =
       start = start;
       workers = workers;
       chapter_room = fits;
-      stands = subst (λ o. IsStored r.size o [] (replicate (r.size / 8) 0)) (sym (begins-closing room r)) stands;
+      stands = subst (λ o. IsStored r.size o []) (sym (begins-closing room r)) stands;
       sized = All-nil IsSized;
-      places = length-replicate (r.size / 8) 0;
       counted = refl;
       granted = ap taken_before (sym (begins-closing room r));
     }

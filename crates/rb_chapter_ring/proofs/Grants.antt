@@ -19,25 +19,24 @@ use Rattle.rb_chapter.proofs.Numbers.{length-below}
 use Rattle.rb_chapter.proofs.Logging.{refused, granted, serial-is}
 use Rattle.rb_chapter.proofs.Running.{records-owe}
 use Rattle.rb_chapter_ring.proofs.CountSteps.{counting_grant, counting_refusal}
-use Rattle.rb_chapter_ring.specs.inner.ChapterRingBody.{place_of, taken_before, IsStored, IsRingOf}
+use Rattle.rb_chapter_ring.specs.inner.ChapterRingBody.{IsStored, IsRingOf}
 use Rattle.rb_chapter_ring.proofs.CountSteps.{counts-refusal, counts-grant}
 use Rattle.rb_chapter_ring.proofs.Keeps.{longer-legal, keeps}
-use Rattle.rb_chapter_ring.proofs.Numbering.{numbered-more}
 use Rattle.rb_chapter_ring.proofs.Rows.{rows}
-use Rattle.rb_chapter_ring.proofs.Places.{eights-in, row-many}
+use Rattle.rb_chapter_ring.proofs.Pieces.{eights-in, row-many}
 
-module _ (earlier : List Entry) (c : Chapter) (stored : List StoredRecord) (ordinals : List ℕ) (counts : Counts) (g : IsRingOf earlier c stored ordinals counts) where
+module _ (earlier : List Entry) (c : Chapter) (stored : List StoredRecord) (counts : Counts) (g : IsRingOf earlier c stored counts) where
   pub refusal-closing : (w n : ℕ) → w < c.opening.setup.workers → ¬ HasRoomFrom c.opening c.entries n → MayRefuse c w → with_refusal w (closing_of c) ≡ closing_of (with_entry c (Full w n))
   refusal-closing w n low none room = (refused earlier c g.kept (closing_of c) refl w n (with_refusal w (closing_of c)) (owed c) (with_entry c (Full w n)) low none room refl refl refl).closing_is
 
-  pub refusal-keeps : (w n : ℕ) → w < c.opening.setup.workers → ¬ HasRoomFrom c.opening c.entries n → MayRefuse c w → IsRingOf earlier (with_entry c (Full w n)) stored ordinals (counting_refusal counts)
+  pub refusal-keeps : (w n : ℕ) → w < c.opening.setup.workers → ¬ HasRoomFrom c.opening c.entries n → MayRefuse c w → IsRingOf earlier (with_entry c (Full w n)) stored (counting_refusal counts)
   refusal-keeps w n low none room =
       let e = Full w n in
       let runs = refused earlier c g.kept (closing_of c) refl w n (with_refusal w (closing_of c)) (owed c) (with_entry c e) low none room refl refl refl in
       let s = g.stands in
-      let stands : IsStored c.opening.setup.size (with_refusal w (closing_of c)) stored ordinals = record { limit = s.limit; space = s.space; aligned = s.aligned; shown = s.shown; numbered = s.numbered; behind = s.behind } in
-      let counted = counts-refusal c.opening.setup (earlier ++ c.entries) w n counts (longer-legal earlier c stored ordinals counts g e runs.kept) g.counted in
-      keeps earlier c stored ordinals counts g e (with_refusal w (closing_of c)) (owed c) stored ordinals (counting_refusal counts) runs stands g.sized refl counted g.granted
+      let stands : IsStored c.opening.setup.size (with_refusal w (closing_of c)) stored = record { limit = s.limit; space = s.space; aligned = s.aligned; shown = s.shown; behind = s.behind } in
+      let counted = counts-refusal c.opening.setup (earlier ++ c.entries) w n counts (longer-legal earlier c stored counts g e runs.kept) g.counted in
+      keeps earlier c stored counts g e (with_refusal w (closing_of c)) (owed c) stored (counting_refusal counts) runs stands g.sized counted g.granted
 
   -- the record that the worker is granted next
   abbrev pub newest : ℕ → ℕ → StoredRecord
@@ -46,7 +45,7 @@ module _ (earlier : List Entry) (c : Chapter) (stored : List StoredRecord) (ordi
   -- there are few records
   pub few : (length stored + 1 ≤ c.opening.setup.size / 8) × (8 * (length stored + 1) ≤ c.opening.setup.size)
   few =
-      let many = row-many (closing_of c).consumer stored (closing_of c).producer (rows earlier c stored ordinals counts g).in_row in
+      let many = row-many (closing_of c).consumer stored (closing_of c).producer (rows earlier c stored counts g).in_row in
       let e = eights-in c.opening.setup.size g.size in
       (omega (arith, many, g.stands.space, g.size.1, e.1), omega (arith, many, g.stands.space, g.size.1, e.1))
 
@@ -67,26 +66,24 @@ module _ (earlier : List Entry) (c : Chapter) (stored : List StoredRecord) (ordi
   grant-closing w n low fits room = (granted earlier c g.kept (closing_of c) refl w n (with_grant w n (closing_of c)) (owed c) (with_entry c (grant w n)) low fits room refl refl refl).closing_is
 
   pub grant-keeps : (w n : ℕ) → w < c.opening.setup.workers → HasRoomFrom c.opening c.entries n → MayGrant c
-      → IsRingOf earlier (with_entry c (Res w (grants_from c.opening w c.entries) n (producer_from c.opening c.entries))) (stored ++ newest w n ∷ []) (set ordinals (place_of c.opening.setup.size (closing_of c).producer) (taken_before (closing_of c) + length stored)) (counting_grant counts)
+      → IsRingOf earlier (with_entry c (Res w (grants_from c.opening w c.entries) n (producer_from c.opening c.entries))) (stored ++ newest w n ∷ []) (counting_grant counts)
   grant-keeps w n low fits room =
       let o = closing_of c in
       let size = c.opening.setup.size in
       let e = Res w (grants_from c.opening w c.entries) n (producer_from c.opening c.entries) in
-      let numbers = set ordinals (place_of size o.producer) (taken_before o + length stored) in
       let runs = granted earlier c g.kept o refl w n (with_grant w n o) (owed c) (with_entry c e) low fits room refl refl refl in
       let s = g.stands in
       let shown : map shown_record (stored ++ newest w n ∷ []) ≡ (with_grant w n o).records = map-append shown_record stored (newest w n ∷ []) ∙ ap (λ ss. ss ++ shown_record (newest w n) ∷ []) s.shown in
-      let stands : IsStored size (with_grant w n o) (stored ++ newest w n ∷ []) numbers = record {
+      let stands : IsStored size (with_grant w n o) (stored ++ newest w n ∷ []) = record {
         limit = fits.limit;
         space = fits.space;
         aligned = s.aligned;
         shown = shown;
-        numbered = numbered-more size g.size ordinals g.places (taken_before o) o.consumer o.producer stored (rows earlier c stored ordinals counts g).in_row s.aligned s.space s.numbered (newest w n) refl;
         behind = s.behind;
       } in
-      let counted = counts-grant c.opening.setup (earlier ++ c.entries) w (grants_from c.opening w c.entries) n (producer_from c.opening c.entries) counts (longer-legal earlier c stored ordinals counts g e runs.kept) g.counted in
-      keeps earlier c stored ordinals counts g e (with_grant w n o) (owed c + 2) (stored ++ newest w n ∷ []) numbers (counting_grant counts) runs stands (All-push IsSized stored (newest w n) g.sized tt)
-      (length-set ordinals (place_of size o.producer) (taken_before o + length stored)) counted (omega (arith, g.granted, length-append stored (newest w n ∷ [])))
+      let counted = counts-grant c.opening.setup (earlier ++ c.entries) w (grants_from c.opening w c.entries) n (producer_from c.opening c.entries) counts (longer-legal earlier c stored counts g e runs.kept) g.counted in
+      keeps earlier c stored counts g e (with_grant w n o) (owed c + 2) (stored ++ newest w n ∷ []) (counting_grant counts) runs stands (All-push IsSized stored (newest w n) g.sized tt)
+      counted (omega (arith, g.granted, length-append stored (newest w n ∷ [])))
 
   pub serial-of : (w : ℕ) → w < c.opening.setup.workers → (tally_at (closing_of c) w).made ≡ grants_from c.opening w c.entries
   serial-of w low = serial-is earlier c g.kept (closing_of c) refl w low

@@ -14,30 +14,30 @@ use Rattle.rb_chapter.specs.WholeHistory.{IsKept}
 use Rattle.rb_chapter.proofs.Logging.{KeepsRunning}
 use Rattle.rb_chapter.proofs.Settling.{whole-legal}
 use Rattle.rb_chapter_ring.specs.OpenedRing.{capped_counts}
-use Rattle.rb_chapter_ring.specs.inner.ChapterRingBody.{taken_before, IsStored, IsRingOf}
+use Rattle.rb_chapter_ring.specs.inner.Ordinals.{taken_before}
+use Rattle.rb_chapter_ring.specs.inner.ChapterRingBody.{IsStored, IsRingOf}
 
-module _ (earlier : List Entry) (c : Chapter) (stored : List StoredRecord) (ordinals : List ℕ) (counts : Counts) (g : IsRingOf earlier c stored ordinals counts) where
+module _ (earlier : List Entry) (c : Chapter) (stored : List StoredRecord) (counts : Counts) (g : IsRingOf earlier c stored counts) where
   -- the whole history, one entry longer
   pub longer-legal : (e : Entry) → IsKept earlier (with_entry c e) → IsLegal c.opening.setup ((earlier ++ c.entries) ++ e ∷ [])
   longer-legal e kept = subst (IsLegal c.opening.setup) (sym (append_assoc earlier c.entries (e ∷ []))) (whole-legal earlier (with_entry c e) kept (closing_of (with_entry c e)) refl)
 
-  pub keeps : (e : Entry) (now : Opening) (owing : ℕ) (after : List StoredRecord) (numbers : List ℕ) (counted : Counts) → KeepsRunning earlier (with_entry c e) now owing
-      → IsStored c.opening.setup.size now after numbers → All IsSized after → length numbers ≡ length ordinals → counted ≡ capped_counts (counts_of ((earlier ++ c.entries) ++ e ∷ []))
-      → counted.made ≡ taken_before now + length after → IsRingOf earlier (with_entry c e) after numbers counted
-  keeps e now owing after numbers counted runs stands sized long is made = record {
+  pub keeps : (e : Entry) (now : Opening) (owing : ℕ) (after : List StoredRecord) (counted : Counts) → KeepsRunning earlier (with_entry c e) now owing
+      → IsStored c.opening.setup.size now after → All IsSized after → counted ≡ capped_counts (counts_of ((earlier ++ c.entries) ++ e ∷ []))
+      → counted.made ≡ taken_before now + length after → IsRingOf earlier (with_entry c e) after counted
+  keeps e now owing after counted runs stands sized is made = record {
     kept = runs.kept;
     size = g.size;
     start = g.start;
     workers = g.workers;
     chapter_room = g.chapter_room;
-    stands = subst (λ o. IsStored c.opening.setup.size o after numbers) runs.closing_is stands;
+    stands = subst (λ o. IsStored c.opening.setup.size o after) runs.closing_is stands;
     sized = sized;
-    places = long ∙ g.places;
     granted = subst (λ o. counted.made ≡ taken_before o + length after) runs.closing_is made;
     counted = is ∙ ap (λ h. capped_counts (counts_of h)) (append_assoc earlier c.entries (e ∷ []));
   }
 
 -- the same parts
-pub transport-ring : (c d : Chapter) (ss ts : List StoredRecord) (ns ms : List ℕ) (a b : Counts) (earlier : List Entry) → c ≡ d → ss ≡ ts → ns ≡ ms → a ≡ b → IsRingOf earlier c ss ns a → IsRingOf earlier d ts ms b
-transport-ring c d ss ts ns ms a b earlier chapter items numbers counted is =
-    subst (λ x. IsRingOf earlier d ts ms x) counted (subst (λ x. IsRingOf earlier d ts x a) numbers (subst (λ x. IsRingOf earlier d x ns a) items (subst (λ x. IsRingOf earlier x ss ns a) chapter is)))
+pub transport-ring : (c d : Chapter) (ss ts : List StoredRecord) (a b : Counts) (earlier : List Entry) → c ≡ d → ss ≡ ts → a ≡ b → IsRingOf earlier c ss a → IsRingOf earlier d ts b
+transport-ring c d ss ts a b earlier chapter items counted is =
+    subst (λ x. IsRingOf earlier d ts x) counted (subst (λ x. IsRingOf earlier d x a) items (subst (λ x. IsRingOf earlier x ss a) chapter is))

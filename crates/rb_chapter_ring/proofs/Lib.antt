@@ -1,10 +1,8 @@
 pub mod CountSteps
-pub mod Places
+pub mod Pieces
 pub mod Slots
-pub mod Numbering
 pub mod Rows
 pub mod Keeps
-pub mod Finds
 pub mod Grants
 pub mod Settles
 pub mod TakesOne
@@ -14,3 +12,8 @@ pub mod ManyTakes
 pub mod Told
 pub mod Slotted
 pub mod Fronts
+pub mod FreedHands
+pub mod StateSteps
+pub mod Written
+pub mod Numbers
+pub mod Ordinals

@@ -18,7 +18,7 @@ use Rattle.rb_chapter.proofs.Settling.{whole-legal}
 use Rattle.rb_chapter.proofs.Stands.{goes-on}
 use Rattle.rb_chapter_ring.specs.inner.ChapterRingBody.{IsRingOf, ring_of}
 
-module _ (earlier : List Entry) (c : Chapter) (stored : List StoredRecord) (ordinals : List ℕ) (counts : Counts) (g : IsRingOf earlier c stored ordinals counts) where
+module _ (earlier : List Entry) (c : Chapter) (stored : List StoredRecord) (counts : Counts) (g : IsRingOf earlier c stored counts) where
   -- all that the ring ever did
   pub legal : IsLegal c.opening.setup (earlier ++ c.entries)
   legal = whole-legal earlier c g.kept (closing_of c) refl

@@ -20,10 +20,9 @@ use Rattle.rb_chapter.specs.ChapterRoom.{owed, record_now, IsBusyNow, with_entry
 use Rattle.rb_chapter.specs.inner.OpeningSteps.{with_submit, with_discard}
 use Rattle.rb_chapter.proofs.Settling.{submitted, discarded}
 use Rattle.rb_chapter_ring.proofs.CountSteps.{counting_submit, counting_discard}
-use Rattle.rb_chapter_ring.specs.inner.ChapterRingBody.{no_stored, ring_of, AreNumbered, IsStored, IsRingOf}
+use Rattle.rb_chapter_ring.specs.inner.ChapterRingBody.{ring_of, IsStored, IsRingOf}
 use Rattle.rb_chapter_ring.proofs.CountSteps.{counts-submit, counts-discard}
 use Rattle.rb_chapter_ring.proofs.Keeps.{longer-legal, keeps}
-use Rattle.rb_chapter_ring.proofs.Numbering.{numbered-set}
 use Rattle.rb_chapter_ring.proofs.Rows.{rows}
 
 map-set : (ss : List StoredRecord) (i : ℕ) (y : StoredRecord) → map shown_record (set ss i y) ≡ set (map shown_record ss) i (shown_record y)
@@ -31,10 +30,10 @@ map-set [] i y = refl
 map-set (x ∷ ss) zero y = refl
 map-set (x ∷ ss) (suc i) y = ap (λ l. shown_record x ∷ l) (map-set ss i y)
 
-pub within-now : (earlier : List Entry) (c : Chapter) (stored : List StoredRecord) (ordinals : List ℕ) (counts : Counts) (g : IsRingOf earlier c stored ordinals counts) (i pos n : ℕ) → IsBusyAt (ring_of c stored).shown i pos n → i < length stored
-within-now earlier c stored ordinals counts g i pos n at = omega (arith, at.within, length-map shown_record stored)
+pub within-now : (earlier : List Entry) (c : Chapter) (stored : List StoredRecord) (counts : Counts) (g : IsRingOf earlier c stored counts) (i pos n : ℕ) → IsBusyAt (ring_of c stored).shown i pos n → i < length stored
+within-now earlier c stored counts g i pos n at = omega (arith, at.within, length-map shown_record stored)
 
-module _ (earlier : List Entry) (c : Chapter) (stored : List StoredRecord) (ordinals : List ℕ) (counts : Counts) (g : IsRingOf earlier c stored ordinals counts) (i pos n : ℕ) (at : IsBusyAt (ring_of c stored).shown i pos n) (t : StoredRecord) (there : t ≡ get_or stored i t) where
+module _ (earlier : List Entry) (c : Chapter) (stored : List StoredRecord) (counts : Counts) (g : IsRingOf earlier c stored counts) (i pos n : ℕ) (at : IsBusyAt (ring_of c stored).shown i pos n) (t : StoredRecord) (there : t ≡ get_or stored i t) where
   pub busy : BusyRecord stored i t pos n
   busy = busy-record stored i t pos n at there
 
@@ -57,49 +56,46 @@ module _ (earlier : List Entry) (c : Chapter) (stored : List StoredRecord) (ordi
   pub pos-now : (record_now c i).pos ≡ pos
   pos-now = ap (λ (s : Shown). s.pos) same-record ∙ busy.at
 
-  settled-stands : (now : Opening) (y : StoredRecord) (st : Status) → y.pos ≡ t.pos → shown_record y ≡ record (shown_record t) { status = st } → now.producer ≡ (closing_of c).producer → now.consumer ≡ (closing_of c).consumer
-      → now.consumed ≡ (closing_of c).consumed → now.skipped ≡ (closing_of c).skipped → now.records ≡ set (closing_of c).records i (record (record_in (closing_of c) i) { status = st }) → IsStored c.opening.setup.size now (set stored i y) ordinals
-  settled-stands now y st place shows p q e k rs =
+  settled-stands : (now : Opening) (y : StoredRecord) (st : Status) → shown_record y ≡ record (shown_record t) { status = st } → now.producer ≡ (closing_of c).producer → now.consumer ≡ (closing_of c).consumer
+      → now.consumed ≡ (closing_of c).consumed → now.skipped ≡ (closing_of c).skipped → now.records ≡ set (closing_of c).records i (record (record_in (closing_of c) i) { status = st }) → IsStored c.opening.setup.size now (set stored i y)
+  settled-stands now y st shows p q e k rs =
       let s = g.stands in
-      let taken : now.consumed + now.skipped ≡ (closing_of c).consumed + (closing_of c).skipped = λ j. e j + k j in
       record {
         limit = omega (arith, p, s.limit);
         space = omega (arith, p, q, s.space);
         aligned = ap (λ x. x % 8) q ∙ s.aligned;
         behind = omega (arith, e, k, q, s.behind);
         shown = map-set stored i y ∙ (λ j. set (s.shown j) i (shows j)) ∙ ap (λ (x : Shown). set (closing_of c).records i (record x { status = st })) (sym same-record) ∙ sym rs;
-        numbered = subst (λ first. AreNumbered c.opening.setup.size ordinals first (set stored i y)) (sym taken)
-            (numbered-set c.opening.setup.size ordinals ((closing_of c).consumed + (closing_of c).skipped) stored i y (place ∙ ap (λ (x : StoredRecord). x.pos) (there ∙ sym (get_or-default stored i no_stored t busy.within))) s.numbered);
       }
 
   pub submit-closing : with_submit i (closing_of c) ≡ closing_of (with_entry c (Sub (record_now c i).pos))
   submit-closing = (submitted earlier c g.kept (closing_of c) refl i is-busy (with_submit i (closing_of c)) (owed c) (with_entry c (Sub (record_now c i).pos)) refl refl refl).closing_is
 
-  pub submit-keeps : (bytes : List ℕ) → length bytes ≡ n → IsRingOf earlier (with_entry c (Sub (record_now c i).pos)) (set stored i (record t { state = Submitted bytes })) ordinals (counting_submit counts)
+  pub submit-keeps : (bytes : List ℕ) → length bytes ≡ n → IsRingOf earlier (with_entry c (Sub (record_now c i).pos)) (set stored i (record t { state = Submitted bytes })) (counting_submit counts)
   submit-keeps bytes long =
       let e = Sub (record_now c i).pos in
       let y : StoredRecord = record t { state = Submitted bytes } in
       let now = with_submit i (closing_of c) in
       let runs = submitted earlier c g.kept (closing_of c) refl i is-busy now (owed c) (with_entry c e) refl refl refl in
-      let stands = settled-stands now y Waiting refl refl refl refl refl refl refl in
-      let counted = counts-submit c.opening.setup (earlier ++ c.entries) (record_now c i).pos counts (longer-legal earlier c stored ordinals counts g e runs.kept) g.counted in
-      keeps earlier c stored ordinals counts g e now (owed c - 1) (set stored i y) ordinals (counting_submit counts) runs stands (All-set IsSized stored i y (long ∙ sym busy.sized) g.sized) refl counted (omega (arith, g.granted, length-set stored i y))
+      let stands = settled-stands now y Waiting refl refl refl refl refl refl in
+      let counted = counts-submit c.opening.setup (earlier ++ c.entries) (record_now c i).pos counts (longer-legal earlier c stored counts g e runs.kept) g.counted in
+      keeps earlier c stored counts g e now (owed c - 1) (set stored i y) (counting_submit counts) runs stands (All-set IsSized stored i y (long ∙ sym busy.sized) g.sized) counted (omega (arith, g.granted, length-set stored i y))
 
   pub discard-closing : with_discard i (closing_of c) ≡ closing_of (with_entry c (Dis (record_now c i).pos))
   discard-closing = (discarded earlier c g.kept (closing_of c) refl i is-busy (with_discard i (closing_of c)) (owed c) (with_entry c (Dis (record_now c i).pos)) refl refl refl).closing_is
 
-  pub discard-keeps : IsRingOf earlier (with_entry c (Dis (record_now c i).pos)) (set stored i (record t { state = DiscardedState })) ordinals (counting_discard counts)
+  pub discard-keeps : IsRingOf earlier (with_entry c (Dis (record_now c i).pos)) (set stored i (record t { state = DiscardedState })) (counting_discard counts)
   discard-keeps =
       let e = Dis (record_now c i).pos in
       let y : StoredRecord = record t { state = DiscardedState } in
       let now = with_discard i (closing_of c) in
       let runs = discarded earlier c g.kept (closing_of c) refl i is-busy now (owed c) (with_entry c e) refl refl refl in
-      let stands = settled-stands now y Discarded refl refl refl refl refl refl refl in
-      let counted = counts-discard c.opening.setup (earlier ++ c.entries) (record_now c i).pos counts (longer-legal earlier c stored ordinals counts g e runs.kept) g.counted in
-      keeps earlier c stored ordinals counts g e now (owed c - 1) (set stored i y) ordinals (counting_discard counts) runs stands (All-set IsSized stored i y tt g.sized) refl counted (omega (arith, g.granted, length-set stored i y))
+      let stands = settled-stands now y Discarded refl refl refl refl refl refl in
+      let counted = counts-discard c.opening.setup (earlier ++ c.entries) (record_now c i).pos counts (longer-legal earlier c stored counts g e runs.kept) g.counted in
+      keeps earlier c stored counts g e now (owed c - 1) (set stored i y) (counting_discard counts) runs stands (All-set IsSized stored i y tt g.sized) counted (omega (arith, g.granted, length-set stored i y))
 
   pub contents-submit : (bytes : List ℕ) → contents_of (set stored i (record t { state = Submitted bytes })) ≡ insert (contents_of stored) pos bytes
-  contents-submit bytes = contents-send c.opening.setup (earlier ++ c.entries) stored i t pos n (closing_of c).producer (closing_of c).consumer busy (rows earlier c stored ordinals counts g) bytes
+  contents-submit bytes = contents-send c.opening.setup (earlier ++ c.entries) stored i t pos n (closing_of c).producer (closing_of c).consumer busy (rows earlier c stored counts g) bytes
 
   pub contents-discard : contents_of (set stored i (record t { state = DiscardedState })) ≡ contents_of stored
-  contents-discard = contents-drop c.opening.setup (earlier ++ c.entries) stored i t pos n (closing_of c).producer (closing_of c).consumer busy (rows earlier c stored ordinals counts g)
+  contents-discard = contents-drop c.opening.setup (earlier ++ c.entries) stored i t pos n (closing_of c).producer (closing_of c).consumer busy (rows earlier c stored counts g)

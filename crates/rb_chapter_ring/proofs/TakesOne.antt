@@ -31,10 +31,10 @@ use Rattle.rb_chapter.specs.inner.OpeningSteps.{with_take, events_by, skips_by}
 use Rattle.rb_chapter.proofs.Alike.{calls-alike}
 use Rattle.rb_chapter.proofs.Settling.{taken, takes-behind}
 use Rattle.rb_chapter_ring.specs.OpenedRing.{capped_counts}
-use Rattle.rb_chapter_ring.specs.inner.ChapterRingBody.{taken_before, ring_of, AreNumbered, IsStored, IsRingOf}
+use Rattle.rb_chapter_ring.specs.inner.Ordinals.{taken_before}
+use Rattle.rb_chapter_ring.specs.inner.ChapterRingBody.{ring_of, IsStored, IsRingOf}
 use Rattle.rb_chapter_ring.proofs.CountSteps.{counting_take, counts-take, made-taken}
 use Rattle.rb_chapter_ring.proofs.Keeps.{longer-legal, keeps}
-use Rattle.rb_chapter_ring.proofs.Numbering.{numbered-tail}
 use Rattle.rb_chapter_ring.proofs.Rows.{rows}
 
 one-of-two : (a : RecordState) → a ≢ Reserved → events_by (state_status a) + skips_by (state_status a) ≡ 1
@@ -48,17 +48,17 @@ waits-by (Submitted b) st e = rw e refl
 waits-by DiscardedState st e = rw e refl
 
 -- a take by the whole history is the take by the chapter
-by-chapter : (earlier : List Entry) (c : Chapter) (stored : List StoredRecord) (ordinals : List ℕ) (counts : Counts) (g : IsRingOf earlier c stored ordinals counts) (new : ChapterRing) (t : Taken) → IsSameChapter (ring_of c stored) new
+by-chapter : (earlier : List Entry) (c : Chapter) (stored : List StoredRecord) (counts : Counts) (g : IsRingOf earlier c stored counts) (new : ChapterRing) (t : Taken) → IsSameChapter (ring_of c stored) new
     → WholeTakes (whole_ring earlier (ring_of c stored)) (whole_ring earlier new) t → Takes (ring_of c stored) new t
-by-chapter earlier c stored ordinals counts g new t same whole = ((calls-alike earlier (ring_of c stored) new g.kept.continues).takes t).1 (same, whole)
+by-chapter earlier c stored counts g new t same whole = ((calls-alike earlier (ring_of c stored) new g.kept.continues).takes t).1 (same, whole)
 
 -- which answer it is
-exact-front : (earlier : List Entry) (c : Chapter) (stored : List StoredRecord) (ordinals : List ℕ) (counts : Counts) (g : IsRingOf earlier c stored ordinals counts) (new : ChapterRing) (t : Taken)
+exact-front : (earlier : List Entry) (c : Chapter) (stored : List StoredRecord) (counts : Counts) (g : IsRingOf earlier c stored counts) (new : ChapterRing) (t : Taken)
     → WholeTakes (whole_ring earlier (ring_of c stored)) (whole_ring earlier new) t → ((t ≡ BusyFront) ↔ HasBusyFront (ring_of c stored)) × ((t ≡ Empty) ↔ AllTaken (ring_of c stored))
-exact-front earlier c stored ordinals counts g new t whole =
+exact-front earlier c stored counts g new t whole =
     let r = c.opening.setup in
     let h = earlier ++ c.entries in
-    let k = rows earlier c stored ordinals counts g in
+    let k = rows earlier c stored counts g in
     let alike = calls-alike earlier (ring_of c stored) new g.kept.continues in
     let busy = exact-busy r h stored (closing_of c).producer (closing_of c).consumer k (whole_ring earlier new) t whole in
     let empty = exact-empty r h stored (closing_of c).producer (closing_of c).consumer k (whole_ring earlier new) t whole in
@@ -70,21 +70,21 @@ pub record TakesAs (old new : ChapterRing) (t : Taken) : Type 0 where
   pub busy_front : (t ≡ BusyFront) ↔ HasBusyFront old
   pub empty : (t ≡ Empty) ↔ AllTaken old
 
-module _ (earlier : List Entry) (c : Chapter) (stored : List StoredRecord) (ordinals : List ℕ) (counts : Counts) (g : IsRingOf earlier c stored ordinals counts) where
+module _ (earlier : List Entry) (c : Chapter) (stored : List StoredRecord) (counts : Counts) (g : IsRingOf earlier c stored counts) where
   as-taken : (new : ChapterRing) (t : Taken) → IsSameChapter (ring_of c stored) new → WholeTakes (whole_ring earlier (ring_of c stored)) (whole_ring earlier new) t → TakesAs (ring_of c stored) new t
   as-taken new t same whole =
-      let exact = exact-front earlier c stored ordinals counts g new t whole in
-      record { takes = by-chapter earlier c stored ordinals counts g new t same whole; busy_front = exact.0; empty = exact.1 }
+      let exact = exact-front earlier c stored counts g new t whole in
+      record { takes = by-chapter earlier c stored counts g new t same whole; busy_front = exact.0; empty = exact.1 }
 
   pub takes-none : length stored ≡ 0 → TakesAs (ring_of c stored) (ring_of c stored) Empty
   takes-none none =
       as-taken (ring_of c stored) Empty refl
-      (none-there c.opening.setup (earlier ++ c.entries) stored (closing_of c).producer (closing_of c).consumer (rows earlier c stored ordinals counts g) (whole_ring earlier (ring_of c stored)) none)
+      (none-there c.opening.setup (earlier ++ c.entries) stored (closing_of c).producer (closing_of c).consumer (rows earlier c stored counts g) (whole_ring earlier (ring_of c stored)) none)
 
   pub takes-busy : (x : StoredRecord) → 0 < length stored → x ≡ get_or stored 0 x → x.state ≡ Reserved → TakesAs (ring_of c stored) (ring_of c stored) BusyFront
   takes-busy x some is held =
       as-taken (ring_of c stored) BusyFront refl
-      (front-busy c.opening.setup (earlier ++ c.entries) stored x (closing_of c).producer (closing_of c).consumer some is held (rows earlier c stored ordinals counts g))
+      (front-busy c.opening.setup (earlier ++ c.entries) stored x (closing_of c).producer (closing_of c).consumer some is held (rows earlier c stored counts g))
 
   module _ (t : StoredRecord) (after : List StoredRecord) (split : stored ≡ t ∷ after) (free : t.state ≢ Reserved) where
     same-front : record_in (closing_of c) 0 ≡ shown_record t
@@ -110,7 +110,7 @@ module _ (earlier : List Entry) (c : Chapter) (stored : List StoredRecord) (ordi
 
     front-pos : t.pos ≡ (closing_of c).consumer
     front-pos =
-        let row : InRow (closing_of c).consumer (map shown_record (t ∷ after)) (closing_of c).producer = subst (λ ss. InRow (closing_of c).consumer (map shown_record ss) (closing_of c).producer) split (rows earlier c stored ordinals counts g).in_row in
+        let row : InRow (closing_of c).consumer (map shown_record (t ∷ after)) (closing_of c).producer = subst (λ ss. InRow (closing_of c).consumer (map shown_record ss) (closing_of c).producer) split (rows earlier c stored counts g).in_row in
         row.0
 
     -- the take in the words of the whole history
@@ -120,16 +120,16 @@ module _ (earlier : List Entry) (c : Chapter) (stored : List StoredRecord) (ordi
     status-there : status_by (is_submitted_at (earlier ++ c.entries) (closing_of c).consumer) (is_discarded_at (earlier ++ c.entries) (closing_of c).consumer) false ≡ state_status t.state
     status-there =
         let h = earlier ++ c.entries in
-        let k = subst (λ ss. HistoryFacts c.opening.setup h (map shown_record ss) (closing_of c).producer (closing_of c).consumer) split (rows earlier c stored ordinals counts g) in
+        let k = subst (λ ss. HistoryFacts c.opening.setup h (map shown_record ss) (closing_of c).producer (closing_of c).consumer) split (rows earlier c stored counts g) in
         let n : Named h h (shown_record t) = named-at c.opening.setup h (map shown_record (t ∷ after)) (closing_of c).producer (closing_of c).consumer 0 (shown_record t) k (omega arith) in
         subst (λ p. status_by (is_submitted_at h p) (is_discarded_at h p) false ≡ state_status t.state) front-pos n.status_is
 
     counted-take : counting_take (is_submitted_state t.state) counts ≡ capped_counts (counts_of ((earlier ++ c.entries) ++ entry ∷ []))
     counted-take =
         let runs = taken earlier c g.kept (closing_of c) refl is-settled (with_take (closing_of c)) (owed c) next refl refl refl in
-        counts-take c.opening.setup (earlier ++ c.entries) (closing_of c).consumer counts (is_submitted_state t.state) (longer-legal earlier c stored ordinals counts g entry runs.kept) (waits-by t.state _ status-there) g.counted
+        counts-take c.opening.setup (earlier ++ c.entries) (closing_of c).consumer counts (is_submitted_state t.state) (longer-legal earlier c stored counts g entry runs.kept) (waits-by t.state _ status-there) g.counted
 
-    pub take-keeps : IsRingOf earlier next after ordinals (counting_take (is_submitted_state t.state) counts)
+    pub take-keeps : IsRingOf earlier next after (counting_take (is_submitted_state t.state) counts)
     take-keeps =
         let o = closing_of c in
         let now = with_take o in
@@ -137,23 +137,21 @@ module _ (earlier : List Entry) (c : Chapter) (stored : List StoredRecord) (ordi
         let s = g.stands in
         let len : (record_in o 0).len ≡ t.len = ap (λ (x : Shown). x.len) same-front in
         let one : now.consumed + now.skipped ≡ taken_before o + 1 = one-more in
-        let stands : IsStored c.opening.setup.size now after ordinals = record {
+        let stands : IsStored c.opening.setup.size now after = record {
           limit = s.limit;
           space = omega (arith, s.space);
           aligned = omega (arith, s.aligned);
           behind = takes-behind o s.behind;
           shown = ap (drop 1) (ap (map shown_record) (sym split) ∙ s.shown);
-          numbered = subst (λ first. AreNumbered c.opening.setup.size ordinals first after) (sym one)
-              (numbered-tail c.opening.setup.size ordinals (taken_before o) t after (subst (AreNumbered c.opening.setup.size ordinals (taken_before o)) split s.numbered));
         } in
-        keeps earlier c stored ordinals counts g entry now (owed c - 1) after ordinals (counting_take (is_submitted_state t.state) counts) runs stands (All-tail IsSized t after (subst (All IsSized) split g.sized)) refl counted-take
+        keeps earlier c stored counts g entry now (owed c - 1) after (counting_take (is_submitted_state t.state) counts) runs stands (All-tail IsSized t after (subst (All IsSized) split g.sized)) counted-take
         (omega (arith, made-taken (is_submitted_state t.state) counts, g.granted, one, ap length split))
 
     pub takes-it : TakesAs (ring_of c stored) (ring_of next after) (taken_of t t.state)
     takes-it =
         let r = c.opening.setup in
         let h = earlier ++ c.entries in
-        let whole = takes-front r h stored after t (closing_of c).producer (closing_of c).consumer ((earlier ++ c.entries) ++ entry ∷ []) ((closing_of c).consumer + span t.len) taking g.sized (rows earlier c stored ordinals counts g) in
+        let whole = takes-front r h stored after t (closing_of c).producer (closing_of c).consumer ((earlier ++ c.entries) ++ entry ∷ []) ((closing_of c).consumer + span t.len) taking g.sized (rows earlier c stored counts g) in
         as-taken (ring_of next after) (taken_of t t.state) refl (settled-whole t.state whole)
       where
         -- only the history and the contents count

@@ -13,7 +13,8 @@ use Rattle.rb_history.proofs.Lists.{sum_by-cons}
 use Rattle.rb_chapter.specs.Opening.{shown_count, counts_at}
 use Rattle.rb_chapter.specs.Chapters.{Chapter, closing_of}
 use Rattle.rb_chapter.specs.ChapterRoom.{owed_for, owed}
-use Rattle.rb_chapter_ring.specs.inner.ChapterRingBody.{taken_before, IsRingOf}
+use Rattle.rb_chapter_ring.specs.inner.Ordinals.{taken_before}
+use Rattle.rb_chapter_ring.specs.inner.ChapterRingBody.{IsRingOf}
 use Rattle.rb_chapter_ring.proofs.CountSteps.{bit, countable}
 use Rattle.rb_chapter_ring.proofs.Rows.{legal, said}
 
@@ -37,17 +38,17 @@ pub record Together (c : Chapter) (stored : List StoredRecord) (counts : Counts)
   pub split : counts.made ≡ counts.busy + counts.waiting + counts.consumed + counts.discarded
   pub low : counts.made < 2 ^ 62
 
-pub together : (earlier : List Entry) (c : Chapter) (stored : List StoredRecord) (ordinals : List ℕ) (counts : Counts) → IsRingOf earlier c stored ordinals counts → Together c stored counts
-together earlier c stored ordinals counts g =
+pub together : (earlier : List Entry) (c : Chapter) (stored : List StoredRecord) (counts : Counts) → IsRingOf earlier c stored counts → Together c stored counts
+together earlier c stored counts g =
     let h = earlier ++ c.entries in
-    let whole : counts_at (closing_of c) ≡ counts_of h = (said earlier c stored ordinals counts g).counts in
+    let whole : counts_at (closing_of c) ≡ counts_of h = (said earlier c stored counts g).counts in
     let long : length stored ≡ length (closing_of c).records = sym (length-map shown_record stored) ∙ ap length g.stands.shown in
     record {
       made_is = sym g.granted;
       consumed_is = omega (arith, ap (λ (x : Counts). x.consumed) whole, ap (λ (x : Counts). x.consumed) g.counted);
       busy_is = omega (arith, long, owes-busy (closing_of c).records, ap (λ (x : Counts). x.busy) whole, ap (λ (x : Counts). x.busy) g.counted);
       split = omega (arith, made-split h, ap (λ (x : Counts). x.made) g.counted, ap (λ (x : Counts). x.busy) g.counted, ap (λ (x : Counts). x.waiting) g.counted, ap (λ (x : Counts). x.consumed) g.counted, ap (λ (x : Counts). x.discarded) g.counted);
-      low = (countable c.opening.setup h counts (legal earlier c stored ordinals counts g) g.counted).made;
+      low = (countable c.opening.setup h counts (legal earlier c stored counts g) g.counted).made;
     }
 
 -- the numbers that a ring has: its refusals and discards, how many records were consumed and skipped, how many are there, and how many
@@ -65,10 +66,10 @@ pub record Tells (refused discarded consumed skipped many owing : ℕ) (counts :
     busy = owing - many;
   }) counts
 
-pub tells : (earlier : List Entry) (c : Chapter) (stored : List StoredRecord) (ordinals : List ℕ) (counts : Counts) → IsRingOf earlier c stored ordinals counts → (refused discarded consumed skipped many owing : ℕ) → refused ≡ counts.refused → discarded ≡ counts.discarded
+pub tells : (earlier : List Entry) (c : Chapter) (stored : List StoredRecord) (counts : Counts) → IsRingOf earlier c stored counts → (refused discarded consumed skipped many owing : ℕ) → refused ≡ counts.refused → discarded ≡ counts.discarded
     → consumed ≡ (closing_of c).consumed → skipped ≡ (closing_of c).skipped → many ≡ length stored → owing ≡ owed c → Tells refused discarded consumed skipped many owing counts
-tells earlier c stored ordinals counts g refused discarded consumed skipped many owing f d e k n w =
-    let t = together earlier c stored ordinals counts g in
+tells earlier c stored counts g refused discarded consumed skipped many owing f d e k n w =
+    let t = together earlier c stored counts g in
     let made : consumed + skipped + many ≡ counts.made = omega (arith, e, k, n, t.made_is) in
     let taken : consumed ≡ counts.consumed = e ∙ t.consumed_is in
     let busy : owing - many ≡ counts.busy = omega (arith, w, n, t.busy_is) in

@@ -12,9 +12,10 @@ use Rattle.rb_chapter.specs.ChapterCalls.{HandsOut}
 use Rattle.rb_chapter.proofs.Running.{closing-none}
 use Rattle.rb_chapter.proofs.Room.{next-room}
 use Rattle.rb_chapter_ring.specs.OpenedRing.{capped_counts, MayGoOnIn}
-use Rattle.rb_chapter_ring.specs.inner.ChapterRingBody.{taken_before, ring_of, IsStored, IsRingOf}
+use Rattle.rb_chapter_ring.specs.inner.Ordinals.{taken_before}
+use Rattle.rb_chapter_ring.specs.inner.ChapterRingBody.{ring_of, IsStored, IsRingOf}
 
-module _ (earlier : List Entry) (c : Chapter) (stored : List StoredRecord) (ordinals : List ℕ) (counts : Counts) (g : IsRingOf earlier c stored ordinals counts) (d : Chapter) (meets : Meets c d) (none : d.entries ≡ []) (room : d.room ≡ c.room) where
+module _ (earlier : List Entry) (c : Chapter) (stored : List StoredRecord) (counts : Counts) (g : IsRingOf earlier c stored counts) (d : Chapter) (meets : Meets c d) (none : d.entries ≡ []) (room : d.room ≡ c.room) where
   -- it stands for the same
   pub closing-same : closing_of d ≡ closing_of c
   closing-same = closing-none (earlier ++ c.entries) d (next-room earlier c d g.kept.continues g.kept.room meets none room).1 none ∙ meets.goes_on
@@ -22,7 +23,7 @@ module _ (earlier : List Entry) (c : Chapter) (stored : List StoredRecord) (ordi
   setup-same : d.opening.setup ≡ c.opening.setup
   setup-same = ap (λ (o : Opening). o.setup) meets.goes_on
 
-  pub turn-keeps : IsRingOf (earlier ++ c.entries) d stored ordinals counts
+  pub turn-keeps : IsRingOf (earlier ++ c.entries) d stored counts
   turn-keeps =
       let next = next-room earlier c d g.kept.continues g.kept.room meets none room in
       let size = ap (λ s. s.size) setup-same in
@@ -32,9 +33,8 @@ module _ (earlier : List Entry) (c : Chapter) (stored : List StoredRecord) (ordi
         start = subst IsStartPosition (sym (ap (λ s. s.start) setup-same)) g.start;
         workers = subst IsWorkerCount (sym (ap (λ s. s.workers) setup-same)) g.workers;
         chapter_room = subst IsChapterRoom (sym room) g.chapter_room;
-        stands = subst (λ o. IsStored d.opening.setup.size o stored ordinals) (sym closing-same) (subst (λ n. IsStored n (closing_of c) stored ordinals) (sym size) g.stands);
+        stands = subst (λ o. IsStored d.opening.setup.size o stored) (sym closing-same) (subst (λ n. IsStored n (closing_of c) stored) (sym size) g.stands);
         sized = g.sized;
-        places = g.places ∙ ap (λ n. n / 8) (sym size);
         granted = subst (λ o. counts.made ≡ taken_before o + length stored) (sym closing-same) g.granted;
         counted = g.counted ∙ ap (λ h. capped_counts (counts_of h)) (sym (ap (λ es. (earlier ++ c.entries) ++ es) none ∙ append-nil (earlier ++ c.entries)));
       }

@@ -4,19 +4,21 @@ ghost use Rattle.std.specs.Prelude.{◌≡◌, ◌+◌, ◌≤◌, ◌++◌, len
 ghost use Rattle.rb_history.specs.ManyTakes.{pushed};
 ghost use Rattle.rb_chapter.specs.ChapterCalls.{IsSameChapter};
 ghost use Rattle.rb_chapter_ring.specs.ManyTakes.{TakesManyInChapter};
+ghost use Rattle.rb_chapter_ring.specs.inner.Ordinals.{KeepsNumbers};
 
-use crate::ring::RingState;
+use crate::chapter_state::ChapterState;
 use rb_history::Taken;
 
-impl RingState {
+impl ChapterState {
     /// Takes up to `n` records, as so many calls of `take`, pushes each that was handed out or passed over onto `out`, and returns how
     /// many they are. It stops before the first take that finds a busy record or none, so it pushes neither `BusyFront` nor `Empty`. It
     /// takes no memory, and constant time for each record. (Linux Documentation/bpf/ringbuf.rst: records are consumed in the order of their
     /// reservation.)
-    pub fn take_many(&mut self, n: usize, out: &mut Vec<Taken>) -> usize
+    pub(crate) fn take_many(&mut self, n: usize, out: &mut Vec<Taken>) -> usize
         requires room { vec_len out.old + n ≤ vec_capacity out.old }
         ensures same_chapter { IsSameChapter self.old self.new }
         ensures takes { TakesManyInChapter n (pushed out.old.items out.new.items) self.old self.new }
+        ensures numbers { KeepsNumbers self.old.chapter self.new.chapter }
         ensures kept { out.new.items ≡ out.old.items ++ pushed out.old.items out.new.items }
         ensures count { result ≡ length (pushed out.old.items out.new.items) }
         ensures capacity { vec_capacity out.new ≡ vec_capacity out.old }

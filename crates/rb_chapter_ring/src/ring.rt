@@ -1,51 +1,39 @@
-//! One ring, for one thread, with one chapter of its history.
+//! One ring, for one thread.
 
-ghost use Rattle.std.specs.Prelude.{ℕ, ◌≡◌, ◌≢◌, ◌<◌, ◌≤◌, ◌^◌, ◌↔◌, ◌∷◌, [], ◌++◌, List, IsErrOf, IfOk, OnOk, OnErr, IfErr, IfSome, IfNone, OnSome, length, replicate};
-ghost use Rattle.std.specs.FinMap.{insert};
-ghost use Rattle.rb_history.specs.declared.entries.Entry.{Entry};
-ghost use Rattle.rb_history.specs.History.Status.{Busy};
+ghost use Rattle.std.specs.Prelude.{List, ◌≡◌, ◌≢◌, ◌<◌, ◌≤◌, ◌+◌, ◌++◌, ◌↔◌, IfOk, IfErr, IfSome, IfNone, IsErrOf, IsOk, IsTrue, OnOk, OnErr, length, replicate, vec_len, vec_capacity};
 ghost use Rattle.rb_history.specs.RingModel.{IsRingSize, IsStartPosition, IsWorkerCount};
+ghost use Rattle.rb_history.specs.declared.answers.Notice.TheVariants.{Due};
 ghost use Rattle.rb_history.specs.NoticesAndQueries.{IsDue};
-ghost use Rattle.rb_history.specs.inner.RecordRows.{IsBusyAt};
+ghost use Rattle.rb_history.specs.ManyTakes.{pushed};
+ghost use Rattle.rb_history.specs.declared.answers.Taken.TheVariants.{BusyFront, Empty};
+ghost use Rattle.rb_history.specs.declared.entries.Entry.{Entry};
 ghost use Rattle.rb_chapter.specs.Chapters.{IsChapterRoom};
 ghost use Rattle.rb_chapter.specs.CountedFrom.{query_answer_from};
+ghost use Rattle.rb_chapter.specs.ChapterCalls.{AllTaken, HandsOut, HasBusyFront, IsSameChapter, Outputs, Takes, consumer_now, producer_now};
 ghost use Rattle.rb_chapter.specs.ChapterRing.{StandsForChapter};
-ghost use Rattle.rb_chapter.specs.ChapterCalls.{producer_now, consumer_now, ChapterRingHasRoom, IsSameChapter, Logs, HoldsReservationFrom, HasBusyFront, AllTaken, Grants, Outputs, Submits, Discards, Strays, Takes};
 ghost use Rattle.rb_chapter.specs.WholeHistory.{IsKept};
-ghost use Rattle.rb_chapter_ring.specs.OpenedRing.{opened_ring, told_counts, IsChapterRingWithin};
+ghost use Rattle.rb_chapter_ring.specs.declared.faults.ReserveFault.TheVariants.{Flags};
+ghost use Rattle.rb_chapter_ring.specs.ManyTakes.{TakesManyInChapter};
+ghost use Rattle.rb_chapter_ring.specs.OpenedRing.{IsChapterRingWithin, MayGoOnIn, opened_ring, told_counts};
 ghost use Rattle.rb_chapter_ring.specs.RingFaults.{RefusesInChapter};
+ghost use Rattle.rb_hands.specs.Hands.{AreAllOut, IsFree, IsLowestFree, free_book, hands_of};
+ghost use Rattle.rb_hands.specs.HandRing.{hand_ring, HasHands, HasInHand, GrantsToHand, SubmitsFromHand, DiscardsFromHand};
 
-mod handing_out;
-
-use crate::counting::count_refusal;
 use crate::faults::{OpenFault, ReserveFault};
-use crate::finding::{busy_index, front_of, place_in, slot_in};
-use crate::setup::{check_setup, empty_sheets, made_by, slots_for};
-use rb_chapter::{Chapter, UntakenStatus};
-use rb_history::{
-    AVAIL_DATA, CONS_POS, Counts, KNOWN_FLAGS, Notice, PROD_POS, RING_SIZE, Reservation, Stray,
-    Taken, notice_for,
-};
+use crate::hand_state::HandState;
+use crate::reservation::Reservation;
+use rb_chapter::Chapter;
+use rb_history::{Counts, Notice, Taken};
 use rb_lend::Sheet;
 use std::alloc::Global;
 use std::marker::Model;
-use std::mem;
 
-/// One ring of records, for one thread. Contracts see its chapter, the bytes of its waiting records, and what it shows.
-///
-/// The records that are there are the chapter's, in the order of their grants, and beside them stands a number for each eight bytes of
-/// the ring: how many records had been granted before the last one there. So a reservation's record is found in constant time: that
-/// number less the number of the records that were taken is its index. The bytes of a waiting record lie in the slot of its number; there
-/// are as many slots as records may be there at once, and they go round.
+/// One ring of records, for one thread, whose reservations name its tag. Contracts see its tag, its chapter, the bytes of its waiting records, what
+/// it shows, and its book of hands.
 #[derive(Drop)]
 pub struct RingState {
-    chapter: Chapter,
-    sheets: Vec<Sheet>,
-    alloc: Global,
-    ordinals: Vec<u64>,
-    // The refusals, of which it counts as many as 64 bits hold, and the discards. The other counts follow from the chapter.
-    refused: u64,
-    discarded: u64,
+    tag: u64,
+    state: HandState,
 }
 
 impl Model for RingState {
@@ -53,341 +41,217 @@ impl Model for RingState {
     ghost use Rattle.rb_history.specs.RingModel.{contents_code};
     ghost use Rattle.rb_history.specs.contracts.entries.Entry as entry;
     ghost use Rattle.rb_history.specs.contracts.tally.Tally as tally_row;
-    ghost use Rattle.rb_chapter.specs.ChapterRing.{ChapterRing};
-    ghost use Rattle.rb_chapter_ring.specs.inner.ChapterRingBody.{chapter_ring_shown, ChapterRingInvariant};
+    ghost use Rattle.rb_hands.specs.contracts.out_record.OutRecord as out_row;
+    ghost use Rattle.rb_chapter_ring.specs.TaggedRing.{TaggedRing};
 
-    ghost Value = { ChapterRing };
+    ghost Value = { TaggedRing };
 
-    ghost coded = { Prim.hlevel (codes, contents_code, entry.the_row.coded, tally_row.the_row.coded) };
+    ghost coded = { Prim.hlevel (codes, contents_code, entry.the_row.coded, tally_row.the_row.coded, out_row.the_row.coded) };
 
-    ghost view = { chapter_ring_shown };
-
-    ghost invariant = { ChapterRingInvariant };
+    ghost view = { λ s. record { tag = s.tag; state = s.state } };
 }
 
 impl RingState {
-    /// A ring without records, of `size` bytes, whose positions begin at `start`, for `workers` workers, which keeps chapters of `room`
-    /// entries; or the first of `OpenFault`'s refusals that applies. It takes all memory that the ring will ever need: that of its first
-    /// chapter, a slot for each record that may be there at once (a power of two), and eight bytes for each eight of the ring.
+    /// A ring without records whose reservations name `tag`, of `size` bytes, whose positions begin at `start`, for `workers` workers, which keeps
+    /// chapters of `room` entries; or the first of `OpenFault`'s refusals that applies. It takes all memory that the ring will ever need: that
+    /// of its first chapter, a slot for each record that may be there at once (a power of two), and for each worker four hands, which are free,
+    /// with 32 bytes each.
     pub fn new(
         alloc: Global,
+        tag: u64,
         size: u64,
         start: u64,
         workers: u32,
         room: u32,
     ) -> Result<RingState, OpenFault>
-        ensures opened { IfOk result (λ ring. ring ≡ opened_ring room (record { size = size; start = start; workers = workers })) }
+        ensures tag { IfOk result (λ ring. ring.tag ≡ tag) }
+        ensures opened { IfOk result (λ ring. ring.state ≡ hand_ring (opened_ring room (record { size = size; start = start; workers = workers })) (free_book workers)) }
         ensures size { IsErrOf result OpenFault.Size ↔ ¬ IsRingSize size }
         ensures start { IsErrOf result OpenFault.Start ↔ (IsRingSize size × ¬ IsStartPosition start) }
         ensures workers { IsErrOf result OpenFault.Workers ↔ (IsRingSize size × IsStartPosition start × ¬ IsWorkerCount workers) }
         ensures chapter { IsErrOf result OpenFault.Chapter ↔ (IsRingSize size × IsStartPosition start × IsWorkerCount workers × ¬ IsChapterRoom room) }
     {
-        check_setup(size, start, workers, room)?;
-        let Ok(mut chapter) = Chapter::new(alloc, room, workers) else {
-            return Err(OpenFault::Memory);
-        };
-        chapter.open_first(size, start);
-        let places = (size / 8) as usize;
-        let Ok(sheets) = empty_sheets(alloc, slots_for(size, room)) else {
-            return Err(OpenFault::Memory);
-        };
-        let Ok(ordinals) = vec![in alloc; 0; places] else {
-            return Err(OpenFault::Memory);
-        };
-        Ok(RingState {
-            chapter,
-            sheets,
-            alloc,
-            ordinals,
-            refused: 0,
-            discarded: 0,
-        })
+        let state = HandState::new(alloc, size, start, workers, room)?;
+        Ok(RingState { tag, state })
     }
 
-    /// What holds of each ring: its chapter is legal from its opening, which a legal history stands for, and has room for all that it
-    /// owes; it is what the ring's state stands for; and the ring's numbers are within bounds.
-    pub fn facts(&self)
-        ensures kept { (earlier : List Entry) × IsKept earlier self.now.chapter }
-        ensures stands { StandsForChapter self.now }
-        ensures bounded { IsChapterRingWithin self.now }
+    /// The number of the ring, as its opener gave it.
+    pub fn tag(&self) -> u64
+        ensures tag { result ≡ self.now.tag }
     {
-        let _ = &self.chapter;
+        self.tag
+    }
+
+    /// What holds of each ring: its chapter is legal from its opening, which a legal history stands for, and has room for all that it owes; it is
+    /// what the ring's state stands for; the ring's numbers are within bounds; and its book of hands is that of its busy records.
+    pub fn facts(&self)
+        ensures kept { (earlier : List Entry) × IsKept earlier self.now.state.ring.chapter }
+        ensures stands { StandsForChapter self.now.state.ring }
+        ensures bounded { IsChapterRingWithin self.now.state.ring }
+        ensures hands { HasHands self.now.state }
+    {
+        self.state.facts();
     }
 
     /// The chapter that the ring keeps.
     pub fn chapter(&self) -> &Chapter
-        ensures chapter { result.now ≡ self.now.chapter }
+        ensures chapter { result.now ≡ self.now.state.ring.chapter }
     {
-        &self.chapter
+        self.state.chapter()
     }
 
-    /// The answers to a query (bpf-helpers(7), bpf_ringbuf_query): `AVAIL_DATA` asks for the bytes between the two
-    /// positions, `RING_SIZE`, `CONS_POS` and `PROD_POS` for what they name; any other number gives 0. In constant time.
+    /// The answers to a query (bpf-helpers(7), bpf_ringbuf_query): `AVAIL_DATA` asks for the bytes between the two positions, `RING_SIZE`,
+    /// `CONS_POS` and `PROD_POS` for what they name; any other number gives 0. In constant time.
     pub fn query(&self, what: u64) -> u64
-        ensures answer { result ≡ query_answer_from self.now.chapter.opening self.now.chapter.entries what }
+        ensures answer { result ≡ query_answer_from self.now.state.ring.chapter.opening self.now.state.ring.chapter.entries what }
     {
-        let closing = self.chapter.closing();
-        match what {
-            AVAIL_DATA => closing.producer() - closing.consumer(),
-            RING_SIZE => closing.size(),
-            CONS_POS => closing.consumer(),
-            PROD_POS => closing.producer(),
-            _ => 0,
-        }
+        self.state.query(what)
     }
 
-    /// The six counts of all that the ring ever did. In constant time. Of the refusals, which may be more than 64 bits hold, it tells
-    /// 2^64 - 1 at most.
+    /// The six counts of all that the ring ever did. In constant time. Of the refusals, which may be more than 64 bits hold, it tells 2^64 - 1 at
+    /// most.
     pub fn counts(&self) -> Counts
-        ensures counts { result ≡ told_counts self.now }
+        ensures counts { result ≡ told_counts self.now.state.ring }
     {
-        let closing = self.chapter.closing();
-        let there = self.many() as u64;
-        let consumed = closing.consumed();
-        let made = consumed + closing.skipped() + there;
-        let busy = u64::from(self.chapter.owed()) - there;
-        Counts {
-            made,
-            refused: self.refused,
-            consumed,
-            discarded: self.discarded,
-            waiting: made - busy - consumed - self.discarded,
-            busy,
-        }
+        self.state.counts()
     }
 
-    /// Grants worker `worker` a record of `n` bytes at the producer position, in a sheet of as many bytes, which become zeros, where
+    /// The worker's lowest free hand, if one is free. In constant time.
+    pub fn free_hand(&self, worker: u32) -> Option<u32>
+        requires worker { worker < self.now.state.ring.chapter.opening.setup.workers }
+        ensures free { IfSome result (λ hand. IsLowestFree (hands_of self.now.state.hands worker) hand) }
+        ensures all_out { IfNone result (AreAllOut (hands_of self.now.state.hands worker)) }
+    {
+        self.state.free_hand(worker)
+    }
+
+    /// Whether the reservation's record is out in its hand, so that it may be submitted or discarded. For callers that know no more of it. In
+    /// constant time.
+    pub fn is_out(&self, reservation: &Reservation) -> bool
+        ensures exact { IsTrue result ↔ HasInHand self.now.state reservation.now.hand reservation.now.granted }
+    {
+        self.state.is_out(reservation)
+    }
+
+    #[inline(always)]
+    /// Grants worker `worker` a record of `n` bytes at the producer position into this hand, in a sheet of as many bytes, which become zeros, where
     /// the ring has room for it and the chapter for all that it will log. `Full` is logged, where the ring has no room; `ChapterFull` changes
     /// nothing. A refusal hands the sheet back. In constant time, but for the record's bytes, and without memory. (bpf-helpers(7),
     /// bpf_ringbuf_reserve.)
     pub fn reserve(
         &mut self,
         worker: u32,
+        hand: u32,
         n: u32,
         sheet: Sheet,
     ) -> Result<Reservation, (ReserveFault, Sheet)>
-        requires worker { worker < self.old.chapter.opening.setup.workers }
+        requires worker { worker < self.old.state.ring.chapter.opening.setup.workers }
+        requires hand { IsFree (hands_of self.old.state.hands worker) hand }
         requires sized { length sheet ≡ n }
-        ensures same_chapter { IsSameChapter self.old self.new }
-        ensures granted { IfOk result (λ r. Grants self.old self.new worker n r.pos r.serial) }
-        ensures worker { IfOk result (λ r. r.worker ≡ worker) }
-        ensures zeros { IfOk result (λ r. r.bytes ≡ replicate n 0) }
-        ensures refused { IfErr result (λ e. RefusesInChapter self.old self.new worker n e.0) }
-        ensures known_flags { IfErr result (λ e. e.0 ≢ ReserveFault.Flags) }
+        ensures same_tag { self.new.tag ≡ self.old.tag }
+        ensures same_chapter { IsSameChapter self.old.state.ring self.new.state.ring }
+        ensures granted { IfOk result (λ r. GrantsToHand self.old.state self.new.state worker hand n r.granted.pos r.granted.serial) }
+        ensures tag { IfOk result (λ r. r.tag ≡ self.old.tag) }
+        ensures hand { IfOk result (λ r. r.hand ≡ hand) }
+        ensures worker { IfOk result (λ r. r.granted.worker ≡ worker) }
+        ensures zeros { IfOk result (λ r. r.granted.bytes ≡ replicate n 0) }
+        ensures refused { IfErr result (λ e. RefusesInChapter self.old.state.ring self.new.state.ring worker n e.0) }
+        ensures same_hands { IfErr result (λ e. self.new.state.hands ≡ self.old.state.hands) }
+        ensures known_flags { IfErr result (λ e. e.0 ≢ Flags) }
         ensures handed_back { IfErr result (λ e. e.1 ≡ sheet) }
     {
-        let mut sheet = sheet;
-        match self.grant(worker, n) {
-            Err(fault) => Err((fault, sheet)),
-            Ok((pos, serial)) => {
-                sheet.clear();
-                Ok(Reservation::new(pos, worker, serial, sheet))
-            }
-        }
+        self.state.reserve(self.tag, worker, hand, n, sheet)
     }
 
-    /// Hands the reservation's bytes to the consumer, or hands the reservation back where no busy record has its four
-    /// numbers. Of the flags only bits 0 and 1 are looked at. In constant time, and without memory. (bpf-helpers(7),
-    /// bpf_ringbuf_submit.)
-    pub fn submit(&mut self, reservation: Reservation, flags: u64) -> Result<Notice, Stray>
-        ensures same_chapter { IsSameChapter self.old self.new }
-        ensures submitted { OnOk result (Submits self.old self.new reservation) }
-        ensures notice { IfOk result (λ n. (n ≡ Notice.Due) ↔ IsDue (consumer_now self.old) reservation.pos flags) }
-        ensures stray { OnErr result (Strays self.old self.new reservation) }
-        ensures handed_back { IfErr result (λ s. s.reservation ≡ reservation) }
+    #[inline(always)]
+    /// Hands the reservation's bytes to the consumer, and frees its hand. It is out in that hand, so it is busy: there is no refusal. Of the flags
+    /// only bits 0 and 1 are looked at. In constant time, and without memory. (bpf-helpers(7), bpf_ringbuf_submit.)
+    pub fn submit(&mut self, reservation: Reservation, flags: u64) -> Notice
+        requires out { HasInHand self.old.state reservation.hand reservation.granted }
+        ensures same_tag { self.new.tag ≡ self.old.tag }
+        ensures same_chapter { IsSameChapter self.old.state.ring self.new.state.ring }
+        ensures submitted { SubmitsFromHand self.old.state self.new.state reservation.hand reservation.granted }
+        ensures notice { (result ≡ Due) ↔ IsDue (consumer_now self.old.state.ring) reservation.granted.pos flags }
     {
-        match self.find_busy(&reservation) {
-            None => Err(Stray { reservation }),
-            Some(index) => {
-                let pos = reservation.pos();
-                let notice = self.notice(pos, flags);
-                self.send(index, pos, reservation.into_sheet());
-                Ok(notice)
-            }
-        }
+        self.state.submit(reservation, flags)
     }
 
-    /// Gives the reservation's record up, so that the consumer passes over it, or hands the reservation back where no busy
-    /// record has its four numbers. Of the flags only bits 0 and 1 are looked at. In constant time, and without memory.
-    /// (bpf-helpers(7), bpf_ringbuf_discard.)
-    pub fn discard(&mut self, reservation: Reservation, flags: u64) -> Result<Notice, Stray>
-        ensures same_chapter { IsSameChapter self.old self.new }
-        ensures discarded { OnOk result (Discards self.old self.new reservation) }
-        ensures notice { IfOk result (λ n. (n ≡ Notice.Due) ↔ IsDue (consumer_now self.old) reservation.pos flags) }
-        ensures stray { OnErr result (Strays self.old self.new reservation) }
-        ensures handed_back { IfErr result (λ s. s.reservation ≡ reservation) }
+    /// Gives the reservation's record up, so that the consumer passes over it, and frees its hand. It is out in that hand, so it is busy: there is
+    /// no refusal. Of the flags only bits 0 and 1 are looked at. In constant time, and without memory. (bpf-helpers(7), bpf_ringbuf_discard.)
+    pub fn discard(&mut self, reservation: Reservation, flags: u64) -> Notice
+        requires out { HasInHand self.old.state reservation.hand reservation.granted }
+        ensures same_tag { self.new.tag ≡ self.old.tag }
+        ensures same_chapter { IsSameChapter self.old.state.ring self.new.state.ring }
+        ensures discarded { DiscardsFromHand self.old.state self.new.state reservation.hand reservation.granted }
+        ensures notice { (result ≡ Due) ↔ IsDue (consumer_now self.old.state.ring) reservation.granted.pos flags }
     {
-        match self.find_busy(&reservation) {
-            None => Err(Stray { reservation }),
-            Some(index) => {
-                let pos = reservation.pos();
-                let notice = self.notice(pos, flags);
-                self.give_up(index, pos, reservation.len());
-                Ok(notice)
-            }
-        }
+        self.state.discard(reservation, flags)
     }
 
-    /// Grants worker `worker` a record and submits it at once, with the sheet's bytes. Unknown flags are refused first, and
-    /// nothing is logged then; otherwise it refuses as `reserve` does. A refusal hands the sheet back. In constant time, and without
-    /// memory. (bpf-helpers(7), bpf_ringbuf_output.)
+    /// Grants worker `worker` a record and submits it at once, with the sheet's bytes; it needs no hand. Unknown flags are refused first, and nothing
+    /// is logged then; otherwise it refuses as `reserve` does. A refusal hands the sheet back. In constant time, and without memory.
+    /// (bpf-helpers(7), bpf_ringbuf_output.)
     pub fn output(
         &mut self,
         worker: u32,
         sheet: Sheet,
         flags: u64,
     ) -> Result<Notice, (ReserveFault, Sheet)>
-        requires worker { worker < self.old.chapter.opening.setup.workers }
-        ensures same_chapter { IsSameChapter self.old self.new }
-        ensures granted { OnOk result (Outputs self.old self.new worker sheet) }
-        ensures notice { IfOk result (λ n. (n ≡ Notice.Due) ↔ IsDue (consumer_now self.old) (producer_now self.old) flags) }
-        ensures known_flags { OnOk result (flags ≤ KNOWN_FLAGS) }
-        ensures flags { IfErr result (λ e. (e.0 ≡ ReserveFault.Flags) ↔ (KNOWN_FLAGS < flags)) }
-        ensures refused { IfErr result (λ e. RefusesInChapter self.old self.new worker (length sheet) e.0) }
+        requires worker { worker < self.old.state.ring.chapter.opening.setup.workers }
+        ensures same_tag { self.new.tag ≡ self.old.tag }
+        ensures same_chapter { IsSameChapter self.old.state.ring self.new.state.ring }
+        ensures granted { OnOk result (Outputs self.old.state.ring self.new.state.ring worker sheet) }
+        ensures notice { IfOk result (λ n. (n ≡ Due) ↔ IsDue (consumer_now self.old.state.ring) (producer_now self.old.state.ring) flags) }
+        ensures known_flags { OnOk result (flags ≤ 3) }
+        ensures flags { IfErr result (λ e. (e.0 ≡ Flags) ↔ (3 < flags)) }
+        ensures refused { IfErr result (λ e. RefusesInChapter self.old.state.ring self.new.state.ring worker (length sheet) e.0) }
+        ensures same_hands { self.new.state.hands ≡ self.old.state.hands }
         ensures handed_back { IfErr result (λ e. e.1 ≡ sheet) }
     {
-        if flags > KNOWN_FLAGS {
-            return Err((ReserveFault::Flags, sheet));
-        }
-        let index = self.many();
-        let notice = self.notice(self.producer(), flags);
-        match self.grant(worker, sheet.len()) {
-            Err(fault) => Err((fault, sheet)),
-            Ok((pos, _)) => {
-                self.send(index, pos, sheet);
-                Ok(notice)
-            }
-        }
+        self.state.output(worker, sheet, flags)
     }
 
     #[inline(always)]
-    /// Takes the record at the consumer position: hands out a submitted one and passes over a discarded one. A busy one
-    /// stops it, whatever waits behind. In constant time, and without memory. (Linux Documentation/bpf/ringbuf.rst: records are
-    /// consumed in the order of their reservation.)
+    /// Takes the record at the consumer position: hands out a submitted one and passes over a discarded one. A busy one stops it, whatever waits
+    /// behind. In constant time, and without memory. (Linux Documentation/bpf/ringbuf.rst: records are consumed in the order of their reservation.)
     pub fn take(&mut self) -> Taken
-        ensures same_chapter { IsSameChapter self.old self.new }
-        ensures takes { Takes self.old self.new result }
-        ensures busy_front { (result ≡ Taken.BusyFront) ↔ HasBusyFront self.old }
-        ensures empty { (result ≡ Taken.Empty) ↔ AllTaken self.old }
+        ensures same_tag { self.new.tag ≡ self.old.tag }
+        ensures same_chapter { IsSameChapter self.old.state.ring self.new.state.ring }
+        ensures takes { Takes self.old.state.ring self.new.state.ring result }
+        ensures busy_front { (result ≡ BusyFront) ↔ HasBusyFront self.old.state.ring }
+        ensures empty { (result ≡ Empty) ↔ AllTaken self.old.state.ring }
+        ensures same_hands { self.new.state.hands ≡ self.old.state.hands }
     {
-        let closing = self.chapter.closing();
-        let Some(front) = front_of(closing.records()) else {
-            return Taken::Empty;
-        };
-        match front.status {
-            UntakenStatus::Busy => Taken::BusyFront,
-            UntakenStatus::Waiting => {
-                let ordinal = closing.consumed() + closing.skipped();
-                let slot = slot_in(self.sheets.len(), ordinal);
-                let empty = Sheet::empty(self.alloc);
-                let sheet = mem::replace(&mut self.sheets[slot], empty);
-                self.chapter.log_take();
-                Taken::Event(front.pos, front.worker, front.serial, sheet)
-            }
-            UntakenStatus::Discarded => {
-                self.chapter.log_take();
-                Taken::Skipped(front.pos, front.len)
-            }
-        }
+        self.state.take()
     }
 
-    #[cold]
-    #[inline(never)]
-    // Logs that there is no room in the ring, where there is room for that in the chapter.
-    fn refuse(&mut self, worker: u32, n: u32) -> ReserveFault
-        requires worker { worker < self.old.chapter.opening.setup.workers }
-        requires full { ¬ ChapterRingHasRoom self.old n }
-        ensures same_chapter { IsSameChapter self.old self.new }
-        ensures refused { RefusesInChapter self.old self.new worker n result }
-        ensures known_flags { result ≢ ReserveFault.Flags }
+    /// Takes up to `n` records, as so many calls of `take`, pushes each that was handed out or passed over onto `out`, and returns how many they
+    /// are. It stops before the first take that finds a busy record or none, so it pushes neither `BusyFront` nor `Empty`. It takes no memory, and
+    /// constant time for each record. (Linux Documentation/bpf/ringbuf.rst: records are consumed in the order of their reservation.)
+    pub fn take_many(&mut self, n: usize, out: &mut Vec<Taken>) -> usize
+        requires room { vec_len out.old + n ≤ vec_capacity out.old }
+        ensures same_tag { self.new.tag ≡ self.old.tag }
+        ensures same_chapter { IsSameChapter self.old.state.ring self.new.state.ring }
+        ensures takes { TakesManyInChapter n (pushed out.old.items out.new.items) self.old.state.ring self.new.state.ring }
+        ensures same_hands { self.new.state.hands ≡ self.old.state.hands }
+        ensures kept { out.new.items ≡ out.old.items ++ pushed out.old.items out.new.items }
+        ensures count { result ≡ length (pushed out.old.items out.new.items) }
+        ensures capacity { vec_capacity out.new ≡ vec_capacity out.old }
     {
-        if !self.chapter.may_refuse(worker) {
-            return ReserveFault::ChapterFull;
-        }
-        self.chapter.log_refusal(worker, n);
-        count_refusal(&mut self.refused);
-        ReserveFault::Full
+        self.state.take_many(n, out)
     }
 
-    #[inline(always)]
-    // Grants a busy record of `n` bytes, or logs that the ring has no room for it.
-    fn grant(&mut self, worker: u32, n: u32) -> Result<(u64, u64), ReserveFault>
-        requires worker { worker < self.old.chapter.opening.setup.workers }
-        ensures same_chapter { IsSameChapter self.old self.new }
-        ensures granted { IfOk result (λ g. Grants self.old self.new worker n g.0 g.1) }
-        ensures shown { IfOk result (λ g. self.new.shown ≡ self.old.shown ++ (record { pos = g.0; len = n; worker = worker; serial = g.1; status = Busy }) ∷ []) }
-        ensures refused { IfErr result (λ e. RefusesInChapter self.old self.new worker n e) }
-        ensures known_flags { IfErr result (λ e. e ≢ ReserveFault.Flags) }
+    /// Hands the chapter out as it is, and goes on in `empty`, which becomes the next one: it begins with what the old one stands for. Hands `empty`
+    /// back where it has entries, another room or other workers, or where the old one's number is 2^62. In time linear in the records that were not
+    /// taken and the workers, and without memory.
+    pub fn hand_out(&mut self, empty: Chapter) -> Result<Chapter, Chapter>
+        ensures handed_out { IfOk result (λ out. HandsOut self.old.state.ring self.new.state.ring out) }
+        ensures fit { IsOk result ↔ MayGoOnIn self.old.state.ring empty }
+        ensures same_tag { self.new.tag ≡ self.old.tag }
+        ensures same_hands { self.new.state.hands ≡ self.old.state.hands }
+        ensures handed_back { IfErr result (λ back. back ≡ empty) }
+        ensures unchanged { OnErr result (self.new ≡ self.old) }
     {
-        if !self.chapter.has_room(n) {
-            return Err(self.refuse(worker, n));
-        }
-        if !self.chapter.may_grant() {
-            return Err(ReserveFault::ChapterFull);
-        }
-        let closing = self.chapter.closing();
-        let pos = closing.producer();
-        let serial = made_by(closing.tallies(), worker);
-        let ordinal = closing.consumed() + closing.skipped() + self.many() as u64;
-        let place = place_in(closing.size(), pos);
-        self.chapter.log_grant(worker, n);
-        self.ordinals[place] = ordinal;
-        Ok((pos, serial))
-    }
-
-    #[inline(always)]
-    // The busy record at an index is given its bytes.
-    fn send(&mut self, index: usize, pos: u64, sheet: Sheet)
-        requires busy { IsBusyAt self.old.shown index pos (length sheet) }
-        ensures logged { Logs self.old self.new (Entry.Sub pos ∷ []) }
-        ensures contents { self.new.contents ≡ insert self.old.contents pos sheet }
-    {
-        let closing = self.chapter.closing();
-        let ordinal = closing.consumed() + closing.skipped() + index as u64;
-        let slot = slot_in(self.sheets.len(), ordinal);
-        self.sheets[slot] = sheet;
-        self.chapter.log_submit(index);
-    }
-
-    // The busy record at an index is given up.
-    fn give_up(&mut self, index: usize, pos: u64, len: u32)
-        requires busy { IsBusyAt self.old.shown index pos len }
-        ensures logged { Logs self.old self.new (Entry.Dis pos ∷ []) }
-        ensures contents { self.new.contents ≡ self.old.contents }
-    {
-        self.chapter.log_discard(index);
-        self.discarded += 1;
-    }
-
-    // How many records are there.
-    fn many(&self) -> usize
-        ensures many { result ≡ length self.now.shown }
-    {
-        self.chapter.closing().records().len()
-    }
-
-    // Whether a notice is due for the record at `pos`.
-    fn notice(&self, pos: u64, flags: u64) -> Notice
-        ensures due { (result ≡ Notice.Due) ↔ IsDue (consumer_now self.now) pos flags }
-    {
-        notice_for(self.chapter.closing().consumer(), pos, flags)
-    }
-
-    fn producer(&self) -> u64
-        ensures value { result ≡ producer_now self.now }
-    {
-        self.chapter.closing().producer()
-    }
-
-    // The index of the reservation's record, if it is busy.
-    fn find_busy(&self, reservation: &Reservation) -> Option<usize>
-        ensures found { IfSome result (λ i. IsBusyAt self.now.shown i reservation.now.pos (length reservation.now.bytes)) }
-        ensures busy { OnSome result (HoldsReservationFrom self.now reservation.now) }
-        ensures none { IfNone result (¬ HoldsReservationFrom self.now reservation.now) }
-    {
-        let closing = self.chapter.closing();
-        let first = closing.consumed() + closing.skipped();
-        let ordinal = self.ordinals[place_in(closing.size(), reservation.pos())];
-        busy_index(closing.records(), first, ordinal, reservation)
+        self.state.hand_out(empty)
     }
 }

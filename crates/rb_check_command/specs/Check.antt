@@ -10,7 +10,8 @@ use Rattle.rb_verifier.specs.Subject.{Subject}
 use Rattle.rb_loader.specs.Acceptance.{IsAccepted}
 use Rattle.rb_check_command.specs.DrainedRings.{DrainsRings}
 use Rattle.rb_check_command.specs.FreshRings.{AreNumbered, fresh_worker, fresh_taker}
-use Rattle.rb_check_command.specs.Printed.{run_text}
+use Rattle.rb_check_command.specs.Printed.{run_lines}
+use Rattle.rb_json.specs.declared.form.LineForm.{LineForm}
 
 -- ---- the run
 
@@ -40,8 +41,8 @@ pub record Checks (text : List ℕ) (ctx_len ring_count value : ℕ) (records : 
   pub drained : DrainsRings seats (map fresh_taker rings) records
 
 -- the program that the input spells was checked, and what `check` prints of it was printed, and nothing else
-pub record PrintsCheck (input : List ℕ) (ctx_len ring_count : ℕ) (before after : Option (List ℕ)) : Type 0 where
+pub record PrintsCheck (input : List ℕ) (ctx_len ring_count : ℕ) (form : LineForm) (before after : Option (List ℕ)) : Type 0 where
   pub value : ℕ
   pub records : List (List Taken)
   pub checked : Checks input ctx_len ring_count value records
-  pub printed : Appends before after (run_text value records)
+  pub printed : Appends before after (run_lines form value records)

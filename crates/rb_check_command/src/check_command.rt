@@ -8,11 +8,11 @@ ghost use Rattle.rb_check_command.specs.Check.{Checks, PrintsCheck, RunsOnce};
 
 use crate::drain::drain_rings;
 use crate::fresh_rings::{Fresh, fresh_rings};
-use crate::record_lines::text_of_run;
+use crate::run_lines::lines_of_run;
 use rb_history::Taken;
-use rb_interp::RunFault;
 use rb_io::write_whole;
 use rb_jobs::{Job, OpenGate, run_job};
+use rb_json::LineForm;
 use rb_loader::{Bounds, ProgramFault, accept, read_all, text_of};
 use rb_seats::NoStock;
 use rb_shared_ring::{Seat, SharedRing};
@@ -31,7 +31,7 @@ pub struct Checked {
 }
 
 /// Verifies the program whose text is the input, runs it once with a context of zeros over fresh rings of 4,096 bytes, and prints
-/// `accepted`, what it ended with, and a line for each record that it left. Input that is no UTF-8 is `Text`. Nothing is printed where
+/// `accepted`, what it ended with, and a line for each record that it left, in this form. Input that is no UTF-8 is `Text`. Nothing is printed where
 /// the program is refused or memory runs out.
 pub fn check<T: Wait, R: Read, W: Write>(
     rt: &T,
@@ -39,16 +39,17 @@ pub fn check<T: Wait, R: Read, W: Write>(
     input: &mut R,
     out: &mut W,
     bounds: Bounds,
+    form: LineForm,
 ) -> Result<(), ProgramFault>
-    ensures printed { OnOk result (IfSome (R.remaining input.old) (λ text. PrintsCheck text bounds.ctx_len bounds.rings (W.contents out.old) (W.contents out.new))) }
+    ensures printed { OnOk result (IfSome (R.remaining input.old) (λ text. PrintsCheck text bounds.ctx_len bounds.rings form (W.contents out.old) (W.contents out.new))) }
     ensures refused { IfErr result (λ fault. IfSome (R.remaining input.old) (λ text. IsRightProgramFault text bounds.ctx_len bounds.rings fault)) }
     ensures nothing_printed { IfErr result (λ fault. fault ≢ ProgramFault.Device → Keeps (W.contents out.old) (W.contents out.new)) }
 {
     let bytes = read_all(alloc, input)?;
     let text = text_of(bytes.as_slice())?;
     let Checked { value, records } = check_text(rt, alloc, text, bounds)?;
-    let printed = text_of_run(alloc, value, records.as_slice())?;
-    match write_whole(out, printed.as_bytes()) {
+    let printed = lines_of_run(alloc, value, records.as_slice(), form)?;
+    match write_whole(out, printed.as_slice()) {
         Ok(()) => Ok(()),
         Err(_) => Err(ProgramFault::Device),
     }
@@ -107,6 +108,6 @@ fn run_once<T: Wait>(
     );
     match answer?.result {
         Ok(value) => Ok((value, seats)),
-        Err(RunFault::ContextLength | RunFault::Stray) => unreachable!(),
+        Err(_) => unreachable!(),
     }
 }

@@ -6,7 +6,7 @@
 //!
 //! ```text
 //! let bounds = Bounds { ctx_len: 0, rings: 1 };
-//! check(rt, alloc, &mut input, &mut out, bounds)?;             // the hex of a program that submits 42, and exits with 0
+//! check(rt, alloc, &mut input, &mut out, bounds, LineForm::Words)?;             // the hex of a program that submits 42, and exits with 0
 //! // accepted
 //! // result 0
 //! // ring 0 pos 0 worker 0 serial 0 len 8 2a00000000000000
@@ -17,5 +17,7 @@ mod check_command;
 mod drain;
 mod fresh_rings;
 mod record_lines;
+mod record_objects;
+mod run_lines;
 
 pub use check_command::{Checked, check, check_text};

@@ -12,6 +12,7 @@ use clap::Error;
 use clap::error::ErrorKind;
 use rb_check_command::check;
 use rb_io::Buffered;
+use rb_json::LineForm;
 use rb_loader::explain;
 use rb_run_commands::{run, run_to_file};
 use rb_script::sim;
@@ -53,11 +54,15 @@ where
                 retries,
             },
         ) => feed_command(alloc, input, out, err, size, start, retries),
-        Ok(Request::Tape { size, start }) => {
-            status_of(tape_buffered(alloc, input, out, size, start), err)
+        Ok(Request::Tape { size, start, form }) => {
+            status_of(tape_buffered(alloc, input, out, size, start, form), err)
         }
-        Ok(Request::Check(bounds)) => status_of(check(rt, alloc, input, out, bounds), err),
-        Ok(Request::Explain(bounds)) => status_of(explain(alloc, input, out, bounds), err),
+        Ok(Request::Check { bounds, form }) => {
+            status_of(check(rt, alloc, input, out, bounds, form), err)
+        }
+        Ok(Request::Explain { bounds, form }) => {
+            status_of(explain(alloc, input, out, bounds, form), err)
+        }
         Ok(Request::Run { jobs, tape: None }) => status_of(run(rt, alloc, input, out, jobs), err),
         Ok(
             Request::Run {
@@ -65,7 +70,7 @@ where
                 tape: Some(path),
             },
         ) => status_of(run_to_file(rt, alloc, input, out, jobs, path), err),
-        Ok(Request::Sim) => status_of(sim(alloc, input, out), err),
+        Ok(Request::Sim { draw }) => status_of(sim(alloc, input, out, draw), err),
         Err(error) => print_usage(&error, out, err),
     }
 }
@@ -139,6 +144,7 @@ fn tape_buffered<R: Read, W: Write>(
     out: &mut W,
     size: u64,
     start: u64,
+    form: LineForm,
 ) -> Result<(), TapeRefusal>
     ensures bounds { OnOk result (IsRingSize size × IsStartPosition start) }
     ensures whole { OnOk result (IfSome (R.remaining input.old) (IsTape size start)) }
@@ -146,7 +152,7 @@ fn tape_buffered<R: Read, W: Write>(
     let Ok(mut writer) = Buffered::new(alloc, out) else {
         return Err(TapeRefusal::Memory);
     };
-    tape(alloc, input, &mut writer, size, start)
+    tape(alloc, input, &mut writer, size, start, form)
 }
 
 // The status of a command that printed its own output, with the line of its refusal.

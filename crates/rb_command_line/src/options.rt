@@ -6,6 +6,7 @@ ghost use Rattle.std.specs.Str.Parse.{IsNumeral, digits_value};
 
 use clap::error::ErrorKind;
 use clap::{Arg, ArgAction, ArgMatches, Command, Error};
+use rb_json::LineForm;
 use rb_loader::Bounds;
 use rb_run_commands::JobsRequest;
 use std::alloc::{AllocError, Global};
@@ -20,22 +21,31 @@ pub enum Request<'a> {
         start: u64,
         retries: u32,
     },
-    /// Prints the records of a tape: the ring's size and its first position.
+    /// Prints the records of a tape: the ring's size and its first position, and how a record is printed.
     Tape {
         size: u64,
         start: u64,
+        form: LineForm,
     },
-    /// Verifies a program and runs it once.
-    Check(Bounds),
-    /// Explains a program.
-    Explain(Bounds),
+    /// Verifies a program and runs it once, and how what came of it is printed.
+    Check {
+        bounds: Bounds,
+        form: LineForm,
+    },
+    /// Explains a program, and how what is explained is printed.
+    Explain {
+        bounds: Bounds,
+        form: LineForm,
+    },
     /// Verifies a program and runs it as jobs on threads, and writes what they sent as a tape to the file of this name, where there is one.
     Run {
         jobs: JobsRequest,
         tape: Option<&'a str>,
     },
-    /// Runs a script of workers and rings in turns.
-    Sim,
+    /// Runs a script of workers and rings in turns, and whether the rings are drawn behind each.
+    Sim {
+        draw: bool,
+    },
 }
 
 /// The command that these words name, which follow the program's name on the command line. An error is help or the version that was
@@ -52,14 +62,23 @@ pub fn parse<'a, S: AsStr>(alloc: Global, words: &'a [S]) -> Result<Request<'a>,
         Some(("tape", options)) => Ok(Request::Tape {
             size: number(alloc, &mut program, options, "size")?,
             start: number(alloc, &mut program, options, "start")?,
+            form: form(options),
         }),
-        Some(("check", options)) => Ok(Request::Check(bounds(alloc, &mut program, options)?)),
-        Some(("explain", options)) => Ok(Request::Explain(bounds(alloc, &mut program, options)?)),
+        Some(("check", options)) => Ok(Request::Check {
+            bounds: bounds(alloc, &mut program, options)?,
+            form: form(options),
+        }),
+        Some(("explain", options)) => Ok(Request::Explain {
+            bounds: bounds(alloc, &mut program, options)?,
+            form: form(options),
+        }),
         Some(("run", options)) => Ok(Request::Run {
             jobs: jobs_request(alloc, &mut program, options)?,
             tape: options.get_str("tape"),
         }),
-        Some(("sim", _)) => Ok(Request::Sim),
+        Some(("sim", options)) => Ok(Request::Sim {
+            draw: options.get_flag("draw"),
+        }),
         _ => Err(program.error(ErrorKind::MissingSubcommand, "no command was given")?),
     }
 }
@@ -87,7 +106,17 @@ fn jobs_request(
         jobs: bounded(alloc, program, options, "jobs", 1, 1_000_000)?,
         size: number(alloc, program, options, "size")?,
         start: number(alloc, program, options, "start")?,
+        form: form(options),
     })
+}
+
+// How lines of output are written.
+fn form(options: &ArgMatches<'_>) -> LineForm {
+    if options.get_flag("json") {
+        LineForm::Json
+    } else {
+        LineForm::Words
+    }
 }
 
 // What the command line may say.
@@ -124,7 +153,8 @@ fn tape<'a>(alloc: Global) -> Result<Command<'a>, AllocError> {
             "Example: printf '\\001\\000\\000\\000*' | rbhost feed --size 4096 | rbhost tape --size 4096",
         )
         .arg(size(alloc))?
-        .arg(start(alloc))
+        .arg(start(alloc))?
+        .arg(json(alloc))
 }
 
 fn check<'a>(alloc: Global) -> Result<Command<'a>, AllocError> {
@@ -132,7 +162,8 @@ fn check<'a>(alloc: Global) -> Result<Command<'a>, AllocError> {
         .about("Verifies a program, given as text in hex, and runs it once")
         .after_help("Example: tools/bpf-hex examples/c/event.c | rbhost check")
         .arg(ctx(alloc))?
-        .arg(rings(alloc))
+        .arg(rings(alloc))?
+        .arg(json(alloc))
 }
 
 fn explain<'a>(alloc: Global) -> Result<Command<'a>, AllocError> {
@@ -142,7 +173,8 @@ fn explain<'a>(alloc: Global) -> Result<Command<'a>, AllocError> {
         )
         .after_help("Example: tools/bpf-hex examples/c/event.c | rbhost explain")
         .arg(ctx(alloc))?
-        .arg(rings(alloc))
+        .arg(rings(alloc))?
+        .arg(json(alloc))
 }
 
 fn run<'a>(alloc: Global) -> Result<Command<'a>, AllocError> {
@@ -157,17 +189,17 @@ fn run<'a>(alloc: Global) -> Result<Command<'a>, AllocError> {
         .arg(jobs(alloc))?
         .arg(size(alloc))?
         .arg(start(alloc))?
-        .arg(tape_file(alloc))
+        .arg(tape_file(alloc))?
+        .arg(json(alloc))
 }
 
 fn sim<'a>(alloc: Global) -> Result<Command<'a>, AllocError> {
-    Ok(
-        Command::new(alloc, "sim")
-            .about("Runs a script of workers and rings in turns, without threads")
-            .after_help(
-                "Example: printf 'ring 4096 0\\nworker b7000000000000009500000000000000\\nw 0 2\\n' | rbhost sim",
-            ),
-    )
+    Command::new(alloc, "sim")
+        .about("Runs a script of workers and rings in turns, without threads")
+        .after_help(
+            "Example: printf 'ring 4096 0\\nworker b7000000000000009500000000000000\\nw 0 2\\n' | rbhost sim",
+        )
+        .arg(draw(alloc))
 }
 
 fn workers<'a>(alloc: Global) -> Arg<'a> {
@@ -221,6 +253,20 @@ fn retry<'a>(alloc: Global) -> Arg<'a> {
         .value_name("N")
         .default_value("0")
         .help("How often writing goes on after a write that failed, at most 100")
+}
+
+fn json<'a>(alloc: Global) -> Arg<'a> {
+    Arg::new(alloc, "json")
+        .long("json")
+        .action(ArgAction::SetTrue)
+        .help("Print an object of JSON in the place of each line")
+}
+
+fn draw<'a>(alloc: Global) -> Arg<'a> {
+    Arg::new(alloc, "draw")
+        .long("draw")
+        .action(ArgAction::SetTrue)
+        .help("Draw each ring as a line behind each turn")
 }
 
 // An option with a value.

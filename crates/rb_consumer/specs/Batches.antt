@@ -1,5 +1,5 @@
 -- What a batch holds, and what it lends and gives back (own).
-use Rattle.std.specs.Prelude.{ℕ, ◌≡◌, ◌≤◌, Bool, true, false, List, [], ◌∷◌, ◌++◌, Option, None, Some, filter, length}
+use Rattle.std.specs.Prelude.{ℕ, ◌≡◌, ◌≤◌, Bool, true, false, List, [], ◌∷◌, ◌++◌, Option, None, Some, filter, length, nat_lt}
 use Rattle.rb_history.specs.declared.answers.Taken.{Taken}
 use Rattle.rb_history.specs.declared.answers.Taken.TheVariants.{Event}
 use Rattle.rb_tape.specs.declared.item.Event as lent
@@ -18,6 +18,11 @@ pub record IsBatch (b : BatchValue) : Type 0 where
 abbrev pub is_event : Taken → Bool
 is_event (Event p w k bytes) = true
 is_event _ = false
+
+-- a submitted record of more than so many bytes
+abbrev pub is_longer_event : ℕ → Taken → Bool
+is_longer_event n (Event p w k bytes) = nat_lt n (length bytes)
+is_longer_event n _ = false
 
 -- the next event, of those that are left
 abbrev pub LendsEvent : List Taken → List Taken → Option lent.Event → Type 0

@@ -1,6 +1,7 @@
 //! Many records, taken under one holding of the lock.
 
 ghost use Rattle.std.specs.Prelude.{◌≡◌, ◌≢◌, ◌+◌, ◌≤◌, ◌↔◌, [], IsErr, IfOk, IfSome, IfNone, OnOk, None, filter, length};
+ghost use Rattle.std.specs.List.{list_any};
 ghost use Rattle.rb_history.specs.ManyTakes.{TakesMany};
 ghost use Rattle.rb_ledger.specs.Roles.Role.{Consumer};
 ghost use Rattle.rb_ledger.specs.LockedCalls.{LockedCall};
@@ -10,7 +11,7 @@ ghost use Rattle.rb_chapter_ledger.specs.LockedChapterCalls.{LockedChapterCall, 
 ghost use Rattle.rb_shared_ring.specs.SharedSeats.{IsSameChapterConsumer};
 ghost use Rattle.rb_header.specs.TapeBytes.{AreItemsFrom, end_of};
 ghost use Rattle.rb_tape.specs.Items.{tape_items, AreRecords};
-ghost use Rattle.rb_consumer.specs.Batches.{Recycles, is_event};
+ghost use Rattle.rb_consumer.specs.Batches.{Recycles, is_event, is_longer_event};
 ghost use Rattle.rb_consumer.specs.inner.LastEvents.{IsLastEvent};
 
 use crate::batch_items::Events;
@@ -113,6 +114,18 @@ impl Batch {
         Items::new(self.taken.as_slice())
     }
 
+    /// Whether a submitted record in the batch has more than `n` bytes. In time linear in the records.
+    pub fn has_longer(&self, n: u32) -> bool
+        ensures found { result ≡ list_any (is_longer_event n) self.now.taken }
+    {
+        for answer in &self.taken {
+            if is_longer(answer, n) {
+                return true;
+            }
+        }
+        false
+    }
+
     /// Takes the last submitted record out of the batch and returns its sheet, to be used again; `None` where there is none. In time linear
     /// in the discarded records behind it.
     pub fn recycle(&mut self) -> Option<Sheet>
@@ -124,6 +137,16 @@ impl Batch {
             Taken::Event(_pos, _worker, _serial, sheet) => Some(sheet),
             _ => unreachable!(),
         }
+    }
+}
+
+// Whether the answer is a submitted record of more than so many bytes.
+fn is_longer(answer: &Taken, n: u32) -> bool
+    ensures { result ≡ is_longer_event n answer.now }
+{
+    match answer {
+        Taken::Event(_, _, _, sheet) => sheet.len() > n,
+        _ => false,
     }
 }
 

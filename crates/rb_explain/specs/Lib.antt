@@ -1,4 +1,5 @@
 pub mod Joined
 pub mod Lines
 pub mod StateTexts
+pub mod Objects
 pub mod Explanations

@@ -5,22 +5,24 @@ ghost use Rattle.rb_insn.specs.declared.insn.Insn.{Insn};
 ghost use Rattle.rb_decode.specs.FirstDecodeFault.{IsFirstDecodeFault, decode_no_memory};
 ghost use Rattle.rb_decode.specs.Text.{IsHexOf, without_white_space};
 ghost use Rattle.rb_decode.specs.inner.TextFaults.{IsTextFault};
-ghost use Rattle.rb_explain.specs.Explanations.{ExplainsBytes, Explains, IsNoHex, IsProgramOf, IsShapedProgramOf, ShowsFault, ShowsWindow, ShowsRule};
+ghost use Rattle.rb_explain.specs.Explanations.{ExplainsBytes, Explains, IsNoHex, IsProgramOf, IsShapedProgramOf, ShowsFault, ShowsFront, ShowsRule, ShowsShape, no_hex_text};
 
 use crate::advice::{decode_advice, rule_advice, shape_advice};
 use crate::explanation::{Explanation, Reason};
 use crate::listing::listing_text;
-use crate::windows::{decode_again, push_number, push_window, units_text};
+use crate::saying::{advice_in, decode_name, push_rule_said, push_said, shape_name};
+use crate::windows::{decode_again, push_window, units_text};
 use rb_cfg::{Shape, ShapeFault, ShapeFaultKind, shape};
 use rb_decode::{DecodeFault, DecodeKind, TextFault, decode};
+use rb_json::LineForm;
 use rb_refs::Rule;
 use rb_verifier::{Refusal, verify};
 use std::alloc::{AllocError, Global};
 
 /// Explains the program of a text in hex, with ASCII white space anywhere, for a context of so many bytes and so many rings. The text answered is, of
 /// an accepted program, each instruction with what the verifier knows before it; of a refused one, the units around its first fault with a mark
-/// under the fault's own, and what is wrong and how programs mend it. A refusal is the first fault of the first layer that has one. An error is out of
-/// memory, and says nothing of the program.
+/// under the fault's own, and what is wrong and how programs mend it; or the same as objects of JSON, one a line. A refusal is the first fault of the first
+/// layer that has one. An error is out of memory, and says nothing of the program.
 ///
 /// The time and the memory are linear in the length of the text.
 pub fn explain(
@@ -28,14 +30,15 @@ pub fn explain(
     text: &str,
     ctx_len: u32,
     rings: u32,
+    form: LineForm,
 ) -> Result<Explanation, AllocError>
     requires context { ctx_len ≤ 65536 }
     requires rings { rings ≤ 16 }
-    ensures explained { IfOk result (Explains text.now (record { ctx_len = ctx_len; rings = rings })) }
+    ensures explained { IfOk result (Explains form text.now (record { ctx_len = ctx_len; rings = rings })) }
 {
     match bytes_of(alloc, text)? {
-        Some(bytes) => explain_bytes(alloc, &bytes, ctx_len, rings),
-        None => no_hex(alloc),
+        Some(bytes) => explain_bytes(alloc, &bytes, ctx_len, rings, form),
+        None => no_hex(alloc, form),
     }
 }
 
@@ -70,15 +73,26 @@ fn digits_of(alloc: Global, text: &[u8]) -> Result<Vec<u8>, AllocError>
         .collect(alloc)
 }
 
-fn no_hex(alloc: Global) -> Result<Explanation, AllocError>
-    ensures reason { IfOk result (λ explanation. explanation.reason ≡ Some Reason.Text) }
+// What is told of a text that is no hex.
+fn no_hex_line(form: LineForm) -> &'static str
+    ensures { result.now ≡ no_hex_text form }
 {
-    let text = String::from_str(
-        alloc,
-        "The text is not pairs of hex digits. A program is text in hex, sixteen digits a unit, with white space anywhere.\n",
-    )?;
+    match form {
+        LineForm::Words => {
+            "The text is not pairs of hex digits. A program is text in hex, sixteen digits a unit, with white space anywhere.\n"
+        }
+        LineForm::Json => {
+            "{\"layer\":\"text\",\"advice\":\"The text is not pairs of hex digits. A program is text in hex, sixteen digits a unit, with white space anywhere.\"}\n"
+        }
+    }
+}
+
+fn no_hex(alloc: Global, form: LineForm) -> Result<Explanation, AllocError>
+    ensures reason { IfOk result (λ explanation. explanation.reason ≡ Some Reason.Text) }
+    ensures told { IfOk result (λ explanation. string_bytes explanation.text ≡ no_hex_text form) }
+{
     Ok(Explanation {
-        text,
+        text: String::from_str(alloc, no_hex_line(form))?,
         reason: Some(Reason::Text),
     })
 }
@@ -89,40 +103,64 @@ pub fn explain_bytes(
     bytes: &[u8],
     ctx_len: u32,
     rings: u32,
+    form: LineForm,
 ) -> Result<Explanation, AllocError>
     requires context { ctx_len ≤ 65536 }
     requires rings { rings ≤ 16 }
     ensures explained { IfOk result (λ explanation.
-        ExplainsBytes bytes.now (record { ctx_len = ctx_len; rings = rings }) explanation.reason (string_bytes explanation.text)) }
+        ExplainsBytes form bytes.now (record { ctx_len = ctx_len; rings = rings }) explanation.reason (string_bytes explanation.text)) }
 {
     let program = match decode(alloc, bytes) {
         Ok(program) => program,
-        Err(fault) => return explain_decode(alloc, bytes, fault),
+        Err(fault) => return explain_decode(alloc, form, bytes, fault),
     };
     program.facts();
     match shape(alloc, program) {
-        Ok(shape) => explain_shaped(alloc, bytes, shape, ctx_len, rings),
-        Err(fault) => explain_shape(alloc, bytes, fault),
+        Ok(shape) => explain_shaped(alloc, form, bytes, shape, ctx_len, rings),
+        Err(fault) => explain_shape(alloc, form, bytes, fault),
+    }
+}
+
+// What is shown of bytes that are no program.
+fn front_of(
+    alloc: Global,
+    form: LineForm,
+    bytes: &[u8],
+    fault: DecodeFault,
+) -> Result<String, AllocError>
+    requires { (fault ≡ decode_no_memory) ⊎ IsFirstDecodeFault bytes.now fault }
+    ensures first { IfOk result (λ shown. IsFirstDecodeFault bytes.now fault) }
+    ensures shown { IfOk result (λ shown. ShowsFront form bytes.now fault.unit fault.kind (string_bytes shown)) }
+{
+    match fault.kind {
+        DecodeKind::Memory => Err(AllocError),
+        DecodeKind::Length | DecodeKind::TooLong => Ok(String::new(alloc)),
+        _ => units_text(alloc, form, bytes, fault.unit),
     }
 }
 
 // The explanation of bytes that are no program.
 fn explain_decode(
     alloc: Global,
+    form: LineForm,
     bytes: &[u8],
     fault: DecodeFault,
 ) -> Result<Explanation, AllocError>
     requires { (fault ≡ decode_no_memory) ⊎ IsFirstDecodeFault bytes.now fault }
     ensures first { IfOk result (λ explanation. IsFirstDecodeFault bytes.now fault) }
     ensures reason { IfOk result (λ explanation. explanation.reason ≡ Some (Reason.Decode fault)) }
-    ensures shown { IfOk result (λ explanation. ShowsFault bytes.now fault.unit fault.kind (string_bytes explanation.text)) }
+    ensures shown { IfOk result (λ explanation. ShowsFault form bytes.now fault.unit fault.kind (string_bytes explanation.text)) }
 {
-    let mut text = match fault.kind {
-        DecodeKind::Memory => return Err(AllocError),
-        DecodeKind::Length | DecodeKind::TooLong => String::new(alloc),
-        _ => units_text(alloc, bytes, fault.unit)?,
-    };
-    text.push_str(decode_advice(fault.kind))?;
+    let mut text = front_of(alloc, form, bytes, fault)?;
+    let advice = advice_in(form, decode_advice(fault.kind));
+    push_said(
+        &mut text,
+        form,
+        "decode",
+        decode_name(fault.kind),
+        fault.unit,
+        advice,
+    )?;
     Ok(Explanation {
         text,
         reason: Some(Reason::Decode(fault)),
@@ -130,20 +168,33 @@ fn explain_decode(
 }
 
 // The explanation of a program whose shape has a fault.
-fn explain_shape(alloc: Global, bytes: &[u8], fault: ShapeFault) -> Result<Explanation, AllocError>
+fn explain_shape(
+    alloc: Global,
+    form: LineForm,
+    bytes: &[u8],
+    fault: ShapeFault,
+) -> Result<Explanation, AllocError>
     requires unit { fault.unit < 4096 }
     ensures kind { IfOk result (λ explanation. fault.kind ≢ ShapeFaultKind.Memory) }
     ensures reason { IfOk result (λ explanation. explanation.reason ≡ Some (Reason.Shape fault)) }
     ensures shown { (program : List Insn) → IsProgramOf bytes.now program
-        → IfOk result (λ explanation. ShowsWindow program fault.unit (string_bytes explanation.text)) }
+        → IfOk result (λ explanation. ShowsShape form program fault.unit fault.kind (string_bytes explanation.text)) }
 {
     if fault.kind == ShapeFaultKind::Memory {
         return Err(AllocError);
     }
     let program = decode_again(alloc, bytes)?;
     let mut text = String::new(alloc);
-    push_window(alloc, &mut text, &program, fault.unit)?;
-    text.push_str(shape_advice(fault.kind))?;
+    push_window(alloc, &mut text, form, &program, fault.unit)?;
+    let advice = advice_in(form, shape_advice(fault.kind));
+    push_said(
+        &mut text,
+        form,
+        "shape",
+        shape_name(fault.kind),
+        fault.unit,
+        advice,
+    )?;
     Ok(Explanation {
         text,
         reason: Some(Reason::Shape(fault)),
@@ -153,6 +204,7 @@ fn explain_shape(alloc: Global, bytes: &[u8], fault: ShapeFault) -> Result<Expla
 // The explanation of a program without a fault of shape.
 fn explain_shaped(
     alloc: Global,
+    form: LineForm,
     bytes: &[u8],
     shape: Shape,
     ctx_len: u32,
@@ -162,21 +214,22 @@ fn explain_shaped(
     requires context { ctx_len ≤ 65536 }
     requires rings { rings ≤ 16 }
     ensures explained { IfOk result (λ explanation.
-        ExplainsBytes bytes.now (record { ctx_len = ctx_len; rings = rings }) explanation.reason (string_bytes explanation.text)) }
+        ExplainsBytes form bytes.now (record { ctx_len = ctx_len; rings = rings }) explanation.reason (string_bytes explanation.text)) }
 {
     match verify(alloc, shape, ctx_len, rings) {
         Ok(verified) => Ok(Explanation {
-            text: listing_text(alloc, &verified)?,
+            text: listing_text(alloc, form, &verified)?,
             reason: None,
         }),
         Err(Refusal::Memory) => Err(AllocError),
-        Err(Refusal::Rule { unit, rule }) => explain_rule(alloc, bytes, unit, rule),
+        Err(Refusal::Rule { unit, rule }) => explain_rule(alloc, form, bytes, unit, rule),
     }
 }
 
 // The explanation of a program that breaks a rule.
 fn explain_rule(
     alloc: Global,
+    form: LineForm,
     bytes: &[u8],
     unit: u32,
     rule: Rule,
@@ -184,13 +237,13 @@ fn explain_rule(
     requires unit { unit < 4096 }
     ensures reason { IfOk result (λ explanation. explanation.reason ≡ Some (Reason.Rule unit rule)) }
     ensures shown { (program : List Insn) → IsProgramOf bytes.now program
-        → IfOk result (λ explanation. ShowsRule program unit rule (string_bytes explanation.text)) }
+        → IfOk result (λ explanation. ShowsRule form program unit rule (string_bytes explanation.text)) }
 {
     let program = decode_again(alloc, bytes)?;
     let mut text = String::new(alloc);
-    push_window(alloc, &mut text, &program, unit)?;
-    push_number(&mut text, rule)?;
-    text.push_str(rule_advice(rule))?;
+    push_window(alloc, &mut text, form, &program, unit)?;
+    let advice = advice_in(form, rule_advice(rule));
+    push_rule_said(alloc, &mut text, form, unit, rule, advice)?;
     Ok(Explanation {
         text,
         reason: Some(Reason::Rule { unit, rule }),

@@ -14,6 +14,8 @@ mod explaining;
 mod explanation;
 mod lines;
 mod listing;
+mod objects;
+mod saying;
 mod state_lines;
 mod windows;
 

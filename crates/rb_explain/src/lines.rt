@@ -10,7 +10,8 @@ use std::alloc::{AllocError, Global};
 use std::fmt;
 use std::fmt::Write;
 
-fn helper_name(helper: Helper) -> &'static str
+/// The name of a helper (bpf-helpers(7)).
+pub(crate) fn helper_name(helper: Helper) -> &'static str
     ensures { result.now ≡ lines.helper_name helper }
 {
     match helper {

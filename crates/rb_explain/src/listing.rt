@@ -4,51 +4,81 @@ ghost use Rattle.std.specs.Prelude.{◌≡◌, ◌<◌, ◌++◌, IfOk, OnOk, le
 ghost use Rattle.rb_decode.specs.Program.{unit_count};
 ghost use Rattle.rb_verifier.specs.Annotation.{state_at};
 ghost use Rattle.rb_verifier.specs.Subject.{limits_of};
-ghost use Rattle.rb_explain.specs.Explanations.{known_line, listing, IsListing};
+ghost use Rattle.rb_explain.specs.Explanations.{known_line, known_text, listing, IsListing};
 
 use crate::lines::push_line;
+use crate::objects::push_known_object;
 use crate::state_lines::push_state;
 use rb_decode::Program;
+use rb_insn::Insn;
+use rb_json::LineForm;
 use rb_refs::AbsState;
 use rb_verifier::Verified;
 use std::alloc::{AllocError, Global};
 
-// The instruction at a unit, where one begins, behind what is known there.
+// An instruction with what is known there.
 fn push_known(
     alloc: Global,
     text: &mut String,
+    form: LineForm,
+    state: &AbsState,
+    unit: u32,
+    insn: &Insn,
+) -> Result<(), AllocError>
+    ensures added { OnOk result (string_bytes text.new ≡ string_bytes text.old ++ known_text form state.now unit insn.now) }
+{
+    match form {
+        LineForm::Words => {
+            push_state(text, state)?;
+            push_line(alloc, text, unit, insn)
+        }
+        LineForm::Json => push_known_object(alloc, text, state, unit, insn),
+    }
+}
+
+// The instruction at a unit, where one begins, with what is known there.
+fn push_known_at(
+    alloc: Global,
+    text: &mut String,
+    form: LineForm,
     program: &Program,
     states: &[AbsState],
     unit: u32,
 ) -> Result<(), AllocError>
     requires { unit < length states.now }
-    ensures added { OnOk result (string_bytes text.new ≡ string_bytes text.old ++ known_line program.now (state_at states.now) unit) }
+    ensures added { OnOk result (string_bytes text.new ≡ string_bytes text.old ++ known_line form program.now (state_at states.now) unit) }
 {
     match program.at(unit) {
-        Some(insn) => {
-            push_state(text, &states[unit as usize])?;
-            push_line(alloc, text, unit, insn)
-        }
+        Some(insn) => push_known(alloc, text, form, &states[unit as usize], unit, insn),
         None => text.push_str(""),
     }
 }
 
-// Each instruction behind what is known there.
+// Each instruction with what is known there.
 #[tactic(auto, using(crate::proofs::Joining::joins))]
-fn listing_of(alloc: Global, program: &Program, states: &[AbsState]) -> Result<String, AllocError>
+fn listing_of(
+    alloc: Global,
+    form: LineForm,
+    program: &Program,
+    states: &[AbsState],
+) -> Result<String, AllocError>
     requires { length states.now ≡ unit_count program.now }
-    ensures listed { IfOk result (λ text. string_bytes text ≡ listing program.now (state_at states.now)) }
+    ensures listed { IfOk result (λ text. string_bytes text ≡ listing form program.now (state_at states.now)) }
 {
     let mut text = String::new(alloc);
     for unit in 0..program.units() {
-        push_known(alloc, &mut text, program, states, unit)?;
+        push_known_at(alloc, &mut text, form, program, states, unit)?;
     }
     Ok(text)
 }
 
 /// The listing of a verified program, by the annotation that verified it.
-pub(crate) fn listing_text(alloc: Global, verified: &Verified) -> Result<String, AllocError>
-    ensures listed { IfOk result (λ text. IsListing (limits_of verified.now) verified.now.program (string_bytes text)) }
+pub(crate) fn listing_text(
+    alloc: Global,
+    form: LineForm,
+    verified: &Verified,
+) -> Result<String, AllocError>
+    ensures listed { IfOk result (λ text. IsListing form (limits_of verified.now) verified.now.program (string_bytes text)) }
 {
-    listing_of(alloc, verified.program(), verified.states())
+    listing_of(alloc, form, verified.program(), verified.states())
 }

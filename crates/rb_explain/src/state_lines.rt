@@ -26,11 +26,11 @@ impl fmt::Display for Size {
     }
 }
 
-// What a register holds.
+/// What a register holds.
 #[derive(Clone, Copy)]
-struct Value<'a> {
-    held: &'a Held,
-    value: Abs,
+pub(crate) struct Value<'a> {
+    pub(crate) held: &'a Held,
+    pub(crate) value: Abs,
 }
 
 impl fmt::Display for Value<'_> {
@@ -54,7 +54,8 @@ impl fmt::Display for Value<'_> {
     }
 }
 
-fn is_readable(value: Abs) -> bool
+/// Whether a register that holds this may be read.
+pub(crate) fn is_readable(value: Abs) -> bool
     ensures { result ≡ texts.is_readable value }
 {
     match value {
@@ -77,11 +78,11 @@ fn push_register(text: &mut String, state: &AbsState, register: usize) -> Result
     }
 }
 
-// What a place of the stack keeps.
+/// What a place of the stack keeps.
 #[derive(Clone, Copy)]
-struct Kept<'a> {
-    held: &'a Held,
-    value: Abs,
+pub(crate) struct Kept<'a> {
+    pub(crate) held: &'a Held,
+    pub(crate) value: Abs,
 }
 
 impl fmt::Display for Kept<'_> {
@@ -96,7 +97,8 @@ impl fmt::Display for Kept<'_> {
     }
 }
 
-fn is_data(value: Abs) -> bool
+/// Whether this is data, and no pointer.
+pub(crate) fn is_data(value: Abs) -> bool
     ensures { result ≡ kept.is_data value }
 {
     match value {

@@ -5,13 +5,14 @@ ghost use Rattle.rb_insn.specs.declared.insn.Insn.{Insn};
 ghost use Rattle.rb_decode.specs.Program.{IsProgram, unit_count};
 ghost use Rattle.rb_insn.specs.Spelling.{SpellsAll};
 ghost use Rattle.rb_explain.specs.Joined.{joined_below};
-ghost use Rattle.rb_explain.specs.Explanations.{is_near, mark_under, near_line, window, raw_line, number_text, ShowsUnits};
+ghost use Rattle.rb_explain.specs.Explanations.{is_near, mark_under, near_line, near_text, window, raw_line, raw_text, ShowsUnits};
 
 use crate::lines::{push_bytes, push_line};
+use crate::objects::{push_bytes_object, push_unit_object};
 use rb_decode::{Program, decode};
-use rb_refs::Rule;
+use rb_insn::Insn;
+use rb_json::LineForm;
 use std::alloc::{AllocError, Global};
-use std::fmt::Write;
 
 /// How many units are shown before a fault, and how many behind it.
 const NEAR: u32 = 4;
@@ -34,68 +35,100 @@ fn mark_of(at: u32, unit: u32) -> &'static str
     if unit == at { "   ^\n" } else { "" }
 }
 
-// The line of an instruction near the fault, with the mark under it where the fault is its own.
+// An instruction, in words with the mark under it where the fault is its own.
+fn push_insn(
+    alloc: Global,
+    text: &mut String,
+    form: LineForm,
+    at: u32,
+    unit: u32,
+    insn: &Insn,
+) -> Result<(), AllocError>
+    ensures added { OnOk result (string_bytes text.new ≡ string_bytes text.old ++ near_text form at unit insn.now) }
+{
+    match form {
+        LineForm::Words => {
+            push_line(alloc, text, unit, insn)?;
+            text.push_str(mark_of(at, unit))
+        }
+        LineForm::Json => push_unit_object(alloc, text, unit, insn),
+    }
+}
+
+// The instruction at a unit, where one begins that is near the fault.
 fn push_near(
     alloc: Global,
     text: &mut String,
+    form: LineForm,
     program: &Program,
     at: u32,
     unit: u32,
 ) -> Result<(), AllocError>
     requires at { at ≤ 4096 }
     requires unit { unit ≤ 4096 }
-    ensures added { OnOk result (string_bytes text.new ≡ string_bytes text.old ++ near_line program.now at unit) }
+    ensures added { OnOk result (string_bytes text.new ≡ string_bytes text.old ++ near_line form program.now at unit) }
 {
     match program.at(unit) {
-        Some(insn) if is_near_to(at, unit) => {
-            push_line(alloc, text, unit, insn)?;
-            text.push_str(mark_of(at, unit))
-        }
+        Some(insn) if is_near_to(at, unit) => push_insn(alloc, text, form, at, unit, insn),
         _ => text.push_str(""),
     }
 }
 
-/// A rule's number, in front of what is said of it: `V10: `.
-pub(crate) fn push_number(text: &mut String, rule: Rule) -> Result<(), AllocError>
-    ensures added { OnOk result (string_bytes text.new ≡ string_bytes text.old ++ number_text rule) }
-{
-    write!(text, "V{}: ", rule.number())
-}
-
-/// The lines around a unit, with the mark under it.
+/// The lines around a unit, in words with the mark under it.
 #[tactic(auto, using(crate::proofs::Joining::joins))]
 pub(crate) fn push_window(
     alloc: Global,
     text: &mut String,
+    form: LineForm,
     program: &Program,
     at: u32,
 ) -> Result<(), AllocError>
     requires { at ≤ 4096 }
-    ensures added { OnOk result (string_bytes text.new ≡ string_bytes text.old ++ window program.now at) }
+    ensures added { OnOk result (string_bytes text.new ≡ string_bytes text.old ++ window form program.now at) }
 {
     program.facts();
     for unit in 0..program.units() {
-        push_near(alloc, text, program, at, unit)?;
+        push_near(alloc, text, form, program, at, unit)?;
     }
     Ok(())
 }
 
-// The bytes of a unit that was not read, where there is one, with the mark under it where the fault is its own.
+// The bytes of a unit that was not read, in words with the mark under it where the fault is its own.
 fn push_raw(
     alloc: Global,
     text: &mut String,
+    form: LineForm,
+    at: u32,
+    unit: u32,
+    bytes: &[u8],
+) -> Result<(), AllocError>
+    ensures added { OnOk result (string_bytes text.new ≡ string_bytes text.old ++ raw_text form at unit bytes.now) }
+{
+    match form {
+        LineForm::Words => {
+            push_bytes(alloc, text, unit, bytes)?;
+            text.push_str(mark_of(at, unit))
+        }
+        LineForm::Json => push_bytes_object(alloc, text, unit, bytes),
+    }
+}
+
+// The same of the bytes of a unit, where there is one.
+fn push_raw_at(
+    alloc: Global,
+    text: &mut String,
+    form: LineForm,
     bytes: &[u8],
     at: u32,
     unit: u32,
 ) -> Result<(), AllocError>
     requires whole { length bytes.now % 8 ≡ 0 }
     requires unit { unit ≤ 8192 }
-    ensures added { OnOk result (string_bytes text.new ≡ string_bytes text.old ++ raw_line bytes.now at unit) }
+    ensures added { OnOk result (string_bytes text.new ≡ string_bytes text.old ++ raw_line form bytes.now at unit) }
 {
     let start = 8 * unit as usize;
     if start < bytes.len() {
-        push_bytes(alloc, text, unit, &bytes[start..start + 8])?;
-        text.push_str(mark_of(at, unit))
+        push_raw(alloc, text, form, at, unit, &bytes[start..start + 8])
     } else {
         text.push_str("")
     }
@@ -103,13 +136,19 @@ fn push_raw(
 
 // The bytes of the units from the fault on.
 #[tactic(auto, using(crate::proofs::Joining::joins))]
-fn push_raws(alloc: Global, text: &mut String, bytes: &[u8], at: u32) -> Result<(), AllocError>
+fn push_raws(
+    alloc: Global,
+    text: &mut String,
+    form: LineForm,
+    bytes: &[u8],
+    at: u32,
+) -> Result<(), AllocError>
     requires whole { length bytes.now % 8 ≡ 0 }
     requires at { at ≤ 4096 }
-    ensures added { OnOk result (string_bytes text.new ≡ string_bytes text.old ++ joined_below (λ k. raw_line bytes.now at (at + k)) 3) }
+    ensures added { OnOk result (string_bytes text.new ≡ string_bytes text.old ++ joined_below (λ k. raw_line form bytes.now at (at + k)) 3) }
 {
     for k in 0..RAW {
-        push_raw(alloc, text, bytes, at, at + k)?;
+        push_raw_at(alloc, text, form, bytes, at, at + k)?;
     }
     Ok(())
 }
@@ -126,28 +165,39 @@ pub(crate) fn decode_again(alloc: Global, bytes: &[u8]) -> Result<Program, Alloc
 }
 
 // The lines before a fault.
-fn push_front(alloc: Global, text: &mut String, bytes: &[u8], at: u32) -> Result<(), AllocError>
+fn push_front(
+    alloc: Global,
+    text: &mut String,
+    form: LineForm,
+    bytes: &[u8],
+    at: u32,
+) -> Result<(), AllocError>
     requires inside { 8 * at ≤ length bytes.now }
     requires at { at ≤ 4096 }
     ensures added { OnOk result ((front : List Insn) × SpellsAll front (take (8 * at) bytes.now)
-        × (string_bytes text.new ≡ string_bytes text.old ++ window front at)) }
+        × (string_bytes text.new ≡ string_bytes text.old ++ window form front at)) }
 {
     if at == 0 {
         return text.push_str("");
     }
     let front = decode_again(alloc, &bytes[..8 * at as usize])?;
-    push_window(alloc, text, &front, at)
+    push_window(alloc, text, form, &front, at)
 }
 
 /// The lines before a fault of bytes, and the bytes of the units from it on.
-pub(crate) fn units_text(alloc: Global, bytes: &[u8], at: u32) -> Result<String, AllocError>
+pub(crate) fn units_text(
+    alloc: Global,
+    form: LineForm,
+    bytes: &[u8],
+    at: u32,
+) -> Result<String, AllocError>
     requires inside { 8 * at < length bytes.now }
     requires whole { length bytes.now % 8 ≡ 0 }
     requires at { at ≤ 4096 }
-    ensures shown { IfOk result (λ text. ShowsUnits bytes.now at (string_bytes text)) }
+    ensures shown { IfOk result (λ text. ShowsUnits form bytes.now at (string_bytes text)) }
 {
     let mut text = String::new(alloc);
-    push_front(alloc, &mut text, bytes, at)?;
-    push_raws(alloc, &mut text, bytes, at)?;
+    push_front(alloc, &mut text, form, bytes, at)?;
+    push_raws(alloc, &mut text, form, bytes, at)?;
     Ok(text)
 }

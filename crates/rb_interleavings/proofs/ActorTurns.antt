@@ -44,14 +44,14 @@ module _ (handed : ℕ → Handed) (old new : World) (kept : IsKept handed old) 
       more : (s : ℕ) → handed s ≡ handed s ++ handed_by s on
       more s = sym (append-nil (handed s)) ∙ ap (λ l. handed s ++ l) (sym (none s))
 
-  -- the bytes of a record are handed over
-  handing : (r p : ℕ) (bytes : List ℕ) (world : World) → event ≡ HandedOver r p bytes → new ≡ world → AfterTurn (Worker w) old (table_with r (handed r ++ (p, bytes) ∷ []) handed) world → Turned
+  -- the worker hands the bytes of a record over
+  handing : (r p : ℕ) (bytes : List ℕ) (world : World) → event ≡ HandedOver r w p bytes → new ≡ world → AfterTurn (Worker w) old (table_with r (handed r ++ (p, w, bytes) ∷ []) handed) world → Turned
   handing r p bytes world is e h =
-      subst (λ d. AfterTurn (Worker w) old (λ s. handed s ++ handed_by s d) new) (sym is) (subst (λ f. AfterTurn (Worker w) old f new) (λ i s. more s i) (subst (AfterTurn (Worker w) old (table_with r (handed r ++ (p, bytes) ∷ []) handed)) (sym e) h))
+      subst (λ d. AfterTurn (Worker w) old (λ s. handed s ++ handed_by s d) new) (sym is) (subst (λ f. AfterTurn (Worker w) old f new) (λ i s. more s i) (subst (AfterTurn (Worker w) old (table_with r (handed r ++ (p, w, bytes) ∷ []) handed)) (sym e) h))
     where
-      more : (s : ℕ) → table_with r (handed r ++ (p, bytes) ∷ []) handed s ≡ handed s ++ handed_by s (HandedOver r p bytes)
+      more : (s : ℕ) → table_with r (handed r ++ (p, w, bytes) ∷ []) handed s ≡ handed s ++ handed_by s (HandedOver r w p bytes)
       more s = elim (eq_cases s r) [
-        | inl same ↦ rw same.0 (ap (λ i. handed i ++ (p, bytes) ∷ []) (sym same.1))
+        | inl same ↦ rw same.0 (ap (λ i. handed i ++ (p, w, bytes) ∷ []) (sym same.1))
         | inr else ↦ rw else.0 (sym (append-nil (handed s)))
       ]
 
@@ -82,7 +82,7 @@ module _ (handed : ℕ → Handed) (old new : World) (kept : IsKept handed old) 
       quietly r Went _ a.told (λ s. refl) a.world (grants handed old kept w inside runs id r len flags t o (leaves (Reserve id r len flags) t e) p k b (handed r) _ (o.next GrantedAnswer _ refl) refl refl book.0 book.1)
 
   output-turn : (r : ℕ) (bytes : List ℕ) (flags : ℕ) (t : State) (how : RecordOutcome) (b : WorldRing) → Step (Asks (Output r bytes flags) t) → WorkerOutputs w bytes flags how (old.rings r) b
-      → GetsAnswer w (Output r bytes flags) t (answer_to_output how) (output_event r bytes how) (old.workers w).held r b old event new → Turned
+      → GetsAnswer w (Output r bytes flags) t (answer_to_output how) (output_event w r bytes how) (old.workers w).held r b old event new → Turned
   output-turn r bytes flags t BadFlags b e h a =
       unmoved (Output r bytes flags) t _ r b e (leaves (Output r bytes flags) t e) ((out (Output r bytes flags) t e).next (answer_to_output BadFlags) _ refl) (same-keeps old.worker_count (handed r) (old.rings r) b h.1 (kept.rings r)) a.told a.world
   output-turn r bytes flags t Unlogged b e h a =
@@ -92,17 +92,17 @@ module _ (handed : ℕ → Handed) (old new : World) (kept : IsKept handed old) 
   output-turn r bytes flags t (Made p k) b e h a =
       let o = out (Output r bytes flags) t e in
       let here : t.unit ≡ s.unit = o.here in
-      let book = output-keeps old.worker_count (ledger (handed r) (old.rings r)) (ledger (handed r ++ (p, bytes) ∷ []) b) (kept.rings r) w p bytes inside h.1 (over _ (handed r) ((p, bytes) ∷ []) [] (old.rings r) b h.3) in
-      handing r p bytes _ a.told a.world (goes-same handed old kept w inside runs _ r b (handed r ++ (p, bytes) ∷ []) book.0 book.1 (o.next (answer_to_output (Made p k)) _ refl) (λ id. ap (size_of id) (leaves (Output r bytes flags) t e)) (omega arith))
+      let book = output-keeps old.worker_count (ledger (handed r) (old.rings r)) (ledger (handed r ++ (p, w, bytes) ∷ []) b) (kept.rings r) w p bytes inside h.1 (over _ (handed r) ((p, w, bytes) ∷ []) [] (old.rings r) b h.3) in
+      handing r p bytes _ a.told a.world (goes-same handed old kept w inside runs _ r b (handed r ++ (p, w, bytes) ∷ []) book.0 book.1 (o.next (answer_to_output (Made p k)) _ refl) (λ id. ap (size_of id) (leaves (Output r bytes flags) t e)) (omega arith))
 
-  submit-turn : (id : ℕ) (bytes : List ℕ) (flags : ℕ) (t : State) (held : Option RecordPlace) → (old.workers w).held id ≡ held → Step (Asks (Submit id bytes flags) t) → GivesRecordBack WorkerSubmits submit_event w (Submit id bytes flags) t id bytes held old event new → Turned
+  submit-turn : (id : ℕ) (bytes : List ℕ) (flags : ℕ) (t : State) (held : Option RecordPlace) → (old.workers w).held id ≡ held → Step (Asks (Submit id bytes flags) t) → GivesRecordBack WorkerSubmits (submit_event w) w (Submit id bytes flags) t id bytes held old event new → Turned
   submit-turn id bytes flags t None is e h =
       let own = is-held handed old kept w inside runs id bytes t (out (Submit id bytes flags) t e).here (leaves (Submit id bytes flags) t e) in
       absurd (unheld ((old.workers w).held id) own.0 is own.1.0)
   submit-turn id bytes flags t (Some spot) is e (TakenAnswer, b, g, a) =
       let o = out (Submit id bytes flags) t e in
-      let book = submit-keeps old.worker_count (ledger (handed spot.ring) (old.rings spot.ring)) (ledger (handed spot.ring ++ (spot.pos, bytes) ∷ []) b) (kept.rings spot.ring) (granted_at spot w bytes) (over _ (handed spot.ring) ((spot.pos, bytes) ∷ []) [] (old.rings spot.ring) b g) in
-      handing spot.ring spot.pos bytes _ a.told a.world (gives handed old kept w inside runs id bytes t o.here (leaves (Submit id bytes flags) t e) spot b (handed spot.ring ++ (spot.pos, bytes) ∷ []) _ is (o.next TakenAnswer _ refl) refl refl book.0 book.1)
+      let book = submit-keeps old.worker_count (ledger (handed spot.ring) (old.rings spot.ring)) (ledger (handed spot.ring ++ (spot.pos, w, bytes) ∷ []) b) (kept.rings spot.ring) (granted_at spot w bytes) (over _ (handed spot.ring) ((spot.pos, w, bytes) ∷ []) [] (old.rings spot.ring) b g) in
+      handing spot.ring spot.pos bytes _ a.told a.world (gives handed old kept w inside runs id bytes t o.here (leaves (Submit id bytes flags) t e) spot b (handed spot.ring ++ (spot.pos, w, bytes) ∷ []) _ is (o.next TakenAnswer _ refl) refl refl book.0 book.1)
   submit-turn id bytes flags t (Some spot) is e (HandedBack, b, g, a) =
       let own = is-held handed old kept w inside runs id bytes t (out (Submit id bytes flags) t e).here (leaves (Submit id bytes flags) t e) in
       let same : own.0 ≡ spot = spot_is own.0 spot (sym own.1.0 ∙ is) in
@@ -206,7 +206,7 @@ turn handed old new (Worker w) event kept inside h = work-by handed old new w ev
 turn handed old new (Consumer r) (Took found) kept inside h = take-turn handed old new r found kept h
 turn handed old new (Consumer r) NoMemory kept inside h = same-turn handed old new r kept h
 turn handed old new (Consumer r) Went kept inside h = absurd h
-turn handed old new (Consumer r) (HandedOver s p bytes) kept inside h = absurd h
+turn handed old new (Consumer r) (HandedOver s w p bytes) kept inside h = absurd h
 turn handed old new (Consumer r) (Ended n) kept inside h = absurd h
 turn handed old new (Consumer r) GotStuck kept inside h = absurd h
 turn handed old new (Consumer r) GotBack kept inside h = absurd h
@@ -215,7 +215,7 @@ turn handed old new (Consumer r) HandedChapter kept inside h = absurd h
 turn handed old new (Keeper r) HandedChapter kept inside h = keeper-turn handed old new r kept h
 turn handed old new (Keeper r) NoMemory kept inside h = keeper-turn handed old new r kept h
 turn handed old new (Keeper r) Went kept inside h = absurd h
-turn handed old new (Keeper r) (HandedOver s p bytes) kept inside h = absurd h
+turn handed old new (Keeper r) (HandedOver s w p bytes) kept inside h = absurd h
 turn handed old new (Keeper r) (Ended n) kept inside h = absurd h
 turn handed old new (Keeper r) GotStuck kept inside h = absurd h
 turn handed old new (Keeper r) GotBack kept inside h = absurd h

@@ -180,10 +180,14 @@ only t (z ∷ xs) x y one (suc i, lt, is) e (zero, low, at) f =
     let rest : 1 ≤ count_by t xs = count_some t xs x (i, omega arith, is) e in let whole = count_by-cons t z xs in absurd (omega arith)
 only t (z ∷ xs) x y one (suc i, lt, is) e (suc j, low, at) f = let whole = count_by-cons t z xs in only t xs x y (omega arith) (i, omega arith, is) e (j, omega arith, at) f
 
+-- what is granted at a position has one worker, one serial and one length
+pub one-grant : (r : Setup) (h : List Entry) (p w k n v j m : ℕ) → IsLegal r h → Contains h (Res w k n p) → Contains h (Res v j m p) → (w ≡ v) × (k ≡ j) × (n ≡ m)
+one-grant r h p w k n v j m l a b =
+    let kept : KeptAs r h = kept-from-legal r h l in
+    let one : count_by (is_grant_at p) h ≡ 1 = kept.single p (granted-from h w k n p a) in
+    let same : Res w k n p ≡ Res v j m p = only (is_grant_at p) h (Res w k n p) (Res v j m p) (omega arith) a (eq-eqb p p refl) b (eq-eqb p p refl) in
+    (cc, cc, cc)
+
 -- a busy record has one worker, one serial and one length
 pub one-record : (r : Setup) (h : List Entry) (p w k n v j m : ℕ) → IsLegal r h → IsBusy h p w k n → IsBusy h p v j m → (w ≡ v) × (k ≡ j) × (n ≡ m)
-one-record r h p w k n v j m l a b =
-    let kept : KeptAs r h = kept-from-legal r h l in
-    let one : count_by (is_grant_at p) h ≡ 1 = kept.single p (granted-from h w k n p a.granted_is) in
-    let same : Res w k n p ≡ Res v j m p = only (is_grant_at p) h (Res w k n p) (Res v j m p) (omega arith) a.granted_is (eq-eqb p p refl) b.granted_is (eq-eqb p p refl) in
-    (cc, cc, cc)
+one-record r h p w k n v j m l a b = one-grant r h p w k n v j m l a.granted_is b.granted_is

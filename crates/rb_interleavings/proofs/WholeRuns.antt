@@ -49,9 +49,10 @@ opening-book workers b f =
         sized = λ p bytes is. absurd (let no_way : None ≡ Some bytes = sym (nothing p) ∙ is in cc);
       });
       workers_are = ap (λ (v : Ring). v.setup.workers) f.ring_is;
-      handed_once = λ p one other h k. absurd (none_in _ h);
+      handed_at_most_once = λ p. omega arith;
+      handed_once = λ p v w one other h k. absurd (none_in _ h);
       taken_as_handed = λ p w k bytes h. absurd (none_in _ (subst (λ l. Contains l (Event p w k bytes)) f.taken_none h));
-      handed_submitted = λ p bytes h. absurd (none_in _ h);
+      handed_submitted = λ p w bytes h. absurd (none_in _ h);
       waiting_handed = λ p bytes h. absurd (let is : get ring.contents p ≡ Some bytes = subst (λ (v : Ring). get v.contents p ≡ Some bytes) f.ring_is h in let no_way : None ≡ Some bytes = sym (nothing p) ∙ is in cc);
       in_row = subst (λ (v : Ring). Row v.history (filter_map taken_position b.taken)) (sym f.ring_is) (subst (λ l. Row [] (filter_map taken_position l)) (sym f.taken_none) refl);
     }
@@ -152,7 +153,7 @@ module _ (world : World) (events : List TurnEvent) (kept : IsKept (λ r. handed_
     held_once = once-of;
     none_busy = λ all r p w k n h. let c = kept.covered r p w k n h in
         unheld ((world.workers w).held c.1.1.0) (record { ring = r; pos = p; serial = k }) (finished-none w c.1.1.0 c.0 (all w c.0)) c.1.1.1.held;
-    rings = λ r. let b = kept.rings r in record { legal = b.legal; stands = b.stands; workers_are = b.workers_are; handed_once = b.handed_once; taken_as_handed = b.taken_as_handed; taken_in_order = (positions (records (world.rings r).ring.history), b.in_row) };
+    rings = λ r. let b = kept.rings r in record { legal = b.legal; stands = b.stands; workers_are = b.workers_are; handed_at_most_once = b.handed_at_most_once; handed_once = b.handed_once; handed_submitted = b.handed_submitted; taken_as_handed = b.taken_as_handed; taken_in_order = (positions (records (world.rings r).ring.history), b.in_row) };
   }
 
 pub every-interleaving : EveryInterleavingIsWell

@@ -1,5 +1,5 @@
 -- What holds of a world after the turns of any list of actors, in any order.
-use Rattle.std.specs.Prelude.{ℕ, ◌≡◌, ◌≢◌, ◌<◌, ◌≤◌, ◌==◌, Bool, false, List, [], ◌∷◌, ◌++◌, if◌then◌else◌, Option, Some, None, count_by, length}
+use Rattle.std.specs.Prelude.{ℕ, ◌≡◌, ◌≢◌, ◌<◌, ◌≤◌, ◌==◌, Bool, true, false, List, [], ◌∷◌, ◌++◌, if◌then◌else◌, Option, Some, None, count_by, length}
 use Rattle.std.specs.List.{All, Contains, filter_map}
 use Rattle.rb_decode.specs.Program.{unit_count}
 use Rattle.rb_semantics.specs.ProgramMemory.{record_named}
@@ -7,6 +7,7 @@ use Rattle.rb_history.specs.declared.entries.Entry.{Entry}
 use Rattle.rb_history.specs.declared.entries.Entry.TheVariants.{Res}
 use Rattle.rb_history.specs.declared.answers.Taken.{Taken}
 use Rattle.rb_history.specs.declared.answers.Taken.TheVariants.{Event, Skipped}
+use Rattle.rb_history.specs.History.{is_submitted_at}
 use Rattle.rb_history.specs.Legal.{IsLegal}
 use Rattle.rb_history.specs.RingModel.{StandsFor}
 use Rattle.rb_history.specs.Calls.{IsBusy}
@@ -58,22 +59,37 @@ abbrev pub AreTakenInOrder : WorldRing → Type 0
 AreTakenInOrder b =
     (rest : List ℕ) × (filter_map granted_position b.ring.history ≡ filter_map taken_position b.taken ++ rest)
 
--- what was handed over at a ring, by what the turns told: each time the position of the record and the bytes
-abbrev pub handed_by : ℕ → TurnEvent → List (ℕ × List ℕ)
-handed_by r (HandedOver s p bytes) = if r == s then (p, bytes) ∷ [] else []
+-- what was handed over at a ring, by what the turns told: each time the position of the record, the worker that handed it
+-- over, and the bytes
+abbrev pub handed_by : ℕ → TurnEvent → List (ℕ × ℕ × List ℕ)
+handed_by r (HandedOver s w p bytes) = if r == s then (p, w, bytes) ∷ [] else []
 handed_by r event = []
 
-abbrev pub handed_at : ℕ → List TurnEvent → List (ℕ × List ℕ)
+abbrev pub handed_at : ℕ → List TurnEvent → List (ℕ × ℕ × List ℕ)
 handed_at r [] = []
 handed_at r (event ∷ events) = handed_by r event ++ handed_at r events
 
--- what holds of the ring and of what was handed over and taken
-pub record IsTrueRing (workers : ℕ) (handed : List (ℕ × List ℕ)) (b : WorldRing) : Type 0 where
+-- whether this was handed over at a position
+abbrev pub is_handed_at : ℕ → ℕ × ℕ × List ℕ → Bool
+is_handed_at p handed = handed.0 == p
+
+-- the record at a position was granted to a worker, with so many bytes, and submitted
+pub record IsSubmittedBy (h : List Entry) (p w n : ℕ) : Type 0 where
+  pub serial : ℕ
+  pub granted_is : Contains h (Res w serial n p)
+  pub submitted : is_submitted_at h p ≡ true
+
+-- what holds of the ring and of what was handed over and taken: at a position bytes are handed over once at most, by one worker;
+-- what is handed over is of a record that the worker was granted and that was submitted, as long as that record; and the bytes
+-- that are taken as a worker's event are those that this worker handed over there
+pub record IsTrueRing (workers : ℕ) (handed : List (ℕ × ℕ × List ℕ)) (b : WorldRing) : Type 0 where
   pub legal : IsLegal b.ring.setup b.ring.history
   pub stands : StandsFor b.ring
   pub workers_are : b.ring.setup.workers ≡ workers
-  pub handed_once : (p : ℕ) (one other : List ℕ) → Contains handed (p, one) → Contains handed (p, other) → one ≡ other
-  pub taken_as_handed : (p w k : ℕ) (bytes : List ℕ) → Contains b.taken (Event p w k bytes) → Contains handed (p, bytes)
+  pub handed_at_most_once : (p : ℕ) → count_by (is_handed_at p) handed ≤ 1
+  pub handed_once : (p v w : ℕ) (one other : List ℕ) → Contains handed (p, v, one) → Contains handed (p, w, other) → (v ≡ w) × (one ≡ other)
+  pub handed_submitted : (p w : ℕ) (bytes : List ℕ) → Contains handed (p, w, bytes) → IsSubmittedBy b.ring.history p w (length bytes)
+  pub taken_as_handed : (p w k : ℕ) (bytes : List ℕ) → Contains b.taken (Event p w k bytes) → Contains handed (p, w, bytes)
   pub taken_in_order : AreTakenInOrder b
 
 -- no worker came to an instruction without a meaning or had a record handed back; one that had as many turns as its program

@@ -14,13 +14,13 @@ use Rattle.rb_interleavings.specs.declared.actor.Actor.TheVariants.{Worker, Cons
 use Rattle.rb_interleavings.specs.Worlds.{RecordPlace, HeldRecords, WorkerStatus, Running, Finished, Halted, Strayed, WorkerState, WorldRing, World, table_with, with_worker, with_ring}
 use Rattle.rb_interleavings.specs.CallsInWorld.{RingSteps, RecordOutcome, Made, WorkerReserves, answer_to_reserve, held_after_reserve, WorkerOutputs, answer_to_output, granted_at, WorkerSubmits, WorkerDiscards}
 
--- what happened in a turn: an instruction was executed, and where it is one that hands bytes over the ring, the position of
--- their record and the bytes; the program ended, it is at an instruction or an answer without a meaning, a record was handed
--- back, or the worker does not run any more; what a take found; a chapter was handed out; or memory for a take or a chapter was
--- refused
+-- what happened in a turn: an instruction was executed, and where it is one that hands bytes over the ring, the worker that does
+-- so, the position of their record and the bytes; the program ended, it is at an instruction or an answer without a meaning, a
+-- record was handed back, or the worker does not run any more; what a take found; a chapter was handed out; or memory for a
+-- take or a chapter was refused
 pub data TurnEvent : Type 0 where
   Went : TurnEvent
-  HandedOver : (ring pos : ℕ) → List ℕ → TurnEvent
+  HandedOver : (ring worker pos : ℕ) → List ℕ → TurnEvent
   Ended : ℕ → TurnEvent
   GotStuck : TurnEvent
   GotBack : TurnEvent
@@ -52,16 +52,16 @@ pub record GetsAnswer (w : ℕ) (call : HelperCall) (t : State) (answer : Helper
 abbrev pub GivingBack : Type 1
 GivingBack = Granted → HelperAnswer → WorldRing → WorldRing → Type 0
 
--- a submit hands the bytes over, and so does an output that made its record; a discard hands nothing over
-abbrev pub submit_event : RecordPlace → List ℕ → TurnEvent
-submit_event place bytes = HandedOver place.ring place.pos bytes
+-- a worker's submit hands the bytes over, and so does an output that made its record; a discard hands nothing over
+abbrev pub submit_event : ℕ → RecordPlace → List ℕ → TurnEvent
+submit_event w place bytes = HandedOver place.ring w place.pos bytes
 
 abbrev pub discard_event : RecordPlace → List ℕ → TurnEvent
 discard_event place bytes = Went
 
-abbrev pub output_event : ℕ → List ℕ → RecordOutcome → TurnEvent
-output_event r bytes (Made p k) = HandedOver r p bytes
-output_event r bytes outcome = Went
+abbrev pub output_event : (w r : ℕ) → List ℕ → RecordOutcome → TurnEvent
+output_event w r bytes (Made p k) = HandedOver r w p bytes
+output_event w r bytes outcome = Went
 
 -- A worker gives back the record that it holds under an id, to the ring on which it was reserved; what it does not hold is
 -- handed back.
@@ -78,12 +78,12 @@ MakesCall w (Reserve id r len flags) t old event new =
     (outcome : RecordOutcome) × (b : WorldRing) × WorkerReserves w len flags outcome (old.rings r) b
     × GetsAnswer w (Reserve id r len flags) t (answer_to_reserve outcome) Went (held_after_reserve t.unit r outcome (old.workers w).held) r b old event new
 MakesCall w (Submit id bytes flags) t old event new =
-    GivesRecordBack WorkerSubmits submit_event w (Submit id bytes flags) t id bytes ((old.workers w).held id) old event new
+    GivesRecordBack WorkerSubmits (submit_event w) w (Submit id bytes flags) t id bytes ((old.workers w).held id) old event new
 MakesCall w (Discard id bytes flags) t old event new =
     GivesRecordBack WorkerDiscards discard_event w (Discard id bytes flags) t id bytes ((old.workers w).held id) old event new
 MakesCall w (Output r bytes flags) t old event new =
     (outcome : RecordOutcome) × (b : WorldRing) × WorkerOutputs w bytes flags outcome (old.rings r) b
-    × GetsAnswer w (Output r bytes flags) t (answer_to_output outcome) (output_event r bytes outcome) (old.workers w).held r b old event new
+    × GetsAnswer w (Output r bytes flags) t (answer_to_output outcome) (output_event w r bytes outcome) (old.workers w).held r b old event new
 MakesCall w (Query r what) t old event new =
     GetsAnswer w (Query r what) t (Told (query_answer (old.rings r).ring.setup (old.rings r).ring.history what)) Went (old.workers w).held r (old.rings r) old event new
 

@@ -4,8 +4,9 @@ ghost use Rattle.rb_interleavings.specs.EveryInterleaving.{EveryInterleavingIsWe
 
 /// For every list of actors: no worker is ever stuck, and no record is ever handed back; a worker that had as many turns as
 /// its program has units is finished; the busy records of each ring are exactly those that the unfinished workers hold, each
-/// by one worker; and what was taken at a position are the bytes that were handed over there, in the order in which the
-/// records were reserved.
+/// by one worker; at a position bytes are handed over once at most, by the worker that the record there was granted to; and
+/// what was taken there as an event of a worker are the bytes that this worker handed over, in the order in which the records
+/// were reserved.
 pub fn every_interleaving_is_well()
     ensures { EveryInterleavingIsWell }
 {}

@@ -58,7 +58,7 @@ impl<C, R> MachineMemory<C, R> {
         R: Drop,
         ensures { self.new ≡ record { stack = replicate 512 0; pointers = []; context = context; records = [] } }
     {
-        self.parts = Parts::new(context);
+        self.parts.restart(context);
         self.pointers.clear();
         self.entries.clear();
     }

@@ -33,8 +33,9 @@ impl<W> Model for Buffered<W> {
 }
 
 impl<W: Write> Buffered<W> {
-    ghost use Rattle.std.specs.Prelude.{◌≡◌, ◌≤◌, ◌+◌, ◌++◌, [], IfOk, OnOk, length};
+    ghost use Rattle.std.specs.Prelude.{◌≡◌, ◌≤◌, ◌+◌, ◌++◌, [], IfOk, OnOk, is_ok, length};
     ghost use Rattle.std.specs.Io.KnownBytes.{Keeps, WriteAppends, append_known};
+    ghost use Rattle.rb_io.specs.Gathered.{HandsOn};
 
     /// A buffer in front of the writer; the error is want of memory.
     pub fn new(alloc: Global, writer: W) -> Result<Buffered<W>, AllocError>
@@ -56,6 +57,7 @@ impl<W: Write> Buffered<W> {
     fn hand_on(&mut self) -> io::Result<()>
         ensures bytes { Keeps (append_known (W.contents self.old.writer) self.old.waiting) (append_known (W.contents self.new.writer) self.new.waiting) }
         ensures empty { OnOk result (self.new.waiting ≡ []) }
+        ensures handed_on { HandsOn W.contents self.old (is_ok result) self.new }
     {
         let sent = write_out(&mut self.writer, &self.room[..self.count]);
         if sent == self.count {
@@ -123,7 +125,16 @@ impl<W: Write> Write for Buffered<W> {
 }
 
 impl<W: Write> Outgoing for Buffered<W> {
+    ghost use Rattle.std.specs.Prelude.{refl};
+    ghost use Rattle.rb_io.specs.Gathered.{HandsOn};
+
+    ghost went = { λ b. W.contents b.writer };
+
     ghost waiting = { λ b. b.waiting };
+
+    ghost hands_out = { HandsOn W.contents };
+
+    ghost contents_are = { λ b. refl };
 
     fn hand_out(&mut self) -> io::Result<()> {
         self.hand_on()?;

@@ -2,7 +2,8 @@
 //! of output are told (`specs/Lines.antt`).
 //!
 //! For whoever writes a command of the program. What is promised: which bytes were read or went out, by each answer, an interrupted call
-//! counted as one that failed; and that what a buffer gathered was handed on where its `hand_out` or `flush` answers Ok.
+//! counted as one that failed; that what a buffer holds is what went and what waits; and that what it gathered was handed on where its `hand_out`
+//! or `flush` answers Ok.
 #![tactic(auto)]
 
 mod buffered;

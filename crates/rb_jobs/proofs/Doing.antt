@@ -1,10 +1,16 @@
 -- What a run of the helpers over seats shows of a job.
-use Rattle.std.proofs.Common.{false, ◌≡◌, ◌≢◌, Err, ℕ, ◌^◌, ◌<◌, List, [], ◌++◌, length, ap, sym, ◌∙◌, subst, arith}
+use Rattle.std.proofs.Common.{false, ◌≡◌, ◌≢◌, Err, ℕ, ◌+◌, ◌^◌, ◌<◌, ◌≤◌, List, [], ◌∷◌, ◌++◌, length, ap, sym, ◌∙◌, subst, arith}
+use Rattle.std.proofs.lemmas.List.{length_push}
+use Rattle.std.proofs.lemmas.List.Sums.{count_by-le-length}
 use Rattle.std.specs.Prelude.{OnOk}
-use Rattle.rb_helpers.specs.AnsweredCalls.{AnsweredCall, notes_of}
+use Rattle.rb_decode.specs.Program.{unit_count, units_of}
+use Rattle.rb_helpers.specs.AnsweredCalls.{AnsweredCall, note_of, notes_of}
+use Rattle.rb_insn.specs.declared.insn.Insn.{Insn}
 use Rattle.rb_interp.specs.declared.fault.RunFault.TheVariants.{Stray}
 use Rattle.rb_interp.specs.RunTraces.{RunMatches, TellsLength, TraceBalances}
 use Rattle.rb_ledger.specs.Seats.{Shared, WorkerSeat}
+use Rattle.rb_verifier.specs.Subject.{call_count, calls}
+use Rattle.rb_verifier.proofs.Counting.{count-units_of}
 use Rattle.rb_seats.specs.declared.seat_record.SeatRecord.{SeatRecord}
 use Rattle.rb_seats.specs.SeatRecords.{record_bytes, with_record_bytes}
 use Rattle.rb_seats.specs.SeatHelpers.{AtSeats, Leads, SeatsLead}
@@ -56,3 +62,38 @@ did_counted task answer calls start now rings room count counted old new before 
           (subst (λ t. OnOk answer.result (TraceBalances [] t)) trace (subst (λ t. OnOk answer.result (TraceBalances t now.trace)) empty balanced)) seats,
       after_is ∙ counts (omega (arith, before_is, fits)) ∙ ap (λ n. counted_on n (length calls)) before_is,
     )
+
+-- each call is noted, and takes a place of the room
+calls_take_room : (start now : AtSeats) (calls : List (AnsweredCall SeatRecord)) → Leads start calls now → length now.trace + now.room ≡ length start.trace + start.room
+calls_take_room start now [] same = ap (λ (h : AtSeats). length h.trace + h.room) same
+calls_take_room start now (call ∷ more) leads =
+    let mid = leads.0 in
+    let made = leads.1 in
+    let rest = calls_take_room mid now more leads.2 in
+    let noted : length mid.trace ≡ length start.trace + 1 = ap length made.trace_is ∙ length_push start.trace (note_of call) in
+    let room = made.room_is in
+    omega (arith, rest, noted, room)
+
+-- a program has no more calls than units
+calls_within : (program : List Insn) → call_count program ≤ unit_count program
+calls_within program = let e = count-units_of program in let few = count_by-le-length calls (units_of program) in omega (arith, e, few)
+
+-- so no job leaves more failures unlogged than a program has units
+pub few_unlogged : (start now : AtSeats) (calls : List (AnsweredCall SeatRecord)) (program : List Insn) (rings : List Shared) (seats : List WorkerSeat) (unlogged : ℕ)
+    → start ≡ record { rings = rings; seats = seats; trace = []; room = call_count program; unlogged = 0; due = false } → Leads start calls now → unlogged ≤ length now.trace → unit_count program ≤ 4096
+    → unlogged ≤ 4096
+few_unlogged start now calls program rings seats unlogged fresh leads within long =
+    let all = calls_take_room start now calls leads in
+    let empty = ap (λ (h : AtSeats). length h.trace) fresh in
+    let room = ap (λ (h : AtSeats). h.room) fresh in
+    let few = calls_within program in
+    omega (arith, all, empty, room, few, within, long)
+
+-- the same of seats and counts that are these
+pub counted_as : (task : Task) (answer : JobAnswer) (old start new now : List WorkerSeat) (before count after counted : ℕ) → old ≡ start → new ≡ now → before ≡ count → after ≡ counted
+    → JobRanCounted task answer old new before after → JobRanCounted task answer start now count counted
+counted_as task answer old start new now before count after counted old_is new_is before_is after_is ran =
+    subst (λ (o : List WorkerSeat). JobRanCounted task answer o now count counted) old_is
+    (subst (λ (n : List WorkerSeat). JobRanCounted task answer old n count counted) new_is
+    (subst (λ (b : ℕ). JobRanCounted task answer old new b counted) before_is
+    (subst (λ (a : ℕ). JobRanCounted task answer old new before a) after_is ran)))

@@ -5,7 +5,7 @@ use Rattle.rb_verifier.specs.Subject.{Subject}
 use Rattle.rb_helpers.specs.AnsweredCalls.{AnsweredCall, AllMayAnswer, notes_of}
 use Rattle.rb_interp.specs.declared.fault.RunFault.TheVariants.{Stray}
 use Rattle.rb_interp.specs.RunTraces.{RunMatches, TellsLength, TraceBalances}
-use Rattle.rb_ledger.specs.Seats.{WorkerSeat, IsSameSeat}
+use Rattle.rb_ledger.specs.Seats.{Shared, WorkerSeat, IsSameSeat}
 use Rattle.rb_seats.specs.declared.seat_record.SeatRecord.{SeatRecord}
 use Rattle.rb_seats.specs.SeatRecords.{record_bytes, with_record_bytes}
 use Rattle.rb_seats.specs.SeatHelpers.{SeatsLead, makes, submits, discards, fails, call_total, made_in, refused_in, submitted_in, discarded_in}
@@ -20,6 +20,12 @@ pub record Task : Type 0 where
 
 abbrev pub task_of : Job → Task
 task_of job = record { worker = job.worker; program = job.program.now; context = job.ctx.now }
+
+-- a worker's seats at some rings, in the rings' order, and how many helper calls it has finished
+pub record WorkerAtRings : Type 0 where
+  pub rings : List Shared
+  pub seats : List WorkerSeat
+  pub calls : ℕ
 
 -- The job was run: it made these calls, with these answers. They are those of the program's meaning, which gives this answer; no record was handed
 -- back; they lead from the one state of the worker's seats to the other; and the seats' numbers together rose by what they say. Each null for flags 0

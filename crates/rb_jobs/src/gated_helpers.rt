@@ -10,34 +10,27 @@ use crate::job::Gate;
 use rb_helpers::{Done, Helpers};
 use rb_lend::Lent;
 
-/// Helpers of which each call goes through a worker's gate first, and is then counted. They answer as the inner helpers do.
+/// Helpers of which each call goes through a worker's gate first, and is counted. They answer as the inner helpers do.
 #[derive(Drop)]
 pub(crate) struct GatedHelpers<'g, H, G> {
-    inner: H,
-    worker: u32,
+    pub(crate) inner: H,
+    pub(crate) worker: u32,
     gate: &'g G,
-    calls: u64,
+    pub(crate) calls: u64,
 }
 
 impl<'g, H: Helpers + Drop, G: Gate> GatedHelpers<'g, H, G> {
-    /// The inner helpers behind the worker's gate, which has finished so many calls.
-    pub(crate) fn new(inner: H, worker: u32, gate: &'g G, calls: u64) -> GatedHelpers<'g, H, G>
+    /// The inner helpers behind the gate of a worker that has finished so many calls.
+    pub(crate) fn new(inner: H, gate: &'g G, calls: u64) -> GatedHelpers<'g, H, G>
         ensures inner { result.inner ≡ inner }
         ensures calls { result.calls ≡ calls }
     {
         GatedHelpers {
             inner,
-            worker,
+            worker: 0,
             gate,
             calls,
         }
-    }
-
-    /// How many helper calls the worker has finished; it stays at the greatest `u64`.
-    pub(crate) fn calls(&self) -> u64
-        ensures { result ≡ self.now.calls }
-    {
-        self.calls
     }
 
     /// The inner helpers.
@@ -47,14 +40,12 @@ impl<'g, H: Helpers + Drop, G: Gate> GatedHelpers<'g, H, G> {
         self.inner
     }
 
-    fn wait_at_gate(&self) {
-        self.gate.at(self.worker, self.calls);
-    }
-
-    fn count(&mut self)
+    // Calls the gate with the number of calls that were finished, and counts the one that comes.
+    fn pass_gate(&mut self)
         ensures inner { self.new.inner ≡ self.old.inner }
         ensures calls { self.new.calls ≡ counted_on self.old.calls 1 }
     {
+        self.gate.at(self.worker, self.calls);
         self.calls = self.calls.saturating_add(1);
     }
 }
@@ -85,38 +76,28 @@ impl<'g, H: Helpers + Drop, G: Gate> Helpers for GatedHelpers<'g, H, G> {
     ghost leads_on = { λ a b c first more before after. (H.leads_on a.inner b.inner c.inner first more before.0 after.0, both_counted a.calls b.calls c.calls first more before.1 after.1) };
 
     fn reserve(&mut self, ring: u32, n: u32, flags: u64) -> Option<H::Record> {
-        self.wait_at_gate();
-        let answer = self.inner.reserve(ring, n, flags);
-        self.count();
-        answer
+        self.pass_gate();
+        self.inner.reserve(ring, n, flags)
     }
 
     fn submit(&mut self, owned: H::Record, flags: u64) -> Result<(), H::Record> {
-        self.wait_at_gate();
-        let answer = self.inner.submit(owned, flags);
-        self.count();
-        answer
+        self.pass_gate();
+        self.inner.submit(owned, flags)
     }
 
     fn discard(&mut self, owned: H::Record, flags: u64) -> Result<(), H::Record> {
-        self.wait_at_gate();
-        let answer = self.inner.discard(owned, flags);
-        self.count();
-        answer
+        self.pass_gate();
+        self.inner.discard(owned, flags)
     }
 
     fn output(&mut self, ring: u32, bytes: &[u8], flags: u64) -> i64 {
-        self.wait_at_gate();
-        let answer = self.inner.output(ring, bytes, flags);
-        self.count();
-        answer
+        self.pass_gate();
+        self.inner.output(ring, bytes, flags)
     }
 
     fn query(&mut self, ring: u32, what: u64) -> u64 {
-        self.wait_at_gate();
-        let answer = self.inner.query(ring, what);
-        self.count();
-        answer
+        self.pass_gate();
+        self.inner.query(ring, what)
     }
 
     fn trace(&self) -> &[Done] {

@@ -1,17 +1,114 @@
 //! Runs of jobs.
 
-ghost use Rattle.std.specs.Prelude.{◌≡◌, ◌≤◌, length, IfOk, IfErr};
+ghost use Rattle.std.specs.Prelude.{◌≡◌, ◌≤◌, [], false, length, IfOk, IfErr};
+ghost use Rattle.rb_verifier.specs.Subject.{call_count};
 ghost use Rattle.rb_seats.specs.SeatHelpers.{AtRings};
 ghost use Rattle.rb_jobs.specs.Jobs.{JobRan, JobRanCounted, task_of};
 
 use crate::gated_helpers::GatedHelpers;
 use crate::job::{Gate, Job, JobAnswer};
-use rb_helpers::Done;
 use rb_interp::{MachineRoom, run_in};
 use rb_seats::{SeatHelpers, SeatRecord, Stock};
 use rb_shared_ring::{Seat, SharedRing};
 use std::alloc::{AllocError, Global};
+use std::marker::Model;
 use std::sync::Wait;
+
+/// A worker that runs one job after another, over its seats, one at each of the rings and in their order. The memory of a job's trace and of its
+/// machine is used again for the next. Contracts see the rings, the seats and how many helper calls the worker has finished, which stays at the
+/// greatest `u64`.
+#[derive(Drop)]
+pub struct JobRunner<'r, 'j, R, G, K> {
+    helpers: GatedHelpers<'r, SeatHelpers<'r, R, K>, G>,
+    machine: MachineRoom<'j, SeatRecord>,
+}
+
+impl<'r, 'j, R, G, K> Model for JobRunner<'r, 'j, R, G, K> {
+    ghost use Rattle.std.specs.Coded.{codes};
+    ghost use Rattle.atomic_table.specs.Seated.{table_id_coded};
+    ghost use Rattle.rb_history.specs.RingModel.{contents_code};
+    ghost use Rattle.rb_history.specs.contracts.entries.Entry as entry;
+    ghost use Rattle.rb_history.specs.contracts.tally.Tally as tally_row;
+    ghost use Rattle.rb_hands.specs.contracts.out_record.OutRecord as out_row;
+    ghost use Rattle.rb_jobs.specs.Jobs.{WorkerAtRings};
+
+    ghost Value = { WorkerAtRings };
+
+    ghost coded = { Prim.hlevel (codes, contents_code, table_id_coded, entry.the_row.coded, tally_row.the_row.coded, out_row.the_row.coded) };
+
+    ghost view = { λ r. record { rings = r.helpers.inner.rings; seats = r.helpers.inner.seats; calls = r.helpers.calls } };
+}
+
+impl<'r, 'j, R: Wait, G: Gate, K: Stock> JobRunner<'r, 'j, R, G, K> {
+    /// A worker at its seats that has finished so many helper calls. Sheets of the stock are used again for its records; of used bytes nothing is
+    /// seen. It takes no memory.
+    pub fn new(
+        rt: &'r R,
+        alloc: Global,
+        rings: &'r [SharedRing],
+        seats: Vec<Seat>,
+        gate: &'r G,
+        stock: &'r K,
+        calls: u64,
+    ) -> JobRunner<'r, 'j, R, G, K>
+        requires seats { AtRings rings.now seats.items }
+        ensures new { result ≡ record { rings = rings.now; seats = seats.items; calls = calls } }
+    {
+        let helpers = SeatHelpers::at_rest(rt, alloc, rings, seats, stock);
+        JobRunner {
+            helpers: GatedHelpers::new(helpers, gate, calls),
+            machine: MachineRoom::new(),
+        }
+    }
+
+    /// Runs a job to its end over the worker's seats. Before each helper call the gate is called, with the number of calls that the worker has
+    /// finished, which is then raised.
+    ///
+    /// `AllocError` is returned where there is no memory for the trace of the calls: nothing ran. It may wait for other threads at each call,
+    /// and takes as many steps as the program has units at most. Memory is taken only where the trace has room for fewer calls than the program has.
+    pub fn run(&mut self, job: &Job<'j>) -> Result<JobAnswer, AllocError>
+        requires rings { job.now.program.now.rings ≤ length self.old.rings }
+        ensures ran { IfOk result (λ answer. JobRan (task_of job.now) answer self.old.seats self.new.seats) }
+        ensures counted { IfOk result (λ answer. JobRanCounted (task_of job.now) answer self.old.seats self.new.seats self.old.calls self.new.calls) }
+        ensures few { IfOk result (λ answer. answer.unlogged ≤ 4096) }
+        ensures rings { self.new.rings ≡ self.old.rings }
+        ensures nothing_ran { IfErr result (λ _. self.new ≡ self.old) }
+    {
+        self.helpers.inner.begin(job.program.calls())?;
+        Ok(run_begun(&mut self.helpers, &mut self.machine, job))
+    }
+
+    /// The seats, and how many helper calls the worker has finished.
+    pub fn into_seats(self) -> (Vec<Seat>, u64)
+        ensures seats { result.0.items ≡ self.entry.seats }
+        ensures at_rings { AtRings self.entry.rings result.0.items }
+        ensures calls { result.1 ≡ self.entry.calls }
+    {
+        let calls = self.helpers.calls;
+        (self.helpers.into_inner().into_seats(), calls)
+    }
+}
+
+// Runs a job over helpers that have begun, with room for its calls.
+fn run_begun<'j, R: Wait, G: Gate, K: Stock>(
+    helpers: &mut GatedHelpers<'_, SeatHelpers<'_, R, K>, G>,
+    machine: &mut MachineRoom<'j, SeatRecord>,
+    job: &Job<'j>,
+) -> JobAnswer
+    requires rings { job.now.program.now.rings ≤ length helpers.old.inner.rings }
+    requires begun { helpers.old.inner ≡ record { rings = helpers.old.inner.rings; seats = helpers.old.inner.seats; trace = []; room = call_count job.now.program.now.program; unlogged = 0; due = false } }
+    ensures ran { JobRan (task_of job.now) result helpers.old.inner.seats helpers.new.inner.seats }
+    ensures counted { JobRanCounted (task_of job.now) result helpers.old.inner.seats helpers.new.inner.seats helpers.old.calls helpers.new.calls }
+    ensures few { result.unlogged ≤ 4096 }
+    ensures rings { helpers.new.inner.rings ≡ helpers.old.inner.rings }
+{
+    job.program.program().facts();
+    let _finished = helpers.calls;
+    helpers.worker = job.worker;
+    let result = run_in(job.program, job.ctx, helpers, machine);
+    let unlogged = helpers.inner.unlogged();
+    JobAnswer { result, unlogged }
+}
 
 /// Runs a job to its end over the worker's seats, one at each of the rings and in their order, and hands the seats back. Before each
 /// helper call the gate is called, with the number of calls that the worker has finished, which is then raised. Sheets of the stock are used
@@ -37,55 +134,14 @@ pub fn run_job<R: Wait, G: Gate, K: Stock>(
     ensures nothing_ran { IfErr result.0 (λ _. calls.new ≡ calls.old) }
     ensures seats { AtRings rings.now result.1.items }
 {
-    let (answer, seats, _) = run_job_in(
-        rt,
-        alloc,
-        rings,
-        seats,
-        Vec::new(alloc),
-        &mut MachineRoom::new(),
-        job,
-        gate,
-        stock,
-        calls,
-    );
-    (answer, seats)
-}
-
-/// Runs a job as `run_job` does, with the memory of an earlier job's trace, which is handed back for the next, and in the room of an earlier
-/// job's machine: memory is taken only where the trace has room for fewer calls than the program has.
-pub fn run_job_in<'j, R: Wait, G: Gate, K: Stock>(
-    rt: &R,
-    alloc: Global,
-    rings: &[SharedRing],
-    seats: Vec<Seat>,
-    trace: Vec<Done>,
-    machine: &mut MachineRoom<'j, SeatRecord>,
-    job: &Job<'j>,
-    gate: &G,
-    stock: &K,
-    calls: &mut u64,
-) -> (Result<JobAnswer, AllocError>, Vec<Seat>, Vec<Done>)
-    requires rings { job.now.program.now.rings ≤ length rings.now }
-    requires seats { AtRings rings.now seats.items }
-    ensures ran { IfOk result.0 (λ answer. JobRan (task_of job.now) answer seats.items result.1.items) }
-    ensures counted { IfOk result.0 (λ answer. JobRanCounted (task_of job.now) answer seats.items result.1.items calls.old calls.new) }
-    ensures memory { IfErr result.0 (λ _. result.1 ≡ seats) }
-    ensures nothing_ran { IfErr result.0 (λ _. calls.new ≡ calls.old) }
-    ensures seats { AtRings rings.now result.1.items }
-{
     let room = job.program.calls();
-    let finished = *calls;
-    match SeatHelpers::with_trace(rt, alloc, rings, seats, trace, room, stock) {
+    match SeatHelpers::new(rt, alloc, rings, seats, room, stock) {
         Ok(helpers) => {
-            let mut gated = GatedHelpers::new(helpers, job.worker, gate, finished);
-            let result = run_in(job.program, job.ctx, &mut gated, machine);
-            *calls = gated.calls();
-            let helpers = gated.into_inner();
-            let unlogged = helpers.unlogged();
-            let (seats, trace) = helpers.into_parts();
-            (Ok(JobAnswer { result, unlogged }), seats, trace)
+            let mut gated = GatedHelpers::new(helpers, gate, *calls);
+            let answer = run_begun(&mut gated, &mut MachineRoom::new(), job);
+            *calls = gated.calls;
+            (Ok(answer), gated.into_inner().into_seats())
         }
-        Err((refused, seats, trace)) => (Err(refused), seats, trace),
+        Err((refused, seats)) => (Err(refused), seats),
     }
 }

@@ -37,10 +37,10 @@ pub(crate) fn run<R: Print>(rt: &R, alloc: Global) -> Result<(), SweepFault> {
 
 // A ring of 4,096 bytes with one worker.
 fn opened<R: Print>(rt: &R, alloc: Global) -> Result<RingState, SweepFault>
-    ensures { IfOk result (λ ring. ring.chapter.opening.setup.workers ≡ 1) }
+    ensures { IfOk result (λ ring. ring.state.ring.chapter.opening.setup.workers ≡ 1) }
 {
     for _ in 0..TRIES {
-        match RingState::new(alloc, 4096, 0, 1, ROOM) {
+        match RingState::new(alloc, 0, 4096, 0, 1, ROOM) {
             Ok(ring) => return Ok(ring),
             Err(OpenFault::Memory) => tell_memory(rt, "open"),
             Err(_) => return Err(SweepFault::Otherwise("open")),
@@ -55,7 +55,7 @@ fn output_and_take<R: Print>(
     alloc: Global,
     ring: &mut RingState,
 ) -> Result<Sheet, SweepFault>
-    requires { ring.old.chapter.opening.setup.workers ≡ 1 }
+    requires { ring.old.state.ring.chapter.opening.setup.workers ≡ 1 }
 {
     tell(rt, "open", ring);
     let sheet = sheet_beside(rt, alloc, ring)?;

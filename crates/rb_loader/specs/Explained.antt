@@ -4,6 +4,7 @@ use Rattle.std.specs.Io.KnownBytes.{Appends, Keeps}
 use Rattle.rb_explain.specs.Explanations.{ExplainsAs}
 use Rattle.rb_explain.specs.declared.explanation.Reason.{Reason}
 use Rattle.rb_explain.specs.declared.explanation.Reason.TheVariants as reasons
+use Rattle.rb_json.specs.declared.form.LineForm.{LineForm}
 use Rattle.rb_refs.specs.Rules.{rule_number}
 use Rattle.rb_loader.specs.Acceptance.{fault_of_shape}
 use Rattle.rb_loader.specs.declared.program.ProgramFault.{ProgramFault}
@@ -17,21 +18,21 @@ fault_of_reason (reasons.Shape fault) = fault_of_shape fault
 fault_of_reason (reasons.Rule unit rule) = Verify (rule_number rule) unit
 
 -- the text was explained: as one of an accepted program, or of one that is refused for this; and the explanation was printed, and nothing else
-pub record PrintsExplanation (text : List ℕ) (ctx_len rings : ℕ) (reason : Option Reason) (before after : Option (List ℕ)) : Type 0 where
+pub record PrintsExplanation (form : LineForm) (text : List ℕ) (ctx_len rings : ℕ) (reason : Option Reason) (before after : Option (List ℕ)) : Type 0 where
   pub told : List ℕ
-  pub explained : ExplainsAs text (record { ctx_len = ctx_len; rings = rings }) reason told
+  pub explained : ExplainsAs form text (record { ctx_len = ctx_len; rings = rings }) reason told
   pub printed : Appends before after told
 
 -- the explanation of a refusal was printed, and this is the fault that it explains
-pub record ExplainsFault (text : List ℕ) (ctx_len rings : ℕ) (before after : Option (List ℕ)) (fault : ProgramFault) : Type 0 where
+pub record ExplainsFault (form : LineForm) (text : List ℕ) (ctx_len rings : ℕ) (before after : Option (List ℕ)) (fault : ProgramFault) : Type 0 where
   pub reason : Reason
   pub fault_is : fault ≡ fault_of_reason reason
-  pub printed : PrintsExplanation text ctx_len rings (Some reason) before after
+  pub printed : PrintsExplanation form text ctx_len rings (Some reason) before after
 
 -- what was printed of an input that is refused so: nothing where it is no UTF-8 or memory ran out, and where the device did not fail
 -- the explanation
-abbrev pub ExplainsRefusal : List ℕ → ℕ → ℕ → Option (List ℕ) → Option (List ℕ) → ProgramFault → Type 0
-ExplainsRefusal input ctx_len rings before after Memory = Keeps before after
-ExplainsRefusal input ctx_len rings before after Device = Unit {0}
-ExplainsRefusal input ctx_len rings before after fault =
-    ((fault ≡ Text) × ¬ IsUtf8 input × Keeps before after) ⊎ ExplainsFault input ctx_len rings before after fault
+abbrev pub ExplainsRefusal : LineForm → List ℕ → ℕ → ℕ → Option (List ℕ) → Option (List ℕ) → ProgramFault → Type 0
+ExplainsRefusal form input ctx_len rings before after Memory = Keeps before after
+ExplainsRefusal form input ctx_len rings before after Device = Unit {0}
+ExplainsRefusal form input ctx_len rings before after fault =
+    ((fault ≡ Text) × ¬ IsUtf8 input × Keeps before after) ⊎ ExplainsFault form input ctx_len rings before after fault

@@ -9,25 +9,28 @@ use crate::program::{Bounds, ProgramFault, read_all, shape_fault, text_of};
 use rb_decode::DecodeFault;
 use rb_explain::Reason;
 use rb_io::write_whole;
+use rb_json::LineForm;
 use std::alloc::Global;
 use std::io::{Read, Write};
 
 /// Explains the program whose text is the input: of an accepted one each instruction with what the verifier knows before it, of a
-/// refused one the units around its first fault, and how programs mend it. The explanation is printed before a refusal is answered.
+/// refused one the units around its first fault, and how programs mend it, in words or as objects of JSON. The explanation is printed before a refusal is answered.
 /// Input that is no UTF-8 is `Text`, without an explanation.
 pub fn explain<R: Read, W: Write>(
     alloc: Global,
     input: &mut R,
     out: &mut W,
     bounds: Bounds,
+    form: LineForm,
 ) -> Result<(), ProgramFault>
     ensures accepted { OnOk result (IfSome (R.remaining input.old) (λ text. (subject : Subject) × IsAccepted text bounds.ctx_len bounds.rings subject)) }
-    ensures explained { OnOk result (IfSome (R.remaining input.old) (λ text. PrintsExplanation text bounds.ctx_len bounds.rings None (W.contents out.old) (W.contents out.new))) }
-    ensures refused { IfErr result (λ fault. IfSome (R.remaining input.old) (λ text. ExplainsRefusal text bounds.ctx_len bounds.rings (W.contents out.old) (W.contents out.new) fault)) }
+    ensures explained { OnOk result (IfSome (R.remaining input.old) (λ text. PrintsExplanation form text bounds.ctx_len bounds.rings None (W.contents out.old) (W.contents out.new))) }
+    ensures refused { IfErr result (λ fault. IfSome (R.remaining input.old) (λ text. ExplainsRefusal form text bounds.ctx_len bounds.rings (W.contents out.old) (W.contents out.new) fault)) }
 {
     let bytes = read_all(alloc, input)?;
     let text = text_of(bytes.as_slice())?;
-    let Ok(explanation) = rb_explain::explain(alloc, text, bounds.ctx_len, bounds.rings) else {
+    let explained = rb_explain::explain(alloc, text, bounds.ctx_len, bounds.rings, form);
+    let Ok(explanation) = explained else {
         return Err(ProgramFault::Memory);
     };
     let Ok(()) = write_whole(out, explanation.text.as_bytes()) else {

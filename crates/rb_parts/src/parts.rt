@@ -60,6 +60,23 @@ impl<C, R> Parts<C, R> {
         }
     }
 
+    /// The parts as `new` makes them, in place: the stack is cleared, and what the slots held is given up.
+    pub fn restart(&mut self, context: C)
+    where
+        C: Drop,
+        R: Drop,
+        ensures stack { self.new.stack ≡ replicate 512 0 }
+        ensures context { self.new.context ≡ context }
+        ensures first { self.new.records.first ≡ None }
+        ensures second { self.new.records.second ≡ None }
+        ensures third { self.new.records.third ≡ None }
+        ensures fourth { self.new.records.fourth ≡ None }
+    {
+        self.stack = Stack::new();
+        self.context = context;
+        self.records.clear();
+    }
+
     /// Takes the record into the lowest empty slot and answers that slot, or hands the record back exactly where four are held.
     /// In constant time.
     pub fn hold(&mut self, owned: R) -> Result<Slot, R>

@@ -52,6 +52,29 @@ impl<R> Records<R> {
         }
     }
 
+    /// Empties each slot that holds a record, which is given up. A slot that is empty is not written.
+    pub fn clear(&mut self)
+    where
+        R: Drop,
+        ensures first { self.new.first ≡ None }
+        ensures second { self.new.second ≡ None }
+        ensures third { self.new.third ≡ None }
+        ensures fourth { self.new.fourth ≡ None }
+    {
+        if self.first.is_some() {
+            self.first = None;
+        }
+        if self.second.is_some() {
+            self.second = None;
+        }
+        if self.third.is_some() {
+            self.third = None;
+        }
+        if self.fourth.is_some() {
+            self.fourth = None;
+        }
+    }
+
     /// What the slot holds, lent for reading: `None` exactly where it is empty.
     pub fn get(&self, slot: Slot) -> &Option<R>
         ensures { result.now ≡ in_slot self.now slot }

@@ -6,6 +6,7 @@ use crate::decoded::{tell_decode_fault, tell_text_fault};
 use crate::shapes::tell_shape_fault;
 use rb_decode::TextFault;
 use rb_explain::{Explanation, Reason, explain};
+use rb_json::LineForm;
 use std::alloc::{AllocError, Global};
 use std::fmt::Write;
 
@@ -31,7 +32,7 @@ pub(crate) fn answer_explain(
     if ctx_len > 65_536 || rings > 16 {
         return out.push_str("out of bounds");
     }
-    let Ok(explanation) = explain(alloc, hex, ctx_len as u32, rings as u32) else {
+    let Ok(explanation) = explain(alloc, hex, ctx_len as u32, rings as u32, LineForm::Words) else {
         return out.push_str("refused memory");
     };
     tell_reason(explanation.reason, out)?;

@@ -1,4 +1,4 @@
-//! What calls by a worker's seat answer of reservations, as text.
+//! What rings with hands answer of reservations, as text.
 
 use crate::answers::{reserve_word, tell_notice, tell_refusal};
 use crate::sheets::write_at;
@@ -67,8 +67,8 @@ pub(crate) fn tell_hands(seat: &Seat, out: &mut Text) {
     }
 }
 
-// The four numbers of a reservation.
-fn tell_record(record: &Reservation, out: &mut Text) {
+/// The four numbers of a reservation.
+pub(crate) fn tell_record(record: &Reservation, out: &mut Text) {
     out.field("pos", record.pos());
     out.field("worker", u64::from(record.worker()));
     out.field("serial", record.serial());

@@ -4,15 +4,18 @@ ghost use Rattle.std.specs.Prelude.{◌≡◌, ◌<◌, IfSome, IsTrue, length};
 
 use crate::answers::{
     bind_word, open_word, reserve_word, tell_all_taken, tell_counts, tell_end, tell_entries,
-    tell_granted, tell_handed_out, tell_notice, tell_record, tell_refusal, tell_taken,
+    tell_granted, tell_handed_out, tell_notice, tell_refusal, tell_taken,
 };
+use crate::shared_answers::{tell_record, tell_reserved};
 use crate::sheets::{copied, filled, write_at};
 use crate::tape_rows::tell_written;
 use crate::text::Text;
-use rb_chapter::Chapter;
+use rb_chapter::{Chapter, UntakenStatus};
 use rb_chapter_ledger::bind_chapters;
-use rb_chapter_ring::{ReserveFault, RingState};
-use rb_history::{OpenFault as ListOpenFault, Reservation, ReserveFault as ListFault, Taken};
+use rb_chapter_ring::{Reservation, ReserveFault, RingState};
+use rb_history::{
+    OpenFault as ListOpenFault, Reservation as ListReservation, ReserveFault as ListFault, Taken,
+};
 use rb_lend::{Lent, Sheet};
 use rb_ring_list::RingState as ListState;
 use std::alloc::Global;
@@ -36,14 +39,14 @@ pub(crate) struct TwinRings {
 #[derive(Drop)]
 pub(crate) struct TwinRecord {
     ring: Reservation,
-    list: Reservation,
+    list: ListReservation,
 }
 
 impl TwinRecord {
     /// Writes bytes from byte `at` on, where they fit.
     pub(crate) fn write(&mut self, at: u64, bytes: &[u8], out: &mut Text) {
         if write_at(&mut self.ring, at, bytes) && write_at(&mut self.list, at, bytes) {
-            tell_record(out, &self.ring);
+            tell_record(&self.ring, out);
             out.word("bytes");
             out.bytes(self.ring.bytes());
         } else {
@@ -63,7 +66,8 @@ pub(crate) enum Ending {
 enum Asked {
     Granted(Reservation),
     Refused,
-    ChapterFull,
+    // The chapter has no room, or the worker no free hand: the list knows neither.
+    Unknown,
 }
 
 impl TwinRings {
@@ -97,7 +101,8 @@ impl TwinRings {
         }
     }
 
-    /// Reserves a record of `n` bytes, in a sheet full of 255. The list is not asked where the chapter has no room.
+    /// Reserves a record of `n` bytes into the worker's lowest free hand, in a sheet full of 255. The list is not asked where the chapter has
+    /// no room, and neither ring where no hand is free.
     pub(crate) fn reserve(
         &mut self,
         alloc: Global,
@@ -115,7 +120,7 @@ impl TwinRings {
         };
         let mut told = Text::new(alloc);
         let record = match reserve_in_chapter(&mut self.ring, worker, n, sheet, out) {
-            Asked::ChapterFull => return None,
+            Asked::Unknown => return None,
             Asked::Granted(ring) => {
                 match reserve_in_list(&mut self.list, worker, n, other, &mut told) {
                     Some(list) => Some(TwinRecord { ring, list }),
@@ -131,7 +136,8 @@ impl TwinRings {
         record
     }
 
-    /// Submits a record to both rings, or gives it up; the reservations come back where they are stray at both.
+    /// Submits a record to both rings, or gives it up. The reservations come back where they are stray: out in no hand of the ring, which is not
+    /// called then, and not busy in the list, which is asked unless it has a busy record of these numbers.
     pub(crate) fn end(
         &mut self,
         alloc: Global,
@@ -142,15 +148,14 @@ impl TwinRings {
     ) -> Option<TwinRecord> {
         let TwinRecord { ring, list } = record;
         let mut told = Text::new(alloc);
-        let answer = match ending {
-            Ending::Submit => self.ring.submit(ring, flags),
-            Ending::Discard => self.ring.discard(ring, flags),
-        };
+        let ring = end_in_chapter(&mut self.ring, ring, ending, flags, out);
+        if ring.is_some() && self.has_busy(&list) {
+            return ring.map(|ring| TwinRecord { ring, list });
+        }
         let other = match ending {
             Ending::Submit => self.list.submit(list, flags),
             Ending::Discard => self.list.discard(list, flags),
         };
-        let ring = tell_end(answer, out);
         let list = tell_end(other, &mut told);
         self.compare(out, &told);
         match (ring, list) {
@@ -277,8 +282,23 @@ impl TwinRings {
         }
     }
 
+    // Whether a busy record has the reservation's four numbers.
+    fn has_busy(&self, record: &ListReservation) -> bool {
+        for untaken in self.ring.chapter().closing().records() {
+            if matches!(untaken.status, UntakenStatus::Busy)
+                && untaken.pos == record.pos()
+                && untaken.worker == record.worker()
+                && untaken.serial == record.serial()
+                && untaken.len == record.len()
+            {
+                return true;
+            }
+        }
+        false
+    }
+
     fn has_worker(&self, worker: u32) -> bool
-        ensures { IsTrue result → (worker < self.now.workers) × (worker < self.now.ring.chapter.opening.setup.workers) }
+        ensures { IsTrue result → (worker < self.now.workers) × (worker < self.now.ring.state.ring.chapter.opening.setup.workers) }
     {
         worker < self.workers && worker < self.ring.chapter().opening().workers()
     }
@@ -315,22 +335,41 @@ fn reserve_in_chapter(
     sheet: Sheet,
     out: &mut Text,
 ) -> Asked
-    requires worker { worker < ring.old.chapter.opening.setup.workers }
+    requires worker { worker < ring.old.state.ring.chapter.opening.setup.workers }
     requires sized { length sheet ≡ n }
 {
-    match ring.reserve(worker, n, sheet) {
-        Ok(record) => {
-            tell_granted(out, &record);
-            Asked::Granted(record)
-        }
-        Err((fault, back)) => {
-            tell_refusal(out, reserve_word(fault), &back);
-            match fault {
-                ReserveFault::ChapterFull => Asked::ChapterFull,
-                _ => Asked::Refused,
-            }
-        }
+    let Some(hand) = ring.free_hand(worker) else {
+        out.word("fault: no free hand");
+        return Asked::Unknown;
+    };
+    let answer = ring.reserve(worker, hand, n, sheet);
+    let is_chapter_full = matches!(&answer, Err((ReserveFault::ChapterFull, _)));
+    match tell_reserved(answer, out) {
+        Some(record) => Asked::Granted(record),
+        None if is_chapter_full => Asked::Unknown,
+        None => Asked::Refused,
     }
+}
+
+// Submits a record or gives it up; the reservation comes back where it is not out at the ring, which is not asked then.
+fn end_in_chapter(
+    ring: &mut RingState,
+    record: Reservation,
+    ending: Ending,
+    flags: u64,
+    out: &mut Text,
+) -> Option<Reservation> {
+    if !ring.is_out(&record) {
+        out.word("stray");
+        tell_record(&record, out);
+        return Some(record);
+    }
+    let notice = match ending {
+        Ending::Submit => ring.submit(record, flags),
+        Ending::Discard => ring.discard(record, flags),
+    };
+    tell_notice(out, notice);
+    None
 }
 
 fn reserve_in_list(
@@ -339,7 +378,7 @@ fn reserve_in_list(
     n: u32,
     sheet: Sheet,
     out: &mut Text,
-) -> Option<Reservation>
+) -> Option<ListReservation>
     requires worker { worker < list.old.setup.workers }
     requires sized { length sheet ≡ n }
     ensures { list.new.setup ≡ list.old.setup }
@@ -364,7 +403,7 @@ fn opened_ring(
     workers: u32,
     room: u32,
 ) -> (Option<RingState>, &'static str) {
-    match RingState::new(alloc, size, start, workers, room) {
+    match RingState::new(alloc, 0, size, start, workers, room) {
         Ok(ring) => (Some(ring), "opened"),
         Err(fault) => (None, open_word(fault)),
     }

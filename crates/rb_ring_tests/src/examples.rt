@@ -2,7 +2,6 @@
 
 use rb_chapter::Chapter;
 use rb_chapter_ring::RingState;
-use rb_hand_ring::HandState;
 use rb_header::{Header, span};
 use rb_history::{
     Entry, FORCE_WAKEUP, NO_WAKEUP, Notice, OpenFault, Taken, check_setup, notice_for,
@@ -74,30 +73,22 @@ fn example_of_rb_ring_list(rt: HostRuntime) -> Result<(), Fail> {
 
 #[test]
 fn example_of_rb_chapter_ring(rt: HostRuntime) {
-    let Ok(mut ring) = RingState::new(rt.alloc(), 4096, 0, 1, 8) else {
+    let Ok(mut ring) = RingState::new(rt.alloc(), 7, 4096, 0, 1, 8) else {
         rt.panic("no ring")
     };
-    let Ok(record) = ring.reserve(0, 4, Sheet::new(rt.alloc(), 4).expect(&rt, "memory")) else {
+    let Ok(record) = ring.reserve(0, 2, 4, Sheet::new(rt.alloc(), 4).expect(&rt, "memory")) else {
         rt.panic("no record")
     };
-    assert!(rt; matches!(&ring.submit(record, 0), Ok(Notice::Due)));
+    assert_eq!(rt; (record.tag(), record.hand()), (7, 2));
+    assert!(rt; ring.is_out(&record));
+    assert_eq!(rt; ring.free_hand(0), Some(0));
+    assert!(rt; matches!(ring.submit(record, 0), Notice::Due));
     let empty = Chapter::new(rt.alloc(), 8, 1).expect(&rt, "memory");
     let Ok(chapter) = ring.hand_out(empty) else {
         rt.panic("no chapter")
     };
     assert_eq!(rt; (chapter.number(), chapter.used()), (0, 2));
     assert!(rt; matches!(&ring.take(), Taken::Event(0, 0, 0, _)));
-}
-
-#[test]
-fn example_of_rb_hand_ring(rt: HostRuntime) -> Result<(), Fail> {
-    let mut ring = HandState::new(rt.alloc(), 4096, 0, 1, 8)?;
-    let Ok(record) = ring.reserve(7, 0, 2, 4, Sheet::new(rt.alloc(), 4)?) else {
-        return Err(Fail::from("no record"));
-    };
-    assert_eq!(rt; (record.tag(), record.hand()), (7, 2));
-    assert!(rt; matches!(ring.submit(record, 0), Notice::Due));
-    Ok(())
 }
 
 #[test]

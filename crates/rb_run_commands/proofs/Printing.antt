@@ -1,5 +1,5 @@
 -- Texts that grow by lines.
-use Rattle.std.proofs.Common.{◌≡◌, ℕ, ◌+◌, ◌<◌, ◌++◌, List, [], ◌∷◌, Result, Ok, Err, get_or, length, take, refl, sym, ap, ◌∙◌, append_assoc}
+use Rattle.std.proofs.Common.{◌≡◌, ℕ, suc, ◌+◌, ◌<◌, ◌++◌, List, [], ◌∷◌, Result, Ok, Err, add-one, drop, drop-cons, get_or, length, take, refl, sym, ap, ◌∙◌, append_assoc}
 use Rattle.std.proofs.lemmas.List.{flat_map_more, take_more}
 use Rattle.std.specs.List.{flat_map}
 use Rattle.std.specs.Prelude.{OnOk, codes}
@@ -8,7 +8,7 @@ use Rattle.rb_history.specs.declared.answers.Counts.{Counts}
 use Rattle.rb_history.specs.declared.tally.Tally.{Tally}
 use Rattle.rb_io.specs.Lines.{line}
 use Rattle.rb_workers.specs.declared.opened.Ended.{Ended}
-use Rattle.rb_run_commands.specs.ReportLines.{closing_lines, counts_line, tally_line}
+use Rattle.rb_run_commands.specs.ReportLines.{closing_lines, closing_objects, closing_objects_from, counts_line, tally_line}
 
 -- the text of a seat's line, as it is put together
 tally_pieces : (worker made refused submitted discarded : List ℕ)
@@ -42,3 +42,22 @@ closing_written old new rings i ended below is before wrote =
     ∙ (ap (λ t. t ++ closing_lines ended) before
     ∙ (flat_map_more closing_lines [] (take i rings) ended
     ∙ ap (flat_map closing_lines) (ap (λ e. take i rings ++ e ∷ []) is ∙ sym (take_more rings i ended below))))
+
+-- the objects of one ring more
+pub rings_more : {S : Type 0} (rings : List (Ended S)) (i : ℕ) (ended : Ended S) (lines new whole : List ℕ) → i < length rings → ended ≡ get_or rings i ended → lines ++ closing_objects_from i (drop i rings) ≡ whole
+    → new ≡ lines ++ closing_objects i ended → new ++ closing_objects_from (i + 1) (drop (i + 1) rings) ≡ whole
+rings_more rings i ended lines new whole below is so_far wrote =
+    let next : drop i rings ≡ ended ∷ drop (i + 1) rings = rw add-one (drop-cons rings i ended below ∙ ap (λ e. e ∷ drop (suc i) rings) (sym is)) in
+    ap (λ l. l ++ closing_objects_from (i + 1) (drop (i + 1) rings)) wrote
+    ∙ (append_assoc lines (closing_objects i ended) (closing_objects_from (i + 1) (drop (i + 1) rings))
+    ∙ (ap (λ rs. lines ++ closing_objects_from i rs) (sym next) ∙ so_far))
+
+-- three fields, one after the other
+three_pieces : (old a x b y d z : List ℕ) → old ++ a ++ x ++ b ++ y ++ d ++ z ≡ old ++ (a ++ x ++ b ++ y ++ d ++ z)
+three_pieces old a x b y d z = simp append_assoc refl
+
+pub three_fields : {A B : Type 0} (answer : Result A B) (old one two new a x b y d z : List ℕ) → one ≡ old ++ a ++ x → two ≡ one ++ b ++ y → OnOk answer (new ≡ two ++ d ++ z)
+    → OnOk answer (new ≡ old ++ (a ++ x ++ b ++ y ++ d ++ z))
+three_fields (Ok r) old one two new a x b y d z first second third =
+    third ∙ (ap (λ l. l ++ d ++ z) (second ∙ ap (λ l. l ++ b ++ y) first) ∙ three_pieces old a x b y d z)
+three_fields (Err r) old one two new a x b y d z first second third = tt

@@ -1,6 +1,6 @@
 -- What a sink wrote of the records that it was given, and what a run wrote of what its ring gave.
-use Rattle.std.proofs.Common.{◌≡◌, ℕ, ◌+◌, ◌<◌, ◌≤◌, Bool, true, false, List, [], ◌∷◌, ◌++◌, length, take, drop, Option, refl, sym, ap, ◌∙◌, subst, arith, append_assoc, append-nil, take-append-drop}
-use Rattle.std.specs.Prelude.{◌≢◌, All, not, Result, Ok, Err, OnOk, OnErr, is_err, is_ok}
+use Rattle.std.proofs.Common.{◌≡◌, ℕ, ◌+◌, ◌<◌, ◌≤◌, Bool, true, false, List, [], ◌∷◌, ◌++◌, length, take, drop, Option, refl, sym, ap, ◌∙◌, subst, arith, append_assoc, append-nil, take-append-drop, inl, inr}
+use Rattle.std.specs.Prelude.{◌≢◌, ◌⊎◌, ◌&&◌, All, not, Result, Ok, Err, OnOk, OnErr, is_err}
 use Rattle.std.proofs.lemmas.Bool.{true≢false}
 use Rattle.std.proofs.lemmas.List.{length-drop, drop_all}
 use Rattle.std.proofs.lemmas.List.Elements.{All-nil, All-cons, filter_map-append}
@@ -161,6 +161,21 @@ last_of_one [] x y e = cc
 last_of_one (z ∷ []) x y e = absurd (let l = ap length e in omega (arith, l))
 last_of_one (z ∷ w ∷ front) x y e = absurd (let l = ap length e in omega (arith, l))
 
+-- what a tape that is told as whole, or as not whole, says of its parts
+told_whole : (whole handed_out failed : Bool) → whole ≡ (handed_out && not failed) → whole ≡ true → (handed_out ≡ true) × (failed ≡ false)
+told_whole whole true false is told = (refl, refl)
+told_whole whole true true is told = absurd (true≢false (sym told ∙ is))
+told_whole whole false failed is told = absurd (true≢false (sym told ∙ is))
+
+told_cut : (whole handed_out failed : Bool) → whole ≡ (handed_out && not failed) → whole ≡ false → (failed ≡ true) ⊎ (handed_out ≡ false)
+told_cut whole true false is told = absurd (true≢false (sym is ∙ told))
+told_cut whole true true is told = inl refl
+told_cut whole false failed is told = inr refl
+
+by_part : {A B C : Type 0} → A ⊎ B → (A → C) → C ⊎ B
+by_part (inl a) f = inl (f a)
+by_part (inr b) f = inr b
+
 module _ {W : Type 0} (contents : W → Option (List ℕ)) (writer left : W) (subject : Subject) (request : JobsRequest) (report : Report (SinkTape W)) (ran : RunsWorkers tape_position (tape_takes contents) (first_tape writer request) subject request report) where
   ending : (e : Ended (SinkTape W)) × (row : List WorkerSeat) × (report.rings.items ≡ e ∷ []) × RingEnds tape_position (tape_takes contents) ran.opened e row
   ending = one_ended tape_position (tape_takes contents) ran.opened report.rings.items ran.reported.seats ran.reported.rings_end
@@ -169,35 +184,30 @@ module _ {W : Type 0} (contents : W → Option (List ℕ)) (writer left : W) (su
   one_ring = ap length ending.2
 
   -- what the sink of the ring that was taken out of the report wrote
-  pub ring_taped : (front : List (Ended (SinkTape W))) (ended : Ended (SinkTape W)) (whole : Bool) → report.rings.items ≡ front ++ ended ∷ [] → (whole ≡ true → ended.sink.failed ≡ false)
-      → Keeps (contents ended.sink.writer) (contents left) → All (TapesRing request.size whole (contents writer) (contents left)) report.rings.items
-  ring_taped front ended whole is sound kept =
+  pub ring_taped : (hands_out : W → Bool → W → Type 0) (front : List (Ended (SinkTape W))) (ended : Ended (SinkTape W)) (whole handed_out : Bool) → report.rings.items ≡ front ++ ended ∷ []
+      → whole ≡ (handed_out && not ended.sink.failed) → Keeps (contents ended.sink.writer) (contents left) → hands_out ended.sink.writer handed_out left
+      → All (TapesRing contents hands_out request.size whole writer left) report.rings.items
+  ring_taped hands_out front ended whole handed_out is told kept called =
       let e = ending.0 in
       let ends = ending.3 in
       let same : ended ≡ e = last_of_one front e ended (sym ending.2 ∙ is) in
       let given = ends.sink_given in
       let wrote = the_tape_of_what_is_given contents given.items (first_tape writer request) e.sink (subst (λ s. TakesAll (tape_takes contents) s given.items e.sink) ran.just_opened.sink_is given.given) in
-      subst (All (TapesRing request.size whole (contents writer) (contents left))) (sym ending.2)
-      (All-cons (TapesRing request.size whole (contents writer) (contents left)) e [] (record {
+      let on_e : whole ≡ (handed_out && not e.sink.failed) = subst (λ (x : Ended (SinkTape W)). whole ≡ (handed_out && not x.sink.failed)) same told in
+      subst (All (TapesRing contents hands_out request.size whole writer left)) (sym ending.2)
+      (All-cons (TapesRing contents hands_out request.size whole writer left) e [] (record {
         seats = ending.1;
         consumer = ends.consumer;
         items = given.items;
         out = wrote.out;
         missing = wrote.missing;
+        handed_out = handed_out;
         closed = ends.closed;
         taken_are = given.taken_are ∙ ap (λ (c : _). takes_in c.seen.history ++ positions_among given.items) ran.just_opened.consumer_is;
         records_are = given.records_are;
         wrote = Appends-kept (contents writer) (contents e.sink.writer) (contents left) wrote.out wrote.wrote (subst (λ (x : Ended (SinkTape W)). Keeps (contents x.sink.writer) (contents left)) same kept);
         beginning = wrote.beginning refl;
-        all_out = λ is_whole. wrote.all_out (ap (λ (x : Ended (SinkTape W)). x.sink.failed) (sym same) ∙ sound is_whole);
-      }) (All-nil (TapesRing request.size whole (contents writer) (contents left))))
-
--- what holds of an answer that is Ok
-pub holds_if_ok : {A B : Type 0} (answer : Result A B) (P : Type 0) → is_ok answer ≡ true → OnOk answer P → P
-holds_if_ok (Ok a) P is holds = holds
-holds_if_ok (Err e) P is holds = absurd (true≢false (sym is))
-
--- a tape that is whole has not failed
-pub has_not_failed : (whole told failed : Bool) → whole ≡ not told → told ≡ failed → whole ≡ true → failed ≡ false
-has_not_failed whole true failed is says holds = absurd (true≢false (sym holds ∙ is))
-has_not_failed whole false failed is says holds = sym says
+        called = subst (λ (x : Ended (SinkTape W)). hands_out x.sink.writer handed_out left) same called;
+        all_out = λ is_whole. let both = told_whole whole handed_out e.sink.failed on_e is_whole in (wrote.all_out both.1, both.0);
+        not_all_out = λ cut. by_part (told_cut whole handed_out e.sink.failed on_e cut) (wrote.not_all_out refl);
+      }) (All-nil (TapesRing contents hands_out request.size whole writer left)))

@@ -8,6 +8,9 @@ use Rattle.rb_chapter_ring.specs.OpenedRing.{told_counts}
 use Rattle.rb_workers.specs.declared.opened.Ended.{Ended}
 use Rattle.rb_workers.specs.declared.opened.Report.{Report}
 use Rattle.rb_io.specs.Lines.{line}
+use Rattle.rb_json.specs.Json.{json_number}
+use Rattle.rb_json.specs.declared.form.LineForm.{LineForm}
+use Rattle.rb_json.specs.declared.form.LineForm.TheVariants.{Words, Json}
 
 -- the line of what this worker's seat counted
 abbrev pub tally_line : ℕ → Tally → List ℕ
@@ -33,3 +36,51 @@ closing_lines ended = tally_lines_from 0 ended.tallies.items ++ counts_line (tol
 -- the lines of each ring, and how many jobs ended with a record handed back
 abbrev pub report_text : {S : Type 0} → Report S → List ℕ
 report_text report = flat_map closing_lines report.rings.items ++ line (codes "strays " ++ decimal report.strays)
+
+-- ---- the same as objects of JSON, one a line
+
+-- this worker's seat at this ring, and how many records it was granted
+unfoldable pub grant_fields : (ring worker : ℕ) → Tally → List ℕ
+grant_fields ring worker tally = codes "{\"ring\":" ++ json_number ring ++ codes ",\"worker\":" ++ json_number worker ++ codes ",\"made\":" ++ json_number tally.made
+
+-- how often it was refused one, and what became of those that it was granted
+unfoldable pub outcome_fields : Tally → List ℕ
+outcome_fields tally =
+    codes ",\"refused\":" ++ json_number tally.refused ++ codes ",\"submitted\":" ++ json_number tally.submitted ++ codes ",\"discarded\":" ++ json_number tally.discarded
+
+abbrev pub tally_object : (ring worker : ℕ) → Tally → List ℕ
+tally_object ring worker tally = line (grant_fields ring worker tally ++ outcome_fields tally ++ codes "}")
+
+-- the objects of a ring's seats, the workers numbered on from this one
+abbrev pub tally_objects_from : (ring worker : ℕ) → List Tally → List ℕ
+tally_objects_from ring worker [] = []
+tally_objects_from ring worker (tally ∷ more) = tally_object ring worker tally ++ tally_objects_from ring (worker + 1) more
+
+-- this ring, and how many of its records were made and consumed
+unfoldable pub consumed_fields : ℕ → Counts → List ℕ
+consumed_fields ring counts = codes "{\"ring\":" ++ json_number ring ++ codes ",\"made\":" ++ json_number counts.made ++ codes ",\"consumed\":" ++ json_number counts.consumed
+
+-- what became of the others
+unfoldable pub other_fields : Counts → List ℕ
+other_fields counts =
+    codes ",\"discarded\":" ++ json_number counts.discarded ++ codes ",\"waiting\":" ++ json_number counts.waiting ++ codes ",\"busy\":" ++ json_number counts.busy
+
+abbrev pub counts_object : ℕ → Counts → List ℕ
+counts_object ring counts = line (consumed_fields ring counts ++ other_fields counts ++ codes "}")
+
+-- the objects of a ring at its end
+abbrev pub closing_objects : {S : Type 0} → ℕ → Ended S → List ℕ
+closing_objects ring ended = tally_objects_from ring 0 ended.tallies.items ++ counts_object ring (told_counts ended.closing.at_end)
+
+-- the objects of rings, numbered on from this one
+abbrev pub closing_objects_from : {S : Type 0} → ℕ → List (Ended S) → List ℕ
+closing_objects_from ring [] = []
+closing_objects_from ring (ended ∷ more) = closing_objects ring ended ++ closing_objects_from (ring + 1) more
+
+abbrev pub report_objects : {S : Type 0} → Report S → List ℕ
+report_objects report = closing_objects_from 0 report.rings.items ++ line (codes "{\"strays\":" ++ json_number report.strays ++ codes "}")
+
+-- in the form that is asked for
+abbrev pub report_lines : {S : Type 0} → LineForm → Report S → List ℕ
+report_lines Words report = report_text report
+report_lines Json report = report_objects report

@@ -17,7 +17,7 @@ use Rattle.rb_workers.specs.Sink.{SinkItem, sink_span}
 use Rattle.rb_workers.specs.declared.opened.Opened.{Opened}
 use Rattle.rb_workers.specs.declared.opened.Report.{Report}
 use Rattle.rb_loader.specs.Acceptance.{IsAccepted, IsRightProgramFault}
-use Rattle.rb_run_commands.specs.ReportLines.{report_text}
+use Rattle.rb_run_commands.specs.ReportLines.{report_lines}
 use Rattle.rb_run_commands.specs.WorkerJobs.{tasks_of_workers}
 use Rattle.rb_run_commands.specs.declared.jobs_fault.JobsFault.{JobsFault}
 use Rattle.rb_run_commands.specs.declared.jobs_fault.JobsFault.TheVariants.{Program, Size, Start, Workers}
@@ -74,7 +74,7 @@ pub record PrintsRun (input : Option (List ℕ)) (request : JobsRequest) (before
   pub report : Report NullSink
   pub accepted : IfSome input (λ text. IsAccepted text 16 1 subject)
   pub ran : RunsWorkers null_position null_takes (first_null request) subject request report
-  pub printed : Appends before after (report_text report)
+  pub printed : Appends before after (report_lines request.form report)
 
 -- ---- what is refused
 

@@ -1,6 +1,6 @@
 -- What `run --tape` writes: the tape of all that the ring's consumer took, up to the first write that fails (own; the tape's bytes are
 -- rb_header's).
-use Rattle.std.specs.Prelude.{◌≡◌, ◌≢◌, ℕ, Bool, true, false, All, IfSome, List, [], ◌∷◌, ◌++◌, Option}
+use Rattle.std.specs.Prelude.{◌≡◌, ◌≢◌, ◌⊎◌, ℕ, Bool, true, false, All, IfSome, List, [], ◌∷◌, ◌++◌, Option}
 use Rattle.std.specs.List.{filter_map}
 use Rattle.std.specs.Io.KnownBytes.{Appends, append_known}
 use Rattle.rb_header.specs.TapeBytes.{Item, tape}
@@ -13,9 +13,9 @@ use Rattle.rb_workers.specs.Sink.{SinkItem, IsRecordIn, positions_among, takes_i
 use Rattle.rb_workers.specs.declared.opened.Ended.{Ended}
 use Rattle.rb_workers.specs.declared.opened.Report.{Report}
 use Rattle.rb_loader.specs.Acceptance.{IsAccepted}
-use Rattle.rb_run_commands.specs.ReportLines.{report_text}
+use Rattle.rb_run_commands.specs.ReportLines.{report_lines}
 use Rattle.rb_run_commands.specs.RunCommand.{RunsWorkers}
-use Rattle.rb_io.specs.Gathered.{Gathered}
+use Rattle.rb_io.specs.Gathered.{Gathered, HandsOn}
 use Rattle.rb_run_commands.specs.declared.run_command.JobsRequest.{JobsRequest}
 
 -- ---- the sink
@@ -57,28 +57,33 @@ tape_takes contents old item new = WritesOn contents old (tape_items (item ∷ [
 
 -- ---- the run
 
--- A beginning of the tape of all that the closed ring's whole history took went out, from the first record on and in order, and all of it where
--- the tape is whole. The records are the history's, with the bytes that the consumer got, which are those that the seats sent.
-pub record TapesRing {S : Type 0} (size : ℕ) (whole : Bool) (before after : Option (List ℕ)) (ended : Ended S) : Type 0 where
+-- A beginning of the tape of all that the closed ring's whole history took went out, from the first record on and in order. At last the writer was
+-- called to hand on what waits. The tape is told as whole where all of it went out and that call succeeded, and as not whole only where
+-- some of it did not go out or that call failed. The records are the history's, with the bytes that the consumer got, which are those that the
+-- seats sent. `hands_out` is what such a call makes of a writer.
+pub record TapesRing {W : Type 0} (contents : W → Option (List ℕ)) (hands_out : W → Bool → W → Type 0) (size : ℕ) (whole : Bool) (writer left : W) (ended : Ended (SinkTape W)) : Type 0 where
   pub seats : List WorkerSeat
   pub consumer : ChapterConsumerSeat
   pub items : List SinkItem
   pub out : List ℕ
   pub missing : List ℕ
+  pub handed_out : Bool
   pub closed : IsClosedByChapters ended.closing.at_end seats consumer
   pub taken_are : takes_in (ring_at_end consumer ended).history ≡ positions_among items
   pub records_are : All (IsRecordIn (ring_at_end consumer ended).history consumer.got) items
-  pub wrote : Appends before after out
+  pub wrote : Appends (contents writer) (contents left) out
   pub beginning : out ++ missing ≡ tape size (tape_items items)
-  pub all_out : whole ≡ true → missing ≡ []
+  pub called : hands_out ended.sink.writer handed_out left
+  pub all_out : whole ≡ true → (missing ≡ []) × (handed_out ≡ true)
+  pub not_all_out : whole ≡ false → (missing ≢ []) ⊎ (handed_out ≡ false)
 
 -- the program was run with such a sink, what the report says was printed, and nothing else, and what the ring's consumer took was written as a
 -- tape
-pub record TapesRun {W : Type 0} (contents : W → Option (List ℕ)) (writer : W) (subject : Subject) (request : JobsRequest) (before after : Option (List ℕ)) (whole : Bool) (left : W) : Type 0 where
+pub record TapesRun {W : Type 0} (contents : W → Option (List ℕ)) (hands_out : W → Bool → W → Type 0) (writer : W) (subject : Subject) (request : JobsRequest) (before after : Option (List ℕ)) (whole : Bool) (left : W) : Type 0 where
   pub report : Report (SinkTape W)
   pub ran : RunsWorkers tape_position (tape_takes contents) (first_tape writer request) subject request report
-  pub printed : Appends before after (report_text report)
-  pub taped : All (TapesRing request.size whole (contents writer) (contents left)) report.rings.items
+  pub printed : Appends before after (report_lines request.form report)
+  pub taped : All (TapesRing contents hands_out request.size whole writer left) report.rings.items
 
 -- a program that the input spells, where that is known, was run so, and all of its tape went through a buffer, in which nothing waits any more,
 -- to a writer whose bytes are known to nobody
@@ -87,5 +92,5 @@ pub record PrintsTaped (F : Type 0) (contents : F → Option (List ℕ)) (input 
   pub accepted : IfSome input (λ text. IsAccepted text 16 1 subject)
   pub writer : Gathered F
   pub left : Gathered F
-  pub taped : TapesRun (λ b. append_known (contents b.writer) b.waiting) writer subject request before after true left
+  pub taped : TapesRun (λ b. append_known (contents b.writer) b.waiting) (HandsOn contents) writer subject request before after true left
   pub handed_on : left.waiting ≡ []

@@ -7,7 +7,9 @@
 #![tactic(auto)]
 
 mod jobs_fault;
+mod report;
 mod report_lines;
+mod report_objects;
 mod run_command;
 mod tape_sink;
 mod taped_run;

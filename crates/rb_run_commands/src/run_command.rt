@@ -3,15 +3,16 @@
 ghost use Rattle.std.specs.Prelude.{◌≡◌, ◌≢◌, ◌⊎◌, [], ◌∷◌, vec_len, IfErr, IfOk, IfSome, OnOk};
 ghost use Rattle.std.specs.Io.KnownBytes.{Appends, Keeps};
 ghost use Rattle.rb_history.specs.RingModel.{IsRingSize, IsStartPosition, IsWorkerCount};
-ghost use Rattle.rb_run_commands.specs.ReportLines.{report_text};
+ghost use Rattle.rb_run_commands.specs.ReportLines.{report_lines};
 ghost use Rattle.rb_run_commands.specs.RunCommand.{IsRightJobsFault, IsRightRingFault, PrintsRun, RunsWorkers};
 ghost use Rattle.rb_run_commands.specs.inner.OpeningFaults.{fault_of_opening};
 
 use crate::jobs_fault::JobsFault;
-use crate::report_lines::text_of_report;
+use crate::report::lines_of_report;
 use crate::worker_jobs::{CONTEXT, contexts_of, jobs_of};
 use rb_history::{OpenFault as SetupFault, check_setup};
 use rb_io::write_whole;
+use rb_json::LineForm;
 use rb_loader::{Bounds, ProgramFault, read_program};
 use rb_shared_ring::OpenFault;
 use rb_verifier::Verified;
@@ -27,7 +28,7 @@ pub const JOB_BOUNDS: Bounds = Bounds {
     rings: 1,
 };
 
-/// What is run, and over which ring.
+/// What is run, over which ring, and how what came of it is printed.
 #[derive(Clone, Copy, Debug, PartialEq, Eq)]
 pub struct JobsRequest {
     /// How many workers there are.
@@ -38,6 +39,8 @@ pub struct JobsRequest {
     pub size: u64,
     /// The ring's first position.
     pub start: u64,
+    /// How the report is printed.
+    pub form: LineForm,
 }
 
 /// How many entries a chapter of a command's ring has room for.
@@ -84,14 +87,14 @@ pub(crate) fn run_and_print<T: Threads + Wait + Sync, W: Write, S: Sink + Send +
     requires one_ring { program.now.rings ≡ 1 }
     requires begins { S.position_of sink ≡ request.start }
     ensures ran { IfOk result (RunsWorkers S.position_of S.takes sink program.now request) }
-    ensures printed { IfOk result (λ report. Appends (W.contents out.old) (W.contents out.new) (report_text report)) }
+    ensures printed { IfOk result (λ report. Appends (W.contents out.old) (W.contents out.new) (report_lines request.form report)) }
     ensures bounds { OnOk result (IsRingSize request.size × IsStartPosition request.start × IsWorkerCount request.workers) }
     ensures refused { IfErr result (λ fault. (fault ≡ JobsFault.Program ProgramFault.Device) ⊎ IsRightRingFault request fault) }
     ensures nothing_printed { IfErr result (λ fault. fault ≢ JobsFault.Program ProgramFault.Device → Keeps (W.contents out.old) (W.contents out.new)) }
 {
     let report = run_program(rt, alloc, program, request, sink)?;
-    let printed = text_of_report(alloc, &report)?;
-    match write_whole(out, printed.as_bytes()) {
+    let printed = lines_of_report(alloc, &report, request.form)?;
+    match write_whole(out, printed.as_slice()) {
         Ok(()) => Ok(report),
         Err(_) => Err(JobsFault::Program(ProgramFault::Device)),
     }

@@ -18,7 +18,7 @@ pub struct TapeSink<W> {
 }
 
 impl<W> Model for TapeSink<W> {
-    ghost use Rattle.std.specs.Prelude.{◌≡◌, false};
+    ghost use Rattle.std.specs.Prelude.{◌≡◌, None, false};
     ghost use Rattle.rb_history.specs.RingModel.{IsRingSize};
     ghost use Rattle.rb_run_commands.specs.TapedRun.{SinkTape};
 
@@ -26,7 +26,7 @@ impl<W> Model for TapeSink<W> {
 
     ghost view = { λ t. record { writer = t.tape.writer; size = t.size; position = t.position; failed = t.failed } };
 
-    ghost invariant = { λ t. IsRingSize t.size × (t.tape.size ≡ t.size) × (t.failed ≡ false → (t.tape.position ≡ t.position) × (t.tape.unfinished ≡ false)) };
+    ghost invariant = { λ t. IsRingSize t.size × (t.tape.size ≡ t.size) × (t.failed ≡ false → (t.tape.position ≡ t.position) × (t.tape.unfinished ≡ None)) };
 }
 
 impl<W: Write> TapeSink<W> {

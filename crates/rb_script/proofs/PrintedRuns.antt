@@ -1,5 +1,5 @@
 -- What was printed of a script's run, once the lines of its turns and those at its end were handed on.
-use Rattle.std.proofs.Common.{◌≡◌, ℕ, List, [], Result, Ok, Err, subst}
+use Rattle.std.proofs.Common.{Bool, ◌≡◌, ℕ, List, [], Result, Ok, Err, subst}
 use Rattle.std.specs.Prelude.{Option, OnOk}
 use Rattle.std.specs.Io.KnownBytes.{Appends}
 use Rattle.rb_script.specs.declared.script.Script.{Script}
@@ -10,15 +10,15 @@ use Rattle.rb_script.specs.declared.sim_command.SimFault.{SimFault}
 use Rattle.rb_script.specs.Simulated.{PrintsSim}
 
 -- the slices that were printed are those of the run's lines
-pub prints_run : (text : List ℕ) (script : Script) (none turns ends turns_lent ends_lent : List ℕ) (before between after : Option (List ℕ)) (r : Result (Unit {0}) SimFault) → StandFor (lines_of text) script → none ≡ [] → Simulates script none turns ends → turns_lent ≡ turns → ends_lent ≡ ends → Appends before between turns_lent → OnOk r (Appends between after ends_lent) → OnOk r (PrintsSim text before after)
-prints_run text script none turns ends turns_lent ends_lent before between after (Ok done) stands empty ran same_turns same_ends first second = record {
+pub prints_run : (draw : Bool) (text : List ℕ) (script : Script) (none turns ends turns_lent ends_lent : List ℕ) (before between after : Option (List ℕ)) (r : Result (Unit {0}) SimFault) → StandFor (lines_of text) script → none ≡ [] → Simulates draw script none turns ends → turns_lent ≡ turns → ends_lent ≡ ends → Appends before between turns_lent → OnOk r (Appends between after ends_lent) → OnOk r (PrintsSim draw text before after)
+prints_run draw text script none turns ends turns_lent ends_lent before between after (Ok done) stands empty ran same_turns same_ends first second = record {
   script = script;
   turns = turns;
   ends = ends;
   between = between;
   stands = stands;
-  simulated = subst (λ old. Simulates script old turns ends) empty ran;
+  simulated = subst (λ old. Simulates draw script old turns ends) empty ran;
   turns_printed = subst (Appends before between) same_turns first;
   ends_printed = subst (Appends between after) same_ends second;
 }
-prints_run text script none turns ends turns_lent ends_lent before between after (Err fault) stands empty ran same_turns same_ends first second = tt
+prints_run draw text script none turns ends turns_lent ends_lent before between after (Err fault) stands empty ran same_turns same_ends first second = tt

@@ -1,5 +1,5 @@
 -- Scripts that were read can be run, and a world opens for them.
-use Rattle.std.proofs.Common.{◌≡◌, ◌≤◌, ◌+◌, ◌↔◌, ◌⊎◌, ℕ, List, [], ◌∷◌, ◌++◌, length, map, replicate, Result, Ok, Err, OnErr, refl, sym, ap, subst, ◌∙◌, append_assoc, inl, inr, arith}
+use Rattle.std.proofs.Common.{Bool, ◌≡◌, ◌≤◌, ◌+◌, ◌↔◌, ◌⊎◌, ℕ, List, [], ◌∷◌, ◌++◌, length, map, replicate, Result, Ok, Err, OnErr, refl, sym, ap, subst, ◌∙◌, append_assoc, inl, inr, arith}
 use Rattle.std.specs.Prelude.{All}
 use Rattle.std.specs.List.{AllZip}
 use Rattle.std.proofs.lemmas.List.{length-append, length-map, take_all}
@@ -13,7 +13,8 @@ use Rattle.rb_world.specs.declared.opening.RingSetup.{RingSetup}
 use Rattle.rb_world.specs.declared.opening.WorkerSetup.{WorkerSetup}
 use Rattle.rb_world.specs.declared.world_fault.WorldOpenFault.{WorldOpenFault}
 use Rattle.rb_world.specs.declared.world_fault.WorldOpenFault.TheVariants as fault
-use Rattle.rb_world.specs.OpenedWorlds.{IsRingSetup, AreRings, HaveContexts, HaveRings, HaveRooms, MayOpen, IsOpenedWorld, opened_ring}
+use Rattle.rb_world.specs.OpenedWorlds.{IsRingSetup, AreRings, HaveContexts, HaveRings, HaveRooms, MayOpen, IsOpenedWorld}
+use Rattle.rb_world.proofs.Openings.{length-opened}
 use Rattle.rb_world.specs.WorldValue.{WorldValue, IsThere}
 use Rattle.rb_script.specs.declared.script.Script.{Script}
 use Rattle.rb_script.specs.declared.script.ScriptWorker.{ScriptWorker}
@@ -138,7 +139,7 @@ memory-only rings setups r fault.Memory is may ring context count worker chapter
 -- the actors of the script are there
 pub actors-there : (s : Script) (programs : List Subject) (setups : List WorkerSetup) (v : WorldValue) → MayRun s → AreSetups s.workers.items programs setups → IsOpenedWorld s.rings.items setups v → All (IsThere v) s.actors.items
 actors-there s programs setups v may are opened =
-    let rings : length v.rings ≡ length s.rings.items = ap length opened.rings_are ∙ length-map s.rings.items (opened_ring (length setups)) in
+    let rings : length v.rings ≡ length s.rings.items = ap length opened.rings_are ∙ length-opened (length setups) 0 s.rings.items in
     let workers : length s.workers.items ≡ length v.machines = sym (setups-long s.workers.items programs setups are) ∙ machines-long setups v.machines opened.machines_are in
     All-weaker (IsAmong (length s.rings.items) (length s.workers.items)) (IsThere v) (λ actor among. there actor among rings workers) s.actors.items may.actors
   where
@@ -148,10 +149,10 @@ actors-there s programs setups v may are opened =
     there (Keeper n) h rings workers = omega arith
 
 -- where memory ran out behind the programs
-pub breaks-off : (s : Script) (lent programs : List Subject) (before after : List ℕ) → lent ≡ programs → AllZip (IsProgramOf (length s.rings.items)) (map worker_text s.workers.items) programs
-    → (after ≡ before) ⊎ BeginsSimulationWith s lent before after → BreaksOff s before after
-breaks-off s lent programs before after same accepted (inl none) = inl none
-breaks-off s lent programs before after same accepted (inr begun) = inr (record { programs = programs; accepted = accepted; begun = subst (λ l. BeginsSimulationWith s l before after) same begun })
+pub breaks-off : (draw : Bool) (s : Script) (lent programs : List Subject) (before after : List ℕ) → lent ≡ programs → AllZip (IsProgramOf (length s.rings.items)) (map worker_text s.workers.items) programs
+    → (after ≡ before) ⊎ BeginsSimulationWith draw s lent before after → BreaksOff draw s before after
+breaks-off draw s lent programs before after same accepted (inl none) = inl none
+breaks-off draw s lent programs before after same accepted (inr begun) = inr (record { programs = programs; accepted = accepted; begun = subst (λ l. BeginsSimulationWith draw s l before after) same begun })
 
 -- the same by what is lent of the script and of its workers' setups
 module _ (s : Script) (programs : List Subject) (setups : List WorkerSetup) (workers : List ScriptWorker) (rings : List RingSetup) (lent : List WorkerSetup) (workers_are : workers ≡ s.workers.items) (rings_are : rings ≡ s.rings.items)
@@ -169,15 +170,15 @@ module _ (s : Script) (programs : List Subject) (setups : List WorkerSetup) (wor
     pub there-lent : All (IsThere v) actors
     there-lent = subst (All (IsThere v)) (sym actors_are) (actors-there s programs setups v may setups-are opened-so)
 
-    pub began-with : (before after : List ℕ) → BeginsRun actors v before after → BeginsSimulationWith s programs before after
-    began-with before after begun = record { setups = setups; first = v; are = setups-are; opened = opened-so; begun = subst (λ l. BeginsRun l v before after) actors_are begun }
+    pub began-with : (draw : Bool) (before after : List ℕ) → BeginsRun draw actors v before after → BeginsSimulationWith draw s programs before after
+    began-with draw before after begun = record { setups = setups; first = v; are = setups-are; opened = opened-so; begun = subst (λ l. BeginsRun draw l v before after) actors_are begun }
 
-    pub ran-with : (last : WorldValue) (before after ends : List ℕ) → WritesRun actors v last before after → ends ≡ world_text last → SimulatesWith s programs before after ends
-    ran-with last before after ends written is = record { setups = setups; first = v; last = last; are = setups-are; opened = opened-so; written = subst (λ l. WritesRun l v last before after) actors_are written; ends_are = is }
+    pub ran-with : (draw : Bool) (last : WorldValue) (before after ends : List ℕ) → WritesRun draw actors v last before after → ends ≡ world_text last → SimulatesWith draw s programs before after ends
+    ran-with draw last before after ends written is = record { setups = setups; first = v; last = last; are = setups-are; opened = opened-so; written = subst (λ l. WritesRun draw l v last before after) actors_are written; ends_are = is }
 
 -- all turns are the first turns
-pub all-begun : (actors : List Actor) (old new : WorldValue) (before after : List ℕ) → WritesRun actors old new before after → BeginsRun actors old before after
-all-begun actors old new before after written = record { turns = length actors; last = new; written = subst (λ l. WritesRun l old new before after) (sym (take_all (length actors) actors (omega arith))) written }
+pub all-begun : (draw : Bool) (actors : List Actor) (old new : WorldValue) (before after : List ℕ) → WritesRun draw actors old new before after → BeginsRun draw actors old before after
+all-begun draw actors old new before after written = record { turns = length actors; last = new; written = subst (λ l. WritesRun draw l old new before after) (sym (take_all (length actors) actors (omega arith))) written }
 
 pub on-err : {T E P : Type 0} (r : Result T E) → P → OnErr r P
 on-err (Ok x) p = tt

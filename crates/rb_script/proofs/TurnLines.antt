@@ -1,6 +1,6 @@
 -- The lines of turns, one after the other.
 use Rattle.std.specs.Prelude.{slice_get}
-use Rattle.std.proofs.Common.{◌≡◌, ℕ, ◌+◌, ◌-◌, ◌<◌, Some, None, arith, List, [], ◌∷◌, ◌++◌, length, take, get_or, refl, sym, ap, subst, ◌∙◌, append-nil, append_assoc}
+use Rattle.std.proofs.Common.{◌≡◌, ℕ, Bool, ◌+◌, ◌-◌, ◌<◌, Some, None, arith, List, [], ◌∷◌, ◌++◌, length, take, get_or, refl, sym, ap, subst, ◌∙◌, append-nil, append_assoc}
 use Rattle.std.specs.List.{AllZip}
 use Rattle.std.proofs.lemmas.List.{take_more}
 use Rattle.rb_history.specs.declared.answers.Taken.{Taken}
@@ -17,7 +17,7 @@ use Rattle.rb_world.specs.WorldValue.{WorldValue, world_of}
 use Rattle.rb_world.specs.TurnsDone.{TellsEvent, IsTurnOf, TurnsChaptersOf}
 use Rattle.rb_world.proofs.Runs.{tell-push, turns-push}
 use Rattle.rb_script.specs.OutputLines.{take_line}
-use Rattle.rb_script.specs.Simulation.{turn_text, turns_text, WritesRun}
+use Rattle.rb_script.specs.Simulation.{PassesWorlds, drawings, turn_text, turns_text, WritesRun}
 use Rattle.rb_script.specs.inner.ShownTurns.{last_line, consumer_text, keeper_text, shown_text}
 
 pub last-pushed : (r : ℕ) (taken : List Taken) (found : Taken) → last_line r (taken ++ found ∷ []) ≡ take_line r found
@@ -112,7 +112,7 @@ shown-is (Keeper r) old new done event tells step = keeper-shown r old new done 
 shown-is (Consumer r) old new done (Took found) tells step = took-shown r old new done found tells step
 shown-is (Consumer r) old new done NoMemory tells step = none-shown r old new done tells
 shown-is (Consumer r) old new done Went tells step = absurd step
-shown-is (Consumer r) old new done (HandedOver s p bytes) tells step = absurd step
+shown-is (Consumer r) old new done (HandedOver s w p bytes) tells step = absurd step
 shown-is (Consumer r) old new done (Ended n) tells step = absurd step
 shown-is (Consumer r) old new done GotStuck tells step = absurd step
 shown-is (Consumer r) old new done GotBack tells step = absurd step
@@ -121,38 +121,53 @@ shown-is (Consumer r) old new done HandedChapter tells step = absurd step
 
 -- ---- one more turn
 
-text-push : (old new : World) (actors : List Actor) (dones : List TurnDone) (events : List TurnEvent) (actor : Actor) (done : TurnDone) (event : TurnEvent) → AllZip TellsEvent dones events → WorldRun old actors events new
-    → turns_text (actors ++ actor ∷ []) (dones ++ done ∷ []) (events ++ event ∷ []) ≡ turns_text actors dones events ++ turn_text actor done event
-text-push old new [] [] [] actor done event told run = append-nil (turn_text actor done event)
-text-push old new [] (d ∷ dones) [] actor done event told run = absurd told
-text-push old new [] dones (e ∷ events) actor done event told run = absurd run
-text-push old new (a ∷ actors) dones [] actor done event told run = absurd run
-text-push old new (a ∷ actors) [] (e ∷ events) actor done event told run = absurd told
-text-push old new (a ∷ actors) (d ∷ dones) (e ∷ events) actor done event told run =
-    ap (λ l. turn_text a d e ++ l) (text-push run.0 new actors dones events actor done event told.1 run.2) ∙ sym (append_assoc (turn_text a d e) (turns_text actors dones events) (turn_text actor done event))
+text-push : (draw : Bool) (old new : World) (first last : WorldValue) (actors : List Actor) (dones : List TurnDone) (events : List TurnEvent) (worlds : List WorldValue) (actor : Actor) (done : TurnDone) (event : TurnEvent) (world : WorldValue)
+    → AllZip TellsEvent dones events → WorldRun old actors events new → PassesWorlds actors first dones worlds last
+    → turns_text draw (actors ++ actor ∷ []) (dones ++ done ∷ []) (events ++ event ∷ []) (worlds ++ world ∷ []) ≡ turns_text draw actors dones events worlds ++ (turn_text actor done event ++ drawings draw world)
+text-push draw old new first last [] [] [] [] actor done event world told run passed = append-nil (turn_text actor done event ++ drawings draw world)
+text-push draw old new first last [] [] [] (w ∷ worlds) actor done event world told run passed = absurd passed
+text-push draw old new first last [] (d ∷ dones) [] worlds actor done event world told run passed = absurd told
+text-push draw old new first last [] dones (e ∷ events) worlds actor done event world told run passed = absurd run
+text-push draw old new first last (a ∷ actors) dones [] worlds actor done event world told run passed = absurd run
+text-push draw old new first last (a ∷ actors) [] (e ∷ events) worlds actor done event world told run passed = absurd told
+text-push draw old new first last (a ∷ actors) (d ∷ dones) (e ∷ events) [] actor done event world told run passed = absurd passed
+text-push draw old new first last (a ∷ actors) (d ∷ dones) (e ∷ events) (w ∷ worlds) actor done event world told run passed =
+    ap (λ l. turn_text a d e ++ drawings draw w ++ l) (text-push draw run.0 new w last actors dones events worlds actor done event world told.1 run.2 passed.2)
+    ∙ sym (append_assoc (turn_text a d e ++ drawings draw w) (turns_text draw actors dones events worlds) (turn_text actor done event ++ drawings draw world))
+
+passed-push : (actors : List Actor) (old mid new : WorldValue) (dones : List TurnDone) (worlds : List WorldValue) (actor : Actor) (done : TurnDone) → PassesWorlds actors old dones worlds mid → IsTurnOf actor mid done new → TurnsChaptersOf actor done mid.rings new.rings
+    → PassesWorlds (actors ++ actor ∷ []) old (dones ++ done ∷ []) (worlds ++ new ∷ []) new
+passed-push [] old mid new [] [] actor done same turned chapters = (subst (λ (v : WorldValue). IsTurnOf actor v done new) same turned, subst (λ (v : WorldValue). TurnsChaptersOf actor done v.rings new.rings) same chapters, refl)
+passed-push [] old mid new [] (w ∷ worlds) actor done before turned chapters = absurd before
+passed-push [] old mid new (d ∷ dones) worlds actor done before turned chapters = absurd before
+passed-push (a ∷ actors) old mid new [] worlds actor done before turned chapters = absurd before
+passed-push (a ∷ actors) old mid new (d ∷ dones) [] actor done before turned chapters = absurd before
+passed-push (a ∷ actors) old mid new (d ∷ dones) (w ∷ worlds) actor done before turned chapters = (before.0, before.1, passed-push actors w mid new dones worlds actor done before.2 turned chapters)
 
 -- a line that was written apart, and then joined to the text
 pub line-joined : (text cleared line shown joined : List ℕ) → cleared ≡ [] → line ≡ cleared ++ shown → joined ≡ text ++ line → joined ≡ text ++ shown
 line-joined text cleared line shown joined none wrote more = more ∙ ap (λ l. text ++ l) (wrote ∙ ap (λ l. l ++ shown) none)
 
-pub writes-none : (v : WorldValue) (text : List ℕ) → WritesRun [] v v text text
-writes-none v text = record { dones = []; events = []; told = tt; run = refl; turns = refl; text_is = sym (append-nil text) }
+pub writes-none : (draw : Bool) (v : WorldValue) (text : List ℕ) → WritesRun draw [] v v text text
+writes-none draw v text = record { dones = []; events = []; told = tt; run = refl; turns = refl; worlds = []; passed = refl; text_is = sym (append-nil text) }
 
-pub writes-more : (actors : List Actor) (i : ℕ) (d : Actor) (old mid new : WorldValue) (before between after : List ℕ) (done : TurnDone) → i < length actors → WritesRun (take i actors) old mid before between → IsTurnOf (get_or actors i d) mid done new
-    → TurnsChaptersOf (get_or actors i d) done mid.rings new.rings → after ≡ between ++ shown_text (get_or actors i d) done (world_of new) → WritesRun (take (i + 1) actors) old new before after
-writes-more actors i d old mid new before between after done low w turned chapters wrote =
+pub writes-more : (draw : Bool) (actors : List Actor) (i : ℕ) (d : Actor) (old mid new : WorldValue) (before between after : List ℕ) (done : TurnDone) → i < length actors → WritesRun draw (take i actors) old mid before between → IsTurnOf (get_or actors i d) mid done new
+    → TurnsChaptersOf (get_or actors i d) done mid.rings new.rings → after ≡ between ++ (shown_text (get_or actors i d) done (world_of new) ++ drawings draw new) → WritesRun draw (take (i + 1) actors) old new before after
+writes-more draw actors i d old mid new before between after done low w turned chapters wrote =
     let actor = get_or actors i d in
     let event = turned.0 in
-    subst (λ l. WritesRun l old new before after) (sym (take_more actors i d low)) (record {
+    subst (λ l. WritesRun draw l old new before after) (sym (take_more actors i d low)) (record {
       dones = w.dones ++ done ∷ [];
       events = w.events ++ event ∷ [];
       told = tell-push w.dones w.events done event w.told turned.1;
       run = run-push (world_of old) (world_of mid) (world_of new) (take i actors) w.events actor event w.run turned.2;
       turns = turns-push (take i actors) old mid new w.dones actor done w.turns turned chapters;
+      worlds = w.worlds ++ new ∷ [];
+      passed = passed-push (take i actors) old mid new w.dones w.worlds actor done w.passed turned chapters;
       text_is =
           wrote
-          ∙ (ap (λ t. between ++ t) (shown-is actor (world_of mid) (world_of new) done event turned.1 turned.2)
-          ∙ (ap (λ t. t ++ turn_text actor done event) w.text_is
-          ∙ (append_assoc before (turns_text (take i actors) w.dones w.events) (turn_text actor done event)
-          ∙ ap (λ t. before ++ t) (sym (text-push (world_of old) (world_of mid) (take i actors) w.dones w.events actor done event w.told w.run)))));
+          ∙ (ap (λ t. between ++ (t ++ drawings draw new)) (shown-is actor (world_of mid) (world_of new) done event turned.1 turned.2)
+          ∙ (ap (λ t. t ++ (turn_text actor done event ++ drawings draw new)) w.text_is
+          ∙ (append_assoc before (turns_text draw (take i actors) w.dones w.events w.worlds) (turn_text actor done event ++ drawings draw new)
+          ∙ ap (λ t. before ++ t) (sym (text-push draw (world_of old) (world_of mid) old mid (take i actors) w.dones w.events w.worlds actor done event new w.told w.run w.passed)))));
     })

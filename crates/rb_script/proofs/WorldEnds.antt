@@ -17,6 +17,10 @@ use Rattle.rb_world.specs.WorldValue.{WorldValue}
 use Rattle.rb_world.specs.declared.opening.RingSetup.{RingSetup}
 use Rattle.rb_world.specs.declared.opening.WorkerSetup.{WorkerSetup}
 use Rattle.rb_world.specs.declared.world_record.WorldRecord.{WorldRecord}
+use Rattle.rb_world.proofs.Openings.{length-opened}
+use Rattle.rb_chapter.specs.Chapters.{Chapter, closing_of}
+use Rattle.rb_chapter.specs.Opening.{Opening}
+use Rattle.rb_script.specs.Drawings.{drawing_line, ring_drawing}
 use Rattle.rb_script.specs.OutputLines.{ring_line}
 use Rattle.rb_script.specs.Simulation.{lines_below, ring_text}
 
@@ -29,6 +33,10 @@ machines-long (x ∷ setups) (y ∷ machines) h = ap ℕ.suc (machines-long setu
 -- a world has 256 workers at most
 pub few-machines : (rings : List RingSetup) (setups : List WorkerSetup) (v : WorldValue) → IsOpenedWorld rings setups v → MayOpen rings setups → length v.machines ≤ 256
 few-machines rings setups v opened allowed = let same = machines-long setups v.machines opened.machines_are in let most = allowed.worker_count.1 in omega arith
+
+-- and 16 rings
+pub few-rings : (rings : List RingSetup) (setups : List WorkerSetup) (v : WorldValue) → IsOpenedWorld rings setups v → MayOpen rings setups → length v.rings ≤ 16
+few-rings rings setups v opened allowed = let same = ap length opened.rings_are ∙ length-opened (length setups) 0 rings in let most = allowed.ring_count.0 in omega arith
 
 -- one more line
 pub line-more : (line_at : ℕ → List ℕ) (n : ℕ) (start before after : List ℕ) → before ≡ start ++ lines_below line_at n → after ≡ before ++ line_at n → after ≡ start ++ lines_below line_at (n + 1)
@@ -45,3 +53,9 @@ module _ (earlier : List Entry) (ring : ChapterRing) (kept : IsKept earlier ring
       ap (λ n. ring_line r n consumer counts) (p ∙ same.query PROD_POS)
       ∙ (ap (λ n. ring_line r (producer_now (whole_ring earlier ring)) n counts) (q ∙ same.query CONS_POS)
       ∙ (ap (λ c. ring_line r (producer_now (whole_ring earlier ring)) (consumer_now (whole_ring earlier ring)) c) (k ∙ ap capped_counts same.counts) ∙ ap (λ s. ring_text r s) e))
+
+  -- its drawing by what its chapter stands for at its end
+  pub drawing-shown : (r : ℕ) (whole : Ring) → whole_ring earlier ring ≡ whole → (chapter : Chapter) → chapter ≡ ring.chapter → (closing : Opening) → closing ≡ closing_of chapter
+      → drawing_line r closing.setup.size closing.consumer closing.producer closing.records ≡ ring_drawing r whole
+  drawing-shown r whole e chapter is closing closes =
+      ap (λ (o : Opening). drawing_line r o.setup.size o.consumer o.producer o.records) (closes ∙ (ap closing_of is ∙ same.stands)) ∙ ap (ring_drawing r) e

@@ -1,5 +1,5 @@
 -- What `sim` prints of a script's run, and when it refuses the script (own).
-use Rattle.std.specs.Prelude.{ℕ, ◌≡◌, ◌⊎◌, List, [], Option, Result, Err, length, map}
+use Rattle.std.specs.Prelude.{ℕ, ◌≡◌, ◌⊎◌, Bool, List, [], Option, Result, Err, length, map}
 use Rattle.std.specs.Io.KnownBytes.{Appends, Keeps}
 use Rattle.rb_script.specs.declared.script.Script.{Script}
 use Rattle.rb_script.specs.Programs.{IsFirstRefused}
@@ -11,26 +11,26 @@ use Rattle.rb_script.specs.declared.sim_command.SimFault.TheVariants.{Line, Memo
 
 -- the script that the text stands for was run with the programs of its workers, and the lines of its turns were printed, and then those of
 -- its workers and rings
-pub record PrintsSim (text : List ℕ) (before after : Option (List ℕ)) : Type 0 where
+pub record PrintsSim (draw : Bool) (text : List ℕ) (before after : Option (List ℕ)) : Type 0 where
   pub script : Script
   pub turns : List ℕ
   pub ends : List ℕ
   pub between : Option (List ℕ)
   pub stands : StandFor (lines_of text) script
-  pub simulated : Simulates script [] turns ends
+  pub simulated : Simulates draw script [] turns ends
   pub turns_printed : Appends before between turns
   pub ends_printed : Appends between after ends
 
 -- where memory ran out, nothing was printed, or the lines of the first turns of the script that the text stands for
-pub record PrintsBeginning (text : List ℕ) (before after : Option (List ℕ)) : Type 0 where
+pub record PrintsBeginning (draw : Bool) (text : List ℕ) (before after : Option (List ℕ)) : Type 0 where
   pub script : Script
   pub turns : List ℕ
   pub stands : StandFor (lines_of text) script
-  pub broken_off : BreaksOff script [] turns
+  pub broken_off : BreaksOff draw script [] turns
   pub turns_printed : Appends before after turns
 
-abbrev pub BreaksOffSim : List ℕ → (before after : Option (List ℕ)) → Type 0
-BreaksOffSim text before after = Keeps before after ⊎ PrintsBeginning text before after
+abbrev pub BreaksOffSim : Bool → List ℕ → (before after : Option (List ℕ)) → Type 0
+BreaksOffSim draw text before after = Keeps before after ⊎ PrintsBeginning draw text before after
 
 -- no line of the text is at fault, and on this line is the first worker whose program is refused
 pub record IsRefusedScript (text : List ℕ) (line : ℕ) : Type 0 where

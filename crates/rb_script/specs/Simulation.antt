@@ -1,5 +1,5 @@
 -- What is written of the turns of a world and of its end, and what a script's run is (own).
-use Rattle.std.specs.Prelude.{ℕ, ◌≡◌, List, [], ◌∷◌, ◌++◌, Option, Some, None, length, map, take, ◌⊎◌}
+use Rattle.std.specs.Prelude.{ℕ, ◌≡◌, Bool, true, false, List, [], ◌∷◌, ◌++◌, Option, Some, None, length, map, take, ◌⊎◌}
 use Rattle.std.specs.List.{AllZip}
 use Rattle.rb_interleavings.specs.declared.actor.Actor.{Actor}
 use Rattle.rb_interleavings.specs.declared.actor.Actor.TheVariants.{Consumer, Keeper}
@@ -8,7 +8,7 @@ use Rattle.rb_world.specs.declared.turn_done.TurnDone.{TurnDone}
 use Rattle.rb_world.specs.declared.turn_done.TurnDone.TheVariants.{Chapter}
 use Rattle.rb_world.specs.WorldValue.{WorldValue, world_of}
 use Rattle.rb_world.specs.WorldRuns.{next_unit, result_of, TakesTurns}
-use Rattle.rb_world.specs.TurnsDone.{TellsEvent}
+use Rattle.rb_world.specs.TurnsDone.{TellsEvent, IsTurnOf, TurnsChaptersOf}
 use Rattle.rb_world.specs.OpenedWorlds.{IsOpenedWorld}
 use Rattle.rb_world.specs.declared.opening.WorkerSetup.{WorkerSetup}
 use Rattle.rb_history.specs.Calls.{producer_now, consumer_now}
@@ -17,9 +17,15 @@ use Rattle.rb_history.specs.RingModel.{Ring}
 use Rattle.rb_verifier.specs.Subject.{Subject}
 use Rattle.rb_script.specs.declared.script.Script.{Script}
 use Rattle.rb_script.specs.declared.script.ScriptWorker.{ScriptWorker}
+use Rattle.rb_script.specs.Drawings.{ring_drawing}
 use Rattle.rb_script.specs.OutputLines.{take_line, chapter_line, done_line, at_line, ring_line}
 use Rattle.rb_script.specs.Programs.{IsProgramOf}
 use Rattle.rb_script.specs.Scripts.{worker_text}
+
+-- the lines of the numbers below this one, in their order
+abbrev pub lines_below : (ℕ → List ℕ) → ℕ → List ℕ
+lines_below line_at ℕ.zero = []
+lines_below line_at (ℕ.suc n) = lines_below line_at n ++ line_at n
 
 -- a take has a line, with what it found, and a chapter that was handed out has one, with the number that was answered
 abbrev pub turn_text : Actor → TurnDone → TurnEvent → List ℕ
@@ -27,26 +33,43 @@ turn_text (Consumer r) done (Took found) = take_line r found
 turn_text (Keeper r) (Chapter n) event = chapter_line r n
 turn_text actor done event = []
 
--- the lines of turns, in their order
-abbrev pub turns_text : List Actor → List TurnDone → List TurnEvent → List ℕ
-turns_text (actor ∷ actors) (done ∷ dones) (event ∷ events) = turn_text actor done event ++ turns_text actors dones events
-turns_text _ _ _ = []
+-- behind a turn each ring is drawn, where that is asked for
+abbrev pub drawing_of : WorldValue → ℕ → List ℕ
+drawing_of v r = ring_drawing r ((world_of v).rings r).ring
+
+abbrev pub drawings : Bool → WorldValue → List ℕ
+drawings true v = lines_below (drawing_of v) (length v.rings)
+drawings false v = []
+
+-- the lines of turns, in their order, each in front of the drawings of the world behind it
+abbrev pub turns_text : Bool → List Actor → List TurnDone → List TurnEvent → List WorldValue → List ℕ
+turns_text draw (actor ∷ actors) (done ∷ dones) (event ∷ events) (world ∷ worlds) = turn_text actor done event ++ drawings draw world ++ turns_text draw actors dones events worlds
+turns_text draw _ _ _ _ = []
+
+-- these are the worlds behind each of the turns
+abbrev pub PassesWorlds : List Actor → WorldValue → List TurnDone → List WorldValue → WorldValue → Type 0
+PassesWorlds [] old [] [] new = new ≡ old
+PassesWorlds (actor ∷ actors) old (done ∷ dones) (world ∷ worlds) new =
+    IsTurnOf actor old done world × TurnsChaptersOf actor done old.rings world.rings × PassesWorlds actors world dones worlds new
+PassesWorlds _ old _ _ new = ⊥
 
 -- the turns of these actors, one after the other, are a run of the world, and were made as the turns of a run are, with what becomes of the
 -- chapters; some answers tell what happened in each; and the lines of these turns were added to the text
-pub record WritesRun (actors : List Actor) (old new : WorldValue) (before after : List ℕ) : Type 0 where
+pub record WritesRun (draw : Bool) (actors : List Actor) (old new : WorldValue) (before after : List ℕ) : Type 0 where
   pub dones : List TurnDone
   pub events : List TurnEvent
   pub told : AllZip TellsEvent dones events
   pub run : WorldRun (world_of old) actors events (world_of new)
   pub turns : TakesTurns actors old dones new
-  pub text_is : after ≡ before ++ turns_text actors dones events
+  pub worlds : List WorldValue
+  pub passed : PassesWorlds actors old dones worlds new
+  pub text_is : after ≡ before ++ turns_text draw actors dones events worlds
 
 -- so many of the turns of these actors were made and their lines were added to the text; if one more was made, it has no line there
-pub record BeginsRun (actors : List Actor) (old : WorldValue) (before after : List ℕ) : Type 0 where
+pub record BeginsRun (draw : Bool) (actors : List Actor) (old : WorldValue) (before after : List ℕ) : Type 0 where
   pub turns : ℕ
   pub last : WorldValue
-  pub written : WritesRun (take turns actors) old last before after
+  pub written : WritesRun draw (take turns actors) old last before after
 
 -- ---- the lines at the end
 
@@ -66,11 +89,6 @@ ring_text r ring = ring_line r (producer_now ring) (consumer_now ring) (counts_o
 abbrev pub ring_end_of : WorldValue → ℕ → List ℕ
 ring_end_of v r = ring_text r ((world_of v).rings r).ring
 
--- the lines of the numbers below this one, in their order
-abbrev pub lines_below : (ℕ → List ℕ) → ℕ → List ℕ
-lines_below line_at ℕ.zero = []
-lines_below line_at (ℕ.suc n) = lines_below line_at n ++ line_at n
-
 -- those of the workers, and then those of the rings
 abbrev pub world_text : WorldValue → List ℕ
 world_text v = lines_below (worker_line v) (length v.machines) ++ lines_below (ring_end_of v) (length v.rings)
@@ -84,34 +102,34 @@ pub record AreSetups (workers : List ScriptWorker) (programs : List Subject) (se
 
 -- a world with the script's rings was opened for these programs and the contexts of the script's workers, the script's turns were run in
 -- it and their lines were added to the text, and these are the lines at the end
-pub record SimulatesWith (s : Script) (programs : List Subject) (before after ends : List ℕ) : Type 0 where
+pub record SimulatesWith (draw : Bool) (s : Script) (programs : List Subject) (before after ends : List ℕ) : Type 0 where
   pub setups : List WorkerSetup
   pub first : WorldValue
   pub last : WorldValue
   pub are : AreSetups s.workers.items programs setups
   pub opened : IsOpenedWorld s.rings.items setups first
-  pub written : WritesRun s.actors.items first last before after
+  pub written : WritesRun draw s.actors.items first last before after
   pub ends_are : ends ≡ world_text last
 
 -- the same with the programs that the texts of the script's workers are
-pub record Simulates (s : Script) (before after ends : List ℕ) : Type 0 where
+pub record Simulates (draw : Bool) (s : Script) (before after ends : List ℕ) : Type 0 where
   pub programs : List Subject
   pub accepted : AllZip (IsProgramOf (length s.rings.items)) (map worker_text s.workers.items) programs
-  pub ran : SimulatesWith s programs before after ends
+  pub ran : SimulatesWith draw s programs before after ends
 
 -- the same world was opened, and the first of the script's turns were run in it, whose lines were added to the text
-pub record BeginsSimulationWith (s : Script) (programs : List Subject) (before after : List ℕ) : Type 0 where
+pub record BeginsSimulationWith (draw : Bool) (s : Script) (programs : List Subject) (before after : List ℕ) : Type 0 where
   pub setups : List WorkerSetup
   pub first : WorldValue
   pub are : AreSetups s.workers.items programs setups
   pub opened : IsOpenedWorld s.rings.items setups first
-  pub begun : BeginsRun s.actors.items first before after
+  pub begun : BeginsRun draw s.actors.items first before after
 
-pub record BeginsSimulation (s : Script) (before after : List ℕ) : Type 0 where
+pub record BeginsSimulation (draw : Bool) (s : Script) (before after : List ℕ) : Type 0 where
   pub programs : List Subject
   pub accepted : AllZip (IsProgramOf (length s.rings.items)) (map worker_text s.workers.items) programs
-  pub begun : BeginsSimulationWith s programs before after
+  pub begun : BeginsSimulationWith draw s programs before after
 
 -- what was added to the text once memory ran out: nothing, or the lines of the first turns
-abbrev pub BreaksOff : Script → (before after : List ℕ) → Type 0
-BreaksOff s before after = (after ≡ before) ⊎ BeginsSimulation s before after
+abbrev pub BreaksOff : Bool → Script → (before after : List ℕ) → Type 0
+BreaksOff draw s before after = (after ≡ before) ⊎ BeginsSimulation draw s before after

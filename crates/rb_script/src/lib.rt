@@ -12,6 +12,7 @@
 //! ```
 #![tactic(auto)]
 
+mod drawings;
 mod output_lines;
 mod programs;
 mod script;

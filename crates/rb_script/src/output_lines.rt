@@ -131,7 +131,7 @@ fn push_counts(text: &mut Vec<u8>, counts: Counts) -> Result<(), AllocError>
 }
 
 // Adds a number in decimal digits.
-fn push_number(text: &mut Vec<u8>, number: u64) -> Result<(), AllocError>
+pub(crate) fn push_number(text: &mut Vec<u8>, number: u64) -> Result<(), AllocError>
     ensures digits { OnOk result (text.new.items ≡ text.old.items ++ decimal number) }
 {
     let mut digits = Buffer::new();

@@ -27,13 +27,18 @@ pub enum SimFault {
 }
 
 /// Reads a whole script, verifies its programs, runs its turns in a world, and prints a line for each take and each chapter, and then for
-/// each worker and each ring. Nothing is printed where a line is at fault or a program is refused, and that is told, unless memory runs out or
+/// each worker and each ring; with `draw` behind each turn each ring as one line. Nothing is printed where a line is at fault or a program is refused, and that is told, unless memory runs out or
 /// the device fails; where memory runs out, the lines of the turns before are printed, and nothing else.
-pub fn sim<R: Read, W: Write>(alloc: Global, input: &mut R, out: &mut W) -> Result<(), SimFault>
-    ensures printed { OnOk result (IfSome (R.remaining input.old) (λ text. PrintsSim text (W.contents out.old) (W.contents out.new))) }
+pub fn sim<R: Read, W: Write>(
+    alloc: Global,
+    input: &mut R,
+    out: &mut W,
+    draw: bool,
+) -> Result<(), SimFault>
+    ensures printed { OnOk result (IfSome (R.remaining input.old) (λ text. PrintsSim draw text (W.contents out.old) (W.contents out.new))) }
     ensures refused { IfErr result (λ fault. IfSome (R.remaining input.old) (λ text. IsSimFaultOf text fault)) }
     ensures told { IfSome (R.remaining input.old) (λ text. (line : ℕ) → IsSimFaultOf text (SimFault.Line line) → IsTold line result) }
-    ensures broken_off { IfSome (R.remaining input.old) (λ text. result ≡ Err SimFault.Memory → BreaksOffSim text (W.contents out.old) (W.contents out.new)) }
+    ensures broken_off { IfSome (R.remaining input.old) (λ text. result ≡ Err SimFault.Memory → BreaksOffSim draw text (W.contents out.old) (W.contents out.new)) }
     ensures unprinted { (line : ℕ) → result ≡ Err (SimFault.Line line) → Keeps (W.contents out.old) (W.contents out.new) }
 {
     let bytes = match read_all(alloc, input) {
@@ -41,15 +46,15 @@ pub fn sim<R: Read, W: Write>(alloc: Global, input: &mut R, out: &mut W) -> Resu
         Err(ProgramFault::Memory) => return Err(SimFault::Memory),
         Err(_) => return Err(SimFault::Device),
     };
-    sim_text(alloc, bytes.as_slice(), out)
+    sim_text(alloc, bytes.as_slice(), out, draw)
 }
 
 // The same with the text that was read.
-fn sim_text<W: Write>(alloc: Global, text: &[u8], out: &mut W) -> Result<(), SimFault>
-    ensures printed { OnOk result (PrintsSim text.now (W.contents out.old) (W.contents out.new)) }
+fn sim_text<W: Write>(alloc: Global, text: &[u8], out: &mut W, draw: bool) -> Result<(), SimFault>
+    ensures printed { OnOk result (PrintsSim draw text.now (W.contents out.old) (W.contents out.new)) }
     ensures refused { IfErr result (IsSimFaultOf text.now) }
     ensures told { (line : ℕ) → IsSimFaultOf text.now (SimFault.Line line) → IsTold line result }
-    ensures broken_off { result ≡ Err SimFault.Memory → BreaksOffSim text.now (W.contents out.old) (W.contents out.new) }
+    ensures broken_off { result ≡ Err SimFault.Memory → BreaksOffSim draw text.now (W.contents out.old) (W.contents out.new) }
     ensures unprinted { (line : ℕ) → result ≡ Err (SimFault.Line line) → Keeps (W.contents out.old) (W.contents out.new) }
 {
     let script = match Script::read(alloc, text) {
@@ -58,7 +63,7 @@ fn sim_text<W: Write>(alloc: Global, text: &[u8], out: &mut W) -> Result<(), Sim
         Err(ScriptFault::Memory) => return Err(SimFault::Memory),
     };
     let mut turns = Vec::new(alloc);
-    let ends = match script.simulate(alloc, &mut turns) {
+    let ends = match script.simulate(alloc, draw, &mut turns) {
         Ok(ends) => ends,
         Err(ScriptFault::Line(refused)) => return Err(SimFault::Line(refused)),
         Err(ScriptFault::Memory) => return Err(print_beginning(out, turns.as_slice())),

@@ -6,9 +6,10 @@ ghost use Rattle.rb_interleavings.specs.declared.actor.Actor.TheVariants.{Worker
 ghost use Rattle.std.specs.List.{AllZip};
 ghost use Rattle.rb_script.specs.Programs.{IsFirstRefused, IsProgramOf, IsProgramsFault};
 ghost use Rattle.rb_script.specs.Scripts.{MayRun, worker_text};
-ghost use Rattle.rb_script.specs.Simulation.{AreSetups, BeginsRun, BeginsSimulationWith, BreaksOff, Simulates, SimulatesWith, WritesRun, lines_below, worker_line, ring_end_of, world_text};
+ghost use Rattle.rb_script.specs.Simulation.{AreSetups, BeginsRun, BeginsSimulationWith, BreaksOff, Simulates, SimulatesWith, WritesRun, drawing_of, drawings, lines_below, worker_line, ring_end_of, world_text};
 ghost use Rattle.rb_script.specs.inner.ShownTurns.{consumer_text, keeper_text, last_line, shown_text};
 
+use crate::drawings::push_drawing;
 use crate::output_lines::{push_at, push_chapter, push_done, push_ring, push_take};
 use crate::programs::programs_of;
 use crate::script::{Script, ScriptWorker};
@@ -19,23 +20,28 @@ use rb_world::{Actor, TurnDone, WorkerSetup, World, WorldOpenFault};
 use std::alloc::{AllocError, Global};
 
 impl<'a> Script<'a> {
-    /// Verifies the script's programs, runs its turns, adds a line to the text for each take and each chapter, and answers the lines of the
+    /// Verifies the script's programs, runs its turns, adds a line to the text for each take and each chapter, and with `draw` the rings behind each turn, and answers the lines of the
     /// workers and the rings at the end. A refused program is told by its line, and nothing is run or written then; where memory runs out,
     /// the lines of the turns before stand, whole, and nothing else. A script that was read may be run.
-    pub fn simulate(&self, alloc: Global, text: &mut Vec<u8>) -> Result<Vec<u8>, ScriptFault>
+    pub fn simulate(
+        &self,
+        alloc: Global,
+        draw: bool,
+        text: &mut Vec<u8>,
+    ) -> Result<Vec<u8>, ScriptFault>
         requires may_run { MayRun self.now }
-        ensures ran { IfOk result (λ ends. Simulates self.now text.old.items text.new.items ends.items) }
+        ensures ran { IfOk result (λ ends. Simulates draw self.now text.old.items text.new.items ends.items) }
         ensures refused { IfErr result (IsProgramsFault (length self.now.rings.items) (map worker_text self.now.workers.items)) }
         ensures only_refused { (line : ℕ) → IsFirstRefused (length self.now.rings.items) (map worker_text self.now.workers.items) line
             → (result ≡ Err (ScriptFault.Line line)) ⊎ (result ≡ Err ScriptFault.Memory) }
         ensures unwritten { (line : ℕ) → result ≡ Err (ScriptFault.Line line) → text.new.items ≡ text.old.items }
-        ensures begun { OnErr result (BreaksOff self.now text.old.items text.new.items) }
+        ensures begun { OnErr result (BreaksOff draw self.now text.old.items text.new.items) }
     {
         let programs = match programs_of(alloc, self.workers.as_slice(), self.rings.len()) {
             Ok(programs) => programs,
             Err(fault) => return Err(fault),
         };
-        match self.simulate_with(alloc, programs.as_slice(), text) {
+        match self.simulate_with(alloc, programs.as_slice(), draw, text) {
             Ok(ends) => Ok(ends),
             Err(_) => Err(ScriptFault::Memory),
         }
@@ -46,19 +52,20 @@ impl<'a> Script<'a> {
         &self,
         alloc: Global,
         programs: &[Verified],
+        draw: bool,
         text: &mut Vec<u8>,
     ) -> Result<Vec<u8>, AllocError>
         requires may_run { MayRun self.now }
         requires accepted { AllZip (IsProgramOf (length self.now.rings.items)) (map worker_text self.now.workers.items) programs.now }
-        ensures ran { IfOk result (λ ends. SimulatesWith self.now programs.now text.old.items text.new.items ends.items) }
-        ensures begun { OnErr result ((text.new.items ≡ text.old.items) ⊎ BeginsSimulationWith self.now programs.now text.old.items text.new.items) }
+        ensures ran { IfOk result (λ ends. SimulatesWith draw self.now programs.now text.old.items text.new.items ends.items) }
+        ensures begun { OnErr result ((text.new.items ≡ text.old.items) ⊎ BeginsSimulationWith draw self.now programs.now text.old.items text.new.items) }
     {
         let setups = setups_of(alloc, self.workers.as_slice(), programs)?;
         let mut world = match World::new(alloc, self.rings.as_slice(), setups.as_slice()) {
             Ok(world) => world,
             Err(fault) => return Err(want_of_memory(fault)),
         };
-        run(alloc, &mut world, self.actors.as_slice(), text)?;
+        run(alloc, &mut world, self.actors.as_slice(), draw, text)?;
         ends_of(alloc, &world)
     }
 }
@@ -98,11 +105,13 @@ fn run(
     alloc: Global,
     world: &mut World<'_>,
     actors: &[Actor],
+    draw: bool,
     text: &mut Vec<u8>,
 ) -> Result<(), AllocError>
     requires there { All (IsThere world.old) actors.now }
-    ensures written { OnOk result (WritesRun actors.now world.old world.new text.old.items text.new.items) }
-    ensures begun { OnErr result (BeginsRun actors.now world.old text.old.items text.new.items) }
+    requires few { length world.old.rings ≤ 16 }
+    ensures written { OnOk result (WritesRun draw actors.now world.old world.new text.old.items text.new.items) }
+    ensures begun { OnErr result (BeginsRun draw actors.now world.old text.old.items text.new.items) }
     ensures workers { length world.new.machines ≡ length world.old.machines }
     ensures rings { length world.new.rings ≡ length world.old.rings }
 {
@@ -113,7 +122,7 @@ fn run(
             return Err(AllocError);
         }
         line.clear();
-        let Ok(()) = push_turn(world, *actor, done, &mut line) else {
+        let Ok(()) = push_drawn_turn(world, *actor, done, draw, &mut line) else {
             return Err(AllocError);
         };
         let Ok(()) = text.extend_from_slice(line.as_slice()) else {
@@ -121,6 +130,26 @@ fn run(
         };
     }
     Ok(())
+}
+
+// Adds the line of a turn that was just made, if it has one, and the drawings of the rings, where they are asked for.
+fn push_drawn_turn(
+    world: &World<'_>,
+    actor: Actor,
+    done: TurnDone,
+    draw: bool,
+    text: &mut Vec<u8>,
+) -> Result<(), AllocError>
+    requires there { IsThere world.now actor }
+    requires few { length world.now.rings ≤ 16 }
+    ensures lines { OnOk result (text.new.items ≡ text.old.items ++ (shown_text actor done (world_of world.now) ++ drawings draw world.now)) }
+{
+    push_turn(world, actor, done, text)?;
+    if draw {
+        push_drawings(world, text)
+    } else {
+        text.extend_from_slice(b"")
+    }
 }
 
 // Adds the line of a turn that was just made, if it has one.
@@ -187,6 +216,29 @@ fn ends_of(alloc: Global, world: &World<'_>) -> Result<Vec<u8>, AllocError>
     push_workers(world, &mut ends)?;
     push_rings(world, &mut ends)?;
     Ok(ends)
+}
+
+// Adds the drawings of the rings.
+fn push_drawings(world: &World<'_>, text: &mut Vec<u8>) -> Result<(), AllocError>
+    requires few { length world.now.rings ≤ 16 }
+    ensures lines { OnOk result (text.new.items ≡ text.old.items ++ lines_below (drawing_of world.now) (length world.now.rings)) }
+{
+    for r in 0..16 {
+        if !world.has(Actor::Consumer(r)) {
+            return Ok(());
+        }
+        push_ring_drawing(world, r, text)?;
+    }
+    Ok(())
+}
+
+// Adds the drawing of a ring.
+fn push_ring_drawing(world: &World<'_>, r: u32, text: &mut Vec<u8>) -> Result<(), AllocError>
+    requires there { IsThere world.now (Consumer r) }
+    ensures line { OnOk result (text.new.items ≡ text.old.items ++ drawing_of world.now r) }
+{
+    let closing = world.ring(r).chapter().closing();
+    push_drawing(text, r, closing)
 }
 
 // Adds the lines of the workers.

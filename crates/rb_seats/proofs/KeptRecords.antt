@@ -6,7 +6,7 @@ use Rattle.std.proofs.lemmas.List.{get_or-set_other}
 use Rattle.rb_ledger.specs.Seats.{WorkerSeat}
 use Rattle.rb_hands.specs.declared.out_record.OutRecord.{OutRecord}
 use Rattle.rb_hands.specs.Hands.{Hands, out_record, in_hand}
-use Rattle.rb_hand_ring.specs.HandGranted.{HandGranted}
+use Rattle.rb_chapter_ring.specs.HandGranted.{HandGranted}
 use Rattle.rb_helpers.specs.AnsweredCalls.{Reserved, Submitted, Discarded, SentOut, Queried}
 use Rattle.rb_seats.specs.declared.seat_record.SeatRecord.{SeatRecord}
 use Rattle.rb_seats.specs.SeatCalls.{AtSeat, IsOutAtSeat, SeatQueries, SeatIsGranted, SeatIsRefused, SeatSubmits, SeatDiscards, SeatOutputs, ReserveAnswered, RecordAnswered, OutputAnswered}

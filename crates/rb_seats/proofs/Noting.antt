@@ -1,7 +1,7 @@
 -- A call that was made at a seat and noted is a call of the helpers.
 use Rattle.std.proofs.Common.{◌≡◌, ◌≢◌, ◌↔◌, ℕ, zero, suc, ◌+◌, ◌<◌, ◌≤◌, inl, inr, ℤ, pos, negsuc, Bool, false, cond, List, [], ◌∷◌, length, Option, Some, None, Result, Ok, Err, IsErrOf, is_ok, refl, ap, sym, ◌∙◌, subst, arith, w64, to_z, of_z}
 use Rattle.rb_history.specs.declared.answers.Notice.{Notice}
-use Rattle.rb_hand_ring.specs.HandGranted.{HandGranted}
+use Rattle.rb_chapter_ring.specs.HandGranted.{HandGranted}
 use Rattle.rb_chapter_ring.specs.declared.faults.ReserveFault.TheVariants.{Full, Flags, ChapterFull, Foreign, HandsFull}
 use Rattle.rb_ledger.specs.Seats.{WorkerSeat}
 use Rattle.rb_helpers.specs.declared.done.Done.TheVariants.{Reserve, Submit, Discard, Output, Query}

@@ -15,7 +15,7 @@ use Rattle.rb_chapter_ring.specs.declared.faults.ReserveFault.TheVariants.{Full,
 use Rattle.rb_chapter_ring.specs.RingFaults.{RefusesInChapter}
 use Rattle.rb_ledger.specs.Seats.{Shared, WorkerSeat, IsSameSeat, Ties}
 use Rattle.rb_hands.specs.Hands.{Hands, out_record, in_hand, IsLowestFree, AreAllOut}
-use Rattle.rb_hand_ring.specs.HandGranted.{HandGranted}
+use Rattle.rb_chapter_ring.specs.HandGranted.{HandGranted}
 use Rattle.rb_ledger.specs.LockedCalls.{OutputsAt, output_by, sent_by_output}
 use Rattle.rb_chapter_ledger.specs.LockedChapterCalls.{SubmitsInChapter, DiscardsInChapter, QueriesInChapter}
 use Rattle.rb_shared_ring.specs.SharedCalls.{ReservesInChapter, OutputsInChapter, IsInSeatsHand, refused_in_chapter_by, output_in_chapter_by, sent_by_chapter_output}

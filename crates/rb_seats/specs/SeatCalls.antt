@@ -14,7 +14,7 @@ use Rattle.rb_ledger.specs.LockedCalls.{Reserves, SubmitsAt, DiscardsAt, Outputs
 use Rattle.rb_chapter_ledger.specs.ChapteredRing.{whole_of}
 use Rattle.rb_chapter_ledger.specs.LockedChapterCalls.{LockedChapterCall, InRoomAt, SubmitsInChapter, DiscardsInChapter, QueriesInChapter}
 use Rattle.rb_hands.specs.Hands.{out_record, in_hand, IsLowestFree}
-use Rattle.rb_hand_ring.specs.HandGranted.{HandGranted}
+use Rattle.rb_chapter_ring.specs.HandGranted.{HandGranted}
 use Rattle.rb_shared_ring.specs.SharedCalls.{ReservesInChapter, OutputsInChapter}
 use Rattle.rb_helpers.specs.ErrorNumbers.{EAGAIN, EINVAL}
 use Rattle.rb_helpers.specs.AnsweredCalls.{AnsweredCall, Reserved, Submitted, Discarded, SentOut, Queried, MayAnswerOutput}

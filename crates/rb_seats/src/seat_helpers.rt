@@ -70,30 +70,8 @@ impl<'h, R: Wait, S: Stock> SeatHelpers<'h, R, S> {
         ensures new { IfOk result (λ h. h ≡ record { rings = rings.now; seats = seats.items; trace = []; room = room; unlogged = 0; due = false }) }
         ensures handed_back { IfErr result (λ e. e.1 ≡ seats) }
     {
-        match SeatHelpers::with_trace(rt, alloc, rings, seats, Vec::new(alloc), room, stock) {
-            Ok(helpers) => Ok(helpers),
-            Err((refused, seats, _)) => Err((refused, seats)),
-        }
-    }
-
-    /// The same, with the memory of an earlier trace, whose calls are forgotten: memory is taken only where it has room for fewer calls. Where
-    /// there is none, the seats and the trace's memory are handed back.
-    pub fn with_trace(
-        rt: &'h R,
-        alloc: Global,
-        rings: &'h [SharedRing],
-        seats: Vec<Seat>,
-        mut trace: Vec<Done>,
-        room: usize,
-        stock: &'h S,
-    ) -> Result<SeatHelpers<'h, R, S>, (AllocError, Vec<Seat>, Vec<Done>)>
-        requires seats { AtRings rings.now seats.items }
-        ensures new { IfOk result (λ h. h ≡ record { rings = rings.now; seats = seats.items; trace = []; room = room; unlogged = 0; due = false }) }
-        ensures handed_back { IfErr result (λ e. e.1 ≡ seats) }
-    {
-        trace.clear();
-        match trace.reserve(room) {
-            Ok(()) => Ok(SeatHelpers {
+        match Vec::with_capacity(alloc, room) {
+            Ok(trace) => Ok(SeatHelpers {
                 rt,
                 alloc,
                 stock,
@@ -104,8 +82,47 @@ impl<'h, R: Wait, S: Stock> SeatHelpers<'h, R, S> {
                 unlogged: 0,
                 due: false,
             }),
-            Err(refused) => Err((refused, seats, trace)),
+            Err(refused) => Err((refused, seats)),
         }
+    }
+
+    /// Helpers over these rings and the worker's seats there, in the rings' order, with room for no call: `begin` makes some. It takes no memory.
+    pub fn at_rest(
+        rt: &'h R,
+        alloc: Global,
+        rings: &'h [SharedRing],
+        seats: Vec<Seat>,
+        stock: &'h S,
+    ) -> SeatHelpers<'h, R, S>
+        requires seats { AtRings rings.now seats.items }
+        ensures new { result ≡ record { rings = rings.now; seats = seats.items; trace = []; room = 0; unlogged = 0; due = false } }
+    {
+        SeatHelpers {
+            rt,
+            alloc,
+            stock,
+            rings,
+            seats,
+            trace: Vec::new(alloc),
+            room: 0,
+            unlogged: 0,
+            due: false,
+        }
+    }
+
+    /// Forgets the calls so far, and makes room for `room` more: memory is taken only where the trace never had room for as many. Where there is
+    /// none, there is room for no call.
+    pub fn begin(&mut self, room: usize) -> Result<(), AllocError>
+        ensures begun { IfOk result (λ _. self.new ≡ record { rings = self.old.rings; seats = self.old.seats; trace = []; room = room; unlogged = 0; due = false }) }
+        ensures refused { IfErr result (λ _. self.new ≡ record { rings = self.old.rings; seats = self.old.seats; trace = []; room = 0; unlogged = 0; due = false }) }
+    {
+        self.trace.clear();
+        self.room = 0;
+        self.unlogged = 0;
+        self.due = false;
+        self.trace.reserve(room)?;
+        self.room = room;
+        Ok(())
     }
 
     /// The seats, in the rings' order.
@@ -116,18 +133,10 @@ impl<'h, R: Wait, S: Stock> SeatHelpers<'h, R, S> {
         self.seats
     }
 
-    /// The seats, in the rings' order, and the trace of the calls, whose memory may be used again.
-    pub fn into_parts(self) -> (Vec<Seat>, Vec<Done>)
-        ensures seats { result.0.items ≡ self.entry.seats }
-        ensures at_rings { AtRings self.entry.rings result.0.items }
-        ensures trace { result.1.items ≡ self.entry.trace }
-    {
-        (self.seats, self.trace)
-    }
-
     /// How many of the nulls for flags 0 and of the answers `-EAGAIN` no entry of a ring explains.
     pub fn unlogged(&self) -> u64
         ensures count { result ≡ self.now.unlogged }
+        ensures within { result ≤ length self.now.trace }
     {
         self.unlogged
     }
@@ -298,19 +307,27 @@ impl<'h, R: Wait, S: Stock> Helpers for SeatHelpers<'h, R, S> {
     {
         let answer = self.try_reserve(ring, n, flags);
         let unlogged = is_unlogged(&answer);
-        self.log(
-            Done::Reserve {
-                ring,
-                len: n,
-                flags,
-                granted: answer.is_ok(),
-            },
-            unlogged,
-            false,
-        );
         match answer {
-            Ok(reservation) => Some(SeatRecord { ring, reservation }),
-            Err(_) => None,
+            Ok(reservation) => {
+                let done = Done::Reserve {
+                    ring,
+                    len: n,
+                    flags,
+                    granted: true,
+                };
+                self.log(done, unlogged, false);
+                Some(SeatRecord { ring, reservation })
+            }
+            Err(_) => {
+                let done = Done::Reserve {
+                    ring,
+                    len: n,
+                    flags,
+                    granted: false,
+                };
+                self.log(done, unlogged, false);
+                None
+            }
         }
     }
 
@@ -327,17 +344,20 @@ impl<'h, R: Wait, S: Stock> Helpers for SeatHelpers<'h, R, S> {
     {
         let SeatRecord { ring, reservation } = owned;
         let answer = self.try_submit(ring, reservation, flags);
-        self.log(
-            Done::Submit {
-                flags,
-                taken: answer.is_ok(),
-            },
-            false,
-            is_due(&answer),
-        );
+        let due = is_due(&answer);
         match answer {
-            Ok(_) => Ok(()),
-            Err(reservation) => Err(SeatRecord { ring, reservation }),
+            Ok(_) => {
+                self.log(Done::Submit { flags, taken: true }, false, due);
+                Ok(())
+            }
+            Err(reservation) => {
+                let done = Done::Submit {
+                    flags,
+                    taken: false,
+                };
+                self.log(done, false, due);
+                Err(SeatRecord { ring, reservation })
+            }
         }
     }
 
@@ -354,17 +374,20 @@ impl<'h, R: Wait, S: Stock> Helpers for SeatHelpers<'h, R, S> {
     {
         let SeatRecord { ring, reservation } = owned;
         let answer = self.try_discard(ring, reservation, flags);
-        self.log(
-            Done::Discard {
-                flags,
-                taken: answer.is_ok(),
-            },
-            false,
-            is_due(&answer),
-        );
+        let due = is_due(&answer);
         match answer {
-            Ok(_) => Ok(()),
-            Err(reservation) => Err(SeatRecord { ring, reservation }),
+            Ok(_) => {
+                self.log(Done::Discard { flags, taken: true }, false, due);
+                Ok(())
+            }
+            Err(reservation) => {
+                let done = Done::Discard {
+                    flags,
+                    taken: false,
+                };
+                self.log(done, false, due);
+                Err(SeatRecord { ring, reservation })
+            }
         }
     }
 

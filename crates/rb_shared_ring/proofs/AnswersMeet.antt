@@ -10,7 +10,7 @@ use Rattle.rb_chapter_ring.specs.declared.faults.ReserveFault.{ReserveFault}
 use Rattle.rb_chapter_ring.specs.declared.faults.ReserveFault.TheVariants.{Flags}
 use Rattle.rb_chapter_ring.specs.RingFaults.{RefusesInChapter}
 use Rattle.rb_hands.specs.HandRing.{HandRing, GrantsToHand}
-use Rattle.rb_hand_ring.specs.HandGranted.{HandGranted}
+use Rattle.rb_chapter_ring.specs.HandGranted.{HandGranted}
 use Rattle.rb_shared_ring.specs.SharedCalls.{OutputsInChapter}
 use Rattle.rb_shared_ring.specs.inner.HandCalls.{ReservesToHand}
 

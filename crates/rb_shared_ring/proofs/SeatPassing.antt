@@ -10,7 +10,7 @@ use Rattle.rb_ledger.specs.Roles.Role.{Worker}
 use Rattle.rb_chapter_ledger.specs.LockedChapterCalls.{SubmitsInChapter, DiscardsInChapter, QueriesInChapter}
 use Rattle.rb_hands.specs.Hands.{out_record, Hands, hands_of, with_hand, IsFree}
 use Rattle.rb_hands.specs.HandRing.{HandRing}
-use Rattle.rb_hand_ring.specs.HandGranted.{HandGranted}
+use Rattle.rb_chapter_ring.specs.HandGranted.{HandGranted}
 use Rattle.rb_hand_ledger.specs.HandKnowledge.{HandPassView, without_hands}
 use Rattle.rb_hand_ledger.specs.HandLockSteps.{TakesHandState, MayPutHands, PutsHandState}
 use Rattle.rb_shared_ring.specs.declared.audit.Audit.{Audit}

@@ -17,7 +17,7 @@ use Rattle.rb_chapter_ring.specs.OpenedRing.{told_counts}
 use Rattle.rb_chapter_ring.specs.RingFaults.{RefusesInChapter}
 use Rattle.rb_hands.specs.declared.out_record.OutRecord.{OutRecord}
 use Rattle.rb_hands.specs.Hands.{Hands, in_hand, out_record}
-use Rattle.rb_hand_ring.specs.HandGranted.{HandGranted}
+use Rattle.rb_chapter_ring.specs.HandGranted.{HandGranted}
 use Rattle.rb_ledger.specs.Seats.{Shared, WorkerSeat}
 use Rattle.rb_shared_ring.specs.declared.audit.Audit.{Audit}
 

@@ -15,7 +15,7 @@ use crate::lock::{Lock, RingPass};
 use crate::locked_calls::with_state;
 use crate::shared::{Foreign, SharedRing};
 use crate::worker_seat::Seat;
-use rb_hand_ring::HandState;
+use rb_chapter_ring::HandState;
 use rb_history::{Counts, Tally};
 use std::sync::Wait;
 

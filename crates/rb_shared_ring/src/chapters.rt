@@ -16,7 +16,7 @@ use crate::lock::{Lock, RingPass};
 use crate::locked_calls::with_state;
 use crate::shared::{Foreign, SharedRing};
 use rb_chapter::Chapter;
-use rb_hand_ring::HandState;
+use rb_chapter_ring::HandState;
 use std::sync::Wait;
 use thiserror::Error;
 

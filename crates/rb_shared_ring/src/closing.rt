@@ -16,7 +16,7 @@ use crate::lock::{JoinRoles, Lock, RingPass, take_out};
 use crate::shared::SharedRing;
 use crate::worker_seat::Seat;
 use rb_chapter::Chapter;
-use rb_hand_ring::HandState;
+use rb_chapter_ring::HandState;
 use rb_history::Counts;
 use std::marker::Model;
 use std::sync::Wait;

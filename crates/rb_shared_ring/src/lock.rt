@@ -13,7 +13,7 @@ ghost use Rattle.rb_hand_ledger.specs.HandLockSteps.{TakesHandState, PutsHandSta
 use crate::wait_backoff::WaitBackoff;
 use crossbeam_queue::protocol::{Join, Lesson, Outcome, Protocol, Split};
 use crossbeam_queue::{Pass, RuledArrayQueue};
-use rb_hand_ring::HandState;
+use rb_chapter_ring::HandState;
 use std::alloc::{AllocError, Global};
 use std::marker::Model;
 use std::sync::Wait;

@@ -16,8 +16,7 @@ ghost use Rattle.rb_shared_ring.specs.inner.LentState.{IsKeptHandRing, MayLend, 
 ghost use Rattle.rb_shared_ring.specs.SharedCalls.{ReservesInChapter, OutputsInChapter, granted_in, hands_reserved, sent_by_chapter_output};
 
 use crate::lock::{Lock, RingPass, put_back, take_out};
-use rb_chapter_ring::ReserveFault;
-use rb_hand_ring::{HandState, Reservation};
+use rb_chapter_ring::{HandState, Reservation, ReserveFault};
 use rb_history::Notice;
 use rb_lend::Sheet;
 use std::sync::Wait;

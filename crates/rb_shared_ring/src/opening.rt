@@ -11,8 +11,7 @@ use crate::lock::{new_lock, put_first};
 use crate::locked_calls::facts_of;
 use crate::shared::SharedRing;
 use crate::worker_seat::{Seat, new_seat};
-use rb_chapter_ring::OpenFault;
-use rb_hand_ring::HandState;
+use rb_chapter_ring::{HandState, OpenFault};
 use std::alloc::Global;
 use std::sync::Wait;
 

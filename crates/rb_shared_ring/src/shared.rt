@@ -1,6 +1,6 @@
 //! A ring over chapters that threads share.
 
-ghost use Rattle.std.specs.Prelude.{◌≡◌, ◌≢◌, ◌↔◌, ◌⊎◌, Ok, IfOk, OnOk, IfErr, IsOk, IsErr, None, length, slice_set};
+ghost use Rattle.std.specs.Prelude.{◌≡◌, ◌≢◌, ◌↔◌, ◌⊎◌, Ok, IfOk, OnOk, IfErr, IsOk, IsErr, IsTrue, None, length, slice_set};
 ghost use Rattle.std.specs.FinMap.{insert};
 ghost use Rattle.rb_chapter_ring.specs.declared.faults.ReserveFault.TheVariants.{Foreign as FaultForeign, HandsFull};
 ghost use Rattle.rb_chapter.specs.ChapterCalls.{producer_now};
@@ -11,13 +11,11 @@ ghost use Rattle.rb_ledger.specs.LockedCalls.{submitted_by, discarded_by};
 ghost use Rattle.rb_chapter_ledger.specs.LockedChapterCalls.{LockedChapterCall, InRoomAt, SubmitsInChapter, DiscardsInChapter, QueriesInChapter};
 ghost use Rattle.rb_shared_ring.specs.SharedCalls.{ReservesInChapter, OutputsInChapter, IsInSeatsHand, IsRefusedInChapterAs, granted_in, hands_after_reserve, reserved_in_chapter_by, output_in_chapter_by, sent_by_chapter_output};
 
-use crate::hands::is_out_with;
 use crate::lock::Lock;
 use crate::locked_calls::{discard_with, output_with, query_with, reserve_with, submit_with};
 use crate::tally::{after_discard, after_output, after_reserve, after_submit};
 use crate::worker_seat::Seat;
-use rb_chapter_ring::ReserveFault;
-use rb_hand_ring::Reservation;
+use rb_chapter_ring::{Reservation, ReserveFault};
 use rb_hands::{OutRecord, lowest_free};
 use rb_history::Notice;
 use rb_lend::Sheet;
@@ -100,10 +98,11 @@ impl SharedRing {
         ensures sent { me.new.sent ≡ me.old.sent }
         ensures handed_back { IfErr result (λ e. e.1 ≡ sheet) }
     {
+        let free = lowest_free(&me.hands);
         if me.tag != self.tag {
             return Err((ReserveFault::Foreign, sheet));
         }
-        let Some(hand) = lowest_free(&me.hands) else {
+        let Some(hand) = free else {
             return Err((ReserveFault::HandsFull, sheet));
         };
         let (tag, worker) = (me.tag, me.worker);
@@ -117,6 +116,16 @@ impl SharedRing {
             });
         }
         answer
+    }
+
+    // Whether the reservation is one that the seat may give back to the ring.
+    fn is_held_by(&self, me: &Seat, reservation: &Reservation) -> bool
+        ensures exact { IsTrue result ↔ IsInSeatsHand self.now me.now reservation.now }
+    {
+        me.tag == self.tag
+            && reservation.tag() == me.tag
+            && reservation.worker() == me.worker
+            && reservation.is_in(&me.hands)
     }
 
     /// Hands the reservation's bytes to the consumer, and frees the seat's hand. The reservation is handed back, and nothing changes, exactly where the
@@ -139,11 +148,7 @@ impl SharedRing {
         ensures hands { OnOk result (me.new.hands ≡ slice_set me.old.hands reservation.hand None) }
         ensures sent { OnOk result (me.new.sent ≡ insert me.old.sent reservation.granted.pos reservation.granted.bytes) }
     {
-        if me.tag != self.tag
-            || reservation.tag() != me.tag
-            || reservation.worker() != me.worker
-            || !is_out_with(&me.hands, &reservation)
-        {
+        if !self.is_held_by(me, &reservation) {
             return Err(reservation);
         }
         let (worker, hand) = (me.worker, reservation.hand());
@@ -171,11 +176,7 @@ impl SharedRing {
         ensures hands { OnOk result (me.new.hands ≡ slice_set me.old.hands reservation.hand None) }
         ensures sent { me.new.sent ≡ me.old.sent }
     {
-        if me.tag != self.tag
-            || reservation.tag() != me.tag
-            || reservation.worker() != me.worker
-            || !is_out_with(&me.hands, &reservation)
-        {
+        if !self.is_held_by(me, &reservation) {
             return Err(reservation);
         }
         let (worker, hand) = (me.worker, reservation.hand());

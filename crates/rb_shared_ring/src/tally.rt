@@ -4,8 +4,7 @@ ghost use Rattle.std.specs.Prelude.{◌≡◌, ◌<◌, ◌≤◌, ◌+◌, ◌^
 ghost use Rattle.rb_chapter_ring.specs.declared.faults.ReserveFault.TheVariants.{Full as FaultFull};
 ghost use Rattle.rb_shared_ring.specs.SharedCalls.{IsRefusedInChapterAs, granted_in, refused_in_chapter_by, reserved_in_chapter_by, output_in_chapter_by};
 
-use rb_chapter_ring::ReserveFault;
-use rb_hand_ring::Reservation;
+use rb_chapter_ring::{Reservation, ReserveFault};
 use rb_history::{Notice, Tally};
 use rb_lend::Sheet;
 

@@ -132,10 +132,10 @@ fn finish<R: Wait>(rt: &R, ring: &SharedRing, seat: &mut Seat, record: Reservati
 {
     let flags = u64::from(choice / 4 % 4);
     if choice % 4 == 0 {
-        let _stray = ring.discard(rt, seat, record, flags);
+        let _answer = ring.discard(rt, seat, record, flags);
     } else {
         let written = written(record);
-        let _stray = ring.submit(rt, seat, written, flags);
+        let _answer = ring.submit(rt, seat, written, flags);
     }
 }
 

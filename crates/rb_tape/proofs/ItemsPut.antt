@@ -1,6 +1,6 @@
 -- The items that went out so far.
 use Rattle.std.proofs.Common.{◌≡◌, ℕ, ◌+◌, List, [], ◌∷◌, ◌++◌, take, refl, sym, ap, ◌∙◌, subst, append_assoc, append-nil, arith}
-use Rattle.std.specs.Prelude.{Option, Bool, true, false, not, Result, Ok, Err, is_err, OnOk, OnErr, if◌then◌else◌}
+use Rattle.std.specs.Prelude.{Option, None, Bool, true, false, not, Result, Ok, Err, is_err, OnOk, OnErr, if◌then◌else◌}
 use Rattle.std.proofs.lemmas.Bool.{true≢false}
 use Rattle.std.proofs.lemmas.List.{take_all}
 use Rattle.std.specs.Io.KnownBytes.{Appends}
@@ -13,7 +13,10 @@ use Rattle.rb_history.specs.declared.answers.Taken.TheVariants.{Event, Skipped, 
 use Rattle.rb_tape.specs.declared.item.Item as given
 use Rattle.rb_tape.specs.declared.item.Item.TheVariants as kinds
 use Rattle.rb_tape.specs.Items.{item_of, item_taken, tape_items, sent_after}
+use Rattle.rb_tape.specs.TapeCalls.{Begins, MakesCall, PutsAll}
+use Rattle.rb_tape.specs.TapeCalls.TapeCall.{Put}
 use Rattle.rb_tape.specs.TapeOutput.{TapeOutput, StopsWithin}
+use Rattle.rb_tape.proofs.TapeCalls.{begins_none, begins_on}
 
 tape_items-append : (ts us : List Taken) → tape_items (ts ++ us) ≡ tape_items ts ++ tape_items us
 tape_items-append [] us = refl
@@ -59,20 +62,24 @@ module _ (W : Type 0) (contents : W → Option (List ℕ)) (old : TapeOutput W) 
   -- the items before those that are left went out, and those that are left stand on the tape
   pub record PutSoFar (now : TapeOutput W) (left : List Taken) : Type 0 where
     pub whole : List Taken
+    pub begins : Begins contents old (tape_items whole) now
     pub items_are : items ≡ whole ++ left
     pub position_is : now.position ≡ end_of old.position (tape_items whole)
     pub sent_is : now.sent ≡ sent_after old.sent (tape_items whole)
     pub size_same : now.size ≡ old.size
+    pub none_failed : now.failures ≡ old.failures
     pub stand : AreItemsFrom old.size now.position (tape_items left)
     pub bytes : Appends (contents old.writer) (contents now.writer) (tape old.size (tape_items whole))
 
   pub none-put : AreItemsFrom old.size old.position (tape_items items) → PutSoFar old items
   none-put stand = record {
     whole = [];
+    begins = begins_none contents old;
     items_are = refl;
     position_is = sym (end_of-nil old.position);
     sent_is = refl;
     size_same = refl;
+    none_failed = refl;
     stand = stand;
     bytes = Appends-nil (contents old.writer);
   }
@@ -83,8 +90,8 @@ module _ (W : Type 0) (contents : W → Option (List ℕ)) (old : TapeOutput W) 
 
   pub one-more : (now new : TapeOutput W) (left rest : List Taken) (i : given.Item) → PutSoFar now left → left ≡ item_taken i ∷ rest →
       Appends (contents now.writer) (contents new.writer) (take new.sent (item_bytes now.size (item_of i))) → new.sent ≡ item_span (item_of i) →
-      new.size ≡ now.size → new.position ≡ now.position + item_span (item_of i) → PutSoFar new rest
-  one-more now new left rest i so_far is went sent size moved =
+      new.size ≡ now.size → new.position ≡ now.position + item_span (item_of i) → Begins contents now (item_of i ∷ []) new → new.failures ≡ now.failures → PutSoFar new rest
+  one-more now new left rest i so_far is went sent size moved begins counted =
       let whole = so_far.whole in
       let more : tape_items (whole ++ item_taken i ∷ []) ≡ tape_items whole ++ item_of i ∷ [] = tape_items-append whole (item_taken i ∷ []) ∙ ap (λ x. tape_items whole ++ x) (tape_items-cons i []) in
       let all : take new.sent (item_bytes now.size (item_of i)) ≡ tape old.size (item_of i ∷ []) =
@@ -92,10 +99,12 @@ module _ (W : Type 0) (contents : W → Option (List ℕ)) (old : TapeOutput W) 
       ∙ ap (λ s. item_bytes s (item_of i)) so_far.size_same ∙ sym (append-nil (item_bytes old.size (item_of i))) in
       record {
         whole = whole ++ item_taken i ∷ [];
+        begins = subst (λ l. Begins contents old l new) (sym more) (begins_on contents old now new (tape_items whole) (item_of i ∷ []) so_far.begins begins);
         items_are = so_far.items_are ∙ ap (λ x. whole ++ x) is ∙ sym (append_assoc whole (item_taken i ∷ []) rest);
         position_is = moved ∙ ap (λ n. n + item_span (item_of i)) so_far.position_is ∙ sym (ap (end_of old.position) more ∙ end_of-push old.position (tape_items whole) (item_of i));
         sent_is = sent ∙ sym (ap (sent_after old.sent) more ∙ sent_after-push old.sent (tape_items whole) (item_of i));
         size_same = size ∙ so_far.size_same;
+        none_failed = counted ∙ so_far.none_failed;
         stand = subst (λ n. AreItemsFrom old.size n (tape_items rest)) (sym moved) (next-stands now left rest i so_far is).1;
         bytes = subst (Appends (contents old.writer) (contents new.writer)) (sym (ap (tape old.size) more ∙ tape-append old.size (tape_items whole) (item_of i ∷ [])))
             (Appends-trans (contents old.writer) (contents now.writer) (contents new.writer) _ _ so_far.bytes (subst (Appends (contents now.writer) (contents new.writer)) all went));
@@ -123,3 +132,29 @@ module _ (W : Type 0) (contents : W → Option (List ℕ)) (old : TapeOutput W) 
   -- where none is left all went out
   pub all-whole : (now : TapeOutput W) (left : List Taken) (so_far : PutSoFar now left) → left ≡ [] → so_far.whole ≡ items
   all-whole now left so_far none = sym (so_far.items_are ∙ ap (λ x. so_far.whole ++ x) none ∙ append-nil so_far.whole)
+
+  -- ---- the call as a whole
+
+  -- it stopped within the next item
+  pub puts-within : {ok : Bool} (now new : TapeOutput W) (left rest : List Taken) (i : given.Item) → PutSoFar now left → left ≡ item_taken i ∷ rest → old.unfinished ≡ None → MakesCall contents now (Put (item_of i)) ok new → new.failures ≡ now.failures + 1
+      → PutsAll contents old (tape_items items) (tape_items rest) false new
+  puts-within now new left rest i so_far is none call counted = (
+    tape_items so_far.whole ++ item_of i ∷ [],
+    ap tape_items (so_far.items_are ∙ ap (λ l. so_far.whole ++ l) is)
+        ∙ (tape_items-append so_far.whole (item_taken i ∷ rest)
+        ∙ (ap (λ l. tape_items so_far.whole ++ l) (tape_items-cons i rest) ∙ sym (append_assoc (tape_items so_far.whole) (item_of i ∷ []) (tape_items rest)))),
+    record {
+      lawful = none;
+      begins = begins_on contents old now new (tape_items so_far.whole) (item_of i ∷ []) so_far.begins call.begins;
+      finished = λ ok. absurd (true≢false (sym ok));
+      failures_are = counted ∙ ap (λ n. n + 1) so_far.none_failed;
+    },
+  )
+
+  -- it came to the end
+  pub puts-whole : (now : TapeOutput W) (left rest : List Taken) → PutSoFar now left → left ≡ [] → rest ≡ [] → old.unfinished ≡ None → now.unfinished ≡ None → PutsAll contents old (tape_items items) (tape_items rest) true now
+  puts-whole now left rest so_far none no_rest before after = (
+    tape_items so_far.whole,
+    sym (ap tape_items (all-whole now left so_far none)) ∙ (sym (append-nil (tape_items so_far.whole)) ∙ ap (λ l. tape_items so_far.whole ++ tape_items l) (sym no_rest)),
+    record { lawful = before; begins = so_far.begins; finished = λ _. after; failures_are = so_far.none_failed },
+  )

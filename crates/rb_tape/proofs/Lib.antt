@@ -1,2 +1,3 @@
-mod Pieces
 mod ItemsPut
+mod Pieces
+mod TapeCalls

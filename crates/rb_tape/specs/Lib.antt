@@ -1,3 +1,4 @@
 pub mod Items
+pub mod TapeCalls
 pub mod TapeOutput
 pub mod inner

@@ -1,19 +1,20 @@
 -- A writer of a tape (own; the tape's bytes are rb_header's).
-use Rattle.std.specs.Prelude.{ℕ, ◌≡◌, Bool, List, ◌∷◌, ◌++◌, Option, take}
+use Rattle.std.specs.Prelude.{ℕ, ◌≡◌, List, ◌∷◌, ◌++◌, Option, take}
 use Rattle.std.specs.Io.KnownBytes.{Appends}
-use Rattle.rb_header.specs.TapeBytes.{item_bytes, tape, end_of}
+use Rattle.rb_header.specs.TapeBytes.{Item, item_bytes, tape, end_of}
 use Rattle.rb_history.specs.declared.answers.Taken.{Taken}
 use Rattle.rb_tape.specs.declared.item.Item as given
 use Rattle.rb_tape.specs.Items.{item_of, item_taken, tape_items}
 
--- a writer of a tape: the writer below, the ring's size, where the next record stands, how many bytes of the last record went out, and
--- whether some of them are still to be written
+-- a writer of a tape: the writer below, the ring's size, where the next record stands, how many bytes of the last record went out, that record
+-- where some of them are still to be written, and how many calls failed
 pub record TapeOutput (W : Type 0) : Type 0 where
   pub writer : W
   pub size : ℕ
   pub position : ℕ
   pub sent : ℕ
-  pub unfinished : Bool
+  pub unfinished : Option Item
+  pub failures : ℕ
 
 -- of these items those before this one went out whole, of this one the bytes that `sent` counts, and nothing of those that are left
 -- behind it; `contents` are the bytes that a writer has, where they are known

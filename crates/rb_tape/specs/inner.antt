@@ -1,1 +1,2 @@
+pub mod ItemCode
 pub mod RecordParts

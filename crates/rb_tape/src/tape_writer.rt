@@ -1,5 +1,7 @@
 //! Writing the tape: the records that were taken, one behind the other.
 
+use crate::begun::Begun;
+use crate::failures::Failures;
 use crate::item::Item;
 use crate::items::Items;
 use crate::piece::write_from;
@@ -17,41 +19,48 @@ pub struct TapeWriter<W> {
     position: u64,
     // How many bytes of the last record went out.
     sent: u64,
-    // Whether some bytes of the last record are still to be written.
-    unfinished: bool,
+    // The last record, where some of its bytes are still to be written.
+    unfinished: Option<Begun>,
+    // How many calls failed.
+    failures: Failures,
 }
 
 impl<W> Model for TapeWriter<W> {
+    ghost use Rattle.std.specs.Prelude.{◌<◌, IfSome, option_map};
+    ghost use Rattle.rb_header.specs.TapeBytes.{item_span, IsItemAt};
     ghost use Rattle.rb_history.specs.RingModel.{IsRingSize};
     ghost use Rattle.rb_tape.specs.TapeOutput.{TapeOutput};
 
     ghost Value = { TapeOutput W };
 
-    ghost view = { λ t. record { writer = t.writer; size = t.size; position = t.position; sent = t.sent; unfinished = t.unfinished } };
+    ghost view = { λ t. record { writer = t.writer; size = t.size; position = t.position; sent = t.sent; unfinished = option_map (λ b. b.item) t.unfinished; failures = t.failures.count } };
 
-    ghost invariant = { λ t. IsRingSize t.size };
+    ghost invariant = { λ t. IsRingSize t.size × IfSome t.unfinished (λ b. IsItemAt t.size t.position b.item × (t.sent < item_span b.item)) };
 }
 
 impl<W: Write> TapeWriter<W> {
-    ghost use Rattle.std.specs.Prelude.{◌≡◌, ◌<◌, ◌≤◌, ◌+◌, [], false, true, not, is_ok, if◌then◌else◌, take, drop, OnOk, OnErr, IfErr};
+    ghost use Rattle.std.specs.Prelude.{◌≡◌, ◌<◌, ◌≤◌, ◌+◌, [], None, Some, is_ok, is_some, if◌then◌else◌, take, drop, OnOk, OnErr, IfErr};
     ghost use Rattle.std.specs.Io.KnownBytes.{Appends};
     ghost use Rattle.rb_header.specs.TapeBytes.{item_bytes, item_span, tape, end_of, IsItemAt, AreItemsFrom};
     ghost use Rattle.rb_history.specs.RingModel.{IsRingSize, IsStartPosition};
     ghost use Rattle.rb_tape.specs.Items.{item_of, tape_items, sent_after};
+    ghost use Rattle.rb_tape.specs.TapeCalls.{failures_after, fresh_tape, MakesCall, PutsAll};
+    ghost use Rattle.rb_tape.specs.TapeCalls.TapeCall.{Put, Resume};
     ghost use Rattle.rb_tape.specs.TapeOutput.{StopsWithin};
 
     /// A tape of a ring of `size` bytes, whose first record stands at `start`. Nothing is written yet.
     pub fn new(writer: W, size: u64, start: u64) -> TapeWriter<W>
         requires size { IsRingSize size }
         requires start { IsStartPosition start }
-        ensures value { result ≡ record { writer = writer; size = size; position = start; sent = 0; unfinished = false } }
+        ensures value { result ≡ fresh_tape writer size start }
     {
         TapeWriter {
             writer,
             size,
             position: start,
             sent: 0,
-            unfinished: false,
+            unfinished: None,
+            failures: Failures::none(),
         }
     }
 
@@ -59,14 +68,16 @@ impl<W: Write> TapeWriter<W> {
     /// nothing; the record is then unfinished, `sent` tells how many of its bytes went out, and `resume` writes the rest. The position moves
     /// once the record is whole.
     pub fn put(&mut self, item: &Item<'_>) -> Result<(), DeviceFault>
-        requires finished { self.old.unfinished ≡ false }
+        requires finished { self.old.unfinished ≡ None }
         requires stands { IsItemAt self.old.size self.old.position (item_of item.now) }
         ensures bytes { Appends (W.contents self.old.writer) (W.contents self.new.writer) (take self.new.sent (item_bytes self.old.size (item_of item.now))) }
         ensures all_sent { OnOk result (self.new.sent ≡ item_span (item_of item.now)) }
         ensures not_all_sent { OnErr result (self.new.sent < item_span (item_of item.now)) }
-        ensures unfinished { self.new.unfinished ≡ not (is_ok result) }
+        ensures unfinished { self.new.unfinished ≡ (if is_ok result then None else Some (item_of item.now)) }
+        ensures failures { self.new.failures ≡ failures_after self.old.failures (is_ok result) }
         ensures size { self.new.size ≡ self.old.size }
         ensures position { self.new.position ≡ (if is_ok result then self.old.position + item_span (item_of item.now) else self.old.position) }
+        ensures call { MakesCall W.contents self.old (Put (item_of item.now)) (is_ok result) self.new }
     {
         self.write_on(item, 0)
     }
@@ -75,7 +86,7 @@ impl<W: Write> TapeWriter<W> {
     /// takes nothing; the error is the record that is unfinished then. `items` has those behind it, so that they are written once `resume`
     /// has written its rest.
     pub fn put_all<'a>(&mut self, items: &mut Items<'a>) -> Result<(), Item<'a>>
-        requires finished { self.old.unfinished ≡ false }
+        requires finished { self.old.unfinished ≡ None }
         requires stand { AreItemsFrom self.old.size self.old.position (tape_items items.old) }
         ensures none_left { OnOk result (items.new ≡ []) }
         ensures bytes { OnOk result (Appends (W.contents self.old.writer) (W.contents self.new.writer) (tape self.old.size (tape_items items.old))) }
@@ -85,8 +96,11 @@ impl<W: Write> TapeWriter<W> {
         ensures not_all_sent { IfErr result (λ item. self.new.sent < item_span (item_of item)) }
         ensures stands { IfErr result (λ item. IsItemAt self.new.size self.new.position (item_of item)) }
         ensures rest { IfErr result (λ item. AreItemsFrom self.new.size (self.new.position + item_span (item_of item)) (tape_items items.new)) }
-        ensures unfinished { self.new.unfinished ≡ not (is_ok result) }
+        ensures finished { OnOk result (self.new.unfinished ≡ None) }
+        ensures unfinished { IfErr result (λ item. self.new.unfinished ≡ Some (item_of item)) }
+        ensures failures { self.new.failures ≡ failures_after self.old.failures (is_ok result) }
         ensures size { self.new.size ≡ self.old.size }
+        ensures call { PutsAll W.contents self.old (tape_items items.old) (tape_items items.new) (is_ok result) self.new }
     {
         while let Some(item) = items.next() {
             if self.put(&item).is_err() {
@@ -96,19 +110,18 @@ impl<W: Write> TapeWriter<W> {
         Ok(())
     }
 
-    /// Writes the bytes of the unfinished record that did not go out yet; `item` is the one that `put` was called with. It stops as `put`
-    /// does, and may be called again then.
+    /// Writes the bytes of the unfinished record, which `item` is, that did not go out yet. It stops as `put` does, and may be called again then.
     pub fn resume(&mut self, item: &Item<'_>) -> Result<(), DeviceFault>
-        requires unfinished { self.old.unfinished ≡ true }
-        requires stands { IsItemAt self.old.size self.old.position (item_of item.now) }
-        requires sent { self.old.sent < item_span (item_of item.now) }
+        requires unfinished { self.old.unfinished ≡ Some (item_of item.now) }
         ensures bytes { Appends (W.contents self.old.writer) (W.contents self.new.writer) (drop self.old.sent (take self.new.sent (item_bytes self.old.size (item_of item.now)))) }
         ensures more { self.old.sent ≤ self.new.sent }
         ensures all_sent { OnOk result (self.new.sent ≡ item_span (item_of item.now)) }
         ensures not_all_sent { OnErr result (self.new.sent < item_span (item_of item.now)) }
-        ensures unfinished { self.new.unfinished ≡ not (is_ok result) }
+        ensures unfinished { self.new.unfinished ≡ (if is_ok result then None else Some (item_of item.now)) }
+        ensures failures { self.new.failures ≡ failures_after self.old.failures (is_ok result) }
         ensures size { self.new.size ≡ self.old.size }
         ensures position { self.new.position ≡ (if is_ok result then self.old.position + item_span (item_of item.now) else self.old.position) }
+        ensures call { MakesCall W.contents self.old (Resume (item_of item.now)) (is_ok result) self.new }
     {
         self.write_on(item, self.sent)
     }
@@ -122,17 +135,20 @@ impl<W: Write> TapeWriter<W> {
         ensures more { from ≤ self.new.sent }
         ensures all_sent { OnOk result (self.new.sent ≡ item_span (item_of item.now)) }
         ensures not_all_sent { OnErr result (self.new.sent < item_span (item_of item.now)) }
-        ensures unfinished { self.new.unfinished ≡ not (is_ok result) }
+        ensures unfinished { self.new.unfinished ≡ (if is_ok result then None else Some (item_of item.now)) }
+        ensures failures { self.new.failures ≡ failures_after self.old.failures (is_ok result) }
         ensures size { self.new.size ≡ self.old.size }
         ensures position { self.new.position ≡ (if is_ok result then self.old.position + item_span (item_of item.now) else self.old.position) }
     {
         let sent = write_from(&mut self.writer, self.size, item, from);
         let span = span(item.len());
         self.sent = sent;
-        self.unfinished = sent < span;
         if sent < span {
+            self.unfinished = Some(Begun::of(item));
+            self.failures = Failures::and_one(&self.failures);
             return Err(DeviceFault);
         }
+        self.unfinished = None;
         self.position += span;
         Ok(())
     }
@@ -149,6 +165,13 @@ impl<W: Write> TapeWriter<W> {
         ensures value { result ≡ self.now.position }
     {
         self.position
+    }
+
+    /// Whether the last record is unfinished, so that `resume` has to write its rest before another one is put.
+    pub fn is_unfinished(&self) -> bool
+        ensures value { result ≡ is_some self.now.unfinished }
+    {
+        self.unfinished.is_some()
     }
 
     /// The writer, with what was written to it.

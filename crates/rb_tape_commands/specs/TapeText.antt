@@ -9,6 +9,9 @@ use Rattle.rb_reader.specs.declared.fault.TapeKind.{TapeKind}
 use Rattle.rb_reader.specs.TapeReading.{Reading, reading_from, IsToldAtEnd}
 use Rattle.rb_reader.specs.LongestTape.{IsTapeAndRest, IsLongestList}
 use Rattle.rb_io.specs.Lines.{hex_text, line}
+use Rattle.rb_json.specs.Json.{json_number, payload_fields}
+use Rattle.rb_json.specs.declared.form.LineForm.{LineForm}
+use Rattle.rb_json.specs.declared.form.LineForm.TheVariants.{Words, Json}
 use Rattle.rb_tape_commands.specs.declared.tape_refusal.TapeRefusal.{TapeRefusal}
 use Rattle.rb_tape_commands.specs.declared.tape_refusal.TapeRefusal.TheVariants.{Size, Start, Record, Memory, Device}
 
@@ -19,9 +22,20 @@ abbrev pub tape_line : Item → List ℕ
 tape_line (Event pos bytes) = line (codes "pos " ++ decimal pos ++ codes " len " ++ decimal (length bytes) ++ codes " " ++ hex_text bytes)
 tape_line (Skip pos len) = line (codes "pos " ++ decimal pos ++ codes " len " ++ decimal len ++ codes " discarded")
 
+-- the same as an object of JSON: {"pos":0,"len":1,"discarded":false,"hex":"2a","text":"*"}
+abbrev pub tape_object : Item → List ℕ
+tape_object (Event pos bytes) =
+    line (codes "{\"pos\":" ++ json_number pos ++ codes ",\"len\":" ++ json_number (length bytes) ++ codes ",\"discarded\":false," ++ payload_fields bytes ++ codes "}")
+tape_object (Skip pos len) = line (codes "{\"pos\":" ++ json_number pos ++ codes ",\"len\":" ++ json_number len ++ codes ",\"discarded\":true}")
+
+-- in the form that is asked for
+abbrev pub tape_line_as : LineForm → Item → List ℕ
+tape_line_as Words item = tape_line item
+tape_line_as Json item = tape_object item
+
 -- the lines of records, in their order
-abbrev pub tape_lines : List Item → List ℕ
-tape_lines items = flat_map tape_line items
+abbrev pub tape_lines : LineForm → List Item → List ℕ
+tape_lines form items = flat_map (tape_line_as form) items
 
 -- ---- what is printed of a whole input
 
@@ -31,12 +45,12 @@ reading_behind size start items rest = record (reading_from size start rest) { p
 
 -- The lines of the longest list of items whose tape begins the input were printed, and nothing else; behind them nothing is left, or this
 -- fault is told there. Its offset is the number of the input's bytes before it.
-pub record PrintsTape (size start : ℕ) (input : List ℕ) (fault : Option (TapeKind × ℕ)) (before after : Option (List ℕ)) : Type 0 where
+pub record PrintsTape (form : LineForm) (size start : ℕ) (input : List ℕ) (fault : Option (TapeKind × ℕ)) (before after : Option (List ℕ)) : Type 0 where
   pub items : List Item
   pub rest : List ℕ
   pub splits : IsTapeAndRest size start input items rest
   pub longest : IsLongestList size start input items
-  pub printed : Appends before after (tape_lines items)
+  pub printed : Appends before after (tape_lines form items)
   pub whole : IfNone fault (rest ≡ [])
   pub told : IfSome fault (λ f. IsToldAtEnd (reading_behind size start items rest) f.0 × (f.1 ≡ end_of start items - start))
 
@@ -45,27 +59,27 @@ abbrev pub IsTape : ℕ → ℕ → List ℕ → Type 0
 IsTape size start input = (items : List Item) × IsTapeAndRest size start input items []
 
 -- a beginning of the lines of some first records of the input was printed
-pub record PrintsSome (size start : ℕ) (input : List ℕ) (before after : Option (List ℕ)) : Type 0 where
+pub record PrintsSome (form : LineForm) (size start : ℕ) (input : List ℕ) (before after : Option (List ℕ)) : Type 0 where
   pub items : List Item
   pub rest : List ℕ
   pub splits : IsTapeAndRest size start input items rest
   pub out : List ℕ
   pub missing : List ℕ
   pub printed : Appends before after out
-  pub beginning : out ++ missing ≡ tape_lines items
+  pub beginning : out ++ missing ≡ tape_lines form items
 
 -- the lines of some first records of the input were printed, and nothing else
-pub record PrintsFirst (size start : ℕ) (input : List ℕ) (before after : Option (List ℕ)) : Type 0 where
+pub record PrintsFirst (form : LineForm) (size start : ℕ) (input : List ℕ) (before after : Option (List ℕ)) : Type 0 where
   pub items : List Item
   pub rest : List ℕ
   pub splits : IsTapeAndRest size start input items rest
-  pub printed : Appends before after (tape_lines items)
+  pub printed : Appends before after (tape_lines form items)
 
 -- what an answer says of the input and of what was printed
-abbrev pub TapeAnswer : ℕ → ℕ → List ℕ → Option (List ℕ) → Option (List ℕ) → Result (Unit {0}) TapeRefusal → Type 0
-TapeAnswer size start input before after (Ok _) = PrintsTape size start input None before after
-TapeAnswer size start input before after (Err (Record kind offset)) = PrintsTape size start input (Some (kind, offset)) before after
-TapeAnswer size start input before after (Err Size) = Keeps before after
-TapeAnswer size start input before after (Err Start) = Keeps before after
-TapeAnswer size start input before after (Err Memory) = PrintsFirst size start input before after
-TapeAnswer size start input before after (Err Device) = PrintsSome size start input before after
+abbrev pub TapeAnswer : LineForm → ℕ → ℕ → List ℕ → Option (List ℕ) → Option (List ℕ) → Result (Unit {0}) TapeRefusal → Type 0
+TapeAnswer form size start input before after (Ok _) = PrintsTape form size start input None before after
+TapeAnswer form size start input before after (Err (Record kind offset)) = PrintsTape form size start input (Some (kind, offset)) before after
+TapeAnswer form size start input before after (Err Size) = Keeps before after
+TapeAnswer form size start input before after (Err Start) = Keeps before after
+TapeAnswer form size start input before after (Err Memory) = PrintsFirst form size start input before after
+TapeAnswer form size start input before after (Err Device) = PrintsSome form size start input before after

@@ -12,12 +12,12 @@ use rb_chapter_ring::RingState;
 /// Has a ring in which every record was taken go on in the spare chapter, where its own has no room for what one more record logs:
 /// its grant, its submit and its take. The old chapter is emptied, and is the next spare one.
 pub(crate) fn make_chapter_room(ring: &mut RingState, spare: &mut Option<Chapter>)
-    requires all_taken { AllTaken ring.old }
-    requires number { ring.old.chapter.number < 2 ^ 62 }
-    requires spare { IsSpareOf ring.old spare.old }
-    ensures turned { MakesChapterRoom ring.old ring.new }
-    ensures room { MayGrant ring.new.chapter }
-    ensures spare { IsSpareOf ring.new spare.new }
+    requires all_taken { AllTaken ring.old.state.ring }
+    requires number { ring.old.state.ring.chapter.number < 2 ^ 62 }
+    requires spare { IsSpareOf ring.old.state.ring spare.old }
+    ensures turned { MakesChapterRoom ring.old.state.ring ring.new.state.ring }
+    ensures room { MayGrant ring.new.state.ring.chapter }
+    ensures spare { IsSpareOf ring.new.state.ring spare.new }
 {
     if !ring.chapter().may_grant() {
         turn_chapter(ring, spare);
@@ -28,13 +28,13 @@ pub(crate) fn make_chapter_room(ring: &mut RingState, spare: &mut Option<Chapter
 #[cold]
 #[inline(never)]
 fn turn_chapter(ring: &mut RingState, spare: &mut Option<Chapter>)
-    requires all_taken { AllTaken ring.old }
-    requires full { ¬ MayGrant ring.old.chapter }
-    requires number { ring.old.chapter.number < 2 ^ 62 }
-    requires spare { IsSpareOf ring.old spare.old }
-    ensures turned { MakesChapterRoom ring.old ring.new }
-    ensures room { MayGrant ring.new.chapter }
-    ensures spare { IsSpareOf ring.new spare.new }
+    requires all_taken { AllTaken ring.old.state.ring }
+    requires full { ¬ MayGrant ring.old.state.ring.chapter }
+    requires number { ring.old.state.ring.chapter.number < 2 ^ 62 }
+    requires spare { IsSpareOf ring.old.state.ring spare.old }
+    ensures turned { MakesChapterRoom ring.old.state.ring ring.new.state.ring }
+    ensures room { MayGrant ring.new.state.ring.chapter }
+    ensures spare { IsSpareOf ring.new.state.ring spare.new }
 {
     ring.facts();
     let Some(empty) = spare.take() else {

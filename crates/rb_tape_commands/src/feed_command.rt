@@ -1,6 +1,6 @@
 //! Payloads in, their tape out.
 
-ghost use Rattle.std.specs.Prelude.{◌≡◌, ◌≢◌, [], ◌+◌, ◌<◌, ◌≤◌, ◌↔◌, List, ℕ, Some, Err, IsErrOf, IfOk, IfErr, IfSome, OnOk, false, length};
+ghost use Rattle.std.specs.Prelude.{◌≡◌, ◌≢◌, [], ◌+◌, ◌<◌, ◌≤◌, ◌⊎◌, ◌↔◌, List, ℕ, None, Some, Err, IsErrOf, IfOk, IfErr, IfSome, OnOk, length};
 ghost use Rattle.rb_header.specs.Span.{span};
 ghost use Rattle.rb_history.specs.RingModel.{IsRingSize, IsStartPosition};
 ghost use Rattle.rb_chapter.specs.ChapterRoom.{MayGrant};
@@ -9,6 +9,7 @@ ghost use Rattle.rb_tape_commands.specs.ChapterTurns.{IsSpareOf};
 ghost use Rattle.rb_tape_commands.specs.inner.OpenedFeed.{IsOpenedFeed};
 ghost use Rattle.rb_tape_commands.specs.Feed.{FeedResult, FeedAnswerMatches, AnswersAlone};
 ghost use Rattle.rb_tape_commands.specs.inner.PayloadSteps.{FeedsOne, IsOpeningFault};
+ghost use Rattle.rb_tape_commands.specs.Retries.{HandsOutAtEnd};
 ghost use Rattle.rb_tape_commands.specs.Transfer.{MovesOn};
 
 use crate::chapter_turns::make_chapter_room;
@@ -36,19 +37,20 @@ fn feed_one<W: Write>(
     number: u64,
     retries: &mut u32,
 ) -> Result<Sheet, FeedFault>
-    requires all_taken { AllTaken ring.old }
-    requires chapter_room { MayGrant ring.old.chapter }
-    requires worker { 0 < ring.old.chapter.opening.setup.workers }
-    requires size { IsRingSize ring.old.chapter.opening.setup.size }
-    requires tape_size { tape.old.size ≡ ring.old.chapter.opening.setup.size }
-    requires position { tape.old.position ≡ producer_now ring.old }
-    requires finished { tape.old.unfinished ≡ false }
-    requires room { span (length payload) < ring.old.chapter.opening.setup.size }
+    requires all_taken { AllTaken ring.old.state.ring }
+    requires chapter_room { MayGrant ring.old.state.ring.chapter }
+    requires worker { 0 < ring.old.state.ring.chapter.opening.setup.workers }
+    requires size { IsRingSize ring.old.state.ring.chapter.opening.setup.size }
+    requires tape_size { tape.old.size ≡ ring.old.state.ring.chapter.opening.setup.size }
+    requires position { tape.old.position ≡ producer_now ring.old.state.ring }
+    requires finished { tape.old.unfinished ≡ None }
+    requires room { span (length payload) < ring.old.state.ring.chapter.opening.setup.size }
     ensures fed { FeedsOne tape.old.size tape.old.position number payload (W.contents tape.old.writer) (W.contents tape.new.writer) result }
-    ensures moves_on { OnOk result (MovesOn ring.old ring.new (length payload)) }
+    ensures moves_on { OnOk result (MovesOn ring.old.state.ring ring.new.state.ring (length payload)) }
     ensures size { tape.new.size ≡ tape.old.size }
     ensures position { OnOk result (tape.new.position ≡ tape.old.position + span (length payload)) }
-    ensures finished { OnOk result (tape.new.unfinished ≡ false) }
+    ensures finished { OnOk result (tape.new.unfinished ≡ None) }
+    ensures fewer { retries.new ≤ retries.old }
 {
     let (position, payload) = transfer_payload(ring, payload, number)?;
     let item = Item::Event(Event {
@@ -76,11 +78,12 @@ fn feed_all<R: BufRead, W: Write>(
 ) -> Result<(u64, u64), FeedFault>
     requires size { IsRingSize size }
     requires start { IsStartPosition tape.old.position }
-    requires opened { IsOpenedFeed ROOM size tape.old.position ring.old spare_chapter.old }
+    requires opened { IsOpenedFeed ROOM size tape.old.position ring.old.state.ring spare_chapter.old }
     requires tape_size { tape.old.size ≡ size }
-    requires finished { tape.old.unfinished ≡ false }
+    requires finished { tape.old.unfinished ≡ None }
     ensures fed { FeedResult (record { size = size; start = tape.old.position; input_before = R.remaining reader.old; input_after = R.remaining reader.new; output_before = W.contents tape.old.writer; output_after = W.contents tape.new.writer }) result }
     ensures no_bounds { (result ≢ Err FeedFault.Size) × (result ≢ Err FeedFault.Start) }
+    ensures fewer { retries.new ≤ retries.old }
 {
     let mut number = 0;
     while let Some(payload) = next_payload(reader, spare, size, number)? {
@@ -114,6 +117,9 @@ pub fn feed<R: BufRead, W: Outgoing>(
     // Nothing of it waits in the writer, where nothing did before and no device failed.
     ensures handed_on { W.waiting writer ≡ [] → result.0 ≢ Err FeedFault.Device → W.waiting result.1 ≡ [] }
 
+    // A writer is handed back as it was, or was at last called to hand on, with no more retries than are given.
+    ensures handed_out { (result.1 ≡ writer) ⊎ HandsOutAtEnd W.hands_out retries result.0 result.1 }
+
     // Which answer it is.
     ensures size { IsErrOf result.0 FeedFault.Size ↔ ¬ IsRingSize size }
     ensures start { IsErrOf result.0 FeedFault.Start ↔ (IsRingSize size × ¬ IsStartPosition start) }
@@ -133,13 +139,13 @@ fn open(
     size: u64,
     start: u64,
 ) -> Result<(RingState, Option<Chapter>, Sheet), FeedFault>
-    ensures opened { IfOk result (λ opened. IsOpenedFeed ROOM size start opened.0 opened.1) }
+    ensures opened { IfOk result (λ opened. IsOpenedFeed ROOM size start opened.0.state.ring opened.1) }
     ensures bounds { OnOk result (IsRingSize size × IsStartPosition start) }
     ensures size { IsErrOf result FeedFault.Size ↔ ¬ IsRingSize size }
     ensures start { IsErrOf result FeedFault.Start ↔ (IsRingSize size × ¬ IsStartPosition start) }
     ensures memory { IfErr result IsOpeningFault }
 {
-    let ring = match RingState::new(alloc, size, start, 1, ROOM) {
+    let ring = match RingState::new(alloc, 0, size, start, 1, ROOM) {
         Ok(ring) => ring,
         Err(OpenFault::Size) => return Err(FeedFault::Size),
         Err(OpenFault::Start) => return Err(FeedFault::Start),
@@ -166,9 +172,10 @@ fn feed_ring<R: BufRead, W: Outgoing>(
 ) -> (Result<(u64, u64), FeedFault>, W)
     requires size { IsRingSize size }
     requires start { IsStartPosition start }
-    requires opened { IsOpenedFeed ROOM size start opened.0 opened.1 }
+    requires opened { IsOpenedFeed ROOM size start opened.0.state.ring opened.1 }
     ensures fed { FeedResult (record { size = size; start = start; input_before = R.remaining reader.old; input_after = R.remaining reader.new; output_before = W.contents writer; output_after = W.contents result.1 }) result.0 }
     ensures handed_on { result.0 ≢ Err FeedFault.Device → W.waiting result.1 ≡ [] }
+    ensures handed_out { HandsOutAtEnd W.hands_out retries result.0 result.1 }
     ensures no_bounds { (result.0 ≢ Err FeedFault.Size) × (result.0 ≢ Err FeedFault.Start) }
 {
     let (mut ring, mut spare_chapter, spare) = opened;

@@ -1,31 +1,34 @@
 //! A record that is taken up again where a write failed.
 
-ghost use Rattle.std.specs.Prelude.{◌≡◌, ◌<◌, ◌≤◌, ◌+◌, [], false, not, is_ok, if◌then◌else◌, take, OnOk, OnErr};
+ghost use Rattle.std.specs.Prelude.{◌≡◌, ◌<◌, ◌≤◌, ◌+◌, [], None, Some, is_ok, if◌then◌else◌, take, OnOk, OnErr};
 ghost use Rattle.std.specs.Io.KnownBytes.{Appends, Keeps};
 ghost use Rattle.rb_header.specs.TapeBytes.{item_bytes, item_span, IsItemAt};
 ghost use Rattle.rb_tape.specs.Items.{item_of};
+ghost use Rattle.rb_tape_commands.specs.Retries.{TriesToHandOut};
 
 use rb_io::{DeviceFault, Outgoing};
 use rb_tape::{Item, TapeWriter};
 use std::io::Write;
 
 /// Writes the record as `TapeWriter::put` does, and has its rest written again after each write that failed, as long as there are
-/// `retries`; each one takes one away. An error comes only once none is left.
+/// `retries`; each one takes one away, and no more are made. An error comes only once none is left.
 pub(crate) fn put_with_retries<W: Write>(
     tape: &mut TapeWriter<W>,
     item: &Item<'_>,
     retries: &mut u32,
 ) -> Result<(), DeviceFault>
-    requires finished { tape.old.unfinished ≡ false }
+    requires finished { tape.old.unfinished ≡ None }
     requires stands { IsItemAt tape.old.size tape.old.position (item_of item.now) }
     ensures bytes { Appends (W.contents tape.old.writer) (W.contents tape.new.writer) (take tape.new.sent (item_bytes tape.old.size (item_of item.now))) }
     ensures all_sent { OnOk result (tape.new.sent ≡ item_span (item_of item.now)) }
     ensures not_all_sent { OnErr result (tape.new.sent < item_span (item_of item.now)) }
-    ensures unfinished { tape.new.unfinished ≡ not (is_ok result) }
+    ensures unfinished { tape.new.unfinished ≡ (if is_ok result then None else Some (item_of item.now)) }
     ensures size { tape.new.size ≡ tape.old.size }
     ensures position { tape.new.position ≡ (if is_ok result then tape.old.position + item_span (item_of item.now) else tape.old.position) }
     ensures fewer { retries.new ≤ retries.old }
     ensures none_left { OnErr result (retries.new ≡ 0) }
+    ensures each_failure_takes_one { OnOk result (tape.new.failures + retries.new ≡ tape.old.failures + retries.old) }
+    ensures all_failed { OnErr result (tape.new.failures ≡ tape.old.failures + retries.old + 1) }
 {
     if tape.put(item).is_ok() {
         return Ok(());
@@ -39,21 +42,21 @@ pub(crate) fn put_with_retries<W: Write>(
     Err(DeviceFault)
 }
 
-/// Has the writer hand on all that waits in it, again after each time that this failed, at most `retries` times.
+/// Has the writer hand on all that waits in it, again after each time that this failed, `retries` times and no more.
 pub(crate) fn hand_out_with_retries<W: Outgoing>(
     writer: &mut W,
     retries: u32,
 ) -> Result<(), DeviceFault>
     ensures bytes { Keeps (W.contents writer.old) (W.contents writer.new) }
     ensures nothing_waits { OnOk result (W.waiting writer.new ≡ []) }
+    ensures tried { TriesToHandOut W.hands_out retries writer.old (is_ok result) writer.new }
 {
-    if writer.hand_out().is_ok() {
-        return Ok(());
-    }
-    for _ in 0..retries {
-        if writer.hand_out().is_ok() {
-            return Ok(());
+    let mut left = retries;
+    while writer.hand_out().is_err() {
+        if left == 0 {
+            return Err(DeviceFault);
         }
+        left -= 1;
     }
-    Err(DeviceFault)
+    Ok(())
 }

@@ -11,6 +11,7 @@ use crate::tape_lines::gather_lines;
 use crate::tape_refusal::TapeRefusal;
 use rb_history::OpenFault;
 use rb_io::{Outgoing, write_out};
+use rb_json::LineForm;
 use rb_reader::Feed;
 use std::alloc::Global;
 use std::io::{Read, Write};
@@ -19,7 +20,7 @@ use std::io::{Read, Write};
 const PIECE: usize = 4096;
 
 /// Reads a tape of a ring of `size` bytes whose first record stands at `start`, in pieces of at most 4,096 bytes, and prints a line for
-/// each record: `pos P len N HEX`, an empty payload as `-`, or `pos P len N discarded`. The records are the longest list whose tape begins
+/// each record: `pos P len N HEX`, an empty payload as `-`, or `pos P len N discarded`, or the same as an object of JSON. The records are the longest list whose tape begins
 /// the input. `Record` where bytes are left behind them, with what is wrong there.
 ///
 /// `Size` and `Start` come before anything is read. Whatever is returned, the lines of the records before were printed and handed on, unless
@@ -30,8 +31,9 @@ pub fn tape<R: Read, W: Outgoing>(
     out: &mut W,
     size: u64,
     start: u64,
+    form: LineForm,
 ) -> Result<(), TapeRefusal>
-    ensures answer { IfSome (R.remaining input.old) (λ tape. TapeAnswer size start tape (W.contents out.old) (W.contents out.new) result) }
+    ensures answer { IfSome (R.remaining input.old) (λ tape. TapeAnswer form size start tape (W.contents out.old) (W.contents out.new) result) }
     ensures handed_on { W.waiting out.old ≡ [] → result ≢ Err TapeRefusal.Device → W.waiting out.new ≡ [] }
     ensures size { IsErrOf result TapeRefusal.Size ↔ ¬ IsRingSize size }
     ensures start { IsErrOf result TapeRefusal.Start ↔ (IsRingSize size × ¬ IsStartPosition start) }
@@ -45,7 +47,7 @@ pub fn tape<R: Read, W: Outgoing>(
         Err(OpenFault::Memory) => unreachable!(),
     };
     let mut lines = Lines::new(alloc);
-    let printed = print_pieces(&mut feed, input, out, &mut lines);
+    let printed = print_pieces(alloc, &mut feed, input, out, &mut lines, form);
     match out.hand_out() {
         Ok(()) => printed,
         Err(_) => Err(TapeRefusal::Device),
@@ -54,14 +56,16 @@ pub fn tape<R: Read, W: Outgoing>(
 
 // Piece after piece, until the input ends or a record is refused.
 fn print_pieces<R: Read, W: Write>(
+    alloc: Global,
     feed: &mut Feed,
     input: &mut R,
     out: &mut W,
     lines: &mut Lines,
+    form: LineForm,
 ) -> Result<(), TapeRefusal>
     requires size { IsRingSize feed.old.size }
     requires fresh { feed.old ≡ reading_from feed.old.size feed.old.start [] }
-    ensures answer { IfSome (R.remaining input.old) (λ tape. TapeAnswer feed.old.size feed.old.start tape (W.contents out.old) (W.contents out.new) result) }
+    ensures answer { IfSome (R.remaining input.old) (λ tape. TapeAnswer form feed.old.size feed.old.start tape (W.contents out.old) (W.contents out.new) result) }
     ensures no_bounds { (result ≢ Err TapeRefusal.Size) × (result ≢ Err TapeRefusal.Start) }
 {
     let mut piece = [0; PIECE];
@@ -76,7 +80,7 @@ fn print_pieces<R: Read, W: Write>(
         if feed.feed(&piece[..count]).is_err() {
             return Err(TapeRefusal::Memory);
         }
-        let gathered = gather_lines(feed, lines);
+        let gathered = gather_lines(alloc, feed, lines, form);
         if write_out(out, lines.text()) < lines.text().len() {
             return Err(TapeRefusal::Device);
         }

@@ -1,44 +1,53 @@
 //! The lines of a tape's records.
 
-ghost use Rattle.std.specs.Prelude.{◌≡◌, ◌<◌, ◌≤◌, ◌+◌, ◌*◌, ◌^◌, ◌++◌, None, OnOk, length};
+ghost use Rattle.std.specs.Prelude.{◌≡◌, ◌<◌, ◌≤◌, ◌+◌, ◌*◌, ◌^◌, ◌++◌, None, IfOk, OnErr, OnOk, length};
 ghost use Rattle.rb_reader.specs.TapeReading.{HasItsLength, item_read};
 ghost use Rattle.rb_io.specs.Lines.{hex_text};
-ghost use Rattle.rb_tape_commands.specs.TapeText.{tape_line};
+ghost use Rattle.rb_tape_commands.specs.TapeText.{tape_line, tape_line_as, tape_object};
 ghost use Rattle.rb_tape_commands.specs.inner.LineGathering.{GathersLines, GathersNext};
 
 use crate::lines::Lines;
 use crate::tape_refusal::TapeRefusal;
 use itoa::Buffer;
+use rb_json::{LineForm, push_field, push_payload};
 use rb_reader::{Feed, Record};
+use std::alloc::{AllocError, Global};
 
 // What a line takes but for its hex digits, at most: its words, two numbers of 20 and 10 digits, and its end.
 const FRAME: usize = 64;
 
 /// Gathers the lines of the records that the reader has, so that they go out at once. What the list had before is given up. At an error it has
 /// the lines of the records before.
-pub(crate) fn gather_lines(feed: &mut Feed, lines: &mut Lines) -> Result<(), TapeRefusal>
+pub(crate) fn gather_lines(
+    alloc: Global,
+    feed: &mut Feed,
+    lines: &mut Lines,
+    form: LineForm,
+) -> Result<(), TapeRefusal>
     requires no_fault { feed.old.told ≡ None }
-    ensures gathered { GathersLines feed.old feed.new lines.new.text result }
+    ensures gathered { GathersLines form feed.old feed.new lines.new.text result }
 {
     lines.clear();
-    'records: while gather_next(feed, lines)? {}
+    'records: while gather_next(alloc, feed, lines, form)? {}
     Ok(())
 }
 
 // Adds the line of the next record that the reader has, and says whether there was one.
-fn gather_next(feed: &mut Feed, lines: &mut Lines) -> Result<bool, TapeRefusal>
+fn gather_next(
+    alloc: Global,
+    feed: &mut Feed,
+    lines: &mut Lines,
+    form: LineForm,
+) -> Result<bool, TapeRefusal>
     requires no_fault { feed.old.told ≡ None }
-    ensures gathered { GathersNext feed.old feed.new lines.old.text lines.new.text result }
+    ensures gathered { GathersNext form feed.old feed.new lines.old.text lines.new.text result }
 {
     match feed.next() {
         None => Ok(false),
-        Some(Ok(record)) => {
-            if lines.reserve(FRAME + 2 * record.bytes.len()).is_err() {
-                return Err(TapeRefusal::Memory);
-            }
-            put_line(lines, &record);
-            Ok(true)
-        }
+        Some(Ok(record)) => match push_as(alloc, lines, &record, form) {
+            Ok(()) => Ok(true),
+            Err(_) => Err(TapeRefusal::Memory),
+        },
         Some(Err(fault)) => Err(TapeRefusal::Record {
             kind: fault.kind,
             offset: fault.offset,
@@ -46,7 +55,70 @@ fn gather_next(feed: &mut Feed, lines: &mut Lines) -> Result<bool, TapeRefusal>
     }
 }
 
-// Adds the line of a record.
+// Adds the line of a record in this form; nothing where there is no memory for it.
+fn push_as(
+    alloc: Global,
+    lines: &mut Lines,
+    found: &Record<'_>,
+    form: LineForm,
+) -> Result<(), AllocError>
+    requires length { HasItsLength found.now }
+    requires short { length found.now.bytes.now < 2 ^ 32 }
+    ensures line { OnOk result (lines.new.text ≡ lines.old.text ++ tape_line_as form (item_read found.now)) }
+    ensures nothing { OnErr result (lines.new.text ≡ lines.old.text) }
+{
+    match form {
+        LineForm::Words => push_line(lines, found),
+        LineForm::Json => push_object(alloc, lines, found),
+    }
+}
+
+// The same in words.
+fn push_line(lines: &mut Lines, found: &Record<'_>) -> Result<(), AllocError>
+    requires length { HasItsLength found.now }
+    requires short { length found.now.bytes.now < 2 ^ 32 }
+    ensures line { OnOk result (lines.new.text ≡ lines.old.text ++ tape_line (item_read found.now)) }
+    ensures nothing { OnErr result (lines.new.text ≡ lines.old.text) }
+{
+    lines.reserve(FRAME + 2 * found.bytes.len())?;
+    put_line(lines, found);
+    Ok(())
+}
+
+// The same as an object of JSON.
+fn push_object(alloc: Global, lines: &mut Lines, found: &Record<'_>) -> Result<(), AllocError>
+    requires length { HasItsLength found.now }
+    ensures line { OnOk result (lines.new.text ≡ lines.old.text ++ tape_object (item_read found.now)) }
+    ensures nothing { OnErr result (lines.new.text ≡ lines.old.text) }
+{
+    let object = object_of(alloc, found)?;
+    if object.len() >= 1 << 34 {
+        return Err(AllocError);
+    }
+    lines.reserve(object.len())?;
+    lines.put(object.as_slice());
+    Ok(())
+}
+
+// The object of a record.
+fn object_of(alloc: Global, found: &Record<'_>) -> Result<Vec<u8>, AllocError>
+    requires length { HasItsLength found.now }
+    ensures object { IfOk result (λ object. object.items ≡ tape_object (item_read found.now)) }
+{
+    let mut object = Vec::new(alloc);
+    push_field(&mut object, b"{\"pos\":", found.pos)?;
+    push_field(&mut object, b",\"len\":", u64::from(found.len))?;
+    if found.discarded {
+        object.extend_from_slice(b",\"discarded\":true}\n")?;
+        return Ok(object);
+    }
+    object.extend_from_slice(b",\"discarded\":false,")?;
+    push_payload(alloc, &mut object, found.bytes)?;
+    object.extend_from_slice(b"}\n")?;
+    Ok(object)
+}
+
+// Puts the line of a record behind the lines.
 fn put_line(lines: &mut Lines, found: &Record<'_>)
     requires length { HasItsLength found.now }
     requires short { length found.now.bytes.now < 2 ^ 32 }

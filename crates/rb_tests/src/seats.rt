@@ -95,12 +95,17 @@ fn outputs_and_queries_are_answered(rt: HostRuntime) {
     else {
         rt.panic("no memory")
     };
-    assert_eq!(rt; helpers.output(0, [5, 6].as_slice(), 0), 0);
-    assert_eq!(rt; helpers.query(0, 0), 16);
-    assert_eq!(rt; helpers.query(0, 1), 4096);
-    assert_eq!(rt; helpers.query(0, 2), 0);
-    assert_eq!(rt; helpers.query(0, 9), 0);
-    assert_eq!(rt; helpers.unlogged(), 0);
+    let output = helpers.output(0, [5, 6].as_slice(), 0);
+    let told = [
+        helpers.query(0, 0),
+        helpers.query(0, 1),
+        helpers.query(0, 2),
+        helpers.query(0, 9),
+    ];
+    assert_eq!(rt;
+        (output, told, helpers.unlogged()),
+        (0, [16, 4096, 0, 0], 0)
+    );
     let seats = helpers.into_seats();
     assert_eq!(rt; seats.first().map(counts), Some((1, 0, 1, 0)));
     let (pos, worker, serial, sheet) = taken(&rt, &rings[0], &mut consumer);

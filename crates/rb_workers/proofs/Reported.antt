@@ -22,7 +22,7 @@ use Rattle.rb_workers.specs.declared.opened.Ended.{Ended}
 use Rattle.rb_workers.specs.declared.opened.Report.{Report}
 use Rattle.rb_workers.specs.declared.workers.Worker.{Worker}
 use Rattle.rb_workers.specs.inner.RingEnds.{Closes}
-use Rattle.rb_workers.specs.JobRuns.{own_jobs, is_stray}
+use Rattle.rb_workers.specs.JobRuns.{JobRun, own_jobs, is_stray}
 use Rattle.rb_workers.specs.inner.WorkerRuns.{RunsJobs, RunsOwnJobs, own_answers}
 use Rattle.rb_workers.specs.Opened.{AreOpened, IsKeeperFor, IsOpened, SinkGetsTaken, workers_of}
 use Rattle.rb_workers.specs.Reports.{RingsEnd, ring_at_end, IsHandedBack, IsReport, RunsFirst, has_unknown_ring, has_unknown_worker}
@@ -33,6 +33,7 @@ use Rattle.rb_seats.proofs.Lists.{zip_length}
 use Rattle.rb_workers.proofs.Same.{opened_long, list_head, list_tail}
 use Rattle.rb_workers.proofs.Totals.{results_of_runs, runs_of, report_of_runs, unlogged_of_runs}
 use Rattle.rb_workers.proofs.SinkItems.{gets_at_close}
+use Rattle.rb_workers.proofs.Strays.{none_strays}
 use Rattle.rb_workers.proofs.Parts.{all_first, all_rest}
 
 -- ---- rings
@@ -159,7 +160,7 @@ each_told count jobs answers old new workers len ran merged k below =
 pub reported : {S : Type 0} (position : S → ℕ) (takes : S → SinkItem → S → Type 0) (opened back : List (Opened S)) (jobs : List Job) (answers : List JobAnswer) (report : Report S) → AreOpened position opened → IsHandedBack position takes opened jobs back
     → length answers ≡ length jobs → All (λ j. j.worker < workers_of opened) jobs
     → ((k : ℕ) → k < workers_of opened → RunsJobs (own_jobs k jobs) (own_answers k jobs answers) (worker_column k (seat_rows opened)) (worker_column k (seat_rows back)))
-    → AllZip Closes back report.rings.items → report.answers.items ≡ map (λ a. a.result) answers → report.strays ≡ count_by is_stray report.answers.items → report.unlogged ≡ sum_by (λ a. a.unlogged) answers
+    → AllZip Closes back report.rings.items → report.answers.items ≡ map (λ a. a.result) answers → report.strays ≡ 0 → report.unlogged ≡ sum_by (λ a. a.unlogged) answers
     → IsReport position takes opened jobs report
 reported position takes opened back jobs answers report all handed len known ran closes results strays unlogged =
     let count = workers_of opened in
@@ -167,6 +168,7 @@ reported position takes opened back jobs answers report all handed len known ran
     let told = report_of_runs count jobs answers (seat_rows opened) (seat_rows back) (opened_long position count opened all) (opened_long position count back again) len known ran in
     let failed = told.failures_add_up in
     let unlogged_is : report.unlogged ≡ sum_by (λ run. run.answer.unlogged) told.runs = unlogged ∙ (ap (sum_by (λ (a : JobAnswer). a.unlogged)) (sym told.answers_are) ∙ unlogged_of_runs told.runs) in
+    let answers_are : report.answers.items ≡ map (λ (r : JobRun). r.answer.result) told.runs = results ∙ (ap (map (λ (a : JobAnswer). a.result)) (sym told.answers_are) ∙ results_of_runs told.runs) in
     record {
       seats = seat_rows back;
       runs = told.runs;
@@ -174,8 +176,8 @@ reported position takes opened back jobs answers report all handed len known ran
       rings_end = rings_end position takes opened back report.rings.items count again handed.rings_same handed.seats_same handed.consumers_same handed.consumers_begin handed.seats_begin handed.sinks_given closes;
       worked = told.turns;
       runs_match = told.runs_match;
-      answers_are = results ∙ (ap (map (λ (a : JobAnswer). a.result)) (sym told.answers_are) ∙ results_of_runs told.runs);
-      strays_are = strays;
+      answers_are = answers_are;
+      strays_are = strays ∙ sym (ap (count_by is_stray) answers_are ∙ none_strays told.runs told.runs_match);
       unlogged_is = unlogged_is;
       numbers_rose = told.numbers_rose;
       failures_add_up = omega (arith, failed, unlogged_is);

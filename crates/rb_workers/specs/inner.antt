@@ -3,4 +3,5 @@ pub mod GatheredAnswers
 pub mod ReportAnswers
 pub mod RingEnds
 pub mod RunBuffers
+pub mod StoredAnswers
 pub mod WorkerRuns

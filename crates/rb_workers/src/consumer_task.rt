@@ -10,7 +10,7 @@ ghost use Rattle.rb_workers.specs.inner.ConsumerTasks.{IsConsumerTaskOf, IsSameC
 use crate::pace::Pace;
 use crate::sink::Sink;
 use rb_consumer::{Batch, Keeper};
-use rb_seats::Stock;
+use rb_seats::{SHORT, Stock};
 use rb_shared_ring::{ConsumerSeat, Foreign, Seat, SharedRing};
 use rb_tape::{Item, Items};
 use std::sync::Wait;
@@ -51,13 +51,16 @@ impl<S: Sink> ConsumerTask<S> {
         }
     }
 
-    // Hands the sheets of the records that were taken last to the stock. One that finds no place there is dropped.
+    // Hands the sheets of the records that were taken last to the stock, where one of them is worth a place there. One that finds none is dropped.
     fn hand_on<K: Stock>(&mut self, stock: &K, count: usize)
         ensures consumer { self.new.consumer ≡ self.old.consumer }
         ensures keeper { self.new.keeper ≡ self.old.keeper }
         ensures sink { self.new.sink ≡ self.old.sink }
         ensures seats { self.new.returned_seats ≡ self.old.returned_seats }
     {
+        if !self.batch.has_longer(SHORT) {
+            return;
+        }
         for _ in 0..count {
             let Some(sheet) = self.batch.recycle() else {
                 break;

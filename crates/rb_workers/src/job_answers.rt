@@ -1,8 +1,8 @@
 //! The answers of all jobs, in the list's order.
 
 ghost use Rattle.std.specs.Prelude.{ℕ, ◌≡◌, ◌<◌, ◌≤◌, [], All, length, slice_index_or, true, vec_capacity};
-ghost use Rattle.std.specs.List.{count_by, list_any};
-ghost use Rattle.rb_workers.specs.JobRuns.{own_jobs, is_stray};
+ghost use Rattle.std.specs.List.{list_any};
+ghost use Rattle.rb_workers.specs.JobRuns.{own_jobs};
 ghost use Rattle.rb_workers.specs.inner.GatheredAnswers.{GathersAnswers};
 
 use crate::workers::Worker;
@@ -50,17 +50,4 @@ pub(crate) fn gather_answers(
     }
     results.reverse();
     Gathered { results, unlogged }
-}
-
-/// How many runs answered `Stray`.
-pub(crate) fn count_strays(results: &[Result<u64, RunFault>]) -> u64
-    ensures { result ≡ count_by is_stray results.now }
-{
-    let mut strays = 0;
-    for result in results {
-        if matches!(result, Err(RunFault::Stray)) {
-            strays += 1;
-        }
-    }
-    strays
 }

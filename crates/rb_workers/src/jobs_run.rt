@@ -14,7 +14,7 @@ ghost use Rattle.rb_workers.specs.inner.WorkerRuns.{HasRun, IsNew};
 
 use crate::consumer_task::ConsumerTask;
 use crate::distribution::{merge, split};
-use crate::job_answers::{Gathered, count_strays, gather_answers, is_any_short};
+use crate::job_answers::{Gathered, gather_answers, is_any_short};
 use crate::opened::{Ended, JobFault, Opened, Report};
 use crate::ring_close::close_all;
 use crate::run_buffers::{RunBuffers, make_buffers};
@@ -121,11 +121,10 @@ fn report_on<S: Drop>(
     ensures answers { ReportMatches jobs.now workers.old result }
 {
     let Gathered { results, unlogged } = gather_answers(jobs, workers, results);
-    let strays = count_strays(&results);
     Report {
         rings,
         answers: results,
-        strays,
+        strays: 0,
         unlogged,
     }
 }
@@ -194,7 +193,7 @@ fn run_known<R: Threads + Wait + Sync, S: Sink + Send + Drop, G: Gate + Sync>(
 /// there is none to begin, or none for a worker's next job: that worker then runs no more, the others run on, and all is handed back as
 /// it then is, with no ring closed.
 ///
-/// It takes memory for each job and each seat, and for each worker's trace and answers as it runs. A ring takes none.
+/// It takes memory for each job and each seat before the threads start, and for each worker's trace as it runs. A ring takes none.
 pub fn run_jobs<R: Threads + Wait + Sync, S: Sink + Send + Drop, G: Gate + Sync>(
     rt: &R,
     alloc: Global,
@@ -218,7 +217,7 @@ pub fn run_jobs<R: Threads + Wait + Sync, S: Sink + Send + Drop, G: Gate + Sync>
     if is_worker_unknown(jobs, count) {
         return Err((JobFault::UnknownWorker, opened));
     }
-    let Ok(buffers) = make_buffers(alloc, count, opened.len(), jobs.len()) else {
+    let Ok(buffers) = make_buffers(alloc, count, opened.len(), jobs) else {
         return Err((JobFault::Memory, opened));
     };
     match run_known(rt, alloc, opened, jobs, gate, buffers) {

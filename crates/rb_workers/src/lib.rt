@@ -26,6 +26,7 @@ mod pace;
 mod ring_close;
 mod run_buffers;
 mod sink;
+mod stored_answer;
 mod threads;
 pub mod used_sheets;
 mod workers;

@@ -116,7 +116,7 @@ pub struct Report<S> {
     pub rings: Vec<Ended<S>>,
     /// What each job's run answered, in the order of the jobs.
     pub answers: Vec<Result<u64, RunFault>>,
-    /// How many of the answers are `Stray`.
+    /// How many of the answers are `Stray`: 0, as seats keep the records that they granted, and none is handed back.
     pub strays: u64,
     /// How many of the nulls for flags 0 and of the answers `-EAGAIN` of all calls no entry of a ring explains.
     pub unlogged: u128,

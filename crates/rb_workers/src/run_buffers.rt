@@ -1,6 +1,6 @@
 //! Memory for a whole run, taken before anything moves.
 
-ghost use Rattle.std.specs.Prelude.{ℕ, All, ◌≡◌, ◌<◌, ◌≤◌, [], IfOk, slice_index_or, vec_capacity, vec_len};
+ghost use Rattle.std.specs.Prelude.{ℕ, All, ◌≡◌, ◌<◌, ◌≤◌, [], IfOk, length, slice_index_or, vec_capacity, vec_len};
 ghost use Rattle.rb_workers.specs.inner.RunBuffers.{IsEmptyFor, HasRoomForRun};
 ghost use Rattle.rb_workers.specs.inner.WorkerRuns.{IsNew};
 
@@ -13,6 +13,7 @@ use crossbeam_queue::ArrayQueue;
 use rb_consumer::Batch;
 use rb_history::Tally;
 use rb_interp::RunFault;
+use rb_jobs::Job;
 use rb_lend::Sheet;
 use rb_shared_ring::SharedRing;
 use std::alloc::{AllocError, Global};
@@ -32,21 +33,41 @@ pub(crate) struct RunBuffers<S> {
     pub(crate) results: Vec<Result<u64, RunFault>>,
 }
 
-// So many workers, each with room for a seat at each ring.
-fn new_workers(alloc: Global, count: u32, rings: usize) -> Result<Vec<Worker>, AllocError>
+// How many of the jobs are each worker's, for the room of their answers. Jobs of no worker are passed over.
+fn count_jobs(alloc: Global, count: u32, jobs: &[Job<'_>]) -> Result<Vec<usize>, AllocError>
+    ensures len { IfOk result (λ v. vec_len v ≡ count) }
+{
+    let mut counts: Vec<usize> = vec![in alloc; 0; count as usize]?;
+    for job in jobs {
+        if job.worker < count {
+            let own = counts[job.worker as usize];
+            counts[job.worker as usize] = own.saturating_add(1);
+        }
+    }
+    Ok(counts)
+}
+
+// So many workers, each with room for a seat at each ring and for an answer of each of its jobs.
+fn new_workers(
+    alloc: Global,
+    count: u32,
+    rings: usize,
+    jobs: &[Job<'_>],
+) -> Result<Vec<Worker>, AllocError>
     ensures len { IfOk result (λ v. vec_len v ≡ count) }
     ensures each { IfOk result (λ v. (k : ℕ) (d : _) → k < count → IsNew k rings (slice_index_or v.items k d)) }
 {
+    let counts = count_jobs(alloc, count, jobs)?;
     let mut workers = Vec::with_capacity(alloc, count as usize)?;
     for number in 0..count {
         let seats = Vec::with_capacity(alloc, rings)?;
+        let answers = Vec::with_capacity(alloc, counts[number as usize])?;
         workers.push_reserved(Worker {
             number,
             calls: 0,
             short: false,
             seats,
-            trace: Vec::new(alloc),
-            answers: Vec::new(alloc),
+            answers,
         });
     }
     Ok(workers)
@@ -81,11 +102,11 @@ pub(crate) fn make_buffers<S: Drop>(
     alloc: Global,
     count: u32,
     rings: usize,
-    jobs: usize,
+    jobs: &[Job<'_>],
 ) -> Result<RunBuffers<S>, AllocError>
-    ensures roomy { IfOk result (HasRoomForRun count rings jobs) }
+    ensures roomy { IfOk result (HasRoomForRun count rings (length jobs.now)) }
 {
-    let workers = new_workers(alloc, count, rings)?;
+    let workers = new_workers(alloc, count, rings, jobs)?;
     let tallies = new_tallies(alloc, count, rings)?;
     let batches = new_batches(alloc, rings)?;
     let sheets = ArrayQueue::new(alloc, PLACES)?;
@@ -93,7 +114,7 @@ pub(crate) fn make_buffers<S: Drop>(
     let merged = Vec::with_capacity(alloc, rings)?;
     let ended = Vec::with_capacity(alloc, rings)?;
     let rings = Vec::with_capacity(alloc, rings)?;
-    let results = Vec::with_capacity(alloc, jobs)?;
+    let results = Vec::with_capacity(alloc, jobs.len())?;
     Ok(RunBuffers {
         rings,
         consumers,

@@ -1,29 +1,27 @@
 //! Workers, each with its seats and the answers of its jobs.
 
-ghost use Rattle.std.specs.Prelude.{◌≡◌, ◌<◌, ◌≤◌, All, if◌then◌else◌, length, vec_len, vec_capacity};
+ghost use Rattle.std.specs.Prelude.{◌≡◌, ◌<◌, ◌≤◌, [], All, false, if◌then◌else◌, length, vec_len, vec_capacity};
 ghost use Rattle.rb_seats.specs.SeatHelpers.{AtRings};
 ghost use Rattle.rb_workers.specs.JobRuns.{own_jobs};
-ghost use Rattle.rb_workers.specs.inner.WorkerRuns.{HasSpareSeat, IsOneMore, IsOneAnswerMore, IsReady, GivesBack, RunsJobs, RunsOne};
+ghost use Rattle.rb_workers.specs.inner.WorkerRuns.{HasSpareSeat, IsOneMore, IsOneAnswerMore, IsReady, GivesBack, RunsJobs, RunsOne, RunsOwnJobs};
 
-use rb_helpers::Done;
-use rb_interp::MachineRoom;
-use rb_jobs::{Gate, Job, JobAnswer, run_job_in};
-use rb_seats::{SeatRecord, Stock};
+use crate::stored_answer::StoredAnswer;
+use rb_jobs::{Gate, Job, JobAnswer, JobRunner};
+use rb_seats::Stock;
 use rb_shared_ring::{Seat, SharedRing};
 use std::alloc::Global;
 use std::mem;
 use std::sync::Wait;
 
 /// A worker: its number, how many helper calls it has finished, its seats in the order of the rings, the answers of its jobs in their
-/// order, and whether it was short of memory for a job. The memory of its last job's trace is used again for the next.
+/// order, and whether it was short of memory for a job.
 #[derive(Drop)]
 pub(crate) struct Worker {
     pub(crate) number: u32,
     pub(crate) calls: u64,
     pub(crate) short: bool,
     pub(crate) seats: Vec<Seat>,
-    pub(crate) trace: Vec<Done>,
-    pub(crate) answers: Vec<JobAnswer>,
+    pub(crate) answers: Vec<StoredAnswer>,
 }
 
 impl Worker {
@@ -52,7 +50,7 @@ impl Worker {
         ensures one_less { IsOneAnswerMore self.new self.old result }
     {
         match self.answers.pop() {
-            Some(answer) => answer,
+            Some(answer) => answer.answer(),
             None => unreachable!(),
         }
     }
@@ -60,45 +58,46 @@ impl Worker {
     // Runs one of the worker's jobs, and answers whether there was memory for it. Where there is none, nothing ran.
     fn run_one<'j, R: Wait, G: Gate, K: Stock>(
         &mut self,
-        rt: &R,
-        alloc: Global,
-        rings: &[SharedRing],
-        machine: &mut MachineRoom<'j, SeatRecord>,
+        runner: &mut JobRunner<'_, 'j, R, G, K>,
         job: &Job<'j>,
-        gate: &G,
-        stock: &K,
     ) -> bool
-        requires rings { job.now.program.now.rings ≤ length rings.now }
-        requires seats { AtRings rings.now self.old.seats.items }
+        requires rings { job.now.program.now.rings ≤ length runner.old.rings }
         ensures same { (self.new.number ≡ self.old.number) × (self.new.short ≡ self.old.short) }
-        ensures ran { RunsOne job.now result self.old self.new }
-        ensures seats { AtRings rings.now self.new.seats.items }
+        ensures rings { runner.new.rings ≡ runner.old.rings }
+        ensures ran { RunsOne job.now result self.old.answers.items runner.old.seats self.new.answers.items runner.new.seats }
     {
         if self.answers.reserve(1).is_err() {
             return false;
         }
-        let seats = mem::replace(&mut self.seats, Vec::new(alloc));
-        let trace = mem::replace(&mut self.trace, Vec::new(alloc));
-        let (answer, seats, trace) = run_job_in(
-            rt,
-            alloc,
-            rings,
-            seats,
-            trace,
-            machine,
-            job,
-            gate,
-            stock,
-            &mut self.calls,
-        );
-        self.seats = seats;
-        self.trace = trace;
-        match answer {
+        match runner.run(job) {
             Ok(answer) => {
-                self.answers.push_reserved(answer);
+                self.answers.push_reserved(StoredAnswer::of(answer));
                 true
             }
             Err(_) => false,
+        }
+    }
+
+    // Runs the worker's jobs in their order, up to the first that finds no memory.
+    fn run_all<'j, R: Wait, G: Gate, K: Stock>(
+        &mut self,
+        runner: &mut JobRunner<'_, 'j, R, G, K>,
+        jobs: &[Job<'j>],
+    )
+        requires rings { All (λ j. j.program.now.rings ≤ length runner.old.rings) jobs.now }
+        requires ready { (self.old.answers.items ≡ []) × (self.old.short ≡ false) }
+        ensures number { self.new.number ≡ self.old.number }
+        ensures rings { runner.new.rings ≡ runner.old.rings }
+        ensures ran { RunsOwnJobs (own_jobs self.old.number jobs.now) self.new.short self.new.answers.items runner.old.seats runner.new.seats }
+    {
+        for job in jobs {
+            if job.worker != self.number {
+                continue;
+            }
+            if !self.run_one(runner, job) {
+                self.short = true;
+                break;
+            }
         }
     }
 
@@ -117,16 +116,12 @@ impl Worker {
         requires ready { IsReady rings.now self.old }
         ensures returned { GivesBack rings.now jobs.now self.old self.new }
     {
-        let mut machine = MachineRoom::new();
-        for job in jobs {
-            if job.worker != self.number {
-                continue;
-            }
-            if !self.run_one(rt, alloc, rings, &mut machine, job, gate, stock) {
-                self.short = true;
-                break;
-            }
-        }
+        let seats = mem::replace(&mut self.seats, Vec::new(alloc));
+        let mut runner = JobRunner::new(rt, alloc, rings, seats, gate, stock, self.calls);
+        self.run_all(&mut runner, jobs);
+        let (seats, calls) = runner.into_seats();
+        self.seats = seats;
+        self.calls = calls;
         gate.at(self.number, self.calls);
     }
 }

@@ -1,15 +1,18 @@
 -- What a worker holds once a call was with_answer, and the answers of a ring in a book that has more.
-use Rattle.std.proofs.Common.{◌≡◌, ℕ, ◌<◌, List, [], ◌∷◌, ◌++◌, Option, Some, None, refl, sym, ap, subst, ◌∙◌, inl, inr, append-nil}
+use Rattle.std.proofs.Common.{◌≡◌, ℕ, List, [], ◌∷◌, ◌++◌, Option, Some, None, refl, sym, ap, subst, ◌∙◌, inl, inr, append-nil}
 use Rattle.std.specs.Prelude.{option_map}
 use Rattle.std.proofs.lemmas.Bool.{cases_eq, eq-eqb, ne_eqb}
 use Rattle.rb_history.specs.declared.answers.Taken.{Taken}
 use Rattle.rb_history.specs.RingModel.{Ring}
+use Rattle.rb_lend.specs.Ranges.{in_place_of}
+use Rattle.rb_chapter_ring.proofs.Written.{long-as}
+use Rattle.rb_hands.specs.Hands.{out_record}
 use Rattle.rb_interp.specs.StoredMemory.{held_record, others}
 use Rattle.rb_interleavings.specs.Worlds.{WorldRing, table_with}
 use Rattle.rb_interleavings.specs.CallsInWorld.{RingSteps, RecordOutcome, BadFlags, NoRoom, Made, WorkerReserves, WorkerOutputs, Unlogged}
 use Rattle.rb_interleavings.proofs.Tables.{eq_cases, placed-here, placed-else}
 use Rattle.rb_world.specs.declared.world_record.WorldRecord.{WorldRecord}
-use Rattle.rb_world.specs.inner.FittingWorlds.{AreOwn}
+use Rattle.rb_world.specs.inner.HeldInHands.{Mark, mark_of, AllHeld, WasHeld}
 use Rattle.rb_world.specs.inner.RingAnswers.{untaken_ring}
 
 abbrev Held : Type 0
@@ -68,41 +71,46 @@ module _ (taken : List Taken) where
   outputs-within w bytes flags NoRoom v v' h = (h.0, moved-within _ v v' h.1)
   outputs-within w bytes flags (Made p k) v v' h = (h.0, h.1, h.2, moved-within _ v v' h.3)
 
--- ---- whose the records of a worker are
+-- ---- what is so of each record that a worker holds
 
-abbrev pub seal : WorldRecord → ℕ × ℕ
-seal x = (x.ring, x.reservation.worker)
+module _ (P : Mark → Type 0) where
+  abbrev Marked : Held → Type 0
+  Marked rs = (id : ℕ) (q : Mark) → shown mark_of rs id ≡ Some q → P q
 
-abbrev Sealed : (w rings : ℕ) → Held → Type 0
-Sealed w rings rs = (id : ℕ) (q : ℕ × ℕ) → shown seal rs id ≡ Some q → (q.0 < rings) × (q.1 ≡ w)
-
-module _ (w rings : ℕ) where
-  sealed : (rs : Held) → AreOwn w rings rs → Sealed w rings rs
-  sealed rs own id q e = by_case (held_record id rs) (own id) q e
+  marked : (rs : Held) → AllHeld P rs → Marked rs
+  marked rs all id q e = by_case (held_record id rs) (all id) q e
     where
-      by_case : (o : Option WorldRecord) → ((x : WorldRecord) → o ≡ Some x → (x.ring < rings) × (x.reservation.worker ≡ w)) → (q : ℕ × ℕ) → option_map seal o ≡ Some q → (q.0 < rings) × (q.1 ≡ w)
-      by_case None own q e = absurd (cc)
-      by_case (Some x) own q e = let same : seal x ≡ q = cc in subst (λ (y : ℕ × ℕ). (y.0 < rings) × (y.1 ≡ w)) same (own x refl)
+      by_case : (o : Option WorldRecord) → ((x : WorldRecord) → o ≡ Some x → P (mark_of x)) → (q : Mark) → option_map mark_of o ≡ Some q → P q
+      by_case None each q e = absurd (cc)
+      by_case (Some x) each q e = let same : mark_of x ≡ q = cc in subst P same (each x refl)
 
-  unsealed : (rs : Held) → Sealed w rings rs → AreOwn w rings rs
-  unsealed rs own id x e = own id (seal x) (ap (option_map seal) e)
+  unmarked : (rs : Held) → Marked rs → AllHeld P rs
+  unmarked rs all id x e = all id (mark_of x) (ap (option_map mark_of) e)
 
-  pub own-granted : (u : ℕ) (owned : WorldRecord) (rs : Held) → held_record u rs ≡ None → owned.ring < rings → owned.reservation.worker ≡ w → AreOwn w rings rs → AreOwn w rings (rs ++ (u, owned) ∷ [])
-  own-granted u owned rs none low mine own = unsealed (rs ++ (u, owned) ∷ []) (λ id q e.
-      let there : table_with u (Some (seal owned)) (shown seal rs) id ≡ Some q = sym (shown-granted seal u owned rs id none) ∙ e in
+  pub all-granted : (u : ℕ) (owned : WorldRecord) (rs : Held) → held_record u rs ≡ None → P (mark_of owned) → AllHeld P rs → AllHeld P (rs ++ (u, owned) ∷ [])
+  all-granted u owned rs none new all = unmarked (rs ++ (u, owned) ∷ []) (λ id q e.
+      let there : table_with u (Some (mark_of owned)) (shown mark_of rs) id ≡ Some q = sym (shown-granted mark_of u owned rs id none) ∙ e in
       elim (eq_cases id u) [
-        | inl same ↦ let it : Some (seal owned) ≡ Some q = sym (placed-here u (Some (seal owned)) (shown seal rs) id same.1) ∙ there in let is : seal owned ≡ q = cc in subst (λ (y : ℕ × ℕ). (y.0 < rings) × (y.1 ≡ w)) is (low, mine)
-        | inr else ↦ sealed rs own id q (sym (placed-else u (Some (seal owned)) (shown seal rs) id else.1) ∙ there)
+        | inl same ↦ let it : Some (mark_of owned) ≡ Some q = sym (placed-here u (Some (mark_of owned)) (shown mark_of rs) id same.1) ∙ there in let is : mark_of owned ≡ q = cc in subst P is new
+        | inr else ↦ marked rs all id q (sym (placed-else u (Some (mark_of owned)) (shown mark_of rs) id else.1) ∙ there)
       ])
 
-  pub own-given : (u : ℕ) (rs : Held) → AreOwn w rings rs → AreOwn w rings (others u rs)
-  own-given u rs own = unsealed (others u rs) (λ id q e.
-      let there : table_with u None (shown seal rs) id ≡ Some q = sym (shown-given seal u rs id) ∙ e in
+  pub all-given : (u : ℕ) (rs : Held) → AllHeld P rs → AllHeld P (others u rs)
+  all-given u rs all = unmarked (others u rs) (λ id q e.
+      let there : table_with u None (shown mark_of rs) id ≡ Some q = sym (shown-given mark_of u rs id) ∙ e in
       elim (eq_cases id u) [
-        | inl same ↦ absurd (let it : None ≡ Some q = sym (placed-here u None (shown seal rs) id same.1) ∙ there in cc)
-        | inr else ↦ sealed rs own id q (sym (placed-else u None (shown seal rs) id else.1) ∙ there)
+        | inl same ↦ absurd (let it : None ≡ Some q = sym (placed-here u None (shown mark_of rs) id same.1) ∙ there in cc)
+        | inr else ↦ marked rs all id q (sym (placed-else u None (shown mark_of rs) id else.1) ∙ there)
       ])
 
   -- records whose bytes may have changed
-  pub own-rewritten : (rs ss : Held) → ((id : ℕ) → shown seal ss id ≡ shown seal rs id) → AreOwn w rings rs → AreOwn w rings ss
-  own-rewritten rs ss same own = unsealed ss (λ id q e. sealed rs own id q (sym (same id) ∙ e))
+  pub all-rewritten : (rs ss : Held) → ((id : ℕ) → shown mark_of ss id ≡ shown mark_of rs id) → AllHeld P rs → AllHeld P ss
+  all-rewritten rs ss same all = unmarked ss (λ id q e. marked rs all id q (sym (same id) ∙ e))
+
+-- what was held before was held before
+pub held-were : (rs : Held) → AllHeld (WasHeld rs) rs
+held-were rs id x e = (id, x, e, refl)
+
+-- whatever is written into a record
+pub mark-stays : (x : WorldRecord) (w : List ℕ) → mark_of (record x { reservation = record x.reservation { granted = record x.reservation.granted { bytes = in_place_of x.reservation.granted.bytes w } } }) ≡ mark_of x
+mark-stays x w = ap (λ n. record { ring = x.ring; worker = x.reservation.granted.worker; hand = x.reservation.hand; out = out_record x.reservation.granted.pos x.reservation.granted.serial n }) (long-as x.reservation.granted.bytes w)

@@ -3,8 +3,8 @@ use Rattle.std.proofs.Common.{◌≡◌, ℕ, ◌<◌, List, [], ◌∷◌, ◌+
 use Rattle.rb_history.specs.declared.answers.Taken.{Taken}
 use Rattle.rb_history.specs.RoomRule.{Setup}
 use Rattle.rb_chapter.specs.Chapters.{Chapter, first_chapter, joined}
-use Rattle.rb_chapter.specs.ChapterRing.{ChapterRing}
 use Rattle.rb_chapter.specs.ChapterCalls.{IsSameChapter, HandsOut}
+use Rattle.rb_chapter_ring.specs.TaggedRing.{TaggedRing}
 use Rattle.rb_chapter.specs.WholeHistory.{Binds, IsBound, IsKept}
 use Rattle.rb_chapter.proofs.Bound.{once-bound}
 use Rattle.rb_chapter.proofs.Chain.{handed-out-bind, binds-continue, binds-same, binds-next, joined-next}
@@ -15,37 +15,37 @@ use Rattle.rb_world.specs.WorldValue.{KeptRing, WorldValue, world_of, world_ring
 use Rattle.rb_world.specs.inner.KeptChapters.{HasChapters}
 use Rattle.rb_world.proofs.WholeTurns.{ring-shown}
 
-pub kept-of : (s : KeptRing) → HasChapters s → IsKept (joined s.chapters) s.ring.chapter
-kept-of s has = record { continues = binds-continue s.chapters s.ring.chapter has.binds; room = has.room }
+pub kept-of : (s : KeptRing) → HasChapters s → IsKept (joined s.chapters) s.ring.state.ring.chapter
+kept-of s has = record { continues = binds-continue s.chapters s.ring.state.ring.chapter has.binds; room = has.room }
 
 -- a ring in its first chapter
-pub first-has : (room : ℕ) (r : Setup) (s : KeptRing) → s.ring.chapter ≡ first_chapter room r → s.chapters ≡ [] → HasChapters s
+pub first-has : (room : ℕ) (r : Setup) (s : KeptRing) → s.ring.state.ring.chapter ≡ first_chapter room r → s.chapters ≡ [] → HasChapters s
 first-has room r s first none =
-    let kept : IsKept [] s.ring.chapter = subst (IsKept []) (sym first) (empty-kept room r) in
+    let kept : IsKept [] s.ring.state.ring.chapter = subst (IsKept []) (sym first) (empty-kept room r) in
     record {
-      binds = subst (λ hs. Binds hs s.ring.chapter) (sym none) (subst (Binds []) (sym first) (handed-out-bind [] (first_chapter room r) (refl, refl, (empty-kept room r).continues.legal)));
+      binds = subst (λ hs. Binds hs s.ring.state.ring.chapter) (sym none) (subst (Binds []) (sym first) (handed-out-bind [] (first_chapter room r) (refl, refl, (empty-kept room r).continues.legal)));
       room = kept.room;
     }
 
 -- a ring in the same chapter, with other entries
-pub same-has : (s : KeptRing) (new : ChapterRing) (taken : List Taken) → HasChapters s → IsSameChapter s.ring new → IsKept (joined s.chapters) new.chapter → HasChapters (record { ring = new; chapters = s.chapters; taken = taken })
+pub same-has : (s : KeptRing) (new : TaggedRing) (taken : List Taken) → HasChapters s → IsSameChapter s.ring.state.ring new.state.ring → IsKept (joined s.chapters) new.state.ring.chapter → HasChapters (record { ring = new; chapters = s.chapters; taken = taken })
 same-has s new taken has same kept = record {
-  binds = binds-same s.chapters s.ring.chapter new.chapter has.binds (ap (λ (c : Chapter). c.number) same) (ap (λ (c : Chapter). c.opening) same) kept.continues.legal;
+  binds = binds-same s.chapters s.ring.state.ring.chapter new.state.ring.chapter has.binds (ap (λ (c : Chapter). c.number) same) (ap (λ (c : Chapter). c.opening) same) kept.continues.legal;
   room = kept.room;
 }
 
 -- its chapter was handed out, and kept behind the others
-pub next-has : (s : KeptRing) (new : ChapterRing) (out : Chapter) → HasChapters s → HandsOut s.ring new out → HasChapters (record s { ring = new; chapters = s.chapters ++ out ∷ [] })
+pub next-has : (s : KeptRing) (new : TaggedRing) (out : Chapter) → HasChapters s → HandsOut s.ring.state.ring new.state.ring out → HasChapters (record s { ring = new; chapters = s.chapters ++ out ∷ [] })
 next-has s new out has h =
-    let kept = (calls-keep (joined s.chapters) s.ring new (kept-of s has)).hands_out out h in
+    let kept = (calls-keep (joined s.chapters) s.ring.state.ring new.state.ring (kept-of s has)).hands_out out h in
     record {
-      binds = subst (λ c. Binds (s.chapters ++ c ∷ []) new.chapter) (sym h.next.out_is) (binds-next s.chapters s.ring.chapter new.chapter has.binds h.next.next_is kept.continues.legal);
+      binds = subst (λ c. Binds (s.chapters ++ c ∷ []) new.state.ring.chapter) (sym h.next.out_is) (binds-next s.chapters s.ring.state.ring.chapter new.state.ring.chapter has.binds h.next.next_is kept.continues.legal);
       room = kept.room;
     }
 
 -- bound, they are the whole history that the world shows
-pub bound-of : (v : WorldValue) (r : ℕ) → r < length v.rings → Binds (ring_at v r).chapters (ring_at v r).ring.chapter → IsBound (ring_at v r).chapters (ring_at v r).ring.chapter ((world_of v).rings r).ring.history
+pub bound-of : (v : WorldValue) (r : ℕ) → r < length v.rings → Binds (ring_at v r).chapters (ring_at v r).ring.state.ring.chapter → IsBound (ring_at v r).chapters (ring_at v r).ring.state.ring.chapter ((world_of v).rings r).ring.history
 bound-of v r low binds =
     let s = ring_at v r in
-    let bound = once-bound s.chapters s.ring.chapter binds in
-    subst (IsBound s.chapters s.ring.chapter) (joined-next s.chapters s.ring.chapter binds ∙ sym (ap (λ (x : WorldRing). x.ring.history) (ring-shown v r low))) bound
+    let bound = once-bound s.chapters s.ring.state.ring.chapter binds in
+    subst (IsBound s.chapters s.ring.state.ring.chapter) (joined-next s.chapters s.ring.state.ring.chapter binds ∙ sym (ap (λ (x : WorldRing). x.ring.history) (ring-shown v r low))) bound

@@ -8,6 +8,7 @@ mod SoundWorlds
 mod ListSteps
 mod WholeTurns
 mod KeptChapters
+mod HeldInHands
 mod Refusals
-mod Openings
+pub mod Openings
 pub mod Runs

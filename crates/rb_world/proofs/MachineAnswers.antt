@@ -3,6 +3,7 @@ use Rattle.std.proofs.Common.{◌≡◌, ℕ, ℤ, ◌<◌, ◌≤◌, List, [],
 use Rattle.std.specs.Prelude.{option_map}
 use Rattle.std.proofs.lemmas.Bool.{cases_eq}
 use Rattle.rb_history.specs.ReservationModel.{Granted}
+use Rattle.rb_chapter_ring.specs.HandGranted.{HandGranted}
 use Rattle.rb_history.specs.RoomRule.{Setup}
 use Rattle.rb_history.specs.RingModel.{Ring}
 use Rattle.rb_history.specs.declared.answers.Taken.{Taken}
@@ -58,16 +59,16 @@ module _ (w : ℕ) (s : WorldRing) (v v' : Ring) (items : List Taken) (is : reco
       )
 
   module _ (r len flags : ℕ) where
-    abbrev owned_of : Granted → WorldRecord
+    abbrev owned_of : HandGranted → WorldRecord
     owned_of x = record { ring = r; reservation = x }
 
-    pub reserve-granted : (x : Granted) → IsReserved v v' w len flags (Some x) → held_record m.state.unit m.records ≡ None → IsResumedTo (resume (asked.Reserve len) GrantedAnswer m.state) m' → m'.records ≡ m.records ++ (m.state.unit, owned_of x) ∷ []
+    pub reserve-granted : (x : HandGranted) → IsReserved v v' w len flags (Some x.granted) → held_record m.state.unit m.records ≡ None → IsResumedTo (resume (asked.Reserve len) GrantedAnswer m.state) m' → m'.records ≡ m.records ++ (m.state.unit, owned_of x) ∷ []
         → AnswersReserve w r len flags m s m' after
     reserve-granted x (BadFlags, g, h) none goes records = absurd g
     reserve-granted x (Unlogged, g, h) none goes records = absurd g
     reserve-granted x (NoRoom, g, h) none goes records = absurd g
     reserve-granted x (Made p k, g, h) none goes records =
-        let spot : place_of (owned_of x) ≡ record { ring = r; pos = p; serial = k } = ap (λ y. place_of (owned_of y)) g in
+        let spot : place_of (owned_of x) ≡ record { ring = r; pos = p; serial = k } = ap (λ (y : Granted). record { ring = r; pos = y.pos; serial = y.serial }) g in
         let held : (id : ℕ) → held_by m' id ≡ table_with m.state.unit (Some (record { ring = r; pos = p; serial = k })) (held_by m) id = (λ id.
         ap (λ (rs : Held). option_map place_of (held_record id rs)) records ∙ (shown-granted place_of m.state.unit (owned_of x) m.records id none ∙ ap (λ (y : RecordPlace). table_with m.state.unit (Some y) (held_by m) id) spot)) in (
           Made p k,
@@ -98,10 +99,10 @@ given-parts v v' w len flags x (NoRoom, g, h) = absurd g
 given-parts v v' w len flags x (Made p k, g, h) = (ap (λ (y : Granted). y.worker) g, ap (λ (y : Granted). y.bytes) g)
 
 -- there is place for it
-pub no-record : (m : M) (len : ℕ) (x : WorldRecord) → m.phase ≡ phase.Waiting (asked.Reserve len) → IsSteady m.phase m → m.state.memory.records ≡ record_bytes_in (λ (r : WorldRecord). r.reservation.bytes) m.records → x.reservation.bytes ≡ replicate len 0
+pub no-record : (m : M) (len : ℕ) (x : WorldRecord) → m.phase ≡ phase.Waiting (asked.Reserve len) → IsSteady m.phase m → m.state.memory.records ≡ record_bytes_in (λ (r : WorldRecord). r.reservation.granted.bytes) m.records → x.reservation.granted.bytes ≡ replicate len 0
     → held_record m.state.unit m.records ≡ None
 no-record m len x waits steady shows zeros =
-    (place_for (λ (r : WorldRecord). r.reservation.bytes) m.program (asked.Reserve len) (given.Granted x) m.records m.state shows (steady_waiting m.phase (asked.Reserve len) m waits steady) zeros).1
+    (place_for (λ (r : WorldRecord). r.reservation.granted.bytes) m.program (asked.Reserve len) (given.Granted x) m.records m.state shows (steady_waiting m.phase (asked.Reserve len) m waits steady) zeros).1
 
 -- ---- what fits
 

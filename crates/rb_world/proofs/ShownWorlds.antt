@@ -38,7 +38,7 @@ take-turn body r s done inside (event, tells, does) = (event, tells, by_done eve
     by_done (Took found) d = (s, record { stepped = d.0; stands = d.1; taken_are = d.2 }, shown-book body r s inside)
     by_done NoMemory d = ap (λ l. shown_world (record body { rings = l })) (ap (set body.rings r) d ∙ set-get body.rings r (no_ring (length body.machines)))
     by_done Went d = absurd d
-    by_done (HandedOver ring pos bytes) d = absurd d
+    by_done (HandedOver ring worker pos bytes) d = absurd d
     by_done (Ended n) d = absurd d
     by_done GotStuck d = absurd d
     by_done GotBack d = absurd d

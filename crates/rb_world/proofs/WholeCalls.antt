@@ -10,13 +10,14 @@ use Rattle.rb_history.specs.RingModel.{Ring, StandsFor}
 use Rattle.rb_history.specs.Calls as ring
 use Rattle.rb_chapter.specs.Chapters.{Chapter, joined}
 use Rattle.rb_chapter.specs.ChapterRing.{ChapterRing, StandsForChapter, whole_ring}
-use Rattle.rb_chapter.specs.ChapterCalls.{IsSameChapter, HoldsReservationFrom, Grants, FindsFull, Outputs, Strays, Takes, HandsOut}
+use Rattle.rb_chapter.specs.ChapterCalls.{IsSameChapter, Grants, FindsFull, Outputs, Takes, HandsOut}
 use Rattle.rb_chapter.specs.CountedFrom.{query_answer_from}
 use Rattle.rb_chapter.specs.WholeHistory.{IsKept}
 use Rattle.rb_chapter.proofs.Alike.{stands-alike, calls-alike}
 use Rattle.rb_chapter.proofs.Keeping.{calls-keep}
 use Rattle.rb_chapter.proofs.Stands.{goes-on}
 use Rattle.rb_chapter_ring.specs.RingFaults.{RefusesInChapter}
+use Rattle.rb_chapter_ring.specs.TaggedRing.{TaggedRing}
 use Rattle.rb_chapter_ring.specs.declared.faults.ReserveFault.{ReserveFault}
 use Rattle.rb_chapter_ring.specs.declared.faults.ReserveFault.TheVariants.{Full, Flags, ChapterFull, Foreign, HandsFull}
 use Rattle.rb_semantics.specs.HelperCalls.{Taken as TakenAnswer}
@@ -26,7 +27,7 @@ use Rattle.rb_world.specs.declared.record_end.RecordEnd.{RecordEnd}
 use Rattle.rb_world.specs.declared.record_end.RecordEnd.TheVariants.{Submit, Discard}
 use Rattle.rb_world.specs.WorldValue.{KeptRing, world_ring}
 use Rattle.rb_world.specs.TurnsDone.{TurnsChapter, chapters_of}
-use Rattle.rb_world.specs.inner.RecordEnds.{EndsInChapter, WorkerEnds}
+use Rattle.rb_world.specs.inner.RecordEnds.{EndsFromHand, WorkerEnds}
 use Rattle.rb_world.specs.inner.RingAnswers.{untaken_ring, IsReserved, IsOutput, IsWholeAnswer}
 
 moved : (P : Ring → Ring → Type 0) (old new : Ring) → P old new → StandsFor new → RingSteps P [] (untaken_ring old) (untaken_ring new)
@@ -100,54 +101,52 @@ module _ (old new : ChapterRing) (w : ℕ) where
 
 -- ---- records that are given back, and takes
 
-module _ (s : KeptRing) (new : ChapterRing) (kept : IsKept (joined s.chapters) s.ring.chapter) where
+module _ (s : KeptRing) (new : TaggedRing) (kept : IsKept (joined s.chapters) s.ring.state.ring.chapter) where
   abbrev after : KeptRing
   after = record s { ring = new }
 
-  pub end-kept : (ending : RecordEnd) (r : Granted) → EndsInChapter ending r s.ring new → IsKept (joined s.chapters) new.chapter
-  end-kept Submit r h = (calls-keep (joined s.chapters) s.ring new kept).submits r h
-  end-kept Discard r h = (calls-keep (joined s.chapters) s.ring new kept).discards r h
+  pub end-kept : (ending : RecordEnd) (hand : ℕ) (r : Granted) → EndsFromHand ending hand r s.ring.state new.state → IsKept (joined s.chapters) new.state.ring.chapter
+  end-kept Submit hand r h = (calls-keep (joined s.chapters) s.ring.state.ring new.state.ring kept).submits r h.submits
+  end-kept Discard hand r h = (calls-keep (joined s.chapters) s.ring.state.ring new.state.ring kept).discards r h.discards
 
-  stepped-to : (step : Ring → Ring → Type 0) → step (world_ring s).ring (world_ring after).ring → IsKept (joined s.chapters) new.chapter → StandsForChapter new → RingSteps step [] (world_ring s) (world_ring after)
-  stepped-to step stepped kept_on stands = record { stepped = stepped; stands = stands-whole (joined s.chapters) new kept_on stands; taken_are = sym (append-nil s.taken) }
+  stepped-to : (step : Ring → Ring → Type 0) → step (world_ring s).ring (world_ring after).ring → IsKept (joined s.chapters) new.state.ring.chapter → StandsForChapter new.state.ring → RingSteps step [] (world_ring s) (world_ring after)
+  stepped-to step stepped kept_on stands = record { stepped = stepped; stands = stands-whole (joined s.chapters) new.state.ring kept_on stands; taken_are = sym (append-nil s.taken) }
 
-  pub ended : (ending : RecordEnd) (r : Granted) → StandsForChapter new → EndsInChapter ending r s.ring new → WorkerEnds ending r TakenAnswer (world_ring s) (world_ring after)
-  ended Submit r stands h = stepped-to (λ v v'. ring.Submits v v' r) (((calls-alike (joined s.chapters) s.ring new kept.continues).submits r).0 h).1 (end-kept Submit r h) stands
-  ended Discard r stands h = stepped-to (λ v v'. ring.Discards v v' r) (((calls-alike (joined s.chapters) s.ring new kept.continues).discards r).0 h).1 (end-kept Discard r h) stands
+  pub ended : (ending : RecordEnd) (hand : ℕ) (r : Granted) → StandsForChapter new.state.ring → EndsFromHand ending hand r s.ring.state new.state → WorkerEnds ending r TakenAnswer (world_ring s) (world_ring after)
+  ended Submit hand r stands h = stepped-to (λ v v'. ring.Submits v v' r) (((calls-alike (joined s.chapters) s.ring.state.ring new.state.ring kept.continues).submits r).0 h.submits).1 (end-kept Submit hand r h) stands
+  ended Discard hand r stands h = stepped-to (λ v v'. ring.Discards v v' r) (((calls-alike (joined s.chapters) s.ring.state.ring new.state.ring kept.continues).discards r).0 h.discards).1 (end-kept Discard hand r h) stands
 
-  -- a busy record is not handed back
-  pub no-stray : (r : Granted) → Strays s.ring new r → ring.HoldsReservation (world_ring s).ring r → ⊥
-  no-stray r h busy = (((calls-alike (joined s.chapters) s.ring new kept.continues).strays r).0 h).1.not_busy busy
-
-  pub take-stands : (found : Taken) → StandsForChapter new → Takes s.ring new found → ring.Takes (world_ring s).ring (world_ring after).ring found × StandsFor (world_ring after).ring
+  pub take-stands : (found : Taken) → StandsForChapter new.state.ring → Takes s.ring.state.ring new.state.ring found → ring.Takes (world_ring s).ring (world_ring after).ring found × StandsFor (world_ring after).ring
   take-stands found stands h = (
-    (((calls-alike (joined s.chapters) s.ring new kept.continues).takes found).0 h).1,
-    stands-whole (joined s.chapters) new ((calls-keep (joined s.chapters) s.ring new kept).takes found h) stands,
+    (((calls-alike (joined s.chapters) s.ring.state.ring new.state.ring kept.continues).takes found).0 h).1,
+    stands-whole (joined s.chapters) new.state.ring ((calls-keep (joined s.chapters) s.ring.state.ring new.state.ring kept).takes found h) stands,
   )
 
-pub query-whole : (s : KeptRing) (what : ℕ) → IsKept (joined s.chapters) s.ring.chapter → query_answer_from s.ring.chapter.opening s.ring.chapter.entries what ≡ query_answer (world_ring s).ring.setup (world_ring s).ring.history what
+pub query-whole : (s : KeptRing) (what : ℕ) → IsKept (joined s.chapters) s.ring.state.ring.chapter → query_answer_from s.ring.state.ring.chapter.opening s.ring.state.ring.chapter.entries what ≡ query_answer (world_ring s).ring.setup (world_ring s).ring.history what
 query-whole s what kept =
-    let c = s.ring.chapter in
+    let c = s.ring.state.ring.chapter in
     ((goes-on c.opening.setup (joined s.chapters) c.opening kept.continues.earlier_legal kept.continues.opened c.entries).1 kept.continues.legal).query what
 
 -- ---- chapters
 
-pub same-chapters : (s : KeptRing) (new : ChapterRing) (taken : List Taken) → IsSameChapter s.ring new → chapters_of (record { ring = new; chapters = s.chapters; taken = taken }) ≡ chapters_of s
-same-chapters s new taken same = ap (λ (c : Chapter). (s.chapters, record c { entries = [] })) same
+pub same-chapters : (s : KeptRing) (new : TaggedRing) (taken : List Taken) → new.tag ≡ s.ring.tag → IsSameChapter s.ring.state.ring new.state.ring → chapters_of (record { ring = new; chapters = s.chapters; taken = taken }) ≡ chapters_of s
+same-chapters s new taken tag same = λ i. (tag i, s.chapters, record (same i) { entries = [] })
 
 joined-more : (cs : List Chapter) (c : Chapter) → joined (cs ++ c ∷ []) ≡ joined cs ++ c.entries
 joined-more [] c = append-nil c.entries
 joined-more (d ∷ cs) c = ap (λ l. d.entries ++ l) (joined-more cs c) ∙ sym (append_assoc d.entries (joined cs) c.entries)
 
-module _ (s : KeptRing) (new : ChapterRing) (kept : IsKept (joined s.chapters) s.ring.chapter) (out : Chapter) (h : HandsOut s.ring new out) where
+module _ (s : KeptRing) (new : TaggedRing) (kept : IsKept (joined s.chapters) s.ring.state.ring.chapter) (out : Chapter) (h : HandsOut s.ring.state.ring new.state.ring out) where
   pub out-same : world_ring (record s { ring = new; chapters = s.chapters ++ out ∷ [] }) ≡ world_ring s
   out-same = ap (λ (v : Ring). record { ring = v; taken = s.taken })
-      (ap (λ l. whole_ring l new) (joined-more s.chapters out) ∙ (((calls-alike (joined s.chapters) s.ring new kept.continues).hands_out out).0 h).1)
+      (ap (λ l. whole_ring l new.state.ring) (joined-more s.chapters out) ∙ (((calls-alike (joined s.chapters) s.ring.state.ring new.state.ring kept.continues).hands_out out).0 h).1)
 
-  pub out-turned : TurnsChapter out.number s (record s { ring = new; chapters = s.chapters ++ out ∷ [] })
-  out-turned = record {
+  pub out-turned : new.tag ≡ s.ring.tag → new.state.hands ≡ s.ring.state.hands → TurnsChapter out.number s (record s { ring = new; chapters = s.chapters ++ out ∷ [] })
+  out-turned tag hands = record {
     number_is = ap (λ (c : Chapter). c.number) h.next.out_is;
-    handed_out = subst (λ c. HandsOut s.ring new c) h.next.out_is h;
+    handed_out = subst (λ c. HandsOut s.ring.state.ring new.state.ring c) h.next.out_is h;
+    hands_same = hands;
+    tag_same = tag;
     kept = ap (λ c. s.chapters ++ c ∷ []) h.next.out_is;
     taken_same = refl;
   }

@@ -36,12 +36,12 @@ module _ {X Y : Type 0} (f : X → Y) where
   map-set-same (z ∷ xs) ℕ.zero x y there same = ap (λ u. u ∷ map f xs) (same ∙ ap f there)
   map-set-same (z ∷ xs) (ℕ.suc i) x y there same = ap (λ l. f z ∷ l) (map-set-same xs i x y there same)
 
-abbrev setup-shown : List Chapter × Chapter → Setup
-setup-shown m = m.1.opening.setup
+abbrev setup-shown : ℕ × List Chapter × Chapter → Setup
+setup-shown m = m.2.opening.setup
 
 setups-shown : (rings : List KeptRing) → setups_of (map world_ring rings) ≡ map setup-shown (map chapters_of rings)
 setups-shown [] = refl
-setups-shown (s ∷ rings) = ap (λ l. s.ring.chapter.opening.setup ∷ l) (setups-shown rings)
+setups-shown (s ∷ rings) = ap (λ l. s.ring.state.ring.chapter.opening.setup ∷ l) (setups-shown rings)
 
 -- rings in the same chapters are the same rings
 pub setups-by-chapters : (one other : List KeptRing) → map chapters_of one ≡ map chapters_of other → setups_of (map world_ring one) ≡ setups_of (map world_ring other)

@@ -177,24 +177,24 @@ module _ (w : ℕ) (rings : List WorldRing) (old mid new : MachineState WorldRec
   output-turn flags call bytes step lent shows records with_answer = λ machines inside is.
       let same : held_by mid ≡ ((shown_world (body machines inside is)).workers w).held = kept-held (records ∙ ap (λ c. left_by c old.records) shows) machines inside is in
       let a = with_answer bytes lent in (
-        output_event r bytes a.0,
+        output_event w r bytes a.0,
         tells a.0,
         executes-turn (body machines inside is) w old (Asks (Output r bytes flags) mid.state) _ _ inside is ready (step ∙ ap (λ c. Asks c mid.state) shows) (
           a.0,
           s',
           subst (λ b. WorkerOutputs w bytes flags a.0 b s') (book-here machines inside is) a.1,
-          subst (λ event. GetsAnswer w (Output r bytes flags) mid.state (answer_to_output a.0) (output_event r bytes a.0) ((shown_world (body machines inside is)).workers w).held r s' (shown_world (body machines inside is)) event (after machines inside is)) (goes-by a.0)
-              (answered-turn machines inside is (Output r bytes flags) (answer_to_output a.0) (output_event r bytes a.0) _ _ same a.2),
+          subst (λ event. GetsAnswer w (Output r bytes flags) mid.state (answer_to_output a.0) (output_event w r bytes a.0) ((shown_world (body machines inside is)).workers w).held r s' (shown_world (body machines inside is)) event (after machines inside is)) (goes-by a.0)
+              (answered-turn machines inside is (Output r bytes flags) (answer_to_output a.0) (output_event w r bytes a.0) _ _ same a.2),
         ),
       )
     where
-      goes-by : (outcome : RecordOutcome) → event_of (output_event r bytes outcome) (resume asked.Output (answer_to_output outcome) mid.state) ≡ output_event r bytes outcome
+      goes-by : (outcome : RecordOutcome) → event_of (output_event w r bytes outcome) (resume asked.Output (answer_to_output outcome) mid.state) ≡ output_event w r bytes outcome
       goes-by BadFlags = refl
       goes-by Unlogged = refl
       goes-by NoRoom = refl
       goes-by (Made p k) = refl
 
-      tells : (outcome : RecordOutcome) → TellsEvent turn.Went (output_event r bytes outcome)
+      tells : (outcome : RecordOutcome) → TellsEvent turn.Went (output_event w r bytes outcome)
       tells BadFlags = tt
       tells Unlogged = tt
       tells NoRoom = tt
@@ -216,34 +216,34 @@ module _ (w : ℕ) (rings : List WorldRing) (old mid new : MachineState WorldRec
 -- ---- a record is given back
 
 module _ (w : ℕ) (rings : List WorldRing) (old mid new : MachineState WorldRecord) (owned : WorldRecord) (s s' : WorldRing) (ready : old.phase ≡ phase.Ready) (program : mid.program ≡ old.program) (low : owned.ring < length rings) (there : s ≡ get_or rings owned.ring s)
-    (gives : GivingBack) (hands : RecordPlace → List ℕ → TurnEvent) (call : HelperCall) (id : ℕ) (kind : pending_call_of call ≡ asked.GiveBack) (tells : TellsEvent turn.Went (hands (place_of owned) owned.reservation.bytes)) (found : held_record id old.records ≡ Some owned) (left : mid.records ≡ others id old.records) (mine : owned.reservation.worker ≡ w) where
-  is-record : owned.reservation ≡ granted_at (place_of owned) w owned.reservation.bytes
-  is-record = ap (λ v. record owned.reservation { worker = v }) mine
+    (gives : GivingBack) (hands : RecordPlace → List ℕ → TurnEvent) (call : HelperCall) (id : ℕ) (kind : pending_call_of call ≡ asked.GiveBack) (tells : TellsEvent turn.Went (hands (place_of owned) owned.reservation.granted.bytes)) (found : held_record id old.records ≡ Some owned) (left : mid.records ≡ others id old.records) (mine : owned.reservation.granted.worker ≡ w) where
+  is-record : owned.reservation.granted ≡ granted_at (place_of owned) w owned.reservation.granted.bytes
+  is-record = ap (λ v. record owned.reservation.granted { worker = v }) mine
 
   gone : (i : ℕ) → held_by mid i ≡ table_with id None (held_by old) i
   gone i = ap (λ (rs : Held). option_map place_of (held_record i rs)) left ∙ shown-given place_of id old.records i
 
   given-turn : AnswersGivenBack gives owned mid s new s'
       → (machines : List (MachineState WorldRecord)) → w < length machines → old ≡ get_or machines w old
-      → (event : TurnEvent) × TellsEvent turn.Went event × GivesRecordBack gives hands w call mid.state id owned.reservation.bytes (((shown_world (record { rings = rings; machines = machines })).workers w).held id) (shown_world (record { rings = rings; machines = machines })) event (shown_world (record { rings = set rings owned.ring s'; machines = set machines w new }))
+      → (event : TurnEvent) × TellsEvent turn.Went event × GivesRecordBack gives hands w call mid.state id owned.reservation.granted.bytes (((shown_world (record { rings = rings; machines = machines })).workers w).held id) (shown_world (record { rings = rings; machines = machines })) event (shown_world (record { rings = set rings owned.ring s'; machines = set machines w new }))
   given-turn (g, goes) = λ machines inside is.
       let world = shown_world (record { rings = rings; machines = machines }) in
       let there_now : world.workers w ≡ worker_of old = get-map machines w old inside is in
       let held_is : (world.workers w).held id ≡ Some (place_of owned) = ap (λ (x : WorkerState). x.held id) there_now ∙ ap (option_map place_of) found in
       let same : held_by mid ≡ table_with id None (world.workers w).held = (λ i j. gone j i) ∙ ap (λ (x : WorkerState). table_with id None x.held) (sym there_now) in (
-        event_of (hands (place_of owned) owned.reservation.bytes) (resume (pending_call_of call) TakenAnswer mid.state),
-        subst (λ k. TellsEvent turn.Went (event_of (hands (place_of owned) owned.reservation.bytes) (resume k TakenAnswer mid.state))) (sym kind) tells,
-        subst (λ held. GivesRecordBack gives hands w call mid.state id owned.reservation.bytes held world (event_of (hands (place_of owned) owned.reservation.bytes) (resume (pending_call_of call) TakenAnswer mid.state)) (shown_world (record { rings = set rings owned.ring s'; machines = set machines w new }))) (sym held_is) (
+        event_of (hands (place_of owned) owned.reservation.granted.bytes) (resume (pending_call_of call) TakenAnswer mid.state),
+        subst (λ k. TellsEvent turn.Went (event_of (hands (place_of owned) owned.reservation.granted.bytes) (resume k TakenAnswer mid.state))) (sym kind) tells,
+        subst (λ held. GivesRecordBack gives hands w call mid.state id owned.reservation.granted.bytes held world (event_of (hands (place_of owned) owned.reservation.granted.bytes) (resume (pending_call_of call) TakenAnswer mid.state)) (shown_world (record { rings = set rings owned.ring s'; machines = set machines w new }))) (sym held_is) (
           TakenAnswer,
           s',
-          subst (λ b. gives (granted_at (place_of owned) w owned.reservation.bytes) TakenAnswer b s') (book-here w rings old mid new owned.ring s s' ready program low there machines inside is)
+          subst (λ b. gives (granted_at (place_of owned) w owned.reservation.granted.bytes) TakenAnswer b s') (book-here w rings old mid new owned.ring s s' ready program low there machines inside is)
               (subst (λ x. gives x TakenAnswer s s') is-record g),
-          answered-turn w rings old mid new owned.ring s s' ready program low there machines inside is call TakenAnswer (hands (place_of owned) owned.reservation.bytes) _ _ same (subst (λ k. GoesOnWith k TakenAnswer (held_by mid) mid new) (sym kind) goes),
+          answered-turn w rings old mid new owned.ring s s' ready program low there machines inside is call TakenAnswer (hands (place_of owned) owned.reservation.granted.bytes) _ _ same (subst (λ k. GoesOnWith k TakenAnswer (held_by mid) mid new) (sym kind) goes),
         ),
       )
 
   pub give-turn : next_step old.program.program old.state ≡ Asks call mid.state
-      → ((world : World) (event : TurnEvent) (after : World) → GivesRecordBack gives hands w call mid.state id owned.reservation.bytes ((world.workers w).held id) world event after → MakesCall w call mid.state world event after)
+      → ((world : World) (event : TurnEvent) (after : World) → GivesRecordBack gives hands w call mid.state id owned.reservation.granted.bytes ((world.workers w).held id) world event after → MakesCall w call mid.state world event after)
       → AnswersGivenBack gives owned mid s new s' → IsWorkerTurn w old rings turn.Went new (set rings owned.ring s')
   give-turn step calls given = λ machines inside is.
       let g = given-turn given machines inside is in

@@ -1,9 +1,11 @@
 -- How worlds are opened: when they may be, and what they are then (own).
-use Rattle.std.specs.Prelude.{ℕ, ◌≡◌, ◌≤◌, List, [], All, length, map}
+use Rattle.std.specs.Prelude.{ℕ, ◌≡◌, ◌≤◌, ◌+◌, List, [], ◌∷◌, All, length}
 use Rattle.std.specs.List.{AllZip}
 use Rattle.rb_history.specs.RingModel.{IsRingSize, IsStartPosition, IsWorkerCount}
 use Rattle.rb_chapter.specs.Chapters.{IsChapterRoom}
 use Rattle.rb_chapter_ring.specs.OpenedRing as chapter_ring
+use Rattle.rb_hands.specs.Hands.{free_book}
+use Rattle.rb_hands.specs.HandRing.{hand_ring}
 use Rattle.rb_semantics.specs.ProgramStates.{entry_program_state}
 use Rattle.rb_interp.specs.MachineState.{MachineState}
 use Rattle.rb_interp.specs.declared.step.Phase.TheVariants.{Ready}
@@ -42,13 +44,18 @@ pub record MayOpen (rings : List RingSetup) (workers : List WorkerSetup) : Type 
   pub worker_count : IsWorkerCount (length workers)
   pub rooms : HaveRooms rings
 
--- a ring for so many workers, with nothing in it, in its first chapter
-abbrev pub opened_ring : ℕ → RingSetup → KeptRing
-opened_ring workers s = record {
-  ring = chapter_ring.opened_ring s.room (record { size = s.size; start = s.start; workers = workers });
+-- a ring of this number for so many workers, with nothing in it, in its first chapter, and with free hands
+abbrev pub opened_ring : ℕ → ℕ → RingSetup → KeptRing
+opened_ring workers number s = record {
+  ring = record { tag = number; state = hand_ring (chapter_ring.opened_ring s.room (record { size = s.size; start = s.start; workers = workers })) (free_book workers) };
   chapters = [];
   taken = [];
 }
+
+-- the rings, numbered from here on
+abbrev pub opened_rings : ℕ → ℕ → List RingSetup → List KeptRing
+opened_rings workers number [] = []
+opened_rings workers number (s ∷ rings) = opened_ring workers number s ∷ opened_rings workers (number + 1) rings
 
 -- a machine is at the first instruction of a worker's program, over its context, and holds no record
 pub record IsStarted (x : WorkerSetup) (m : MachineState WorldRecord) : Type 0 where
@@ -60,5 +67,5 @@ pub record IsStarted (x : WorkerSetup) (m : MachineState WorldRecord) : Type 0 w
 
 -- the world has the rings and the workers that were asked for, in their order, at their beginning
 pub record IsOpenedWorld (rings : List RingSetup) (workers : List WorkerSetup) (v : WorldValue) : Type 0 where
-  pub rings_are : v.rings ≡ map (opened_ring (length workers)) rings
+  pub rings_are : v.rings ≡ opened_rings (length workers) 0 rings
   pub machines_are : AllZip IsStarted workers v.machines

@@ -14,7 +14,7 @@ use Rattle.rb_world.specs.WorldValue.{KeptRing, WorldValue, WholeWorld, whole_wo
 -- the answer tells the event
 abbrev pub TellsEvent : TurnDone → TurnEvent → Type 0
 TellsEvent answer.Went Went = Unit {0}
-TellsEvent answer.Went (HandedOver r p bytes) = Unit {0}
+TellsEvent answer.Went (HandedOver r w p bytes) = Unit {0}
 TellsEvent (answer.Finished n) (Ended m) = n ≡ m
 TellsEvent answer.Idle Idle = Unit {0}
 TellsEvent answer.Took (Took (Event p w k bytes)) = Unit {0}
@@ -34,15 +34,17 @@ IsTurnOf actor old done new = IsWholeTurn actor (whole_world old) done (whole_wo
 
 -- ---- what becomes of the chapters
 
--- the chapters of a ring: those that were handed out, and the one that it keeps, whatever its entries
-abbrev pub chapters_of : KeptRing → List Chapter × Chapter
-chapters_of s = (s.chapters, record s.ring.chapter { entries = [] })
+-- the number of a ring and its chapters: those that were handed out, and the one that it keeps, whatever its entries
+abbrev pub chapters_of : KeptRing → ℕ × List Chapter × Chapter
+chapters_of s = (s.ring.tag, s.chapters, record s.ring.state.ring.chapter { entries = [] })
 
 -- the ring handed its chapter out, which has this number, and the world keeps it; nothing else changed
 pub record TurnsChapter (number : ℕ) (old new : KeptRing) : Type 0 where
-  pub number_is : number ≡ old.ring.chapter.number
-  pub handed_out : HandsOut old.ring new.ring old.ring.chapter
-  pub kept : new.chapters ≡ old.chapters ++ old.ring.chapter ∷ []
+  pub number_is : number ≡ old.ring.state.ring.chapter.number
+  pub handed_out : HandsOut old.ring.state.ring new.ring.state.ring old.ring.state.ring.chapter
+  pub hands_same : new.ring.state.hands ≡ old.ring.state.hands
+  pub tag_same : new.ring.tag ≡ old.ring.tag
+  pub kept : new.chapters ≡ old.chapters ++ old.ring.state.ring.chapter ∷ []
   pub taken_same : new.taken ≡ old.taken
 
 -- a keeper that answers a chapter's number handed that chapter out, and a keeper without memory did nothing; the turns of others leave

@@ -4,8 +4,11 @@ use Rattle.std.specs.List.{slice_index_or}
 use Rattle.rb_history.specs.declared.answers.Taken.{Taken}
 use Rattle.rb_history.specs.RingModel.{fresh}
 use Rattle.rb_chapter.specs.Chapters.{Chapter, joined}
-use Rattle.rb_chapter.specs.ChapterRing.{ChapterRing, whole_ring}
+use Rattle.rb_chapter.specs.ChapterRing.{whole_ring}
 use Rattle.rb_chapter_ring.specs.OpenedRing.{opened_ring}
+use Rattle.rb_chapter_ring.specs.TaggedRing.{TaggedRing}
+use Rattle.rb_hands.specs.Hands.{free_book}
+use Rattle.rb_hands.specs.HandRing.{hand_ring}
 use Rattle.rb_semantics.specs.ProgramStates.{entry_program_state}
 use Rattle.rb_interp.specs.MachineState.{MachineState}
 use Rattle.rb_interp.specs.StoredMemory.{held_record}
@@ -18,13 +21,13 @@ use Rattle.rb_world.specs.declared.world_record.WorldRecord.{WorldRecord}
 
 -- a ring, the chapters that it handed out, oldest first, and what was taken of it
 pub record KeptRing : Type 0 where
-  pub ring : ChapterRing
+  pub ring : TaggedRing
   pub chapters : List Chapter
   pub taken : List Taken
 
 -- its whole history: that of the chapters that were handed out, and then that of the one that it keeps
 abbrev pub world_ring : KeptRing → WorldRing
-world_ring s = record { ring = whole_ring (joined s.chapters) s.ring; taken = s.taken }
+world_ring s = record { ring = whole_ring (joined s.chapters) s.ring.state.ring; taken = s.taken }
 
 -- a machine of each worker, and each ring
 pub record WorldValue : Type 0 where
@@ -41,7 +44,7 @@ whole_world v = record { rings = map world_ring v.rings; machines = v.machines }
 
 -- where a record stands
 abbrev pub place_of : WorldRecord → RecordPlace
-place_of owned = record { ring = owned.ring; pos = owned.reservation.pos; serial = owned.reservation.serial }
+place_of owned = record { ring = owned.ring; pos = owned.reservation.granted.pos; serial = owned.reservation.granted.serial }
 
 -- a machine between turns waits for no answer
 abbrev pub status_of_phase : Phase → WorkerStatus
@@ -64,7 +67,7 @@ no_worker = record { subject = record { program = []; ctx_len = 0; rings = 0 }; 
 
 -- rings that are not there
 abbrev pub no_kept_ring : KeptRing
-no_kept_ring = record { ring = opened_ring 8 (record { size = 4096; start = 0; workers = 1 }); chapters = []; taken = [] }
+no_kept_ring = record { ring = record { tag = 0; state = hand_ring (opened_ring 8 (record { size = 4096; start = 0; workers = 1 })) (free_book 1) }; chapters = []; taken = [] }
 
 abbrev pub no_ring : ℕ → WorldRing
 no_ring workers = record { ring = fresh 4096 0 workers; taken = [] }

@@ -24,12 +24,13 @@ impl Model for ConsumedRing {
     ghost use Rattle.rb_history.specs.RingModel.{contents_code};
     ghost use Rattle.rb_history.specs.contracts.entries.Entry as entry;
     ghost use Rattle.rb_history.specs.contracts.tally.Tally as tally_row;
+    ghost use Rattle.rb_hands.specs.contracts.out_record.OutRecord as out_row;
     ghost use Rattle.rb_world.specs.WorldValue.{KeptRing};
     ghost use Rattle.rb_world.specs.inner.KeptChapters.{HasChapters};
 
     ghost Value = { KeptRing };
 
-    ghost coded = { Prim.hlevel (codes, contents_code, entry.the_row.coded, tally_row.the_row.coded) };
+    ghost coded = { Prim.hlevel (codes, contents_code, entry.the_row.coded, tally_row.the_row.coded, out_row.the_row.coded) };
 
     ghost view = { λ s. record { ring = s.ring; chapters = s.chapters.items; taken = s.taken.items } };
 
@@ -38,21 +39,22 @@ impl Model for ConsumedRing {
 
 impl ConsumedRing {
     ghost use Rattle.std.specs.Prelude.{◌≡◌, ◌<◌, ℕ};
-    ghost use Rattle.rb_history.specs.Calls.{HoldsReservation};
     ghost use Rattle.rb_chapter.specs.Chapters.{joined};
     ghost use Rattle.rb_chapter.specs.WholeHistory.{Binds, IsKept};
+    ghost use Rattle.rb_hands.specs.HandRing.{HasInHand};
     ghost use Rattle.rb_interp.specs.declared.step.Phase.TheVariants as phase;
     ghost use Rattle.rb_semantics.specs.declared.pending_call.PendingCall.TheVariants as asked;
     ghost use Rattle.rb_world.specs.inner.WorkerTurn.{TakesOnce, KeepsChapter, AnswersReserve, AnswersOutput, AnswersGivenBack, AnswersQuery};
     ghost use Rattle.rb_world.specs.inner.RecordEnds.{WorkerEnds};
     ghost use Rattle.rb_world.specs.inner.FittingWorlds.{AreOwn};
+    ghost use Rattle.rb_world.specs.inner.HeldInHands.{HoldsOldOrOut, KeepsInHand, hands_shown};
     ghost use Rattle.rb_world.specs.TurnsDone.{chapters_of};
     ghost use Rattle.rb_world.specs.WorldValue.{world_ring};
 
     // What every ring is: its chapter goes on where those that were handed out end, and they bind.
     pub(crate) fn facts(&self)
-        ensures binds { Binds self.now.chapters self.now.ring.chapter }
-        ensures kept { IsKept (joined self.now.chapters) self.now.ring.chapter }
+        ensures binds { Binds self.now.chapters self.now.ring.state.ring.chapter }
+        ensures kept { IsKept (joined self.now.chapters) self.now.ring.state.ring.chapter }
     {
         let _ = &self.ring;
     }
@@ -67,10 +69,12 @@ impl ConsumedRing {
         len: u32,
         flags: u64,
     )
-        requires worker { w < self.old.ring.chapter.opening.setup.workers }
+        requires worker { w < self.old.ring.state.ring.chapter.opening.setup.workers }
         requires waits { machine.old.phase ≡ phase.Waiting (asked.Reserve len) }
         ensures answered { AnswersReserve w r len flags machine.old (world_ring self.old) machine.new (world_ring self.new) }
         ensures own { (rings : ℕ) → r < rings → AreOwn w rings machine.old.records → AreOwn w rings machine.new.records }
+        ensures held { HoldsOldOrOut r (hands_shown self.new) machine.old.records machine.new.records }
+        ensures hands { KeepsInHand self.old self.new }
         ensures program { machine.new.program ≡ machine.old.program }
         ensures chapters { chapters_of self.new ≡ chapters_of self.old }
     {
@@ -93,10 +97,11 @@ impl ConsumedRing {
         w: u32,
         flags: u64,
     )
-        requires worker { w < self.old.ring.chapter.opening.setup.workers }
+        requires worker { w < self.old.ring.state.ring.chapter.opening.setup.workers }
         requires waits { machine.old.phase ≡ phase.Waiting asked.Output }
         ensures answered { AnswersOutput w flags machine.old (world_ring self.old) machine.new (world_ring self.new) }
         ensures records { machine.new.records ≡ machine.old.records }
+        ensures hands { hands_shown self.new ≡ hands_shown self.old }
         ensures program { machine.new.program ≡ machine.old.program }
         ensures chapters { chapters_of self.new ≡ chapters_of self.old }
     {
@@ -104,7 +109,7 @@ impl ConsumedRing {
         machine.answer(Answer::Code(code));
     }
 
-    // Answers the submit or the discard of a worker that waits, of a record that is busy.
+    // Answers the submit or the discard of a worker that waits, of a record that is out in its hand.
     pub(crate) fn answer_given_back(
         &mut self,
         machine: &mut Machine<'_, &[u8], WorldRecord>,
@@ -112,20 +117,18 @@ impl ConsumedRing {
         owned: WorldRecord,
         flags: u64,
     )
-        requires busy { HoldsReservation (world_ring self.old).ring owned.reservation }
+        requires out { HasInHand self.old.ring.state owned.reservation.hand owned.reservation.granted }
         requires waits { machine.old.phase ≡ phase.Waiting asked.GiveBack }
         ensures answered { AnswersGivenBack (WorkerEnds ending) owned machine.old (world_ring self.old) machine.new (world_ring self.new) }
         ensures records { machine.new.records ≡ machine.old.records }
+        ensures hands { KeepsInHand self.old self.new }
         ensures program { machine.new.program ≡ machine.old.program }
         ensures chapters { chapters_of self.new ≡ chapters_of self.old }
     {
-        match ending.give_back(&mut self.ring, owned.reservation, flags) {
-            Ok(_) => {
-                self.ring.facts();
-                machine.answer(Answer::Taken);
-            }
-            Err(_) => unreachable!(),
-        }
+        self.ring.facts();
+        ending.give_back(&mut self.ring, owned.reservation, flags);
+        self.ring.facts();
+        machine.answer(Answer::Taken);
     }
 
     // Answers the query of a worker that waits.
@@ -141,6 +144,7 @@ impl ConsumedRing {
     // One take of the ring's consumer; `Memory` where the list of what was taken can't grow.
     pub(crate) fn consume(&mut self) -> TurnDone
         ensures taken { TakesOnce (world_ring self.old) result (world_ring self.new) }
+        ensures hands { hands_shown self.new ≡ hands_shown self.old }
         ensures chapters { chapters_of self.new ≡ chapters_of self.old }
     {
         if self.taken.reserve(1).is_err() {
@@ -166,6 +170,7 @@ impl ConsumedRing {
     // Hands the ring's chapter out, and keeps it; `Memory` where there is none for the next chapter.
     pub(crate) fn hand_out(&mut self, alloc: Global) -> TurnDone
         ensures turned { KeepsChapter self.old result self.new }
+        ensures hands { hands_shown self.new ≡ hands_shown self.old }
         ensures same_history { world_ring self.new ≡ world_ring self.old }
     {
         if self.chapters.reserve(1).is_err() {

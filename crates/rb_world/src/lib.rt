@@ -7,7 +7,7 @@
 //!
 //! Each turn is one turn of the definitions (`rb_interleavings`), so whatever list of actors is run, no worker is ever stuck
 //! and no record is handed back, the busy records of each ring are exactly those that unfinished workers hold, and what is
-//! taken are the bytes that were handed over, in the order of reservation.
+//! taken as an event of a worker are the bytes that this worker handed over, in the order of reservation.
 //!
 //! ```text
 //! let worker = WorkerSetup { program: &program, context: &[] };

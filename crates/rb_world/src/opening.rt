@@ -1,11 +1,11 @@
 //! What a world is opened with.
 
-ghost use Rattle.std.specs.Prelude.{◌≡◌, ◌↔◌, IsTrue, OnOk, IfOk, IfErr, length, map};
+ghost use Rattle.std.specs.Prelude.{◌≡◌, ◌↔◌, IsTrue, OnOk, IfOk, IfErr, length};
 ghost use Rattle.std.specs.List.{AllZip};
 ghost use Rattle.rb_history.specs.RingModel.{IsWorkerCount};
 ghost use Rattle.rb_chapter.specs.Chapters.{IsChapterRoom};
 ghost use Rattle.rb_world.specs.inner.Refusals.{IsOpenRefusal};
-ghost use Rattle.rb_world.specs.OpenedWorlds.{IsRingSetup, AreRings, HaveRooms, HaveContexts, HaveRings, MayOpen, IsStarted, opened_ring};
+ghost use Rattle.rb_world.specs.OpenedWorlds.{IsRingSetup, AreRings, HaveRooms, HaveContexts, HaveRings, MayOpen, IsStarted, opened_rings};
 
 use crate::consumed_ring::ConsumedRing;
 use crate::world_fault::WorldOpenFault;
@@ -136,7 +136,7 @@ pub(crate) fn check_setups(
     Ok(())
 }
 
-// The rings, each for so many workers, of which nothing was taken.
+// The rings, each for so many workers, of which nothing was taken. A ring's tag is its number.
 pub(crate) fn open_rings(
     alloc: Global,
     rings: &[RingSetup],
@@ -145,11 +145,12 @@ pub(crate) fn open_rings(
     requires setups { AreRings rings.now }
     requires rooms { HaveRooms rings.now }
     requires workers { IsWorkerCount workers }
-    ensures opened { IfOk result (λ opened. opened.items ≡ map (opened_ring workers) rings.now) }
+    ensures opened { IfOk result (λ opened. opened.items ≡ opened_rings workers 0 rings.now) }
 {
     let mut opened = Vec::new(alloc);
-    for setup in rings {
-        let ring = match RingState::new(alloc, setup.size, setup.start, workers, setup.room) {
+    for (number, setup) in rings.iter().enumerate() {
+        let tag = number as u64;
+        let ring = match RingState::new(alloc, tag, setup.size, setup.start, workers, setup.room) {
             Ok(ring) => ring,
             Err(OpenFault::Memory) => return Err(AllocError),
             Err(_) => unreachable!(),

@@ -1,11 +1,12 @@
 //! How a worker gives a record back.
 
-ghost use Rattle.std.specs.Prelude.{OnOk, OnErr};
-ghost use Rattle.rb_chapter.specs.ChapterCalls.{IsSameChapter, Strays};
-ghost use Rattle.rb_world.specs.inner.RecordEnds.{EndsInChapter};
+ghost use Rattle.std.specs.Prelude.{◌≡◌};
+ghost use Rattle.rb_chapter.specs.ChapterCalls.{IsSameChapter};
+ghost use Rattle.rb_hands.specs.HandRing.{HasInHand};
+ghost use Rattle.rb_world.specs.inner.RecordEnds.{EndsFromHand};
 
-use rb_chapter_ring::RingState;
-use rb_history::{Notice, Reservation, Stray};
+use rb_chapter_ring::{Reservation, RingState};
+use rb_history::Notice;
 
 // What becomes of a record that is given back.
 #[derive(Clone, Copy, Debug, PartialEq, Eq)]
@@ -17,16 +18,17 @@ pub(crate) enum RecordEnd {
 }
 
 impl RecordEnd {
-    // Gives a record back to its ring.
+    // Gives a record back to its ring, out of the hand that it is in.
     pub(crate) fn give_back(
         self,
         ring: &mut RingState,
         reservation: Reservation,
         flags: u64,
-    ) -> Result<Notice, Stray>
-        ensures same_chapter { IsSameChapter ring.old ring.new }
-        ensures ended { OnOk result (EndsInChapter self reservation ring.old ring.new) }
-        ensures stray { OnErr result (Strays ring.old ring.new reservation) }
+    ) -> Notice
+        requires out { HasInHand ring.old.state reservation.hand reservation.granted }
+        ensures same_tag { ring.new.tag ≡ ring.old.tag }
+        ensures same_chapter { IsSameChapter ring.old.state.ring ring.new.state.ring }
+        ensures ended { EndsFromHand self reservation.hand reservation.granted ring.old.state ring.new.state }
     {
         match self {
             RecordEnd::Submit => ring.submit(reservation, flags),

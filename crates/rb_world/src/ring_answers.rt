@@ -1,17 +1,18 @@
 //! The answers of one ring to the calls of a program.
 
-ghost use Rattle.std.specs.Prelude.{◌<◌, ◌≡◌, negsuc, IfSome};
+ghost use Rattle.std.specs.Prelude.{◌<◌, ◌≡◌, negsuc, IfSome, option_map};
 ghost use Rattle.rb_chapter.specs.ChapterCalls.{IsSameChapter};
 ghost use Rattle.rb_chapter.specs.ChapterRing.{StandsForChapter};
+ghost use Rattle.rb_hands.specs.HandRing.{HasInHand};
+ghost use Rattle.rb_world.specs.inner.HeldInHands.{StaysOut};
 ghost use Rattle.rb_world.specs.inner.RingAnswers.{IsReserved, IsOutput, IsWholeAnswer};
 
-use rb_chapter_ring::{ReserveFault, RingState};
-use rb_history::Reservation;
+use rb_chapter_ring::{Reservation, ReserveFault, RingState};
 use rb_lend::{Lent, Sheet};
 use std::alloc::Global;
 
-// Reserves a record of `len` bytes for a worker: none where the flags are not 0, where there is no room, or where memory is
-// refused.
+// Reserves a record of `len` bytes for a worker, into its lowest free hand: none where the flags are not 0, where no hand is free, where
+// there is no room, or where memory is refused.
 pub(crate) fn reserve(
     ring: &mut RingState,
     alloc: Global,
@@ -19,17 +20,23 @@ pub(crate) fn reserve(
     len: u32,
     flags: u64,
 ) -> Option<Reservation>
-    requires worker { worker < ring.old.chapter.opening.setup.workers }
-    ensures reserved { IsWholeAnswer (λ old new. IsReserved old new worker len flags result) ring.old ring.new }
-    ensures same_chapter { IsSameChapter ring.old ring.new }
+    requires worker { worker < ring.old.state.ring.chapter.opening.setup.workers }
+    ensures reserved { IsWholeAnswer (λ old new. IsReserved old new worker len flags (option_map (λ r. r.granted) result)) ring.old.state.ring ring.new.state.ring }
+    ensures same_tag { ring.new.tag ≡ ring.old.tag }
+    ensures same_chapter { IsSameChapter ring.old.state.ring ring.new.state.ring }
+    ensures in_hand { IfSome result (λ r. HasInHand ring.new.state r.hand r.granted) }
+    ensures others { StaysOut ring.old.state.hands ring.new.state.hands }
 {
     if flags != 0 {
         return None;
     }
+    let Some(hand) = ring.free_hand(worker) else {
+        return None;
+    };
     let Ok(sheet) = Sheet::new(alloc, len) else {
         return None;
     };
-    let answer = ring.reserve(worker, len, sheet);
+    let answer = ring.reserve(worker, hand, len, sheet);
     ring.facts();
     match answer {
         Ok(reservation) => Some(reservation),
@@ -45,9 +52,11 @@ pub(crate) fn output(
     bytes: &[u8],
     flags: u64,
 ) -> i64
-    requires worker { worker < ring.old.chapter.opening.setup.workers }
-    ensures given { IsWholeAnswer (λ old new. IsOutput old new worker bytes.now flags result) ring.old ring.new }
-    ensures same_chapter { IsSameChapter ring.old ring.new }
+    requires worker { worker < ring.old.state.ring.chapter.opening.setup.workers }
+    ensures given { IsWholeAnswer (λ old new. IsOutput old new worker bytes.now flags result) ring.old.state.ring ring.new.state.ring }
+    ensures same_tag { ring.new.tag ≡ ring.old.tag }
+    ensures same_chapter { IsSameChapter ring.old.state.ring ring.new.state.ring }
+    ensures same_hands { ring.new.state.hands ≡ ring.old.state.hands }
 {
     if flags > 3 {
         return -22;
@@ -70,7 +79,7 @@ pub(crate) fn output(
 // The code of an output that a ring refused.
 fn refused(ring: &RingState, fault: ReserveFault) -> i64
     ensures code { result ≡ negsuc 10 }
-    ensures stands { StandsForChapter ring.now }
+    ensures stands { StandsForChapter ring.now.state.ring }
 {
     let _ = fault;
     ring.facts();

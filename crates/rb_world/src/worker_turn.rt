@@ -1,8 +1,9 @@
 //! One turn of a worker.
 
 ghost use Rattle.std.specs.Prelude.{◌≡◌, ◌<◌, ◌≤◌, length, map};
+ghost use Rattle.rb_world.specs.inner.HeldInHands.{AreInHand, HoldsEachOldOrOut, KeepsEachInHand, books_of};
 ghost use Rattle.rb_world.specs.inner.WorkerTurn.{IsWorkerTurn};
-ghost use Rattle.rb_world.specs.inner.FittingWorlds.{AreOwn, AreBusy, AreOpenTo, setups_of};
+ghost use Rattle.rb_world.specs.inner.FittingWorlds.{AreOwn, AreOpenTo, setups_of};
 ghost use Rattle.rb_world.specs.TurnsDone.{chapters_of};
 ghost use Rattle.rb_world.specs.WorldValue.{world_ring};
 
@@ -23,9 +24,11 @@ pub(crate) fn work(
     requires rings { AreOpenTo w (setups_of (map world_ring rings.old.items)) }
     requires program { machine.old.program.rings ≤ length rings.old.items }
     requires own { AreOwn w (length rings.old.items) machine.old.records }
-    requires busy { AreBusy (map world_ring rings.old.items) machine.old.records }
+    requires in_hand { AreInHand (books_of rings.old.items) machine.old.records }
     ensures turned { IsWorkerTurn w machine.old (map world_ring rings.old.items) result machine.new (map world_ring rings.new.items) }
     ensures own { AreOwn w (length rings.new.items) machine.new.records }
+    ensures held { HoldsEachOldOrOut (books_of rings.new.items) machine.old.records machine.new.records }
+    ensures hands { KeepsEachInHand rings.old.items rings.new.items }
     ensures program { machine.new.program ≡ machine.old.program }
     ensures chapters { map chapters_of rings.new.items ≡ map chapters_of rings.old.items }
 {

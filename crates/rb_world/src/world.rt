@@ -27,20 +27,21 @@ pub struct World<'p> {
 }
 
 impl<'p> Model for World<'p> {
-    ghost use Rattle.rb_world.specs.WorldValue.{WorldValue, whole_world};
-    ghost use Rattle.rb_world.specs.inner.FittingWorlds.{IsSoundWorld};
+    ghost use Rattle.rb_world.specs.WorldValue.{WorldValue};
+    ghost use Rattle.rb_world.specs.inner.HeldInHands.{IsHeldWorld};
     ghost use Rattle.std.specs.Coded.{codes};
     ghost use Rattle.rb_history.specs.RingModel.{contents_code};
     ghost use Rattle.rb_history.specs.contracts.entries.Entry as entry;
     ghost use Rattle.rb_history.specs.contracts.tally.Tally as tally_row;
+    ghost use Rattle.rb_hands.specs.contracts.out_record.OutRecord as out_row;
 
     ghost Value = { WorldValue };
 
-    ghost coded = { Prim.hlevel (codes, contents_code, entry.the_row.coded, tally_row.the_row.coded) };
+    ghost coded = { Prim.hlevel (codes, contents_code, entry.the_row.coded, tally_row.the_row.coded, out_row.the_row.coded) };
 
     ghost view = { λ w. record { rings = w.rings.items; machines = w.machines.items } };
 
-    ghost invariant = { λ w. IsSoundWorld (whole_world (record { rings = w.rings.items; machines = w.machines.items })) };
+    ghost invariant = { λ w. IsHeldWorld (record { rings = w.rings.items; machines = w.machines.items }) };
 }
 
 impl<'p> World<'p> {
@@ -118,13 +119,14 @@ impl<'p> World<'p> {
         self.rings[r as usize].taken.as_slice()
     }
 
-    /// A ring, whose positions `query` tells, its counts `counts` and its chapter `chapter`. What it tells of its history is that of all its
-    /// chapters.
+    /// A ring, whose positions `query` tells, its counts `counts` and its chapter `chapter`; its tag is its number. What it tells of its history
+    /// is that of all its chapters.
     pub fn ring(&self, r: u32) -> &RingState
         requires ring { r < length self.now.rings }
         ensures ring { result.now ≡ (ring_at self.now r).ring }
-        ensures whole { whole_ring (joined (ring_at self.now r).chapters) result.now ≡ ((world_of self.now).rings r).ring }
-        ensures kept { IsKept (joined (ring_at self.now r).chapters) result.now.chapter }
+        ensures tag { result.now.tag ≡ r }
+        ensures whole { whole_ring (joined (ring_at self.now r).chapters) result.now.state.ring ≡ ((world_of self.now).rings r).ring }
+        ensures kept { IsKept (joined (ring_at self.now r).chapters) result.now.state.ring.chapter }
     {
         self.rings[r as usize].facts();
         &self.rings[r as usize].ring
@@ -135,8 +137,8 @@ impl<'p> World<'p> {
     pub fn chapters(&self, r: u32) -> &[Chapter]
         requires ring { r < length self.now.rings }
         ensures chapters { result.now ≡ (ring_at self.now r).chapters }
-        ensures binds { Binds result.now (ring_at self.now r).ring.chapter }
-        ensures bound { IsBound result.now (ring_at self.now r).ring.chapter ((world_of self.now).rings r).ring.history }
+        ensures binds { Binds result.now (ring_at self.now r).ring.state.ring.chapter }
+        ensures bound { IsBound result.now (ring_at self.now r).ring.state.ring.chapter ((world_of self.now).rings r).ring.history }
     {
         self.rings[r as usize].facts();
         self.rings[r as usize].chapters.as_slice()
@@ -200,7 +202,6 @@ impl<'p> World<'p> {
         ensures workers { length self.new.machines ≡ length self.old.machines }
         ensures rings { length self.new.rings ≡ length self.old.rings }
     {
-        self.machines[w as usize].record_facts();
         work(
             &mut self.machines[w as usize],
             &mut self.rings,

@@ -119,9 +119,15 @@ impl Write for Sink {
 }
 
 impl Outgoing for Sink {
-    ghost use Rattle.std.specs.Prelude.{[]};
+    ghost use Rattle.std.specs.Prelude.{[], None, ⊤, refl};
+
+    ghost went = { λ _. None };
 
     ghost waiting = { λ _. [] };
+
+    ghost hands_out = { λ _ _ _. ⊤ };
+
+    ghost contents_are = { λ _. refl };
 
     fn hand_out(&mut self) -> Result<()> {
         self.flush()
@@ -168,9 +174,15 @@ impl Write for OneFailure {
 }
 
 impl Outgoing for OneFailure {
-    ghost use Rattle.std.specs.Prelude.{[]};
+    ghost use Rattle.std.specs.Prelude.{[], None, ⊤, refl};
+
+    ghost went = { λ _. None };
 
     ghost waiting = { λ _. [] };
+
+    ghost hands_out = { λ _ _ _. ⊤ };
+
+    ghost contents_are = { λ _. refl };
 
     fn hand_out(&mut self) -> Result<()> {
         self.flush()

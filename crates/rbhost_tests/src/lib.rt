@@ -1,5 +1,5 @@
 //! Tests of the program by its command line, over readers and writers in memory that fail, and of `feed`, `tape` and `run_taped` over such writers.
-//! Command lines over devices that do not fail are rows of `rb_program_rows`.
+//! Command lines over devices that do not fail are rows of `rb_program_rows`, but for those with lines of JSON.
 #![tactic(auto)]
 
 #[cfg(test)]
@@ -14,6 +14,8 @@ mod fakes;
 mod feed_command;
 #[cfg(test)]
 mod feed_retries;
+#[cfg(test)]
+mod json_lines;
 #[cfg(test)]
 mod run_command;
 #[cfg(test)]

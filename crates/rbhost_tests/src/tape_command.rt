@@ -2,6 +2,7 @@
 
 use crate::endings::ended_over;
 use crate::fakes::{Sink, Source, Trouble};
+use rb_json::LineForm;
 use rb_reader::TapeKind;
 use rb_tape_commands::{TapeRefusal, tape};
 use std::alloc::Global;
@@ -33,7 +34,7 @@ fn reads_that_fail(rt: HostRuntime) {
 fn printed(alloc: Global, bytes: &[u8], room: usize) -> (Result<(), TapeRefusal>, Vec<u8>) {
     let mut reader = Source::new(bytes, 5);
     let mut sink = Sink::new(alloc, room, 3, Trouble::TakesNothing);
-    let answer = tape(alloc, &mut reader, &mut sink, 4096, 0);
+    let answer = tape(alloc, &mut reader, &mut sink, 4096, 0, LineForm::Words);
     (answer, sink.taken)
 }
 

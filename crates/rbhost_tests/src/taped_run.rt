@@ -4,6 +4,7 @@ ghost use Rattle.std.specs.Prelude.{◌≡◌};
 
 use crate::endings::{ended, number};
 use crate::fakes::{Sink, Trouble};
+use rb_json::LineForm;
 use rb_loader::read_program;
 use rb_run_commands::{JOB_BOUNDS, JobsRequest, WrittenTape, check_ring, run_taped};
 use rb_verifier::Verified;
@@ -42,6 +43,7 @@ fn run_over<T: Abort + AllocGlobal + Threads + Wait + Sync + Files<File = File>>
         jobs,
         size,
         start: 8,
+        form: LineForm::Words,
     };
     let Ok(_workers) = check_ring(request) else {
         rt.panic("no ring");

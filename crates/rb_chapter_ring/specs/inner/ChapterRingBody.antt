@@ -1,5 +1,5 @@
 -- The ring that keeps a chapter: what it means, and what it keeps from call to call.
-use Rattle.std.specs.Prelude.{ℕ, ◌≡◌, ◌+◌, ◌-◌, ◌*◌, ◌/◌, ◌%◌, ◌<◌, ◌≤◌, ◌^◌, ◌&&◌, ◌==◌, ltb, Bool, true, false, List, [], ◌∷◌, ◌++◌, Option, Some, None, map, length, if◌then◌else◌}
+use Rattle.std.specs.Prelude.{ℕ, ◌≡◌, ◌+◌, ◌-◌, ◌*◌, ◌/◌, ◌%◌, ◌≤◌, ◌^◌, List, [], ◌∷◌, ◌++◌, map, length}
 use Rattle.std.specs.List.{All, slice_index_or as get_or}
 use Rattle.std.specs.Int.{IsPowerOfTwo}
 use Rattle.rb_history.specs.declared.entries.Entry.{Entry}
@@ -10,49 +10,15 @@ use Rattle.rb_history.specs.declared.stored_records.RecordState.TheVariants.{Res
 use Rattle.rb_history.specs.History.{Shown, Status}
 use Rattle.rb_history.specs.History.Status.{Busy, Waiting}
 use Rattle.rb_history.specs.Counting.{counts_of}
-use Rattle.rb_history.specs.ReservationModel.{Granted}
 use Rattle.rb_history.specs.RingModel.{IsRingSize, IsStartPosition, IsWorkerCount}
 use Rattle.rb_history.specs.StoredRecords.{shown_record, contents_of, IsSized}
 use Rattle.rb_chapter.specs.Opening.{Opening}
 use Rattle.rb_chapter.specs.Chapters.{Chapter, IsChapterRoom, closing_of}
 use Rattle.rb_chapter.specs.ChapterRing.{ChapterRing}
 use Rattle.rb_chapter.specs.WholeHistory.{IsKept}
-use Rattle.rb_chapter_ring.specs.declared.ring.RingState.TheInside.{Inside}
+use Rattle.rb_chapter_ring.specs.declared.chapter_state.ChapterState.TheInside.{Inside}
 use Rattle.rb_chapter_ring.specs.OpenedRing.{capped_counts}
-
--- the place of a position: positions count round the ring, eight bytes a place
-abbrev pub place_of : ℕ → ℕ → ℕ
-place_of size p = p % size / 8
-
-abbrev pub no_stored : StoredRecord
-no_stored = record { pos = 0; len = 0; worker = 0; serial = 0; state = Reserved }
-
--- it is busy, and has the four numbers of the reservation
-abbrev pub is_busy : Status → Bool
-is_busy Busy = true
-is_busy _ = false
-
-abbrev pub is_reserved_by : Granted → Shown → Bool
-is_reserved_by r s = is_busy s.status && (s.pos == r.pos) && (s.worker == r.worker) && (s.serial == r.serial) && (s.len == length r.bytes)
-
-abbrev pub no_shown : Shown
-no_shown = record { pos = 0; len = 0; worker = 0; serial = 0; status = Busy }
-
--- the record at an index, where it is there, busy and the reservation's
-abbrev pub found_at : List Shown → ℕ → Granted → Option ℕ
-found_at ss i r = if ltb i (length ss) && is_reserved_by r (get_or ss i no_shown) then Some i else None
-
--- the index of the record of an ordinal
-abbrev pub index_of : List Shown → ℕ → ℕ → Granted → Option ℕ
-index_of ss first ordinal r = if ltb ordinal first then None else found_at ss (ordinal - first) r
-
--- how many records were taken
-abbrev pub taken_before : Opening → ℕ
-taken_before o = o.consumed + o.skipped
-
--- each record's place has its ordinal: the number of the records that were taken, and its index
-abbrev pub AreNumbered : ℕ → List ℕ → ℕ → List StoredRecord → Type 0
-AreNumbered size ordinals first stored = (i : ℕ) → i < length stored → get_or ordinals (place_of size (get_or stored i no_stored).pos) 0 ≡ first + i
+use Rattle.rb_chapter_ring.specs.inner.Ordinals.{taken_before}
 
 -- a record with the bytes of its slot
 abbrev pub state_with : Status → List ℕ → RecordState
@@ -89,25 +55,23 @@ ring_of c stored = record {
 abbrev pub chapter_ring_shown : Inside → ChapterRing
 chapter_ring_shown a = ring_of a.chapter (stored_of a.chapter a.sheets.items)
 
--- what holds of the records and of their numbers, by what the chapter stands for at its end
-pub record IsStored (size : ℕ) (o : Opening) (stored : List StoredRecord) (ordinals : List ℕ) : Type 0 where
+-- what holds of the records, by what the chapter stands for at its end
+pub record IsStored (size : ℕ) (o : Opening) (stored : List StoredRecord) : Type 0 where
   pub limit : o.producer ≤ 2 ^ 62
   pub space : o.producer ≤ o.consumer + (size - 1)
   pub aligned : o.consumer % 8 ≡ 0
   pub shown : map shown_record stored ≡ o.records
-  pub numbered : AreNumbered size ordinals (taken_before o) stored
   pub behind : 8 * taken_before o ≤ o.consumer
 
 -- the parts are a ring's, where `earlier` has the entries of the chapters that were handed out
-pub record IsRingOf (earlier : List Entry) (c : Chapter) (stored : List StoredRecord) (ordinals : List ℕ) (counts : Counts) : Type 0 where
+pub record IsRingOf (earlier : List Entry) (c : Chapter) (stored : List StoredRecord) (counts : Counts) : Type 0 where
   pub kept : IsKept earlier c
   pub size : IsRingSize c.opening.setup.size
   pub start : IsStartPosition c.opening.setup.start
   pub workers : IsWorkerCount c.opening.setup.workers
   pub chapter_room : IsChapterRoom c.room
-  pub stands : IsStored c.opening.setup.size (closing_of c) stored ordinals
+  pub stands : IsStored c.opening.setup.size (closing_of c) stored
   pub sized : All IsSized stored
-  pub places : length ordinals ≡ c.opening.setup.size / 8
   pub counted : counts ≡ capped_counts (counts_of (earlier ++ c.entries))
   pub granted : counts.made ≡ taken_before (closing_of c) + length stored
 
@@ -115,7 +79,7 @@ pub record IsRingOf (earlier : List Entry) (c : Chapter) (stored : List StoredRe
 pub record ChapterRingInvariant (a : Inside) : Type 0 where
   pub earlier : List Entry
   pub counts : Counts
-  pub ring : IsRingOf earlier a.chapter (stored_of a.chapter a.sheets.items) a.ordinals.items counts
+  pub ring : IsRingOf earlier a.chapter (stored_of a.chapter a.sheets.items) counts
   pub refused_is : a.refused ≡ counts.refused
   pub discarded_is : a.discarded ≡ counts.discarded
   pub power : IsPowerOfTwo (length a.sheets.items)

@@ -9,7 +9,7 @@ use Rattle.rb_chapter_ring.specs.declared.faults.ReserveFault.{ReserveFault}
 use Rattle.rb_chapter_ring.specs.declared.faults.ReserveFault.TheVariants.{Flags}
 use Rattle.rb_chapter_ring.specs.RingFaults.{RefusesInChapter}
 use Rattle.rb_hands.specs.HandRing.{HandRing, GrantsToHand, SubmitsFromHand, DiscardsFromHand}
-use Rattle.rb_hand_ring.specs.HandGranted.{HandGranted}
+use Rattle.rb_chapter_ring.specs.HandGranted.{HandGranted}
 
 abbrev pub ReservesToHand : ℕ → ℕ → ℕ → Result HandGranted (ReserveFault × List ℕ) → HandRing → HandRing → Type 0
 ReservesToHand w hand n (Ok r) old new = GrantsToHand old new w hand n r.granted.pos r.granted.serial × (r.granted.worker ≡ w) × (r.granted.bytes ≡ replicate n 0)

@@ -4,6 +4,7 @@ use Rattle.std.specs.Io.KnownBytes.{Appends, Consumes}
 use Rattle.rb_header.specs.TapeBytes.{Item}
 use Rattle.rb_reader.specs.TapeReading.{Reading}
 use Rattle.rb_reader.specs.LongestTape.{HasReadItems}
+use Rattle.rb_json.specs.declared.form.LineForm.{LineForm}
 use Rattle.rb_tape_commands.specs.TapeText.{tape_lines}
 use Rattle.rb_reader.specs.declared.fault.TapeKind.TheVariants.{Truncated}
 use Rattle.rb_tape_commands.specs.declared.tape_refusal.TapeRefusal.{TapeRefusal}
@@ -16,7 +17,7 @@ EndsTape r (Err (Record kind offset)) = (r.rest ≢ []) × (kind ≡ Truncated) 
 EndsTape r (Err _) = ⊥
 
 -- So far: these bytes of the input were read; the reader has read these items of them, whose lines were printed, and it has told no fault.
-pub record PrintsSoFar (size start : ℕ) (unread left before after : Option (List ℕ)) (r : Reading) : Type 0 where
+pub record PrintsSoFar (form : LineForm) (size start : ℕ) (unread left before after : Option (List ℕ)) (r : Reading) : Type 0 where
   pub bytes : List ℕ
   pub items : List Item
   pub read : Consumes unread left bytes
@@ -24,4 +25,4 @@ pub record PrintsSoFar (size start : ℕ) (unread left before after : Option (Li
   pub start_is : r.start ≡ start
   pub no_fault : r.told ≡ None
   pub items_read : HasReadItems size start bytes items r.position r.rest
-  pub printed : Appends before after (tape_lines items)
+  pub printed : Appends before after (tape_lines form items)

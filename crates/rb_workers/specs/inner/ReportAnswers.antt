@@ -1,11 +1,10 @@
 -- The answers of all jobs in a report.
 use Rattle.std.specs.Prelude.{◌≡◌, ℕ, ◌<◌, List, length, map, slice_index_or}
-use Rattle.std.specs.List.{count_by, sum_by}
+use Rattle.std.specs.List.{sum_by}
 use Rattle.rb_jobs.specs.declared.job.Job.{Job}
 use Rattle.rb_jobs.specs.declared.job.JobAnswer.{JobAnswer}
 use Rattle.rb_workers.specs.declared.opened.Report.{Report}
 use Rattle.rb_workers.specs.declared.workers.Worker.{Worker}
-use Rattle.rb_workers.specs.JobRuns.{is_stray}
 use Rattle.rb_workers.specs.inner.WorkerRuns.{own_answers}
 
 -- the report has an answer of each job, in which each worker's stand as the worker has them
@@ -14,5 +13,5 @@ pub record ReportMatches {S : Type 0} (jobs : List Job) (workers : List Worker) 
   pub one_each : length answers ≡ length jobs
   pub own_are : (k : ℕ) (d : _) → k < length workers → own_answers k jobs answers ≡ (slice_index_or workers k d).answers.items
   pub results_are : report.answers.items ≡ map (λ a. a.result) answers
-  pub strays_are : report.strays ≡ count_by is_stray report.answers.items
+  pub strays_are : report.strays ≡ 0
   pub unlogged_is : report.unlogged ≡ sum_by (λ a. a.unlogged) answers

@@ -47,10 +47,10 @@ HasSeats old seats new = (new.number ≡ old.number) × (new.short ≡ old.short
 abbrev pub IsReady : List Shared → Worker → Type 0
 IsReady rings worker = AtRings rings worker.seats.items × (worker.answers.items ≡ []) × (worker.short ≡ false)
 
--- the worker ran the job; where there was no memory for it, nothing changed
-abbrev pub RunsOne : Job → Bool → Worker → Worker → Type 0
-RunsOne job true old new = (a : JobAnswer) × (new.answers.items ≡ old.answers.items ++ a ∷ []) × JobRan (task_of job) a old.seats.items new.seats.items
-RunsOne job false old new = (new.answers.items ≡ old.answers.items) × (new.seats.items ≡ old.seats.items)
+-- the job was run, and its answer is one more; where there was no memory for it, nothing changed
+abbrev pub RunsOne : Job → Bool → List JobAnswer → List WorkerSeat → List JobAnswer → List WorkerSeat → Type 0
+RunsOne job true given old more new = (a : JobAnswer) × (more ≡ given ++ a ∷ []) × JobRan (task_of job) a old new
+RunsOne job false given old more new = (more ≡ given) × (new ≡ old)
 
 -- the worker ran its jobs in their order; short of memory, it ran the first of them
 abbrev pub RunsOwnJobs : List Job → Bool → List JobAnswer → List WorkerSeat → List WorkerSeat → Type 0

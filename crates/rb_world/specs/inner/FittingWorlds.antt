@@ -2,9 +2,8 @@
 use Rattle.std.specs.Prelude.{ℕ, ◌≡◌, ◌<◌, ◌≤◌, List, Some, length, map}
 use Rattle.std.specs.List.{slice_index_or, AllByRecursion}
 use Rattle.rb_history.specs.RoomRule.{Setup}
-use Rattle.rb_history.specs.Calls.{HoldsReservation}
 use Rattle.rb_interp.specs.MachineState.{MachineState}
-use Rattle.rb_interp.specs.StoredMemory.{held_record, record_bytes_in}
+use Rattle.rb_interp.specs.StoredMemory.{held_record}
 use Rattle.rb_interleavings.specs.Worlds.{WorldRing}
 use Rattle.rb_interleavings.specs.EveryInterleaving.{IsReachedWorld}
 use Rattle.rb_world.specs.declared.world_record.WorldRecord.{WorldRecord}
@@ -12,12 +11,7 @@ use Rattle.rb_world.specs.WorldValue.{WholeWorld, shown_world}
 
 -- the records of a worker were granted to it, at rings that are there
 abbrev pub AreOwn : (w rings : ℕ) → List (ℕ × WorldRecord) → Type 0
-AreOwn w rings records = (id : ℕ) (x : WorldRecord) → held_record id records ≡ Some x → (x.ring < rings) × (x.reservation.worker ≡ w)
-
--- they are busy there
-abbrev pub AreBusy : List WorldRing → List (ℕ × WorldRecord) → Type 0
-AreBusy rings records =
-    (id : ℕ) (x : WorldRecord) (s : WorldRing) → held_record id records ≡ Some x → s ≡ slice_index_or rings x.ring s → HoldsReservation s.ring x.reservation
+AreOwn w rings records = (id : ℕ) (x : WorldRecord) → held_record id records ≡ Some x → (x.ring < rings) × (x.reservation.granted.worker ≡ w)
 
 abbrev pub setups_of : List WorldRing → List Setup
 setups_of rings = map (λ s. s.ring.setup) rings

@@ -61,7 +61,7 @@ AnswersOutput w flags m s m' s' =
 
 -- a record was given back, by a submit or a discard, and taken
 abbrev pub AnswersGivenBack : GivingBack → WorldRecord → MachineState WorldRecord → WorldRing → MachineState WorldRecord → WorldRing → Type 0
-AnswersGivenBack gives owned m s m' s' = gives owned.reservation Taken s s' × GoesOnWith asked.GiveBack Taken (held_by m) m m'
+AnswersGivenBack gives owned m s m' s' = gives owned.reservation.granted Taken s s' × GoesOnWith asked.GiveBack Taken (held_by m) m m'
 
 abbrev pub AnswersQuery : ℕ → MachineState WorldRecord → WorldRing → MachineState WorldRecord → Type 0
 AnswersQuery what m s m' = GoesOnWith asked.Query (Told (query_answer s.ring.setup s.ring.history what)) (held_by m) m m'

@@ -1,4 +1,4 @@
-use Rattle.rb_chapter_ring.proofs.Places.{eighth-power}
+use Rattle.rb_chapter_ring.proofs.Pieces.{eighth-power}
 use Rattle.rb_chapter_ring.proofs.setup.slots_for.Goals as goal
 
 pub returns-then-places-room-clause-power : goal.returns-then-places-room-clause-power

@@ -1,7 +1,7 @@
 use Rattle.std.proofs.Common.{◌≡◌, true, false, subst}
 use Rattle.std.specs.Io.KnownBytes.{append_known}
 use Rattle.rb_run_commands.specs.TapedRun.{TapesRun}
-use Rattle.rb_io.specs.Gathered.{Gathered}
+use Rattle.rb_io.specs.Gathered.{Gathered, HandsOn}
 use Rattle.rb_run_commands.proofs.taped_run.run_to_file.Goals as goal
 
 pub returns-clause-printed : goal.returns-clause-printed
@@ -15,7 +15,7 @@ returns-clause-printed g c =
       writer = tape;
       left = left;
       taped =
-          subst (λ whole. TapesRun contents tape c.in_ok-program.program c.args.request (g.W.Write.contents c.args.out.now) (g.W.Write.contents c.run_taped.new.out) whole left)
+          subst (λ whole. TapesRun contents (HandsOn g.F.Write.contents) tape c.in_ok-program.program c.args.request (g.W.Write.contents c.args.out.now) (g.W.Write.contents c.run_taped.new.out) whole left)
           c.if-not-written.false c.in_ok-written.ensures.taped;
       handed_on = c.in_ok-written.ensures.handed_on c.if-not-written.false;
     }

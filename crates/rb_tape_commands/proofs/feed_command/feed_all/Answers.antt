@@ -19,7 +19,7 @@ returns-in_err-payload-clause-fed g c =
 
 pub feed_one-requires-clause-all_taken : goal.feed_one-requires-clause-all_taken
 feed_one-requires-clause-all_taken g c =
-    let turned = goes_on c.loop-payload.ring c.make_chapter_room.new.ring c.make_chapter_room.ensures.turned in
+    let turned = goes_on c.loop-payload.ring.state.ring c.make_chapter_room.new.ring.state.ring c.make_chapter_room.ensures.turned in
     turned.producer_same ∙ c.loop-payload.invariant.all_taken ∙ sym turned.consumer_same
 
 pub returns-in_err-spare-clause-fed : goal.returns-in_err-spare-clause-fed
@@ -40,7 +40,7 @@ loop-payload-preserved g c =
     let payload = c.in-Some.payload in
     let fed = subst (λ n. FeedsOne n c.loop-payload.tape.position c.loop-payload.number payload (g.W.Write.contents c.loop-payload.tape.writer) (g.W.Write.contents c.feed_one.new.tape.writer) (Ok c.in_ok-spare.spare)) l.size done.fed in
     let moved = done.moves_on in
-    let turned = goes_on c.loop-payload.ring c.make_chapter_room.new.ring c.make_chapter_room.ensures.turned in
+    let turned = goes_on c.loop-payload.ring.state.ring c.make_chapter_room.new.ring.state.ring c.make_chapter_room.ensures.turned in
     let same = moved.same_chapter in
     let at : c.feed_one.new.tape.position ≡ c.loop-payload.tape.position + span (length payload) = done.position in
     let item = fed.0 in
@@ -50,8 +50,9 @@ loop-payload-preserved g c =
     record {
       size = one.size ∙ l.size;
       finished = done.finished;
+      fewer = omega (arith, l.fewer, one.fewer);
       setup = ap (λ (h : Chapter). h.opening.setup) same ∙ turned.setup_same ∙ l.setup;
-      spare = spare_stays c.make_chapter_room.new.ring c.feed_one.new.ring c.make_chapter_room.new.spare same c.make_chapter_room.ensures.spare;
+      spare = spare_stays c.make_chapter_room.new.ring.state.ring c.feed_one.new.ring.state.ring c.make_chapter_room.new.spare same c.make_chapter_room.ensures.spare;
       numbered = omega (arith, l.numbered, turned.numbered, ap (λ (h : Chapter). h.number) same);
       all_taken = moved.all_taken;
       position = at ∙ ap (λ n. n + span (length payload)) (l.position ∙ sym turned.producer_same) ∙ sym moved.producer_is;

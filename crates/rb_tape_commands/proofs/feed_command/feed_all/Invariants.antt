@@ -1,4 +1,5 @@
-use Rattle.std.proofs.Common.{◌≡◌, ◌+◌, ◌-◌, ◌*◌, ◌≤◌, ◌^◌, false, List, ℕ, [], length}
+use Rattle.std.proofs.Common.{◌≡◌, ◌+◌, ◌-◌, ◌*◌, ◌≤◌, ◌^◌, List, ℕ, [], length}
+use Rattle.std.specs.Prelude.{None}
 use Rattle.rb_header.specs.TapeBytes.{end_of}
 use Rattle.rb_chapter.specs.ChapterCalls.{AllTaken, producer_now}
 use Rattle.rb_tape_commands.specs.ChapterTurns.{IsSpareOf}
@@ -12,12 +13,13 @@ use Rattle.rb_tape_commands.proofs.feed_command.feed_all.Given as goal
 abbrev pub invariant-loop-payload : goal.invariant-loop-payload
 invariant-loop-payload g l = record {
   size : l.tape.size ≡ l.size;
-  finished : l.tape.unfinished ≡ false;
-  setup : l.ring.chapter.opening.setup ≡ record { size = l.size; start = l.fn.tape.position; workers = 1 };
-  spare : IsSpareOf l.ring l.spare_chapter;
-  numbered : l.ring.chapter.number ≤ l.number;
-  all_taken : AllTaken l.ring;
-  position : l.tape.position ≡ producer_now l.ring;
+  finished : l.tape.unfinished ≡ None;
+  fewer : l.retries ≤ l.fn.retries;
+  setup : l.ring.state.ring.chapter.opening.setup ≡ record { size = l.size; start = l.fn.tape.position; workers = 1 };
+  spare : IsSpareOf l.ring.state.ring l.spare_chapter;
+  numbered : l.ring.state.ring.chapter.number ≤ l.number;
+  all_taken : AllTaken l.ring.state.ring;
+  position : l.tape.position ≡ producer_now l.ring.state.ring;
   low : l.fn.tape.position + 8 * l.number ≤ l.tape.position;
   high : l.tape.position ≤ 2 ^ 62;
   passed : (payloads : List (List ℕ)) × FeedsAll (feed_run l.size l.fn.tape.position (g.R.Read.remaining l.fn.reader) (g.R.Read.remaining l.reader) (g.W.Write.contents l.fn.tape.writer) (g.W.Write.contents l.tape.writer)) payloads [] × (l.number ≡ length payloads) × (l.tape.position ≡ end_of l.fn.tape.position (events_from l.fn.tape.position payloads));

@@ -14,58 +14,58 @@ pieces-init g c =
     let start = c.args.feed.now.start in
     let fresh = sym c.requires.fresh in
     record {
-      so_far = subst (PrintsSoFar size start _ _ _ _) fresh (nothing_yet size start _ _);
-      undecided = subst (λ (r : Reading). IsUndecided size r.position r.rest) fresh (nothing_shown size start);
+      so_far = subst (PrintsSoFar c.args.form size start _ _ _ _) fresh (nothing_yet c.args.form size start _ _);
+      undecided = subst (λ (r : Reading). IsUndecided size r.position r.rest) fresh (nothing_shown c.args.form size start);
     }
 
 pub returns-in-Err-clause-answer : goal.returns-in-Err-clause-answer
-returns-in-Err-clause-answer g c = answers_read c.args.feed.now.size c.args.feed.now.start c.requires.size _ _ _ _ c.pieces.feed c.pieces.invariant.so_far
+returns-in-Err-clause-answer g c = answers_read c.args.form c.args.feed.now.size c.args.feed.now.start c.requires.size _ _ _ _ c.pieces.feed c.pieces.invariant.so_far
 
 pub returns-then-count-eq0-clause-answer : goal.returns-then-count-eq0-clause-answer
 returns-then-count-eq0-clause-answer g c =
     let i = c.pieces.invariant in
     let none = c.if-count-eq0.true in
     let read = subst (λ k. Consumes (g.R.Read.remaining c.pieces.input) (g.R.Read.remaining c.read.new.self) (take k c.read.new.buf)) none c.in-Ok.ensures.bytes.0 in
-    answers_end c.args.feed.now.size c.args.feed.now.start c.requires.size _ _ _ _ _ c.pieces.feed c.end_of_input.result i.so_far read (c.in-Ok.ensures.bytes.1 none (omega (arith, c.read.auto.buf))) i.undecided c.end_of_input.ensures.ends
+    answers_end c.args.form c.args.feed.now.size c.args.feed.now.start c.requires.size _ _ _ _ _ c.pieces.feed c.end_of_input.result i.so_far read (c.in-Ok.ensures.bytes.1 none (omega (arith, c.read.auto.buf))) i.undecided c.end_of_input.ensures.ends
 
 pub returns-then-is_err-clause-answer : goal.returns-then-is_err-clause-answer
-returns-then-is_err-clause-answer g c = answers_memory c.args.feed.now.size c.args.feed.now.start c.requires.size _ _ _ _ _ c.pieces.feed c.pieces.invariant.so_far (Keeps-refl _)
+returns-then-is_err-clause-answer g c = answers_memory c.args.form c.args.feed.now.size c.args.feed.now.start c.requires.size _ _ _ _ _ c.pieces.feed c.pieces.invariant.so_far (Keeps-refl _)
 
 pub returns-clause-answer : goal.returns-clause-answer
-returns-clause-answer g c = answers_read c.args.feed.now.size c.args.feed.now.start c.requires.size _ _ _ _ c.pieces.feed c.pieces.invariant.so_far
+returns-clause-answer g c = answers_read c.args.form c.args.feed.now.size c.args.feed.now.start c.requires.size _ _ _ _ c.pieces.feed c.pieces.invariant.so_far
 
 pub returns-then-write_out-text-clause-answer : goal.returns-then-write_out-text-clause-answer
 returns-then-write_out-text-clause-answer g c =
     let piece = take c.in-Ok.count c.read.new.buf in
-    let added = piece_added c.pieces.feed c.feed.new.self piece c.feed.result c.is_err.result c.feed.ensures.adds c.is_err.ensures.value c.if-is_err.false in
-    let read = piece_more c.args.feed.now.size c.args.feed.now.start _ _ _ _ c.pieces.feed c.pieces.invariant.so_far _ piece c.feed.new.self c.in-Ok.ensures.bytes.0 added in
+    let added = piece_added c.args.form c.pieces.feed c.feed.new.self piece c.feed.result c.is_err.result c.feed.ensures.adds c.is_err.ensures.value c.if-is_err.false in
+    let read = piece_more c.args.form c.args.feed.now.size c.args.feed.now.start _ _ _ _ c.pieces.feed c.pieces.invariant.so_far _ piece c.feed.new.self c.in-Ok.ensures.bytes.0 added in
     let sent = c.write_out.result in
     let prints = subst (λ l. Appends (g.W.Write.contents c.pieces.out) (g.W.Write.contents c.write_out.new.writer) (take sent l)) c.text.ensures.value c.write_out.ensures.bytes in
-    answers_cut c.args.feed.now.size c.args.feed.now.start c.requires.size _ _ _ _ _ c.feed.new.self c.gather_lines-gathered.new.feed c.gather_lines-gathered.new.lines.text sent c.gather_lines-gathered.result read c.gather_lines-gathered.ensures.gathered prints
+    answers_cut c.args.form c.args.feed.now.size c.args.feed.now.start c.requires.size _ _ _ _ _ c.feed.new.self c.gather_lines-gathered.new.feed c.gather_lines-gathered.new.lines.text sent c.gather_lines-gathered.result read c.gather_lines-gathered.ensures.gathered prints
 
 pub returns-in_err-gathered-clause-answer : goal.returns-in_err-gathered-clause-answer
 returns-in_err-gathered-clause-answer g c =
     let piece = take c.in-Ok.count c.read.new.buf in
-    let added = piece_added c.pieces.feed c.feed.new.self piece c.feed.result c.is_err.result c.feed.ensures.adds c.is_err.ensures.value c.if-is_err.false in
-    let read = piece_more c.args.feed.now.size c.args.feed.now.start _ _ _ _ c.pieces.feed c.pieces.invariant.so_far _ piece c.feed.new.self c.in-Ok.ensures.bytes.0 added in
+    let added = piece_added c.args.form c.pieces.feed c.feed.new.self piece c.feed.result c.is_err.result c.feed.ensures.adds c.is_err.ensures.value c.if-is_err.false in
+    let read = piece_more c.args.form c.args.feed.now.size c.args.feed.now.start _ _ _ _ c.pieces.feed c.pieces.invariant.so_far _ piece c.feed.new.self c.in-Ok.ensures.bytes.0 added in
     let lines = c.gather_lines-gathered.new.lines.text in
     let sent = c.write_out.result in
     let prints = subst (λ l. Appends (g.W.Write.contents c.pieces.out) (g.W.Write.contents c.write_out.new.writer) (take sent l)) c.text.ensures.value c.write_out.ensures.bytes in
     let whole = subst (Appends _ _) (take_all sent lines (omega (arith, c.if-write_out-text.false, ap length c.text.ensures.value, ap length c.text-in-pieces.ensures.value))) prints in
     let p = err_from_is_err_and c.from_residual.result c.from_residual.ensures.1 in
-    rw (p.1, p.2) (answers_gathered c.args.feed.now.size c.args.feed.now.start c.requires.size _ _ _ _ _ c.feed.new.self c.gather_lines-gathered.new.feed lines c.in_err-gathered.field-0.0 read c.in_err-gathered.ensures.gathered whole)
+    rw (p.1, p.2) (answers_gathered c.args.form c.args.feed.now.size c.args.feed.now.start c.requires.size _ _ _ _ _ c.feed.new.self c.gather_lines-gathered.new.feed lines c.in_err-gathered.field-0.0 read c.in_err-gathered.ensures.gathered whole)
 
 pub pieces-preserved : goal.pieces-preserved
 pieces-preserved g c =
     let piece = take c.in-Ok.count c.read.new.buf in
-    let added = piece_added c.pieces.feed c.feed.new.self piece c.feed.result c.is_err.result c.feed.ensures.adds c.is_err.ensures.value c.if-is_err.false in
-    let read = piece_more c.args.feed.now.size c.args.feed.now.start _ _ _ _ c.pieces.feed c.pieces.invariant.so_far _ piece c.feed.new.self c.in-Ok.ensures.bytes.0 added in
+    let added = piece_added c.args.form c.pieces.feed c.feed.new.self piece c.feed.result c.is_err.result c.feed.ensures.adds c.is_err.ensures.value c.if-is_err.false in
+    let read = piece_more c.args.form c.args.feed.now.size c.args.feed.now.start _ _ _ _ c.pieces.feed c.pieces.invariant.so_far _ piece c.feed.new.self c.in-Ok.ensures.bytes.0 added in
     let lines = c.gather_lines-gathered.new.lines.text in
     let sent = c.write_out.result in
     let prints = subst (λ l. Appends (g.W.Write.contents c.pieces.out) (g.W.Write.contents c.write_out.new.writer) (take sent l)) c.text.ensures.value c.write_out.ensures.bytes in
     let whole = subst (Appends _ _) (take_all sent lines (omega (arith, c.if-write_out-text.false, ap length c.text.ensures.value, ap length c.text-in-pieces.ensures.value))) prints in
     let gathered = c.in_ok-gathered.ensures.gathered in
     record {
-      so_far = went_on c.args.feed.now.size c.args.feed.now.start _ _ _ _ _ c.feed.new.self c.gather_lines-gathered.new.feed lines read whole gathered.0;
+      so_far = went_on c.args.form c.args.feed.now.size c.args.feed.now.start _ _ _ _ _ c.feed.new.self c.gather_lines-gathered.new.feed lines read whole gathered.0;
       undecided = gathered.1;
     }

@@ -5,7 +5,7 @@ use Rattle.rb_tape_commands.proofs.tape_lines.gather_lines.Given as goal
 -- the lines are those of the records that were read, and the reader has told no fault
 abbrev pub invariant-records : goal.invariant-records
 invariant-records l = record {
-  reads : ReadsLines l.fn.feed l.feed l.lines.text;
+  reads : ReadsLines l.form l.fn.feed l.feed l.lines.text;
   no_fault : l.feed.told ≡ None;
 }
 

@@ -1,6 +1,6 @@
-use Rattle.std.proofs.Common.{◌≡◌, take, map}
-use Rattle.rb_world.specs.OpenedWorlds.{opened_ring}
+use Rattle.std.proofs.Common.{◌≡◌, take}
+use Rattle.rb_world.specs.OpenedWorlds.{opened_rings}
 use Rattle.rb_world.proofs.opening.open_rings.Given as goal
 
-abbrev pub invariant-loop-setup : goal.invariant-loop-setup
-invariant-loop-setup l = l.opened.items ≡ map (opened_ring l.workers) (take l.setup-index l.rings)
+abbrev pub invariant-loop-number : goal.invariant-loop-number
+invariant-loop-number l = l.opened.items ≡ opened_rings l.workers 0 (take l.number l.rings)

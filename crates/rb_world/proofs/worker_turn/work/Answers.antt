@@ -1,4 +1,6 @@
-use Rattle.std.proofs.Common.{rules, ◌≡◌, ◌<◌, ◌≤◌, length, map, set, refl, sym, ap, subst, ◌∙◌, arith}
+use Rattle.std.proofs.Common.{rules, ◌≡◌, ◌<◌, ◌≤◌, [], length, map, set, get_or, refl, inl, inr, sym, ap, subst, ◌∙◌, arith}
+use Rattle.std.specs.Prelude.{◌⊎◌}
+use Rattle.rb_hands.specs.Hands.{hand_at}
 use Rattle.rb_semantics.specs.HelperCalls.{Submit, Discard}
 use Rattle.rb_semantics.specs.Instructions.{Asks, next_step}
 use Rattle.rb_semantics.specs.Soundness.{IsLawful}
@@ -15,8 +17,11 @@ use Rattle.rb_world.specs.WorldValue.{place_of, world_ring}
 use Rattle.rb_world.specs.TurnsDone.{chapters_of}
 use Rattle.rb_world.specs.inner.WorkerTurn.{IsWorkerTurn}
 use Rattle.rb_world.specs.inner.FittingWorlds.{AreOwn}
-use Rattle.rb_world.proofs.ShownWorlds.{set-get}
-use Rattle.rb_world.proofs.HeldByWorkers.{seal, own-rewritten, own-given}
+use Rattle.rb_world.specs.inner.HeldInHands.{HoldsEachOldOrOut, IsOutIn, KeepsEachInHand, WasHeld, books_of, hands_shown, mark_of}
+use Rattle.rb_world.specs.WorldValue.{KeptRing, no_kept_ring}
+use Rattle.rb_world.proofs.ShownWorlds.{at-default, set-get}
+use Rattle.rb_world.proofs.HeldByWorkers.{all-given, all-rewritten, held-were, mark-stays}
+use Rattle.rb_world.proofs.HeldInHands.{book-at, holds-each, keeps-each-set, same-keeps}
 use Rattle.rb_world.proofs.WorkerTurns.{same-shown, went-turn, ended-turn, idle-turn, reserve-turn, output-turn, query-turn, give-turn}
 use Rattle.rb_world.proofs.MachineAnswers.{lawful-of, open-at, set-length}
 use Rattle.rb_world.proofs.WholeLists.{map-length, map-low, map-there, map-set, map-set-same}
@@ -36,7 +41,7 @@ returns-in-Went-clause-turned c =
 
 pub returns-in-Went-clause-own : goal.returns-in-Went-clause-own
 returns-in-Went-clause-own c =
-    own-rewritten c.args.w (length c.args.rings.now.items) c.args.machine.now.records c.step.new.self.records (same-shown seal _ (λ r w. refl) c.args.machine.now.records c.step.new.self.records c.in-Went.ensures.records) c.requires.own
+    all-rewritten (λ q. (q.ring < length c.args.rings.now.items) × (q.worker ≡ c.args.w)) c.args.machine.now.records c.step.new.self.records (same-shown mark_of _ mark-stays c.args.machine.now.records c.step.new.self.records c.in-Went.ensures.records) c.requires.own
 
 pub returns-in-Exit-clause-turned : goal.returns-in-Exit-clause-turned
 returns-in-Exit-clause-turned c =
@@ -53,7 +58,7 @@ index_mut-requires c =
     let mid = c.step.new.self in
     let rings = c.args.rings.now.items in
     let ready : old.phase ≡ phase.Ready = sym c.phase.ensures ∙ c.in-Ready.is in
-    let st = subst (λ (q : request.Request WorldRecord). StepsTo (λ (x : WorldRecord). x.reservation.bytes) (next_step c.args.machine.now.program.program c.args.machine.now.state) c.args.machine.now.records (Call q) c.step.new.self) c.in-Call-Reserve.field-0-is c.in-Call-Reserve.ensures.stepped in
+    let st = subst (λ (q : request.Request WorldRecord). StepsTo (λ (x : WorldRecord). x.reservation.granted.bytes) (next_step c.args.machine.now.program.program c.args.machine.now.state) c.args.machine.now.records (Call q) c.step.new.self) c.in-Call-Reserve.field-0-is c.in-Call-Reserve.ensures.stepped in
     let lawful = subst (IsLawful old.program) st.2 (lawful-of old st.0 mid.state ready c.facts.ensures st.1) in
     let known : c.in-Call-Reserve.ring < old.program.rings = lawful.0 in
     let there : old.program.rings ≤ length rings = c.requires.program in
@@ -66,7 +71,7 @@ index_mut-requires-in-Call-Output c =
     let mid = c.step.new.self in
     let rings = c.args.rings.now.items in
     let ready : old.phase ≡ phase.Ready = sym c.phase.ensures ∙ c.in-Ready.is in
-    let st = subst (λ (q : request.Request WorldRecord). StepsTo (λ (x : WorldRecord). x.reservation.bytes) (next_step c.args.machine.now.program.program c.args.machine.now.state) c.args.machine.now.records (Call q) c.step.new.self) c.in-Call-Output.field-0-is c.in-Call-Output.ensures.stepped in
+    let st = subst (λ (q : request.Request WorldRecord). StepsTo (λ (x : WorldRecord). x.reservation.granted.bytes) (next_step c.args.machine.now.program.program c.args.machine.now.state) c.args.machine.now.records (Call q) c.step.new.self) c.in-Call-Output.field-0-is c.in-Call-Output.ensures.stepped in
     let lawful = subst (IsLawful old.program) st.2.2 (lawful-of old st.0 mid.state ready c.facts.ensures st.1) in
     let known : c.in-Call-Output.ring < old.program.rings = lawful in
     let there : old.program.rings ≤ length rings = c.requires.program in
@@ -79,7 +84,7 @@ index-requires c =
     let mid = c.step.new.self in
     let rings = c.args.rings.now.items in
     let ready : old.phase ≡ phase.Ready = sym c.phase.ensures ∙ c.in-Ready.is in
-    let st = subst (λ (q : request.Request WorldRecord). StepsTo (λ (x : WorldRecord). x.reservation.bytes) (next_step c.args.machine.now.program.program c.args.machine.now.state) c.args.machine.now.records (Call q) c.step.new.self) c.in-Call-Query.field-0-is c.in-Call-Query.ensures.stepped in
+    let st = subst (λ (q : request.Request WorldRecord). StepsTo (λ (x : WorldRecord). x.reservation.granted.bytes) (next_step c.args.machine.now.program.program c.args.machine.now.state) c.args.machine.now.records (Call q) c.step.new.self) c.in-Call-Query.field-0-is c.in-Call-Query.ensures.stepped in
     let lawful = subst (IsLawful old.program) st.2 (lawful-of old st.0 mid.state ready c.facts.ensures st.1) in
     let known : c.in-Call-Query.ring < old.program.rings = lawful in
     let there : old.program.rings ≤ length rings = c.requires.program in
@@ -92,7 +97,7 @@ answer_reserve-requires-clause-worker c =
     let mid = c.step.new.self in
     let rings = c.args.rings.now.items in
     let ready : old.phase ≡ phase.Ready = sym c.phase.ensures ∙ c.in-Ready.is in
-    let st = subst (λ (q : request.Request WorldRecord). StepsTo (λ (x : WorldRecord). x.reservation.bytes) (next_step c.args.machine.now.program.program c.args.machine.now.state) c.args.machine.now.records (Call q) c.step.new.self) c.in-Call-Reserve.field-0-is c.in-Call-Reserve.ensures.stepped in
+    let st = subst (λ (q : request.Request WorldRecord). StepsTo (λ (x : WorldRecord). x.reservation.granted.bytes) (next_step c.args.machine.now.program.program c.args.machine.now.state) c.args.machine.now.records (Call q) c.step.new.self) c.in-Call-Reserve.field-0-is c.in-Call-Reserve.ensures.stepped in
     let lawful = subst (IsLawful old.program) st.2 (lawful-of old st.0 mid.state ready c.facts.ensures st.1) in
     let known : c.in-Call-Reserve.ring < old.program.rings = lawful.0 in
     let there : old.program.rings ≤ length rings = c.requires.program in
@@ -105,7 +110,7 @@ answer_output-requires-clause-worker c =
     let mid = c.step.new.self in
     let rings = c.args.rings.now.items in
     let ready : old.phase ≡ phase.Ready = sym c.phase.ensures ∙ c.in-Ready.is in
-    let st = subst (λ (q : request.Request WorldRecord). StepsTo (λ (x : WorldRecord). x.reservation.bytes) (next_step c.args.machine.now.program.program c.args.machine.now.state) c.args.machine.now.records (Call q) c.step.new.self) c.in-Call-Output.field-0-is c.in-Call-Output.ensures.stepped in
+    let st = subst (λ (q : request.Request WorldRecord). StepsTo (λ (x : WorldRecord). x.reservation.granted.bytes) (next_step c.args.machine.now.program.program c.args.machine.now.state) c.args.machine.now.records (Call q) c.step.new.self) c.in-Call-Output.field-0-is c.in-Call-Output.ensures.stepped in
     let lawful = subst (IsLawful old.program) st.2.2 (lawful-of old st.0 mid.state ready c.facts.ensures st.1) in
     let known : c.in-Call-Output.ring < old.program.rings = lawful in
     let there : old.program.rings ≤ length rings = c.requires.program in
@@ -118,7 +123,7 @@ returns-in-Call-Reserve-clause-turned c =
     let mid = c.step.new.self in
     let rings = c.args.rings.now.items in
     let ready : old.phase ≡ phase.Ready = sym c.phase.ensures ∙ c.in-Ready.is in
-    let st = subst (λ (q : request.Request WorldRecord). StepsTo (λ (x : WorldRecord). x.reservation.bytes) (next_step c.args.machine.now.program.program c.args.machine.now.state) c.args.machine.now.records (Call q) c.step.new.self) c.in-Call-Reserve.field-0-is c.in-Call-Reserve.ensures.stepped in
+    let st = subst (λ (q : request.Request WorldRecord). StepsTo (λ (x : WorldRecord). x.reservation.granted.bytes) (next_step c.args.machine.now.program.program c.args.machine.now.state) c.args.machine.now.records (Call q) c.step.new.self) c.in-Call-Reserve.field-0-is c.in-Call-Reserve.ensures.stepped in
     let lawful = subst (IsLawful old.program) st.2 (lawful-of old st.0 mid.state ready c.facts.ensures st.1) in
     let known : c.in-Call-Reserve.ring < old.program.rings = lawful.0 in
     let there : old.program.rings ≤ length rings = c.requires.program in
@@ -133,7 +138,7 @@ returns-in-Call-Reserve-clause-own c =
     let mid = c.step.new.self in
     let rings = c.args.rings.now.items in
     let ready : old.phase ≡ phase.Ready = sym c.phase.ensures ∙ c.in-Ready.is in
-    let st = subst (λ (q : request.Request WorldRecord). StepsTo (λ (x : WorldRecord). x.reservation.bytes) (next_step c.args.machine.now.program.program c.args.machine.now.state) c.args.machine.now.records (Call q) c.step.new.self) c.in-Call-Reserve.field-0-is c.in-Call-Reserve.ensures.stepped in
+    let st = subst (λ (q : request.Request WorldRecord). StepsTo (λ (x : WorldRecord). x.reservation.granted.bytes) (next_step c.args.machine.now.program.program c.args.machine.now.state) c.args.machine.now.records (Call q) c.step.new.self) c.in-Call-Reserve.field-0-is c.in-Call-Reserve.ensures.stepped in
     let lawful = subst (IsLawful old.program) st.2 (lawful-of old st.0 mid.state ready c.facts.ensures st.1) in
     let known : c.in-Call-Reserve.ring < old.program.rings = lawful.0 in
     let there : old.program.rings ≤ length rings = c.requires.program in
@@ -151,7 +156,7 @@ returns-in-Call-Output-clause-turned c =
     let mid = c.step.new.self in
     let rings = c.args.rings.now.items in
     let ready : old.phase ≡ phase.Ready = sym c.phase.ensures ∙ c.in-Ready.is in
-    let st = subst (λ (q : request.Request WorldRecord). StepsTo (λ (x : WorldRecord). x.reservation.bytes) (next_step c.args.machine.now.program.program c.args.machine.now.state) c.args.machine.now.records (Call q) c.step.new.self) c.in-Call-Output.field-0-is c.in-Call-Output.ensures.stepped in
+    let st = subst (λ (q : request.Request WorldRecord). StepsTo (λ (x : WorldRecord). x.reservation.granted.bytes) (next_step c.args.machine.now.program.program c.args.machine.now.state) c.args.machine.now.records (Call q) c.step.new.self) c.in-Call-Output.field-0-is c.in-Call-Output.ensures.stepped in
     let lawful = subst (IsLawful old.program) st.2.2 (lawful-of old st.0 mid.state ready c.facts.ensures st.1) in
     let known : c.in-Call-Output.ring < old.program.rings = lawful in
     let there : old.program.rings ≤ length rings = c.requires.program in
@@ -169,7 +174,7 @@ returns-in-Call-Query-clause-turned c =
     let mid = c.step.new.self in
     let rings = c.args.rings.now.items in
     let ready : old.phase ≡ phase.Ready = sym c.phase.ensures ∙ c.in-Ready.is in
-    let st = subst (λ (q : request.Request WorldRecord). StepsTo (λ (x : WorldRecord). x.reservation.bytes) (next_step c.args.machine.now.program.program c.args.machine.now.state) c.args.machine.now.records (Call q) c.step.new.self) c.in-Call-Query.field-0-is c.in-Call-Query.ensures.stepped in
+    let st = subst (λ (q : request.Request WorldRecord). StepsTo (λ (x : WorldRecord). x.reservation.granted.bytes) (next_step c.args.machine.now.program.program c.args.machine.now.state) c.args.machine.now.records (Call q) c.step.new.self) c.in-Call-Query.field-0-is c.in-Call-Query.ensures.stepped in
     let lawful = subst (IsLawful old.program) st.2 (lawful-of old st.0 mid.state ready c.facts.ensures st.1) in
     let known : c.in-Call-Query.ring < old.program.rings = lawful in
     let enough : old.program.rings ≤ length rings = c.requires.program in
@@ -189,24 +194,24 @@ returns-in-Call-Submit-clause-turned c =
     let mid = c.step.new.self in
     let rings = c.args.rings.now.items in
     let ready : old.phase ≡ phase.Ready = sym c.phase.ensures ∙ c.in-Ready.is in
-    let st = subst (λ (q : request.Request WorldRecord). StepsTo (λ (x : WorldRecord). x.reservation.bytes) (next_step c.args.machine.now.program.program c.args.machine.now.state) c.args.machine.now.records (Call q) c.step.new.self) c.in-Call-Submit.field-0-is c.in-Call-Submit.ensures.stepped in
+    let st = subst (λ (q : request.Request WorldRecord). StepsTo (λ (x : WorldRecord). x.reservation.granted.bytes) (next_step c.args.machine.now.program.program c.args.machine.now.state) c.args.machine.now.records (Call q) c.step.new.self) c.in-Call-Submit.field-0-is c.in-Call-Submit.ensures.stepped in
     let owned = c.in-Call-Submit.owned in
     let flags = c.in-Call-Submit.flags in
     let shows = st.2 in
     let mine = c.requires.own shows.0 owned shows.1 in
     subst (IsWorkerTurn c.args.w old (map world_ring rings) turn.Went c.answer_given_back.new.machine) (sym (map-set world_ring rings owned.ring c.answer_given_back.new.self))
     (give-turn c.args.w (map world_ring rings) old mid c.answer_given_back.new.machine owned (world_ring c.index_mut-in-Call-Submit.result.now) (world_ring c.answer_given_back.new.self) ready c.in-Call-Submit.ensures.program (map-low world_ring rings owned.ring mine.0) (map-there world_ring rings owned.ring c.index_mut-in-Call-Submit.result.now c.index_mut-in-Call-Submit.ensures.value)
-    WorkerSubmits submit_event (Submit shows.0 owned.reservation.bytes flags) shows.0 refl tt shows.1 (st.4 ∙ ap (λ call. left_by call old.records) shows.2) mine.1
+    WorkerSubmits (submit_event c.args.w) (Submit shows.0 owned.reservation.granted.bytes flags) shows.0 refl tt shows.1 (st.4 ∙ ap (λ call. left_by call old.records) shows.2) mine.1
     (st.1 ∙ ap (λ call. Asks call mid.state) shows.2) (λ world event after g. g) c.answer_given_back.ensures.answered)
 
 pub returns-in-Call-Submit-clause-own : goal.returns-in-Call-Submit-clause-own
 returns-in-Call-Submit-clause-own c =
     let old = c.args.machine.now in
     let rings = c.args.rings.now.items in
-    let st = subst (λ (q : request.Request WorldRecord). StepsTo (λ (x : WorldRecord). x.reservation.bytes) (next_step c.args.machine.now.program.program c.args.machine.now.state) c.args.machine.now.records (Call q) c.step.new.self) c.in-Call-Submit.field-0-is c.in-Call-Submit.ensures.stepped in
+    let st = subst (λ (q : request.Request WorldRecord). StepsTo (λ (x : WorldRecord). x.reservation.granted.bytes) (next_step c.args.machine.now.program.program c.args.machine.now.state) c.args.machine.now.records (Call q) c.step.new.self) c.in-Call-Submit.field-0-is c.in-Call-Submit.ensures.stepped in
     let shows = st.2 in
     subst (λ n. AreOwn c.args.w n c.answer_given_back.new.machine.records) (sym (set-length rings c.in-Call-Submit.owned.ring c.answer_given_back.new.self))
-    (subst (AreOwn c.args.w (length rings)) (sym (c.answer_given_back.ensures.records ∙ (st.4 ∙ ap (λ call. left_by call old.records) shows.2))) (own-given c.args.w (length rings) shows.0 old.records c.requires.own))
+    (subst (AreOwn c.args.w (length rings)) (sym (c.answer_given_back.ensures.records ∙ (st.4 ∙ ap (λ call. left_by call old.records) shows.2))) (all-given (λ q. (q.ring < length rings) × (q.worker ≡ c.args.w)) shows.0 old.records c.requires.own))
 
 pub returns-in-Call-Submit-clause-chapters : goal.returns-in-Call-Submit-clause-chapters
 returns-in-Call-Submit-clause-chapters c = map-set-same chapters_of c.args.rings.now.items c.in-Call-Submit.owned.ring c.index_mut-in-Call-Submit.result.now c.answer_given_back.new.self c.index_mut-in-Call-Submit.ensures.value c.answer_given_back.ensures.chapters
@@ -217,40 +222,154 @@ returns-in-Call-Discard-clause-turned c =
     let mid = c.step.new.self in
     let rings = c.args.rings.now.items in
     let ready : old.phase ≡ phase.Ready = sym c.phase.ensures ∙ c.in-Ready.is in
-    let st = subst (λ (q : request.Request WorldRecord). StepsTo (λ (x : WorldRecord). x.reservation.bytes) (next_step c.args.machine.now.program.program c.args.machine.now.state) c.args.machine.now.records (Call q) c.step.new.self) c.in-Call-Discard.field-0-is c.in-Call-Discard.ensures.stepped in
+    let st = subst (λ (q : request.Request WorldRecord). StepsTo (λ (x : WorldRecord). x.reservation.granted.bytes) (next_step c.args.machine.now.program.program c.args.machine.now.state) c.args.machine.now.records (Call q) c.step.new.self) c.in-Call-Discard.field-0-is c.in-Call-Discard.ensures.stepped in
     let owned = c.in-Call-Discard.owned in
     let flags = c.in-Call-Discard.flags in
     let shows = st.2 in
     let mine = c.requires.own shows.0 owned shows.1 in
     subst (IsWorkerTurn c.args.w old (map world_ring rings) turn.Went c.answer_given_back-in-Call-Discard.new.machine) (sym (map-set world_ring rings owned.ring c.answer_given_back-in-Call-Discard.new.self))
     (give-turn c.args.w (map world_ring rings) old mid c.answer_given_back-in-Call-Discard.new.machine owned (world_ring c.index_mut-in-Call-Discard.result.now) (world_ring c.answer_given_back-in-Call-Discard.new.self) ready c.in-Call-Discard.ensures.program (map-low world_ring rings owned.ring mine.0) (map-there world_ring rings owned.ring c.index_mut-in-Call-Discard.result.now c.index_mut-in-Call-Discard.ensures.value)
-    WorkerDiscards discard_event (Discard shows.0 owned.reservation.bytes flags) shows.0 refl tt shows.1 (st.4 ∙ ap (λ call. left_by call old.records) shows.2) mine.1
+    WorkerDiscards discard_event (Discard shows.0 owned.reservation.granted.bytes flags) shows.0 refl tt shows.1 (st.4 ∙ ap (λ call. left_by call old.records) shows.2) mine.1
     (st.1 ∙ ap (λ call. Asks call mid.state) shows.2) (λ world event after g. g) c.answer_given_back-in-Call-Discard.ensures.answered)
 
 pub returns-in-Call-Discard-clause-own : goal.returns-in-Call-Discard-clause-own
 returns-in-Call-Discard-clause-own c =
     let old = c.args.machine.now in
     let rings = c.args.rings.now.items in
-    let st = subst (λ (q : request.Request WorldRecord). StepsTo (λ (x : WorldRecord). x.reservation.bytes) (next_step c.args.machine.now.program.program c.args.machine.now.state) c.args.machine.now.records (Call q) c.step.new.self) c.in-Call-Discard.field-0-is c.in-Call-Discard.ensures.stepped in
+    let st = subst (λ (q : request.Request WorldRecord). StepsTo (λ (x : WorldRecord). x.reservation.granted.bytes) (next_step c.args.machine.now.program.program c.args.machine.now.state) c.args.machine.now.records (Call q) c.step.new.self) c.in-Call-Discard.field-0-is c.in-Call-Discard.ensures.stepped in
     let shows = st.2 in
     subst (λ n. AreOwn c.args.w n c.answer_given_back-in-Call-Discard.new.machine.records) (sym (set-length rings c.in-Call-Discard.owned.ring c.answer_given_back-in-Call-Discard.new.self))
-    (subst (AreOwn c.args.w (length rings)) (sym (c.answer_given_back-in-Call-Discard.ensures.records ∙ (st.4 ∙ ap (λ call. left_by call old.records) shows.2))) (own-given c.args.w (length rings) shows.0 old.records c.requires.own))
+    (subst (AreOwn c.args.w (length rings)) (sym (c.answer_given_back-in-Call-Discard.ensures.records ∙ (st.4 ∙ ap (λ call. left_by call old.records) shows.2))) (all-given (λ q. (q.ring < length rings) × (q.worker ≡ c.args.w)) shows.0 old.records c.requires.own))
 
 pub returns-in-Call-Discard-clause-chapters : goal.returns-in-Call-Discard-clause-chapters
 returns-in-Call-Discard-clause-chapters c = map-set-same chapters_of c.args.rings.now.items c.in-Call-Discard.owned.ring c.index_mut-in-Call-Discard.result.now c.answer_given_back-in-Call-Discard.new.self c.index_mut-in-Call-Discard.ensures.value c.answer_given_back-in-Call-Discard.ensures.chapters
 
-pub answer_given_back-requires-clause-busy : goal.answer_given_back-requires-clause-busy
-answer_given_back-requires-clause-busy c =
+pub answer_given_back-requires-clause-out : goal.answer_given_back-requires-clause-out
+answer_given_back-requires-clause-out c =
     let rings = c.args.rings.now.items in
-    let st = subst (λ (q : request.Request WorldRecord). StepsTo (λ (x : WorldRecord). x.reservation.bytes) (next_step c.args.machine.now.program.program c.args.machine.now.state) c.args.machine.now.records (Call q) c.step.new.self) c.in-Call-Submit.field-0-is c.in-Call-Submit.ensures.stepped in
+    let st = subst (λ (q : request.Request WorldRecord). StepsTo (λ (x : WorldRecord). x.reservation.granted.bytes) (next_step c.args.machine.now.program.program c.args.machine.now.state) c.args.machine.now.records (Call q) c.step.new.self) c.in-Call-Submit.field-0-is c.in-Call-Submit.ensures.stepped in
+    let owned = c.in-Call-Submit.owned in
+    let g = owned.reservation.granted in
+    let s = c.index_mut-in-Call-Submit.result.now in
+    let mine = c.requires.own st.2.0 owned st.2.1 in
+    let here : get_or (books_of rings) owned.ring [] ≡ hands_shown s = book-at rings owned.ring mine.0 ∙ ap hands_shown (sym (at-default rings owned.ring s no_kept_ring mine.0 c.index_mut-in-Call-Submit.ensures.value)) in
+    ap (λ book. hand_at book g.worker owned.reservation.hand) (sym here) ∙ c.requires.in_hand st.2.0 owned st.2.1
+
+pub answer_given_back-requires-in-Call-Discard-clause-out : goal.answer_given_back-requires-in-Call-Discard-clause-out
+answer_given_back-requires-in-Call-Discard-clause-out c =
+    let rings = c.args.rings.now.items in
+    let st = subst (λ (q : request.Request WorldRecord). StepsTo (λ (x : WorldRecord). x.reservation.granted.bytes) (next_step c.args.machine.now.program.program c.args.machine.now.state) c.args.machine.now.records (Call q) c.step.new.self) c.in-Call-Discard.field-0-is c.in-Call-Discard.ensures.stepped in
+    let owned = c.in-Call-Discard.owned in
+    let g = owned.reservation.granted in
+    let s = c.index_mut-in-Call-Discard.result.now in
+    let mine = c.requires.own st.2.0 owned st.2.1 in
+    let here : get_or (books_of rings) owned.ring [] ≡ hands_shown s = book-at rings owned.ring mine.0 ∙ ap hands_shown (sym (at-default rings owned.ring s no_kept_ring mine.0 c.index_mut-in-Call-Discard.ensures.value)) in
+    ap (λ book. hand_at book g.worker owned.reservation.hand) (sym here) ∙ c.requires.in_hand st.2.0 owned st.2.1
+
+pub returns-in-Went-clause-held : goal.returns-in-Went-clause-held
+returns-in-Went-clause-held c =
+    let old = c.args.machine.now.records in
+    let books = books_of c.args.rings.now.items in
+    all-rewritten (λ q. WasHeld old q ⊎ IsOutIn books q) old c.step.new.self.records (same-shown mark_of _ mark-stays old c.step.new.self.records c.in-Went.ensures.records) (λ id x e. inl (held-were old id x e))
+
+pub returns-in-Call-Reserve-clause-held : goal.returns-in-Call-Reserve-clause-held
+returns-in-Call-Reserve-clause-held c =
+    let old = c.args.machine.now in
+    let mid = c.step.new.self in
+    let rings = c.args.rings.now.items in
+    let r = c.in-Call-Reserve.ring in
+    let s = c.index_mut.result.now in
+    let ready : old.phase ≡ phase.Ready = sym c.phase.ensures ∙ c.in-Ready.is in
+    let st = subst (λ (q : request.Request WorldRecord). StepsTo (λ (x : WorldRecord). x.reservation.granted.bytes) (next_step c.args.machine.now.program.program c.args.machine.now.state) c.args.machine.now.records (Call q) c.step.new.self) c.in-Call-Reserve.field-0-is c.in-Call-Reserve.ensures.stepped in
+    let lawful = subst (IsLawful old.program) st.2 (lawful-of old st.0 mid.state ready c.facts.ensures st.1) in
+    let known : r < old.program.rings = lawful.0 in
+    let enough : old.program.rings ≤ length rings = c.requires.program in
+    let low : r < length rings = omega arith in
+    let there : s ≡ get_or rings r no_kept_ring = at-default rings r s no_kept_ring low c.index_mut.ensures.value in
+    let records : mid.records ≡ old.records = st.4 ∙ ap (λ call. left_by call old.records) st.2 in
+    subst (λ rs. HoldsEachOldOrOut (books_of (set rings r c.answer_reserve.new.self)) rs c.answer_reserve.new.machine.records) records
+    (holds-each rings r s c.answer_reserve.new.self there low mid.records c.answer_reserve.new.machine.records c.answer_reserve.ensures.held)
+
+pub returns-in-Call-Reserve-clause-hands : goal.returns-in-Call-Reserve-clause-hands
+returns-in-Call-Reserve-clause-hands c =
+    let old = c.args.machine.now in
+    let mid = c.step.new.self in
+    let rings = c.args.rings.now.items in
+    let r = c.in-Call-Reserve.ring in
+    let s = c.index_mut.result.now in
+    let ready : old.phase ≡ phase.Ready = sym c.phase.ensures ∙ c.in-Ready.is in
+    let st = subst (λ (q : request.Request WorldRecord). StepsTo (λ (x : WorldRecord). x.reservation.granted.bytes) (next_step c.args.machine.now.program.program c.args.machine.now.state) c.args.machine.now.records (Call q) c.step.new.self) c.in-Call-Reserve.field-0-is c.in-Call-Reserve.ensures.stepped in
+    let lawful = subst (IsLawful old.program) st.2 (lawful-of old st.0 mid.state ready c.facts.ensures st.1) in
+    let known : r < old.program.rings = lawful.0 in
+    let enough : old.program.rings ≤ length rings = c.requires.program in
+    let low : r < length rings = omega arith in
+    let there : s ≡ get_or rings r no_kept_ring = at-default rings r s no_kept_ring low c.index_mut.ensures.value in
+    keeps-each-set rings r s c.answer_reserve.new.self there low c.answer_reserve.ensures.hands
+
+pub returns-in-Call-Output-clause-held : goal.returns-in-Call-Output-clause-held
+returns-in-Call-Output-clause-held c =
+    let old = c.args.machine.now in
+    let rings = c.args.rings.now.items in
+    let st = subst (λ (q : request.Request WorldRecord). StepsTo (λ (x : WorldRecord). x.reservation.granted.bytes) (next_step c.args.machine.now.program.program c.args.machine.now.state) c.args.machine.now.records (Call q) c.step.new.self) c.in-Call-Output.field-0-is c.in-Call-Output.ensures.stepped in
+    let records : c.answer_output.new.machine.records ≡ old.records = c.answer_output.ensures.records ∙ (st.4 ∙ ap (λ call. left_by call old.records) st.2.2) in
+    subst (HoldsEachOldOrOut (books_of (set rings c.in-Call-Output.ring c.answer_output.new.self)) old.records) (sym records) (λ id x e. inl (held-were old.records id x e))
+
+pub returns-in-Call-Output-clause-hands : goal.returns-in-Call-Output-clause-hands
+returns-in-Call-Output-clause-hands c =
+    let old = c.args.machine.now in
+    let mid = c.step.new.self in
+    let rings = c.args.rings.now.items in
+    let r = c.in-Call-Output.ring in
+    let s = c.index_mut-in-Call-Output.result.now in
+    let ready : old.phase ≡ phase.Ready = sym c.phase.ensures ∙ c.in-Ready.is in
+    let st = subst (λ (q : request.Request WorldRecord). StepsTo (λ (x : WorldRecord). x.reservation.granted.bytes) (next_step c.args.machine.now.program.program c.args.machine.now.state) c.args.machine.now.records (Call q) c.step.new.self) c.in-Call-Output.field-0-is c.in-Call-Output.ensures.stepped in
+    let lawful = subst (IsLawful old.program) st.2.2 (lawful-of old st.0 mid.state ready c.facts.ensures st.1) in
+    let known : r < old.program.rings = lawful in
+    let enough : old.program.rings ≤ length rings = c.requires.program in
+    let low : r < length rings = omega arith in
+    let there : s ≡ get_or rings r no_kept_ring = at-default rings r s no_kept_ring low c.index_mut-in-Call-Output.ensures.value in
+    keeps-each-set rings r s c.answer_output.new.self there low (same-keeps s c.answer_output.new.self c.answer_output.ensures.hands)
+
+pub returns-in-Call-Query-clause-held : goal.returns-in-Call-Query-clause-held
+returns-in-Call-Query-clause-held c =
+    let old = c.args.machine.now in
+    let rings = c.args.rings.now.items in
+    let st = subst (λ (q : request.Request WorldRecord). StepsTo (λ (x : WorldRecord). x.reservation.granted.bytes) (next_step c.args.machine.now.program.program c.args.machine.now.state) c.args.machine.now.records (Call q) c.step.new.self) c.in-Call-Query.field-0-is c.in-Call-Query.ensures.stepped in
+    let records : c.answer_query.new.machine.records ≡ old.records = c.answer_query.ensures.records ∙ (st.4 ∙ ap (λ call. left_by call old.records) st.2) in
+    subst (HoldsEachOldOrOut (books_of rings) old.records) (sym records) (λ id x e. inl (held-were old.records id x e))
+
+pub returns-in-Call-Submit-clause-held : goal.returns-in-Call-Submit-clause-held
+returns-in-Call-Submit-clause-held c =
+    let old = c.args.machine.now in
+    let rings = c.args.rings.now.items in
+    let st = subst (λ (q : request.Request WorldRecord). StepsTo (λ (x : WorldRecord). x.reservation.granted.bytes) (next_step c.args.machine.now.program.program c.args.machine.now.state) c.args.machine.now.records (Call q) c.step.new.self) c.in-Call-Submit.field-0-is c.in-Call-Submit.ensures.stepped in
+    let books = books_of (set rings c.in-Call-Submit.owned.ring c.answer_given_back.new.self) in
+    let records = c.answer_given_back.ensures.records ∙ (st.4 ∙ ap (λ call. left_by call old.records) st.2.2) in
+    subst (HoldsEachOldOrOut books old.records) (sym records) (all-given (λ q. WasHeld old.records q ⊎ IsOutIn books q) st.2.0 old.records (λ id x e. inl (held-were old.records id x e)))
+
+pub returns-in-Call-Submit-clause-hands : goal.returns-in-Call-Submit-clause-hands
+returns-in-Call-Submit-clause-hands c =
+    let rings = c.args.rings.now.items in
+    let st = subst (λ (q : request.Request WorldRecord). StepsTo (λ (x : WorldRecord). x.reservation.granted.bytes) (next_step c.args.machine.now.program.program c.args.machine.now.state) c.args.machine.now.records (Call q) c.step.new.self) c.in-Call-Submit.field-0-is c.in-Call-Submit.ensures.stepped in
     let owned = c.in-Call-Submit.owned in
     let s = c.index_mut-in-Call-Submit.result.now in
-    c.requires.busy st.2.0 owned (world_ring s) st.2.1 (map-there world_ring rings owned.ring s c.index_mut-in-Call-Submit.ensures.value)
+    let mine = c.requires.own st.2.0 owned st.2.1 in
+    keeps-each-set rings owned.ring s c.answer_given_back.new.self (at-default rings owned.ring s no_kept_ring mine.0 c.index_mut-in-Call-Submit.ensures.value) mine.0 c.answer_given_back.ensures.hands
 
-pub answer_given_back-requires-in-Call-Discard-clause-busy : goal.answer_given_back-requires-in-Call-Discard-clause-busy
-answer_given_back-requires-in-Call-Discard-clause-busy c =
+pub returns-in-Call-Discard-clause-held : goal.returns-in-Call-Discard-clause-held
+returns-in-Call-Discard-clause-held c =
+    let old = c.args.machine.now in
     let rings = c.args.rings.now.items in
-    let st = subst (λ (q : request.Request WorldRecord). StepsTo (λ (x : WorldRecord). x.reservation.bytes) (next_step c.args.machine.now.program.program c.args.machine.now.state) c.args.machine.now.records (Call q) c.step.new.self) c.in-Call-Discard.field-0-is c.in-Call-Discard.ensures.stepped in
+    let st = subst (λ (q : request.Request WorldRecord). StepsTo (λ (x : WorldRecord). x.reservation.granted.bytes) (next_step c.args.machine.now.program.program c.args.machine.now.state) c.args.machine.now.records (Call q) c.step.new.self) c.in-Call-Discard.field-0-is c.in-Call-Discard.ensures.stepped in
+    let books = books_of (set rings c.in-Call-Discard.owned.ring c.answer_given_back-in-Call-Discard.new.self) in
+    let records = c.answer_given_back-in-Call-Discard.ensures.records ∙ (st.4 ∙ ap (λ call. left_by call old.records) st.2.2) in
+    subst (HoldsEachOldOrOut books old.records) (sym records) (all-given (λ q. WasHeld old.records q ⊎ IsOutIn books q) st.2.0 old.records (λ id x e. inl (held-were old.records id x e)))
+
+pub returns-in-Call-Discard-clause-hands : goal.returns-in-Call-Discard-clause-hands
+returns-in-Call-Discard-clause-hands c =
+    let rings = c.args.rings.now.items in
+    let st = subst (λ (q : request.Request WorldRecord). StepsTo (λ (x : WorldRecord). x.reservation.granted.bytes) (next_step c.args.machine.now.program.program c.args.machine.now.state) c.args.machine.now.records (Call q) c.step.new.self) c.in-Call-Discard.field-0-is c.in-Call-Discard.ensures.stepped in
     let owned = c.in-Call-Discard.owned in
     let s = c.index_mut-in-Call-Discard.result.now in
-    c.requires.busy st.2.0 owned (world_ring s) st.2.1 (map-there world_ring rings owned.ring s c.index_mut-in-Call-Discard.ensures.value)
+    let mine = c.requires.own st.2.0 owned st.2.1 in
+    keeps-each-set rings owned.ring s c.answer_given_back-in-Call-Discard.new.self (at-default rings owned.ring s no_kept_ring mine.0 c.index_mut-in-Call-Discard.ensures.value) mine.0 c.answer_given_back-in-Call-Discard.ensures.hands

@@ -1,25 +1,7 @@
-use Rattle.std.proofs.Common.{◌-◌, ap, ◌∙◌, arith}
-use Rattle.rb_history.proofs.Row.{InRow-le}
-use Rattle.rb_chapter.specs.Opening.{Opening}
-use Rattle.rb_chapter_ring.specs.inner.ChapterRingBody.{stored_of}
-use Rattle.rb_chapter_ring.proofs.Rows.{rows}
+use Rattle.std.proofs.Common.{◌≡◌, subst}
+use Rattle.rb_chapter.specs.CountedFrom.{query_answer_from}
+use Rattle.rb_chapter_ring.specs.TaggedRing.{TaggedRing}
 use Rattle.rb_chapter_ring.proofs.ring.RingState.query.Goals as goal
 
-pub overflow_sub-result : goal.overflow_sub-result
-overflow_sub-result c =
-    let a = c.self.inside in
-    let i = c.self.invariant in
-    let p = c.producer.ensures.position ∙ ap (λ (o : Opening). o.producer) c.closing-closing.ensures.closing in
-    let q = c.consumer.ensures.position ∙ ap (λ (o : Opening). o.consumer) c.closing-closing.ensures.closing in
-    omega (arith, p, q, InRow-le _ _ _ (rows i.earlier a.chapter (stored_of a.chapter a.sheets.items) a.ordinals.items i.counts i.ring).in_row)
-
-pub returns-in-0 : goal.returns-in-0
-returns-in-0 c =
-    let p = c.producer.ensures.position ∙ ap (λ (o : Opening). o.producer) c.closing-closing.ensures.closing in
-    let q = c.consumer.ensures.position ∙ ap (λ (o : Opening). o.consumer) c.closing-closing.ensures.closing in
-    record { answer = rw (← c.self.view_is, c.in-0.is) (λ j. p j - q j) }
-
-pub returns-in-2 : goal.returns-in-2
-returns-in-2 c =
-    let q = c.consumer-in-2.ensures.position ∙ ap (λ (o : Opening). o.consumer) c.closing-closing.ensures.closing in
-    record { answer = rw (← c.self.view_is, c.in-2.is) q }
+pub returns : goal.returns
+returns c = record { answer = subst (λ (s : TaggedRing). c.query.result ≡ query_answer_from s.state.ring.chapter.opening s.state.ring.chapter.entries c.args.what) c.self.view_is c.query.ensures.answer }

@@ -17,7 +17,7 @@ pub invariant_of-me : goal.invariant_of-me
 invariant_of-me g c =
     let e = c.submit_with-notice.ensures in
     let i = c.me.invariant in
-    let ties = submit-tied c.me.inside.worker c.me.inside.tally _ _ i.1.ties c.args.reservation.granted c.args.flags (Ok c.submit_with-notice.result) (sym c.worker.ensures.worker ∙ c.if-worker-me.false) (in-one-chapter _ _ _ _ _ _ e.call) in (
+    let ties = submit-tied c.me.inside.worker c.me.inside.tally _ _ i.1.ties c.args.reservation.granted c.args.flags (Ok c.submit_with-notice.result) ((c.is_held_by.ensures.exact.0 c.if-not-is_held_by.false).worker_is ∙ ap (λ (s : WorkerSeat). s.worker) (sym c.me.view_is)) (in-one-chapter _ _ _ _ _ _ e.call) in (
       e.same.2 ∙ i.0,
       record { idle = e.idle; book = book-in _ _ _ _ e.call; ties = subst (λ t. Ties c.me.inside.worker t (seen_with (view c.submit_with-notice.new.pass))) (sym c.after_submit-me-inside.ensures.counted) ties },
       keeps-hands _ _ _ _ _ i.2 (e.hands ∙ (λ k. set (i.2.shows k) (sym c.hand-hand.ensures.hand k) None)) (length-set c.me.inside.hands c.hand-hand.result None ∙ i.2.four) e.holds,

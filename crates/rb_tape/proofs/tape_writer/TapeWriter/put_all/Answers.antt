@@ -1,8 +1,8 @@
-use Rattle.std.proofs.Common.{ap, ◌∙◌, sym, subst, not}
+use Rattle.std.proofs.Common.{◌+◌, ap, ◌∙◌, sym, subst, not}
 use Rattle.std.specs.Io.KnownBytes.{Appends}
 use Rattle.rb_header.specs.TapeBytes.{tape, IsItemAt, end_of}
 use Rattle.rb_tape.specs.Items.{item_of, tape_items, sent_after}
-use Rattle.rb_tape.proofs.ItemsPut.{none-put, next-stands, next-stays, one-more, stops-within, all-whole, on-ok, on-err, moved-on, stayed}
+use Rattle.rb_tape.proofs.ItemsPut.{none-put, next-stands, next-stays, one-more, stops-within, all-whole, puts-within, puts-whole, on-ok, on-err, moved-on, stayed}
 use Rattle.rb_tape.proofs.tape_writer.TapeWriter.put_all.Goals as goal
 
 pub loop-item-init : goal.loop-item-init
@@ -41,9 +41,10 @@ pub loop-item-preserved : goal.loop-item-preserved
 loop-item-preserved g c =
     let p = c.put.ensures in
     record {
-      finished = p.unfinished ∙ ap not (c.is_err.ensures.negation ∙ ap not c.if-is_err.false);
+      finished = p.call.finished (c.is_err.ensures.negation ∙ ap not c.if-is_err.false);
       so_far = one-more _ _ _ _ _ _ _ _ _ c.loop-item.invariant.so_far c.in-Some.ensures.steps p.bytes
-          (on-ok _ _ _ p.all_sent c.is_err.ensures.value c.if-is_err.false) p.size (moved-on _ _ _ _ _ p.position c.is_err.ensures.negation c.if-is_err.false);
+          (on-ok _ _ _ p.all_sent c.is_err.ensures.value c.if-is_err.false) p.size (moved-on _ _ _ _ _ p.position c.is_err.ensures.negation c.if-is_err.false) p.call.begins
+          (moved-on _ _ _ _ _ p.failures c.is_err.ensures.negation c.if-is_err.false);
     }
 
 pub returns-clause-bytes : goal.returns-clause-bytes
@@ -62,8 +63,24 @@ returns-clause-sent g c =
     let i = c.loop-item.invariant.so_far in
     i.sent_is ∙ ap (λ x. sent_after c.args.self.now.sent (tape_items x)) (all-whole _ _ _ _ _ _ i c.in_default.ensures.steps.0)
 
-pub returns-clause-unfinished : goal.returns-clause-unfinished
-returns-clause-unfinished g c = c.loop-item.invariant.finished
+pub returns-clause-finished : goal.returns-clause-finished
+returns-clause-finished g c = c.loop-item.invariant.finished
+
+pub returns-then-is_err-clause-call : goal.returns-then-is_err-clause-call
+returns-then-is_err-clause-call g c =
+    puts-within _ _ _ _ _ _ _ _ _ c.loop-item.invariant.so_far c.in-Some.ensures.steps c.requires.finished c.put.ensures.call
+    (stayed _ _ _ _ _ c.put.ensures.failures c.is_err.ensures.negation c.if-is_err.true)
+
+pub returns-clause-call : goal.returns-clause-call
+returns-clause-call g c =
+    puts-whole _ _ _ _ _ _ _ c.loop-item.invariant.so_far c.in_default.ensures.steps.0 c.in_default.ensures.steps.1 c.requires.finished c.loop-item.invariant.finished
 
 pub returns-clause-size : goal.returns-clause-size
 returns-clause-size g c = c.loop-item.invariant.so_far.size_same
+
+pub returns-then-is_err-clause-failures : goal.returns-then-is_err-clause-failures
+returns-then-is_err-clause-failures g c =
+    stayed _ _ _ _ _ c.put.ensures.failures c.is_err.ensures.negation c.if-is_err.true ∙ ap (λ n. n + 1) c.loop-item.invariant.so_far.none_failed
+
+pub returns-clause-failures : goal.returns-clause-failures
+returns-clause-failures g c = c.loop-item.invariant.so_far.none_failed

@@ -8,6 +8,7 @@ use Rattle.rb_chapter.specs.ChapterRing.{whole_ring}
 use Rattle.rb_world.specs.WorldValue.{KeptRing, world_ring}
 use Rattle.rb_world.specs.TurnsDone.{chapters_of}
 use Rattle.rb_world.specs.inner.RingAnswers.{IsOutput}
+use Rattle.rb_world.specs.inner.HeldInHands.{hands_shown}
 use Rattle.rb_world.proofs.KeptChapters.{kept-of, same-has}
 use Rattle.rb_world.proofs.WholeCalls.{same-chapters}
 use Rattle.rb_world.proofs.MachineAnswers.{output-answered}
@@ -26,8 +27,8 @@ code-back (Made p k) code e = read _ code e refl
 pub returns-clause-answered : goal.returns-clause-answered
 returns-clause-answered c =
     let s : KeptRing = record { ring = c.self.inside.ring; chapters = c.self.inside.chapters.items; taken = c.self.inside.taken.items } in
-    let v = whole_ring (joined s.chapters) s.ring in
-    let v' = whole_ring (joined s.chapters) c.output-code.new.ring in
+    let v = whole_ring (joined s.chapters) s.ring.state.ring in
+    let v' = whole_ring (joined s.chapters) c.output-code.new.ring.state.ring in
     let code = c.output-code.result in
     let given = (c.output-code.ensures.given (joined s.chapters) (kept-of _ c.self.invariant)).1 in
     let back : to_z w64 (of_z w64 code) ≡ code = code-back given.0 code given.1 in
@@ -42,4 +43,7 @@ invariant_of-self c =
 pub returns-clause-chapters : goal.returns-clause-chapters
 returns-clause-chapters c =
     let s : KeptRing = record { ring = c.self.inside.ring; chapters = c.self.inside.chapters.items; taken = c.self.inside.taken.items } in
-    same-chapters s c.output-code.new.ring s.taken c.output-code.ensures.same_chapter ∙ ap chapters_of c.self.view_is
+    same-chapters s c.output-code.new.ring s.taken c.output-code.ensures.same_tag c.output-code.ensures.same_chapter ∙ ap chapters_of c.self.view_is
+
+pub returns-clause-hands : goal.returns-clause-hands
+returns-clause-hands c = c.output-code.ensures.same_hands ∙ ap hands_shown c.self.view_is

@@ -21,4 +21,4 @@ returns-in-Ok-hand_out-clause-turned c =
     let items = c.push_reserved.ensures.items ∙ ap (λ l. l ++ out ∷ []) c.reserve.ensures.items in
     subst (λ (v : KeptRing). TurnsChapter c.number-number.result v (record { ring = new; chapters = c.push_reserved.new.self.items; taken = s.taken })) c.self.view_is
     (subst (λ n. TurnsChapter n s (record { ring = new; chapters = c.push_reserved.new.self.items; taken = s.taken })) (sym c.number-number.ensures.number)
-    (subst (λ l. TurnsChapter out.number s (record { ring = new; chapters = l; taken = s.taken })) (sym items) (out-turned s new (kept-of s c.self.invariant) out c.in-Ok-hand_out.ensures.handed_out)))
+    (subst (λ l. TurnsChapter out.number s (record { ring = new; chapters = l; taken = s.taken })) (sym items) (out-turned s new (kept-of s c.self.invariant) out c.in-Ok-hand_out.ensures.handed_out c.hand_out.ensures.same_tag c.hand_out.ensures.same_hands)))

@@ -13,6 +13,6 @@ returns-clause-bound c =
     let shown : record { ring = c.behind-self.inside.ring; chapters = c.behind-self.inside.chapters.items; taken = c.behind-self.inside.taken.items } ≡ ring_at inside r =
     c.behind-self.view_is ∙ at-default inside.rings r c.index-2.result.now no_kept_ring low c.index-2.ensures in
     let told : c.as_slice.result.now ≡ (ring_at inside r).chapters = c.as_slice.ensures.value ∙ ap (λ (s : KeptRing). s.chapters) shown in
-    let binds : Binds (ring_at inside r).chapters (ring_at inside r).ring.chapter = subst (λ (s : KeptRing). Binds s.chapters s.ring.chapter) shown c.behind-self.invariant.binds in
-    subst (λ (b : WorldValue). IsBound c.as_slice.result.now (ring_at b r).ring.chapter ((world_of b).rings r).ring.history) c.self.view_is
-    (subst (λ l. IsBound l (ring_at inside r).ring.chapter ((world_of inside).rings r).ring.history) (sym told) (bound-of inside r low binds))
+    let binds : Binds (ring_at inside r).chapters (ring_at inside r).ring.state.ring.chapter = subst (λ (s : KeptRing). Binds s.chapters s.ring.state.ring.chapter) shown c.behind-self.invariant.binds in
+    subst (λ (b : WorldValue). IsBound c.as_slice.result.now (ring_at b r).ring.state.ring.chapter ((world_of b).rings r).ring.history) c.self.view_is
+    (subst (λ l. IsBound l (ring_at inside r).ring.state.ring.chapter ((world_of inside).rings r).ring.history) (sym told) (bound-of inside r low binds))

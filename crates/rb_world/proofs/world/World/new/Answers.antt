@@ -1,13 +1,13 @@
 use Rattle.rb_world.specs.WorldValue.{WorldValue}
 use Rattle.rb_world.specs.declared.world_fault.WorldOpenFault.TheVariants as fault
 use Rattle.rb_world.proofs.Refusals.{refused-exactly}
-use Rattle.rb_world.proofs.Openings.{opening-world, sound-opening}
+use Rattle.rb_world.proofs.Openings.{held-opening, opening-world}
 use Rattle.rb_world.proofs.world.World.new.Goals as goal
 
 pub invariant_of-result : goal.invariant_of-result
 invariant_of-result c =
     let v : WorldValue = record { rings = c.in-Ok.opened.items; machines = c.in-Ok-start_machines.machines.items } in
-    sound-opening c.args.rings.now c.args.workers.now v (record { rings_are = c.in-Ok.ensures.opened; machines_are = c.in-Ok-start_machines.ensures.started }) c.in_default.ensures.allowed.ring_count
+    held-opening c.args.rings.now c.args.workers.now v (record { rings_are = c.in-Ok.ensures.opened; machines_are = c.in-Ok-start_machines.ensures.started }) c.in_default.ensures.allowed.ring_count
 
 pub returns-clause-opening : goal.returns-clause-opening
 returns-clause-opening c =

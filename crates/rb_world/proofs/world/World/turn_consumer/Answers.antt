@@ -3,7 +3,8 @@ use Rattle.rb_interleavings.specs.declared.actor.Actor.TheVariants.{Consumer}
 use Rattle.rb_world.specs.WorldValue.{WorldValue}
 use Rattle.rb_world.specs.TurnsDone.{IsTurnOf, TurnsChaptersOf}
 use Rattle.rb_world.proofs.MachineAnswers.{set-length}
-use Rattle.rb_world.proofs.WholeTurns.{consumer-turn, consumer-sound, consumer-chapters}
+use Rattle.rb_world.proofs.WholeTurns.{consumer-turn, consumer-chapters}
+use Rattle.rb_world.proofs.HeldInHands.{consumer-held}
 use Rattle.rb_world.proofs.world.World.turn_consumer.Goals as goal
 
 pub returns-clause-turned : goal.returns-clause-turned
@@ -17,7 +18,7 @@ pub invariant_of-self : goal.invariant_of-self
 invariant_of-self c =
     let inside : WorldValue = record { rings = c.self.inside.rings.items; machines = c.self.inside.machines.items } in
     let low : c.args.r < length inside.rings = subst (λ (b : WorldValue). c.args.r < length b.rings) (sym c.self.view_is) c.requires.ring in
-    consumer-sound inside c.args.r c.index_mut.result.now c.consume.new.self c.consume.result low c.index_mut.ensures.value c.self.invariant c.consume.ensures.taken c.consume.ensures.chapters
+    consumer-held inside c.args.r c.index_mut.result.now c.consume.new.self c.consume.result low c.index_mut.ensures.value c.self.invariant c.consume.ensures.hands c.consume.ensures.taken c.consume.ensures.chapters
 
 pub returns-clause-chapters : goal.returns-clause-chapters
 returns-clause-chapters c =

@@ -3,7 +3,8 @@ use Rattle.rb_interleavings.specs.declared.actor.Actor.TheVariants.{Keeper}
 use Rattle.rb_world.specs.WorldValue.{WorldValue}
 use Rattle.rb_world.specs.TurnsDone.{IsTurnOf, TurnsChaptersOf}
 use Rattle.rb_world.proofs.MachineAnswers.{set-length}
-use Rattle.rb_world.proofs.WholeTurns.{keeper-turn, keeper-sound, keeper-chapters}
+use Rattle.rb_world.proofs.WholeTurns.{keeper-turn, keeper-chapters}
+use Rattle.rb_world.proofs.HeldInHands.{keeper-held}
 use Rattle.rb_world.proofs.world.World.turn_keeper.Goals as goal
 
 pub returns-clause-turned : goal.returns-clause-turned
@@ -17,7 +18,7 @@ pub invariant_of-self : goal.invariant_of-self
 invariant_of-self c =
     let inside : WorldValue = record { rings = c.self.inside.rings.items; machines = c.self.inside.machines.items } in
     let low : c.args.r < length inside.rings = subst (λ (b : WorldValue). c.args.r < length b.rings) (sym c.self.view_is) c.requires.ring in
-    keeper-sound inside c.args.r c.index_mut.result.now c.hand_out.new.self c.hand_out.result low c.index_mut.ensures.value c.self.invariant c.hand_out.ensures.same_history
+    keeper-held inside c.args.r c.index_mut.result.now c.hand_out.new.self c.hand_out.result low c.index_mut.ensures.value c.self.invariant c.hand_out.ensures.hands c.hand_out.ensures.same_history c.hand_out.ensures.turned
 
 pub returns-clause-chapters : goal.returns-clause-chapters
 returns-clause-chapters c =

@@ -1,0 +1,199 @@
+-- What the calls of a ring with hands keep of its book, and of the ordinals beside it.
+use Rattle.std.proofs.Common.{◌≡◌, ℕ, ◌-◌, ◌<◌, ◌≤◌, List, [], ◌∷◌, ◌++◌, Some, None, length, length-set, replicate, get_or, set, Result, Ok, Err, inl, inr, refl, sym, ap, subst, ◌∙◌, arith}
+use Rattle.std.specs.Prelude.{IfErr, IfOk, OnErr, OnOk}
+use Rattle.rb_history.specs.RoomRule.{Setup}
+use Rattle.rb_history.specs.declared.answers.Notice.{Notice}
+use Rattle.rb_history.specs.declared.entries.Entry.{Entry}
+use Rattle.rb_history.specs.ReservationModel.{Granted}
+use Rattle.rb_history.specs.declared.answers.Taken.{Taken}
+use Rattle.rb_history.specs.inner.RecordRows.{IsBusyAt}
+use Rattle.rb_history.proofs.Row.{get_or-default}
+use Rattle.rb_chapter.specs.Chapters.{Chapter, closing_of, empty_ring}
+use Rattle.rb_chapter.specs.ChapterRing.{ChapterRing, IsGranted, StandsForChapter}
+use Rattle.rb_chapter.specs.ChapterCalls.{Outputs, Takes, HandsOut}
+use Rattle.rb_chapter.specs.WholeHistory.{IsKept}
+use Rattle.rb_chapter_ring.specs.declared.faults.ReserveFault.{ReserveFault}
+use Rattle.rb_chapter_ring.specs.declared.faults.ReserveFault.TheVariants.{Full, Flags, ChapterFull, Foreign, HandsFull}
+use Rattle.rb_chapter.proofs.Keeping.{calls-keep}
+use Rattle.rb_chapter_ring.specs.ManyTakes.{TakesEachInChapter}
+use Rattle.rb_chapter_ring.specs.OpenedRing.{opened_ring}
+use Rattle.rb_chapter_ring.specs.RingFaults.{RefusesInChapter}
+use Rattle.rb_chapter_ring.specs.inner.Ordinals.{IsHandState, IsNumbered, KeepsNumbers, ordinal_at, taken_before}
+use Rattle.rb_chapter_ring.proofs.FreedHands.{freed-stays}
+use Rattle.rb_chapter_ring.proofs.Ordinals.{busy-at-ordinal, opened-ordinals, ordinals-granted, ordinals-stay}
+use Rattle.rb_hands.specs.declared.out_record.OutRecord.{OutRecord}
+use Rattle.rb_hands.specs.Hands.{HandBook, free_book, hand_at, hands_of, out_record, with_hand}
+use Rattle.rb_hands.specs.HandRing.{HandRing, hand_ring, HasHands, HasInHand, GrantsToHand, SubmitsFromHand, DiscardsFromHand}
+use Rattle.rb_hands.proofs.BusyEntries.{in-ring, below-four}
+use Rattle.rb_hands.proofs.FourHands.{book-begins-free}
+use Rattle.rb_hands.proofs.HandCalls.{in-hand-is-busy, whole-legal, to-whole, keep-hands}
+
+-- what is out is of a worker of the ring, and in one of its four hands
+pub record IsBelow (v : HandRing) (hand w : ℕ) : Type 0 where
+  pub worker : w < v.ring.chapter.opening.setup.workers
+  pub four : hand < 4
+
+pub out-below : (earlier : List Entry) (v : HandRing) → IsKept earlier v.ring.chapter → HasHands v → (hand : ℕ) (r : Granted) → HasInHand v hand r → IsBelow v hand r.worker
+out-below earlier v kept has hand r at =
+    let is = to-whole earlier v.ring.chapter kept.continues v.hands has.holds in
+    let legal = whole-legal earlier v.ring.chapter kept.continues in
+    let b = is.out_is_busy r.worker hand (out_record r.pos r.serial (length r.bytes)) at in
+    let low = in-ring v.ring.chapter.opening.setup _ v.hands legal has.shaped is r.worker r.serial (length r.bytes) r.pos b.granted_is in
+    record { worker = low; four = below-four v.ring.chapter.opening.setup _ v.hands legal has.shaped is r.worker hand (out_record r.pos r.serial (length r.bytes)) low at }
+
+-- what is out is found by the ordinal beside its hand
+pub found-by-ordinal : (earlier : List Entry) (v : HandRing) (ordinals : List (List ℕ)) → IsKept earlier v.ring.chapter → StandsForChapter v.ring → IsHandState v ordinals → (hand : ℕ) (r : Granted) → HasInHand v hand r
+    → (w : ℕ) (row : List ℕ) (taken : ℕ) → w ≡ r.worker → row ≡ get_or ordinals w row → taken ≡ taken_before (closing_of v.ring.chapter) → (taken ≤ get_or row hand 0) × IsBusyAt v.ring.shown (get_or row hand 0 - taken) r.pos (length r.bytes)
+found-by-ordinal earlier v ordinals kept stands state hand r out w row taken mine row_is taken_is =
+    let b = out-below earlier v kept state.has hand r out in
+    let low : w < length ordinals = omega (arith, mine, b.worker, state.counted.workers) in
+    let own : row ≡ get_or ordinals r.worker [] = row_is ∙ get_or-default ordinals w row [] low ∙ ap (λ u. get_or ordinals u []) mine in
+    let number : get_or row hand 0 ≡ ordinal_at ordinals r.worker hand = ap (λ l. get_or l hand 0) own in
+    let there = busy-at-ordinal earlier v.ring.chapter kept r (ordinal_at ordinals r.worker hand) (in-hand-is-busy v hand r state.has out) (state.counted.numbered r.worker hand (out_record r.pos r.serial (length r.bytes)) out) in (
+      omega (arith, there.0, number, taken_is),
+      subst (λ ss. IsBusyAt ss (get_or row hand 0 - taken) r.pos (length r.bytes)) (sym stands.shown)
+          (subst (λ n. IsBusyAt (closing_of v.ring.chapter).records n r.pos (length r.bytes)) (sym (λ i. number i - taken_is i)) there.1),
+    )
+
+module _ (earlier : List Entry) (old new : HandRing) (kept : IsKept earlier old.ring.chapter) (has : HasHands old) where
+  refused-keeps : (w n : ℕ) → w < old.ring.chapter.opening.setup.workers → (f : ReserveFault) → RefusesInChapter old.ring new.ring w n f → new.hands ≡ old.hands → HasHands new
+  refused-keeps w n low Full a same = (keep-hands earlier old new kept has).finds_full w n low a same
+  refused-keeps w n low ChapterFull a same = (keep-hands earlier old new kept has).finds_chapter_full w n a same
+  refused-keeps w n low Flags a same = subst HasHands (λ i. hand_ring (sym a i) (sym same i)) has
+  refused-keeps w n low Foreign a same = absurd a
+  refused-keeps w n low HandsFull a same = absurd a
+
+  granted-keeps : (w hand n p k : ℕ) → w < old.ring.chapter.opening.setup.workers → GrantsToHand old new w hand n p k → HasHands new
+  granted-keeps = (keep-hands earlier old new kept has).grants
+
+  submitted-keeps : (hand : ℕ) (r : Granted) → SubmitsFromHand old new hand r → HasHands new
+  submitted-keeps = (keep-hands earlier old new kept has).submits
+
+  discarded-keeps : (hand : ℕ) (r : Granted) → DiscardsFromHand old new hand r → HasHands new
+  discarded-keeps = (keep-hands earlier old new kept has).discards
+
+  output-keeps : (w : ℕ) (bytes : List ℕ) → w < old.ring.chapter.opening.setup.workers → Outputs old.ring new.ring w bytes → new.hands ≡ old.hands → HasHands new
+  output-keeps = (keep-hands earlier old new kept has).outputs
+
+  taken-keeps : (t : Taken) → Takes old.ring new.ring t → new.hands ≡ old.hands → HasHands new
+  taken-keeps = (keep-hands earlier old new kept has).takes
+
+  handed-keeps : (out : Chapter) → HandsOut old.ring new.ring out → new.hands ≡ old.hands → HasHands new
+  handed-keeps = (keep-hands earlier old new kept has).hands_out
+
+  -- by the answer of an output, and of a chapter that is handed in
+  output-answered : (w : ℕ) (bytes : List ℕ) → w < old.ring.chapter.opening.setup.workers → (answer : Result Notice (ReserveFault × List ℕ)) → OnOk answer (Outputs old.ring new.ring w bytes)
+      → IfErr answer (λ e. RefusesInChapter old.ring new.ring w (length bytes) e.0) → new.hands ≡ old.hands → HasHands new
+  output-answered w bytes low (Ok _) made refused same = output-keeps w bytes low made same
+  output-answered w bytes low (Err e) made refused same = refused-keeps w (length bytes) low e.0 refused same
+
+  handing-answered : (answer : Result Chapter Chapter) → IfOk answer (λ out. HandsOut old.ring new.ring out) → OnErr answer (new.ring ≡ old.ring) → new.hands ≡ old.hands → HasHands new
+  handing-answered (Ok out) handed unchanged same = handed-keeps out handed same
+  handing-answered (Err back) handed unchanged same = subst HasHands (λ i. hand_ring (sym unchanged i) (sym same i)) has
+
+-- so do many takes
+many-keep : (earlier : List Entry) (old new : ChapterRing) (book : HandBook) (ts : List Taken) → IsKept earlier old.chapter → HasHands (hand_ring old book) → TakesEachInChapter old ts new → HasHands (hand_ring new book)
+many-keep earlier old new book [] kept has same = subst (λ r. HasHands (hand_ring r book)) (sym same) has
+many-keep earlier old new book (t ∷ ts) kept has each =
+    many-keep earlier each.0 new book ts ((calls-keep earlier old each.0 kept).takes t each.1) (taken-keeps earlier (hand_ring old book) (hand_ring each.0 book) kept has t each.1 refl) each.3
+
+many-kept : (earlier : List Entry) (old new : ChapterRing) (ts : List Taken) → IsKept earlier old.chapter → TakesEachInChapter old ts new → IsKept earlier new.chapter
+many-kept earlier old new [] kept same = subst (λ (r : ChapterRing). IsKept earlier r.chapter) (sym same) kept
+many-kept earlier old new (t ∷ ts) kept each = many-kept earlier each.0 new ts ((calls-keep earlier old each.0 kept).takes t each.1) each.3
+
+-- ---- and their ordinals
+
+refused-kept : (earlier : List Entry) (old new : ChapterRing) → IsKept earlier old.chapter → (w n : ℕ) → w < old.chapter.opening.setup.workers → (f : ReserveFault) → RefusesInChapter old new w n f → IsKept earlier new.chapter
+refused-kept earlier old new kept w n low Full a = (calls-keep earlier old new kept).finds_full w n low a
+refused-kept earlier old new kept w n low ChapterFull a = (calls-keep earlier old new kept).finds_chapter_full w n a
+refused-kept earlier old new kept w n low Flags a = subst (λ (r : ChapterRing). IsKept earlier r.chapter) (sym a) kept
+refused-kept earlier old new kept w n low Foreign a = absurd a
+refused-kept earlier old new kept w n low HandsFull a = absurd a
+
+module _ (earlier : List Entry) (old new : HandRing) (ordinals : List (List ℕ)) (kept : IsKept earlier old.ring.chapter) (state : IsHandState old ordinals) (keeps : KeepsNumbers old.ring.chapter new.ring.chapter) where
+  -- there are as many workers as before
+  as-many : HasHands new → length new.hands ≡ length old.hands → new.ring.chapter.opening.setup.workers ≡ old.ring.chapter.opening.setup.workers
+  as-many has long = sym has.shaped.each_worker ∙ long ∙ state.has.shaped.each_worker
+
+  stays : (later : List Entry) → IsKept later new.ring.chapter → HasHands new → new.hands ≡ old.hands → IsHandState new ordinals
+  stays later kept_on has same = record {
+    has = has;
+    counted = ordinals-stay earlier old new ordinals kept state.counted later kept_on has keeps (as-many has (ap length same)) (λ w h o is. ap (λ b. hand_at b w h) (sym same) ∙ is);
+  }
+
+  frees : IsKept earlier new.ring.chapter → HasHands new → (hand : ℕ) (r : Granted) → HasInHand old hand r → new.hands ≡ with_hand old.hands r.worker hand None → IsHandState new ordinals
+  frees kept_on has hand r out freed =
+      let b = out-below earlier old kept state.has hand r out in
+      record {
+        has = has;
+        counted = ordinals-stay earlier old new ordinals kept state.counted earlier kept_on has keeps (as-many has (ap length freed ∙ length-set old.hands r.worker (set (hands_of old.hands r.worker) hand None)))
+            (λ w h o is. freed-stays old.ring.chapter.opening.setup.workers old.hands state.has.shaped r.worker hand b.worker b.four w h o (ap (λ k. hand_at k w h) (sym freed) ∙ is));
+      }
+
+  pub refused-holds : (w n : ℕ) → w < old.ring.chapter.opening.setup.workers → (f : ReserveFault) → RefusesInChapter old.ring new.ring w n f → new.hands ≡ old.hands → IsHandState new ordinals
+  refused-holds w n low f a same = stays earlier (refused-kept earlier old.ring new.ring kept w n low f a) (refused-keeps earlier old new kept state.has w n low f a same) same
+
+  pub granted-holds : (w hand n p k m : ℕ) → w < old.ring.chapter.opening.setup.workers → GrantsToHand old new w hand n p k → IsNumbered (closing_of new.ring.chapter) p m → IsHandState new (set ordinals w (set (get_or ordinals w []) hand m))
+  granted-holds w hand n p k m low g number =
+      let kept_on = (calls-keep earlier old.ring new.ring kept).grants w n p k low g.grants in
+      let has = granted-keeps earlier old new kept state.has w hand n p k low g in
+      record {
+        has = has;
+        counted = ordinals-granted earlier old new ordinals kept state.counted earlier kept_on has keeps w hand m (out_record p k n) low g.was_free.below (as-many has (ap length g.marked ∙ length-set old.hands w (set (hands_of old.hands w) hand (Some (out_record p k n))))) state.has.shaped g.marked number;
+      }
+
+  pub submitted-holds : (hand : ℕ) (r : Granted) → SubmitsFromHand old new hand r → IsHandState new ordinals
+  submitted-holds hand r h = frees ((calls-keep earlier old.ring new.ring kept).submits r h.submits) (submitted-keeps earlier old new kept state.has hand r h) hand r h.was_out h.freed
+
+  pub discarded-holds : (hand : ℕ) (r : Granted) → DiscardsFromHand old new hand r → IsHandState new ordinals
+  discarded-holds hand r h = frees ((calls-keep earlier old.ring new.ring kept).discards r h.discards) (discarded-keeps earlier old new kept state.has hand r h) hand r h.was_out h.freed
+
+  pub output-holds : (w : ℕ) (bytes : List ℕ) → w < old.ring.chapter.opening.setup.workers → (answer : Result Notice (ReserveFault × List ℕ)) → OnOk answer (Outputs old.ring new.ring w bytes) → IfErr answer (λ e. RefusesInChapter old.ring new.ring w (length bytes) e.0) → new.hands ≡ old.hands → IsHandState new ordinals
+  output-holds w bytes low (Ok n) made refused same = stays earlier ((calls-keep earlier old.ring new.ring kept).outputs w bytes low made) (output-keeps earlier old new kept state.has w bytes low made same) same
+  output-holds w bytes low (Err e) made refused same = refused-holds w (length bytes) low e.0 refused same
+
+  pub taken-holds : (t : Taken) → Takes old.ring new.ring t → new.hands ≡ old.hands → IsHandState new ordinals
+  taken-holds t takes same = stays earlier ((calls-keep earlier old.ring new.ring kept).takes t takes) (taken-keeps earlier old new kept state.has t takes same) same
+
+  pub many-hold : (ts : List Taken) → TakesEachInChapter old.ring ts new.ring → new.hands ≡ old.hands → IsHandState new ordinals
+  many-hold ts each same =
+      stays earlier (many-kept earlier old.ring new.ring ts kept each)
+      (subst (λ b. HasHands (hand_ring new.ring b)) (sym same) (many-keep earlier old.ring new.ring old.hands ts kept state.has each)) same
+
+  pub handing-holds : (answer : Result Chapter Chapter) → IfOk answer (λ out. HandsOut old.ring new.ring out) → OnErr answer (new.ring ≡ old.ring) → new.hands ≡ old.hands → IsHandState new ordinals
+  handing-holds (Ok out) handed unchanged same = stays (earlier ++ out.entries) ((calls-keep earlier old.ring new.ring kept).hands_out out handed) (handed-keeps earlier old new kept state.has out handed same) same
+  handing-holds (Err back) handed unchanged same = stays earlier (subst (λ (r : ChapterRing). IsKept earlier r.chapter) (sym unchanged) kept) (handing-answered earlier old new kept state.has (Err back) handed unchanged same) same
+
+-- a ring that was just opened has free hands
+opened-has : (room : ℕ) (r : Setup) → HasHands (hand_ring (opened_ring room r) (free_book r.workers))
+opened-has room r =
+    let begins = book-begins-free r.workers in
+    record {
+      shaped = begins.0;
+      holds = record {
+        out_is_busy = λ w h o at. let none : (begins.1.out_is_busy w h o at).granted_is.0 < 0 = (begins.1.out_is_busy w h o at).granted_is.1 in absurd (omega arith);
+        busy_is_out = λ p w k n b. absurd (not-busy p w k n b.granted_is);
+        each_once = begins.1.each_once;
+      };
+    }
+  where
+    not-busy : (p w k n : ℕ) → IsGranted (empty_ring r) [] w k n p → ⊥
+    not-busy p w k n g = elim g [
+      | inl shown ↦ absurd (omega (arith, shown.1.1))
+      | inr more ↦ absurd (omega (arith, more.1))
+    ]
+
+opened-then : (room : ℕ) (r : Setup) (v : HandRing) → v.ring ≡ opened_ring room r → v.hands ≡ free_book r.workers → HasHands v
+opened-then room r v ring hands = subst HasHands (λ i. hand_ring (sym ring i) (sym hands i)) (opened-has room r)
+
+none-out : (workers w h : ℕ) (o : OutRecord) → hand_at (free_book workers) w h ≡ Some o → ⊥
+none-out workers w h o at =
+    let b = (book-begins-free workers).1.out_is_busy w h o at in
+    let none : b.granted_is.0 < 0 = b.granted_is.1 in
+    absurd (omega (arith, none))
+
+pub opened-holds : (room : ℕ) (r : Setup) (v : HandRing) (ordinals : List (List ℕ)) → v.ring ≡ opened_ring room r → v.hands ≡ free_book r.workers → ordinals ≡ replicate r.workers (replicate 4 0) → IsHandState v ordinals
+opened-holds room r v ordinals ring hands are = record {
+  has = opened-then room r v ring hands;
+  counted = opened-ordinals v ordinals r.workers are (ap (λ (x : ChapterRing). x.chapter.opening.setup.workers) ring) (λ w h o at. none-out r.workers w h o (ap (λ b. hand_at b w h) (sym hands) ∙ at));
+}

@@ -1,0 +1,11 @@
+use Rattle.std.proofs.Common.{◌≡◌, ◌↔◌, ap, ◌∙◌, subst}
+use Rattle.rb_history.specs.declared.answers.Notice.TheVariants.{Due}
+use Rattle.rb_history.specs.NoticesAndQueries.{IsDue}
+use Rattle.rb_chapter.specs.Opening.{Opening}
+use Rattle.rb_chapter.specs.ChapterCalls.{consumer_now}
+use Rattle.rb_chapter_ring.proofs.chapter_state.ChapterState.notice.Goals as goal
+
+pub returns : goal.returns
+returns c =
+    let q = c.consumer.ensures.position ∙ ap (λ (o : Opening). o.consumer) c.closing.ensures.closing ∙ ap consumer_now c.self.view_is in
+    record { due = subst (λ x. (c.notice_for.result ≡ Due) ↔ IsDue x c.args.pos c.args.flags) q c.notice_for.ensures.due }

@@ -1,0 +1,18 @@
+use Rattle.std.proofs.Common.{◌-◌, get_or, length, sym, subst}
+use Rattle.rb_history.specs.inner.RecordRows.{IsBusyAt}
+use Rattle.rb_hands.specs.HandRing.{HandRing, hand_ring, HasInHand}
+use Rattle.rb_chapter_ring.proofs.StateSteps.{found-by-ordinal}
+use Rattle.rb_chapter_ring.proofs.hand_state.HandState.index_in.Goals as goal
+
+pub overflow_sub-result : goal.overflow_sub-result
+overflow_sub-result c =
+    let k = c.facts.ensures.kept in
+    let out = subst (λ (s : HandRing). HasInHand s c.args.hand c.args.grant.now) (sym c.self.view_is) c.requires.out in
+    (found-by-ordinal k.0 (hand_ring c.self.inside.ring c.self.inside.hands.items) c.self.inside.ordinals.items k.1 c.facts.ensures.stands c.self.invariant c.args.hand c.args.grant.now out c.worker.result c.index.result.now c.taken.result c.worker.ensures.value c.index.ensures c.taken.ensures.taken).0
+
+pub returns : goal.returns
+returns c =
+    let k = c.facts.ensures.kept in
+    let out = subst (λ (s : HandRing). HasInHand s c.args.hand c.args.grant.now) (sym c.self.view_is) c.requires.out in
+    let found = found-by-ordinal k.0 (hand_ring c.self.inside.ring c.self.inside.hands.items) c.self.inside.ordinals.items k.1 c.facts.ensures.stands c.self.invariant c.args.hand c.args.grant.now out c.worker.result c.index.result.now c.taken.result c.worker.ensures.value c.index.ensures c.taken.ensures.taken in
+    record { here = subst (λ (s : HandRing). IsBusyAt s.ring.shown (get_or c.index.result.now c.args.hand 0 - c.taken.result) c.args.grant.now.pos (length c.args.grant.now.bytes)) c.self.view_is found.1 }

@@ -1,0 +1,32 @@
+use Rattle.std.proofs.Common.{◌<◌, Some, refl, sym, ◌∙◌, subst}
+use Rattle.rb_chapter.specs.Chapters.{closing_of}
+use Rattle.rb_chapter_ring.specs.inner.Ordinals.{IsHandState, IsNumbered}
+use Rattle.rb_hands.specs.Hands.{hands_of, with_hand, IsFree}
+use Rattle.rb_hands.specs.HandRing.{HandRing, hand_ring, GrantsToHand}
+use Rattle.rb_chapter_ring.proofs.StateSteps.{refused-holds, granted-holds}
+use Rattle.rb_chapter_ring.proofs.hand_state.HandState.reserve.Goals as goal
+
+pub invariant_of-self : goal.invariant_of-self
+invariant_of-self c =
+    let k = c.facts.ensures.kept in
+    let low = subst (λ (s : HandRing). c.args.worker < s.ring.chapter.opening.setup.workers) (sym c.self.view_is) c.requires.worker in
+    refused-holds k.0 (hand_ring c.self.inside.ring c.self.inside.hands.items) (hand_ring c.reserve.new.self c.self.inside.hands.items) c.self.inside.ordinals.items k.1 c.self.invariant c.reserve.ensures.numbers c.args.worker c.args.n low c.in-Err.refused.0 c.in-Err.ensures.refused refl
+
+pub invariant_of-self-in-Ok : goal.invariant_of-self-in-Ok
+invariant_of-self-in-Ok c =
+    let k = c.facts.ensures.kept in
+    let low = subst (λ (s : HandRing). c.args.worker < s.ring.chapter.opening.setup.workers) (sym c.self.view_is) c.requires.worker in
+    let free = subst (λ (s : HandRing). IsFree (hands_of s.hands c.args.worker) c.args.hand) (sym c.self.view_is) c.requires.hand in
+    let r = c.in-Ok.grant in
+    let marked = c.set_hand.ensures.set ∙ (λ i. with_hand c.self.inside.hands.items c.args.worker c.args.hand (Some (record { pos = c.pos.ensures.value i; serial = c.serial.ensures.value i; len = c.args.n }))) in
+    let state = granted-holds k.0 (hand_ring c.self.inside.ring c.self.inside.hands.items) (hand_ring c.reserve.new.self c.set_hand.new.book.items) c.self.inside.ordinals.items k.1 c.self.invariant c.reserve.ensures.numbers c.args.worker c.args.hand c.args.n r.pos r.serial c.next_ordinal-ordinal.result low
+    (record { grants = c.in-Ok.ensures.granted; was_free = free; marked = marked }) (subst (IsNumbered (closing_of c.reserve.new.self.chapter) r.pos) (sym c.next_ordinal-ordinal.ensures.ordinal) c.in-Ok.ensures.number) in
+    subst (IsHandState (hand_ring c.reserve.new.self c.set_hand.new.book.items)) (sym c.set_ordinal.ensures.set) state
+
+pub returns-in-Ok-clause-granted : goal.returns-in-Ok-clause-granted
+returns-in-Ok-clause-granted c =
+    let free = subst (λ (s : HandRing). IsFree (hands_of s.hands c.args.worker) c.args.hand) (sym c.self.view_is) c.requires.hand in
+    let r = c.in-Ok.grant in
+    let marked = c.set_hand.ensures.set ∙ (λ i. with_hand c.self.inside.hands.items c.args.worker c.args.hand (Some (record { pos = c.pos.ensures.value i; serial = c.serial.ensures.value i; len = c.args.n }))) in
+    subst (λ (s : HandRing). GrantsToHand s (hand_ring c.reserve.new.self c.set_hand.new.book.items) c.args.worker c.args.hand c.args.n r.pos r.serial) c.self.view_is
+    (record { grants = c.in-Ok.ensures.granted; was_free = free; marked = marked })

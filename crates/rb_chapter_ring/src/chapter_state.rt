@@ -1,0 +1,387 @@
+//! A ring with one chapter of its history, without hands: a record that is given back is busy, which its caller knows by the hand that it is in.
+
+ghost use Rattle.std.specs.Prelude.{◌≡◌, ◌≢◌, ◌+◌, ◌<◌, ◌≤◌, ◌^◌, ◌↔◌, ◌∷◌, [], ◌++◌, List, IsErrOf, IfOk, OnOk, OnErr, IfErr, length, replicate};
+ghost use Rattle.std.specs.FinMap.{insert};
+ghost use Rattle.rb_history.specs.declared.entries.Entry.{Entry};
+ghost use Rattle.rb_history.specs.History.Status.{Busy};
+ghost use Rattle.rb_history.specs.RingModel.{IsRingSize, IsStartPosition, IsWorkerCount};
+ghost use Rattle.rb_history.specs.NoticesAndQueries.{IsDue};
+ghost use Rattle.rb_history.specs.inner.RecordRows.{IsBusyAt};
+ghost use Rattle.rb_chapter.specs.Chapters.{IsChapterRoom, closing_of};
+ghost use Rattle.rb_chapter.specs.CountedFrom.{query_answer_from};
+ghost use Rattle.rb_chapter.specs.ChapterRing.{StandsForChapter};
+ghost use Rattle.rb_chapter.specs.ChapterCalls.{producer_now, consumer_now, ChapterRingHasRoom, IsSameChapter, Logs, HoldsReservationFrom, HasBusyFront, AllTaken, Grants, Outputs, Submits, Discards, Takes};
+ghost use Rattle.rb_chapter.specs.WholeHistory.{IsKept};
+ghost use Rattle.rb_chapter_ring.specs.OpenedRing.{opened_ring, told_counts, IsChapterRingWithin};
+ghost use Rattle.rb_chapter_ring.specs.RingFaults.{RefusesInChapter};
+ghost use Rattle.rb_chapter_ring.specs.inner.Ordinals.{IsNumbered, KeepsNumbers, taken_before};
+
+mod handing_out;
+
+use crate::counting::count_refusal;
+use crate::faults::{OpenFault, ReserveFault};
+use crate::finding::{front_of, slot_in};
+use crate::setup::{check_setup, empty_sheets, made_by, slots_for};
+use rb_chapter::{Chapter, UntakenStatus};
+use rb_history::{
+    AVAIL_DATA, CONS_POS, Counts, KNOWN_FLAGS, Notice, PROD_POS, RING_SIZE, Reservation, Taken,
+    notice_for,
+};
+use rb_lend::Sheet;
+use std::alloc::Global;
+use std::marker::Model;
+use std::mem;
+
+/// One ring of records, for one thread. Contracts see its chapter, the bytes of its waiting records, and what it shows.
+///
+/// The records that are there are the chapter's, in the order of their grants. A record's ordinal is how many were granted before it; less the
+/// number of those that were taken it is the record's index. The bytes of a waiting record lie in the slot of its ordinal; there are as many
+/// slots as records may be there at once, and they go round.
+#[derive(Drop)]
+pub(crate) struct ChapterState {
+    chapter: Chapter,
+    sheets: Vec<Sheet>,
+    alloc: Global,
+    // The refusals, of which it counts as many as 64 bits hold, and the discards. The other counts follow from the chapter.
+    refused: u64,
+    discarded: u64,
+}
+
+impl Model for ChapterState {
+    ghost use Rattle.std.specs.Coded.{codes};
+    ghost use Rattle.rb_history.specs.RingModel.{contents_code};
+    ghost use Rattle.rb_history.specs.contracts.entries.Entry as entry;
+    ghost use Rattle.rb_history.specs.contracts.tally.Tally as tally_row;
+    ghost use Rattle.rb_chapter.specs.ChapterRing.{ChapterRing};
+    ghost use Rattle.rb_chapter_ring.specs.inner.ChapterRingBody.{chapter_ring_shown, ChapterRingInvariant};
+
+    ghost Value = { ChapterRing };
+
+    ghost coded = { Prim.hlevel (codes, contents_code, entry.the_row.coded, tally_row.the_row.coded) };
+
+    ghost view = { chapter_ring_shown };
+
+    ghost invariant = { ChapterRingInvariant };
+}
+
+impl ChapterState {
+    /// A ring without records, of `size` bytes, whose positions begin at `start`, for `workers` workers, which keeps chapters of `room`
+    /// entries; or the first of `OpenFault`'s refusals that applies. It takes all memory that the ring will ever need: that of its first
+    /// chapter, and a slot for each record that may be there at once (a power of two).
+    pub(crate) fn new(
+        alloc: Global,
+        size: u64,
+        start: u64,
+        workers: u32,
+        room: u32,
+    ) -> Result<ChapterState, OpenFault>
+        ensures opened { IfOk result (λ ring. ring ≡ opened_ring room (record { size = size; start = start; workers = workers })) }
+        ensures size { IsErrOf result OpenFault.Size ↔ ¬ IsRingSize size }
+        ensures start { IsErrOf result OpenFault.Start ↔ (IsRingSize size × ¬ IsStartPosition start) }
+        ensures workers { IsErrOf result OpenFault.Workers ↔ (IsRingSize size × IsStartPosition start × ¬ IsWorkerCount workers) }
+        ensures chapter { IsErrOf result OpenFault.Chapter ↔ (IsRingSize size × IsStartPosition start × IsWorkerCount workers × ¬ IsChapterRoom room) }
+    {
+        check_setup(size, start, workers, room)?;
+        let Ok(mut chapter) = Chapter::new(alloc, room, workers) else {
+            return Err(OpenFault::Memory);
+        };
+        chapter.open_first(size, start);
+        let Ok(sheets) = empty_sheets(alloc, slots_for(size, room)) else {
+            return Err(OpenFault::Memory);
+        };
+        Ok(ChapterState {
+            chapter,
+            sheets,
+            alloc,
+            refused: 0,
+            discarded: 0,
+        })
+    }
+
+    /// What holds of each ring: its chapter is legal from its opening, which a legal history stands for, and has room for all that it
+    /// owes; it is what the ring's state stands for; and the ring's numbers are within bounds.
+    pub(crate) fn facts(&self)
+        ensures kept { (earlier : List Entry) × IsKept earlier self.now.chapter }
+        ensures stands { StandsForChapter self.now }
+        ensures bounded { IsChapterRingWithin self.now }
+    {
+        let _ = &self.chapter;
+    }
+
+    /// The chapter that the ring keeps.
+    pub(crate) fn chapter(&self) -> &Chapter
+        ensures chapter { result.now ≡ self.now.chapter }
+    {
+        &self.chapter
+    }
+
+    /// The answers to a query (bpf-helpers(7), bpf_ringbuf_query): `AVAIL_DATA` asks for the bytes between the two
+    /// positions, `RING_SIZE`, `CONS_POS` and `PROD_POS` for what they name; any other number gives 0. In constant time.
+    pub(crate) fn query(&self, what: u64) -> u64
+        ensures answer { result ≡ query_answer_from self.now.chapter.opening self.now.chapter.entries what }
+    {
+        let closing = self.chapter.closing();
+        match what {
+            AVAIL_DATA => closing.producer() - closing.consumer(),
+            RING_SIZE => closing.size(),
+            CONS_POS => closing.consumer(),
+            PROD_POS => closing.producer(),
+            _ => 0,
+        }
+    }
+
+    /// The six counts of all that the ring ever did. In constant time. Of the refusals, which may be more than 64 bits hold, it tells
+    /// 2^64 - 1 at most.
+    pub(crate) fn counts(&self) -> Counts
+        ensures counts { result ≡ told_counts self.now }
+    {
+        let closing = self.chapter.closing();
+        let there = self.many() as u64;
+        let consumed = closing.consumed();
+        let made = consumed + closing.skipped() + there;
+        let busy = u64::from(self.chapter.owed()) - there;
+        Counts {
+            made,
+            refused: self.refused,
+            consumed,
+            discarded: self.discarded,
+            waiting: made - busy - consumed - self.discarded,
+            busy,
+        }
+    }
+
+    /// Grants worker `worker` a record of `n` bytes at the producer position, in a sheet of as many bytes, which become zeros, where
+    /// the ring has room for it and the chapter for all that it will log. `Full` is logged, where the ring has no room; `ChapterFull` changes
+    /// nothing. A refusal hands the sheet back. In constant time, but for the record's bytes, and without memory. (bpf-helpers(7),
+    /// bpf_ringbuf_reserve.)
+    pub(crate) fn reserve(
+        &mut self,
+        worker: u32,
+        n: u32,
+        sheet: Sheet,
+    ) -> Result<Reservation, (ReserveFault, Sheet)>
+        requires worker { worker < self.old.chapter.opening.setup.workers }
+        requires sized { length sheet ≡ n }
+        ensures same_chapter { IsSameChapter self.old self.new }
+        ensures granted { IfOk result (λ r. Grants self.old self.new worker n r.pos r.serial) }
+        ensures worker { IfOk result (λ r. r.worker ≡ worker) }
+        ensures zeros { IfOk result (λ r. r.bytes ≡ replicate n 0) }
+        ensures number { IfOk result (λ r. IsNumbered (closing_of self.new.chapter) r.pos (taken_before (closing_of self.old.chapter) + length (closing_of self.old.chapter).records)) }
+        ensures numbers { KeepsNumbers self.old.chapter self.new.chapter }
+        ensures refused { IfErr result (λ e. RefusesInChapter self.old self.new worker n e.0) }
+        ensures known_flags { IfErr result (λ e. e.0 ≢ ReserveFault.Flags) }
+        ensures handed_back { IfErr result (λ e. e.1 ≡ sheet) }
+    {
+        let mut sheet = sheet;
+        match self.grant(worker, n) {
+            Err(fault) => Err((fault, sheet)),
+            Ok((pos, serial)) => {
+                sheet.clear();
+                Ok(Reservation::new(pos, worker, serial, sheet))
+            }
+        }
+    }
+
+    /// Hands the bytes of the reservation, whose record stands at the index, to the consumer. It is busy, so there is no refusal. Of the flags only bits 0 and 1 are
+    /// looked at. In constant time, and without memory. (bpf-helpers(7), bpf_ringbuf_submit.)
+    pub(crate) fn submit(&mut self, index: usize, reservation: Reservation, flags: u64) -> Notice
+        requires busy { HoldsReservationFrom self.old reservation }
+        requires here { IsBusyAt self.old.shown index reservation.pos (length reservation.bytes) }
+        ensures same_chapter { IsSameChapter self.old self.new }
+        ensures submitted { Submits self.old self.new reservation }
+        ensures notice { (result ≡ Notice.Due) ↔ IsDue (consumer_now self.old) reservation.pos flags }
+        ensures numbers { KeepsNumbers self.old.chapter self.new.chapter }
+    {
+        let pos = reservation.pos();
+        let notice = self.notice(pos, flags);
+        self.send(index, pos, reservation.into_sheet());
+        notice
+    }
+
+    /// Gives the reservation's record, which stands at the index, up, so that the consumer passes over it. It is busy, so there is no refusal. Of the flags
+    /// only bits 0 and 1 are looked at. In constant time, and without memory. (bpf-helpers(7), bpf_ringbuf_discard.)
+    pub(crate) fn discard(&mut self, index: usize, reservation: Reservation, flags: u64) -> Notice
+        requires busy { HoldsReservationFrom self.old reservation }
+        requires here { IsBusyAt self.old.shown index reservation.pos (length reservation.bytes) }
+        ensures same_chapter { IsSameChapter self.old self.new }
+        ensures discarded { Discards self.old self.new reservation }
+        ensures notice { (result ≡ Notice.Due) ↔ IsDue (consumer_now self.old) reservation.pos flags }
+        ensures numbers { KeepsNumbers self.old.chapter self.new.chapter }
+    {
+        let pos = reservation.pos();
+        let notice = self.notice(pos, flags);
+        self.give_up(index, pos, reservation.len());
+        notice
+    }
+
+    /// Grants worker `worker` a record and submits it at once, with the sheet's bytes. Unknown flags are refused first, and
+    /// nothing is logged then; otherwise it refuses as `reserve` does. A refusal hands the sheet back. In constant time, and without
+    /// memory. (bpf-helpers(7), bpf_ringbuf_output.)
+    pub(crate) fn output(
+        &mut self,
+        worker: u32,
+        sheet: Sheet,
+        flags: u64,
+    ) -> Result<Notice, (ReserveFault, Sheet)>
+        requires worker { worker < self.old.chapter.opening.setup.workers }
+        ensures same_chapter { IsSameChapter self.old self.new }
+        ensures granted { OnOk result (Outputs self.old self.new worker sheet) }
+        ensures notice { IfOk result (λ n. (n ≡ Notice.Due) ↔ IsDue (consumer_now self.old) (producer_now self.old) flags) }
+        ensures known_flags { OnOk result (flags ≤ KNOWN_FLAGS) }
+        ensures flags { IfErr result (λ e. (e.0 ≡ ReserveFault.Flags) ↔ (KNOWN_FLAGS < flags)) }
+        ensures refused { IfErr result (λ e. RefusesInChapter self.old self.new worker (length sheet) e.0) }
+        ensures handed_back { IfErr result (λ e. e.1 ≡ sheet) }
+        ensures numbers { KeepsNumbers self.old.chapter self.new.chapter }
+    {
+        if flags > KNOWN_FLAGS {
+            return Err((ReserveFault::Flags, sheet));
+        }
+        let index = self.many();
+        let notice = self.notice(self.producer(), flags);
+        match self.grant(worker, sheet.len()) {
+            Err(fault) => Err((fault, sheet)),
+            Ok((pos, _)) => {
+                self.send(index, pos, sheet);
+                Ok(notice)
+            }
+        }
+    }
+
+    #[inline(always)]
+    /// Takes the record at the consumer position: hands out a submitted one and passes over a discarded one. A busy one
+    /// stops it, whatever waits behind. In constant time, and without memory. (Linux Documentation/bpf/ringbuf.rst: records are
+    /// consumed in the order of their reservation.)
+    pub(crate) fn take(&mut self) -> Taken
+        ensures same_chapter { IsSameChapter self.old self.new }
+        ensures takes { Takes self.old self.new result }
+        ensures busy_front { (result ≡ Taken.BusyFront) ↔ HasBusyFront self.old }
+        ensures empty { (result ≡ Taken.Empty) ↔ AllTaken self.old }
+        ensures numbers { KeepsNumbers self.old.chapter self.new.chapter }
+    {
+        let closing = self.chapter.closing();
+        let Some(front) = front_of(closing.records()) else {
+            return Taken::Empty;
+        };
+        match front.status {
+            UntakenStatus::Busy => Taken::BusyFront,
+            UntakenStatus::Waiting => {
+                let ordinal = closing.consumed() + closing.skipped();
+                let slot = slot_in(self.sheets.len(), ordinal);
+                let empty = Sheet::empty(self.alloc);
+                let sheet = mem::replace(&mut self.sheets[slot], empty);
+                self.chapter.log_take();
+                Taken::Event(front.pos, front.worker, front.serial, sheet)
+            }
+            UntakenStatus::Discarded => {
+                self.chapter.log_take();
+                Taken::Skipped(front.pos, front.len)
+            }
+        }
+    }
+
+    #[cold]
+    #[inline(never)]
+    // Logs that there is no room in the ring, where there is room for that in the chapter.
+    fn refuse(&mut self, worker: u32, n: u32) -> ReserveFault
+        requires worker { worker < self.old.chapter.opening.setup.workers }
+        requires full { ¬ ChapterRingHasRoom self.old n }
+        ensures same_chapter { IsSameChapter self.old self.new }
+        ensures refused { RefusesInChapter self.old self.new worker n result }
+        ensures known_flags { result ≢ ReserveFault.Flags }
+        ensures numbers { KeepsNumbers self.old.chapter self.new.chapter }
+    {
+        if !self.chapter.may_refuse(worker) {
+            return ReserveFault::ChapterFull;
+        }
+        self.chapter.log_refusal(worker, n);
+        count_refusal(&mut self.refused);
+        ReserveFault::Full
+    }
+
+    #[inline(always)]
+    // Grants a busy record of `n` bytes, or logs that the ring has no room for it.
+    fn grant(&mut self, worker: u32, n: u32) -> Result<(u64, u64), ReserveFault>
+        requires worker { worker < self.old.chapter.opening.setup.workers }
+        ensures same_chapter { IsSameChapter self.old self.new }
+        ensures granted { IfOk result (λ g. Grants self.old self.new worker n g.0 g.1) }
+        ensures shown { IfOk result (λ g. self.new.shown ≡ self.old.shown ++ (record { pos = g.0; len = n; worker = worker; serial = g.1; status = Busy }) ∷ []) }
+        ensures refused { IfErr result (λ e. RefusesInChapter self.old self.new worker n e) }
+        ensures known_flags { IfErr result (λ e. e ≢ ReserveFault.Flags) }
+        ensures number { IfOk result (λ g. IsNumbered (closing_of self.new.chapter) g.0 (taken_before (closing_of self.old.chapter) + length (closing_of self.old.chapter).records)) }
+        ensures numbers { KeepsNumbers self.old.chapter self.new.chapter }
+    {
+        if !self.chapter.has_room(n) {
+            return Err(self.refuse(worker, n));
+        }
+        if !self.chapter.may_grant() {
+            return Err(ReserveFault::ChapterFull);
+        }
+        let closing = self.chapter.closing();
+        let pos = closing.producer();
+        let serial = made_by(closing.tallies(), worker);
+        self.chapter.log_grant(worker, n);
+        Ok((pos, serial))
+    }
+
+    #[inline(always)]
+    // The busy record at an index is given its bytes.
+    fn send(&mut self, index: usize, pos: u64, sheet: Sheet)
+        requires busy { IsBusyAt self.old.shown index pos (length sheet) }
+        ensures logged { Logs self.old self.new (Entry.Sub pos ∷ []) }
+        ensures contents { self.new.contents ≡ insert self.old.contents pos sheet }
+        ensures numbers { KeepsNumbers self.old.chapter self.new.chapter }
+    {
+        let closing = self.chapter.closing();
+        let ordinal = closing.consumed() + closing.skipped() + index as u64;
+        let slot = slot_in(self.sheets.len(), ordinal);
+        self.sheets[slot] = sheet;
+        self.chapter.log_submit(index);
+    }
+
+    // The busy record at an index is given up.
+    fn give_up(&mut self, index: usize, pos: u64, len: u32)
+        requires busy { IsBusyAt self.old.shown index pos len }
+        ensures logged { Logs self.old self.new (Entry.Dis pos ∷ []) }
+        ensures contents { self.new.contents ≡ self.old.contents }
+        ensures numbers { KeepsNumbers self.old.chapter self.new.chapter }
+    {
+        self.chapter.log_discard(index);
+        self.discarded += 1;
+    }
+
+    /// How many records were taken.
+    pub(crate) fn taken(&self) -> u64
+        ensures taken { result ≡ taken_before (closing_of self.now.chapter) }
+    {
+        let closing = self.chapter.closing();
+        closing.consumed() + closing.skipped()
+    }
+
+    /// The ordinal of the record that is granted next.
+    pub(crate) fn next_ordinal(&self) -> u64
+        ensures ordinal { result ≡ taken_before (closing_of self.now.chapter) + length (closing_of self.now.chapter).records }
+    {
+        let closing = self.chapter.closing();
+        closing.consumed() + closing.skipped() + self.many() as u64
+    }
+
+    // How many records are there.
+    fn many(&self) -> usize
+        ensures many { result ≡ length self.now.shown }
+    {
+        self.chapter.closing().records().len()
+    }
+
+    // Whether a notice is due for the record at `pos`.
+    fn notice(&self, pos: u64, flags: u64) -> Notice
+        ensures due { (result ≡ Notice.Due) ↔ IsDue (consumer_now self.now) pos flags }
+    {
+        notice_for(self.chapter.closing().consumer(), pos, flags)
+    }
+
+    fn producer(&self) -> u64
+        ensures value { result ≡ producer_now self.now }
+    {
+        self.chapter.closing().producer()
+    }
+}

@@ -1,0 +1,311 @@
+//! A ring with its book of hands.
+
+ghost use Rattle.std.specs.Prelude.{List, ◌≡◌, ◌≢◌, ◌<◌, ◌≤◌, ◌+◌, ◌++◌, ◌↔◌, IfOk, IfErr, IfNone, IfSome, IsErrOf, IsOk, IsTrue, OnOk, OnErr, length, replicate, vec_len, vec_capacity};
+ghost use Rattle.rb_history.specs.RingModel.{IsRingSize, IsStartPosition, IsWorkerCount};
+ghost use Rattle.rb_chapter.specs.Chapters.{IsChapterRoom};
+ghost use Rattle.rb_history.specs.declared.answers.Notice.TheVariants.{Due};
+ghost use Rattle.rb_history.specs.NoticesAndQueries.{IsDue};
+ghost use Rattle.rb_history.specs.inner.RecordRows.{IsBusyAt};
+ghost use Rattle.rb_chapter.specs.CountedFrom.{query_answer_from};
+ghost use Rattle.rb_history.specs.ManyTakes.{pushed};
+ghost use Rattle.rb_history.specs.declared.answers.Taken.TheVariants.{BusyFront, Empty};
+ghost use Rattle.rb_chapter.specs.ChapterCalls.{AllTaken, HandsOut, HasBusyFront, IsSameChapter, Outputs, Takes, consumer_now, producer_now};
+ghost use Rattle.rb_chapter_ring.specs.declared.faults.ReserveFault.TheVariants.{Flags};
+ghost use Rattle.rb_chapter_ring.specs.RingFaults.{RefusesInChapter};
+ghost use Rattle.rb_history.specs.declared.entries.Entry.{Entry};
+ghost use Rattle.rb_chapter.specs.ChapterRing.{StandsForChapter};
+ghost use Rattle.rb_chapter.specs.WholeHistory.{IsKept};
+ghost use Rattle.rb_chapter_ring.specs.OpenedRing.{IsChapterRingWithin, MayGoOnIn, opened_ring, told_counts};
+ghost use Rattle.rb_chapter_ring.specs.ManyTakes.{TakesManyInChapter};
+ghost use Rattle.rb_hands.specs.Hands.{AreAllOut, IsFree, IsLowestFree, free_book, hands_of};
+ghost use Rattle.rb_hands.specs.HandRing.{hand_ring, HasHands, HasInHand, GrantsToHand, SubmitsFromHand, DiscardsFromHand};
+
+use crate::chapter_state::ChapterState;
+use crate::faults::{OpenFault, ReserveFault};
+use crate::hand_table::{free_table, no_ordinals, set_hand, set_ordinal};
+use crate::reservation::Reservation;
+use rb_chapter::Chapter;
+use rb_hands::{OutRecord, lowest_free};
+use rb_history::{Counts, Notice, Reservation as Record, Taken};
+use rb_lend::Sheet;
+use std::alloc::Global;
+use std::marker::Model;
+
+/// A ring, and which record is out in which hand of each worker.
+#[derive(Drop)]
+pub struct HandState {
+    pub(crate) ring: ChapterState,
+    pub(crate) hands: Vec<[Option<OutRecord>; 4]>,
+    // How many records had been granted before the one that is out in a hand: less those that were taken it is its index.
+    pub(crate) ordinals: Vec<[u64; 4]>,
+}
+
+impl Model for HandState {
+    ghost use Rattle.std.specs.Coded.{codes};
+    ghost use Rattle.rb_history.specs.RingModel.{contents_code};
+    ghost use Rattle.rb_history.specs.contracts.entries.Entry as entry;
+    ghost use Rattle.rb_history.specs.contracts.tally.Tally as tally_row;
+    ghost use Rattle.rb_hands.specs.contracts.out_record.OutRecord as out_row;
+    ghost use Rattle.rb_hands.specs.HandRing.{HandRing, hand_ring};
+    ghost use Rattle.rb_chapter_ring.specs.inner.Ordinals.{IsHandState};
+
+    ghost Value = { HandRing };
+
+    ghost coded = { Prim.hlevel (codes, contents_code, entry.the_row.coded, tally_row.the_row.coded, out_row.the_row.coded) };
+
+    ghost view = { λ s. hand_ring s.ring s.hands.items };
+
+    ghost invariant = { λ s. IsHandState (hand_ring s.ring s.hands.items) s.ordinals.items };
+}
+
+impl HandState {
+    /// A ring without records, whose hands are free; it refuses as `RingState::new`.
+    pub fn new(
+        alloc: Global,
+        size: u64,
+        start: u64,
+        workers: u32,
+        room: u32,
+    ) -> Result<HandState, OpenFault>
+        ensures opened { IfOk result (λ v. v ≡ hand_ring (opened_ring room (record { size = size; start = start; workers = workers })) (free_book workers)) }
+        ensures size { IsErrOf result OpenFault.Size ↔ ¬ IsRingSize size }
+        ensures start { IsErrOf result OpenFault.Start ↔ (IsRingSize size × ¬ IsStartPosition start) }
+        ensures workers { IsErrOf result OpenFault.Workers ↔ (IsRingSize size × IsStartPosition start × ¬ IsWorkerCount workers) }
+        ensures chapter { IsErrOf result OpenFault.Chapter ↔ (IsRingSize size × IsStartPosition start × IsWorkerCount workers × ¬ IsChapterRoom room) }
+    {
+        let ring = ChapterState::new(alloc, size, start, workers, room)?;
+        let Ok(hands) = free_table(alloc, workers) else {
+            return Err(OpenFault::Memory);
+        };
+        let Ok(ordinals) = no_ordinals(alloc, workers) else {
+            return Err(OpenFault::Memory);
+        };
+        Ok(HandState {
+            ring,
+            hands,
+            ordinals,
+        })
+    }
+
+    /// The chapter that the ring keeps.
+    pub fn chapter(&self) -> &Chapter
+        ensures chapter { result.now ≡ self.now.ring.chapter }
+    {
+        self.ring.chapter()
+    }
+
+    /// Grants worker `worker` a record and submits it at once; it needs no hand.
+    pub fn output(
+        &mut self,
+        worker: u32,
+        sheet: Sheet,
+        flags: u64,
+    ) -> Result<Notice, (ReserveFault, Sheet)>
+        requires worker { worker < self.old.ring.chapter.opening.setup.workers }
+        ensures same_chapter { IsSameChapter self.old.ring self.new.ring }
+        ensures granted { OnOk result (Outputs self.old.ring self.new.ring worker sheet) }
+        ensures notice { IfOk result (λ n. (n ≡ Due) ↔ IsDue (consumer_now self.old.ring) (producer_now self.old.ring) flags) }
+        ensures known_flags { OnOk result (flags ≤ 3) }
+        ensures flags { IfErr result (λ e. (e.0 ≡ Flags) ↔ (3 < flags)) }
+        ensures refused { IfErr result (λ e. RefusesInChapter self.old.ring self.new.ring worker (length sheet) e.0) }
+        ensures same_hands { self.new.hands ≡ self.old.hands }
+        ensures handed_back { IfErr result (λ e. e.1 ≡ sheet) }
+    {
+        let ring = &self.ring;
+        ring.facts();
+        self.ring.output(worker, sheet, flags)
+    }
+
+    /// Takes the record at the consumer position.
+    pub fn take(&mut self) -> Taken
+        ensures same_chapter { IsSameChapter self.old.ring self.new.ring }
+        ensures takes { Takes self.old.ring self.new.ring result }
+        ensures busy_front { (result ≡ BusyFront) ↔ HasBusyFront self.old.ring }
+        ensures empty { (result ≡ Empty) ↔ AllTaken self.old.ring }
+        ensures same_hands { self.new.hands ≡ self.old.hands }
+    {
+        let ring = &self.ring;
+        ring.facts();
+        self.ring.take()
+    }
+
+    /// Takes up to `n` records, as so many calls of `take`, pushes each that was handed out or passed over onto `out`, and returns how many they
+    /// are. It stops before the first take that finds a busy record or none. It takes no memory.
+    pub fn take_many(&mut self, n: usize, out: &mut Vec<Taken>) -> usize
+        requires room { vec_len out.old + n ≤ vec_capacity out.old }
+        ensures same_chapter { IsSameChapter self.old.ring self.new.ring }
+        ensures takes { TakesManyInChapter n (pushed out.old.items out.new.items) self.old.ring self.new.ring }
+        ensures same_hands { self.new.hands ≡ self.old.hands }
+        ensures kept { out.new.items ≡ out.old.items ++ pushed out.old.items out.new.items }
+        ensures count { result ≡ length (pushed out.old.items out.new.items) }
+        ensures capacity { vec_capacity out.new ≡ vec_capacity out.old }
+    {
+        let ring = &self.ring;
+        ring.facts();
+        self.ring.take_many(n, out)
+    }
+
+    /// Hands the chapter out as it is, and goes on in `empty`.
+    pub fn hand_out(&mut self, empty: Chapter) -> Result<Chapter, Chapter>
+        ensures handed_out { IfOk result (λ out. HandsOut self.old.ring self.new.ring out) }
+        ensures unchanged { OnErr result (self.new ≡ self.old) }
+        ensures fit { IsOk result ↔ MayGoOnIn self.old.ring empty }
+        ensures same_hands { self.new.hands ≡ self.old.hands }
+        ensures handed_back { IfErr result (λ back. back ≡ empty) }
+    {
+        let ring = &self.ring;
+        ring.facts();
+        self.ring.hand_out(empty)
+    }
+
+    /// The worker's lowest free hand, if one is free. In constant time.
+    pub fn free_hand(&self, worker: u32) -> Option<u32>
+        requires worker { worker < self.now.ring.chapter.opening.setup.workers }
+        ensures free { IfSome result (λ hand. IsLowestFree (hands_of self.now.hands worker) hand) }
+        ensures all_out { IfNone result (AreAllOut (hands_of self.now.hands worker)) }
+    {
+        lowest_free(&self.hands[worker as usize])
+    }
+
+    /// Whether the reservation's record is out in its hand. In constant time.
+    pub fn is_out(&self, reservation: &Reservation) -> bool
+        ensures exact { IsTrue result ↔ HasInHand self.now reservation.now.hand reservation.now.granted }
+    {
+        let worker = reservation.worker() as usize;
+        worker < self.hands.len() && reservation.is_in(&self.hands[worker])
+    }
+
+    /// What holds of each ring; and its book of hands is that of its busy records.
+    pub fn facts(&self)
+        ensures kept { (earlier : List Entry) × IsKept earlier self.now.ring.chapter }
+        ensures stands { StandsForChapter self.now.ring }
+        ensures bounded { IsChapterRingWithin self.now.ring }
+        ensures hands { HasHands self.now }
+    {
+        self.ring.facts();
+    }
+
+    /// Grants worker `worker` a record of `n` bytes at the producer position into this hand, in a sheet of as many bytes, which become zeros, for a ring
+    /// with this tag. It refuses as `RingState::reserve`, and hands the sheet back then. In constant time, but for the record's bytes, and without
+    /// memory. (bpf-helpers(7), bpf_ringbuf_reserve.)
+    pub fn reserve(
+        &mut self,
+        tag: u64,
+        worker: u32,
+        hand: u32,
+        n: u32,
+        sheet: Sheet,
+    ) -> Result<Reservation, (ReserveFault, Sheet)>
+        requires worker { worker < self.old.ring.chapter.opening.setup.workers }
+        requires hand { IsFree (hands_of self.old.hands worker) hand }
+        requires sized { length sheet ≡ n }
+        ensures same_chapter { IsSameChapter self.old.ring self.new.ring }
+        ensures granted { IfOk result (λ r. GrantsToHand self.old self.new worker hand n r.granted.pos r.granted.serial) }
+        ensures tag { IfOk result (λ r. r.tag ≡ tag) }
+        ensures hand { IfOk result (λ r. r.hand ≡ hand) }
+        ensures worker { IfOk result (λ r. r.granted.worker ≡ worker) }
+        ensures zeros { IfOk result (λ r. r.granted.bytes ≡ replicate n 0) }
+        ensures refused { IfErr result (λ e. RefusesInChapter self.old.ring self.new.ring worker n e.0) }
+        ensures same_hands { IfErr result (λ e. self.new.hands ≡ self.old.hands) }
+        ensures known_flags { IfErr result (λ e. e.0 ≢ Flags) }
+        ensures handed_back { IfErr result (λ e. e.1 ≡ sheet) }
+    {
+        let ring = &self.ring;
+        ring.facts();
+        let ordinal = ring.next_ordinal();
+        match self.ring.reserve(worker, n, sheet) {
+            Err(refused) => Err(refused),
+            Ok(grant) => {
+                let out = OutRecord {
+                    pos: grant.pos(),
+                    serial: grant.serial(),
+                    len: n,
+                };
+                set_hand(&mut self.hands, worker, hand, Some(out));
+                set_ordinal(&mut self.ordinals, worker, hand, ordinal);
+                Ok(Reservation { tag, hand, grant })
+            }
+        }
+    }
+
+    /// Hands the reservation's bytes to the consumer, and frees its hand. It is out in that hand, so it is busy: there is no refusal. Of the flags only
+    /// bits 0 and 1 are looked at. In constant time, and without memory. (bpf-helpers(7), bpf_ringbuf_submit.)
+    pub fn submit(&mut self, reservation: Reservation, flags: u64) -> Notice
+        requires out { HasInHand self.old reservation.hand reservation.granted }
+        ensures same_chapter { IsSameChapter self.old.ring self.new.ring }
+        ensures submitted { SubmitsFromHand self.old self.new reservation.hand reservation.granted }
+        ensures notice { (result ≡ Due) ↔ IsDue (consumer_now self.old.ring) reservation.granted.pos flags }
+    {
+        let Reservation { hand, grant, .. } = reservation;
+        self.send(hand, grant, flags)
+    }
+
+    /// Gives the reservation's record up, so that the consumer passes over it, and frees its hand. It is out in that hand, so it is busy: there is no
+    /// refusal. Of the flags only bits 0 and 1 are looked at. In constant time, and without memory. (bpf-helpers(7), bpf_ringbuf_discard.)
+    pub fn discard(&mut self, reservation: Reservation, flags: u64) -> Notice
+        requires out { HasInHand self.old reservation.hand reservation.granted }
+        ensures same_chapter { IsSameChapter self.old.ring self.new.ring }
+        ensures discarded { DiscardsFromHand self.old self.new reservation.hand reservation.granted }
+        ensures notice { (result ≡ Due) ↔ IsDue (consumer_now self.old.ring) reservation.granted.pos flags }
+    {
+        let Reservation { hand, grant, .. } = reservation;
+        self.give_up(hand, grant, flags)
+    }
+
+    // The index of the record that is out in the hand, among those that are there.
+    fn index_in(&self, hand: u32, grant: &Record) -> usize
+        requires out { HasInHand self.now hand grant.now }
+        ensures here { IsBusyAt self.now.ring.shown result grant.now.pos (length grant.now.bytes) }
+    {
+        let ring = &self.ring;
+        ring.facts();
+        let ordinal = self.ordinals[grant.worker() as usize][hand as usize];
+        (ordinal - ring.taken()) as usize
+    }
+
+    // Submits the record that is out in a hand of its worker.
+    fn send(&mut self, hand: u32, grant: Record, flags: u64) -> Notice
+        requires out { HasInHand self.old hand grant }
+        ensures same_chapter { IsSameChapter self.old.ring self.new.ring }
+        ensures submitted { SubmitsFromHand self.old self.new hand grant }
+        ensures notice { (result ≡ Due) ↔ IsDue (consumer_now self.old.ring) grant.pos flags }
+    {
+        let ring = &self.ring;
+        ring.facts();
+        let worker = grant.worker();
+        let index = self.index_in(hand, &grant);
+        let notice = self.ring.submit(index, grant, flags);
+        set_hand(&mut self.hands, worker, hand, None);
+        notice
+    }
+
+    // Discards the record that is out in a hand of its worker.
+    fn give_up(&mut self, hand: u32, grant: Record, flags: u64) -> Notice
+        requires out { HasInHand self.old hand grant }
+        ensures same_chapter { IsSameChapter self.old.ring self.new.ring }
+        ensures discarded { DiscardsFromHand self.old self.new hand grant }
+        ensures notice { (result ≡ Due) ↔ IsDue (consumer_now self.old.ring) grant.pos flags }
+    {
+        let ring = &self.ring;
+        ring.facts();
+        let worker = grant.worker();
+        let index = self.index_in(hand, &grant);
+        let notice = self.ring.discard(index, grant, flags);
+        set_hand(&mut self.hands, worker, hand, None);
+        notice
+    }
+
+    /// The answers to a query (bpf-helpers(7), bpf_ringbuf_query), as `RingState::query` gives them.
+    pub fn query(&self, what: u64) -> u64
+        ensures answer { result ≡ query_answer_from self.now.ring.chapter.opening self.now.ring.chapter.entries what }
+    {
+        self.ring.query(what)
+    }
+
+    /// The six counts of all that the ring ever did, as `RingState::counts` tells them.
+    pub fn counts(&self) -> Counts
+        ensures counts { result ≡ told_counts self.now.ring }
+    {
+        self.ring.counts()
+    }
+}

@@ -1,0 +1,111 @@
+//! What a worker holds of a record that it was granted.
+
+ghost use Rattle.std.specs.Prelude.{◌≡◌, ◌↔◌, IsTrue, Some, length};
+ghost use Rattle.rb_hands.specs.Hands.{in_hand, out_record};
+
+use rb_hands::OutRecord;
+use rb_history::Reservation as Record;
+use rb_lend::Lent;
+use std::marker::Model;
+
+/// The right to write a record's bytes, and to submit or discard it, at the ring with this tag and from this hand of its worker. Rings alone make
+/// one, where they grant a record. Dropped without a submit or a discard, its record stays busy and its hand out. (Linux
+/// Documentation/bpf/ringbuf.rst: a reserved record is committed or discarded.)
+#[derive(Drop)]
+pub struct Reservation {
+    pub(crate) tag: u64,
+    pub(crate) hand: u32,
+    pub(crate) grant: Record,
+}
+
+impl Model for Reservation {
+    ghost use Rattle.rb_chapter_ring.specs.HandGranted.{HandGranted};
+
+    ghost Value = { HandGranted };
+
+    ghost view = { λ r. record { tag = r.tag; hand = r.hand; granted = r.grant } };
+}
+
+impl Reservation {
+    /// The number of the ring that granted the record, as its opener gave it.
+    pub fn tag(&self) -> u64
+        ensures tag { result ≡ self.now.tag }
+    {
+        self.tag
+    }
+
+    /// The hand of its worker in which the record is out, 0 to 3.
+    pub fn hand(&self) -> u32
+        ensures hand { result ≡ self.now.hand }
+    {
+        self.hand
+    }
+
+    /// The record's position, in bytes.
+    pub fn pos(&self) -> u64
+        ensures pos { result ≡ self.now.granted.pos }
+    {
+        self.grant.pos()
+    }
+
+    /// The number of the worker that the record was granted to.
+    pub fn worker(&self) -> u32
+        ensures worker { result ≡ self.now.granted.worker }
+    {
+        self.grant.worker()
+    }
+
+    /// How many records this ring granted that worker before.
+    pub fn serial(&self) -> u64
+        ensures serial { result ≡ self.now.granted.serial }
+    {
+        self.grant.serial()
+    }
+
+    /// The record's length in bytes.
+    pub fn len(&self) -> u32
+        ensures len { result ≡ length self.now.granted.bytes }
+    {
+        self.grant.len()
+    }
+
+    /// Whether, of a worker's four hands, the one that it names is out with its position, serial and length.
+    pub fn is_in(&self, hands: &[Option<OutRecord>]) -> bool
+        requires four { length hands.now ≡ 4 }
+        ensures exact { IsTrue result ↔ (in_hand hands.now self.now.hand ≡ Some (out_record self.now.granted.pos self.now.granted.serial (length self.now.granted.bytes))) }
+    {
+        let hand = self.hand();
+        if hand >= 4 {
+            return false;
+        }
+        match hands[hand as usize] {
+            None => false,
+            Some(out) => {
+                out.pos == self.pos() && out.serial == self.serial() && out.len == self.len()
+            }
+        }
+    }
+}
+
+impl Lent for Reservation {
+    ghost use Rattle.rb_lend.specs.Ranges.{in_place_of};
+    ghost use Rattle.rb_lend.specs.Rewritten.{rewritten_in_place};
+
+    ghost bytes_of = { λ r. r.granted.bytes };
+
+    ghost with_bytes = { λ r w. record r { granted = record r.granted { bytes = in_place_of r.granted.bytes w } } };
+
+    fn bytes(&self) -> &[u8] {
+        self.grant.bytes()
+    }
+
+    fn bytes_mut(&mut self) -> &mut [u8] {
+        self.grant.bytes_mut()
+    }
+
+    fn range_mut(&mut self, at: usize, len: usize) -> &mut [u8] {
+        self.grant.range_mut(at, len)
+    }
+
+    ghost rewritten = { λ s w e. rewritten_in_place s.granted.bytes w e };
+}

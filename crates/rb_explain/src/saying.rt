@@ -1,0 +1,98 @@
+//! What is said of a fault.
+
+ghost use Rattle.std.specs.Prelude.{◌≡◌, ◌++◌, [], OnOk, codes, string_bytes};
+ghost use Rattle.rb_explain.specs.Explanations.{number_text, said_text};
+ghost use Rattle.rb_explain.specs.Objects as objects;
+
+use crate::objects::push_fault_object;
+use rb_cfg::ShapeFaultKind;
+use rb_decode::DecodeKind;
+use rb_json::LineForm;
+use rb_refs::Rule;
+use std::alloc::{AllocError, Global};
+use std::fmt::Write;
+
+/// The name of a fault of bytes.
+pub(crate) fn decode_name(kind: DecodeKind) -> &'static str
+    ensures { result.now ≡ objects.decode_name kind }
+{
+    match kind {
+        DecodeKind::Length => "Length",
+        DecodeKind::TooLong => "TooLong",
+        DecodeKind::LeftOut => "LeftOut",
+        DecodeKind::BadOpcode => "BadOpcode",
+        DecodeKind::BadRegister => "BadRegister",
+        DecodeKind::UnusedField => "UnusedField",
+        DecodeKind::HalfWide => "HalfWide",
+        DecodeKind::Memory => "Memory",
+    }
+}
+
+/// The name of a fault of a shape.
+pub(crate) fn shape_name(kind: ShapeFaultKind) -> &'static str
+    ensures { result.now ≡ objects.shape_name kind }
+{
+    match kind {
+        ShapeFaultKind::Backward => "Backward",
+        ShapeFaultKind::OutOfProgram => "OutOfProgram",
+        ShapeFaultKind::IntoWide => "IntoWide",
+        ShapeFaultKind::FallsOff => "FallsOff",
+        ShapeFaultKind::Unreachable => "Unreachable",
+        ShapeFaultKind::Memory => "Memory",
+    }
+}
+
+/// How programs mend a fault, as it is said in this form: of a whole line, whose name may stand in front, an object has neither the name nor the end.
+pub(crate) fn advice_in(form: LineForm, advice: &'static str) -> &'static str {
+    match form {
+        LineForm::Words => advice,
+        LineForm::Json => advice.trim_end(),
+    }
+}
+
+/// What is said of a fault with a name. In words the advice has the name.
+pub(crate) fn push_said(
+    text: &mut String,
+    form: LineForm,
+    layer: &str,
+    name: &str,
+    unit: u32,
+    advice: &str,
+) -> Result<(), AllocError>
+    ensures added { OnOk result (string_bytes text.new ≡ string_bytes text.old ++ said_text form [] layer.now name.now unit advice.now) }
+{
+    match form {
+        LineForm::Words => text.push_str(advice),
+        LineForm::Json => push_fault_object(text, layer, name, unit, advice),
+    }
+}
+
+// A rule's number, in front of what is said of it: `V10: `.
+fn push_number(text: &mut String, rule: Rule) -> Result<(), AllocError>
+    ensures added { OnOk result (string_bytes text.new ≡ string_bytes text.old ++ number_text rule) }
+{
+    write!(text, "V{}: ", rule.number())
+}
+
+/// What is said of a rule that is broken.
+pub(crate) fn push_rule_said(
+    alloc: Global,
+    text: &mut String,
+    form: LineForm,
+    unit: u32,
+    rule: Rule,
+    advice: &str,
+) -> Result<(), AllocError>
+    ensures added { OnOk result (string_bytes text.new ≡ string_bytes text.old ++ said_text form (number_text rule) (codes "verify") (objects.rule_name rule) unit advice.now) }
+{
+    match form {
+        LineForm::Words => {
+            push_number(text, rule)?;
+            text.push_str(advice)
+        }
+        LineForm::Json => {
+            let name = format!(in alloc; "V{}", rule.number())?;
+            push_fault_object(text, "verify", name.as_str(), unit, advice)
+        }
+    }
+}

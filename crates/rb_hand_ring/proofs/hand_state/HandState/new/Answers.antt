@@ -1,6 +1,0 @@
-use Rattle.rb_hands.specs.HandRing.{hand_ring}
-use Rattle.rb_hand_ring.proofs.StateSteps.{opened-then}
-use Rattle.rb_hand_ring.proofs.hand_state.HandState.new.Goals as goal
-
-pub invariant_of-result : goal.invariant_of-result
-invariant_of-result c = opened-then c.args.room (record { size = c.args.size; start = c.args.start; workers = c.args.workers }) (hand_ring c.in_ok-ring.ring c.in-Ok.hands.items) c.in_ok-ring.ensures.opened c.in-Ok.ensures.free

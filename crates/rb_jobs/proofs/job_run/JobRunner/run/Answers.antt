@@ -1,0 +1,10 @@
+use Rattle.std.proofs.Common.{◌∙◌, refl, ap, sym}
+use Rattle.rb_seats.specs.SeatHelpers.{AtSeats}
+use Rattle.rb_jobs.specs.Jobs.{WorkerAtRings, task_of}
+use Rattle.rb_jobs.proofs.Doing.{counted_as}
+use Rattle.rb_jobs.proofs.job_run.JobRunner.run.Goals as goal
+
+pub returns-clause-counted : goal.returns-clause-counted
+returns-clause-counted g c =
+    counted_as (task_of c.args.job.now) _ _ _ _ _ _ _ _ _ (ap (λ (h : AtSeats). h.seats) c.in_ok-begin.ensures.begun ∙ ap (λ (r : WorkerAtRings). r.seats) c.self.view_is)
+    refl (ap (λ (r : WorkerAtRings). r.calls) c.self.view_is) refl c.run_begun.ensures.counted

@@ -1,0 +1,29 @@
+use Rattle.std.proofs.Common.{◌≡◌, ◌≤◌, List, refl, subst, arith}
+use Rattle.rb_decode.specs.Program.{unit_count}
+use Rattle.rb_insn.specs.declared.insn.Insn.{Insn}
+use Rattle.rb_seats.specs.SeatHelpers.{AtSeats}
+use Rattle.rb_seats.proofs.Leading.{leads_seats}
+use Rattle.rb_jobs.specs.Jobs.{task_of}
+use Rattle.rb_jobs.proofs.Doing.{did_counted, few_unlogged}
+use Rattle.rb_jobs.proofs.job_run.run_begun.Goals as goal
+
+pub returns-clause-counted : goal.returns-clause-counted
+returns-clause-counted g c =
+    let start : AtSeats = c.args.helpers.now.inner in
+    let now : AtSeats = c.run_in-result.new.helpers.inner in
+    let shows = c.run_in-result.ensures.shows in
+    did_counted (task_of c.args.job.now) _ shows.0 start now _ _ _ _ _ _ _ _ c.requires.begun c.unlogged-unlogged.ensures.count refl
+    refl refl (omega arith) c.run_in-result.ensures.length shows.1 (c.run_in-result.ensures.never_stray refl) c.run_in-result.ensures.balanced shows.2.0 shows.2.1
+
+pub returns-clause-ran : goal.returns-clause-ran
+returns-clause-ran g c = (returns-clause-counted g c).0
+
+pub returns-clause-few : goal.returns-clause-few
+returns-clause-few g c =
+    let shows = c.run_in-result.ensures.shows in
+    few_unlogged c.args.helpers.now.inner c.run_in-result.new.helpers.inner shows.0 c.args.job.now.program.now.program _ _ _ c.requires.begun shows.2.0 c.unlogged-unlogged.ensures.within (subst (λ (p : List Insn). unit_count p ≤ 4096) c.program.ensures c.facts.ensures.bounds.not_too_long)
+
+pub returns-clause-rings : goal.returns-clause-rings
+returns-clause-rings g c =
+    let shows = c.run_in-result.ensures.shows in
+    (leads_seats c.args.helpers.now.inner c.run_in-result.new.helpers.inner shows.0 shows.2.0).rings_same

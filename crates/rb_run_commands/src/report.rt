@@ -1,0 +1,27 @@
+//! What `run` prints of its report, in the form that is asked for.
+
+ghost use Rattle.std.specs.Prelude.{◌≡◌, IfOk};
+ghost use Rattle.rb_run_commands.specs.ReportLines.{report_lines};
+
+use crate::report_lines::text_of_report;
+use crate::report_objects::objects_of_report;
+use rb_json::LineForm;
+use rb_workers::Report;
+use std::alloc::{AllocError, Global};
+
+/// The lines of a report. `AllocError` where there is no memory for them.
+pub(crate) fn lines_of_report<S>(
+    alloc: Global,
+    report: &Report<S>,
+    form: LineForm,
+) -> Result<Vec<u8>, AllocError>
+    ensures lines { IfOk result (λ lines. lines.items ≡ report_lines form report.now) }
+{
+    match form {
+        LineForm::Words => {
+            let text = text_of_report(alloc, report)?;
+            Ok(text.into_bytes())
+        }
+        LineForm::Json => objects_of_report(alloc, report),
+    }
+}

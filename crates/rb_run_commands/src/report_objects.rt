@@ -1,0 +1,117 @@
+//! What `run` prints of its report as objects of JSON, one a line: for each ring one for each worker and one for the ring, and one for the strays.
+
+ghost use Rattle.std.specs.Prelude.{◌≡◌, ◌++◌, IfOk, OnOk};
+ghost use Rattle.rb_run_commands.specs.ReportLines.{closing_objects, closing_objects_from, consumed_fields, counts_object, grant_fields, other_fields, outcome_fields, report_objects, tally_object, tally_objects_from};
+
+use rb_history::{Counts, Tally};
+use rb_json::push_field;
+use rb_workers::{Ended, Report};
+use std::alloc::{AllocError, Global};
+
+/// The objects of a report: for each ring, from ring 0 on, one with `ring`, `worker`, `made`, `refused`, `submitted` and `discarded` for each worker, from
+/// worker 0 on, and one with `ring`, `made`, `consumed`, `discarded`, `waiting` and `busy`; then one with `strays`. `AllocError` where there is no memory for them.
+pub(crate) fn objects_of_report<S>(alloc: Global, report: &Report<S>) -> Result<Vec<u8>, AllocError>
+    ensures objects { IfOk result (λ lines. lines.items ≡ report_objects report.now) }
+{
+    let mut lines = Vec::new(alloc);
+    push_rings(&mut lines, report.rings.as_slice())?;
+    push_field(&mut lines, b"{\"strays\":", report.strays)?;
+    lines.extend_from_slice(b"}\n")?;
+    Ok(lines)
+}
+
+// The objects of the rings more, from ring 0 on.
+fn push_rings<S>(lines: &mut Vec<u8>, rings: &[Ended<S>]) -> Result<(), AllocError>
+    ensures objects { OnOk result (lines.new.items ≡ lines.old.items ++ closing_objects_from 0 rings.now) }
+{
+    for ring in 0..rings.len() {
+        push_ended(lines, ring, &rings[ring])?;
+    }
+    Ok(())
+}
+
+// The objects of a ring more.
+fn push_ended<S>(lines: &mut Vec<u8>, ring: usize, ended: &Ended<S>) -> Result<(), AllocError>
+    ensures objects { OnOk result (lines.new.items ≡ lines.old.items ++ closing_objects ring ended.now) }
+{
+    push_tallies(lines, ring, ended.tallies.as_slice())?;
+    push_counts(lines, ring, ended.closing.counts())
+}
+
+// The objects of the workers' seats at a ring more, from worker 0 on.
+fn push_tallies(lines: &mut Vec<u8>, ring: usize, tallies: &[Tally]) -> Result<(), AllocError>
+    ensures objects { OnOk result (lines.new.items ≡ lines.old.items ++ tally_objects_from ring 0 tallies.now) }
+{
+    for worker in 0..tallies.len() {
+        push_tally(lines, ring, worker, tallies[worker])?;
+    }
+    Ok(())
+}
+
+// The object of a worker's seat more.
+fn push_tally(
+    lines: &mut Vec<u8>,
+    ring: usize,
+    worker: usize,
+    tally: Tally,
+) -> Result<(), AllocError>
+    ensures object { OnOk result (lines.new.items ≡ lines.old.items ++ tally_object ring worker tally) }
+{
+    push_grants(lines, ring, worker, tally)?;
+    push_outcome(lines, tally)?;
+    lines.extend_from_slice(b"}\n")
+}
+
+#[tactic(auto, unfolding(crate::specs::ReportLines::grant_fields))]
+// A worker's seat at a ring, and how many records it was granted, more.
+fn push_grants(
+    lines: &mut Vec<u8>,
+    ring: usize,
+    worker: usize,
+    tally: Tally,
+) -> Result<(), AllocError>
+    ensures fields { OnOk result (lines.new.items ≡ lines.old.items ++ grant_fields ring worker tally) }
+{
+    push_field(lines, b"{\"ring\":", ring as u64)?;
+    push_field(lines, b",\"worker\":", worker as u64)?;
+    push_field(lines, b",\"made\":", tally.made)
+}
+
+#[tactic(auto, unfolding(crate::specs::ReportLines::outcome_fields))]
+// How often it was refused one, and what became of those that it was granted, more.
+fn push_outcome(lines: &mut Vec<u8>, tally: Tally) -> Result<(), AllocError>
+    ensures fields { OnOk result (lines.new.items ≡ lines.old.items ++ outcome_fields tally) }
+{
+    push_field(lines, b",\"refused\":", tally.refused)?;
+    push_field(lines, b",\"submitted\":", tally.submitted)?;
+    push_field(lines, b",\"discarded\":", tally.discarded)
+}
+
+// The object of a ring's counts more.
+fn push_counts(lines: &mut Vec<u8>, ring: usize, counts: Counts) -> Result<(), AllocError>
+    ensures object { OnOk result (lines.new.items ≡ lines.old.items ++ counts_object ring counts) }
+{
+    push_consumed(lines, ring, counts)?;
+    push_others(lines, counts)?;
+    lines.extend_from_slice(b"}\n")
+}
+
+#[tactic(auto, unfolding(crate::specs::ReportLines::consumed_fields))]
+// A ring, and how many of its records were made and consumed, more.
+fn push_consumed(lines: &mut Vec<u8>, ring: usize, counts: Counts) -> Result<(), AllocError>
+    ensures fields { OnOk result (lines.new.items ≡ lines.old.items ++ consumed_fields ring counts) }
+{
+    push_field(lines, b"{\"ring\":", ring as u64)?;
+    push_field(lines, b",\"made\":", counts.made)?;
+    push_field(lines, b",\"consumed\":", counts.consumed)
+}
+
+#[tactic(auto, unfolding(crate::specs::ReportLines::other_fields))]
+// What became of the others more.
+fn push_others(lines: &mut Vec<u8>, counts: Counts) -> Result<(), AllocError>
+    ensures fields { OnOk result (lines.new.items ≡ lines.old.items ++ other_fields counts) }
+{
+    push_field(lines, b",\"discarded\":", counts.discarded)?;
+    push_field(lines, b",\"waiting\":", counts.waiting)?;
+    push_field(lines, b",\"busy\":", counts.busy)
+}

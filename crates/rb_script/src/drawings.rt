@@ -1,0 +1,90 @@
+//! A ring drawn as one line.
+
+ghost use Rattle.std.specs.Prelude.{◌≡◌, ◌-◌, ◌++◌, OnOk, map};
+ghost use Rattle.std.specs.List.{flat_map};
+ghost use Rattle.rb_chapter.specs.UntakenRecords.{status_shown, untaken_shown};
+ghost use Rattle.rb_script.specs.Drawings.{box_text, drawing_end, drawing_front, drawing_line, status_word};
+
+use crate::output_lines::push_number;
+use rb_chapter::{Opening, UntakenRecord, UntakenStatus};
+use rb_header::span;
+use std::alloc::AllocError;
+
+// Adds the drawing of the ring of this number, of what its chapter stands for at its end: its positions, the records between them, and what is free.
+pub(crate) fn push_drawing(
+    text: &mut Vec<u8>,
+    ring: u32,
+    closing: &Opening,
+) -> Result<(), AllocError>
+    ensures line { OnOk result (text.new.items ≡ text.old.items ++ drawing_line ring closing.now.opening.setup.size closing.now.opening.consumer closing.now.opening.producer closing.now.opening.records) }
+{
+    push_front(text, ring, closing.consumer())?;
+    push_boxes(text, closing.records())?;
+    push_end(text, closing.size(), closing.consumer(), closing.producer())?;
+    text.extend_from_slice(b"\n")
+}
+
+#[tactic(auto, unfolding(crate::specs::Drawings::drawing_front))]
+// Adds the number of the ring, and where the next take looks.
+fn push_front(text: &mut Vec<u8>, ring: u32, consumer: u64) -> Result<(), AllocError>
+    ensures front { OnOk result (text.new.items ≡ text.old.items ++ drawing_front ring consumer) }
+{
+    text.extend_from_slice(b"draw ")?;
+    push_number(text, u64::from(ring))?;
+    text.extend_from_slice(b" | consumer ")?;
+    push_number(text, consumer)
+}
+
+#[tactic(auto, unfolding(crate::specs::Drawings::drawing_end))]
+// Adds where the next record is granted, and how many bytes are free.
+fn push_end(text: &mut Vec<u8>, size: u64, consumer: u64, producer: u64) -> Result<(), AllocError>
+    ensures end { OnOk result (text.new.items ≡ text.old.items ++ drawing_end size consumer producer) }
+{
+    text.extend_from_slice(b" | producer ")?;
+    push_number(text, producer)?;
+    text.extend_from_slice(b" | free ")?;
+    push_number(text, free_in(size, consumer, producer))
+}
+
+// How many bytes of a ring are not between its positions.
+fn free_in(size: u64, consumer: u64, producer: u64) -> u64
+    ensures { result ≡ size - (producer - consumer) }
+{
+    size.saturating_sub(producer.saturating_sub(consumer))
+}
+
+// Adds the boxes of the records.
+fn push_boxes(text: &mut Vec<u8>, records: &[UntakenRecord]) -> Result<(), AllocError>
+    ensures boxes { OnOk result (text.new.items ≡ text.old.items ++ flat_map box_text (map untaken_shown records.now)) }
+{
+    for untaken in records {
+        push_box(text, untaken)?;
+    }
+    Ok(())
+}
+
+#[tactic(auto, unfolding(crate::specs::Drawings::box_text))]
+// Adds the box of a record: what has become of it, the bytes that it takes, and whose it is.
+fn push_box(text: &mut Vec<u8>, untaken: &UntakenRecord) -> Result<(), AllocError>
+    ensures shown { OnOk result (text.new.items ≡ text.old.items ++ box_text (untaken_shown untaken.now)) }
+{
+    text.extend_from_slice(b" | ")?;
+    text.extend_from_slice(word_of(untaken.status).as_bytes())?;
+    text.extend_from_slice(b" ")?;
+    push_number(text, span(untaken.len))?;
+    text.extend_from_slice(b" worker ")?;
+    push_number(text, u64::from(untaken.worker))?;
+    text.extend_from_slice(b" serial ")?;
+    push_number(text, untaken.serial)
+}
+
+// What has become of a record, in a word.
+fn word_of(status: UntakenStatus) -> &'static str
+    ensures { result.now ≡ status_word (status_shown status) }
+{
+    match status {
+        UntakenStatus::Busy => "busy",
+        UntakenStatus::Waiting => "waiting",
+        UntakenStatus::Discarded => "discarded",
+    }
+}
