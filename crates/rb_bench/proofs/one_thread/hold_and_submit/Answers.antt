@@ -20,5 +20,5 @@ submit-requires c =
     let here = hand-here old.ring.chapter.opening.setup.workers old.hands c.facts.ensures.hands.shaped 0 c.in-Some.hand (omega (arith, c.requires)) free.below (Some (out_record r.granted.pos r.granted.serial n)) in
     record {
       out = written-in-hand c.reserve.new.self.state r.hand r.granted c.fill.new.self
-      ((λ i. hand_at (g.marked i) (given.worker i) (given.hand i)) ∙ here ∙ ap (λ m. Some (out_record r.granted.pos r.granted.serial m)) (sym long));
+          ((λ i. hand_at (g.marked i) (given.worker i) (given.hand i)) ∙ here ∙ ap (λ m. Some (out_record r.granted.pos r.granted.serial m)) (sym long));
     }
