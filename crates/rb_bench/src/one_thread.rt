@@ -70,7 +70,6 @@ fn hold_and_submit(ring: &mut RingState, sheet: Sheet) -> Result<(), BenchFault>
         return Err(BenchFault::Lost);
     };
     let n = sheet.len();
-    ring.facts();
     let Ok(mut reservation) = ring.reserve(0, hand, n, sheet) else {
         return Err(BenchFault::Lost);
     };

@@ -1,23 +1,13 @@
--- What is out in the hands of a book once one of them was marked or freed.
+-- What is out in the hands of a book once one of them was freed.
 use Rattle.std.proofs.Common.{◌≡◌, ℕ, ◌<◌, Option, Some, None, sym, ◌∙◌, inl, inr}
 use Rattle.std.proofs.lemmas.Bool.{cases_eq}
 use Rattle.rb_hands.specs.declared.out_record.OutRecord.{OutRecord}
-use Rattle.rb_hands.specs.Hands.{HandBook, IsFree, IsShaped, hand_at, hands_of, with_hand}
+use Rattle.rb_hands.specs.Hands.{HandBook, IsShaped, hand_at, hands_of, with_hand}
 use Rattle.rb_hands.proofs.ChangedHands.{hand-here, hand-there}
 
 module _ (workers : ℕ) (book : HandBook) (shaped : IsShaped workers book) (w h : ℕ) (low : w < workers) (four : h < 4) where
   absent : (o : OutRecord) → ◌≡◌ {A = Option OutRecord} None (Some o) → ⊥
   absent o e = cc
-
-  -- a hand that was free is marked: what was out is out
-  pub marked-stays : IsFree (hands_of book w) h → (x : OutRecord) (v g : ℕ) (o : OutRecord) → hand_at book v g ≡ Some o → hand_at (with_hand book w h (Some x)) v g ≡ Some o
-  marked-stays free x v g o at = elim (cases_eq v w) [
-    | inl mine ↦ elim (cases_eq g h) [
-      | inl same ↦ absurd (absent o (sym free.free ∙ sym (λ i. hand_at book (mine i) (same i)) ∙ at))
-      | inr other ↦ hand-there workers book shaped w h low (Some x) v g (λ _ e. other e) ∙ at
-    ]
-    | inr apart ↦ hand-there workers book shaped w h low (Some x) v g (λ e _. apart e) ∙ at
-  ]
 
   -- a hand is freed: what is out then was out before
   pub freed-stays : (v g : ℕ) (o : OutRecord) → hand_at (with_hand book w h None) v g ≡ Some o → hand_at book v g ≡ Some o

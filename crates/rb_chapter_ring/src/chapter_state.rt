@@ -98,6 +98,7 @@ impl ChapterState {
         })
     }
 
+    #[inline(always)]
     /// What holds of each ring: its chapter is legal from its opening, which a legal history stands for, and has room for all that it
     /// owes; it is what the ring's state stands for; and the ring's numbers are within bounds.
     pub(crate) fn facts(&self)
@@ -108,6 +109,7 @@ impl ChapterState {
         let _ = &self.chapter;
     }
 
+    #[inline(always)]
     /// The chapter that the ring keeps.
     pub(crate) fn chapter(&self) -> &Chapter
         ensures chapter { result.now ≡ self.now.chapter }
@@ -150,6 +152,7 @@ impl ChapterState {
         }
     }
 
+    #[inline(always)]
     /// Grants worker `worker` a record of `n` bytes at the producer position, in a sheet of as many bytes, which become zeros, where
     /// the ring has room for it and the chapter for all that it will log. `Full` is logged, where the ring has no room; `ChapterFull` changes
     /// nothing. A refusal hands the sheet back. In constant time, but for the record's bytes, and without memory. (bpf-helpers(7),
@@ -182,6 +185,7 @@ impl ChapterState {
         }
     }
 
+    #[inline(always)]
     /// Hands the bytes of the reservation, whose record stands at the index, to the consumer. It is busy, so there is no refusal. Of the flags only bits 0 and 1 are
     /// looked at. In constant time, and without memory. (bpf-helpers(7), bpf_ringbuf_submit.)
     pub(crate) fn submit(&mut self, index: usize, reservation: Reservation, flags: u64) -> Notice
@@ -198,6 +202,7 @@ impl ChapterState {
         notice
     }
 
+    #[inline(always)]
     /// Gives the reservation's record, which stands at the index, up, so that the consumer passes over it. It is busy, so there is no refusal. Of the flags
     /// only bits 0 and 1 are looked at. In constant time, and without memory. (bpf-helpers(7), bpf_ringbuf_discard.)
     pub(crate) fn discard(&mut self, index: usize, reservation: Reservation, flags: u64) -> Notice
@@ -214,6 +219,7 @@ impl ChapterState {
         notice
     }
 
+    #[inline(always)]
     /// Grants worker `worker` a record and submits it at once, with the sheet's bytes. Unknown flags are refused first, and
     /// nothing is logged then; otherwise it refuses as `reserve` does. A refusal hands the sheet back. In constant time, and without
     /// memory. (bpf-helpers(7), bpf_ringbuf_output.)
@@ -338,6 +344,7 @@ impl ChapterState {
         self.chapter.log_submit(index);
     }
 
+    #[inline(always)]
     // The busy record at an index is given up.
     fn give_up(&mut self, index: usize, pos: u64, len: u32)
         requires busy { IsBusyAt self.old.shown index pos len }
@@ -349,6 +356,7 @@ impl ChapterState {
         self.discarded += 1;
     }
 
+    #[inline(always)]
     /// How many records were taken.
     pub(crate) fn taken(&self) -> u64
         ensures taken { result ≡ taken_before (closing_of self.now.chapter) }
@@ -357,6 +365,7 @@ impl ChapterState {
         closing.consumed() + closing.skipped()
     }
 
+    #[inline(always)]
     /// The ordinal of the record that is granted next.
     pub(crate) fn next_ordinal(&self) -> u64
         ensures ordinal { result ≡ taken_before (closing_of self.now.chapter) + length (closing_of self.now.chapter).records }
@@ -365,6 +374,7 @@ impl ChapterState {
         closing.consumed() + closing.skipped() + self.many() as u64
     }
 
+    #[inline(always)]
     // How many records are there.
     fn many(&self) -> usize
         ensures many { result ≡ length self.now.shown }
@@ -372,6 +382,7 @@ impl ChapterState {
         self.chapter.closing().records().len()
     }
 
+    #[inline(always)]
     // Whether a notice is due for the record at `pos`.
     fn notice(&self, pos: u64, flags: u64) -> Notice
         ensures due { (result ≡ Notice.Due) ↔ IsDue (consumer_now self.now) pos flags }
@@ -379,6 +390,7 @@ impl ChapterState {
         notice_for(self.chapter.closing().consumer(), pos, flags)
     }
 
+    #[inline(always)]
     fn producer(&self) -> u64
         ensures value { result ≡ producer_now self.now }
     {

@@ -87,6 +87,7 @@ impl HandState {
         })
     }
 
+    #[inline(always)]
     /// The chapter that the ring keeps.
     pub fn chapter(&self) -> &Chapter
         ensures chapter { result.now ≡ self.now.ring.chapter }
@@ -94,6 +95,7 @@ impl HandState {
         self.ring.chapter()
     }
 
+    #[inline(always)]
     /// Grants worker `worker` a record and submits it at once; it needs no hand.
     pub fn output(
         &mut self,
@@ -116,6 +118,7 @@ impl HandState {
         self.ring.output(worker, sheet, flags)
     }
 
+    #[inline(always)]
     /// Takes the record at the consumer position.
     pub fn take(&mut self) -> Taken
         ensures same_chapter { IsSameChapter self.old.ring self.new.ring }
@@ -158,6 +161,7 @@ impl HandState {
         self.ring.hand_out(empty)
     }
 
+    #[inline(always)]
     /// The worker's lowest free hand, if one is free. In constant time.
     pub fn free_hand(&self, worker: u32) -> Option<u32>
         requires worker { worker < self.now.ring.chapter.opening.setup.workers }
@@ -167,6 +171,7 @@ impl HandState {
         lowest_free(&self.hands[worker as usize])
     }
 
+    #[inline(always)]
     /// Whether the reservation's record is out in its hand. In constant time.
     pub fn is_out(&self, reservation: &Reservation) -> bool
         ensures exact { IsTrue result ↔ HasInHand self.now reservation.now.hand reservation.now.granted }
@@ -175,6 +180,7 @@ impl HandState {
         worker < self.hands.len() && reservation.is_in(&self.hands[worker])
     }
 
+    #[inline(always)]
     /// What holds of each ring; and its book of hands is that of its busy records.
     pub fn facts(&self)
         ensures kept { (earlier : List Entry) × IsKept earlier self.now.ring.chapter }
@@ -185,6 +191,7 @@ impl HandState {
         self.ring.facts();
     }
 
+    #[inline(always)]
     /// Grants worker `worker` a record of `n` bytes at the producer position into this hand, in a sheet of as many bytes, which become zeros, for a ring
     /// with this tag. It refuses as `RingState::reserve`, and hands the sheet back then. In constant time, but for the record's bytes, and without
     /// memory. (bpf-helpers(7), bpf_ringbuf_reserve.)
@@ -205,6 +212,7 @@ impl HandState {
         ensures hand { IfOk result (λ r. r.hand ≡ hand) }
         ensures worker { IfOk result (λ r. r.granted.worker ≡ worker) }
         ensures zeros { IfOk result (λ r. r.granted.bytes ≡ replicate n 0) }
+        ensures out { IfOk result (λ r. HasInHand self.new r.hand r.granted) }
         ensures refused { IfErr result (λ e. RefusesInChapter self.old.ring self.new.ring worker n e.0) }
         ensures same_hands { IfErr result (λ e. self.new.hands ≡ self.old.hands) }
         ensures known_flags { IfErr result (λ e. e.0 ≢ Flags) }
@@ -228,6 +236,7 @@ impl HandState {
         }
     }
 
+    #[inline(always)]
     /// Hands the reservation's bytes to the consumer, and frees its hand. It is out in that hand, so it is busy: there is no refusal. Of the flags only
     /// bits 0 and 1 are looked at. In constant time, and without memory. (bpf-helpers(7), bpf_ringbuf_submit.)
     pub fn submit(&mut self, reservation: Reservation, flags: u64) -> Notice
@@ -240,6 +249,7 @@ impl HandState {
         self.send(hand, grant, flags)
     }
 
+    #[inline(always)]
     /// Gives the reservation's record up, so that the consumer passes over it, and frees its hand. It is out in that hand, so it is busy: there is no
     /// refusal. Of the flags only bits 0 and 1 are looked at. In constant time, and without memory. (bpf-helpers(7), bpf_ringbuf_discard.)
     pub fn discard(&mut self, reservation: Reservation, flags: u64) -> Notice
@@ -252,6 +262,7 @@ impl HandState {
         self.give_up(hand, grant, flags)
     }
 
+    #[inline(always)]
     // The index of the record that is out in the hand, among those that are there.
     fn index_in(&self, hand: u32, grant: &Record) -> usize
         requires out { HasInHand self.now hand grant.now }
@@ -263,6 +274,7 @@ impl HandState {
         (ordinal - ring.taken()) as usize
     }
 
+    #[inline(always)]
     // Submits the record that is out in a hand of its worker.
     fn send(&mut self, hand: u32, grant: Record, flags: u64) -> Notice
         requires out { HasInHand self.old hand grant }
@@ -279,6 +291,7 @@ impl HandState {
         notice
     }
 
+    #[inline(always)]
     // Discards the record that is out in a hand of its worker.
     fn give_up(&mut self, hand: u32, grant: Record, flags: u64) -> Notice
         requires out { HasInHand self.old hand grant }
@@ -295,6 +308,7 @@ impl HandState {
         notice
     }
 
+    #[inline(always)]
     /// The answers to a query (bpf-helpers(7), bpf_ringbuf_query), as `RingState::query` gives them.
     pub fn query(&self, what: u64) -> u64
         ensures answer { result ≡ query_answer_from self.now.ring.chapter.opening self.now.ring.chapter.entries what }

@@ -7,6 +7,7 @@ ghost use Rattle.rb_hands.specs.Hands.{free_book, with_hand};
 use rb_hands::OutRecord;
 use std::alloc::{AllocError, Global};
 
+#[inline(always)]
 /// Puts this into a worker's hand.
 pub(crate) fn set_hand(
     book: &mut Vec<[Option<OutRecord>; 4]>,
@@ -18,9 +19,8 @@ pub(crate) fn set_hand(
     requires hand { hand < 4 }
     ensures set { book.new.items ≡ with_hand book.old.items worker hand now }
 {
-    let mut hands = book[worker as usize];
+    let hands = &mut book[worker as usize];
     hands[hand as usize] = now;
-    book[worker as usize] = hands;
 }
 
 /// Free hands for so many workers.
@@ -33,15 +33,15 @@ pub(crate) fn free_table(
     vec![in alloc; [None; 4]; workers as usize]
 }
 
+#[inline(always)]
 /// Puts an ordinal in a worker's hand's place.
 pub(crate) fn set_ordinal(table: &mut Vec<[u64; 4]>, worker: u32, hand: u32, ordinal: u64)
     requires worker { worker < length table.old.items }
     requires hand { hand < 4 }
     ensures set { table.new.items ≡ slice_set table.old.items worker (slice_set (slice_index_or table.old.items worker []) hand ordinal) }
 {
-    let mut row = table[worker as usize];
+    let row = &mut table[worker as usize];
     row[hand as usize] = ordinal;
-    table[worker as usize] = row;
 }
 
 /// A row of four for each of so many workers.

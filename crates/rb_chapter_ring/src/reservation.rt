@@ -27,6 +27,7 @@ impl Model for Reservation {
 }
 
 impl Reservation {
+    #[inline(always)]
     /// The number of the ring that granted the record, as its opener gave it.
     pub fn tag(&self) -> u64
         ensures tag { result ≡ self.now.tag }
@@ -34,6 +35,7 @@ impl Reservation {
         self.tag
     }
 
+    #[inline(always)]
     /// The hand of its worker in which the record is out, 0 to 3.
     pub fn hand(&self) -> u32
         ensures hand { result ≡ self.now.hand }
@@ -41,6 +43,7 @@ impl Reservation {
         self.hand
     }
 
+    #[inline(always)]
     /// The record's position, in bytes.
     pub fn pos(&self) -> u64
         ensures pos { result ≡ self.now.granted.pos }
@@ -48,6 +51,7 @@ impl Reservation {
         self.grant.pos()
     }
 
+    #[inline(always)]
     /// The number of the worker that the record was granted to.
     pub fn worker(&self) -> u32
         ensures worker { result ≡ self.now.granted.worker }
@@ -55,6 +59,7 @@ impl Reservation {
         self.grant.worker()
     }
 
+    #[inline(always)]
     /// How many records this ring granted that worker before.
     pub fn serial(&self) -> u64
         ensures serial { result ≡ self.now.granted.serial }
@@ -62,6 +67,7 @@ impl Reservation {
         self.grant.serial()
     }
 
+    #[inline(always)]
     /// The record's length in bytes.
     pub fn len(&self) -> u32
         ensures len { result ≡ length self.now.granted.bytes }
@@ -69,6 +75,7 @@ impl Reservation {
         self.grant.len()
     }
 
+    #[inline(always)]
     /// Whether, of a worker's four hands, the one that it names is out with its position, serial and length.
     pub fn is_in(&self, hands: &[Option<OutRecord>]) -> bool
         requires four { length hands.now ≡ 4 }
@@ -95,14 +102,17 @@ impl Lent for Reservation {
 
     ghost with_bytes = { λ r w. record r { granted = record r.granted { bytes = in_place_of r.granted.bytes w } } };
 
+    #[inline(always)]
     fn bytes(&self) -> &[u8] {
         self.grant.bytes()
     }
 
+    #[inline(always)]
     fn bytes_mut(&mut self) -> &mut [u8] {
         self.grant.bytes_mut()
     }
 
+    #[inline(always)]
     fn range_mut(&mut self, at: usize, len: usize) -> &mut [u8] {
         self.grant.range_mut(at, len)
     }

@@ -75,6 +75,7 @@ impl RingState {
         Ok(RingState { tag, state })
     }
 
+    #[inline(always)]
     /// The number of the ring, as its opener gave it.
     pub fn tag(&self) -> u64
         ensures tag { result ≡ self.now.tag }
@@ -82,6 +83,7 @@ impl RingState {
         self.tag
     }
 
+    #[inline(always)]
     /// What holds of each ring: its chapter is legal from its opening, which a legal history stands for, and has room for all that it owes; it is
     /// what the ring's state stands for; the ring's numbers are within bounds; and its book of hands is that of its busy records.
     pub fn facts(&self)
@@ -93,6 +95,7 @@ impl RingState {
         self.state.facts();
     }
 
+    #[inline(always)]
     /// The chapter that the ring keeps.
     pub fn chapter(&self) -> &Chapter
         ensures chapter { result.now ≡ self.now.state.ring.chapter }
@@ -116,6 +119,7 @@ impl RingState {
         self.state.counts()
     }
 
+    #[inline(always)]
     /// The worker's lowest free hand, if one is free. In constant time.
     pub fn free_hand(&self, worker: u32) -> Option<u32>
         requires worker { worker < self.now.state.ring.chapter.opening.setup.workers }
@@ -125,6 +129,7 @@ impl RingState {
         self.state.free_hand(worker)
     }
 
+    #[inline(always)]
     /// Whether the reservation's record is out in its hand, so that it may be submitted or discarded. For callers that know no more of it. In
     /// constant time.
     pub fn is_out(&self, reservation: &Reservation) -> bool
@@ -155,6 +160,7 @@ impl RingState {
         ensures hand { IfOk result (λ r. r.hand ≡ hand) }
         ensures worker { IfOk result (λ r. r.granted.worker ≡ worker) }
         ensures zeros { IfOk result (λ r. r.granted.bytes ≡ replicate n 0) }
+        ensures out { IfOk result (λ r. HasInHand self.new.state r.hand r.granted) }
         ensures refused { IfErr result (λ e. RefusesInChapter self.old.state.ring self.new.state.ring worker n e.0) }
         ensures same_hands { IfErr result (λ e. self.new.state.hands ≡ self.old.state.hands) }
         ensures known_flags { IfErr result (λ e. e.0 ≢ Flags) }
@@ -176,6 +182,7 @@ impl RingState {
         self.state.submit(reservation, flags)
     }
 
+    #[inline(always)]
     /// Gives the reservation's record up, so that the consumer passes over it, and frees its hand. It is out in that hand, so it is busy: there is
     /// no refusal. Of the flags only bits 0 and 1 are looked at. In constant time, and without memory. (bpf-helpers(7), bpf_ringbuf_discard.)
     pub fn discard(&mut self, reservation: Reservation, flags: u64) -> Notice
@@ -188,6 +195,7 @@ impl RingState {
         self.state.discard(reservation, flags)
     }
 
+    #[inline(always)]
     /// Grants worker `worker` a record and submits it at once, with the sheet's bytes; it needs no hand. Unknown flags are refused first, and nothing
     /// is logged then; otherwise it refuses as `reserve` does. A refusal hands the sheet back. In constant time, and without memory.
     /// (bpf-helpers(7), bpf_ringbuf_output.)

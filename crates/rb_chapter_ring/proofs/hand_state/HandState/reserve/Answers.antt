@@ -1,7 +1,9 @@
-use Rattle.std.proofs.Common.{◌<◌, Some, refl, sym, ◌∙◌, subst}
+use Rattle.std.proofs.Common.{◌<◌, Some, length, refl, sym, ◌∙◌, ap, subst}
+use Rattle.std.proofs.lemmas.List.{length-replicate}
 use Rattle.rb_chapter.specs.Chapters.{closing_of}
 use Rattle.rb_chapter_ring.specs.inner.Ordinals.{IsHandState, IsNumbered}
-use Rattle.rb_hands.specs.Hands.{hands_of, with_hand, IsFree}
+use Rattle.rb_hands.specs.Hands.{hand_at, hands_of, out_record, with_hand, IsFree}
+use Rattle.rb_hands.proofs.ChangedHands.{hand-here}
 use Rattle.rb_hands.specs.HandRing.{HandRing, hand_ring, GrantsToHand}
 use Rattle.rb_chapter_ring.proofs.StateSteps.{refused-holds, granted-holds}
 use Rattle.rb_chapter_ring.proofs.hand_state.HandState.reserve.Goals as goal
@@ -30,3 +32,14 @@ returns-in-Ok-clause-granted c =
     let marked = c.set_hand.ensures.set ∙ (λ i. with_hand c.self.inside.hands.items c.args.worker c.args.hand (Some (record { pos = c.pos.ensures.value i; serial = c.serial.ensures.value i; len = c.args.n }))) in
     subst (λ (s : HandRing). GrantsToHand s (hand_ring c.reserve.new.self c.set_hand.new.book.items) c.args.worker c.args.hand c.args.n r.pos r.serial) c.self.view_is
     (record { grants = c.in-Ok.ensures.granted; was_free = free; marked = marked })
+
+pub returns-in-Ok-clause-out : goal.returns-in-Ok-clause-out
+returns-in-Ok-clause-out c =
+    let r = c.in-Ok.grant in
+    let low = subst (λ (s : HandRing). c.args.worker < s.ring.chapter.opening.setup.workers) (sym c.self.view_is) c.requires.worker in
+    let free = subst (λ (s : HandRing). IsFree (hands_of s.hands c.args.worker) c.args.hand) (sym c.self.view_is) c.requires.hand in
+    let long = ap length c.in-Ok.ensures.zeros ∙ length-replicate c.args.n 0 in
+    let here = hand-here c.self.inside.ring.chapter.opening.setup.workers c.self.inside.hands.items c.self.invariant.has.shaped c.args.worker c.args.hand low free.below (Some (out_record r.pos r.serial c.args.n)) in
+    (λ i. hand_at (c.set_hand.ensures.set i) (c.in-Ok.ensures.worker i) c.args.hand)
+    ∙ (λ i. hand_at (with_hand c.self.inside.hands.items c.args.worker c.args.hand (Some (out_record (c.pos.ensures.value i) (c.serial.ensures.value i) c.args.n))) c.args.worker c.args.hand)
+    ∙ here ∙ ap (λ m. Some (out_record r.pos r.serial m)) (sym long)
