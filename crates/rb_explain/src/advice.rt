@@ -69,7 +69,7 @@ pub(crate) fn rule_advice(rule: Rule) -> &'static str {
         Rule::OutsidePart => {
             "An access lies wholly inside the context, the stack (512 bytes below r10) or the record. Check the offset and the size, reserve a longer record, or give the program a longer context (--ctx).\n"
         }
-        Rule::ContextWritten => { "The context is only read. Write to the stack or to a record." }
+        Rule::ContextWritten => { "The context is only read. Write to the stack or to a record.\n" }
         Rule::PointerStored => {
             "A pointer is stored at a place of the stack alone: all eight bytes of it, at an offset from r10 that is a multiple of 8. Store it so, or keep it in r6 to r9.\n"
         }
