@@ -1,5 +1,5 @@
 #!/usr/bin/env python3
-"""Reads a host's stream as a member of the consumer group `agents`, and appends each record's line to a file.
+"""Reads a host's stream as a member of the consumer group `agents`, and appends each record's object to a file, one a line.
 
 Usage: examples/ship/read.py HOST PORT FILE
 
@@ -21,7 +21,7 @@ def last_in(path):
     whole = written[: written.rfind(b"\n") + 1]
     if whole != written:
         path.write_bytes(whole)
-    return position_of(whole.decode().splitlines()[-1]) if whole else -1
+    return position_of(whole.split(b"\n")[-2]) if whole else -1
 
 
 def join(port, stream):
@@ -42,7 +42,7 @@ def main():
     stream, port, path = f"tape:{sys.argv[1]}", int(sys.argv[2]), pathlib.Path(sys.argv[3])
     last = last_in(path)
     server, after = join(port, stream), "0"
-    with path.open("a") as file:
+    with path.open("a", encoding="utf-8") as file:
         while True:
             try:
                 given = server.call("XREADGROUP", "GROUP", "agents", "one", "COUNT", AT_ONCE, "BLOCK", 200, "STREAMS", stream, after)

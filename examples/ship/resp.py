@@ -1,4 +1,5 @@
-"""The little of Redis' protocol (RESP) that the sender and the reader need, and the position in a line of `rbhost tape`."""
+"""The little of Redis' protocol (RESP) that the sender and the reader need, and the position in a line of `rbhost tape --json`."""
+import json
 import socket
 import time
 
@@ -47,8 +48,8 @@ class Server:
 
 
 def position_of(line):
-    """The position of a record, whose line is `pos P len N HEX` or `pos P len N discarded`."""
-    return int(line.split(" ")[1])
+    """The position of a record, whose line is an object of JSON; above 2^53 it stands there as a string."""
+    return int(json.loads(line)["pos"])
 
 
 def connect(port, seconds=30):

@@ -5,12 +5,16 @@ Usage: examples/ship/run.py [RBHOST]
 
 RBHOST is tools/rbhost unless given. Debian's package `redis-server` has the server, which is started on loopback alone, with each command on the disk
 before it is answered. Once a quarter of a host's records was read, its sender is killed and started again, from the front of its tape; once half of all
-was read, the server is; once three quarters of a host's were, its reader. The script's status is 1 where what was read is not the tape, line by line.
+was read, the server is; once three quarters of a host's were, its reader. The script's status is 1 where what was read is not, line by line, what
+`rbhost tape --json` prints, or where the bytes that its records stand for are not the tape's. Half of the positions of `beta` are above 2^53, and stand in
+the objects as strings.
 """
+import json
 import pathlib
 import shutil
 import signal
 import socket
+import struct
 import subprocess
 import sys
 import tempfile
@@ -19,8 +23,12 @@ import time
 HERE = pathlib.Path(__file__).resolve().parent
 ROOT = HERE.parent.parent
 SIZE = 1048576
-HOSTS = {"alpha": 2500, "beta": 4000}
 WORKERS = 4
+SPAN = 16
+DISCARDED = 1 << 30
+
+# The jobs of each worker of a host, and its ring's first position: that of `beta` is half of its tape below 2^53.
+HOSTS = {"alpha": (2500, 0), "beta": (4000, (1 << 53) - 2000 * WORKERS * SPAN)}
 
 
 def free_port():
@@ -36,16 +44,29 @@ def start_server(folder, port):
     return subprocess.Popen(words, stdout=subprocess.DEVNULL)
 
 
+def tape_of(lines):
+    """The bytes of the tape that has these records, each an object on a line."""
+    tape = []
+    for record in map(json.loads, lines.splitlines()):
+        length, discarded = record["len"], record["discarded"]
+        page = int(record["pos"]) % SIZE // 4096
+        payload = bytes(length) if discarded else bytes.fromhex(record["hex"])
+        tape.append(struct.pack("<II", length | DISCARDED * discarded, page) + payload + bytes(-length % 8))
+    return b"".join(tape)
+
+
 class Host:
     """A host: its tape, and what sends and reads it."""
 
-    def __init__(self, rbhost, folder, name, jobs, port):
-        self.rbhost, self.name, self.port = rbhost, name, port
+    def __init__(self, rbhost, folder, name, jobs, start, port):
+        self.name, self.port = name, port
         self.tape, self.read = folder / f"{name}.tape", folder / f"{name}.read"
+        ring = ["--size", str(SIZE), "--start", str(start)]
         program = (ROOT / "examples" / "output_context.hex").read_bytes()
-        run = [rbhost, "run", "--workers", str(WORKERS), "--jobs", str(jobs), "--size", str(SIZE), "--tape", str(self.tape)]
+        run = [rbhost, "run", "--workers", str(WORKERS), "--jobs", str(jobs), *ring, "--tape", str(self.tape)]
         subprocess.run(run, input=program, stdout=subprocess.DEVNULL, check=True)
-        self.lines = subprocess.run([rbhost, "tape", "--size", str(SIZE)], stdin=self.tape.open("rb"), stdout=subprocess.PIPE, check=True).stdout
+        self.print_tape = [rbhost, "tape", "--json", *ring]
+        self.lines = subprocess.run(self.print_tape, stdin=self.tape.open("rb"), stdout=subprocess.PIPE, check=True).stdout
         self.records = self.lines.count(b"\n")
         self.starts, self.reads = 0, 0
         self.start_reader()
@@ -58,8 +79,7 @@ class Host:
 
     def start_sender(self):
         """Sends the tape from its front."""
-        words = [self.rbhost, "tape", "--size", str(SIZE)]
-        tape = subprocess.Popen(words, stdin=self.tape.open("rb"), stdout=subprocess.PIPE, stderr=subprocess.DEVNULL)
+        tape = subprocess.Popen(self.print_tape, stdin=self.tape.open("rb"), stdout=subprocess.PIPE, stderr=subprocess.DEVNULL)
         self.sender = subprocess.Popen([str(HERE / "send.py"), self.name, str(self.port)], stdin=tape.stdout)
         tape.stdout.close()
         self.starts += 1
@@ -67,6 +87,11 @@ class Host:
     def count(self):
         """How many records were read."""
         return self.read.read_bytes().count(b"\n") if self.read.exists() else 0
+
+    def is_read(self):
+        """Whether what was read is the tape."""
+        read = self.read.read_bytes()
+        return read == self.lines and tape_of(read) == self.tape.read_bytes()
 
     def kill_sender(self):
         """Kills the sender, and starts it again."""
@@ -110,13 +135,13 @@ def main():
         folder, port = pathlib.Path(name), free_port()
         server, hosts = [start_server(folder, port)], []
         try:
-            for host, jobs in HOSTS.items():
-                hosts.append(Host(rbhost, folder, host, jobs, port))
+            for host, (jobs, start) in HOSTS.items():
+                hosts.append(Host(rbhost, folder, host, jobs, start, port))
             starts = ship(hosts, folder, port, server)
             for host in hosts:
                 host.sender.wait(30)
             time.sleep(1)
-            same = [host.read.read_bytes() == host.lines for host in hosts]
+            same = [host.is_read() for host in hosts]
         finally:
             for process in [*(host.reader for host in hosts), *(host.sender for host in hosts), *server]:
                 process.kill()

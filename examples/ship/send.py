@@ -1,7 +1,7 @@
 #!/usr/bin/env python3
-"""Sends the records of a host's tape, as `rbhost tape` prints them, to the stream `tape:HOST`.
+"""Sends the records of a host's tape, the objects that `rbhost tape --json` prints, to the stream `tape:HOST`.
 
-Usage: rbhost tape --size N < TAPE | examples/ship/send.py HOST PORT
+Usage: rbhost tape --json --size N < TAPE | examples/ship/send.py HOST PORT
 
 A record's position is its number in the stream, and the server takes no number twice. So whoever sends the same tape again, from its front, sends what
 is missing: what the stream ends with is asked first, and all records up to there are left out.
@@ -21,7 +21,7 @@ def last_position(server, stream):
 
 
 def send_all(server, stream, records):
-    """Sends records, each as its position and its line, without waiting for each answer; the answers are read then."""
+    """Sends records, each as its position and its object, without waiting for each answer; the answers are read then."""
     for position, line in records:
         server.send("XADD", stream, f"1-{position}", "record", line)
     for _ in records:
@@ -35,7 +35,7 @@ def main():
     stream, port = f"tape:{sys.argv[1]}", int(sys.argv[2])
     server = connect(port)
     last = last_position(server, stream)
-    lines = (line.rstrip("\n") for line in sys.stdin)
+    lines = (line.decode().rstrip("\n") for line in sys.stdin.buffer)
     records = ((position_of(line), line) for line in lines)
     while batch := list(itertools.islice(records, AT_ONCE)):
         while batch := [record for record in batch if record[0] > last]:

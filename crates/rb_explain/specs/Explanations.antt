@@ -76,9 +76,9 @@ near_line form program at unit = near_slot form at unit (slot_at program unit)
 abbrev pub window : LineForm → List Insn → ℕ → List ℕ
 window form program at = joined_below (near_line form program at) (unit_count program)
 
--- what is said of a fault: in words how programs mend it, behind this front; and as an object also its layer, its name and its unit
+-- what is said of a fault: in words a line on how programs mend it, behind this front; and as an object also its layer, its name and its unit
 abbrev pub said_text : LineForm → (front layer name : List ℕ) → ℕ → List ℕ → List ℕ
-said_text Words front layer name unit advice = front ++ advice
+said_text Words front layer name unit advice = front ++ advice ++ codes "\n"
 said_text Json front layer name unit advice = fault_object layer name unit advice
 
 -- ---- bytes that are no program: the lines before the fault, and the bytes of the units from it on

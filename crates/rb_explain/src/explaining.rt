@@ -10,7 +10,7 @@ ghost use Rattle.rb_explain.specs.Explanations.{ExplainsBytes, Explains, IsNoHex
 use crate::advice::{decode_advice, rule_advice, shape_advice};
 use crate::explanation::{Explanation, Reason};
 use crate::listing::listing_text;
-use crate::saying::{advice_in, decode_name, push_rule_said, push_said, shape_name};
+use crate::saying::{decode_name, push_rule_said, push_said, shape_name};
 use crate::windows::{decode_again, push_window, units_text};
 use rb_cfg::{Shape, ShapeFault, ShapeFaultKind, shape};
 use rb_decode::{DecodeFault, DecodeKind, TextFault, decode};
@@ -152,7 +152,7 @@ fn explain_decode(
     ensures shown { IfOk result (λ explanation. ShowsFault form bytes.now fault.unit fault.kind (string_bytes explanation.text)) }
 {
     let mut text = front_of(alloc, form, bytes, fault)?;
-    let advice = advice_in(form, decode_advice(fault.kind));
+    let advice = decode_advice(fault.kind);
     push_said(
         &mut text,
         form,
@@ -186,7 +186,7 @@ fn explain_shape(
     let program = decode_again(alloc, bytes)?;
     let mut text = String::new(alloc);
     push_window(alloc, &mut text, form, &program, fault.unit)?;
-    let advice = advice_in(form, shape_advice(fault.kind));
+    let advice = shape_advice(fault.kind);
     push_said(
         &mut text,
         form,
@@ -242,7 +242,7 @@ fn explain_rule(
     let program = decode_again(alloc, bytes)?;
     let mut text = String::new(alloc);
     push_window(alloc, &mut text, form, &program, unit)?;
-    let advice = advice_in(form, rule_advice(rule));
+    let advice = rule_advice(rule);
     push_rule_said(alloc, &mut text, form, unit, rule, advice)?;
     Ok(Explanation {
         text,

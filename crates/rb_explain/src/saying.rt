@@ -42,12 +42,12 @@ pub(crate) fn shape_name(kind: ShapeFaultKind) -> &'static str
     }
 }
 
-/// How programs mend a fault, as it is said in this form: of a whole line, whose name may stand in front, an object has neither the name nor the end.
-pub(crate) fn advice_in(form: LineForm, advice: &'static str) -> &'static str {
-    match form {
-        LineForm::Words => advice,
-        LineForm::Json => advice.trim_end(),
-    }
+// Adds a line and its end.
+fn push_whole_line(text: &mut String, line: &str) -> Result<(), AllocError>
+    ensures added { OnOk result (string_bytes text.new ≡ string_bytes text.old ++ line.now ++ codes "\n") }
+{
+    text.push_str(line)?;
+    text.push_str("\n")
 }
 
 /// What is said of a fault with a name. In words the advice has the name.
@@ -62,7 +62,7 @@ pub(crate) fn push_said(
     ensures added { OnOk result (string_bytes text.new ≡ string_bytes text.old ++ said_text form [] layer.now name.now unit advice.now) }
 {
     match form {
-        LineForm::Words => text.push_str(advice),
+        LineForm::Words => push_whole_line(text, advice),
         LineForm::Json => push_fault_object(text, layer, name, unit, advice),
     }
 }
@@ -88,7 +88,7 @@ pub(crate) fn push_rule_said(
     match form {
         LineForm::Words => {
             push_number(text, rule)?;
-            text.push_str(advice)
+            push_whole_line(text, advice)
         }
         LineForm::Json => {
             let name = format!(in alloc; "V{}", rule.number())?;
