@@ -65,9 +65,10 @@ pub record MayBind (chapters : List Chapter) (last : Chapter) : Type 0 where
   pub numbered : AreNumberedFrom 0 (chapters ++ last ∷ [])
   pub opened : AreOpenedInTurn (chapters ++ last ∷ [])
 
--- a closed ring that was bound, with all entries joined
+-- a closed ring that was bound to these chapters, with all entries joined
 pub record BoundRing : Type 0 where
   pub closed : ClosedChapterRing
+  pub chapters : List Chapter
   pub history : List Entry
 
 -- the book of the history, with the setup of the last chapter

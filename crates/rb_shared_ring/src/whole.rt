@@ -1,7 +1,6 @@
 //! A closed ring and its chapters are bound to the whole history.
 
-ghost use Rattle.std.specs.Prelude.{◌≡◌, ◌↔◌, ◌++◌, ◌∷◌, [], List, IfOk, IfErr};
-ghost use Rattle.rb_chapter.specs.Chapters.{Chapter};
+ghost use Rattle.std.specs.Prelude.{◌≡◌, ◌↔◌, ◌++◌, ◌∷◌, [], IfOk, IfErr};
 ghost use Rattle.rb_chapter.specs.WholeHistory.{IsBound};
 ghost use Rattle.rb_chapter_ledger.specs.ChapterClosing.{AreNumberedFrom, AreOpenedInTurn};
 ghost use Rattle.rb_shared_ring.specs.BoundSeats.{IsNotBound, TiesAllSeats, GathersAllSeats};
@@ -13,21 +12,20 @@ use rb_history::Entry;
 use std::alloc::Global;
 use std::marker::Model;
 
-/// A closed ring with its whole history: the entries of all chapters, joined.
+/// A closed ring with the chapters that it was bound to, and its whole history: the entries of all chapters, joined.
 #[derive(Drop)]
 pub struct Whole {
     closing: Closing,
+    chapters: Vec<Chapter>,
     history: Vec<Entry>,
 }
 
 impl Model for Whole {
-    ghost use Rattle.std.specs.Prelude.{List};
     ghost use Rattle.std.specs.Coded.{codes};
     ghost use Rattle.atomic_table.specs.Seated.{table_id_coded};
     ghost use Rattle.rb_history.specs.RingModel.{contents_code};
     ghost use Rattle.rb_history.specs.contracts.entries.Entry as entry;
     ghost use Rattle.rb_history.specs.contracts.tally.Tally as tally_row;
-    ghost use Rattle.rb_chapter.specs.Chapters.{Chapter};
     ghost use Rattle.rb_chapter.specs.WholeHistory.{IsBound};
     ghost use Rattle.rb_chapter_ledger.specs.ChapterClosing.{BoundRing};
 
@@ -35,16 +33,16 @@ impl Model for Whole {
 
     ghost coded = { Prim.hlevel (codes, contents_code, table_id_coded, entry.the_row.coded, tally_row.the_row.coded) };
 
-    ghost view = { λ w. record { closed = w.closing; history = w.history.items } };
+    ghost view = { λ w. record { closed = w.closing; chapters = w.chapters.items; history = w.history.items } };
 
-    ghost invariant = { λ w. (chapters : List Chapter) × IsBound chapters w.closing.at_end.chapter w.history.items };
+    ghost invariant = { λ w. IsBound w.chapters.items w.closing.at_end.chapter w.history.items };
 }
 
 impl Whole {
-    /// What holds of each whole history: it has the entries of some chapters and then those of the last one, is legal, and is what the last
+    /// What holds of each whole history: it has the entries of its chapters and then those of the last one, is legal, and is what the last
     /// chapter stands for.
     pub fn facts(&self)
-        ensures bound { (chapters : List Chapter) × IsBound chapters self.now.closed.at_end.chapter self.now.history }
+        ensures bound { IsBound self.now.chapters self.now.closed.at_end.chapter self.now.history }
     {
         let _ = &self.history;
     }
@@ -54,6 +52,13 @@ impl Whole {
         ensures closed { result.now ≡ self.now.closed }
     {
         &self.closing
+    }
+
+    /// The chapters that it was bound to, oldest first, without the last one, which the closed ring has.
+    pub fn chapters(&self) -> &[Chapter]
+        ensures chapters { result.now ≡ self.now.chapters }
+    {
+        self.chapters.as_slice()
     }
 
     /// The whole history, oldest entry first.
@@ -78,6 +83,7 @@ impl Closing {
         ensures opening { IsNotBound BindFault.Opening result ↔ (AreNumberedFrom 0 (chapters.items ++ self.at_end.chapter ∷ []) × ¬ AreOpenedInTurn (chapters.items ++ self.at_end.chapter ∷ [])) }
         ensures handed_back { IfErr result (λ e. (e.1 ≡ self) × (e.2.items ≡ chapters.items)) }
         ensures closed { IfOk result (λ w. w.closed ≡ self) }
+        ensures chapters { IfOk result (λ w. w.chapters ≡ chapters.items) }
         ensures bound { IfOk result (λ w. IsBound chapters.items self.at_end.chapter w.history) }
         ensures tied { IfOk result (λ w. TiesAllSeats self.at_end w.history) }
         ensures gathered { IfOk result (λ w. GathersAllSeats self.at_end chapters.items w.history) }
@@ -85,6 +91,7 @@ impl Closing {
         match bind_chapters(alloc, &chapters, self.chapter()) {
             Ok(history) => Ok(Whole {
                 closing: self,
+                chapters,
                 history,
             }),
             Err(fault) => Err((fault, self, chapters)),
