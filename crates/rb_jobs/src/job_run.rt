@@ -3,7 +3,7 @@
 ghost use Rattle.std.specs.Prelude.{◌≡◌, ◌≤◌, [], false, length, IfOk, IfErr};
 ghost use Rattle.rb_verifier.specs.Subject.{call_count};
 ghost use Rattle.rb_seats.specs.SeatHelpers.{AtRings};
-ghost use Rattle.rb_jobs.specs.Jobs.{JobRan, JobRanCounted, task_of};
+ghost use Rattle.rb_jobs.specs.Jobs.{JobRanCounted, task_of};
 
 use crate::gated_helpers::GatedHelpers;
 use crate::job::{Gate, Job, JobAnswer};
@@ -68,8 +68,7 @@ impl<'r, 'j, R: Wait, G: Gate, K: Stock> JobRunner<'r, 'j, R, G, K> {
     /// and takes as many steps as the program has units at most. Memory is taken only where the trace has room for fewer calls than the program has.
     pub fn run(&mut self, job: &Job<'j>) -> Result<JobAnswer, AllocError>
         requires rings { job.now.program.now.rings ≤ length self.old.rings }
-        ensures ran { IfOk result (λ answer. JobRan (task_of job.now) answer self.old.seats self.new.seats) }
-        ensures counted { IfOk result (λ answer. JobRanCounted (task_of job.now) answer self.old.seats self.new.seats self.old.calls self.new.calls) }
+        ensures ran { IfOk result (λ answer. JobRanCounted (task_of job.now) answer self.old.seats self.new.seats self.old.calls self.new.calls) }
         ensures few { IfOk result (λ answer. answer.unlogged ≤ 4096) }
         ensures rings { self.new.rings ≡ self.old.rings }
         ensures nothing_ran { IfErr result (λ _. self.new ≡ self.old) }
@@ -97,8 +96,7 @@ fn run_begun<'j, R: Wait, G: Gate, K: Stock>(
 ) -> JobAnswer
     requires rings { job.now.program.now.rings ≤ length helpers.old.inner.rings }
     requires begun { helpers.old.inner ≡ record { rings = helpers.old.inner.rings; seats = helpers.old.inner.seats; trace = []; room = call_count job.now.program.now.program; unlogged = 0; due = false } }
-    ensures ran { JobRan (task_of job.now) result helpers.old.inner.seats helpers.new.inner.seats }
-    ensures counted { JobRanCounted (task_of job.now) result helpers.old.inner.seats helpers.new.inner.seats helpers.old.calls helpers.new.calls }
+    ensures ran { JobRanCounted (task_of job.now) result helpers.old.inner.seats helpers.new.inner.seats helpers.old.calls helpers.new.calls }
     ensures few { result.unlogged ≤ 4096 }
     ensures rings { helpers.new.inner.rings ≡ helpers.old.inner.rings }
 {
@@ -128,8 +126,7 @@ pub fn run_job<R: Wait, G: Gate, K: Stock>(
 ) -> (Result<JobAnswer, AllocError>, Vec<Seat>)
     requires rings { job.now.program.now.rings ≤ length rings.now }
     requires seats { AtRings rings.now seats.items }
-    ensures ran { IfOk result.0 (λ answer. JobRan (task_of job.now) answer seats.items result.1.items) }
-    ensures counted { IfOk result.0 (λ answer. JobRanCounted (task_of job.now) answer seats.items result.1.items calls.old calls.new) }
+    ensures ran { IfOk result.0 (λ answer. JobRanCounted (task_of job.now) answer seats.items result.1.items calls.old calls.new) }
     ensures memory { IfErr result.0 (λ _. result.1 ≡ seats) }
     ensures nothing_ran { IfErr result.0 (λ _. calls.new ≡ calls.old) }
     ensures seats { AtRings rings.now result.1.items }

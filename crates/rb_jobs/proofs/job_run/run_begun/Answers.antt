@@ -7,16 +7,13 @@ use Rattle.rb_jobs.specs.Jobs.{task_of}
 use Rattle.rb_jobs.proofs.Doing.{did_counted, few_unlogged}
 use Rattle.rb_jobs.proofs.job_run.run_begun.Goals as goal
 
-pub returns-clause-counted : goal.returns-clause-counted
-returns-clause-counted g c =
+pub returns-clause-ran : goal.returns-clause-ran
+returns-clause-ran g c =
     let start : AtSeats = c.args.helpers.now.inner in
     let now : AtSeats = c.run_in-result.new.helpers.inner in
     let shows = c.run_in-result.ensures.shows in
     did_counted (task_of c.args.job.now) _ shows.0 start now _ _ _ _ _ _ _ _ c.requires.begun c.unlogged-unlogged.ensures.count refl
     refl refl (omega arith) c.run_in-result.ensures.length shows.1 (c.run_in-result.ensures.never_stray refl) c.run_in-result.ensures.balanced shows.2.0 shows.2.1
-
-pub returns-clause-ran : goal.returns-clause-ran
-returns-clause-ran g c = (returns-clause-counted g c).0
 
 pub returns-clause-few : goal.returns-clause-few
 returns-clause-few g c =
