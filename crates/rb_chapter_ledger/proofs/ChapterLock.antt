@@ -365,19 +365,19 @@ opens n pass v r is is_ring has nothing =
 unopened-has : HasChapters unopened_chapters
 unopened-has =
     let nobody : Setup = record { size = 0; start = 0; workers = 0 } in
-    let kept = empty-kept 0 nobody in
-    record { binds = handed-out-bind [] (first_chapter 0 nobody) (refl, refl, kept.continues.legal); room = kept.room }
+    let kept = empty-kept 8 nobody in
+    record { binds = handed-out-bind [] (first_chapter 8 nobody) (refl, refl, kept.continues.legal); room = kept.room; within = (omega arith, omega arith) }
 
 -- before anything: one pass, which has the state that nobody fits
-pub begins-of : KeepsRuleOf 0 [] [] (chapter_view [] (Some unopened_chapters) ∷ [])
+pub begins-of : KeepsRuleOf 8 [] [] (chapter_view [] (Some unopened_chapters) ∷ [])
 begins-of = record {
   rule = record {
-    room = 0;
+    room = 8;
     handed_out = [];
     whole = old.begins (record { ring = unopened_ring; sent = empty });
     queued_goes_on = tt;
-    each_knows = λ j u e. elim j as (λ k. get_elem? (chapter_view [] (Some unopened_chapters) ∷ []) k ≡ some u → KnowsChapters 0 [] u) [
-      | zero ↦ (λ h. subst (KnowsChapters 0 []) (some-injective (chapter_view [] (Some unopened_chapters)) u h) (record { goes_on = record { handed_out_same = refl; room_same = refl; has_chapters = unopened-has }; handed_out_known = tt }))
+    each_knows = λ j u e. elim j as (λ k. get_elem? (chapter_view [] (Some unopened_chapters) ∷ []) k ≡ some u → KnowsChapters 8 [] u) [
+      | zero ↦ (λ h. subst (KnowsChapters 8 []) (some-injective (chapter_view [] (Some unopened_chapters)) u h) (record { goes_on = record { handed_out_same = refl; room_same = refl; has_chapters = unopened-has }; handed_out_known = tt }))
       | suc k ↦ (λ h. absurd (some-ne-none u (sym h)))
     ] e;
   };

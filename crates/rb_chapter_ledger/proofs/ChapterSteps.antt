@@ -1,7 +1,7 @@
 -- After each call on the state that it has out, a role may put it back, and after a chapter was handed out the consumer may.
 use Rattle.std.proofs.Common.{◌≡◌, [], ◌∷◌, ◌++◌, inl, inr, refl, sym, ap, ◌∙◌, subst, arith}
 use Rattle.std.proofs.lemmas.Bool.{eq-eqb, ne_eqb}
-use Rattle.rb_chapter.specs.Chapters.{Chapter, IsLegalChapter, joined}
+use Rattle.rb_chapter.specs.Chapters.{Chapter, IsChapterRoom, IsLegalChapter, joined}
 use Rattle.rb_chapter.specs.ChapterRoom.{HasRoomForOwed}
 use Rattle.rb_chapter.specs.ChapterRing.{ChapterRing, whole_ring}
 use Rattle.rb_chapter.specs.ChapterCalls.{IsSameChapter, HandsOut}
@@ -19,7 +19,7 @@ use Rattle.rb_chapter.proofs.Chain.{binds-continue, binds-same, binds-next, join
 -- a ring whose chapter has other entries has a ring's chapters still
 pub has-same : (out : ChapteredRing) (new : ChapterRing) → HasChapters out → IsSameChapter out.ring new → IsLegalChapter new.chapter → HasRoomForOwed new.chapter → HasChapters (chaptered_ring out.handed_out new)
 has-same out new has same legal room =
-    record { binds = binds-same out.handed_out out.ring.chapter new.chapter has.binds (ap (λ (c : Chapter). c.number) same) (ap (λ (c : Chapter). c.opening) same) legal; room = room }
+    record { binds = binds-same out.handed_out out.ring.chapter new.chapter has.binds (ap (λ (c : Chapter). c.number) same) (ap (λ (c : Chapter). c.opening) same) legal; room = room; within = subst IsChapterRoom (sym (ap (λ (c : Chapter). c.room) same)) has.within }
 
 -- the chapters that were handed out are the same
 pub handed-out-same : (out : ChapteredRing) (new : ChapterRing) → IsSameChapter out.ring new → handed_out_after out new ≡ out.handed_out
@@ -52,7 +52,7 @@ module _ (out : ChapteredRing) (new : ChapterRing) (c : Chapter) (has : HasChapt
   has-next =
       let n = hands.next in
       let next = next-room (joined out.handed_out) out.ring.chapter new.chapter continues has.room n.next_is n.no_entries n.room_same in
-      record { binds = binds-next out.handed_out out.ring.chapter new.chapter has.binds n.next_is next.1.legal; room = next.0 }
+      record { binds = binds-next out.handed_out out.ring.chapter new.chapter has.binds n.next_is next.1.legal; room = next.0; within = subst IsChapterRoom (sym n.room_same) has.within }
 
   -- the whole ring is as it was
   pub handed-out-whole : whole_of (chaptered_ring (out.handed_out ++ out.ring.chapter ∷ []) new) ≡ whole_of out
@@ -77,12 +77,12 @@ hands-out-may-put me out new c consumer has is_ring hands =
     }
 
 pub facts-make-ring : FactsMakeRing
-facts-make-ring c binds room stands bounded =
+facts-make-ring c binds room within stands bounded =
     let is = binds-continue c.handed_out c.ring.chapter binds in
     let h = joined c.handed_out in
     let o = c.ring.chapter.opening in
     record {
-      has_chapters = record { binds = binds; room = room };
+      has_chapters = record { binds = binds; room = room; within = within };
       is_ring = record {
         legal = (goes-on o.setup h o is.earlier_legal is.opened c.ring.chapter.entries).0.0 is.legal;
         stands = (stands-alike h c.ring is).0 stands;

@@ -3,7 +3,7 @@
 use Rattle.std.specs.Prelude.{◌≡◌, ℕ, [], ◌∷◌, ◌++◌, Some, None}
 use Rattle.std.specs.FinMap.{empty}
 use Rattle.crossbeam_queue.specs.Fifo.{Pushes, Pops, Forks, Merges, Learns}
-use Rattle.rb_chapter.specs.Chapters.{Chapter, IsLegalChapter}
+use Rattle.rb_chapter.specs.Chapters.{Chapter, IsChapterRoom, IsLegalChapter}
 use Rattle.rb_chapter.specs.ChapterRoom.{HasRoomForOwed}
 use Rattle.rb_chapter.specs.ChapterRing.{ChapterRing, StandsForChapter}
 use Rattle.rb_chapter.specs.WholeHistory.{Binds}
@@ -38,7 +38,7 @@ HandsOutMayPut =
 -- what holds of the state by itself, and that its chapter goes on from those that were handed out, is all that holds of each ring that is
 -- made by calls
 abbrev pub FactsMakeRing : Type 0
-FactsMakeRing = (c : ChapteredRing) → Binds c.handed_out c.ring.chapter → HasRoomForOwed c.ring.chapter → StandsForChapter c.ring → IsWithinBounds (whole_of c) → IsChapteredRing c
+FactsMakeRing = (c : ChapteredRing) → Binds c.handed_out c.ring.chapter → HasRoomForOwed c.ring.chapter → IsChapterRoom c.ring.chapter.room → StandsForChapter c.ring → IsWithinBounds (whole_of c) → IsChapteredRing c
 
 -- ---- each step keeps the rule
 

@@ -67,7 +67,7 @@ pub record MayPutChapter (v : ChapterPassView) (new : ChapterRing) : Type 0 wher
 
 -- what a lock has out before it is opened: what nobody knows fits it
 abbrev pub unopened_chapter_ring : ChapterRing
-unopened_chapter_ring = record { chapter = first_chapter 0 (record { size = 0; start = 0; workers = 0 }); contents = empty; shown = []; producer = 0; consumer = 0 }
+unopened_chapter_ring = record { chapter = first_chapter 8 (record { size = 0; start = 0; workers = 0 }); contents = empty; shown = []; producer = 0; consumer = 0 }
 
 abbrev pub unopened_chapters : ChapteredRing
 unopened_chapters = chaptered_ring [] unopened_chapter_ring

@@ -8,7 +8,7 @@
 --      all their entries, then those of its own: the whole history
 use Rattle.std.specs.Prelude.{List}
 use Rattle.rb_history.specs.RingModel.{Ring}
-use Rattle.rb_chapter.specs.Chapters.{Chapter, joined}
+use Rattle.rb_chapter.specs.Chapters.{Chapter, IsChapterRoom, joined}
 use Rattle.rb_chapter.specs.ChapterRoom.{HasRoomForOwed}
 use Rattle.rb_chapter.specs.ChapterRing.{ChapterRing, whole_ring}
 use Rattle.rb_chapter.specs.WholeHistory.{Binds}
@@ -27,10 +27,11 @@ abbrev pub whole_of : ChapteredRing → Ring
 whole_of c = whole_ring (joined c.handed_out) c.ring
 
 -- the chapters, its own as the last, are numbered 0 upward from the empty ring on, each meets the next, and all are legal; and its own
--- has room for what it owes
+-- has room for what it owes, a room within bounds
 pub record HasChapters (c : ChapteredRing) : Type 0 where
   pub binds : Binds c.handed_out c.ring.chapter
   pub room : HasRoomForOwed c.ring.chapter
+  pub within : IsChapterRoom c.ring.chapter.room
 
 -- what holds of each ring over chapters that is made by calls
 pub record IsChapteredRing (c : ChapteredRing) : Type 0 where

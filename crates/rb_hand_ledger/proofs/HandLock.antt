@@ -375,9 +375,9 @@ unopened-has = record {
 -- before anything: one pass, which has the state that nobody fits
 pub begins : KeepsHandLockRule [] (hand_view [] (Some unopened_hands) ∷ [])
 begins =
-    with-book 0 [] [] [] (hand_view [] (Some unopened_hands) ∷ []) old.begins-of tt
-    (λ j u e. elim j as (λ k. get_elem? (hand_view [] (Some unopened_hands) ∷ []) k ≡ some u → ShowsHands 0 0 [] u) [
-      | zero ↦ (λ h. subst (ShowsHands 0 0 []) (some-injective (hand_view [] (Some unopened_hands)) u h) (record { where_out = record { same = refl; has = unopened-has }; known = tt }))
+    with-book 8 [] [] [] (hand_view [] (Some unopened_hands) ∷ []) old.begins-of tt
+    (λ j u e. elim j as (λ k. get_elem? (hand_view [] (Some unopened_hands) ∷ []) k ≡ some u → ShowsHands 8 0 [] u) [
+      | zero ↦ (λ h. subst (ShowsHands 8 0 []) (some-injective (hand_view [] (Some unopened_hands)) u h) (record { where_out = record { same = refl; has = unopened-has }; known = tt }))
       | suc k ↦ (λ h. absurd (some-ne-none u (sym h)))
     ] e)
 

@@ -61,7 +61,7 @@ module _ (role : Role) (v : ChapterPassView) (r new : ChapterRing) (w : ChapterP
   left-ring =
       let has = has-same h.taken new h.was_ring.has_chapters same-taken kept.legal kept.room in
       let b = kept.bounded in
-      facts-make-ring left_by has.binds kept.room kept.stands (record { size = b.size; start = b.start; workers = b.workers; consumer = b.consumer; producer = b.producer; room = b.room })
+      facts-make-ring left_by has.binds kept.room b.chapter_room kept.stands (record { size = b.size; start = b.start; workers = b.workers; consumer = b.consumer; producer = b.producer; room = b.room })
 
   pub may-put-in : (IsRing (whole_of left_by) → RoleStep (role_knowledge role (seen_by v) (bytes_by v)) (whole_of h.taken) (whole_of left_by) (knowledge_after (whole_of h.taken) (whole_of left_by) (role_knowledge role (seen_by v) (bytes_by v)))) → MayPutChapter w new
   may-put-in step = subst (λ x. MayPutChapter x new) (sym h.now) (calls-may-put (known_in role v) h.taken new h.was_ring.has_chapters same-taken kept.legal kept.room (step left-ring.is_ring))

@@ -29,7 +29,7 @@ first-ring r room s is kept =
     let opening : r.chapter.opening ≡ empty_ring r.chapter.opening.setup =
     ap (λ (x : ChapterRing). x.chapter.opening) is ∙ ap empty_ring (sym (ap (λ (x : ChapterRing). x.chapter.opening.setup) is)) in
     let b = kept.bounded in (
-      facts-make-ring (chaptered_ring [] r) (handed-out-bind [] r.chapter (ap (λ (x : ChapterRing). x.chapter.number) is, opening, kept.legal)) kept.room kept.stands
+      facts-make-ring (chaptered_ring [] r) (handed-out-bind [] r.chapter (ap (λ (x : ChapterRing). x.chapter.number) is, opening, kept.legal)) kept.room b.chapter_room kept.stands
           (record { size = b.size; start = b.start; workers = b.workers; consumer = b.consumer; producer = b.producer; room = b.room }),
       ap (λ (x : ChapterRing). x.contents) is,
     )
