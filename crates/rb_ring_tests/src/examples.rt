@@ -122,5 +122,6 @@ fn example_of_rb_shared_ring(rt: HostRuntime) {
     let Ok(whole) = closing.bind(rt.alloc(), chapters) else {
         rt.panic("not bound")
     };
+    assert_eq!(rt; whole.chapters().len(), 1);
     assert_eq!(rt; whole.history().len(), 3);
 }

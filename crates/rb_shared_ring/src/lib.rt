@@ -20,7 +20,8 @@
 //! ring.take(rt, &mut consumer)?;                                             // Taken::Event(0, 0, 0, ..), in chapter 1
 //! seats.push(seat)?;
 //! let closing = ring.close(rt, seats, consumer)?;                            // its last chapter is number 1
-//! closing.bind(alloc, chapters)?.history();                                  // three entries, where `chapters` has the one handed out
+//! let whole = closing.bind(alloc, chapters)?;                                // `chapters` has the one handed out, which `whole.chapters()` tells
+//! whole.history();                                                           // three entries
 //! ```
 //!
 //! No proof speaks of waiting, fairness or time: that a call returns, that a thread gets its turn, how long a lock is held, or that a
