@@ -1,0 +1,130 @@
+"""The definitions that contracts cite: the files crates/*/specs/*.antt, what each defines, on how many lines, and which names it uses."""
+import collections
+import pathlib
+import re
+
+ROOT = pathlib.Path(__file__).resolve().parent.parent.parent
+CRATES = ROOT / "crates"
+
+BEGINS = re.compile(r"\s*(?:pub (?:record|data)|(?:abbrev|unfoldable)(?: pub)?|(?:record|data)(?= \S+ .*: Type)) (\S+)")
+FIELD = re.compile(r"^\s*pub [^\s:]+ :")
+WORD = re.compile(r"[^\W\d][\w'?]*(?:\.[^\W\d][\w'?]*)*")
+USE = re.compile(r"(?:ghost )?use (?P<path>[\w.]+?)(?:\.\{(?P<names>[^}]*)\}| as (?P<alias>\w+))?;?$")
+
+# where a name comes from: 'file' of definitions, 'rust' type, or 'outside' this repository; and its name there
+Origin = collections.namedtuple("Origin", "kind place name")
+Definition = collections.namedtuple("Definition", "name is_public lines text")
+
+
+def origin_of(path, name):
+    """Where `name` of the module of this path comes from; None for what a type has of its own, as its coding."""
+    parts = path.split(".")
+    if parts[0] != "Rattle" or parts[1] == "std" or not (CRATES / parts[1]).is_dir():
+        return Origin("outside", path, name)
+    if parts[2:3] == ["specs"] and parts[3:4] == ["declared"]:
+        kind = next((part for part in parts[4:] if part[0].isupper()), name)
+        return Origin("rust", parts[1], kind)
+    if parts[2:3] == ["specs"] and parts[3:4] != ["contracts"]:
+        for end in range(len(parts), 3, -1):
+            place = CRATES.joinpath(parts[1], *parts[2:end]).with_suffix(".antt")
+            if place.is_file():
+                return Origin("file", place, parts[end] if parts[end:] else name)
+    return None
+
+
+def imports_of(lines):
+    """The names that `use` lines bring in, each with where it comes from."""
+    names = {}
+    for line in lines:
+        found = USE.match(line.strip())
+        if not found:
+            continue
+        for item in (found["names"] or "").split(","):
+            words = item.split()
+            if words:
+                names[words[-1]] = origin_of(found["path"], words[0])
+        if found["alias"]:
+            names[found["alias"]] = origin_of(found["path"], found["path"].rpartition(".")[2])
+    return {name: origin for name, origin in names.items() if origin}
+
+
+def ghost_uses(text):
+    """The lines of a source by which its clauses bring names in, each on one line."""
+    return [re.sub(r"\s+", " ", line) for line in re.findall(r"ghost use [^;]*;", text)]
+
+
+def named_in(text, names):
+    """Which of the names a text uses. A name with places, as ◌≡◌, is used where its signs stand there."""
+    plain = re.sub(r"(?m)^\s*pub [^\s:]+ :", "", text)
+    plain = re.sub(r"([{;]|record \S+ \{)\s*[\w']+ = ", r"\1 ", plain)
+    words = {word.split(".")[0] for word in WORD.findall(plain)}
+    signs = set(plain.split()) | set(re.findall(r"\[\]|¬|⊥|ℕ|ℤ|λ", plain))
+    found = set()
+    for name in names:
+        if "◌" in name:
+            if all(part in signs or part in plain for part in name.split("◌") if part):
+                found.add(name)
+        elif name in words or name in signs:
+            found.add(name)
+    return found
+
+
+class DefinitionFile:
+    """One file of definitions: its first comment, its definitions in order, and where the names that it uses come from."""
+
+    def __init__(self, place):
+        self.place = place
+        lines = place.read_text().splitlines()
+        self.imports = imports_of(lines)
+        header = []
+        for line in lines:
+            if not line.startswith("--"):
+                break
+            header.append(line[2:].strip())
+        self.header = header
+        self.definitions = {}
+        name, is_public, body = None, False, []
+        for line in [*lines, "abbrev end"]:
+            begins = BEGINS.match(line)
+            if begins or re.match(r"\s*(module _|use |infix|pub mod )", line):
+                if name:
+                    self.definitions[name] = Definition(name, is_public, len(body), "\n".join(body))
+                name, body = (begins[1], []) if begins else (None, [])
+                is_public = bool(begins) and " pub " in f" {line.strip()} "
+            if name and line.strip() and not line.strip().startswith("--"):
+                body.append(line)
+        self.constructors = {}
+        for definition in self.definitions.values():
+            if re.match(r"\s*pub data ", definition.text):
+                for row in definition.text.splitlines()[1:]:
+                    self.constructors[row.split()[0]] = definition.name
+
+    @property
+    def crate(self):
+        return self.place.relative_to(CRATES).parts[0]
+
+    @property
+    def file(self):
+        return self.place.relative_to(CRATES / self.crate / "specs").as_posix()
+
+    def used_by(self, name):
+        """Where the names that this definition uses come from; those of this file among them."""
+        text = self.definitions[name].text
+        own = {other: Origin("file", self.place, other) for other in self.definitions if other != name}
+        own |= {other: Origin("file", self.place, kind) for other, kind in self.constructors.items() if kind != name}
+        names = {**self.imports, **own}
+        return {names[it] for it in named_in(text, names)}
+
+
+_FILES = {}
+
+
+def definition_file(place):
+    if place not in _FILES:
+        _FILES[place] = DefinitionFile(place)
+    return _FILES[place]
+
+
+def cited_files():
+    """Every file of definitions that public contracts may cite: those of `specs/` itself, without what lists modules."""
+    return [definition_file(place) for place in sorted(CRATES.glob("*/specs/*.antt")) if place.stem not in ("Lib", "inner")]
