@@ -7,11 +7,10 @@ ROOT = pathlib.Path(__file__).resolve().parent.parent.parent
 CRATES = ROOT / "crates"
 
 BEGINS = re.compile(r"\s*(?:pub (?:record|data)|(?:abbrev|unfoldable)(?: pub)?|(?:record|data)(?= \S+ .*: Type)) (\S+)")
-FIELD = re.compile(r"^\s*pub [^\s:]+ :")
 WORD = re.compile(r"[^\W\d][\w'?]*(?:\.[^\W\d][\w'?]*)*")
 USE = re.compile(r"(?:ghost )?use (?P<path>[\w.]+?)(?:\.\{(?P<names>[^}]*)\}| as (?P<alias>\w+))?;?$")
 
-# where a name comes from: 'file' of definitions, 'rust' type, or 'outside' this repository; and its name there
+# where a name comes from: 'file' of definitions or the 'module' of a whole one, 'rust' type or constant, or 'outside' this repository; and its name there
 Origin = collections.namedtuple("Origin", "kind place name")
 Definition = collections.namedtuple("Definition", "name is_public lines text")
 
@@ -23,7 +22,7 @@ def origin_of(path, name):
         return Origin("outside", path, name)
     if parts[2:3] == ["specs"] and parts[3:4] == ["declared"]:
         kind = next((part for part in parts[4:] if part[0].isupper()), name)
-        return Origin("rust", parts[1], kind)
+        return Origin("rust", parts[1], name if kind == "TheConstants" else kind)
     if parts[2:3] == ["specs"] and parts[3:4] != ["contracts"]:
         for end in range(len(parts), 3, -1):
             place = CRATES.joinpath(parts[1], *parts[2:end]).with_suffix(".antt")
@@ -44,7 +43,8 @@ def imports_of(lines):
             if words:
                 names[words[-1]] = origin_of(found["path"], words[0])
         if found["alias"]:
-            names[found["alias"]] = origin_of(found["path"], found["path"].rpartition(".")[2])
+            origin = origin_of(found["path"], "")
+            names[found["alias"]] = origin._replace(kind="module") if origin and (origin.kind, origin.name) == ("file", "") else origin
     return {name: origin for name, origin in names.items() if origin}
 
 
@@ -53,10 +53,15 @@ def ghost_uses(text):
     return [re.sub(r"\s+", " ", line) for line in re.findall(r"ghost use [^;]*;", text)]
 
 
+def plain_text(text):
+    """A text without the names of fields where those are declared or given."""
+    plain = re.sub(r"(?m)^\s*pub [^\s:]+ :", "", text)
+    return re.sub(r"([{;]|record \S+ \{)\s*[\w']+ = ", r"\1 ", plain)
+
+
 def named_in(text, names):
     """Which of the names a text uses. A name with places, as ◌≡◌, is used where its signs stand there."""
-    plain = re.sub(r"(?m)^\s*pub [^\s:]+ :", "", text)
-    plain = re.sub(r"([{;]|record \S+ \{)\s*[\w']+ = ", r"\1 ", plain)
+    plain = plain_text(text)
     words = {word.split(".")[0] for word in WORD.findall(plain)}
     signs = set(plain.split()) | set(re.findall(r"\[\]|¬|⊥|ℕ|ℤ|λ", plain))
     found = set()
@@ -67,6 +72,26 @@ def named_in(text, names):
         elif name in words or name in signs:
             found.add(name)
     return found
+
+
+def origins_in(text, names):
+    """Where the names that a text uses come from: of those of a whole file the one behind the dot, of a constructor its type."""
+    found = set()
+    for name in named_in(text, names):
+        origin = names[name]
+        if origin.kind == "module":
+            behind = re.findall(rf"\b{name}\.([\w'?]+)", plain_text(text))
+            found |= {of_type(Origin("file", origin.place, word)) for word in behind}
+        else:
+            found.add(of_type(origin))
+    return found
+
+
+def of_type(origin):
+    """A constructor's type in its place."""
+    if origin.kind == "file":
+        return origin._replace(name=definition_file(origin.place).constructors.get(origin.name, origin.name))
+    return origin
 
 
 class DefinitionFile:
@@ -111,9 +136,8 @@ class DefinitionFile:
         """Where the names that this definition uses come from; those of this file among them."""
         text = self.definitions[name].text
         own = {other: Origin("file", self.place, other) for other in self.definitions if other != name}
-        own |= {other: Origin("file", self.place, kind) for other, kind in self.constructors.items() if kind != name}
-        names = {**self.imports, **own}
-        return {names[it] for it in named_in(text, names)}
+        own |= {other: Origin("file", self.place, kind) for other, kind in self.constructors.items()}
+        return origins_in(text, {**self.imports, **own}) - {Origin("file", self.place, name)}
 
 
 _FILES = {}
