@@ -164,7 +164,7 @@ def head_end(lines, begin, indent):
     """Where what stands in front of a function's body ends: its brace, or the semicolon of one that has no body."""
     for at in range(begin, len(lines)):
         line = lines[at]
-        if line == indent + "{" or line.endswith(";") or (line.endswith(" {") and not CLAUSE.match(line)):
+        if line in (indent + "{", indent + "{}") or line.endswith(";") or (line.endswith(" {") and not CLAUSE.match(line)):
             return at
     return len(lines) - 1
 
