@@ -8,7 +8,7 @@ use rb_refs::{Abs, AbsState, Held, Reference};
 use std::alloc::{AllocError, Global};
 
 /// The state that a word spells, over that of the entry: `entry`, or assignments with commas between them, none where one is no assignment.
-/// `r3=VALUE` is a register, `p63=VALUE` a place of the stack, and `holds=ID:RING:SIZE:sure` or `..:perhaps` a reference.
+/// `r3=VALUE` is a register, `p63=VALUE` a place of the stack, of which no known number is kept, and `holds=ID:RING:SIZE:sure` or `..:perhaps` a reference.
 pub(crate) fn state_of(alloc: Global, word: &str) -> Result<Option<AbsState>, AllocError> {
     let mut state = AbsState::entry(alloc);
     if word == "entry" {
@@ -40,7 +40,7 @@ fn assign(state: &mut AbsState, word: &str) -> Result<bool, AllocError> {
         .strip_prefix('p')
         .and_then(number_of)
         .unwrap_or(u64::MAX);
-    if place > 63 {
+    if place > 63 || matches!(value, Abs::Known(_)) {
         return Ok(false);
     }
     state.places = state.places.with_place(place, value)?;

@@ -1,4 +1,5 @@
 pub mod KeptPlaces
+mod PlaceValues
 mod Stores
 mod Numbers
 mod Ascending

@@ -9,7 +9,12 @@ use Rattle.rb_refs.specs.declared.value.Abs.TheVariants.{Number, Known, Stack}
 use Rattle.rb_refs.specs.StackPlaces.{stack_byte, whole_place, touches, any_place}
 use Rattle.rb_refs.specs.ValueChecks.{◌>>=◌, refused_if, check_readable, check_number}
 
--- what is known of each place, by its number
+-- what may be known of a place: that it has data, the pointer that it keeps, or that it may have either; never which number its data are
+abbrev pub IsPlaceValue : Abs → Type 0
+IsPlaceValue (Known n) = ⊥
+IsPlaceValue _ = Unit {0}
+
+-- what is known of each place, by its number; of each that code keeps it is one that `IsPlaceValue` allows
 abbrev pub KnownPlaces : Type 0
 KnownPlaces = ℕ → Abs
 

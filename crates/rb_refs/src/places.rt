@@ -3,7 +3,7 @@
 ghost use Rattle.std.specs.Prelude.{◌≡◌, ◌≤◌, ◌<◌, ◌+◌, ◌-◌, ◌↔◌, ℕ, IfOk, ◌≢◌, IsErr, IsTrue, true, false, length, slice_index_or};
 ghost use Rattle.rb_refs.specs.AbstractValues.{BelowValue};
 ghost use Rattle.rb_refs.specs.StackPlaces.{touches, whole_place};
-ghost use Rattle.rb_refs.specs.KeptPointers.{all_data, known_in, listed_places, with_place, with_data, may_keep, MayKeepPointer};
+ghost use Rattle.rb_refs.specs.KeptPointers.{IsPlaceValue, all_data, known_in, listed_places, with_place, with_data, may_keep, MayKeepPointer};
 ghost use Rattle.rb_refs.specs.inner.ChangedValues.{place_after};
 ghost use Rattle.rb_refs.specs.inner.ValueJoins.{IsJoinValue};
 
@@ -17,7 +17,8 @@ use std::marker::Model;
 const LAST_PLACE: u64 = 63;
 
 /// What is known of the 64 places of the stack: of each, what is known of a register that loads it. Place 0 has the stack's first
-/// eight bytes. It takes memory for the places from the stack's end down to the lowest that may keep a pointer.
+/// eight bytes. It takes memory for the places from the stack's end down to the lowest that may keep a pointer. Of a place
+/// with data it is never known which number they are.
 ///
 /// Contracts see what is known of each place.
 #[derive(Debug, Drop)]
@@ -27,16 +28,16 @@ pub struct Places {
 }
 
 impl Model for Places {
-    ghost use Rattle.std.specs.Prelude.{◌≤◌, List, length};
+    ghost use Rattle.std.specs.Prelude.{List};
     ghost use Rattle.rb_refs.specs.declared.value.Abs.{Abs};
     ghost use Rattle.rb_refs.specs.KeptPointers.{listed_places};
-    ghost use Rattle.rb_refs.specs.inner.KeptList.{from_last};
+    ghost use Rattle.rb_refs.specs.inner.KeptList.{from_last, IsKeptList};
 
     ghost Value = { List Abs };
 
     ghost view = { λ p. listed_places (from_last p.items.items) };
 
-    ghost invariant = { λ p. length p.items.items ≤ 64 };
+    ghost invariant = { λ p. IsKeptList p.items.items };
 }
 
 /// The place that has exactly the `len` bytes from byte `at` on.
@@ -101,9 +102,10 @@ impl Places {
         Ok(Places { items })
     }
 
-    /// What is known of a place.
+    /// What is known of a place: never a known number.
     pub fn get(&self, place: u64) -> Abs
-        ensures { result ≡ known_in self.now place }
+        ensures known { result ≡ known_in self.now place }
+        ensures value { IsPlaceValue result }
     {
         let count = self.items.len();
         if place > LAST_PLACE {
@@ -119,7 +121,9 @@ impl Places {
 
     /// What is known of a place once another, or this one, keeps a value.
     fn once_kept(&self, here: u64, place: u64, value: Abs) -> Abs
-        ensures { result ≡ with_place place value (known_in self.now) here }
+        requires { IsPlaceValue value }
+        ensures known { result ≡ with_place place value (known_in self.now) here }
+        ensures value { IsPlaceValue result }
     {
         if here == place { value } else { self.get(here) }
     }
@@ -127,7 +131,8 @@ impl Places {
     /// What is known of a place once data was stored to the `len` bytes from byte `at` on.
     fn once_stored(&self, here: u64, at: u64, len: u64) -> Abs
         requires { at + len ≤ 512 }
-        ensures { result ≡ with_data at len (known_in self.now) here }
+        ensures known { result ≡ with_data at len (known_in self.now) here }
+        ensures value { IsPlaceValue result }
     {
         if touches(at, len, here) {
             Abs::Number
@@ -145,9 +150,10 @@ impl Places {
         self.items.len()
     }
 
-    /// The places, of which one keeps this. It takes memory.
+    /// The places, of which one keeps this, which is no known number: a place with data is a `Number`. It takes memory.
     pub fn with_place(&self, place: u64, value: Abs) -> Result<Places, AllocError>
-        requires { place ≤ 63 }
+        requires place { place ≤ 63 }
+        requires value { IsPlaceValue value }
         ensures { IfOk result (λ new. new ≡ listed_places (with_place place value (known_in self.now))) }
     {
         let index = (LAST_PLACE - place) as usize;

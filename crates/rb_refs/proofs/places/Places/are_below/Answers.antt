@@ -8,7 +8,7 @@ pub loop-i-preserved : goal.loop-i-preserved
 loop-i-preserved c =
     let here : BelowValue c.get.result c.get-in-loop-i.result = search rules in
     below_more (λ j. BelowValue (known_in c.args.self.now (63 - j)) (known_in c.args.upper.now (63 - j))) c.loop-i.i c.loop-i.invariant
-    (subst (λ v. BelowValue v (known_in c.args.upper.now (63 - c.loop-i.i))) c.get.ensures (subst (BelowValue c.get.result) c.get-in-loop-i.ensures here))
+    (subst (λ v. BelowValue v (known_in c.args.upper.now (63 - c.loop-i.i))) c.get.ensures.known (subst (BelowValue c.get.result) c.get-in-loop-i.ensures.known here))
 
 pub returns : goal.returns
 returns c = (

@@ -9,7 +9,7 @@ pub returns-then-not-is_number : goal.returns-then-not-is_number
 returns-then-not-is_number c =
     let touched : touches c.args.at c.args.len (63 - c.loop-i.i) ≡ true = search rules in
     let tested : c.is_number.result ≡ false = search rules in
-    let pointer : is_data (known_in c.args.self.now (63 - c.loop-i.i)) ≡ false = ap is_data (sym c.get.ensures) ∙ sym (data_tested c.is_number.result c.get.result c.is_number.ensures) ∙ tested in
+    let pointer : is_data (known_in c.args.self.now (63 - c.loop-i.i)) ≡ false = ap is_data (sym c.get.ensures.known) ∙ sym (data_tested c.is_number.result c.get.result c.is_number.ensures) ∙ tested in
     sym (any_place-true (λ place. touches c.args.at c.args.len place && not (is_data (known_in c.args.self.now place))) (c.args.at + c.args.len) (63 - c.loop-i.i) (rw (touched, pointer) refl) (touched_inside c.args.at c.args.len (63 - c.loop-i.i) touched))
 
 pub returns : goal.returns
