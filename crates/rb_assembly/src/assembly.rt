@@ -11,7 +11,7 @@ use std::fmt;
 ///
 /// Numbers are decimal. The numbers of a helper and of a wide load are signed, and a load or a store names the whole register, as LLVM
 /// prints them where 32-bit registers are not asked for.
-#[derive(Clone, Copy, Debug, PartialEq, Eq)]
+#[derive(Clone, Copy, Debug)]
 pub struct Assembly(pub Insn);
 
 impl fmt::Display for Assembly {

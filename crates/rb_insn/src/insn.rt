@@ -192,7 +192,7 @@ impl SignedSize {
 }
 
 /// An instruction of the profile. Each value has one spelling, of 8 or 16 bytes.
-#[derive(Clone, Copy, Debug, PartialEq, Eq)]
+#[derive(Clone, Copy, Debug)]
 pub enum Insn {
     /// dst = dst op operand
     Binary {
