@@ -1,47 +1,30 @@
 //! What is wrong with the shape of a program.
 
 use std::alloc::AllocError;
-use std::fmt;
 use thiserror::Error;
 
 /// What is wrong at an instruction, in the order in which faults of one unit are returned.
-#[derive(Clone, Copy, Debug, PartialEq, Eq)]
+#[derive(Clone, Copy, Debug, PartialEq, Eq, Error)]
 pub enum ShapeFaultKind {
     /// It jumps by a distance below 0.
+    #[error("jump backward")]
     Backward,
     /// It jumps to a unit that the program does not have.
+    #[error("jump out of the program")]
     OutOfProgram,
     /// It jumps to the second unit of a wide instruction.
+    #[error("jump into a wide instruction")]
     IntoWide,
     /// It is neither an exit nor an unconditional jump, and the program ends behind it.
+    #[error("falls off the end")]
     FallsOff,
     /// No path leads to it from unit 0.
+    #[error("unreachable")]
     Unreachable,
     /// There was no memory for the check; this says nothing of the program.
+    #[error("out of memory")]
     Memory,
 }
-
-impl ShapeFaultKind {
-    // What is wrong, in words.
-    fn words(self) -> &'static str {
-        match self {
-            ShapeFaultKind::Backward => "jump backward",
-            ShapeFaultKind::OutOfProgram => "jump out of the program",
-            ShapeFaultKind::IntoWide => "jump into a wide instruction",
-            ShapeFaultKind::FallsOff => "falls off the end",
-            ShapeFaultKind::Unreachable => "unreachable",
-            ShapeFaultKind::Memory => "out of memory",
-        }
-    }
-}
-
-impl fmt::Display for ShapeFaultKind {
-    fn fmt<W: fmt::Write>(&self, f: &mut fmt::Formatter<W>) -> fmt::Result {
-        f.write_str(self.words())
-    }
-}
-
-impl std::error::Error for ShapeFaultKind {}
 
 /// The first fault in the shape of a program: at the lowest unit, and there the first kind. Out of memory has unit 0.
 #[derive(Clone, Copy, Debug, PartialEq, Eq, Error)]

@@ -2,54 +2,37 @@
 
 use hex::FromHexError;
 use std::alloc::{AllocError, AllocFailed};
-use std::fmt;
 use thiserror::Error;
 
 /// What is wrong with bytes that are no program, in the order in which faults of one unit are returned.
-#[derive(Clone, Copy, Debug, PartialEq, Eq)]
+#[derive(Clone, Copy, Debug, PartialEq, Eq, Error)]
 pub enum DecodeKind {
     /// There are no bytes, or their number is no multiple of 8.
+    #[error("bad length")]
     Length,
     /// There are more than 4096 units.
+    #[error("too long")]
     TooLong,
     /// An instruction that this project leaves out: packet access, atomics, calls by register, program-local calls, calls by
     /// BTF number, and loads of addresses other than a map by its index.
+    #[error("instruction left out")]
     LeftOut,
     /// An opcode that no instruction has.
+    #[error("bad opcode")]
     BadOpcode,
     /// A register above 10.
+    #[error("bad register")]
     BadRegister,
     /// A field that the instruction does not use, or whose value it does not allow.
+    #[error("unused field is set")]
     UnusedField,
     /// A wide instruction without its second unit.
+    #[error("half a wide instruction")]
     HalfWide,
     /// There was no memory for the program.
+    #[error("out of memory")]
     Memory,
 }
-
-impl DecodeKind {
-    // What is wrong, in words.
-    fn words(self) -> &'static str {
-        match self {
-            DecodeKind::Length => "bad length",
-            DecodeKind::TooLong => "too long",
-            DecodeKind::LeftOut => "instruction left out",
-            DecodeKind::BadOpcode => "bad opcode",
-            DecodeKind::BadRegister => "bad register",
-            DecodeKind::UnusedField => "unused field is set",
-            DecodeKind::HalfWide => "half a wide instruction",
-            DecodeKind::Memory => "out of memory",
-        }
-    }
-}
-
-impl fmt::Display for DecodeKind {
-    fn fmt<W: fmt::Write>(&self, f: &mut fmt::Formatter<W>) -> fmt::Result {
-        f.write_str(self.words())
-    }
-}
-
-impl std::error::Error for DecodeKind {}
 
 /// The first fault of bytes that are no program: at the lowest unit, and there the first kind. Out of memory has
 /// unit 0.

@@ -5,51 +5,57 @@ ghost use Rattle.rb_refs.specs.Rules.{rule_number};
 ghost use Rattle.rb_refs.specs.declared.rule.StepFault.TheVariants as fault;
 
 use std::alloc::AllocError;
-use std::fmt;
 use thiserror::Error;
 
 /// A rule that a program breaks (own profile).
-#[derive(Clone, Copy, Debug, PartialEq, Eq)]
+#[derive(Clone, Copy, Debug, PartialEq, Eq, Error)]
 pub enum Rule {
     /// V1
+    #[error("V1: a register that holds nothing is read")]
     Unreadable,
     /// V2
+    #[error("V2: the frame pointer r10 is written")]
     FramePointerWritten,
     /// V3
+    #[error("V3: arithmetic that a pointer doesn't allow")]
     PointerArithmetic,
     /// V4
+    #[error("V4: an access outside of every part of memory")]
     OutsidePart,
     /// V5
+    #[error("V5: the context is written")]
     ContextWritten,
     /// V6
+    #[error("V6: a pointer is stored")]
     PointerStored,
     /// V7
+    #[error("V7: an argument that the helper doesn't take")]
     HelperArgument,
     /// V8
+    #[error("V8: a size that is not known, or too large")]
     SizeNotKnown,
     /// V9
+    #[error("V9: more than four references are held")]
     TooManyReferences,
     /// V10
+    #[error("V10: a reference is left at the exit")]
     ReferenceLeft,
     /// V11
+    #[error("V11: different references arrive along two edges")]
     ReferencesDiffer,
     /// V12
+    #[error("V12: the result is a pointer")]
     ResultNotNumber,
     /// V13
+    #[error("V13: a pointer is compared")]
     PointerCompared,
     /// V14
+    #[error("V14: a reservation is used that was not tested against null")]
     NullNotTested,
     /// V15
+    #[error("V15: a helper that is not known is called")]
     UnknownHelper,
 }
-
-impl fmt::Display for Rule {
-    fn fmt<W: fmt::Write>(&self, f: &mut fmt::Formatter<W>) -> fmt::Result {
-        f.write_str(self.words())
-    }
-}
-
-impl std::error::Error for Rule {}
 
 /// Why there is no step.
 #[derive(Clone, Copy, Debug, PartialEq, Eq, Error)]
@@ -79,27 +85,6 @@ impl From<AllocError> for StepFault {
 }
 
 impl Rule {
-    // The rule in words.
-    fn words(self) -> &'static str {
-        match self {
-            Rule::Unreadable => "V1: a register that holds nothing is read",
-            Rule::FramePointerWritten => "V2: the frame pointer r10 is written",
-            Rule::PointerArithmetic => "V3: arithmetic that a pointer doesn't allow",
-            Rule::OutsidePart => "V4: an access outside of every part of memory",
-            Rule::ContextWritten => "V5: the context is written",
-            Rule::PointerStored => "V6: a pointer is stored",
-            Rule::HelperArgument => "V7: an argument that the helper doesn't take",
-            Rule::SizeNotKnown => "V8: a size that is not known, or too large",
-            Rule::TooManyReferences => "V9: more than four references are held",
-            Rule::ReferenceLeft => "V10: a reference is left at the exit",
-            Rule::ReferencesDiffer => "V11: different references arrive along two edges",
-            Rule::ResultNotNumber => "V12: the result is a pointer",
-            Rule::PointerCompared => "V13: a pointer is compared",
-            Rule::NullNotTested => "V14: a reservation is used that was not tested against null",
-            Rule::UnknownHelper => "V15: a helper that is not known is called",
-        }
-    }
-
     /// The rule's number, 1 to 15.
     pub fn number(self) -> u8
         ensures { result ≡ rule_number self }
