@@ -13,8 +13,8 @@ use std::alloc::{AllocError, Global};
 use std::convert::AsStr;
 
 /// A command with its options.
-#[derive(Clone, Copy, Debug, PartialEq, Eq)]
-pub enum Request<'a> {
+#[derive(Clone, Copy)]
+pub(crate) enum Request<'a> {
     /// Writes the tape of payloads: the ring's size and its first position, and how often writing goes on after a write that failed.
     Feed {
         size: u64,
@@ -48,39 +48,76 @@ pub enum Request<'a> {
     },
 }
 
-/// The command that these words name, which follow the program's name on the command line. An error is help or the version that was
-/// asked for, wrong usage, or out of memory.
-pub fn parse<'a, S: AsStr>(alloc: Global, words: &'a [S]) -> Result<Request<'a>, Error> {
+// The command that these words name, which follow the program's name on the command line. An error is help or the version that was
+// asked for, wrong usage, or out of memory.
+pub(crate) fn parse<'a, S: AsStr>(alloc: Global, words: &'a [S]) -> Result<Request<'a>, Error> {
     let mut program = program(alloc)?;
+    request_of(alloc, &mut program, words)
+}
+
+// The same by what the command line may say.
+fn request_of<'a, S: AsStr>(
+    alloc: Global,
+    program: &mut Command<'a>,
+    words: &'a [S],
+) -> Result<Request<'a>, Error> {
     let matches = program.try_get_matches_from_mut(words)?;
     match matches.subcommand() {
-        Some(("feed", options)) => Ok(Request::Feed {
-            size: number(alloc, &mut program, options, "size")?,
-            start: number(alloc, &mut program, options, "start")?,
-            retries: bounded(alloc, &mut program, options, "retry", 0, 100)?,
-        }),
-        Some(("tape", options)) => Ok(Request::Tape {
-            size: number(alloc, &mut program, options, "size")?,
-            start: number(alloc, &mut program, options, "start")?,
+        Some((name, options)) => command_request(alloc, program, name, options),
+        None => Err(program.error(ErrorKind::MissingSubcommand, "no command was given")?),
+    }
+}
+
+// What the command of this name asks for, by its options.
+fn command_request<'a>(
+    alloc: Global,
+    program: &mut Command<'_>,
+    name: &str,
+    options: &ArgMatches<'a>,
+) -> Result<Request<'a>, Error> {
+    match name {
+        "feed" => feed_request(alloc, program, options),
+        "tape" => tape_request(alloc, program, options),
+        "check" => Ok(Request::Check {
+            bounds: bounds(alloc, program, options)?,
             form: form(options),
         }),
-        Some(("check", options)) => Ok(Request::Check {
-            bounds: bounds(alloc, &mut program, options)?,
+        "explain" => Ok(Request::Explain {
+            bounds: bounds(alloc, program, options)?,
             form: form(options),
         }),
-        Some(("explain", options)) => Ok(Request::Explain {
-            bounds: bounds(alloc, &mut program, options)?,
-            form: form(options),
-        }),
-        Some(("run", options)) => Ok(Request::Run {
-            jobs: jobs_request(alloc, &mut program, options)?,
+        "run" => Ok(Request::Run {
+            jobs: jobs_request(alloc, program, options)?,
             tape: options.get_str("tape"),
         }),
-        Some(("sim", options)) => Ok(Request::Sim {
+        _ => Ok(Request::Sim {
             draw: options.get_flag("draw"),
         }),
-        _ => Err(program.error(ErrorKind::MissingSubcommand, "no command was given")?),
     }
+}
+
+fn feed_request<'a>(
+    alloc: Global,
+    program: &mut Command<'_>,
+    options: &ArgMatches<'_>,
+) -> Result<Request<'a>, Error> {
+    Ok(Request::Feed {
+        size: number(alloc, program, options, "size")?,
+        start: number(alloc, program, options, "start")?,
+        retries: bounded(alloc, program, options, "retry", 0, 100)?,
+    })
+}
+
+fn tape_request<'a>(
+    alloc: Global,
+    program: &mut Command<'_>,
+    options: &ArgMatches<'_>,
+) -> Result<Request<'a>, Error> {
+    Ok(Request::Tape {
+        size: number(alloc, program, options, "size")?,
+        start: number(alloc, program, options, "start")?,
+        form: form(options),
+    })
 }
 
 // What a program is verified for.
@@ -121,18 +158,26 @@ fn form(options: &ArgMatches<'_>) -> LineForm {
 
 // What the command line may say.
 fn program<'a>(alloc: Global) -> Result<Command<'a>, AllocError> {
-    Command::new(alloc, "rbhost")
+    let program = Command::new(alloc, "rbhost")
         .version("0.1.0")
         .bin_name("rbhost")?
         .about("A host for eBPF programs that write into BPF ring buffers")
         .no_binary_name(true)
-        .subcommand_required(true)
-        .subcommand(feed(alloc)?)?
-        .subcommand(tape(alloc)?)?
-        .subcommand(check(alloc)?)?
-        .subcommand(explain(alloc)?)?
-        .subcommand(run(alloc)?)?
-        .subcommand(sim(alloc)?)
+        .subcommand_required(true);
+    let program = with(program, feed(alloc))?;
+    let program = with(program, tape(alloc))?;
+    let program = with(program, check(alloc))?;
+    let program = with(program, explain(alloc))?;
+    let program = with(program, run(alloc))?;
+    with(program, sim(alloc))
+}
+
+// The program with one command more.
+fn with<'a>(
+    program: Command<'a>,
+    command: Result<Command<'a>, AllocError>,
+) -> Result<Command<'a>, AllocError> {
+    program.subcommand(command?)
 }
 
 fn feed<'a>(alloc: Global) -> Result<Command<'a>, AllocError> {

@@ -1,5 +1,5 @@
 //! Tests of the other crates' public calls that are no rows: laws, the helpers' list, references, single instructions of a program, helpers over seats,
-//! jobs, and worlds. Programs and what is said of them are rows of `rb_program_rows`.
+//! jobs, jobs on threads, and worlds. Programs and what is said of them are rows of `rb_program_rows`.
 #![tactic(auto)]
 
 #[cfg(test)]
@@ -16,5 +16,7 @@ mod references;
 mod seats;
 #[cfg(test)]
 mod shared;
+#[cfg(test)]
+mod workers;
 #[cfg(test)]
 mod worlds;

@@ -3,7 +3,7 @@
 ghost use Rattle.std.specs.Prelude.{◌≡◌};
 ghost use Rattle.rb_workers.specs.Opened.{AreOpened};
 
-use crate::given::{Counter, Free, ROOM, SUBMIT_42, job, one_ring, verified};
+use super::given::{Counter, Free, ROOM, SUBMIT_42, job, one_ring, verified};
 use rb_shared_ring::OpenFault;
 use rb_workers::{Gate, Job, JobFault, Opened, run_jobs};
 use std::alloc::Global;

@@ -2,7 +2,7 @@
 
 ghost use Rattle.std.specs.Prelude.{◌<◌};
 
-use crate::given::{
+use super::given::{
     Counter, Free, Holding, OUTPUT_CONTEXT, OUTPUT_TO_SECOND, ROOM, SUBMIT_42, job, one_ring,
     report, two_rings, verified,
 };

@@ -1,6 +1,6 @@
 //! Sheets that are used again.
 
-use crate::given::{Free, ROOM, SUBMIT_42_LONG, SUBMIT_FULL, job, one_ring, report, verified};
+use super::given::{Free, ROOM, SUBMIT_42_LONG, SUBMIT_FULL, job, one_ring, report, verified};
 use crossbeam_queue::ArrayQueue;
 use rb_lend::Sheet;
 use rb_seats::Stock;

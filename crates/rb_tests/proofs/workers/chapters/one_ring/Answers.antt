@@ -1,10 +1,10 @@
 use Rattle.std.proofs.Common.{List, [], ◌∷◌, sym, subst}
 use Rattle.std.proofs.lemmas.List.Elements.{All-cons, All-nil}
 use Rattle.rb_workers.specs.declared.opened.Opened.{Opened}
-use Rattle.rb_workers_tests.specs.declared.chapters.Binder.{Binder}
+use Rattle.rb_tests.specs.declared.workers.chapters.Binder.{Binder}
 use Rattle.rb_workers.specs.Opened.{AreOpened, IsOpened}
 use Rattle.rb_workers.proofs.Fresh.{all_opened}
-use Rattle.rb_workers_tests.proofs.chapters.one_ring.Goals as goal
+use Rattle.rb_tests.proofs.workers.chapters.one_ring.Goals as goal
 
 pub returns : goal.returns
 returns g c =
