@@ -1,5 +1,0 @@
-use Rattle.rb_workers.specs.Opened.{AreOpened}
-use Rattle.rb_library_sweep.proofs.jobs.report.Given as goal
-
-abbrev pub invariant-loop : goal.invariant-loop
-invariant-loop g l = AreOpened (λ s. s.position) l.rings.items

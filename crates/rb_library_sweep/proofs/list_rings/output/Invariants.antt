@@ -1,5 +1,0 @@
-use Rattle.std.proofs.Common.{◌≡◌, length}
-use Rattle.rb_library_sweep.proofs.list_rings.output.Given as goal
-
-abbrev pub invariant-loop : goal.invariant-loop
-invariant-loop g l = (l.ring.setup ≡ l.fn.ring.setup) × (length l.sheet ≡ 24)

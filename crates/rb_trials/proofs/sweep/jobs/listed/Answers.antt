@@ -1,0 +1,13 @@
+use Rattle.std.proofs.Common.{List, [], ◌∷◌, sym, subst}
+use Rattle.std.proofs.lemmas.List.Elements.{All-cons, All-nil}
+use Rattle.rb_workers.specs.declared.opened.Opened.{Opened}
+use Rattle.rb_workers.specs.declared.null_sink.NullSink.{NullSink}
+use Rattle.rb_workers.specs.Opened.{AreOpened, IsOpened}
+use Rattle.rb_workers.proofs.Fresh.{all_opened}
+use Rattle.rb_trials.proofs.sweep.jobs.listed.Goals as goal
+
+pub returns-in-Ok : goal.returns-in-Ok
+returns-in-Ok c =
+    let Is = IsOpened (λ (s : NullSink). s.position) 2 in
+    subst (λ (l : List (Opened NullSink)). AreOpened (λ (s : NullSink). s.position) l) (sym c.in-Ok.ensures.items)
+    (all_opened (λ (s : NullSink). s.position) 2 (c.args.first ∷ []) (All-cons Is c.args.first [] c.requires (All-nil Is)))

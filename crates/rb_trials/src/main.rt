@@ -1,0 +1,82 @@
+//! Trials of the library that no test holds: every order of turns (`orders`), real threads over several rings (`soak`), and calls that find no
+//! memory (`sweep`). `tools/orders`, `tools/soak` and `tools/sweep` run one each.
+//!
+//! Its words are a trial's name and the words of that trial, and `--` between a trial and the next. The status is 0 where each went well, 2 for
+//! wrong words, and 1 otherwise; behind a trial that did not go well there is none.
+#![tactic(auto)]
+
+mod fault;
+mod orders;
+mod soak;
+mod sweep;
+
+use fault::TrialFault;
+use std::alloc::Global;
+use std::io::{Eprint, Print, Write};
+use std::process::ExitCode;
+use std::sync::Wait;
+use std::thread::Threads;
+use std::{env, io};
+
+fn main(rt: HostRuntime) -> ExitCode {
+    let done = match words(&rt) {
+        Ok(words) => run_all(&rt, rt.alloc(), words.as_slice(), &mut rt.stdout()),
+        Err(fault) => Err(fault),
+    };
+    match done {
+        Ok(()) => ExitCode::from(0),
+        Err(fault) => {
+            let _ = eprintln!(rt; "{fault}");
+            ExitCode::from(fault.status())
+        }
+    }
+}
+
+// Runs the trials one after the other.
+fn run_all<R: Threads + Wait + Sync + Print + Eprint, W: Write>(
+    rt: &R,
+    alloc: Global,
+    words: &[String],
+    out: &mut W,
+) -> Result<(), TrialFault> {
+    for trial in words.split(|word| word.as_str() == "--") {
+        run(rt, alloc, trial, out)?;
+    }
+    Ok(())
+}
+
+// Runs one trial.
+fn run<R: Threads + Wait + Sync + Print + Eprint, W: Write>(
+    rt: &R,
+    alloc: Global,
+    words: &[String],
+    out: &mut W,
+) -> Result<(), TrialFault> {
+    let [name, words @ ..] = words else {
+        return Err(TrialFault::Usage);
+    };
+    match name.as_str() {
+        "orders" => orders::run(alloc, words, out),
+        "soak" => soak::run(rt, alloc, words),
+        "sweep" => sweep::run(rt, alloc, words),
+        _ => Err(TrialFault::Usage),
+    }
+}
+
+// The words of the command line. Where they find no memory, they are read once more.
+fn words(rt: &HostRuntime) -> Result<Vec<String>, TrialFault> {
+    for _ in 0..sweep::TRIES {
+        match read_words(rt) {
+            Ok(words) => return Ok(words),
+            Err(_) => sweep::tell_memory(rt, "words"),
+        }
+    }
+    Err(TrialFault::Twice("words"))
+}
+
+// The words that follow the program's name.
+fn read_words(rt: &HostRuntime) -> io::Result<Vec<String>> {
+    let mut words = env::args(rt)?;
+    let _ = words.next();
+    Ok(words.collect(rt.alloc())?)
+}

@@ -1,0 +1,29 @@
+//! Every order of the steps of some workers and of the takes of a consumer, over one ring in a world each, and where each order ended.
+//! `tools/orders` runs it, and compares each line with a plain ring of its own.
+//!
+//! Its words are TAKES AFTER LAST, and STEPS HEX for each worker. STEPS has the turns of each step of that worker, as 4,5,2, and HEX is its
+//! program. TAKES takes of the consumer stand among the steps in each order; AFTER takes follow each step, and LAST the last one. The
+//! orders come as words of a dictionary do, where the workers are letters, and the consumer the last one.
+
+mod end_line;
+mod order;
+mod plan;
+mod runs;
+
+use crate::fault::TrialFault;
+use plan::Plan;
+use std::alloc::Global;
+use std::io::{BufWriter, Write};
+
+/// Reads the plan and prints a line for each of its orders.
+pub(crate) fn run<W: Write>(
+    alloc: Global,
+    words: &[String],
+    out: &mut W,
+) -> Result<(), TrialFault> {
+    let plan = Plan::read(alloc, words)?;
+    let mut out = BufWriter::new(alloc, out)?;
+    runs::run_orders(alloc, &plan, &mut out)?;
+    out.flush()?;
+    Ok(())
+}

@@ -1,0 +1,60 @@
+//! Orders of actors, as words of a dictionary.
+
+ghost use Rattle.std.specs.Prelude.{◌<◌, IfSome, length};
+
+use super::plan::Plan;
+use std::alloc::{AllocError, Global};
+
+/// The first order: each worker once for each of its steps, then the consumer, whose letter follows those of the workers.
+pub(crate) fn first_order(alloc: Global, plan: &Plan) -> Result<Vec<u32>, AllocError> {
+    let mut order = Vec::new(alloc);
+    let mut letter: u32 = 0;
+    for worker in &plan.workers {
+        for _ in 0..worker.steps.len() {
+            order.push(letter)?;
+        }
+        letter = letter.wrapping_add(1);
+    }
+    for _ in 0..plan.takes {
+        order.push(letter)?;
+    }
+    Ok(order)
+}
+
+/// Makes an order the next one in the dictionary; false where it was the last.
+pub(crate) fn advance(order: &mut [u32]) -> bool {
+    let Some(end) = last_rise(order) else {
+        return false;
+    };
+    let Some(other) = last_above(order, order[end - 1]) else {
+        return false;
+    };
+    order.swap(end - 1, other);
+    order[end..].reverse();
+    true
+}
+
+// The last place whose letter is greater than the one before it.
+fn last_rise(order: &[u32]) -> Option<usize>
+    ensures within { IfSome result (λ place. place < length order.now) }
+    ensures not_first { IfSome result (λ place. 0 < place) }
+{
+    for place in (1..order.len()).rev() {
+        if order[place - 1] < order[place] {
+            return Some(place);
+        }
+    }
+    None
+}
+
+// The last place whose letter is greater than this one.
+fn last_above(order: &[u32], letter: u32) -> Option<usize>
+    ensures within { IfSome result (λ place. place < length order.now) }
+{
+    for place in (0..order.len()).rev() {
+        if order[place] > letter {
+            return Some(place);
+        }
+    }
+    None
+}

@@ -1,0 +1,79 @@
+//! Real threads over several shared rings at once: the workers of each ring output, reserve, submit and discard records by numbers that are
+//! drawn from a seed, and its consumer takes them by batches, turns the ring's chapters, and checks all that it takes. `tools/soak` runs it.
+//!
+//! Its words are WORKERS RINGS SIZE ROOM STEPS SEED: so many rings of SIZE bytes, each with chapters of ROOM entries and WORKERS workers of
+//! its own, of which each makes STEPS steps. On standard output it prints how many things were wrong, which is none; on standard error what
+//! the seats and the closed rings counted. It fails where something was wrong.
+
+mod bytes;
+mod consumer;
+mod draw;
+mod plan;
+mod ring_round;
+mod seen;
+mod sums;
+mod worker;
+
+use crate::fault::TrialFault;
+use plan::Plan;
+use ring_round::round;
+use std::alloc::Global;
+use std::io::{Eprint, Print};
+use std::sync::Wait;
+use std::thread::{Threads, map_indices};
+use sums::Sums;
+
+/// Runs all rings of a plan side by side, and prints what came of them.
+pub(crate) fn run<R: Threads + Wait + Sync + Print + Eprint>(
+    rt: &R,
+    alloc: Global,
+    words: &[String],
+) -> Result<(), TrialFault> {
+    let sums = sums_of(rt, alloc, words)?;
+    tell(rt, &sums);
+    let printed = println!(rt; "wrong {}", sums.wrong);
+    if printed.is_err() {
+        return Err(TrialFault::Device);
+    }
+    if sums.wrong > 0 {
+        return Err(TrialFault::Wrong(sums.wrong));
+    }
+    Ok(())
+}
+
+// Runs all rings of a plan side by side, and adds up what came of them.
+fn sums_of<R: Threads + Wait + Sync>(
+    rt: &R,
+    alloc: Global,
+    words: &[String],
+) -> Result<Sums, TrialFault> {
+    let plan = Plan::read(words)?;
+    let work = move |tag: usize| -> Result<Sums, TrialFault> { round(rt, alloc, plan, tag as u64) };
+    let Ok(rounds) = map_indices(rt, alloc, plan.rings, &work) else {
+        return Err(TrialFault::Memory);
+    };
+    let mut sums = Sums::none();
+    for one in &rounds {
+        match one {
+            Ok(ring) => sums.add(ring),
+            Err(fault) => return Err(*fault),
+        }
+    }
+    Ok(sums)
+}
+
+// Prints what was counted, which depends on the schedule.
+fn tell<R: Eprint>(rt: &R, sums: &Sums) {
+    let Sums {
+        made,
+        refused,
+        submitted,
+        discarded,
+        chapters,
+        bound,
+        ..
+    } = *sums;
+    let _ = eprintln!(rt;
+        "made {made} refused {refused} submitted {submitted} discarded {discarded} chapters {chapters} bound {bound}"
+    );
+}

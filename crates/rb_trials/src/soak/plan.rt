@@ -1,0 +1,55 @@
+//! What is run.
+
+use crate::fault::TrialFault;
+
+// How many rings stand side by side at most.
+const MOST_RINGS: usize = 16;
+
+// Up to so many steps of all workers of a ring, its chapters are kept and bound at the end.
+const BOUND_STEPS: u64 = 20_000;
+
+/// Rings of one kind, each with so many workers of its own, of which each makes so many steps.
+#[derive(Clone, Copy)]
+pub(crate) struct Plan {
+    pub(crate) workers: u32,
+    pub(crate) rings: usize,
+    pub(crate) size: u64,
+    pub(crate) room: u32,
+    pub(crate) steps: u32,
+    pub(crate) seed: u64,
+}
+
+impl Plan {
+    /// The plan that some words spell.
+    pub(crate) fn read(words: &[String]) -> Result<Plan, TrialFault> {
+        let [workers, rings, size, room, steps, seed] = words else {
+            return Err(TrialFault::Usage);
+        };
+        let plan = Plan {
+            workers: small(workers.as_str()),
+            rings: (small(rings.as_str()) as usize).min(MOST_RINGS),
+            size: number(size.as_str()),
+            room: small(room.as_str()),
+            steps: small(steps.as_str()),
+            seed: number(seed.as_str()),
+        };
+        if plan.rings == 0 {
+            return Err(TrialFault::Usage);
+        }
+        Ok(plan)
+    }
+
+    /// Whether the chapters are kept, to be bound once the ring is closed.
+    pub(crate) fn is_bound(&self) -> bool {
+        u64::from(self.workers) * u64::from(self.steps) <= BOUND_STEPS
+    }
+}
+
+// A number, 0 where the word is none.
+fn number(word: &str) -> u64 {
+    word.parse::<u64>().unwrap_or(0)
+}
+
+fn small(word: &str) -> u32 {
+    word.parse::<u32>().unwrap_or(0)
+}

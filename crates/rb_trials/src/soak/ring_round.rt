@@ -1,0 +1,117 @@
+//! One ring, from its opening to its end.
+
+use super::consumer::{BATCH, Desk};
+use super::plan::Plan;
+use super::seen::Seen;
+use super::sums::Sums;
+use super::worker::Steps;
+use crate::fault::TrialFault;
+use rb_chapter::Chapter;
+use rb_consumer::{Batch, Keeper};
+use rb_ring_threads::OpenRing;
+use rb_shared_ring::{Closing, ConsumerSeat, Seat};
+use std::alloc::Global;
+use std::sync::Wait;
+use std::thread::Threads;
+
+/// Opens a ring, lets its workers and its consumer run to their ends, closes it, and tells what they counted.
+pub(crate) fn round<R: Threads + Wait + Sync>(
+    rt: &R,
+    alloc: Global,
+    plan: Plan,
+    tag: u64,
+) -> Result<Sums, TrialFault> {
+    let Ok(mut open) = OpenRing::open(rt, alloc, tag, plan.size, plan.workers, plan.room) else {
+        return Err(TrialFault::Ring);
+    };
+    open.consumer.facts();
+    let Some(mut desk) = desk_for(
+        alloc,
+        &plan,
+        Chapter::new(alloc, plan.room, plan.workers).ok(),
+    ) else {
+        return Err(TrialFault::Memory);
+    };
+    open.run(rt, &Steps { alloc, plan }, &mut desk);
+    let mut sums = sums_of(open.seats.as_slice(), &open.consumer, &desk.seen);
+    let Ok(closing) = open.close(rt) else {
+        return Err(TrialFault::Open);
+    };
+    check_closing(&closing, &mut sums);
+    if plan.is_bound() {
+        bind(alloc, closing, desk.chapters, &mut sums);
+    }
+    Ok(sums)
+}
+
+// What the consumer has at the beginning, where there is memory.
+fn desk_for(alloc: Global, plan: &Plan, chapter: Option<Chapter>) -> Option<Desk> {
+    match (
+        Batch::with_capacity(alloc, BATCH),
+        Seen::new(alloc, plan.workers),
+        chapter,
+    ) {
+        (Ok(batch), Ok(seen), Some(chapter)) => Some(Desk {
+            alloc,
+            batch,
+            keeper: Keeper::with_margin(chapter, plan.room / 4),
+            seen,
+            is_bound: plan.is_bound(),
+            chapters: Vec::new(alloc),
+        }),
+        _ => None,
+    }
+}
+
+// What the seats counted, and whether it is what the consumer saw of each worker.
+fn sums_of(seats: &[Seat], consumer: &ConsumerSeat, seen: &Seen) -> Sums {
+    let mut sums = Sums::none();
+    for seat in seats {
+        add_seat(&mut sums, seat, seen);
+    }
+    add_consumer(&mut sums, consumer, seen);
+    sums
+}
+
+fn add_seat(sums: &mut Sums, seat: &Seat, seen: &Seen) {
+    let (made, submitted, discarded) = (seat.made(), seat.submitted(), seat.discarded());
+    sums.expect(made == submitted.wrapping_add(discarded));
+    sums.expect(submitted == seen.events_of(seat.worker()));
+    sums.made = sums.made.wrapping_add(made);
+    sums.refused = sums.refused.wrapping_add(seat.refused());
+    sums.submitted = sums.submitted.wrapping_add(submitted);
+    sums.discarded = sums.discarded.wrapping_add(discarded);
+}
+
+fn add_consumer(sums: &mut Sums, consumer: &ConsumerSeat, seen: &Seen) {
+    let (skipped, position) = (seen.skipped, seen.position);
+    sums.expect(consumer.skipped() == skipped);
+    sums.expect(consumer.position() == position);
+    sums.consumed = consumer.consumed();
+    sums.skipped = consumer.skipped();
+    sums.chapters = consumer.chapters();
+    sums.wrong = sums.wrong.saturating_add(seen.wrong);
+}
+
+// Whether the closed ring counted what its seats and its consumer did.
+fn check_closing(closing: &Closing, sums: &mut Sums) {
+    let counts = closing.counts();
+    sums.expect(counts.made == sums.made && counts.refused == sums.refused);
+    sums.expect(counts.consumed == sums.submitted && counts.consumed == sums.consumed);
+    sums.expect(counts.discarded == sums.discarded && counts.discarded == sums.skipped);
+    sums.expect(counts.waiting == 0 && counts.busy == 0);
+    sums.expect(closing.producer() == closing.consumer());
+    sums.expect(closing.chapter().number() == sums.chapters);
+}
+
+// Binds the chapters: the history has an entry for each grant, each refusal, each end and each take.
+fn bind(alloc: Global, closing: Closing, chapters: Vec<Chapter>, sums: &mut Sums) {
+    match closing.bind(alloc, chapters) {
+        Ok(whole) => {
+            sums.bound = whole.history().len() as u64;
+            let all = sums.made.wrapping_mul(3).wrapping_add(sums.refused);
+            sums.expect(sums.bound == all);
+        }
+        Err(_) => sums.expect(false),
+    }
+}

@@ -1,0 +1,86 @@
+//! What a consumer has seen of its ring's records.
+
+use super::bytes::are_right;
+use rb_header::span;
+use rb_tape::{Event, Item};
+use std::alloc::{AllocError, Global};
+
+// What was seen of a worker's records.
+#[derive(Clone, Copy)]
+struct SeenWorker {
+    // The serial of its last event and one.
+    next: u64,
+    events: u64,
+}
+
+/// What was seen of a ring's records, and how many things were wrong with them.
+#[derive(Drop)]
+pub(crate) struct Seen {
+    workers: Vec<SeenWorker>,
+    /// The position of the next record.
+    pub(crate) position: u64,
+    /// How many discarded records were passed over.
+    pub(crate) skipped: u64,
+    pub(crate) wrong: u64,
+}
+
+impl Seen {
+    /// Nothing, of so many workers.
+    pub(crate) fn new(alloc: Global, workers: u32) -> Result<Seen, AllocError> {
+        let none = SeenWorker { next: 0, events: 0 };
+        Ok(Seen {
+            workers: vec![in alloc; none; workers as usize]?,
+            position: 0,
+            skipped: 0,
+            wrong: 0,
+        })
+    }
+
+    /// How many events of a worker were seen.
+    pub(crate) fn events_of(&self, worker: u32) -> u64 {
+        match self.workers.get(worker as usize) {
+            Some(seen) => seen.events,
+            None => 0,
+        }
+    }
+
+    /// Looks at the next record.
+    pub(crate) fn look(&mut self, item: &Item<'_>) {
+        let (pos, len, is_right) = match item {
+            Item::Event(event) => (event.pos, event.bytes.len(), self.is_next(event)),
+            Item::Skip(pos, n) => {
+                self.skipped = self.skipped.saturating_add(1);
+                (*pos, *n as usize, true)
+            }
+        };
+        self.expect(is_right && pos == self.position);
+        let span = span(u32::try_from(len).unwrap_or(0));
+        self.position = pos.wrapping_add(span);
+    }
+
+    /// Notes whether something holds that is to hold.
+    pub(crate) fn expect(&mut self, holds: bool) {
+        if !holds {
+            self.wrong = self.wrong.saturating_add(1);
+        }
+    }
+
+    // Whether the event comes behind its worker's last one, and has the bytes that the worker wrote.
+    fn is_next(&mut self, event: &Event<'_>) -> bool {
+        let is_next = match self.workers.get_mut(event.worker as usize) {
+            Some(seen) => seen.goes_on(event.serial),
+            None => false,
+        };
+        is_next && are_right(event.bytes, event.worker, event.serial)
+    }
+}
+
+impl SeenWorker {
+    // Whether the serial is none that came before.
+    fn goes_on(&mut self, serial: u64) -> bool {
+        let is_later = serial >= self.next;
+        self.next = serial.wrapping_add(1);
+        self.events = self.events.wrapping_add(1);
+        is_later
+    }
+}

@@ -1,0 +1,92 @@
+//! The ring that threads shared, closed and bound.
+
+ghost use Rattle.std.specs.Prelude.{◌≡◌};
+
+use super::memory::TRIES;
+use crate::fault::TrialFault;
+use rb_chapter::Chapter;
+use rb_history::Counts;
+use rb_shared_ring::{BindFault, Closing, ConsumerSeat, Seat, SharedRing};
+use std::alloc::Global;
+use std::io::Print;
+use std::sync::Wait;
+
+/// The ring is not closed with one of its two seats, and is with both. The list has room for them.
+pub(crate) fn close<R: Wait + Print>(
+    rt: &R,
+    ring: SharedRing,
+    room: Vec<Seat>,
+    zero: Seat,
+    one: Seat,
+    consumer: ConsumerSeat,
+) -> Option<Closing>
+    requires zero { zero.ring ≡ ring.ring }
+    requires one { one.ring ≡ ring.ring }
+    requires consumer { consumer.ring ≡ ring.ring }
+{
+    let mut seats = room;
+    seats.clear();
+    if seats.push(zero).is_err() {
+        return None;
+    }
+    let Err(back) = ring.close(rt, seats, consumer) else {
+        return None;
+    };
+    let (ring, mut seats, consumer) = (back.ring, back.seats, back.consumer);
+    let _ = println!(rt; "close: not all with {} seat", seats.len());
+    if seats.push(one).is_err() {
+        return None;
+    }
+    ring.close(rt, seats, consumer).ok()
+}
+
+/// Binds the chapters to one history, and prints how its records add up.
+pub(crate) fn bind<R: Print>(
+    rt: &R,
+    alloc: Global,
+    closing: Closing,
+    chapters: Vec<Chapter>,
+) -> Result<(), TrialFault> {
+    let (mut closing, mut chapters) = (closing, chapters);
+    tell_closing(rt, "close", &closing, chapters.len());
+    for _ in 0..TRIES {
+        match closing.bind(alloc, chapters) {
+            Ok(whole) => {
+                let _ = println!(rt; "bind: {} entries", whole.history().len());
+                tell_sum(rt, whole.closing().counts());
+                return Ok(());
+            }
+            Err((BindFault::Memory, back, handed)) => {
+                closing = back;
+                chapters = handed;
+            }
+            Err(_) => return Err(TrialFault::Otherwise("bind")),
+        }
+        tell_closing(rt, "bind memory", &closing, chapters.len());
+    }
+    Err(TrialFault::Twice("bind"))
+}
+
+// What the closed ring came to, and how many chapters there are beside its last.
+fn tell_closing<R: Print>(rt: &R, call: &str, closing: &Closing, chapters: usize) {
+    let (producer, consumer) = (closing.producer(), closing.consumer());
+    let number = closing.chapter().number();
+    let _ = println!(rt;
+        "{call}: producer {producer} consumer {consumer} chapter {number} beside {chapters}"
+    );
+}
+
+// How the granted records add up.
+fn tell_sum<R: Print>(rt: &R, counts: Counts) {
+    let Counts {
+        made,
+        consumed,
+        discarded,
+        waiting,
+        busy,
+        ..
+    } = counts;
+    let _ = println!(rt;
+        "made {made} = consumed {consumed} + discarded {discarded} + waiting {waiting} + busy {busy}"
+    );
+}

@@ -1,0 +1,146 @@
+//! Jobs on threads.
+
+ghost use Rattle.std.specs.Prelude.{◌≡◌, IfOk};
+ghost use Rattle.rb_workers.specs.Opened.{AreOpened, IsOpened};
+
+use super::memory::{TRIES, tell_memory};
+use super::programs::{OUTPUT, RESERVE, verified};
+use super::standing::tell_counts;
+use crate::fault::TrialFault;
+use rb_shared_ring::OpenFault;
+use rb_workers::{Job, JobFault, NullSink, OpenGate, Opened, Report, run_jobs};
+use std::alloc::Global;
+use std::io::Print;
+use std::sync::Wait;
+use std::thread::Threads;
+
+// The room of the chapters: all of the jobs have some in one.
+const JOBS_ROOM: u32 = 64;
+
+/// Runs three jobs of each of two workers over one ring, once more where there was no memory for one.
+pub(crate) fn run<R: Threads + Wait + Sync + Print>(
+    rt: &R,
+    alloc: Global,
+) -> Result<(), TrialFault> {
+    let reserving = verified(rt, alloc, RESERVE.as_slice())?;
+    let sending = verified(rt, alloc, OUTPUT.as_slice())?;
+    let reserve = |worker| Job {
+        worker,
+        program: &reserving,
+        ctx: &[],
+    };
+    let output = |worker| Job {
+        worker,
+        program: &sending,
+        ctx: &[],
+    };
+    let jobs = [
+        reserve(0),
+        output(1),
+        output(0),
+        reserve(1),
+        reserve(0),
+        output(1),
+    ];
+    let rings = one_ring(rt, alloc)?;
+    tell_all(rt, "open", rings.as_slice());
+    tell_report(rt, &report(rt, alloc, rings, jobs.as_slice())?);
+    Ok(())
+}
+
+// What each job ended with, how many records found no memory that no entry tells of, and where each ring stands at its end.
+fn tell_report<R: Print>(rt: &R, report: &Report<NullSink>) {
+    for answer in &report.answers {
+        match answer {
+            Ok(value) => {
+                let _ = println!(rt; "job: {value}");
+            }
+            Err(fault) => {
+                let _ = println!(rt; "job: {fault}");
+            }
+        }
+    }
+    let (unlogged, strays) = (report.unlogged, report.strays);
+    let _ = println!(rt; "unlogged {unlogged} strays {strays}");
+    for ended in &report.rings {
+        let _ = print!(rt; "ring: entries {} ", ended.closing.chapter().used());
+        tell_counts(rt, ended.closing.counts());
+    }
+}
+
+// Runs the jobs until there was memory.
+fn report<R: Threads + Wait + Sync + Print>(
+    rt: &R,
+    alloc: Global,
+    rings: Vec<Opened<NullSink>>,
+    jobs: &[Job<'_>],
+) -> Result<Report<NullSink>, TrialFault>
+    requires { AreOpened (λ s. s.position) rings.items }
+{
+    let mut rings = rings;
+    for _ in 0..TRIES {
+        match run_jobs(rt, alloc, rings, jobs, &OpenGate) {
+            Ok(report) => return Ok(report),
+            Err((JobFault::Memory, back)) => rings = back,
+            Err(_) => return Err(TrialFault::Otherwise("jobs")),
+        }
+        tell_all(rt, "jobs memory", rings.as_slice());
+    }
+    Err(TrialFault::Twice("jobs"))
+}
+
+// What the seats of the rings made, and what they left behind: records that no worker ended, and those that were not taken.
+fn tell_all<R: Print>(rt: &R, call: &str, rings: &[Opened<NullSink>]) {
+    for one in rings {
+        let _ = print!(rt; "{call}: seats {}", one.seats.len());
+        let (mut busy, mut waiting): (u64, u64) = (0, 0);
+        for seat in &one.seats {
+            let ended = seat.submitted().wrapping_add(seat.discarded());
+            busy = busy.wrapping_add(seat.made().wrapping_sub(ended));
+            waiting = waiting.wrapping_add(seat.submitted());
+            let _ = print!(rt; " made {}", seat.made());
+        }
+        waiting = waiting.wrapping_sub(one.consumer.consumed());
+        let _ = println!(rt; " busy {busy} waiting {waiting}");
+    }
+}
+
+// A ring of 4,096 bytes with two workers.
+fn opened<R: Wait + Print>(rt: &R, alloc: Global) -> Result<Opened<NullSink>, TrialFault>
+    ensures { IfOk result (IsOpened (λ s. s.position) 2) }
+{
+    for _ in 0..TRIES {
+        let sink = NullSink { position: 0 };
+        match Opened::open(rt, alloc, 7, 4096, 0, 2, JOBS_ROOM, 0, sink) {
+            Ok(opened) => return Ok(opened),
+            Err(OpenFault::Memory) => tell_memory(rt, "open"),
+            Err(_) => return Err(TrialFault::Otherwise("open")),
+        }
+    }
+    Err(TrialFault::Twice("open"))
+}
+
+// A list of one ring.
+fn one_ring<R: Wait + Print>(rt: &R, alloc: Global) -> Result<Vec<Opened<NullSink>>, TrialFault>
+    ensures { IfOk result (λ rings. AreOpened (λ s. s.position) rings.items) }
+{
+    for _ in 0..TRIES {
+        let first = opened(rt, alloc)?;
+        match listed(alloc, first) {
+            Ok(rings) => return Ok(rings),
+            Err(_) => tell_memory(rt, "list"),
+        }
+    }
+    Err(TrialFault::Twice("list"))
+}
+
+// This ring alone, where there is memory for a list.
+fn listed(alloc: Global, first: Opened<NullSink>) -> Result<Vec<Opened<NullSink>>, TrialFault>
+    requires { IsOpened (λ s. s.position) 2 first }
+    ensures { IfOk result (λ rings. AreOpened (λ s. s.position) rings.items) }
+{
+    match vec![in alloc; first] {
+        Ok(rings) => Ok(rings),
+        Err(_) => Err(TrialFault::Twice("list")),
+    }
+}

@@ -1,0 +1,109 @@
+//! The ring of one thread that keeps its whole history, and takes memory for it as it grows.
+
+ghost use Rattle.std.specs.Prelude.{◌≡◌, IfOk};
+
+use super::memory::{TRIES, tell_memory};
+use super::sheets::{LONG, is_filled};
+use super::standing::{Standing, Stands, sheet_beside, tell};
+use crate::fault::TrialFault;
+use rb_history::{CONS_POS, OpenFault, PROD_POS, Reservation, ReserveFault, Taken};
+use rb_ring_list::RingState;
+use std::alloc::Global;
+use std::io::Print;
+
+// How often two records are sent.
+const ROUNDS: u32 = 4;
+
+impl Stands for RingState {
+    fn standing(&self) -> Standing {
+        Standing {
+            chapters: 0,
+            entries: self.history().len() as u64,
+            producer: self.query(PROD_POS),
+            consumer: self.query(CONS_POS),
+            counts: self.counts(),
+        }
+    }
+}
+
+/// Records are reserved and submitted, and others are output, in turn; then all are taken.
+pub(crate) fn run<R: Print>(rt: &R, alloc: Global) -> Result<(), TrialFault> {
+    let mut ring = opened(rt, alloc)?;
+    tell(rt, "open", &ring);
+    for _ in 0..ROUNDS {
+        let record = reserve(rt, alloc, &mut ring)?;
+        tell(rt, "reserve", &ring);
+        if ring.submit(record, 0).is_err() {
+            return Err(TrialFault::Otherwise("submit"));
+        }
+        tell(rt, "submit", &ring);
+        output(rt, alloc, &mut ring)?;
+        tell(rt, "output", &ring);
+    }
+    take_all(rt, &mut ring)
+}
+
+// A ring of 4,096 bytes with one worker.
+fn opened<R: Print>(rt: &R, alloc: Global) -> Result<RingState, TrialFault>
+    ensures { IfOk result (λ ring. ring.setup.workers ≡ 1) }
+{
+    for _ in 0..TRIES {
+        match RingState::new(alloc, 4096, 0, 1) {
+            Ok(ring) => return Ok(ring),
+            Err(OpenFault::Memory) => tell_memory(rt, "open"),
+            Err(_) => return Err(TrialFault::Otherwise("open")),
+        }
+    }
+    Err(TrialFault::Twice("open"))
+}
+
+// Reserves a record in a long sheet.
+fn reserve<R: Print>(rt: &R, alloc: Global, ring: &mut RingState) -> Result<Reservation, TrialFault>
+    requires { ring.old.setup.workers ≡ 1 }
+    ensures { ring.new.setup ≡ ring.old.setup }
+{
+    let mut sheet = sheet_beside(rt, alloc, ring)?;
+    for _ in 0..TRIES {
+        match ring.reserve(0, LONG, sheet) {
+            Ok(record) => return Ok(record),
+            Err((ReserveFault::Memory, back)) => sheet = back,
+            Err(_) => return Err(TrialFault::Otherwise("reserve")),
+        }
+        if !is_filled(&sheet, LONG) {
+            return Err(TrialFault::Otherwise("reserve"));
+        }
+        tell(rt, "reserve memory", ring);
+    }
+    Err(TrialFault::Twice("reserve"))
+}
+
+// Outputs a long sheet.
+fn output<R: Print>(rt: &R, alloc: Global, ring: &mut RingState) -> Result<(), TrialFault>
+    requires { ring.old.setup.workers ≡ 1 }
+    ensures { ring.new.setup ≡ ring.old.setup }
+{
+    let mut sheet = sheet_beside(rt, alloc, ring)?;
+    for _ in 0..TRIES {
+        match ring.output(0, sheet, 0) {
+            Ok(_) => return Ok(()),
+            Err((ReserveFault::Memory, back)) => sheet = back,
+            Err(_) => return Err(TrialFault::Otherwise("output")),
+        }
+        if !is_filled(&sheet, LONG) {
+            return Err(TrialFault::Otherwise("output"));
+        }
+        tell(rt, "output memory", ring);
+    }
+    Err(TrialFault::Twice("output"))
+}
+
+// Takes the records of all rounds.
+fn take_all<R: Print>(rt: &R, ring: &mut RingState) -> Result<(), TrialFault> {
+    for _ in 0..2 * ROUNDS {
+        let Taken::Event(_, _, _, _) = ring.take() else {
+            return Err(TrialFault::Otherwise("take"));
+        };
+    }
+    tell(rt, "take", ring);
+    Ok(())
+}

@@ -1,0 +1,92 @@
+//! A worker's seat at the ring that threads share. Of the calls only `open` takes memory; callers take some for sheets.
+
+ghost use Rattle.std.specs.Prelude.{◌≡◌};
+ghost use Rattle.rb_ledger.specs.Seats.{IsSameSeat};
+
+use super::shared_rings::opened;
+use super::sheets::{LONG, filled, renew};
+use super::standing::tell_counts;
+use crate::fault::TrialFault;
+use rb_history::Taken;
+use rb_lend::Sheet;
+use rb_shared_ring::{ConsumerSeat, Seat, SharedRing};
+use std::alloc::Global;
+use std::io::Print;
+use std::sync::Wait;
+
+/// A worker outputs a record, which is taken, and its sheet is renewed.
+pub(crate) fn run<R: Wait + Print>(rt: &R, alloc: Global) -> Result<(), TrialFault> {
+    let (ring, mut seats, mut consumer) = opened(rt, alloc)?;
+    let Some(mut seat) = seats.pop() else {
+        return Err(TrialFault::Otherwise("seats"));
+    };
+    renew(
+        rt,
+        output_and_take(rt, alloc, &ring, &mut seat, &mut consumer)?,
+    )
+}
+
+// Outputs a long sheet, and takes it again.
+fn output_and_take<R: Wait + Print>(
+    rt: &R,
+    alloc: Global,
+    ring: &SharedRing,
+    seat: &mut Seat,
+    consumer: &mut ConsumerSeat,
+) -> Result<Sheet, TrialFault>
+    requires seat { seat.old.ring ≡ ring.now.ring }
+    requires consumer { consumer.old.ring ≡ ring.now.ring }
+{
+    tell(rt, "open", ring, seat);
+    let sheet = long_sheet(rt, alloc, ring, seat)?;
+    if ring.output(rt, seat, sheet, 0).is_err() {
+        return Err(TrialFault::Otherwise("output"));
+    }
+    tell(rt, "output", ring, seat);
+    match ring.take(rt, consumer) {
+        Ok(Taken::Event(_, _, _, sheet)) => {
+            tell(rt, "take", ring, seat);
+            Ok(sheet)
+        }
+        _ => Err(TrialFault::Otherwise("take")),
+    }
+}
+
+// A long sheet, made beside the ring.
+fn long_sheet<R: Wait + Print>(
+    rt: &R,
+    alloc: Global,
+    ring: &SharedRing,
+    seat: &mut Seat,
+) -> Result<Sheet, TrialFault>
+    requires { seat.old.ring ≡ ring.now.ring }
+    ensures { IsSameSeat seat.old seat.new }
+{
+    if let Some(sheet) = filled(alloc, LONG) {
+        return Ok(sheet);
+    }
+    tell(rt, "sheet memory", ring, seat);
+    match filled(alloc, LONG) {
+        Some(sheet) => Ok(sheet),
+        None => Err(TrialFault::Twice("sheet")),
+    }
+}
+
+// Prints what the seat counted, and where its ring stands by an audit.
+fn tell<R: Wait + Print>(rt: &R, call: &str, ring: &SharedRing, seat: &mut Seat)
+    requires { seat.old.ring ≡ ring.now.ring }
+    ensures { IsSameSeat seat.old seat.new }
+{
+    let Ok(audit) = ring.audit(rt, seat) else {
+        let _ = println!(rt; "{call}: foreign");
+        return;
+    };
+    let (made, refused) = (seat.made(), seat.refused());
+    let (submitted, discarded) = (seat.submitted(), seat.discarded());
+    let (producer, consumer) = (audit.producer, audit.consumer);
+    let _ = print!(rt;
+        "{call}: seat made {made} refused {refused} submitted {submitted} discarded {discarded}, "
+    );
+    let _ = print!(rt; "ring producer {producer} consumer {consumer} ");
+    tell_counts(rt, audit.counts);
+}

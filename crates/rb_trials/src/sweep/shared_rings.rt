@@ -1,0 +1,137 @@
+//! The ring that threads share, through the seats of two workers.
+
+ghost use Rattle.std.specs.Prelude.{◌≡◌, IfOk};
+ghost use Rattle.rb_ledger.specs.Seats.{IsSameSeat, fresh_book, fresh_seats};
+ghost use Rattle.rb_chapter_ledger.specs.ChapterSeats.{fresh_chapter_consumer};
+ghost use Rattle.rb_shared_ring.specs.SharedSeats.{IsSameChapterConsumer};
+
+use super::closed_rings::{bind, close};
+use super::memory::{TRIES, tell_memory};
+use super::rings::ROOM;
+use super::sheets::filled;
+use crate::fault::TrialFault;
+use rb_chapter::Chapter;
+use rb_history::Taken;
+use rb_shared_ring::{ConsumerSeat, OpenFault, Seat, SharedRing, open};
+use std::alloc::Global;
+use std::io::Print;
+use std::sync::Wait;
+
+/// Each of two workers outputs a record of eight bytes, the chapter is handed out, one record is taken, and the ring is closed, with one of
+/// the two seats and then with both; then its chapters are bound.
+pub(crate) fn run<R: Wait + Print>(rt: &R, alloc: Global) -> Result<(), TrialFault> {
+    let (ring, mut seats, mut consumer) = opened(rt, alloc)?;
+    let (Some(mut one), Some(mut zero)) = (seats.pop(), seats.pop()) else {
+        return Err(TrialFault::Otherwise("seats"));
+    };
+    let sent = send_and_take(rt, alloc, &ring, &mut zero, &mut one, &mut consumer);
+    match (sent, close(rt, ring, seats, zero, one, consumer)) {
+        (Ok(chapters), Some(closing)) => bind(rt, alloc, closing, chapters),
+        (Err(fault), _) => Err(fault),
+        _ => Err(TrialFault::Otherwise("close")),
+    }
+}
+
+// The outputs and the take, with the chapter that was handed out between them.
+fn send_and_take<R: Wait + Print>(
+    rt: &R,
+    alloc: Global,
+    ring: &SharedRing,
+    zero: &mut Seat,
+    one: &mut Seat,
+    consumer: &mut ConsumerSeat,
+) -> Result<Vec<Chapter>, TrialFault>
+    requires seats { (zero.old.ring ≡ ring.now.ring) × (one.old.ring ≡ ring.now.ring) }
+    requires consumer { consumer.old.ring ≡ ring.now.ring }
+    ensures zero { IsSameSeat zero.old zero.new }
+    ensures one { IsSameSeat one.old one.new }
+    ensures consumer { IsSameChapterConsumer consumer.old consumer.new }
+{
+    output(rt, alloc, ring, zero)?;
+    output(rt, alloc, ring, one)?;
+    let chapters = handed_out(rt, alloc, ring, consumer)?;
+    match ring.take(rt, consumer) {
+        Ok(Taken::Event(pos, worker, _, sheet)) => {
+            let _ = println!(rt; "take: {pos} of worker {worker}, {} bytes", sheet.len());
+            Ok(chapters)
+        }
+        _ => Err(TrialFault::Otherwise("take")),
+    }
+}
+
+/// A shared ring of 4,096 bytes with two workers.
+pub(crate) fn opened<R: Wait + Print>(
+    rt: &R,
+    alloc: Global,
+) -> Result<(SharedRing, Vec<Seat>, ConsumerSeat), TrialFault>
+    ensures tag { IfOk result (λ o. o.0.tag ≡ 7) }
+    ensures seats { IfOk result (λ o. o.1.items ≡ fresh_seats 7 o.0.ring 8 (fresh_book 4096 0 2) 0 2) }
+    ensures consumer { IfOk result (λ o. o.2 ≡ fresh_chapter_consumer 7 o.0.ring 8 (fresh_book 4096 0 2)) }
+{
+    for _ in 0..TRIES {
+        match open(rt, alloc, 7, 4096, 0, 2, ROOM) {
+            Ok(opened) => return Ok(opened),
+            Err(OpenFault::Memory) => tell_memory(rt, "open"),
+            Err(_) => return Err(TrialFault::Otherwise("open")),
+        }
+    }
+    Err(TrialFault::Twice("open"))
+}
+
+// Outputs eight bytes, whose sheet takes no memory.
+fn output<R: Wait + Print>(
+    rt: &R,
+    alloc: Global,
+    ring: &SharedRing,
+    seat: &mut Seat,
+) -> Result<(), TrialFault>
+    requires { seat.old.ring ≡ ring.now.ring }
+    ensures { IsSameSeat seat.old seat.new }
+{
+    let Some(sheet) = filled(alloc, 8) else {
+        return Err(TrialFault::Otherwise("sheet"));
+    };
+    if ring.output(rt, seat, sheet, 0).is_err() {
+        return Err(TrialFault::Otherwise("output"));
+    }
+    let _ = println!(rt; "output: made {}", seat.made());
+    Ok(())
+}
+
+// The ring's first chapter, alone in a list.
+fn handed_out<R: Wait + Print>(
+    rt: &R,
+    alloc: Global,
+    ring: &SharedRing,
+    consumer: &mut ConsumerSeat,
+) -> Result<Vec<Chapter>, TrialFault>
+    requires { consumer.old.ring ≡ ring.now.ring }
+    ensures { IsSameChapterConsumer consumer.old consumer.new }
+{
+    let mut chapters = empty_chapter(rt, alloc)?;
+    let Some(empty) = chapters.pop() else {
+        return Err(TrialFault::Otherwise("list"));
+    };
+    let Ok(chapter) = ring.hand_out(rt, consumer, empty) else {
+        return Err(TrialFault::Otherwise("hand out"));
+    };
+    let _ = println!(rt; "hand out: {} entries", chapter.used());
+    // The list has room for it.
+    match chapters.push(chapter) {
+        Ok(()) => Ok(chapters),
+        Err(_) => Err(TrialFault::Otherwise("list")),
+    }
+}
+
+// An empty chapter for two workers, alone in a list.
+fn empty_chapter<R: Print>(rt: &R, alloc: Global) -> Result<Vec<Chapter>, TrialFault> {
+    for _ in 0..TRIES {
+        if let Ok(chapter) = Chapter::new(alloc, ROOM, 2)
+            && let Ok(list) = vec![in alloc; chapter]
+        {
+            return Ok(list);
+        }
+        tell_memory(rt, "chapter");
+    }
+    Err(TrialFault::Twice("chapter"))
+}

@@ -1,0 +1,73 @@
+//! Where a ring of one thread stands.
+
+ghost use Rattle.std.specs.Prelude.{◌≡◌, IfOk, length};
+
+use super::memory::TRIES;
+use super::sheets::{LONG, filled};
+use crate::fault::TrialFault;
+use rb_history::Counts;
+use rb_lend::Sheet;
+use std::alloc::Global;
+use std::io::Print;
+
+/// Where a ring stands: how many chapters of its history were handed out, how many entries stand behind those, its positions and its counts.
+pub(crate) struct Standing {
+    pub(crate) chapters: u64,
+    pub(crate) entries: u64,
+    pub(crate) producer: u64,
+    pub(crate) consumer: u64,
+    pub(crate) counts: Counts,
+}
+
+/// A ring of one thread.
+pub(crate) trait Stands {
+    /// Where it stands.
+    fn standing(&self) -> Standing;
+}
+
+/// Prints where a ring stands after a call.
+pub(crate) fn tell<R: Print, T: Stands>(rt: &R, call: &str, ring: &T) {
+    let Standing {
+        chapters,
+        entries,
+        producer,
+        consumer,
+        counts,
+    } = ring.standing();
+    let _ = print!(rt;
+        "{call}: chapters {chapters} entries {entries} producer {producer} consumer {consumer} "
+    );
+    tell_counts(rt, counts);
+}
+
+/// Prints counts, at the end of a line.
+pub(crate) fn tell_counts<R: Print>(rt: &R, counts: Counts) {
+    let Counts {
+        made,
+        refused,
+        consumed,
+        discarded,
+        waiting,
+        busy,
+    } = counts;
+    let _ = println!(rt;
+        "made {made} refused {refused} consumed {consumed} discarded {discarded} waiting {waiting} busy {busy}"
+    );
+}
+
+/// A long sheet, made beside a ring.
+pub(crate) fn sheet_beside<R: Print, T: Stands>(
+    rt: &R,
+    alloc: Global,
+    ring: &T,
+) -> Result<Sheet, TrialFault>
+    ensures { IfOk result (λ sheet. length sheet ≡ LONG) }
+{
+    for _ in 0..TRIES {
+        if let Some(sheet) = filled(alloc, LONG) {
+            return Ok(sheet);
+        }
+        tell(rt, "sheet memory", ring);
+    }
+    Err(TrialFault::Twice("sheet"))
+}
