@@ -76,7 +76,11 @@ fn words(rt: &HostRuntime) -> Result<Vec<String>, TrialFault> {
 
 // The words that follow the program's name.
 fn read_words(rt: &HostRuntime) -> io::Result<Vec<String>> {
-    let mut words = env::args(rt)?;
-    let _ = words.next();
-    Ok(words.collect(rt.alloc())?)
+    let mut given = env::args(rt)?;
+    let _ = given.next();
+    let mut words = Vec::new(rt.alloc());
+    for word in given {
+        words.push(word)?;
+    }
+    Ok(words)
 }
