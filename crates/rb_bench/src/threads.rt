@@ -4,7 +4,7 @@ use crate::fault::BenchFault;
 use crate::one_thread::{ROOM, SIZE};
 use rb_chapter::Chapter;
 use rb_consumer::{Batch, Keeper};
-use rb_ring_threads::{Consumer, Found, OpenRing, Outputs};
+use rb_for_tests::{Consumer, Found, OpenRing, Outputs};
 use rb_shared_ring::{ConsumerSeat, SharedRing};
 use std::alloc::Global;
 use std::sync::Wait;

@@ -4,7 +4,7 @@
 //! Proved: each call adds its entries to the chapter and answers by the chapter alone, the chapter stays legal from its opening with room
 //! for all that it owes, and it is what the ring's state stands for (`RingState::facts`). A chapter that is handed out meets the next
 //! one, so that chapters join to one legal history (`rb_chapter::chapters_join`). Each busy record is in one of its worker's four hands
-//! (`rb_hands`), and one that is in a hand is submitted or discarded without a refusal. `rb_ring_list` is the plain twin over a whole
+//! (`rb_hands`), and one that is in a hand is submitted or discarded without a refusal. `rb_for_tests` has the plain twin over a whole
 //! history, for tests.
 //!
 //! `RingState` is the ring for one thread; its reservations name its tag. `HandState` is what a shared ring keeps under its lock.

@@ -1,9 +1,5 @@
 //! The entries of a history.
 
-ghost use Rattle.std.specs.Prelude.{◌≡◌};
-ghost use Rattle.rb_history.specs.History.{is_grant_of};
-ghost use Rattle.rb_history.specs.Counting.{is_grant_entry, is_refusal_entry, is_discard_entry};
-
 /// One step of a ring's history. Workers are named by their numbers, from 0 on, and records by their positions, in bytes.
 #[derive(Clone, Copy, Debug, PartialEq, Eq)]
 pub enum Entry {
@@ -17,34 +13,4 @@ pub enum Entry {
     Dis(u64),
     /// The record at this position was taken by the consumer: handed out, or passed over where it was discarded.
     Take(u64),
-}
-
-impl Entry {
-    /// Whether the entry grants a record.
-    pub fn is_grant(&self) -> bool
-        ensures test { result ≡ is_grant_entry self.now }
-    {
-        matches!(self, Entry::Res(_, _, _, _))
-    }
-
-    /// Whether the entry says that there was no room.
-    pub fn is_refusal(&self) -> bool
-        ensures test { result ≡ is_refusal_entry self.now }
-    {
-        matches!(self, Entry::Full(_, _))
-    }
-
-    /// Whether the entry discards a record.
-    pub fn is_discarding(&self) -> bool
-        ensures test { result ≡ is_discard_entry self.now }
-    {
-        matches!(self, Entry::Dis(_))
-    }
-
-    /// Whether the entry grants a record to this worker.
-    pub fn is_grant_of(&self, worker: u32) -> bool
-        ensures test { result ≡ is_grant_of worker self.now }
-    {
-        matches!(self, Entry::Res(w, _, _, _) if *w == worker)
-    }
 }

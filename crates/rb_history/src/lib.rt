@@ -1,4 +1,4 @@
-//! What a BPF ring buffer's history says, for the rings (`rb_chapter_ring`, `rb_ring_list`, `rb_shared_ring`) and their callers: the
+//! What a BPF ring buffer's history says, for the rings (`rb_chapter_ring`, `rb_shared_ring`) and their callers: the
 //! entries, the answers of a ring's calls, and the definitions that all their contracts cite. The rules are those of Linux
 //! Documentation/bpf/ringbuf.rst and bpf-helpers(7); where these leave a choice, the definition says 'own'.
 //!
@@ -8,8 +8,6 @@
 //!
 //! ```text
 //! assert_eq!(rt; check_setup(4096, 4, 1), Err(OpenFault::Start));
-//! let history = [Entry::Res(0, 0, 8, 0), Entry::Sub(0), Entry::Full(0, 4096)];
-//! assert!(rt; history[0].is_grant_of(0) && history[2].is_refusal());
 //! assert_eq!(rt; notice_for(0, 0, NO_WAKEUP), Notice::NotDue);
 //! assert_eq!(rt; notice_for(0, 16, FORCE_WAKEUP), Notice::Due);
 //! ```

@@ -1,10 +1,8 @@
 //! The records that are there, as a ring's body keeps them in a list.
 
-ghost use Rattle.std.specs.Prelude.{◌≡◌};
-ghost use Rattle.rb_history.specs.StoredRecords.{IsTakenOf, is_reserved_state, is_submitted_state, is_reserved_by};
+ghost use Rattle.rb_history.specs.StoredRecords.{IsTakenOf};
 
 use crate::answers::Taken;
-use crate::reservations::Reservation;
 use rb_lend::Sheet;
 
 /// What became of a record that was not taken yet (Linux Documentation/bpf/ringbuf.rst: reserved, then committed or
@@ -19,7 +17,7 @@ pub enum RecordState {
     Discarded,
 }
 
-/// A record that was granted and not taken yet. Its calls take no memory and constant time.
+/// A record that was granted and not taken yet.
 #[derive(Drop)]
 pub struct StoredRecord {
     /// Its position, in bytes.
@@ -35,33 +33,8 @@ pub struct StoredRecord {
 }
 
 impl StoredRecord {
-    /// Whether the record is busy.
-    pub fn is_reserved(&self) -> bool
-        ensures test { result ≡ is_reserved_state self.now.state }
-    {
-        matches!(self.state, RecordState::Reserved)
-    }
-
-    /// Whether the record was submitted and waits for the consumer.
-    pub fn is_submitted(&self) -> bool
-        ensures test { result ≡ is_submitted_state self.now.state }
-    {
-        matches!(self.state, RecordState::Submitted(_))
-    }
-
-    /// Whether the record is busy and has the reservation's position, worker, serial and length.
-    pub fn is_reserved_by(&self, reservation: &Reservation) -> bool
-        ensures test { result ≡ is_reserved_by reservation.now self.now }
-    {
-        self.is_reserved()
-            && self.pos == reservation.pos()
-            && self.worker == reservation.worker()
-            && self.serial == reservation.serial()
-            && self.len == reservation.len()
-    }
-
     /// What a take of this record hands out: the event with its bytes where it was submitted, else that it is skipped, with its
-    /// position and length. No ring takes a busy one.
+    /// position and length. No ring takes a busy one. It takes no memory and constant time.
     pub fn taken(self) -> Taken
         ensures taken { IsTakenOf self result }
     {

@@ -38,7 +38,7 @@ impl<R> Records<R> {
     ghost use Rattle.rb_parts.specs.RecordSlots.{in_slot, with_slot, lowest_empty};
 
     /// Four empty slots.
-    pub fn new() -> Records<R>
+    pub(crate) fn new() -> Records<R>
         ensures first { result.first ≡ None }
         ensures second { result.second ≡ None }
         ensures third { result.third ≡ None }
@@ -53,7 +53,7 @@ impl<R> Records<R> {
     }
 
     /// Empties each slot that holds a record, which is given up. A slot that is empty is not written.
-    pub fn clear(&mut self)
+    pub(crate) fn clear(&mut self)
     where
         R: Drop,
         ensures first { self.new.first ≡ None }
@@ -76,7 +76,7 @@ impl<R> Records<R> {
     }
 
     /// What the slot holds, lent for reading: `None` exactly where it is empty.
-    pub fn get(&self, slot: Slot) -> &Option<R>
+    pub(crate) fn get(&self, slot: Slot) -> &Option<R>
         ensures { result.now ≡ in_slot self.now slot }
     {
         match slot {
@@ -101,7 +101,7 @@ impl<R> Records<R> {
     }
 
     /// The record in the slot, which is not empty, lent for writing. The other slots stay.
-    pub fn record_mut(&mut self, slot: Slot) -> &mut R
+    pub(crate) fn record_mut(&mut self, slot: Slot) -> &mut R
         requires { IsSome (in_slot self.old slot) }
         ensures* writes_back { sem 𝓛 (LendsRecordIn R.row self.entry slot result) }
         ensures value { Some result.now ≡ in_slot self.old slot }
@@ -144,7 +144,7 @@ impl<R> Records<R> {
     }
 
     /// Takes the record into the lowest empty slot and answers that slot, or hands the record back exactly where four are held.
-    pub fn hold(&mut self, owned: R) -> Result<Slot, R>
+    pub(crate) fn hold(&mut self, owned: R) -> Result<Slot, R>
     where
         R: Drop,
         ensures lowest { IfOk result (λ slot. lowest_empty self.old ≡ Some slot) }
@@ -164,7 +164,7 @@ impl<R> Records<R> {
 
     /// Hands out what the slot holds: the very value that was held, with the bytes that were written since. `None` exactly
     /// where the slot was empty. The slot is empty afterwards.
-    pub fn give(&mut self, slot: Slot) -> Option<R>
+    pub(crate) fn give(&mut self, slot: Slot) -> Option<R>
         ensures value { result ≡ in_slot self.old slot }
         ensures rest { self.new ≡ with_slot self.old slot None }
     {
@@ -182,7 +182,7 @@ impl<R: Lent> Records<R> {
     ghost use Rattle.rb_parts.specs.RecordSlots.{in_slot};
 
     /// The bytes of the record in the slot, which is not empty, lent for writing. The other slots stay.
-    pub fn bytes_mut(&mut self, slot: Slot) -> &mut [u8]
+    pub(crate) fn bytes_mut(&mut self, slot: Slot) -> &mut [u8]
         requires { IsSome (in_slot self.old slot) }
         ensures* writes_back { sem 𝓛 (LendsBytesIn R.row R.with_bytes self.entry slot result) }
         ensures value { option_map R.bytes_of (in_slot self.old slot) ≡ Some result.now }

@@ -24,7 +24,7 @@ impl Model for Stack {
 
 impl Stack {
     /// A stack of zero bytes.
-    pub fn new() -> Stack
+    pub(crate) fn new() -> Stack
         ensures { result ≡ replicate 512 0 }
     {
         Stack {

@@ -74,7 +74,7 @@ fn are_numbers(values: &[Abs]) -> bool
 
 impl Places {
     /// Each place has data. It takes no memory.
-    pub fn data(alloc: Global) -> Places
+    pub(crate) fn data(alloc: Global) -> Places
         ensures { result ≡ all_data }
     {
         Places {

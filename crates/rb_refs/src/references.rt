@@ -97,21 +97,21 @@ impl Held {
     }
 
     /// Whether four references are held.
-    pub fn is_full(&self) -> bool
+    pub(crate) fn is_full(&self) -> bool
         ensures { result ≡ is_full self.now }
     {
         self.items.len() >= 4
     }
 
     /// Whether no reference is held.
-    pub fn is_empty(&self) -> bool
+    pub(crate) fn is_empty(&self) -> bool
         ensures { result ≡ is_empty self.now }
     {
         self.items.is_empty()
     }
 
     /// Whether both hold the same references.
-    pub fn is_same(&self, other: &Held) -> bool
+    pub(crate) fn is_same(&self, other: &Held) -> bool
         ensures { IsTrue result ↔ (self.now ≡ other.now) }
     {
         self.as_slice() == other.as_slice()

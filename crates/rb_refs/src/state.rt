@@ -60,7 +60,7 @@ impl AbsState {
     }
 
     /// What is known of a register.
-    pub fn value(&self, register: Reg) -> Abs
+    pub(crate) fn value(&self, register: Reg) -> Abs
         ensures { result ≡ value_in self.now register.number }
     {
         self.values[usize::from(register.number)]

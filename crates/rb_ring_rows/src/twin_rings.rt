@@ -17,7 +17,7 @@ use rb_history::{
     OpenFault as ListOpenFault, Reservation as ListReservation, ReserveFault as ListFault, Taken,
 };
 use rb_lend::{Lent, Sheet};
-use rb_ring_list::RingState as ListState;
+use rb_for_tests::RingState as ListState;
 use std::alloc::Global;
 
 /// A ring over chapters and its twin over a list, for the same workers.

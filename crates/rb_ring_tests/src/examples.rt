@@ -8,7 +8,7 @@ use rb_history::{
 };
 use rb_lend::{Lent, Sheet};
 use rb_parts::{Part, Parts, Slot};
-use rb_ring_list::RingState as ListState;
+use rb_for_tests::RingState as ListState;
 use rb_shared_ring::open;
 use std::process::Abort;
 use std::test::Fail;

@@ -5,7 +5,7 @@ ghost use Rattle.rb_shared_ring.specs.SharedSeats.{IsSameChapterConsumer};
 
 use rb_chapter::Chapter;
 use rb_consumer::{Batch, Keeper};
-use rb_ring_threads::{Consumer, Found, OpenRing, Outputs};
+use rb_for_tests::{Consumer, Found, OpenRing, Outputs};
 use rb_shared_ring::{ConsumerSeat, SharedRing};
 use rb_tape::Event;
 use std::alloc::Global;

@@ -231,8 +231,10 @@ fn the_whole_stack_and_a_whole_record_are_lent(rt: HostRuntime) {
     let Ok(Slot::First) = parts.hold(sheet(&rt, rt.alloc(), 2)) else {
         panic!(rt; "another slot")
     };
-    parts.records.bytes_mut(Slot::First).fill(4);
+    if let Some(record) = &mut parts.records.first {
+        record.bytes_mut().fill(4);
+    }
     reads(&rt, &parts, Part::Stack, 510, &[3, 3]);
-    assert!(rt; parts.records.get(Slot::First).is_some());
+    assert!(rt; parts.records.first.is_some());
     reads(&rt, &parts, FIRST, 0, &[4, 4]);
 }

@@ -8,7 +8,7 @@ use super::rings_with_seats::ROOM;
 use rb_chapter::Chapter;
 use rb_history::Taken;
 use rb_lend::Lent;
-use rb_ring_threads::{Consumer, Found, OpenRing, Outputs};
+use rb_for_tests::{Consumer, Found, OpenRing, Outputs};
 use rb_shared_ring::{ConsumerSeat, SharedRing};
 use std::alloc::Global;
 use std::process::Abort;

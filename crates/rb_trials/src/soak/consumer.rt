@@ -6,7 +6,7 @@ ghost use Rattle.rb_shared_ring.specs.SharedSeats.{IsSameChapterConsumer};
 use super::seen::Seen;
 use rb_chapter::Chapter;
 use rb_consumer::{Batch, Keeper};
-use rb_ring_threads::{Consumer, Found};
+use rb_for_tests::{Consumer, Found};
 use rb_shared_ring::{ConsumerSeat, SharedRing};
 use std::alloc::Global;
 use std::sync::Wait;

@@ -8,7 +8,7 @@ use super::worker::Steps;
 use crate::fault::TrialFault;
 use rb_chapter::Chapter;
 use rb_consumer::{Batch, Keeper};
-use rb_ring_threads::OpenRing;
+use rb_for_tests::OpenRing;
 use rb_shared_ring::{Closing, ConsumerSeat, Seat};
 use std::alloc::Global;
 use std::sync::Wait;

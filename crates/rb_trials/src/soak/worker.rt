@@ -7,7 +7,7 @@ use super::bytes::write;
 use super::draw::Draw;
 use super::plan::Plan;
 use rb_lend::Lent;
-use rb_ring_threads::{Producer, output, sheet};
+use rb_for_tests::{Producer, output, sheet};
 use rb_shared_ring::{Reservation, Seat, SharedRing, WaitBackoff};
 use std::alloc::Global;
 use std::sync::Wait;

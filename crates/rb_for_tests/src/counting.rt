@@ -1,0 +1,61 @@
+//! Counts over the history and over the records that are there.
+
+ghost use Rattle.std.specs.Prelude.{◌≡◌, count_by, position};
+ghost use Rattle.rb_history.specs.Counting.{is_grant_entry, is_refusal_entry, is_discard_entry};
+ghost use Rattle.rb_history.specs.StoredRecords.{is_reserved_state, is_submitted_state, is_reserved_by};
+
+use crate::entry_kinds::{
+    is_discarding, is_grant, is_refusal, is_reserved, is_reserved_by, is_submitted,
+};
+use rb_history::{Entry, Reservation, StoredRecord};
+use std::collections::VecDeque;
+
+/// How many records a history grants. In time linear in the history, as the next two.
+pub(crate) fn grants_in(history: &[Entry]) -> u64
+    ensures count { result ≡ count_by is_grant_entry history.now }
+{
+    history.iter().filter(|entry| is_grant(entry)).count() as u64
+}
+
+/// How many reservations a history refuses since there was no room.
+pub(crate) fn refusals_in(history: &[Entry]) -> u64
+    ensures count { result ≡ count_by is_refusal_entry history.now }
+{
+    history.iter().filter(|entry| is_refusal(entry)).count() as u64
+}
+
+/// How many records a history discards.
+pub(crate) fn discards_in(history: &[Entry]) -> u64
+    ensures count { result ≡ count_by is_discard_entry history.now }
+{
+    history.iter().filter(|entry| is_discarding(entry)).count() as u64
+}
+
+/// How many of the records are submitted. In time linear in the records, as the next two.
+pub(crate) fn submitted_in(records: &VecDeque<StoredRecord>) -> u64
+    ensures count { result ≡ count_by (λ s. is_submitted_state s.state) records.now.items }
+{
+    records
+        .iter()
+        .filter(|record| is_submitted(record))
+        .count() as u64
+}
+
+/// How many of the records are busy.
+pub(crate) fn reserved_in(records: &VecDeque<StoredRecord>) -> u64
+    ensures count { result ≡ count_by (λ s. is_reserved_state s.state) records.now.items }
+{
+    records.iter().filter(|record| is_reserved(record)).count() as u64
+}
+
+/// The place of the busy record that has the reservation's four numbers, where there is one.
+pub(crate) fn busy_index(
+    records: &VecDeque<StoredRecord>,
+    reservation: &Reservation,
+) -> Option<usize>
+    ensures index { result ≡ position (is_reserved_by reservation.now) records.now.items }
+{
+    records
+        .iter()
+        .position(|record| is_reserved_by(reservation, record))
+}

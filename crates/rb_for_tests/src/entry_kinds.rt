@@ -1,0 +1,61 @@
+//! What an entry says, and what became of a record that is kept, each as its definition says it.
+
+ghost use Rattle.std.specs.Prelude.{◌≡◌};
+ghost use Rattle.rb_history.specs.History.{is_grant_of};
+ghost use Rattle.rb_history.specs.Counting.{is_grant_entry, is_refusal_entry, is_discard_entry};
+ghost use Rattle.rb_history.specs.StoredRecords.{is_reserved_state, is_submitted_state, is_reserved_by};
+
+use rb_history::{Entry, RecordState, Reservation, StoredRecord};
+
+/// Whether the entry grants a record.
+pub fn is_grant(entry: &Entry) -> bool
+    ensures test { result ≡ is_grant_entry entry.now }
+{
+    matches!(entry, Entry::Res(_, _, _, _))
+}
+
+/// Whether the entry says that there was no room.
+pub fn is_refusal(entry: &Entry) -> bool
+    ensures test { result ≡ is_refusal_entry entry.now }
+{
+    matches!(entry, Entry::Full(_, _))
+}
+
+/// Whether the entry discards a record.
+pub fn is_discarding(entry: &Entry) -> bool
+    ensures test { result ≡ is_discard_entry entry.now }
+{
+    matches!(entry, Entry::Dis(_))
+}
+
+/// Whether the entry grants a record to this worker.
+pub fn is_grant_of(worker: u32, entry: &Entry) -> bool
+    ensures test { result ≡ is_grant_of worker entry.now }
+{
+    matches!(entry, Entry::Res(w, _, _, _) if *w == worker)
+}
+
+/// Whether the record is busy.
+pub fn is_reserved(record: &StoredRecord) -> bool
+    ensures test { result ≡ is_reserved_state record.now.state }
+{
+    matches!(record.state, RecordState::Reserved)
+}
+
+/// Whether the record was submitted and waits for the consumer.
+pub fn is_submitted(record: &StoredRecord) -> bool
+    ensures test { result ≡ is_submitted_state record.now.state }
+{
+    matches!(record.state, RecordState::Submitted(_))
+}
+
+/// Whether the record is busy and has the reservation's position, worker, serial and length.
+pub fn is_reserved_by(reservation: &Reservation, record: &StoredRecord) -> bool
+    ensures test { result ≡ is_reserved_by reservation.now record.now }
+{
+    is_reserved(record)
+        && record.pos == reservation.pos()
+        && record.worker == reservation.worker()
+        && record.serial == reservation.serial()
+        && record.len == reservation.len()
+}

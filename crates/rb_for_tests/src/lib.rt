@@ -1,0 +1,29 @@
+//! What tests and programs of trials share. No library uses it.
+//!
+//! `RingState` is the plain twin of `rb_chapter_ring`'s: a BPF ring buffer for one thread (Linux Documentation/bpf/ringbuf.rst) that keeps its whole
+//! history, and whose records are a plain list. Its contracts are the definitions of `rb_history` over whole histories, and its body is short: tests
+//! give both the same calls and compare the answers.
+//!
+//! `OpenRing` is a shared ring with threads: a `Producer` at each of its seats, beside a `Consumer`, which looks for records again and again until the
+//! producers have ended and there are none. All seats are the ring's own from its opening to its end (`specs/OwnSeats.antt`), so nobody is told that a
+//! seat is foreign. No proof speaks of waiting, fairness or time: that a thread runs, or that the run ends.
+#![tactic(auto)]
+
+mod consuming;
+mod counting;
+mod entry_kinds;
+mod many_takes;
+mod open_ring;
+mod outputs;
+mod producing;
+mod ring;
+
+pub use consuming::{Consumer, Found};
+pub use entry_kinds::{
+    is_discarding, is_grant, is_grant_of, is_refusal, is_reserved, is_reserved_by, is_submitted,
+};
+pub use open_ring::OpenRing;
+pub use outputs::{Outputs, output, sheet};
+pub use producing::Producer;
+pub use rb_history::{Counts, Entry, Notice, OpenFault, Reservation, ReserveFault, Stray, Taken};
+pub use ring::RingState;

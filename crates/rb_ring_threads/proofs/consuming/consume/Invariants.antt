@@ -1,5 +1,0 @@
-use Rattle.rb_shared_ring.specs.SharedSeats.{IsSameChapterConsumer}
-use Rattle.rb_ring_threads.proofs.consuming.consume.Given as goal
-
-abbrev pub invariant-loop : goal.invariant-loop
-invariant-loop g l = IsSameChapterConsumer l.fn.seat l.seat

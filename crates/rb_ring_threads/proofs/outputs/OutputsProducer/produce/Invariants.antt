@@ -1,6 +1,0 @@
-use Rattle.std.proofs.Common.{◌≤◌}
-use Rattle.rb_ledger.specs.Seats.{IsSameSeat}
-use Rattle.rb_ring_threads.proofs.outputs.OutputsProducer.produce.Given as goal
-
-abbrev pub invariant-loop-number : goal.invariant-loop-number
-invariant-loop-number g l = record { same : IsSameSeat l.fn.seat l.seat; done : l.number ≤ l.seat.tally.submitted }
