@@ -1,7 +1,7 @@
 -- What a run of one program over fresh rings leaves (own).
 use Rattle.std.specs.Prelude.{◌≡◌, ◌≢◌, ℕ, zero, suc, ◌<◌, List, [], ◌∷◌, ◌++◌, All, Some, length, replicate}
 use Rattle.std.specs.List.{flat_map}
-use Rattle.rb_chapter.specs.CountedFrom.{consumer_from, producer_from}
+use Rattle.rb_chapter_ring.specs.CountedFrom.{consumer_from, producer_from}
 use Rattle.rb_decode.specs.Program.{unit_count}
 use Rattle.rb_explain.specs.Joined.{joined_below}
 use Rattle.rb_header.specs.TapeBytes.{Item, AreItemsFrom, tape}

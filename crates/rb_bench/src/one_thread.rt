@@ -3,8 +3,7 @@
 ghost use Rattle.std.specs.Prelude.{◌≡◌, IfOk};
 
 use crate::fault::BenchFault;
-use rb_chapter::Chapter;
-use rb_chapter_ring::RingState;
+use rb_chapter_ring::{Chapter, RingState};
 use rb_history::Taken;
 use rb_lend::{Lent, Sheet};
 use std::alloc::Global;

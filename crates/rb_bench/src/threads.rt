@@ -2,7 +2,7 @@
 
 use crate::fault::BenchFault;
 use crate::one_thread::{ROOM, SIZE};
-use rb_chapter::Chapter;
+use rb_chapter_ring::Chapter;
 use rb_consumer::{Batch, Keeper};
 use rb_for_tests::{Consumer, Found, OpenRing, Outputs};
 use rb_shared_ring::{ConsumerSeat, SharedRing};

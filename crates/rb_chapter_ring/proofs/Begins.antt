@@ -4,9 +4,9 @@ use Rattle.std.proofs.lemmas.List.Elements.{All-nil}
 use Rattle.rb_history.specs.RoomRule.{Setup}
 use Rattle.rb_history.specs.RingModel.{IsRingSize, IsStartPosition, IsWorkerCount}
 use Rattle.rb_history.specs.StoredRecords.{IsSized}
-use Rattle.rb_chapter.specs.Chapters.{IsChapterRoom, closing_of, empty_ring, first_chapter}
-use Rattle.rb_chapter.proofs.Empty.{empty-kept}
-use Rattle.rb_chapter.proofs.Running.{closing-none}
+use Rattle.rb_chapter_ring.specs.Chapters.{IsChapterRoom, closing_of, empty_ring, first_chapter}
+use Rattle.rb_chapter_ring.proofs.Empty.{empty-kept}
+use Rattle.rb_chapter_ring.proofs.Running.{closing-none}
 use Rattle.rb_chapter_ring.proofs.CountSteps.{zero_counts}
 use Rattle.rb_chapter_ring.specs.inner.Ordinals.{taken_before}
 use Rattle.rb_chapter_ring.specs.inner.ChapterRingBody.{IsStored, IsRingOf}

@@ -13,8 +13,8 @@ use Rattle.rb_history.specs.Legal.{IsLegal}
 use Rattle.rb_history.proofs.Counting.{waiting-shown, busy-shown, made-split}
 use Rattle.rb_history.proofs.Laws.{kept-from-legal, legal-front, legal-next}
 use Rattle.rb_history.proofs.Lists.{sum_by-cons, sum_by-snoc}
-use Rattle.rb_chapter.proofs.Limits.{spans-low}
-use Rattle.rb_chapter.proofs.Weights.{weigh-full, weigh-res, weigh-sub, weigh-dis, weigh-take}
+use Rattle.rb_chapter_ring.proofs.Limits.{spans-low}
+use Rattle.rb_chapter_ring.proofs.Weights.{weigh-full, weigh-res, weigh-sub, weigh-dis, weigh-take}
 use Rattle.rb_chapter_ring.specs.OpenedRing.{capped, capped_counts}
 
 abbrev pub zero_counts : Counts

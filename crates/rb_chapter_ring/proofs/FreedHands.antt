@@ -1,9 +1,9 @@
 -- What is out in the hands of a book once one of them was freed.
 use Rattle.std.proofs.Common.{◌≡◌, ℕ, ◌<◌, Option, Some, None, sym, ◌∙◌, inl, inr}
 use Rattle.std.proofs.lemmas.Bool.{cases_eq}
-use Rattle.rb_hands.specs.declared.out_record.OutRecord.{OutRecord}
-use Rattle.rb_hands.specs.Hands.{HandBook, IsShaped, hand_at, hands_of, with_hand}
-use Rattle.rb_hands.proofs.ChangedHands.{hand-here, hand-there}
+use Rattle.rb_chapter_ring.specs.declared.out_record.OutRecord.{OutRecord}
+use Rattle.rb_chapter_ring.specs.Hands.{HandBook, IsShaped, hand_at, hands_of, with_hand}
+use Rattle.rb_chapter_ring.proofs.ChangedHands.{hand-here, hand-there}
 
 module _ (workers : ℕ) (book : HandBook) (shaped : IsShaped workers book) (w h : ℕ) (low : w < workers) (four : h < 4) where
   absent : (o : OutRecord) → ◌≡◌ {A = Option OutRecord} None (Some o) → ⊥

@@ -9,15 +9,15 @@ use Rattle.rb_history.specs.declared.stored_records.StoredRecord.{StoredRecord}
 use Rattle.rb_history.specs.declared.stored_records.RecordState.TheVariants.{Reserved}
 use Rattle.rb_history.specs.StoredRecords.{shown_record, IsSized, contents_of}
 use Rattle.rb_history.proofs.Contents.{contents-push}
-use Rattle.rb_chapter.specs.Opening.{tally_at}
-use Rattle.rb_chapter.specs.Chapters.{Chapter, closing_of}
-use Rattle.rb_chapter.specs.CountedFrom.{HasRoomFrom, grants_from, producer_from, tally_from}
-use Rattle.rb_chapter.specs.ChapterRoom.{owed, MayGrant, MayRefuse, with_entry}
-use Rattle.rb_chapter.specs.inner.OpeningSteps.{with_refusal, with_grant}
+use Rattle.rb_chapter_ring.specs.Opening.{tally_at}
+use Rattle.rb_chapter_ring.specs.Chapters.{Chapter, closing_of}
+use Rattle.rb_chapter_ring.specs.CountedFrom.{HasRoomFrom, grants_from, producer_from, tally_from}
+use Rattle.rb_chapter_ring.specs.ChapterRoom.{owed, MayGrant, MayRefuse, with_entry}
+use Rattle.rb_chapter_ring.specs.inner.OpeningSteps.{with_refusal, with_grant}
 use Rattle.rb_history.specs.WorkerCounts.{numbers_below}
-use Rattle.rb_chapter.proofs.Numbers.{length-below}
-use Rattle.rb_chapter.proofs.Logging.{refused, granted, serial-is}
-use Rattle.rb_chapter.proofs.Running.{records-owe}
+use Rattle.rb_chapter_ring.proofs.ChapterNumbers.{length-below}
+use Rattle.rb_chapter_ring.proofs.Logging.{refused, granted, serial-is}
+use Rattle.rb_chapter_ring.proofs.Running.{records-owe}
 use Rattle.rb_chapter_ring.proofs.CountSteps.{counting_grant, counting_refusal}
 use Rattle.rb_chapter_ring.specs.inner.ChapterRingBody.{IsStored, IsRingOf}
 use Rattle.rb_chapter_ring.proofs.CountSteps.{counts-refusal, counts-grant}

@@ -7,12 +7,12 @@ use Rattle.rb_history.specs.declared.stored_records.StoredRecord.{StoredRecord}
 use Rattle.rb_history.specs.Counting.{counts_of}
 use Rattle.rb_history.specs.StoredRecords.{IsSized}
 use Rattle.rb_history.specs.Legal.{IsLegal}
-use Rattle.rb_chapter.specs.Opening.{Opening}
-use Rattle.rb_chapter.specs.Chapters.{Chapter, closing_of}
-use Rattle.rb_chapter.specs.ChapterRoom.{with_entry}
-use Rattle.rb_chapter.specs.WholeHistory.{IsKept}
-use Rattle.rb_chapter.proofs.Logging.{KeepsRunning}
-use Rattle.rb_chapter.proofs.Settling.{whole-legal}
+use Rattle.rb_chapter_ring.specs.Opening.{Opening}
+use Rattle.rb_chapter_ring.specs.Chapters.{Chapter, closing_of}
+use Rattle.rb_chapter_ring.specs.ChapterRoom.{with_entry}
+use Rattle.rb_chapter_ring.specs.WholeHistory.{IsKept}
+use Rattle.rb_chapter_ring.proofs.Logging.{KeepsRunning}
+use Rattle.rb_chapter_ring.proofs.Settling.{whole-legal}
 use Rattle.rb_chapter_ring.specs.OpenedRing.{capped_counts}
 use Rattle.rb_chapter_ring.specs.inner.Ordinals.{taken_before}
 use Rattle.rb_chapter_ring.specs.inner.ChapterRingBody.{IsStored, IsRingOf}

@@ -3,9 +3,9 @@ use Rattle.std.proofs.Common.{◌≡◌, ℕ, ◌<◌, inl, inr, arith, List, []
 use Rattle.rb_history.specs.declared.answers.Taken.{Taken}
 use Rattle.rb_history.specs.declared.answers.Taken.TheVariants.{BusyFront, Empty}
 use Rattle.rb_history.specs.ManyTakes.{HasRecord}
-use Rattle.rb_chapter.specs.Chapters.{Chapter}
-use Rattle.rb_chapter.specs.ChapterRing.{ChapterRing}
-use Rattle.rb_chapter.specs.ChapterCalls.{Takes, HasBusyFront, AllTaken, IsSameChapter}
+use Rattle.rb_chapter_ring.specs.Chapters.{Chapter}
+use Rattle.rb_chapter_ring.specs.ChapterRing.{ChapterRing}
+use Rattle.rb_chapter_ring.specs.ChapterCalls.{Takes, HasBusyFront, AllTaken, IsSameChapter}
 use Rattle.rb_chapter_ring.specs.ManyTakes.{TakesEachInChapter, TakesManyInChapter}
 
 pub each-more : (old mid new : ChapterRing) (ts : List Taken) (t : Taken) → TakesEachInChapter old ts mid → Takes mid new t → HasRecord t → TakesEachInChapter old (ts ++ t ∷ []) new

@@ -5,8 +5,8 @@ use Rattle.std.proofs.lemmas.List.{get_or_append_left, get_or_push}
 use Rattle.rb_header.specs.Span.{span}
 use Rattle.rb_history.specs.History.{Shown, Status}
 use Rattle.rb_history.specs.History.Status.{Waiting, Discarded}
-use Rattle.rb_chapter.specs.Opening.{Opening, no_record, record_in}
-use Rattle.rb_chapter.specs.inner.OpeningSteps.{with_refusal, next_record, with_grant, with_submit, with_discard, with_take, events_by, skips_by}
+use Rattle.rb_chapter_ring.specs.Opening.{Opening, no_record, record_in}
+use Rattle.rb_chapter_ring.specs.inner.OpeningSteps.{with_refusal, next_record, with_grant, with_submit, with_discard, with_take, events_by, skips_by}
 use Rattle.rb_chapter_ring.specs.inner.Ordinals.{IsNumbered, KeepsOrdinals, taken_before}
 
 -- one call after the other

@@ -16,20 +16,20 @@ use Rattle.rb_history.proofs.Finding.{busy-there, found-at}
 use Rattle.rb_history.proofs.Kept.{named-at}
 use Rattle.rb_history.proofs.Laws.{kept-from-legal}
 use Rattle.rb_history.proofs.Row.{at-least, below-end}
-use Rattle.rb_chapter.specs.Opening.{Opening, no_record, record_in}
-use Rattle.rb_chapter.specs.Chapters.{Chapter, closing_of}
-use Rattle.rb_chapter.specs.ChapterCalls.{IsBusyFrom}
-use Rattle.rb_chapter.specs.WholeHistory.{IsKept}
-use Rattle.rb_chapter.proofs.Logging.{ends}
-use Rattle.rb_chapter.proofs.Settling.{whole-legal}
+use Rattle.rb_chapter_ring.specs.Opening.{Opening, no_record, record_in}
+use Rattle.rb_chapter_ring.specs.Chapters.{Chapter, closing_of}
+use Rattle.rb_chapter_ring.specs.ChapterCalls.{IsBusyFrom}
+use Rattle.rb_chapter_ring.specs.WholeHistory.{IsKept}
+use Rattle.rb_chapter_ring.proofs.Logging.{ends}
+use Rattle.rb_chapter_ring.proofs.Settling.{whole-legal}
 use Rattle.rb_chapter_ring.specs.inner.ChapterRingBody.{stored_at}
 use Rattle.rb_chapter_ring.specs.inner.Ordinals.{HasOrdinals, IsNumbered, KeepsNumbers, ordinal_at, taken_before}
-use Rattle.rb_hands.specs.declared.out_record.OutRecord.{OutRecord}
-use Rattle.rb_hands.specs.Hands.{HandBook, hand_at, hands_of, out_record, with_hand, IsShaped}
-use Rattle.rb_hands.specs.HandRing.{HandRing, HasHands, HasInHand, hand_ring}
-use Rattle.rb_hands.proofs.BusyEntries.{some-out}
-use Rattle.rb_hands.proofs.ChangedHands.{hand-here, hand-there}
-use Rattle.rb_hands.proofs.HandCalls.{busy-alike}
+use Rattle.rb_chapter_ring.specs.declared.out_record.OutRecord.{OutRecord}
+use Rattle.rb_chapter_ring.specs.Hands.{HandBook, hand_at, hands_of, out_record, with_hand, IsShaped}
+use Rattle.rb_chapter_ring.specs.HandRing.{HandRing, HasHands, HasInHand, hand_ring}
+use Rattle.rb_chapter_ring.proofs.BusyEntries.{some-out}
+use Rattle.rb_chapter_ring.proofs.ChangedHands.{hand-here, hand-there}
+use Rattle.rb_chapter_ring.proofs.HandCalls.{busy-alike}
 
 -- ---- a row of records
 

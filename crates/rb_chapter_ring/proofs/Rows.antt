@@ -8,14 +8,14 @@ use Rattle.rb_history.specs.inner.RecordRows.{HistoryFacts}
 use Rattle.rb_history.specs.StoredRecords.{shown_record}
 use Rattle.rb_history.proofs.Laws.{kept-from-legal}
 use Rattle.rb_history.proofs.Standing.{contents-stand, contents-sized}
-use Rattle.rb_chapter.specs.Opening.{Opening}
-use Rattle.rb_chapter.specs.Chapters.{Chapter, closing_of}
-use Rattle.rb_chapter.specs.ChapterRing.{StandsForChapter}
-use Rattle.rb_chapter.specs.WholeHistory.{IsSameFrom}
-use Rattle.rb_chapter.proofs.Alike.{stands-alike}
-use Rattle.rb_chapter.proofs.Logging.{ends}
-use Rattle.rb_chapter.proofs.Settling.{whole-legal}
-use Rattle.rb_chapter.proofs.Stands.{goes-on}
+use Rattle.rb_chapter_ring.specs.Opening.{Opening}
+use Rattle.rb_chapter_ring.specs.Chapters.{Chapter, closing_of}
+use Rattle.rb_chapter_ring.specs.ChapterRing.{StandsForChapter}
+use Rattle.rb_chapter_ring.specs.WholeHistory.{IsSameFrom}
+use Rattle.rb_chapter_ring.proofs.Alike.{stands-alike}
+use Rattle.rb_chapter_ring.proofs.Logging.{ends}
+use Rattle.rb_chapter_ring.proofs.Settling.{whole-legal}
+use Rattle.rb_chapter_ring.proofs.Stands.{goes-on}
 use Rattle.rb_chapter_ring.specs.inner.ChapterRingBody.{IsRingOf, ring_of}
 
 module _ (earlier : List Entry) (c : Chapter) (stored : List StoredRecord) (counts : Counts) (g : IsRingOf earlier c stored counts) where

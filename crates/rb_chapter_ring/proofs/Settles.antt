@@ -14,11 +14,11 @@ use Rattle.rb_history.specs.inner.RecordRows.{IsBusyAt}
 use Rattle.rb_history.proofs.Row.{get_or-default}
 use Rattle.rb_history.proofs.Contents.{length-map}
 use Rattle.rb_history.proofs.Settling.{BusyRecord, busy-record, contents-send, contents-drop}
-use Rattle.rb_chapter.specs.Opening.{Opening, no_record, record_in}
-use Rattle.rb_chapter.specs.Chapters.{Chapter, closing_of}
-use Rattle.rb_chapter.specs.ChapterRoom.{owed, record_now, IsBusyNow, with_entry}
-use Rattle.rb_chapter.specs.inner.OpeningSteps.{with_submit, with_discard}
-use Rattle.rb_chapter.proofs.Settling.{submitted, discarded}
+use Rattle.rb_chapter_ring.specs.Opening.{Opening, no_record, record_in}
+use Rattle.rb_chapter_ring.specs.Chapters.{Chapter, closing_of}
+use Rattle.rb_chapter_ring.specs.ChapterRoom.{owed, record_now, IsBusyNow, with_entry}
+use Rattle.rb_chapter_ring.specs.inner.OpeningSteps.{with_submit, with_discard}
+use Rattle.rb_chapter_ring.proofs.Settling.{submitted, discarded}
 use Rattle.rb_chapter_ring.proofs.CountSteps.{counting_submit, counting_discard}
 use Rattle.rb_chapter_ring.specs.inner.ChapterRingBody.{ring_of, IsStored, IsRingOf}
 use Rattle.rb_chapter_ring.proofs.CountSteps.{counts-submit, counts-discard}

@@ -9,12 +9,12 @@ use Rattle.rb_history.specs.History.{Shown}
 use Rattle.rb_history.specs.StoredRecords.{shown_record}
 use Rattle.rb_history.specs.inner.RecordRows.{IsBusyAt}
 use Rattle.rb_history.proofs.Contents.{length-map}
-use Rattle.rb_chapter.specs.Opening.{no_record, record_in}
-use Rattle.rb_chapter.specs.Chapters.{Chapter, closing_of}
-use Rattle.rb_chapter.specs.CountedFrom.{HasRoomFrom}
-use Rattle.rb_chapter.specs.ChapterRoom.{MayGrant, MayRefuse, record_now, with_entry}
-use Rattle.rb_chapter.specs.inner.OpeningSteps.{next_record, with_submit}
-use Rattle.rb_chapter.proofs.Running.{closing-fits}
+use Rattle.rb_chapter_ring.specs.Opening.{no_record, record_in}
+use Rattle.rb_chapter_ring.specs.Chapters.{Chapter, closing_of}
+use Rattle.rb_chapter_ring.specs.CountedFrom.{HasRoomFrom}
+use Rattle.rb_chapter_ring.specs.ChapterRoom.{MayGrant, MayRefuse, record_now, with_entry}
+use Rattle.rb_chapter_ring.specs.inner.OpeningSteps.{next_record, with_submit}
+use Rattle.rb_chapter_ring.proofs.Running.{closing-fits}
 use Rattle.rb_chapter_ring.specs.inner.Ordinals.{taken_before}
 use Rattle.rb_chapter_ring.specs.inner.ChapterRingBody.{stored_at, stored_from, stored_in, stored_of, ring_of, IsRingOf}
 use Rattle.rb_chapter_ring.proofs.Slots.{stored-here, stored-push, stored-behind, stored-submit, stored-discard}

@@ -8,25 +8,25 @@ use Rattle.rb_history.specs.ReservationModel.{Granted}
 use Rattle.rb_history.specs.declared.answers.Taken.{Taken}
 use Rattle.rb_history.specs.inner.RecordRows.{IsBusyAt}
 use Rattle.rb_history.proofs.Row.{get_or-default}
-use Rattle.rb_chapter.specs.Chapters.{Chapter, closing_of, empty_ring}
-use Rattle.rb_chapter.specs.ChapterRing.{ChapterRing, IsGranted, StandsForChapter}
-use Rattle.rb_chapter.specs.ChapterCalls.{Outputs, Takes, HandsOut}
-use Rattle.rb_chapter.specs.WholeHistory.{IsKept}
+use Rattle.rb_chapter_ring.specs.Chapters.{Chapter, closing_of, empty_ring}
+use Rattle.rb_chapter_ring.specs.ChapterRing.{ChapterRing, IsGranted, StandsForChapter}
+use Rattle.rb_chapter_ring.specs.ChapterCalls.{Outputs, Takes, HandsOut}
+use Rattle.rb_chapter_ring.specs.WholeHistory.{IsKept}
 use Rattle.rb_chapter_ring.specs.declared.faults.ReserveFault.{ReserveFault}
 use Rattle.rb_chapter_ring.specs.declared.faults.ReserveFault.TheVariants.{Full, Flags, ChapterFull, Foreign, HandsFull}
-use Rattle.rb_chapter.proofs.Keeping.{calls-keep}
+use Rattle.rb_chapter_ring.proofs.Keeping.{calls-keep}
 use Rattle.rb_chapter_ring.specs.ManyTakes.{TakesEachInChapter}
 use Rattle.rb_chapter_ring.specs.OpenedRing.{opened_ring}
 use Rattle.rb_chapter_ring.specs.RingFaults.{RefusesInChapter}
 use Rattle.rb_chapter_ring.specs.inner.Ordinals.{IsHandState, IsNumbered, KeepsNumbers, ordinal_at, taken_before}
 use Rattle.rb_chapter_ring.proofs.FreedHands.{freed-stays}
 use Rattle.rb_chapter_ring.proofs.Ordinals.{busy-at-ordinal, opened-ordinals, ordinals-granted, ordinals-stay}
-use Rattle.rb_hands.specs.declared.out_record.OutRecord.{OutRecord}
-use Rattle.rb_hands.specs.Hands.{HandBook, free_book, hand_at, hands_of, out_record, with_hand}
-use Rattle.rb_hands.specs.HandRing.{HandRing, hand_ring, HasHands, HasInHand, GrantsToHand, SubmitsFromHand, DiscardsFromHand}
-use Rattle.rb_hands.proofs.BusyEntries.{in-ring, below-four}
-use Rattle.rb_hands.proofs.FourHands.{book-begins-free}
-use Rattle.rb_hands.proofs.HandCalls.{in-hand-is-busy, whole-legal, to-whole, keep-hands}
+use Rattle.rb_chapter_ring.specs.declared.out_record.OutRecord.{OutRecord}
+use Rattle.rb_chapter_ring.specs.Hands.{HandBook, free_book, hand_at, hands_of, out_record, with_hand}
+use Rattle.rb_chapter_ring.specs.HandRing.{HandRing, hand_ring, HasHands, HasInHand, GrantsToHand, SubmitsFromHand, DiscardsFromHand}
+use Rattle.rb_chapter_ring.proofs.BusyEntries.{in-ring, below-four}
+use Rattle.rb_chapter_ring.proofs.FourHands.{book-begins-free}
+use Rattle.rb_chapter_ring.proofs.HandCalls.{in-hand-is-busy, whole-legal, to-whole, keep-hands}
 
 -- what is out is of a worker of the ring, and in one of its four hands
 pub record IsBelow (v : HandRing) (hand w : ℕ) : Type 0 where

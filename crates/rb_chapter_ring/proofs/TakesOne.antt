@@ -21,15 +21,15 @@ use Rattle.rb_history.proofs.Exact.{exact-busy, exact-empty, none-there}
 use Rattle.rb_history.proofs.Steps.{Named}
 use Rattle.rb_history.proofs.Kept.{named-at}
 use Rattle.rb_history.proofs.Taking.{Taking, ring_with, state-held, takes-front, front-busy}
-use Rattle.rb_chapter.specs.Opening.{no_record, record_in}
-use Rattle.rb_chapter.specs.Chapters.{Chapter, closing_of}
-use Rattle.rb_chapter.specs.ChapterRing.{ChapterRing, whole_ring}
-use Rattle.rb_chapter.specs.ChapterRoom.{owed, HasSettledFront, with_entry}
-use Rattle.rb_chapter.specs.ChapterCalls.{Takes, HasBusyFront, AllTaken, IsSameChapter}
-use Rattle.rb_chapter.specs.CountedFrom.{consumer_from}
-use Rattle.rb_chapter.specs.inner.OpeningSteps.{with_take, events_by, skips_by}
-use Rattle.rb_chapter.proofs.Alike.{calls-alike}
-use Rattle.rb_chapter.proofs.Settling.{taken, takes-behind}
+use Rattle.rb_chapter_ring.specs.Opening.{no_record, record_in}
+use Rattle.rb_chapter_ring.specs.Chapters.{Chapter, closing_of}
+use Rattle.rb_chapter_ring.specs.ChapterRing.{ChapterRing, whole_ring}
+use Rattle.rb_chapter_ring.specs.ChapterRoom.{owed, HasSettledFront, with_entry}
+use Rattle.rb_chapter_ring.specs.ChapterCalls.{Takes, HasBusyFront, AllTaken, IsSameChapter}
+use Rattle.rb_chapter_ring.specs.CountedFrom.{consumer_from}
+use Rattle.rb_chapter_ring.specs.inner.OpeningSteps.{with_take, events_by, skips_by}
+use Rattle.rb_chapter_ring.proofs.Alike.{calls-alike}
+use Rattle.rb_chapter_ring.proofs.Settling.{taken, takes-behind}
 use Rattle.rb_chapter_ring.specs.OpenedRing.{capped_counts}
 use Rattle.rb_chapter_ring.specs.inner.Ordinals.{taken_before}
 use Rattle.rb_chapter_ring.specs.inner.ChapterRingBody.{ring_of, IsStored, IsRingOf}

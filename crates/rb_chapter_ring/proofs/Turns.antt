@@ -5,12 +5,12 @@ use Rattle.rb_history.specs.declared.answers.Counts.{Counts}
 use Rattle.rb_history.specs.declared.stored_records.StoredRecord.{StoredRecord}
 use Rattle.rb_history.specs.Counting.{counts_of}
 use Rattle.rb_history.specs.RingModel.{IsRingSize, IsStartPosition, IsWorkerCount}
-use Rattle.rb_chapter.specs.Opening.{Opening}
-use Rattle.rb_chapter.specs.Chapters.{Chapter, IsChapterRoom, closing_of, Meets}
-use Rattle.rb_chapter.specs.ChapterRing.{ChapterRing}
-use Rattle.rb_chapter.specs.ChapterCalls.{HandsOut}
-use Rattle.rb_chapter.proofs.Running.{closing-none}
-use Rattle.rb_chapter.proofs.Room.{next-room}
+use Rattle.rb_chapter_ring.specs.Opening.{Opening}
+use Rattle.rb_chapter_ring.specs.Chapters.{Chapter, IsChapterRoom, closing_of, Meets}
+use Rattle.rb_chapter_ring.specs.ChapterRing.{ChapterRing}
+use Rattle.rb_chapter_ring.specs.ChapterCalls.{HandsOut}
+use Rattle.rb_chapter_ring.proofs.Running.{closing-none}
+use Rattle.rb_chapter_ring.proofs.Room.{next-room}
 use Rattle.rb_chapter_ring.specs.OpenedRing.{capped_counts, MayGoOnIn}
 use Rattle.rb_chapter_ring.specs.inner.Ordinals.{taken_before}
 use Rattle.rb_chapter_ring.specs.inner.ChapterRingBody.{ring_of, IsStored, IsRingOf}

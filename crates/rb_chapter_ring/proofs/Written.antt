@@ -3,8 +3,8 @@ use Rattle.std.proofs.Common.{◌≡◌, ℕ, List, ◌++◌, Some, drop, length
 use Rattle.std.proofs.lemmas.List.{length-take, length-drop}
 use Rattle.rb_history.specs.ReservationModel.{Granted}
 use Rattle.rb_lend.specs.Ranges.{in_place_of}
-use Rattle.rb_hands.specs.Hands.{out_record}
-use Rattle.rb_hands.specs.HandRing.{HandRing, HasInHand}
+use Rattle.rb_chapter_ring.specs.Hands.{out_record}
+use Rattle.rb_chapter_ring.specs.HandRing.{HandRing, HasInHand}
 
 pub long-as : (old w : List ℕ) → length (in_place_of old w) ≡ length old
 long-as old w =

@@ -1,3 +1,15 @@
+pub mod Hands
+pub mod HandRing
+pub mod HandLaws
+pub mod Opening
+pub mod OpeningValue
+pub mod CountedFrom
+pub mod Chapters
+pub mod ChapterRoom
+pub mod ChapterRing
+pub mod ChapterCalls
+pub mod WholeHistory
+pub mod UntakenRecords
 pub mod OpenedRing
 pub mod RingFaults
 pub mod ManyTakes

@@ -2,8 +2,8 @@
 use Rattle.std.specs.Prelude.{ℕ, ◌≡◌, ◌<◌, ◌≤◌, ◌⊎◌, List, [], ◌∷◌, length}
 use Rattle.rb_history.specs.declared.answers.Taken.{Taken}
 use Rattle.rb_history.specs.ManyTakes.{HasRecord}
-use Rattle.rb_chapter.specs.ChapterRing.{ChapterRing}
-use Rattle.rb_chapter.specs.ChapterCalls.{Takes, HasBusyFront, AllTaken}
+use Rattle.rb_chapter_ring.specs.ChapterRing.{ChapterRing}
+use Rattle.rb_chapter_ring.specs.ChapterCalls.{Takes, HasBusyFront, AllTaken}
 
 -- one take after the other, each on the ring as the one before left it, and each with a record
 abbrev pub TakesEachInChapter : ChapterRing → List Taken → ChapterRing → Type 0

@@ -4,9 +4,9 @@ use Rattle.std.specs.FinMap.{empty}
 use Rattle.rb_history.specs.declared.answers.Counts.{Counts}
 use Rattle.rb_history.specs.RoomRule.{Setup}
 use Rattle.rb_history.specs.RingModel.{IsRingSize, IsStartPosition, IsWorkerCount}
-use Rattle.rb_chapter.specs.CountedFrom.{counts_from}
-use Rattle.rb_chapter.specs.Chapters.{Chapter, IsChapterRoom, first_chapter}
-use Rattle.rb_chapter.specs.ChapterRing.{ChapterRing}
+use Rattle.rb_chapter_ring.specs.CountedFrom.{counts_from}
+use Rattle.rb_chapter_ring.specs.Chapters.{Chapter, IsChapterRoom, first_chapter}
+use Rattle.rb_chapter_ring.specs.ChapterRing.{ChapterRing}
 
 -- the ring whose first chapter has no entries
 abbrev pub opened_ring : ℕ → Setup → ChapterRing

@@ -7,11 +7,11 @@ ghost use Rattle.rb_history.specs.History.Status.{Busy};
 ghost use Rattle.rb_history.specs.RingModel.{IsRingSize, IsStartPosition, IsWorkerCount};
 ghost use Rattle.rb_history.specs.NoticesAndQueries.{IsDue};
 ghost use Rattle.rb_history.specs.inner.RecordRows.{IsBusyAt};
-ghost use Rattle.rb_chapter.specs.Chapters.{IsChapterRoom, closing_of};
-ghost use Rattle.rb_chapter.specs.CountedFrom.{query_answer_from};
-ghost use Rattle.rb_chapter.specs.ChapterRing.{StandsForChapter};
-ghost use Rattle.rb_chapter.specs.ChapterCalls.{producer_now, consumer_now, ChapterRingHasRoom, IsSameChapter, Logs, HoldsReservationFrom, HasBusyFront, AllTaken, Grants, Outputs, Submits, Discards, Takes};
-ghost use Rattle.rb_chapter.specs.WholeHistory.{IsKept};
+ghost use Rattle.rb_chapter_ring.specs.Chapters.{IsChapterRoom, closing_of};
+ghost use Rattle.rb_chapter_ring.specs.CountedFrom.{query_answer_from};
+ghost use Rattle.rb_chapter_ring.specs.ChapterRing.{StandsForChapter};
+ghost use Rattle.rb_chapter_ring.specs.ChapterCalls.{producer_now, consumer_now, ChapterRingHasRoom, IsSameChapter, Logs, HoldsReservationFrom, HasBusyFront, AllTaken, Grants, Outputs, Submits, Discards, Takes};
+ghost use Rattle.rb_chapter_ring.specs.WholeHistory.{IsKept};
 ghost use Rattle.rb_chapter_ring.specs.OpenedRing.{opened_ring, told_counts, IsChapterRingWithin};
 ghost use Rattle.rb_chapter_ring.specs.RingFaults.{RefusesInChapter};
 ghost use Rattle.rb_chapter_ring.specs.inner.Ordinals.{IsNumbered, KeepsNumbers, taken_before};
@@ -22,7 +22,7 @@ use crate::counting::count_refusal;
 use crate::faults::{OpenFault, ReserveFault};
 use crate::finding::{front_of, slot_in};
 use crate::setup::{check_setup, empty_sheets, made_by, slots_for};
-use rb_chapter::{Chapter, UntakenStatus};
+use crate::{Chapter, UntakenStatus};
 use rb_history::{
     AVAIL_DATA, CONS_POS, Counts, KNOWN_FLAGS, Notice, PROD_POS, RING_SIZE, Reservation, Taken,
     notice_for,
@@ -52,7 +52,7 @@ impl Model for ChapterState {
     ghost use Rattle.rb_history.specs.RingModel.{contents_code};
     ghost use Rattle.rb_history.specs.contracts.entries.Entry as entry;
     ghost use Rattle.rb_history.specs.contracts.tally.Tally as tally_row;
-    ghost use Rattle.rb_chapter.specs.ChapterRing.{ChapterRing};
+    ghost use Rattle.rb_chapter_ring.specs.ChapterRing.{ChapterRing};
     ghost use Rattle.rb_chapter_ring.specs.inner.ChapterRingBody.{chapter_ring_shown, ChapterRingInvariant};
 
     ghost Value = { ChapterRing };

@@ -2,10 +2,10 @@
 
 ghost use Rattle.std.specs.Prelude.{◌≡◌, ◌<◌, ◌%◌, IfSome, IfNone, length, map, slice_index_or};
 ghost use Rattle.std.specs.Int.{IsPowerOfTwo};
-ghost use Rattle.rb_chapter.specs.Opening.{no_record};
-ghost use Rattle.rb_chapter.specs.UntakenRecords.{untaken_shown};
+ghost use Rattle.rb_chapter_ring.specs.Opening.{no_record};
+ghost use Rattle.rb_chapter_ring.specs.UntakenRecords.{untaken_shown};
 
-use rb_chapter::UntakenRecord;
+use crate::UntakenRecord;
 
 #[inline(always)]
 /// The slot of a record that so many were granted before.

@@ -2,30 +2,30 @@
 
 ghost use Rattle.std.specs.Prelude.{List, ◌≡◌, ◌≢◌, ◌<◌, ◌≤◌, ◌+◌, ◌++◌, ◌↔◌, IfOk, IfErr, IfNone, IfSome, IsErrOf, IsOk, IsTrue, OnOk, OnErr, length, replicate, vec_len, vec_capacity};
 ghost use Rattle.rb_history.specs.RingModel.{IsRingSize, IsStartPosition, IsWorkerCount};
-ghost use Rattle.rb_chapter.specs.Chapters.{IsChapterRoom};
+ghost use Rattle.rb_chapter_ring.specs.Chapters.{IsChapterRoom};
 ghost use Rattle.rb_history.specs.declared.answers.Notice.TheVariants.{Due};
 ghost use Rattle.rb_history.specs.NoticesAndQueries.{IsDue};
 ghost use Rattle.rb_history.specs.inner.RecordRows.{IsBusyAt};
-ghost use Rattle.rb_chapter.specs.CountedFrom.{query_answer_from};
+ghost use Rattle.rb_chapter_ring.specs.CountedFrom.{query_answer_from};
 ghost use Rattle.rb_history.specs.ManyTakes.{pushed};
 ghost use Rattle.rb_history.specs.declared.answers.Taken.TheVariants.{BusyFront, Empty};
-ghost use Rattle.rb_chapter.specs.ChapterCalls.{AllTaken, HandsOut, HasBusyFront, IsSameChapter, Outputs, Takes, consumer_now, producer_now};
+ghost use Rattle.rb_chapter_ring.specs.ChapterCalls.{AllTaken, HandsOut, HasBusyFront, IsSameChapter, Outputs, Takes, consumer_now, producer_now};
 ghost use Rattle.rb_chapter_ring.specs.declared.faults.ReserveFault.TheVariants.{Flags};
 ghost use Rattle.rb_chapter_ring.specs.RingFaults.{RefusesInChapter};
 ghost use Rattle.rb_history.specs.declared.entries.Entry.{Entry};
-ghost use Rattle.rb_chapter.specs.ChapterRing.{StandsForChapter};
-ghost use Rattle.rb_chapter.specs.WholeHistory.{IsKept};
+ghost use Rattle.rb_chapter_ring.specs.ChapterRing.{StandsForChapter};
+ghost use Rattle.rb_chapter_ring.specs.WholeHistory.{IsKept};
 ghost use Rattle.rb_chapter_ring.specs.OpenedRing.{IsChapterRingWithin, MayGoOnIn, opened_ring, told_counts};
 ghost use Rattle.rb_chapter_ring.specs.ManyTakes.{TakesManyInChapter};
-ghost use Rattle.rb_hands.specs.Hands.{AreAllOut, IsFree, IsLowestFree, free_book, hands_of};
-ghost use Rattle.rb_hands.specs.HandRing.{hand_ring, HasHands, HasInHand, GrantsToHand, SubmitsFromHand, DiscardsFromHand};
+ghost use Rattle.rb_chapter_ring.specs.Hands.{AreAllOut, IsFree, IsLowestFree, free_book, hands_of};
+ghost use Rattle.rb_chapter_ring.specs.HandRing.{hand_ring, HasHands, HasInHand, GrantsToHand, SubmitsFromHand, DiscardsFromHand};
 
 use crate::chapter_state::ChapterState;
 use crate::faults::{OpenFault, ReserveFault};
 use crate::hand_table::{free_table, no_ordinals, set_hand, set_ordinal};
 use crate::reservation::Reservation;
-use rb_chapter::Chapter;
-use rb_hands::{OutRecord, lowest_free};
+use crate::Chapter;
+use crate::{OutRecord, lowest_free};
 use rb_history::{Counts, Notice, Reservation as Record, Taken};
 use rb_lend::Sheet;
 use std::alloc::Global;
@@ -45,8 +45,8 @@ impl Model for HandState {
     ghost use Rattle.rb_history.specs.RingModel.{contents_code};
     ghost use Rattle.rb_history.specs.contracts.entries.Entry as entry;
     ghost use Rattle.rb_history.specs.contracts.tally.Tally as tally_row;
-    ghost use Rattle.rb_hands.specs.contracts.out_record.OutRecord as out_row;
-    ghost use Rattle.rb_hands.specs.HandRing.{HandRing, hand_ring};
+    ghost use Rattle.rb_chapter_ring.specs.contracts.out_record.OutRecord as out_row;
+    ghost use Rattle.rb_chapter_ring.specs.HandRing.{HandRing, hand_ring};
     ghost use Rattle.rb_chapter_ring.specs.inner.Ordinals.{IsHandState};
 
     ghost Value = { HandRing };

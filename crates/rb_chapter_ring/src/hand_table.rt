@@ -1,10 +1,10 @@
 //! The hands of a worker, and of all workers.
 
 ghost use Rattle.std.specs.Prelude.{◌≡◌, ◌<◌, [], IfOk, length, replicate, slice_index_or, slice_set};
-ghost use Rattle.rb_hands.specs.declared.out_record.OutRecord.{OutRecord};
-ghost use Rattle.rb_hands.specs.Hands.{free_book, with_hand};
+ghost use Rattle.rb_chapter_ring.specs.declared.out_record.OutRecord.{OutRecord};
+ghost use Rattle.rb_chapter_ring.specs.Hands.{free_book, with_hand};
 
-use rb_hands::OutRecord;
+use crate::OutRecord;
 use std::alloc::{AllocError, Global};
 
 #[inline(always)]

@@ -1,11 +1,10 @@
 //! A BPF ring buffer for one thread whose memory does not grow, as Linux Documentation/bpf/ringbuf.rst and bpf-helpers(7) have it. It
-//! keeps one chapter of its history at a time (`rb_chapter`), and takes all its memory where it is made.
+//! keeps one chapter of its history at a time, and takes all its memory where it is made.
 //!
 //! Proved: each call adds its entries to the chapter and answers by the chapter alone, the chapter stays legal from its opening with room
 //! for all that it owes, and it is what the ring's state stands for (`RingState::facts`). A chapter that is handed out meets the next
-//! one, so that chapters join to one legal history (`rb_chapter::chapters_join`). Each busy record is in one of its worker's four hands
-//! (`rb_hands`), and one that is in a hand is submitted or discarded without a refusal. `rb_for_tests` has the plain twin over a whole
-//! history, for tests.
+//! one, so that chapters join to one legal history (`chapters_join`). Each busy record is in one of its worker's four hands, and one that is in a
+//! hand is submitted or discarded without a refusal. `rb_for_tests` has the plain twin over a whole history, for tests.
 //!
 //! `RingState` is the ring for one thread; its reservations name its tag. `HandState` is what a shared ring keeps under its lock.
 //!
@@ -22,20 +21,70 @@
 //! assert_eq!(rt; (chapter.number(), chapter.used()), (0, 2));
 //! assert!(rt; matches!(ring.take(), Taken::Event(0, 0, 0, _)));
 //! ```
+//!
+//! # Chapters
+//!
+//! A ring's history is cut into numbered chapters, and what a chapter begins with stands for all that came before it. `Chapter` is a chapter as
+//! a value: its number, its opening (`specs/Opening.antt`: both positions, the records that were not taken, and the totals so
+//! far) and its entries (`specs/Chapters.antt` has a drawing). `specs/CountedFrom.antt` says what entries mean that are counted from an
+//! opening, `specs/ChapterRoom.antt` how many a chapter has room for, and `specs/ChapterCalls.antt` what each call adds. The definitions over
+//! a whole history stay those of `rb_history`, and `specs/WholeHistory.antt` ties the two: what is counted from an opening is
+//! what the whole history says (`counted_from_the_opening`), chapters that meet join to one legal history (`chapters_join`), a chapter's room
+//! is kept (`room_is_kept`), and each call by its chapter is the call over the whole history (`calls_are_alike`).
+//!
+//! ```text
+//! size 4096, room 8           used  owed
+//! A and B of 8 are granted     2     4       C of 8: no room in the chapter, since 2 + 4 + 3 > 8
+//! 5000 twice: Full             4     4       5000 again: no room in the chapter, since 4 + 4 + 1 > 8
+//! A is submitted               5     3
+//! the chapter is handed out    0     3       the next one opens with A waiting and B busy
+//! C of 8 is granted at 32      1     5
+//! A is taken                   2     4
+//! ```
+//!
+//! # Hands
+//!
+//! The ring has a book of hands beside its chapter (`specs/HandRing.antt`): for each worker and each hand, 0 to 3, a record's
+//! position, serial and length, or nothing. The book's positions are exactly the busy records, each once, and each under its own worker
+//! (`specs/Hands.antt`). A grant marks a free hand, a submit or a discard frees it, and all else leaves the book (`each_call_keeps_hands`).
+//! So a record that is in a hand is busy, and giving it back can't be refused.
+//!
+//! ```text
+//! two workers                                    hands of 0       hands of 1
+//! the ring is opened                             -  -  -  -       -  -  -  -
+//! 0 is granted 8 at 0 into its hand 0            0  -  -  -       -  -  -  -
+//! 1 is granted 8 at 16 into its hand 0           0  -  -  -       16 -  -  -
+//! 0 is granted 8 at 32 into its hand 1           0  32 -  -       16 -  -  -
+//! 0 submits the record at 0                      -  32 -  -       16 -  -  -
+//! 1 outputs 8 bytes, which are at 48             -  32 -  -       16 -  -  -
+//! ```
 #![tactic(auto)]
 
+mod chapter;
+mod chapter_laws;
 mod chapter_state;
 mod counting;
 mod faults;
 mod finding;
+mod hand_laws;
 mod hand_state;
 mod hand_table;
+mod hands;
 mod many_takes;
+mod opening;
+mod opening_lists;
+mod out_record;
 mod reservation;
 mod ring;
 mod setup;
 
+pub use chapter::Chapter;
+pub use chapter_laws::{calls_are_alike, chapters_join, counted_from_the_opening, room_is_kept};
 pub use faults::{OpenFault, ReserveFault};
+pub use hand_laws::{book_goes_on, each_call_keeps_hands, one_hand_changes};
 pub use hand_state::HandState;
+pub use hands::lowest_free;
+pub use opening::{Opening, UntakenRecord, UntakenStatus};
+pub use out_record::OutRecord;
 pub use reservation::Reservation;
 pub use ring::RingState;

@@ -2,7 +2,7 @@
 
 ghost use Rattle.std.specs.Prelude.{◌≡◌, ◌+◌, ◌≤◌, ◌++◌, length, vec_len, vec_capacity};
 ghost use Rattle.rb_history.specs.ManyTakes.{pushed};
-ghost use Rattle.rb_chapter.specs.ChapterCalls.{IsSameChapter};
+ghost use Rattle.rb_chapter_ring.specs.ChapterCalls.{IsSameChapter};
 ghost use Rattle.rb_chapter_ring.specs.ManyTakes.{TakesManyInChapter};
 ghost use Rattle.rb_chapter_ring.specs.inner.Ordinals.{KeepsNumbers};
 

@@ -1,9 +1,9 @@
 //! What a worker holds of a record that it was granted.
 
 ghost use Rattle.std.specs.Prelude.{◌≡◌, ◌↔◌, IsTrue, Some, length};
-ghost use Rattle.rb_hands.specs.Hands.{in_hand, out_record};
+ghost use Rattle.rb_chapter_ring.specs.Hands.{in_hand, out_record};
 
-use rb_hands::OutRecord;
+use crate::OutRecord;
 use rb_history::Reservation as Record;
 use rb_lend::Lent;
 use std::marker::Model;

@@ -3,11 +3,11 @@
 ghost use Rattle.std.specs.Prelude.{ℕ, ◌≡◌, ◌/◌, ◌<◌, ◌≤◌, ◌^◌, ◌↔◌, IsErrOf, IsTrue, IfOk, OnOk, length, slice_index_or};
 ghost use Rattle.std.specs.Int.{IsPowerOfTwo};
 ghost use Rattle.rb_history.specs.RingModel.{IsRingSize, IsStartPosition, IsWorkerCount};
-ghost use Rattle.rb_chapter.specs.Opening.{no_tally};
-ghost use Rattle.rb_chapter.specs.Chapters.{IsChapterRoom};
+ghost use Rattle.rb_chapter_ring.specs.Opening.{no_tally};
+ghost use Rattle.rb_chapter_ring.specs.Chapters.{IsChapterRoom};
 
 use crate::faults::OpenFault;
-use rb_chapter::Chapter;
+use crate::Chapter;
 use rb_history::{Tally, is_size, is_start, is_worker_count};
 use rb_lend::Sheet;
 use std::alloc::{AllocError, Global};

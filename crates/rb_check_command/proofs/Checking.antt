@@ -1,7 +1,7 @@
 -- A check of a text, put together of what its parts say.
 use Rattle.std.proofs.Common.{◌≡◌, List, map, sym, ◌∙◌, subst}
 use Rattle.rb_ledger.specs.Seats.{Shared, WorkerSeat}
-use Rattle.rb_chapter_ledger.specs.ChapterSeats.{ChapterConsumerSeat}
+use Rattle.rb_ledger.specs.ChapterSeats.{ChapterConsumerSeat}
 use Rattle.rb_seats.specs.SeatHelpers.{AtRings}
 use Rattle.rb_check_command.specs.DrainedRings.{AreConsumersOf}
 use Rattle.rb_check_command.specs.FreshRings.{fresh_worker, fresh_taker}

@@ -3,18 +3,18 @@ use Rattle.std.proofs.Common.{◌≡◌, ℕ, ◌+◌, ◌<◌, ◌≤◌, List,
 use Rattle.std.proofs.lemmas.List.{drop_all, drop_more, drop-set-lt, map_push}
 use Rattle.rb_history.specs.Calls.{producer_now}
 use Rattle.rb_history.specs.declared.answers.Taken.{Taken}
-use Rattle.rb_chapter.specs.Chapters.{Chapter, joined}
-use Rattle.rb_chapter.specs.ChapterRing.{whole_ring}
+use Rattle.rb_chapter_ring.specs.Chapters.{Chapter, joined}
+use Rattle.rb_chapter_ring.specs.ChapterRing.{whole_ring}
 use Rattle.rb_ledger.specs.LockedCalls.{TakesAt}
 use Rattle.rb_shared_ring.specs.declared.audit.Audit.{Audit}
 use Rattle.rb_ledger.specs.Roles.{Book, BeginsWith}
 use Rattle.rb_ledger.specs.Roles.Role.{Consumer, Worker}
 use Rattle.rb_ledger.specs.Seats.{WorkerSeat}
-use Rattle.rb_chapter_ledger.specs.ChapteredRing.{chaptered_ring, whole_of}
-use Rattle.rb_chapter_ledger.specs.ChapterSeats.{ChapterConsumerSeat}
-use Rattle.rb_chapter_ledger.specs.LockedChapterCalls.{LockedChapterCall, InOneChapter, InKnownChapter, TakesInChapter}
-use Rattle.rb_chapter.proofs.Chain.{binds-continue}
-use Rattle.rb_chapter_ledger.proofs.WholeCalls.{takes-whole}
+use Rattle.rb_ledger.specs.ChapteredRing.{chaptered_ring, whole_of}
+use Rattle.rb_ledger.specs.ChapterSeats.{ChapterConsumerSeat}
+use Rattle.rb_ledger.specs.LockedChapterCalls.{LockedChapterCall, InOneChapter, InKnownChapter, TakesInChapter}
+use Rattle.rb_chapter_ring.proofs.Chain.{binds-continue}
+use Rattle.rb_ledger.proofs.WholeCalls.{takes-whole}
 use Rattle.rb_shared_ring.specs.SharedCalls.{AuditsInChapter}
 use Rattle.rb_shared_ring.proofs.WholeAnswers.{producer-same}
 use Rattle.rb_check_command.specs.DrainedRings.{TakesNone, TakesRecord, TakesEach, DrainsRing, DrainsRings}

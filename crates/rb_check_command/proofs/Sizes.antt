@@ -1,7 +1,7 @@
 -- Bounds of a ring that are met.
 use Rattle.std.proofs.Common.{◌≡◌, ℕ, refl, sym, subst, arith}
 use Rattle.rb_history.specs.RingModel.{IsRingSize, IsStartPosition, IsWorkerCount}
-use Rattle.rb_chapter.specs.Chapters.{IsChapterRoom}
+use Rattle.rb_chapter_ring.specs.Chapters.{IsChapterRoom}
 
 -- the least size is one
 pub least_size : {size : ℕ} → size ≡ 4096 → IsRingSize size

@@ -3,7 +3,7 @@
 use Rattle.std.specs.Prelude.{◌≡◌, ℕ, List, map}
 use Rattle.rb_history.specs.WorkerCounts.{numbers_below}
 use Rattle.rb_ledger.specs.Seats.{Shared, WorkerSeat, fresh_book, fresh_seat}
-use Rattle.rb_chapter_ledger.specs.ChapterSeats.{ChapterConsumerSeat, fresh_chapter_consumer}
+use Rattle.rb_ledger.specs.ChapterSeats.{ChapterConsumerSeat, fresh_chapter_consumer}
 
 -- the seat of a ring's one worker
 abbrev pub fresh_worker : Shared → WorkerSeat

@@ -12,9 +12,9 @@ use Rattle.rb_shared_ring.specs.declared.shared.Foreign.{Foreign}
 use Rattle.rb_ledger.specs.Roles.{Book}
 use Rattle.rb_ledger.specs.Roles.Role.{Consumer}
 use Rattle.rb_ledger.specs.LockedCalls.{LockedCall}
-use Rattle.rb_chapter.specs.Chapters.{Chapter}
+use Rattle.rb_chapter_ring.specs.Chapters.{Chapter}
 use Rattle.rb_chapter_ring.specs.ManyTakes.{TakesManyInChapter}
-use Rattle.rb_chapter_ledger.specs.LockedChapterCalls.{LockedChapterCall, InKnownChapter}
+use Rattle.rb_ledger.specs.LockedChapterCalls.{LockedChapterCall, InKnownChapter}
 use Rattle.rb_shared_ring.specs.AnswersOverAll.{EachAnswerIsWhole}
 use Rattle.rb_tape.specs.Items.{AreRecords}
 use Rattle.rb_consumer.specs.Batches.{IsBatch, is_event, GivesLastEvent}

@@ -1,7 +1,7 @@
 -- A keeper of the chapter in which a ring goes on (own).
 use Rattle.std.specs.Prelude.{ℕ, ◌≡◌, Bool, true, if◌then◌else◌, Option, None, Some, Result, Ok, Err}
 use denote.Ref.{Bor}
-use Rattle.rb_chapter.specs.Chapters.{Chapter, empty_chapter}
+use Rattle.rb_chapter_ring.specs.Chapters.{Chapter, empty_chapter}
 use Rattle.rb_shared_ring.specs.declared.chapters.HandFault.{HandFault}
 
 -- a keeper: its chapter, how many entries early it hands a ring's chapter out, and whether an earlier turn lent its chapter's entries

@@ -1,11 +1,11 @@
 -- A turn of a ring's chapter (own).
 use Rattle.std.specs.Prelude.{ℕ, ◌≡◌, ◌+◌, ◌<◌, List, [], ◌∷◌, Option, None, Some}
 use denote.Ref.{Bor}
-use Rattle.rb_chapter.specs.Chapters.{Chapter}
+use Rattle.rb_chapter_ring.specs.Chapters.{Chapter}
 use Rattle.rb_ledger.specs.Roles.{Book}
 use Rattle.rb_ledger.specs.Roles.Role.{Consumer}
-use Rattle.rb_chapter_ledger.specs.ChapterSeats.{ChapterConsumerSeat}
-use Rattle.rb_chapter_ledger.specs.LockedChapterCalls.{LockedChapterCall, InKnownChapter, TellsUsed, HandsOutNext}
+use Rattle.rb_ledger.specs.ChapterSeats.{ChapterConsumerSeat}
+use Rattle.rb_ledger.specs.LockedChapterCalls.{LockedChapterCall, InKnownChapter, TellsUsed, HandsOutNext}
 
 -- a chapter of this room has entries, and those, the ones that it owes, the three of one grant more and the margin are above the room
 abbrev pub IsDue : ℕ → ℕ → ℕ → ℕ → Type 0

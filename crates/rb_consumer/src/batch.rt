@@ -7,7 +7,7 @@ ghost use Rattle.rb_ledger.specs.Roles.Role.{Consumer};
 ghost use Rattle.rb_ledger.specs.LockedCalls.{LockedCall};
 ghost use Rattle.rb_ledger.specs.ManyTakes.{events_among, skips_among, span_among, AreTakenFrom, got_by_all};
 ghost use Rattle.rb_chapter_ring.specs.ManyTakes.{TakesManyInChapter};
-ghost use Rattle.rb_chapter_ledger.specs.LockedChapterCalls.{LockedChapterCall, InKnownChapter};
+ghost use Rattle.rb_ledger.specs.LockedChapterCalls.{LockedChapterCall, InKnownChapter};
 ghost use Rattle.rb_shared_ring.specs.SharedSeats.{IsSameChapterConsumer};
 ghost use Rattle.rb_header.specs.TapeBytes.{AreItemsFrom, end_of};
 ghost use Rattle.rb_tape.specs.Items.{tape_items, AreRecords};

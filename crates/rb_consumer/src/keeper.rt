@@ -1,13 +1,13 @@
 //! Chapters that a ring's consumer hands out in turn, with the memory of two.
 
 ghost use Rattle.std.specs.Prelude.{◌≡◌, ◌≢◌, ◌<◌, ◌^◌, ◌↔◌, ◌++◌, false, IfOk, IfErr, IfSome, IsErr, IsErrOf, OnErr, IsTrue, None, length};
-ghost use Rattle.rb_chapter_ledger.specs.ChapterSeats.{IsFitChapter};
+ghost use Rattle.rb_ledger.specs.ChapterSeats.{IsFitChapter};
 ghost use Rattle.rb_shared_ring.specs.SharedSeats.{IsSameChapterConsumer, TakesNothing};
 ghost use Rattle.rb_shared_ring.specs.declared.chapters.HandFault.TheVariants as HandFault;
 ghost use Rattle.rb_consumer.specs.Turns.{IsDue, IsOfRing, TurnsChapter, chapters_lent};
 ghost use Rattle.rb_consumer.specs.inner.KeeperTurns.{chapters_out};
 
-use rb_chapter::Chapter;
+use rb_chapter_ring::Chapter;
 use rb_shared_ring::{ConsumerSeat, HandFault, SharedRing};
 use std::marker::Model;
 use std::sync::Wait;

@@ -2,10 +2,10 @@
 
 ghost use Rattle.std.specs.Prelude.{◌≡◌, ◌↔◌, All, IsOk, IfOk, IfErr, IsErrOf, true};
 ghost use Rattle.rb_history.specs.RingModel.{IsRingSize, IsWorkerCount};
-ghost use Rattle.rb_chapter.specs.Chapters.{IsChapterRoom};
+ghost use Rattle.rb_chapter_ring.specs.Chapters.{IsChapterRoom};
 ghost use Rattle.rb_ledger.specs.Seats.{HasAll, are_tagged, fresh_book, fresh_seats};
-ghost use Rattle.rb_chapter_ledger.specs.ChapterSeats.{fresh_chapter_consumer};
-ghost use Rattle.rb_chapter_ledger.specs.ChapterClosing.{IsClosedByChapters};
+ghost use Rattle.rb_ledger.specs.ChapterSeats.{fresh_chapter_consumer};
+ghost use Rattle.rb_ledger.specs.ChapterClosing.{IsClosedByChapters};
 ghost use Rattle.rb_shared_ring.specs.SharedSeats.{IsSameChapterConsumer};
 ghost use Rattle.rb_for_tests.specs.OwnSeats.{HasOwnSeats};
 

@@ -29,7 +29,7 @@ impl<'r, 'j, R, G, K> Model for JobRunner<'r, 'j, R, G, K> {
     ghost use Rattle.rb_history.specs.RingModel.{contents_code};
     ghost use Rattle.rb_history.specs.contracts.entries.Entry as entry;
     ghost use Rattle.rb_history.specs.contracts.tally.Tally as tally_row;
-    ghost use Rattle.rb_hands.specs.contracts.out_record.OutRecord as out_row;
+    ghost use Rattle.rb_chapter_ring.specs.contracts.out_record.OutRecord as out_row;
     ghost use Rattle.rb_jobs.specs.Jobs.{WorkerAtRings};
 
     ghost Value = { WorkerAtRings };

@@ -1,3 +1,12 @@
+pub mod HandLock
+pub mod NoStranger
+pub mod HeldRecords
+pub mod ChapterLock
+pub mod ChapterSteps
+pub mod WholeCalls
+pub mod BoundChapters
+pub mod BindingSteps
+pub mod ChapterGathers
 pub mod Views
 pub mod LockRule
 pub mod Tallies

@@ -1,3 +1,17 @@
+pub mod HandKnowledge
+pub mod HandLockRule
+pub mod HandLockSteps
+pub mod HandLockLaws
+pub mod NoStranger
+pub mod ChapteredRing
+pub mod ChapterKnowledge
+pub mod ChapterLockRule
+pub mod ChapterLockSteps
+pub mod ChapterLockLaws
+pub mod ChapterSeats
+pub mod LockedChapterCalls
+pub mod ChapterClosing
+pub mod ChapterHeadline
 pub mod Roles
 pub mod SentBytes
 pub mod RoleKnowledge

@@ -7,7 +7,7 @@ use Rattle.rb_history.specs.History.{consumer_of}
 use Rattle.rb_history.specs.Legal.{IsLegal}
 use Rattle.rb_history.specs.RingModel.{Ring, Contents, IsRingSize, IsStartPosition, IsWorkerCount}
 use Rattle.rb_history.specs.declared.tally.Tally.{Tally}
-use Rattle.rb_hands.specs.Hands.{Hands, free_hands}
+use Rattle.rb_chapter_ring.specs.Hands.{Hands, free_hands}
 use Rattle.rb_ledger.specs.Roles.{Book}
 use Rattle.rb_history.specs.WorkerCounts.{tally_of, events_of, skips_of}
 

@@ -1,2 +1,3 @@
+pub mod BindingLoops
 pub mod OpenedLock
 pub mod SeatPasses

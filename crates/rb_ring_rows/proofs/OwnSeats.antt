@@ -4,7 +4,7 @@ use Rattle.std.specs.Prelude.{All}
 use Rattle.std.proofs.lemmas.List.Elements.{All-cons}
 use Rattle.rb_ledger.specs.Roles.{Book}
 use Rattle.rb_ledger.specs.Seats.{Shared, WorkerSeat, fresh_seat, fresh_seats}
-use Rattle.rb_chapter_ledger.specs.ChapterSeats.{ChapterConsumerSeat, fresh_chapter_consumer}
+use Rattle.rb_ledger.specs.ChapterSeats.{ChapterConsumerSeat, fresh_chapter_consumer}
 use Rattle.rb_ring_rows.specs.SharedPlaces.{IsOwnSeat, AreOwnSeats}
 
 fresh_own : (ring : Shared) (room : ℕ) (seen : Book) (first n : ℕ) → AreOwnSeats ring (fresh_seats ring.tag ring.ring room seen first n)

@@ -1,9 +1,8 @@
 //! What the calls of a ring answer, as text. Each word and number is told behind a space.
 
 use crate::text::Text;
-use rb_chapter::Chapter;
-use rb_chapter_ledger::BindFault;
-use rb_chapter_ring::{OpenFault, ReserveFault};
+use rb_chapter_ring::{Chapter, OpenFault, ReserveFault};
+use rb_ledger::BindFault;
 use rb_history::{Counts, Entry, Notice, Reservation, Stray, Taken, Tally};
 use rb_lend::{Lent, Sheet};
 

@@ -4,7 +4,7 @@ use crate::answers::{tell_entries, tell_handed_out, tell_tally};
 use crate::row::Row;
 use crate::script::{Script, WRONG_WORDS, keep, narrow};
 use crate::text::Text;
-use rb_chapter::{Chapter, Opening, UntakenRecord, UntakenStatus};
+use rb_chapter_ring::{Chapter, Opening, UntakenRecord, UntakenStatus};
 use rb_consumer::Keeper;
 
 /// What a row on chapters answers.

@@ -5,7 +5,7 @@ ghost use Rattle.rb_shared_ring.specs.SharedSeats.{IsSameChapterConsumer};
 
 use crate::answers::{tell_all_taken, tell_handed_out, tell_taken};
 use crate::text::Text;
-use rb_chapter::Chapter;
+use rb_chapter_ring::Chapter;
 use rb_consumer::{Batch, Keeper};
 use rb_shared_ring::{ConsumerSeat, Foreign, HandFault, SharedRing};
 use rb_tape::Item;

@@ -9,7 +9,7 @@ use crate::sheet_rows::write_sheet;
 use crate::text::Text;
 use crate::twin_rings::{Ending, TwinRecord, TwinRings};
 use crate::{chapter_rows, shared_rows, sheet_rows, value_rows};
-use rb_chapter::Chapter;
+use rb_chapter_ring::Chapter;
 use rb_consumer::Keeper;
 use rb_lend::Sheet;
 use rb_shared_ring::{Closing, Reservation};

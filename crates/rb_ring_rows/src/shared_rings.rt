@@ -8,7 +8,7 @@ use crate::answers::{open_word, reserve_word, tell_counts, tell_notice, tell_ref
 use crate::consumer_calls::{ConsumerCall, consume, hand_out, turn};
 use crate::shared_answers::{tell_given_back, tell_hands, tell_reserved};
 use crate::text::Text;
-use rb_chapter::Chapter;
+use rb_chapter_ring::Chapter;
 use rb_consumer::Keeper;
 use rb_history::Notice;
 use rb_lend::Sheet;

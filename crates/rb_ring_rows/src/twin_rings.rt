@@ -10,9 +10,8 @@ use crate::shared_answers::{tell_record, tell_reserved};
 use crate::sheets::{copied, filled, write_at};
 use crate::tape_rows::tell_written;
 use crate::text::Text;
-use rb_chapter::{Chapter, UntakenStatus};
-use rb_chapter_ledger::bind_chapters;
-use rb_chapter_ring::{Reservation, ReserveFault, RingState};
+use rb_chapter_ring::{Chapter, Reservation, ReserveFault, RingState, UntakenStatus};
+use rb_ledger::bind_chapters;
 use rb_history::{
     OpenFault as ListOpenFault, Reservation as ListReservation, ReserveFault as ListFault, Taken,
 };

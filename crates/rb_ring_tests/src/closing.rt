@@ -3,7 +3,7 @@
 ghost use Rattle.std.specs.Prelude.{◌≡◌, All};
 ghost use Rattle.rb_history.specs.Counting.{counts_of};
 ghost use Rattle.rb_ledger.specs.Seats.{HasSettledAll};
-ghost use Rattle.rb_chapter_ledger.specs.ChapteredRing.{chaptered_ring, whole_of};
+ghost use Rattle.rb_ledger.specs.ChapteredRing.{chaptered_ring, whole_of};
 
 use super::rings_with_seats::{discarded, granted, output, submitted, two_seats};
 use rb_ledger::numbers_agree;

@@ -1,7 +1,6 @@
 //! The examples of the crates' module docs, line by line.
 
-use rb_chapter::Chapter;
-use rb_chapter_ring::RingState;
+use rb_chapter_ring::{Chapter, RingState};
 use rb_header::{Header, span};
 use rb_history::{
     Entry, FORCE_WAKEUP, NO_WAKEUP, Notice, OpenFault, Taken, check_setup, notice_for,

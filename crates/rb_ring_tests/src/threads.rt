@@ -5,7 +5,7 @@ ghost use Rattle.std.specs.Prelude.{◌≡◌};
 ghost use Rattle.rb_shared_ring.specs.SharedSeats.{IsSameChapterConsumer};
 
 use super::rings_with_seats::ROOM;
-use rb_chapter::Chapter;
+use rb_chapter_ring::Chapter;
 use rb_history::Taken;
 use rb_lend::Lent;
 use rb_for_tests::{Consumer, Found, OpenRing, Outputs};

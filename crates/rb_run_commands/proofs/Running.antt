@@ -5,8 +5,8 @@ use Rattle.std.specs.Result.{OkIff, result_unwrap_or}
 use Rattle.std.proofs.lemmas.List.Elements.{All-nil, All-cons}
 use Rattle.rb_jobs.specs.Jobs.{task_of}
 use Rattle.rb_jobs.specs.declared.job.Job.{Job}
-use Rattle.rb_chapter.specs.Chapters.{IsChapterRoom, empty_chapter}
-use Rattle.rb_chapter_ledger.specs.ChapterSeats.{fresh_chapter_consumer}
+use Rattle.rb_chapter_ring.specs.Chapters.{IsChapterRoom, empty_chapter}
+use Rattle.rb_ledger.specs.ChapterSeats.{fresh_chapter_consumer}
 use Rattle.rb_ledger.specs.Seats.{HasSettledAll, fresh_book, fresh_seats}
 use Rattle.rb_verifier.specs.Subject.{Subject}
 use Rattle.rb_workers.specs.declared.opened.Opened.{Opened}

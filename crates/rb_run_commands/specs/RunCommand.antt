@@ -3,8 +3,8 @@
 use Rattle.std.specs.Prelude.{◌≡◌, ◌+◌, ℕ, false, All, List, [], ◌∷◌, map, Option, IfSome}
 use Rattle.std.specs.Io.KnownBytes.{Appends}
 use Rattle.rb_history.specs.RingModel.{IsRingSize, IsStartPosition, IsWorkerCount}
-use Rattle.rb_chapter.specs.Chapters.{empty_chapter}
-use Rattle.rb_chapter_ledger.specs.ChapterSeats.{fresh_chapter_consumer}
+use Rattle.rb_chapter_ring.specs.Chapters.{empty_chapter}
+use Rattle.rb_ledger.specs.ChapterSeats.{fresh_chapter_consumer}
 use Rattle.rb_consumer.specs.Keepers.{KeeperValue}
 use Rattle.rb_jobs.specs.Jobs.{task_of}
 use Rattle.rb_jobs.specs.declared.job.Job.{Job}

@@ -5,8 +5,8 @@ use Rattle.std.specs.List.{filter_map}
 use Rattle.std.specs.Io.KnownBytes.{Appends, append_known}
 use Rattle.rb_header.specs.TapeBytes.{Item, tape}
 use Rattle.rb_ledger.specs.Seats.{WorkerSeat}
-use Rattle.rb_chapter_ledger.specs.ChapterClosing.{IsClosedByChapters}
-use Rattle.rb_chapter_ledger.specs.ChapterSeats.{ChapterConsumerSeat}
+use Rattle.rb_ledger.specs.ChapterClosing.{IsClosedByChapters}
+use Rattle.rb_ledger.specs.ChapterSeats.{ChapterConsumerSeat}
 use Rattle.rb_verifier.specs.Subject.{Subject}
 use Rattle.rb_workers.specs.Reports.{ring_at_end}
 use Rattle.rb_workers.specs.Sink.{SinkItem, IsRecordIn, positions_among, takes_in, tape_item}

@@ -1,6 +1,6 @@
 //! A sink that writes a tape.
 
-use rb_chapter::Chapter;
+use rb_chapter_ring::Chapter;
 use rb_header::span;
 use rb_tape::{Event, Item, TapeWriter};
 use rb_workers::Sink;

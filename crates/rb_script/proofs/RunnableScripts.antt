@@ -4,7 +4,7 @@ use Rattle.std.specs.Prelude.{All}
 use Rattle.std.specs.List.{AllZip}
 use Rattle.std.proofs.lemmas.List.{length-append, length-map, take_all}
 use Rattle.std.proofs.lemmas.List.Elements.{All-nil, All-cons, All-append, All-replicate, All-weaker}
-use Rattle.rb_chapter.specs.Chapters.{IsChapterRoom}
+use Rattle.rb_chapter_ring.specs.Chapters.{IsChapterRoom}
 use Rattle.rb_history.specs.RingModel.{IsWorkerCount}
 use Rattle.rb_interleavings.specs.declared.actor.Actor.{Actor}
 use Rattle.rb_interleavings.specs.declared.actor.Actor.TheVariants.{Worker, Consumer, Keeper}

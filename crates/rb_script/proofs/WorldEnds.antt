@@ -6,10 +6,10 @@ use Rattle.rb_history.specs.RingModel.{Ring}
 use Rattle.rb_history.specs.declared.answers.Counts.{Counts}
 use Rattle.rb_history.specs.declared.entries.Entry.{Entry}
 use Rattle.rb_history.specs.declared.notices_and_queries.TheConstants.{CONS_POS, PROD_POS}
-use Rattle.rb_chapter.specs.ChapterRing.{ChapterRing, whole_ring}
-use Rattle.rb_chapter.specs.CountedFrom.{producer_from, consumer_from}
-use Rattle.rb_chapter.specs.WholeHistory.{IsKept, IsSameFrom}
-use Rattle.rb_chapter.proofs.Stands.{goes-on}
+use Rattle.rb_chapter_ring.specs.ChapterRing.{ChapterRing, whole_ring}
+use Rattle.rb_chapter_ring.specs.CountedFrom.{producer_from, consumer_from}
+use Rattle.rb_chapter_ring.specs.WholeHistory.{IsKept, IsSameFrom}
+use Rattle.rb_chapter_ring.proofs.Stands.{goes-on}
 use Rattle.rb_chapter_ring.specs.OpenedRing.{capped_counts, told_counts}
 use Rattle.rb_interp.specs.MachineState.{MachineState}
 use Rattle.rb_world.specs.OpenedWorlds.{IsOpenedWorld, IsStarted, MayOpen}
@@ -18,8 +18,8 @@ use Rattle.rb_world.specs.declared.opening.RingSetup.{RingSetup}
 use Rattle.rb_world.specs.declared.opening.WorkerSetup.{WorkerSetup}
 use Rattle.rb_world.specs.declared.world_record.WorldRecord.{WorldRecord}
 use Rattle.rb_world.proofs.Openings.{length-opened}
-use Rattle.rb_chapter.specs.Chapters.{Chapter, closing_of}
-use Rattle.rb_chapter.specs.Opening.{Opening}
+use Rattle.rb_chapter_ring.specs.Chapters.{Chapter, closing_of}
+use Rattle.rb_chapter_ring.specs.Opening.{Opening}
 use Rattle.rb_script.specs.Drawings.{drawing_line, ring_drawing}
 use Rattle.rb_script.specs.OutputLines.{ring_line}
 use Rattle.rb_script.specs.Simulation.{lines_below, ring_text}

@@ -2,11 +2,11 @@
 
 ghost use Rattle.std.specs.Prelude.{◌≡◌, ◌-◌, ◌++◌, OnOk, map};
 ghost use Rattle.std.specs.List.{flat_map};
-ghost use Rattle.rb_chapter.specs.UntakenRecords.{status_shown, untaken_shown};
+ghost use Rattle.rb_chapter_ring.specs.UntakenRecords.{status_shown, untaken_shown};
 ghost use Rattle.rb_script.specs.Drawings.{box_text, drawing_end, drawing_front, drawing_line, status_word};
 
 use crate::output_lines::push_number;
-use rb_chapter::{Opening, UntakenRecord, UntakenStatus};
+use rb_chapter_ring::{Opening, UntakenRecord, UntakenStatus};
 use rb_header::span;
 use std::alloc::AllocError;
 

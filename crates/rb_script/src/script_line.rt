@@ -4,7 +4,7 @@ ghost use Rattle.std.specs.Prelude.{◌≡◌, ◌↔◌, ◌<◌, ◌^◌, ◌�
 ghost use Rattle.std.specs.List.{AllPass};
 ghost use Rattle.rb_world.specs.declared.opening.RingSetup.{RingSetup};
 ghost use Rattle.rb_world.specs.OpenedWorlds.{IsRingSetup};
-ghost use Rattle.rb_chapter.specs.Chapters.{IsChapterRoom};
+ghost use Rattle.rb_chapter_ring.specs.Chapters.{IsChapterRoom};
 ghost use Rattle.rb_script.specs.ScriptText.{Spells, SaysRing, SaysWorker, SaysTurns, is_plain as is_plain_byte, words_of};
 ghost use Rattle.rb_script.specs.inner.ScriptRead.{AreNumbersOf, IsWorkerText, IsSaid, SaysNone, IsLine, IsNoLine};
 

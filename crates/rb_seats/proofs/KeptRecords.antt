@@ -4,8 +4,8 @@ use Rattle.std.specs.Prelude.{slice_get, IfSome}
 use Rattle.std.proofs.lemmas.Bool.{cases_eq, cases_lt}
 use Rattle.std.proofs.lemmas.List.{get_or-set_other}
 use Rattle.rb_ledger.specs.Seats.{WorkerSeat}
-use Rattle.rb_hands.specs.declared.out_record.OutRecord.{OutRecord}
-use Rattle.rb_hands.specs.Hands.{Hands, out_record, in_hand}
+use Rattle.rb_chapter_ring.specs.declared.out_record.OutRecord.{OutRecord}
+use Rattle.rb_chapter_ring.specs.Hands.{Hands, out_record, in_hand}
 use Rattle.rb_chapter_ring.specs.HandGranted.{HandGranted}
 use Rattle.rb_helpers.specs.AnsweredCalls.{Reserved, Submitted, Discarded, SentOut, Queried}
 use Rattle.rb_seats.specs.declared.seat_record.SeatRecord.{SeatRecord}

@@ -6,7 +6,7 @@ use Rattle.rb_history.specs.History.{producer_of, consumer_of}
 use Rattle.rb_history.specs.RoomRule.{Setup}
 use Rattle.rb_history.specs.declared.entries.Entry.{Entry}
 use Rattle.rb_ledger.specs.Seats.{WorkerSeat}
-use Rattle.rb_chapter_ledger.specs.ChapteredRing.{whole_of}
+use Rattle.rb_ledger.specs.ChapteredRing.{whole_of}
 use Rattle.rb_helpers.specs.AnsweredCalls.{AnsweredCall, Reserved, Submitted, Discarded, SentOut, Queried, note_of, notes_of, MayAnswer}
 use Rattle.rb_seats.specs.declared.seat_record.SeatRecord.{SeatRecord}
 use Rattle.rb_seats.specs.SeatCalls.{CallsSeats}

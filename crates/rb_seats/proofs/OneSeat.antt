@@ -9,15 +9,15 @@ use Rattle.rb_history.specs.declared.answers.Notice.TheVariants.{Due, NotDue}
 use Rattle.rb_history.specs.declared.tally.Tally.{Tally}
 use Rattle.rb_history.specs.RingModel.{Contents}
 use Rattle.rb_history.specs.Calls.{producer_now as whole_producer_now}
-use Rattle.rb_chapter.specs.ChapterCalls.{producer_now}
+use Rattle.rb_chapter_ring.specs.ChapterCalls.{producer_now}
 use Rattle.rb_chapter_ring.specs.declared.faults.ReserveFault.{ReserveFault}
 use Rattle.rb_chapter_ring.specs.declared.faults.ReserveFault.TheVariants.{Full, Flags, ChapterFull, Foreign, HandsFull}
 use Rattle.rb_chapter_ring.specs.RingFaults.{RefusesInChapter}
 use Rattle.rb_ledger.specs.Seats.{Shared, WorkerSeat, IsSameSeat, Ties}
-use Rattle.rb_hands.specs.Hands.{Hands, out_record, in_hand, IsLowestFree, AreAllOut}
+use Rattle.rb_chapter_ring.specs.Hands.{Hands, out_record, in_hand, IsLowestFree, AreAllOut}
 use Rattle.rb_chapter_ring.specs.HandGranted.{HandGranted}
 use Rattle.rb_ledger.specs.LockedCalls.{OutputsAt, output_by, sent_by_output}
-use Rattle.rb_chapter_ledger.specs.LockedChapterCalls.{SubmitsInChapter, DiscardsInChapter, QueriesInChapter}
+use Rattle.rb_ledger.specs.LockedChapterCalls.{SubmitsInChapter, DiscardsInChapter, QueriesInChapter}
 use Rattle.rb_shared_ring.specs.SharedCalls.{ReservesInChapter, OutputsInChapter, IsInSeatsHand, refused_in_chapter_by, output_in_chapter_by, sent_by_chapter_output}
 use Rattle.rb_shared_ring.proofs.WholeAnswers.{outputs-whole, producer-same}
 use Rattle.rb_seats.specs.declared.no_record.NoRecord.{NoRecord}

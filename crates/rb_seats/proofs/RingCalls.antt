@@ -6,18 +6,18 @@ use Rattle.rb_history.specs.ReservationModel.{Granted}
 use Rattle.rb_history.specs.RoomRule.{Setup}
 use Rattle.rb_history.specs.RingModel.{Ring}
 use Rattle.rb_history.specs.Calls.{FindsFull as FindsAllFull}
-use Rattle.rb_chapter.specs.Chapters.{joined}
-use Rattle.rb_chapter.specs.ChapterRing.{ChapterRing, whole_ring}
-use Rattle.rb_chapter.specs.ChapterCalls.{FindsFull, FindsChapterFull}
-use Rattle.rb_chapter.specs.WholeHistory.{ContinuesHistory}
-use Rattle.rb_chapter.proofs.Alike.{calls-alike}
+use Rattle.rb_chapter_ring.specs.Chapters.{joined}
+use Rattle.rb_chapter_ring.specs.ChapterRing.{ChapterRing, whole_ring}
+use Rattle.rb_chapter_ring.specs.ChapterCalls.{FindsFull, FindsChapterFull}
+use Rattle.rb_chapter_ring.specs.WholeHistory.{ContinuesHistory}
+use Rattle.rb_chapter_ring.proofs.Alike.{calls-alike}
 use Rattle.rb_ledger.specs.Roles.Role.{Worker}
 use Rattle.rb_ledger.specs.Seats.{WorkerSeat}
 use Rattle.rb_ledger.specs.LockedCalls.{LockedCall, Reserves, SubmitsAt, DiscardsAt, Queries}
-use Rattle.rb_chapter_ledger.specs.ChapteredRing.{whole_of}
-use Rattle.rb_chapter_ledger.specs.LockedChapterCalls.{LockedChapterCall, InRoomAt, SubmitsInChapter, DiscardsInChapter, QueriesInChapter}
-use Rattle.rb_chapter.proofs.Chain.{binds-continue}
-use Rattle.rb_chapter_ledger.proofs.WholeCalls.{submits-whole, discards-whole, queries-whole}
+use Rattle.rb_ledger.specs.ChapteredRing.{whole_of}
+use Rattle.rb_ledger.specs.LockedChapterCalls.{LockedChapterCall, InRoomAt, SubmitsInChapter, DiscardsInChapter, QueriesInChapter}
+use Rattle.rb_chapter_ring.proofs.Chain.{binds-continue}
+use Rattle.rb_ledger.proofs.WholeCalls.{submits-whole, discards-whole, queries-whole}
 use Rattle.rb_shared_ring.specs.SharedCalls.{ReservesInChapter}
 use Rattle.rb_shared_ring.proofs.WholeAnswers.{reserves-whole}
 use Rattle.rb_seats.specs.SeatCalls.{SeatCallsRing}

@@ -6,14 +6,14 @@ use Rattle.rb_history.specs.declared.answers.Notice.{Notice}
 use Rattle.rb_history.specs.declared.answers.Notice.TheVariants.{Due, NotDue}
 use Rattle.rb_history.specs.RingModel.{Ring}
 use Rattle.rb_history.specs.Calls.{FindsFull as FindsAllFull, producer_now}
-use Rattle.rb_chapter.specs.ChapterRing.{ChapterRing}
-use Rattle.rb_chapter.specs.ChapterCalls.{FindsFull, FindsChapterFull}
+use Rattle.rb_chapter_ring.specs.ChapterRing.{ChapterRing}
+use Rattle.rb_chapter_ring.specs.ChapterCalls.{FindsFull, FindsChapterFull}
 use Rattle.rb_ledger.specs.Roles.Role.{Worker}
 use Rattle.rb_ledger.specs.Seats.{WorkerSeat}
 use Rattle.rb_ledger.specs.LockedCalls.{Reserves, SubmitsAt, DiscardsAt, OutputsAt, Queries, output_by, sent_by_output}
-use Rattle.rb_chapter_ledger.specs.ChapteredRing.{whole_of}
-use Rattle.rb_chapter_ledger.specs.LockedChapterCalls.{LockedChapterCall, InRoomAt, SubmitsInChapter, DiscardsInChapter, QueriesInChapter}
-use Rattle.rb_hands.specs.Hands.{out_record, in_hand, IsLowestFree}
+use Rattle.rb_ledger.specs.ChapteredRing.{whole_of}
+use Rattle.rb_ledger.specs.LockedChapterCalls.{LockedChapterCall, InRoomAt, SubmitsInChapter, DiscardsInChapter, QueriesInChapter}
+use Rattle.rb_chapter_ring.specs.Hands.{out_record, in_hand, IsLowestFree}
 use Rattle.rb_chapter_ring.specs.HandGranted.{HandGranted}
 use Rattle.rb_shared_ring.specs.SharedCalls.{ReservesInChapter, OutputsInChapter}
 use Rattle.rb_helpers.specs.ErrorNumbers.{EAGAIN, EINVAL}

@@ -42,7 +42,7 @@ impl<'h, R, S> Model for SeatHelpers<'h, R, S> {
     ghost use Rattle.rb_history.specs.RingModel.{contents_code};
     ghost use Rattle.rb_history.specs.contracts.entries.Entry as entry;
     ghost use Rattle.rb_history.specs.contracts.tally.Tally as tally_row;
-    ghost use Rattle.rb_hands.specs.contracts.out_record.OutRecord as out_row;
+    ghost use Rattle.rb_chapter_ring.specs.contracts.out_record.OutRecord as out_row;
     ghost use Rattle.rb_helpers.specs.contracts.done.Done as done_row;
     ghost use Rattle.rb_seats.specs.SeatHelpers.{AtSeats, AtRings};
 

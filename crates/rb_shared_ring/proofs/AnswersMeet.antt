@@ -4,12 +4,12 @@ use Rattle.std.specs.Prelude.{OnOk}
 use Rattle.rb_history.specs.declared.answers.Notice.{Notice}
 use Rattle.rb_history.specs.declared.answers.Notice.TheVariants.{Due}
 use Rattle.rb_history.specs.NoticesAndQueries.{IsDue}
-use Rattle.rb_chapter.specs.ChapterRing.{ChapterRing}
-use Rattle.rb_chapter.specs.ChapterCalls.{Outputs, producer_now, consumer_now}
+use Rattle.rb_chapter_ring.specs.ChapterRing.{ChapterRing}
+use Rattle.rb_chapter_ring.specs.ChapterCalls.{Outputs, producer_now, consumer_now}
 use Rattle.rb_chapter_ring.specs.declared.faults.ReserveFault.{ReserveFault}
 use Rattle.rb_chapter_ring.specs.declared.faults.ReserveFault.TheVariants.{Flags}
 use Rattle.rb_chapter_ring.specs.RingFaults.{RefusesInChapter}
-use Rattle.rb_hands.specs.HandRing.{HandRing, GrantsToHand}
+use Rattle.rb_chapter_ring.specs.HandRing.{HandRing, GrantsToHand}
 use Rattle.rb_chapter_ring.specs.HandGranted.{HandGranted}
 use Rattle.rb_shared_ring.specs.SharedCalls.{OutputsInChapter}
 use Rattle.rb_shared_ring.specs.inner.HandCalls.{ReservesToHand}

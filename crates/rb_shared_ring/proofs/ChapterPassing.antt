@@ -1,18 +1,18 @@
 -- A call, from the pass that takes the state out to the pass that has put it back.
 use Rattle.std.proofs.Common.{◌≡◌, ℕ, [], ◌∷◌, Option, Some, None, length, refl, sym, ap, ◌∙◌, subst}
-use Rattle.rb_chapter.specs.Chapters.{joined}
-use Rattle.rb_chapter.specs.ChapterRing.{ChapterRing}
-use Rattle.rb_chapter.specs.ChapterCalls.{IsSameChapter}
+use Rattle.rb_chapter_ring.specs.Chapters.{joined}
+use Rattle.rb_chapter_ring.specs.ChapterRing.{ChapterRing}
+use Rattle.rb_chapter_ring.specs.ChapterCalls.{IsSameChapter}
 use Rattle.rb_ledger.specs.Roles.{Role, book_of, ExtendsSeen}
 use Rattle.rb_ledger.specs.RoleKnowledge.{role_knowledge}
 use Rattle.rb_ledger.specs.Ledger.{IsRoleIn, IsRing}
 use Rattle.rb_ledger.specs.LockSteps.{RoleStep, knowledge_after}
 use Rattle.rb_ledger.proofs.Passing.{held}
-use Rattle.rb_chapter_ledger.specs.ChapteredRing.{ChapteredRing, chaptered_ring, whole_of, IsChapteredRing}
-use Rattle.rb_chapter_ledger.specs.ChapterKnowledge.{ChapterPassView, chapter_view, whole_view, KnowsHandedOut, AllKnowHandedOut}
-use Rattle.rb_chapter_ledger.specs.ChapterLockSteps.{TakesChapterState, MayPutChapter, PutsChapterState, chapter_view_after_put, handed_out_known_by}
-use Rattle.rb_chapter_ledger.specs.LockedChapterCalls.{LockedChapterCall, InOneChapter, InRoomAt, InKnownChapter}
-use Rattle.rb_chapter_ledger.proofs.ChapterSteps.{has-same, handed-out-same, calls-may-put, facts-make-ring}
+use Rattle.rb_ledger.specs.ChapteredRing.{ChapteredRing, chaptered_ring, whole_of, IsChapteredRing}
+use Rattle.rb_ledger.specs.ChapterKnowledge.{ChapterPassView, chapter_view, whole_view, KnowsHandedOut, AllKnowHandedOut}
+use Rattle.rb_ledger.specs.ChapterLockSteps.{TakesChapterState, MayPutChapter, PutsChapterState, chapter_view_after_put, handed_out_known_by}
+use Rattle.rb_ledger.specs.LockedChapterCalls.{LockedChapterCall, InOneChapter, InRoomAt, InKnownChapter}
+use Rattle.rb_ledger.proofs.ChapterSteps.{has-same, handed-out-same, calls-may-put, facts-make-ring}
 use Rattle.rb_shared_ring.specs.inner.SeatPasses.{seen_by, bytes_by, room_by, handed_out_by, known_in, IsIdleIn}
 use Rattle.rb_shared_ring.specs.inner.LentState.{IsKeptRing}
 

@@ -4,12 +4,12 @@ use Rattle.rb_history.specs.declared.entries.Entry.{Entry}
 use Rattle.rb_history.specs.declared.answers.Taken.{Taken}
 use Rattle.rb_history.specs.ManyTakes.{TakesEach, TakesMany}
 use Rattle.rb_history.specs.RingModel.{Contents}
-use Rattle.rb_chapter.specs.Chapters.{Chapter, joined}
-use Rattle.rb_chapter.specs.ChapterRing.{ChapterRing, whole_ring}
-use Rattle.rb_chapter.specs.ChapterCalls.{IsSameChapter, HandsOut}
-use Rattle.rb_chapter.specs.WholeHistory.{IsKept}
-use Rattle.rb_chapter.proofs.Alike.{calls-alike}
-use Rattle.rb_chapter.proofs.Keeping.{calls-keep}
+use Rattle.rb_chapter_ring.specs.Chapters.{Chapter, joined}
+use Rattle.rb_chapter_ring.specs.ChapterRing.{ChapterRing, whole_ring}
+use Rattle.rb_chapter_ring.specs.ChapterCalls.{IsSameChapter, HandsOut}
+use Rattle.rb_chapter_ring.specs.WholeHistory.{IsKept}
+use Rattle.rb_chapter_ring.proofs.Alike.{calls-alike}
+use Rattle.rb_chapter_ring.proofs.Keeping.{calls-keep}
 use Rattle.rb_chapter_ring.specs.ManyTakes.{TakesEachInChapter, TakesManyInChapter}
 use Rattle.rb_ledger.specs.Ledger.{IsRing}
 use Rattle.rb_ledger.specs.Roles.Role.{Consumer}
@@ -21,15 +21,15 @@ use Rattle.rb_ledger.specs.ManyTakes.{got_by_all}
 use Rattle.rb_ledger.proofs.Calls.{put-same, put-taken}
 use Rattle.rb_ledger.proofs.ManyTakes.{put-many, after-many}
 use Rattle.rb_ledger.proofs.Passing.{after-same, after-take}
-use Rattle.rb_chapter_ledger.specs.ChapteredRing.{ChapteredRing, chaptered_ring, whole_of}
-use Rattle.rb_chapter_ledger.specs.ChapterKnowledge.{ChapterPassView, chapter_view}
-use Rattle.rb_chapter_ledger.specs.ChapterLockSteps.{TakesChapterState, MayPutChapter, PutsChapterState, chapter_view_after_put}
-use Rattle.rb_chapter_ledger.specs.LockedChapterCalls.{LockedChapterCall, InKnownChapter, TakesInChapter, TellsUsed, HandsOutNext}
+use Rattle.rb_ledger.specs.ChapteredRing.{ChapteredRing, chaptered_ring, whole_of}
+use Rattle.rb_ledger.specs.ChapterKnowledge.{ChapterPassView, chapter_view}
+use Rattle.rb_ledger.specs.ChapterLockSteps.{TakesChapterState, MayPutChapter, PutsChapterState, chapter_view_after_put}
+use Rattle.rb_ledger.specs.LockedChapterCalls.{LockedChapterCall, InKnownChapter, TakesInChapter, TellsUsed, HandsOutNext}
 use Rattle.rb_chapter_ring.specs.OpenedRing.{MayGoOnIn}
 use Rattle.rb_history.specs.RoomRule.{Setup}
-use Rattle.rb_chapter.proofs.Chain.{binds-continue, binds-number}
-use Rattle.rb_chapter_ledger.proofs.ChapterSteps.{handed-out-more, handed-out-whole, has-next, hands-out-may-put}
-use Rattle.rb_chapter_ledger.proofs.WholeCalls.{takes-whole}
+use Rattle.rb_chapter_ring.proofs.Chain.{binds-continue, binds-number}
+use Rattle.rb_ledger.proofs.ChapterSteps.{handed-out-more, handed-out-whole, has-next, hands-out-may-put}
+use Rattle.rb_ledger.proofs.WholeCalls.{takes-whole}
 use Rattle.rb_shared_ring.specs.inner.SeatPasses.{seen_by, bytes_by, room_by, handed_out_by, known_in, IsIdleIn}
 use Rattle.rb_shared_ring.specs.inner.LentState.{IsKeptRing}
 use Rattle.rb_shared_ring.proofs.ChapterPassing.{HeldChapter, held-in, may-put-in, idle-in, bytes-in, room-in, handed-out-in, is-known-in}

@@ -5,8 +5,8 @@ use Rattle.rb_ledger.specs.RoleKnowledge.{RoleKnowledge, PassView, role_knowledg
 use Rattle.rb_ledger.specs.Seats.{WorkerSeat}
 use Rattle.rb_ledger.specs.SeatRoles.{roles_of}
 use Rattle.rb_ledger.proofs.Gathers.{gather-step}
-use Rattle.rb_chapter_ledger.specs.ChapterKnowledge.{ChapterKnowledge, chapter_view, whole_knowledge}
-use Rattle.rb_hand_ledger.specs.HandKnowledge.{HandPassView, hand_view, without_hands, chapters_known, chapters_out}
+use Rattle.rb_ledger.specs.ChapterKnowledge.{ChapterKnowledge, chapter_view, whole_knowledge}
+use Rattle.rb_ledger.specs.HandKnowledge.{HandPassView, hand_view, without_hands, chapters_known, chapters_out}
 use Rattle.rb_shared_ring.specs.inner.SeatPasses.{known_in}
 use Rattle.rb_shared_ring.specs.inner.HandPasses.{seen_with, bytes_with, known_with}
 

@@ -4,27 +4,27 @@ use Rattle.std.proofs.lemmas.Bool.{cases_lt}
 use Rattle.std.proofs.lemmas.List.{get_or_past}
 use Rattle.rb_history.specs.ReservationModel.{Granted}
 use Rattle.rb_history.specs.RingModel.{Contents}
-use Rattle.rb_chapter.specs.Chapters.{joined}
-use Rattle.rb_chapter.specs.ChapterRing.{ChapterRing}
-use Rattle.rb_chapter.specs.ChapterCalls.{IsSameChapter}
-use Rattle.rb_chapter.proofs.Chain.{binds-continue}
+use Rattle.rb_chapter_ring.specs.Chapters.{joined}
+use Rattle.rb_chapter_ring.specs.ChapterRing.{ChapterRing}
+use Rattle.rb_chapter_ring.specs.ChapterCalls.{IsSameChapter}
+use Rattle.rb_chapter_ring.proofs.Chain.{binds-continue}
 use Rattle.rb_ledger.specs.Roles.{Role, Book, book_of}
 use Rattle.rb_ledger.specs.Roles.Role.{Worker}
 use Rattle.rb_ledger.proofs.Histories.{all-seen}
-use Rattle.rb_chapter_ledger.specs.ChapteredRing.{ChapteredRing, chaptered_ring, whole_of}
-use Rattle.rb_chapter_ledger.specs.ChapterLockSteps.{MayPutChapter, PutsChapterState, chapter_view_after_put, chaptered_after}
-use Rattle.rb_chapter_ledger.specs.LockedChapterCalls.{LockedChapterCall, InRoomAt}
-use Rattle.rb_chapter_ledger.proofs.ChapterSteps.{has-same, handed-out-same}
-use Rattle.rb_hands.specs.declared.out_record.OutRecord.{OutRecord}
-use Rattle.rb_hands.specs.Hands.{out_record, Hands, HandBook, in_hand, hands_of, hand_at, with_hand, IsFree}
-use Rattle.rb_hands.specs.HandRing.{HandRing, HasHands, HasInHand}
-use Rattle.rb_hands.proofs.ChangedHands.{own-hands}
-use Rattle.rb_hands.proofs.HandCalls.{to-whole}
-use Rattle.rb_hand_ledger.specs.HandKnowledge.{HandPassView, hand_view, without_hands, cut_of, KnowsHands, AllKnowHands}
-use Rattle.rb_hand_ledger.specs.HandLockSteps.{TakesHandState, MayPutHands, PutsHandState, LeavesOtherHands, hand_view_after_put}
-use Rattle.rb_hand_ledger.specs.NoStranger.{HoldsOwnBusy}
-use Rattle.rb_hand_ledger.proofs.HandLock.{one-hand-leaves}
-use Rattle.rb_hand_ledger.proofs.NoStranger.{hands-are-seen}
+use Rattle.rb_ledger.specs.ChapteredRing.{ChapteredRing, chaptered_ring, whole_of}
+use Rattle.rb_ledger.specs.ChapterLockSteps.{MayPutChapter, PutsChapterState, chapter_view_after_put, chaptered_after}
+use Rattle.rb_ledger.specs.LockedChapterCalls.{LockedChapterCall, InRoomAt}
+use Rattle.rb_ledger.proofs.ChapterSteps.{has-same, handed-out-same}
+use Rattle.rb_chapter_ring.specs.declared.out_record.OutRecord.{OutRecord}
+use Rattle.rb_chapter_ring.specs.Hands.{out_record, Hands, HandBook, in_hand, hands_of, hand_at, with_hand, IsFree}
+use Rattle.rb_chapter_ring.specs.HandRing.{HandRing, HasHands, HasInHand}
+use Rattle.rb_chapter_ring.proofs.ChangedHands.{own-hands}
+use Rattle.rb_chapter_ring.proofs.HandCalls.{to-whole}
+use Rattle.rb_ledger.specs.HandKnowledge.{HandPassView, hand_view, without_hands, cut_of, KnowsHands, AllKnowHands}
+use Rattle.rb_ledger.specs.HandLockSteps.{TakesHandState, MayPutHands, PutsHandState, LeavesOtherHands, hand_view_after_put}
+use Rattle.rb_ledger.specs.NoStranger.{HoldsOwnBusy}
+use Rattle.rb_ledger.proofs.HandLock.{one-hand-leaves}
+use Rattle.rb_ledger.proofs.NoStranger.{hands-are-seen}
 use Rattle.rb_shared_ring.specs.inner.SeatPasses.{IsIdleIn}
 use Rattle.rb_shared_ring.specs.inner.HandPasses.{seen_with, bytes_with, room_with, hands_by, cut_by, known_with, IsIdleWith}
 use Rattle.rb_shared_ring.specs.inner.LentState.{IsKeptHandRing}

@@ -2,13 +2,13 @@
 use Rattle.std.proofs.Common.{◌≡◌, ℕ, [], Some, ap}
 use Rattle.std.specs.FinMap.{empty}
 use Rattle.crossbeam_queue.specs.Fifo.{Pushes, Learns}
-use Rattle.rb_chapter_ledger.specs.ChapteredRing.{chaptered_ring, IsChapteredRing}
-use Rattle.rb_hands.specs.Hands.{free_book}
-use Rattle.rb_hands.specs.HandRing.{HandRing, HasHands}
-use Rattle.rb_hand_ledger.specs.HandKnowledge.{HandPassView, hand_view}
-use Rattle.rb_hand_ledger.specs.HandLockRule.{KeepsHandLockRule}
-use Rattle.rb_hand_ledger.specs.HandLockSteps.{MayPutHands, PutsHandState, OpensHandState, unopened_hands}
-use Rattle.rb_hand_ledger.proofs.HandLock.{puts, opens, away}
+use Rattle.rb_ledger.specs.ChapteredRing.{chaptered_ring, IsChapteredRing}
+use Rattle.rb_chapter_ring.specs.Hands.{free_book}
+use Rattle.rb_chapter_ring.specs.HandRing.{HandRing, HasHands}
+use Rattle.rb_ledger.specs.HandKnowledge.{HandPassView, hand_view}
+use Rattle.rb_ledger.specs.HandLockRule.{KeepsHandLockRule}
+use Rattle.rb_ledger.specs.HandLockSteps.{MayPutHands, PutsHandState, OpensHandState, unopened_hands}
+use Rattle.rb_ledger.proofs.HandLock.{puts, opens, away}
 
 pub put-step : (n pass : ℕ) (v : HandPassView) (new : HandRing) → MayPutHands v new → Pushes KeepsHandLockRule n pass v new (PutsHandState v new) × Learns KeepsHandLockRule pass v (λ items. items ≡ [])
 put-step n pass v new m = (puts n pass v new m, away pass v m.out (ap (λ (x : HandPassView). x.out) m.view_is))

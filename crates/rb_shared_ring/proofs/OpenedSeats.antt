@@ -2,24 +2,24 @@
 use Rattle.std.proofs.Common.{◌≡◌, ℕ, zero, suc, ◌+◌, ◌-◌, ◌<◌, [], ◌∷◌, Some, None, refl, sym, ap, ◌∙◌, subst, arith}
 use Rattle.std.specs.FinMap.{empty}
 use Rattle.rb_history.specs.RoomRule.{Setup}
-use Rattle.rb_chapter.specs.Chapters.{empty_ring}
-use Rattle.rb_chapter.specs.ChapterRing.{ChapterRing}
+use Rattle.rb_chapter_ring.specs.Chapters.{empty_ring}
+use Rattle.rb_chapter_ring.specs.ChapterRing.{ChapterRing}
 use Rattle.rb_chapter_ring.specs.OpenedRing.{opened_ring}
 use Rattle.rb_ledger.specs.Roles.{Book, book_of}
 use Rattle.rb_ledger.specs.Roles.Role.{Consumer, Worker}
 use Rattle.rb_ledger.specs.Seats.{IsBook, fresh_book}
 use Rattle.rb_ledger.proofs.Seated.{ring-book}
-use Rattle.rb_chapter_ledger.specs.ChapteredRing.{chaptered_ring, whole_of, IsChapteredRing}
-use Rattle.rb_chapter_ledger.specs.ChapterLockSteps.{opening_role}
-use Rattle.rb_chapter.proofs.Chain.{handed-out-bind}
-use Rattle.rb_chapter_ledger.proofs.ChapterSteps.{facts-make-ring}
+use Rattle.rb_ledger.specs.ChapteredRing.{chaptered_ring, whole_of, IsChapteredRing}
+use Rattle.rb_ledger.specs.ChapterLockSteps.{opening_role}
+use Rattle.rb_chapter_ring.proofs.Chain.{handed-out-bind}
+use Rattle.rb_ledger.proofs.ChapterSteps.{facts-make-ring}
 use Rattle.rb_history.specs.Calls.{IsBusy}
-use Rattle.rb_hands.specs.declared.out_record.OutRecord.{OutRecord}
-use Rattle.rb_hands.specs.Hands.{in_hand, free_hands, free_book}
-use Rattle.rb_hands.specs.HandRing.{HandRing, hand_ring}
-use Rattle.rb_hand_ledger.specs.HandKnowledge.{HandPassView, hand_view}
-use Rattle.rb_hand_ledger.specs.HandLockSteps.{OpensHandState, opening_hands, opening_worker_hands, first_hand_role, other_hand_roles}
-use Rattle.rb_hand_ledger.specs.NoStranger.{HoldsOwnBusy}
+use Rattle.rb_chapter_ring.specs.declared.out_record.OutRecord.{OutRecord}
+use Rattle.rb_chapter_ring.specs.Hands.{in_hand, free_hands, free_book}
+use Rattle.rb_chapter_ring.specs.HandRing.{HandRing, hand_ring}
+use Rattle.rb_ledger.specs.HandKnowledge.{HandPassView, hand_view}
+use Rattle.rb_ledger.specs.HandLockSteps.{OpensHandState, opening_hands, opening_worker_hands, first_hand_role, other_hand_roles}
+use Rattle.rb_ledger.specs.NoStranger.{HoldsOwnBusy}
 use Rattle.rb_shared_ring.specs.inner.HandPasses.{seen_with, room_with}
 use Rattle.rb_shared_ring.specs.inner.LentState.{IsKeptRing}
 

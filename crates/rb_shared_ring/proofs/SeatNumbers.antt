@@ -8,14 +8,14 @@ use Rattle.rb_history.specs.ReservationModel.{Granted}
 use Rattle.rb_history.specs.WorkerCounts.{tally_of, numbers_below}
 use Rattle.rb_history.proofs.Settled.{settled-most}
 use Rattle.rb_history.proofs.Tallies.{grants-low}
-use Rattle.rb_chapter.specs.Opening.{tally_at}
-use Rattle.rb_chapter.specs.CountedFrom.{tally_from}
+use Rattle.rb_chapter_ring.specs.Opening.{tally_at}
+use Rattle.rb_chapter_ring.specs.CountedFrom.{tally_from}
 use Rattle.std.proofs.lemmas.List.{length-map}
-use Rattle.rb_chapter.specs.Chapters.{Chapter, joined, closing_of}
-use Rattle.rb_chapter.specs.ChapterRing.{ChapterRing}
-use Rattle.rb_chapter.specs.WholeHistory.{ContinuesHistory}
-use Rattle.rb_chapter.proofs.Limits.{spans-low}
-use Rattle.rb_chapter.proofs.Numbers.{length-below, tally-after, tally-at}
+use Rattle.rb_chapter_ring.specs.Chapters.{Chapter, joined, closing_of}
+use Rattle.rb_chapter_ring.specs.ChapterRing.{ChapterRing}
+use Rattle.rb_chapter_ring.specs.WholeHistory.{ContinuesHistory}
+use Rattle.rb_chapter_ring.proofs.Limits.{spans-low}
+use Rattle.rb_chapter_ring.proofs.ChapterNumbers.{length-below, tally-after, tally-at}
 use Rattle.rb_chapter_ring.specs.declared.faults.ReserveFault.{ReserveFault}
 use Rattle.rb_chapter_ring.specs.declared.faults.ReserveFault.TheVariants.{Full, Flags, ChapterFull, Foreign, HandsFull}
 use Rattle.rb_chapter_ring.specs.RingFaults.{RefusesInChapter}
@@ -25,14 +25,14 @@ use Rattle.rb_ledger.specs.Roles.Role.{Worker}
 use Rattle.rb_ledger.specs.Seats.{IsBook, Ties}
 use Rattle.rb_ledger.specs.LockedCalls.{LockedCall, Reserves, OutputsAt, submitted_by, discarded_by}
 use Rattle.rb_ledger.proofs.Seated.{ring-book, ties-goes, reserve-ties, submit-ties, discard-ties, output-ties, query-ties, serial-is}
-use Rattle.rb_chapter_ledger.specs.ChapteredRing.{ChapteredRing, chaptered_ring, whole_of}
-use Rattle.rb_chapter_ledger.specs.LockedChapterCalls.{LockedChapterCall, InOneChapter, SubmitsInChapter, DiscardsInChapter, QueriesInChapter}
-use Rattle.rb_chapter.proofs.Chain.{binds-continue}
-use Rattle.rb_chapter_ledger.proofs.WholeCalls.{said, call-whole, with-worker, each-call-is-whole}
+use Rattle.rb_ledger.specs.ChapteredRing.{ChapteredRing, chaptered_ring, whole_of}
+use Rattle.rb_ledger.specs.LockedChapterCalls.{LockedChapterCall, InOneChapter, SubmitsInChapter, DiscardsInChapter, QueriesInChapter}
+use Rattle.rb_chapter_ring.proofs.Chain.{binds-continue}
+use Rattle.rb_ledger.proofs.WholeCalls.{said, call-whole, with-worker, each-call-is-whole}
 use Rattle.rb_shared_ring.specs.SharedCalls.{ReservesInChapter, OutputsInChapter, AuditsInChapter, IsRefusedInChapterAs, reserved_in_chapter_by, output_in_chapter_by}
-use Rattle.rb_hands.specs.Hands.{Hands}
-use Rattle.rb_hand_ledger.specs.HandKnowledge.{HandPassView}
-use Rattle.rb_hand_ledger.specs.NoStranger.{HoldsOwnBusy}
+use Rattle.rb_chapter_ring.specs.Hands.{Hands}
+use Rattle.rb_ledger.specs.HandKnowledge.{HandPassView}
+use Rattle.rb_ledger.specs.NoStranger.{HoldsOwnBusy}
 use Rattle.rb_shared_ring.specs.inner.HandPasses.{hands_by, seen_with, KeepsHands}
 use Rattle.rb_shared_ring.specs.AnswersOverAll.{whole_answer}
 use Rattle.rb_shared_ring.proofs.WholeAnswers.{tally-reserved, tally-output, reserves-whole, outputs-whole}

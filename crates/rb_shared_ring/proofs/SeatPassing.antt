@@ -3,16 +3,16 @@ use Rattle.std.proofs.Common.{◌≡◌, ℕ, ◌<◌, List, Some, None, length,
 use Rattle.std.specs.FinMap.{insert}
 use Rattle.rb_history.specs.declared.answers.Notice.{Notice}
 use Rattle.rb_history.specs.ReservationModel.{Granted}
-use Rattle.rb_chapter.specs.ChapterRing.{ChapterRing}
-use Rattle.rb_chapter.specs.ChapterCalls.{producer_now}
+use Rattle.rb_chapter_ring.specs.ChapterRing.{ChapterRing}
+use Rattle.rb_chapter_ring.specs.ChapterCalls.{producer_now}
 use Rattle.rb_chapter_ring.specs.declared.faults.ReserveFault.{ReserveFault}
 use Rattle.rb_ledger.specs.Roles.Role.{Worker}
-use Rattle.rb_chapter_ledger.specs.LockedChapterCalls.{SubmitsInChapter, DiscardsInChapter, QueriesInChapter}
-use Rattle.rb_hands.specs.Hands.{out_record, Hands, hands_of, with_hand, IsFree}
-use Rattle.rb_hands.specs.HandRing.{HandRing}
+use Rattle.rb_ledger.specs.LockedChapterCalls.{SubmitsInChapter, DiscardsInChapter, QueriesInChapter}
+use Rattle.rb_chapter_ring.specs.Hands.{out_record, Hands, hands_of, with_hand, IsFree}
+use Rattle.rb_chapter_ring.specs.HandRing.{HandRing}
 use Rattle.rb_chapter_ring.specs.HandGranted.{HandGranted}
-use Rattle.rb_hand_ledger.specs.HandKnowledge.{HandPassView, without_hands}
-use Rattle.rb_hand_ledger.specs.HandLockSteps.{TakesHandState, MayPutHands, PutsHandState}
+use Rattle.rb_ledger.specs.HandKnowledge.{HandPassView, without_hands}
+use Rattle.rb_ledger.specs.HandLockSteps.{TakesHandState, MayPutHands, PutsHandState}
 use Rattle.rb_shared_ring.specs.declared.audit.Audit.{Audit}
 use Rattle.rb_shared_ring.specs.SharedCalls.{IsRefusedInChapterAs, ReservesInChapter, OutputsInChapter, AuditsInChapter, granted_in, hands_reserved, sent_by_chapter_output}
 use Rattle.rb_shared_ring.specs.inner.HandCalls.{ReservesToHand, SubmitsOut, DiscardsOut, LeavesHands}
@@ -60,7 +60,7 @@ module _ (w : ℕ) (v : HandPassView) (r new : HandRing) (out : HandPassView) (i
   put-reserve hand n a c =
       by-answer a c (chapter.put-reserve w (without_hands v) r.ring new.ring (without_hands out) (chapter-idle (Worker w) v r out idle took) took.chapters kept.kept n (granted_in a) (reserves-in w hand n a r new c))
     where
-      by-answer : (a : Result HandGranted (ReserveFault × List ℕ)) → ReservesToHand w hand n a r new → Rattle.rb_chapter_ledger.specs.ChapterLockSteps.MayPutChapter (without_hands out) new.ring → MayPutHands out new
+      by-answer : (a : Result HandGranted (ReserveFault × List ℕ)) → ReservesToHand w hand n a r new → Rattle.rb_ledger.specs.ChapterLockSteps.MayPutChapter (without_hands out) new.ring → MayPutHands out new
       by-answer (Ok g) c m = may-put-changed w v r out idle took new hand (Some (out_record g.granted.pos g.granted.serial n)) kept m c.0.marked
       by-answer (Err e) c m = may-put-same (Worker w) v r out idle took new kept m c.2
 

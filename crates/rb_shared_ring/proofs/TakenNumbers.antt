@@ -8,8 +8,8 @@ use Rattle.rb_history.specs.RoomRule.{Setup}
 use Rattle.rb_history.specs.RingModel.{Ring}
 use Rattle.rb_history.specs.ManyTakes.{TakesMany}
 use Rattle.rb_history.proofs.Lists.{sum_by-cons}
-use Rattle.rb_chapter.specs.Chapters.{Chapter, joined}
-use Rattle.rb_chapter.specs.WholeHistory.{IsKept}
+use Rattle.rb_chapter_ring.specs.Chapters.{Chapter, joined}
+use Rattle.rb_chapter_ring.specs.WholeHistory.{IsKept}
 use Rattle.rb_chapter_ring.specs.ManyTakes.{TakesManyInChapter}
 use Rattle.rb_ledger.specs.Roles.{Book, book_of}
 use Rattle.rb_ledger.specs.Roles.Role.{Consumer}
@@ -18,11 +18,11 @@ use Rattle.rb_ledger.specs.LockedCalls.{LockedCall, events_in, skips_in, span_in
 use Rattle.rb_ledger.specs.ManyTakes.{events_among, skips_among, span_among, AreTakenFrom}
 use Rattle.rb_ledger.proofs.Seated.{taker-goes-on, take-ties, take-place, take-setup}
 use Rattle.rb_ledger.proofs.ManyTakes.{many-ties, many-places, many-setup}
-use Rattle.rb_chapter_ledger.specs.ChapteredRing.{whole_of}
-use Rattle.rb_chapter_ledger.specs.LockedChapterCalls.{LockedChapterCall, InKnownChapter, TakesInChapter, TellsUsed, HandsOutNext}
-use Rattle.rb_chapter.proofs.Chain.{binds-continue}
-use Rattle.rb_chapter_ledger.proofs.WholeCalls.{each-call-is-whole}
-use Rattle.rb_hand_ledger.specs.HandKnowledge.{HandPassView}
+use Rattle.rb_ledger.specs.ChapteredRing.{whole_of}
+use Rattle.rb_ledger.specs.LockedChapterCalls.{LockedChapterCall, InKnownChapter, TakesInChapter, TellsUsed, HandsOutNext}
+use Rattle.rb_chapter_ring.proofs.Chain.{binds-continue}
+use Rattle.rb_ledger.proofs.WholeCalls.{each-call-is-whole}
+use Rattle.rb_ledger.specs.HandKnowledge.{HandPassView}
 use Rattle.rb_shared_ring.specs.inner.HandPasses.{seen_with, room_with, handed_out_with, IsIdleWith}
 use Rattle.rb_shared_ring.specs.inner.SeatsKeep.{KeepsConsumer, CountsTakes}
 use Rattle.rb_shared_ring.proofs.ConsumerPassing.{many-whole}

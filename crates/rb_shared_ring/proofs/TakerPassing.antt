@@ -1,14 +1,14 @@
 -- Each call of the consumer's seat under the lock: that the state may be put back with its hands, which it leaves, and what the seat's pass knows then.
 use Rattle.std.proofs.Common.{◌≡◌, ℕ, List}
 use Rattle.rb_history.specs.RingModel.{Contents}
-use Rattle.rb_chapter.specs.Chapters.{Chapter}
+use Rattle.rb_chapter_ring.specs.Chapters.{Chapter}
 use Rattle.rb_ledger.specs.Roles.Role.{Consumer}
-use Rattle.rb_chapter_ledger.specs.ChapteredRing.{ChapteredRing}
-use Rattle.rb_chapter_ledger.specs.ChapterLockSteps.{MayPutChapter, PutsChapterState}
-use Rattle.rb_chapter_ledger.specs.LockedChapterCalls.{LockedChapterCall}
-use Rattle.rb_hands.specs.HandRing.{HandRing}
-use Rattle.rb_hand_ledger.specs.HandKnowledge.{HandPassView, without_hands}
-use Rattle.rb_hand_ledger.specs.HandLockSteps.{TakesHandState, MayPutHands, PutsHandState}
+use Rattle.rb_ledger.specs.ChapteredRing.{ChapteredRing}
+use Rattle.rb_ledger.specs.ChapterLockSteps.{MayPutChapter, PutsChapterState}
+use Rattle.rb_ledger.specs.LockedChapterCalls.{LockedChapterCall}
+use Rattle.rb_chapter_ring.specs.HandRing.{HandRing}
+use Rattle.rb_ledger.specs.HandKnowledge.{HandPassView, without_hands}
+use Rattle.rb_ledger.specs.HandLockSteps.{TakesHandState, MayPutHands, PutsHandState}
 use Rattle.rb_shared_ring.specs.inner.HandPasses.{seen_with, bytes_with, room_with, handed_out_with, IsIdleWith}
 use Rattle.rb_shared_ring.specs.inner.LentState.{IsKeptHandRing}
 use Rattle.rb_shared_ring.proofs.ConsumerPassing.{LeavesConsumer}

@@ -12,18 +12,18 @@ use Rattle.rb_history.specs.declared.tally.Tally.{Tally}
 use Rattle.rb_history.specs.ReservationModel.{Granted}
 use Rattle.rb_history.specs.RingModel.{Contents}
 use Rattle.rb_history.specs.Calls.{Refuses, producer_now as whole_producer_now, consumer_now as whole_consumer_now}
-use Rattle.rb_chapter.specs.Opening.{Opening}
-use Rattle.rb_chapter.specs.Chapters.{Chapter}
-use Rattle.rb_chapter.specs.ChapterRing.{ChapterRing, whole_ring}
-use Rattle.rb_chapter.specs.ChapterCalls.{IsSameChapter, Logs, Takes, producer_now}
-use Rattle.rb_chapter.specs.WholeHistory.{ContinuesHistory}
-use Rattle.rb_chapter.proofs.Alike.{calls-alike}
+use Rattle.rb_chapter_ring.specs.Opening.{Opening}
+use Rattle.rb_chapter_ring.specs.Chapters.{Chapter}
+use Rattle.rb_chapter_ring.specs.ChapterRing.{ChapterRing, whole_ring}
+use Rattle.rb_chapter_ring.specs.ChapterCalls.{IsSameChapter, Logs, Takes, producer_now}
+use Rattle.rb_chapter_ring.specs.WholeHistory.{ContinuesHistory}
+use Rattle.rb_chapter_ring.proofs.Alike.{calls-alike}
 use Rattle.rb_chapter_ring.specs.declared.faults.ReserveFault.{ReserveFault}
 use Rattle.rb_chapter_ring.specs.declared.faults.ReserveFault.TheVariants.{Full, Flags, ChapterFull, Foreign, HandsFull}
 use Rattle.rb_chapter_ring.specs.RingFaults.{RefusesInChapter}
 use Rattle.rb_ledger.specs.LockedCalls.{Reserves, OutputsAt, reserved_by, output_by, sent_by_output}
-use Rattle.rb_chapter_ledger.specs.LockedChapterCalls.{SubmitsInChapter, DiscardsInChapter}
-use Rattle.rb_chapter_ledger.proofs.WholeCalls.{said, due-same}
+use Rattle.rb_ledger.specs.LockedChapterCalls.{SubmitsInChapter, DiscardsInChapter}
+use Rattle.rb_ledger.proofs.WholeCalls.{said, due-same}
 use Rattle.rb_shared_ring.specs.AnswersOverAll.{whole_fault, whole_answer}
 use Rattle.rb_shared_ring.specs.SharedCalls.{ReservesInChapter, OutputsInChapter, reserved_in_chapter_by, output_in_chapter_by, sent_by_chapter_output}
 

@@ -1,14 +1,14 @@
 -- Each call by the ring's chapter, with its answer, is a call over the whole history.
 use Rattle.std.proofs.Common.{ℕ, ◌<◌, List, ap, ◌∙◌}
 use Rattle.rb_history.specs.declared.entries.Entry.{Entry}
-use Rattle.rb_chapter.specs.Opening.{Opening}
-use Rattle.rb_chapter.specs.ChapterRing.{ChapterRing, whole_ring}
-use Rattle.rb_chapter.specs.WholeHistory.{ContinuesHistory}
+use Rattle.rb_chapter_ring.specs.Opening.{Opening}
+use Rattle.rb_chapter_ring.specs.ChapterRing.{ChapterRing, whole_ring}
+use Rattle.rb_chapter_ring.specs.WholeHistory.{ContinuesHistory}
 use Rattle.rb_chapter_ring.specs.OpenedRing.{capped_counts}
 use Rattle.rb_shared_ring.specs.declared.audit.Audit.{Audit}
 use Rattle.rb_ledger.specs.Roles.Role.{Worker}
 use Rattle.rb_ledger.specs.LockedCalls.{Reserves, OutputsAt}
-use Rattle.rb_chapter_ledger.proofs.WholeCalls.{said, call-whole, with-worker}
+use Rattle.rb_ledger.proofs.WholeCalls.{said, call-whole, with-worker}
 use Rattle.rb_shared_ring.specs.SharedCalls.{ReservesInChapter, OutputsInChapter, AuditsInChapter}
 use Rattle.rb_shared_ring.specs.AnswersOverAll.{whole_answer, TellsWhole, EachAnswerIsWhole}
 use Rattle.rb_shared_ring.proofs.WholeAnswers.{reserves-whole, outputs-whole}

@@ -4,10 +4,10 @@ use Rattle.rb_history.specs.declared.answers.Notice.{Notice}
 use Rattle.rb_history.specs.declared.answers.Stray.{Stray}
 use Rattle.rb_history.specs.ReservationModel.{Granted}
 use Rattle.rb_history.specs.RingModel.{Contents}
-use Rattle.rb_chapter.specs.Chapters.{joined}
-use Rattle.rb_chapter.specs.ChapterRing.{ChapterRing}
-use Rattle.rb_chapter.specs.ChapterCalls.{IsSameChapter, producer_now}
-use Rattle.rb_chapter.specs.WholeHistory.{ContinuesHistory}
+use Rattle.rb_chapter_ring.specs.Chapters.{joined}
+use Rattle.rb_chapter_ring.specs.ChapterRing.{ChapterRing}
+use Rattle.rb_chapter_ring.specs.ChapterCalls.{IsSameChapter, producer_now}
+use Rattle.rb_chapter_ring.specs.WholeHistory.{ContinuesHistory}
 use Rattle.rb_chapter_ring.specs.declared.faults.ReserveFault.{ReserveFault}
 use Rattle.rb_shared_ring.specs.declared.audit.Audit.{Audit}
 use Rattle.rb_ledger.specs.Ledger.{IsRing}
@@ -18,12 +18,12 @@ use Rattle.rb_ledger.specs.LockSteps.{RoleStep, knowledge_after}
 use Rattle.rb_ledger.specs.LockedCalls.{sent_by_submit}
 use Rattle.rb_ledger.proofs.Calls.{put-same, put-reserved, put-submitted, put-discarded, put-output}
 use Rattle.rb_ledger.proofs.Passing.{after-same, after-reserve, after-submit, after-discard, after-output}
-use Rattle.rb_chapter_ledger.specs.ChapteredRing.{ChapteredRing, chaptered_ring, whole_of}
-use Rattle.rb_chapter_ledger.specs.ChapterKnowledge.{ChapterPassView}
-use Rattle.rb_chapter_ledger.specs.ChapterLockSteps.{TakesChapterState, MayPutChapter, PutsChapterState}
-use Rattle.rb_chapter_ledger.specs.LockedChapterCalls.{LockedChapterCall, InRoomAt, SubmitsInChapter, DiscardsInChapter, QueriesInChapter}
-use Rattle.rb_chapter.proofs.Chain.{binds-continue}
-use Rattle.rb_chapter_ledger.proofs.WholeCalls.{submits-whole, discards-whole, queries-whole}
+use Rattle.rb_ledger.specs.ChapteredRing.{ChapteredRing, chaptered_ring, whole_of}
+use Rattle.rb_ledger.specs.ChapterKnowledge.{ChapterPassView}
+use Rattle.rb_ledger.specs.ChapterLockSteps.{TakesChapterState, MayPutChapter, PutsChapterState}
+use Rattle.rb_ledger.specs.LockedChapterCalls.{LockedChapterCall, InRoomAt, SubmitsInChapter, DiscardsInChapter, QueriesInChapter}
+use Rattle.rb_chapter_ring.proofs.Chain.{binds-continue}
+use Rattle.rb_ledger.proofs.WholeCalls.{submits-whole, discards-whole, queries-whole}
 use Rattle.rb_shared_ring.specs.inner.SeatPasses.{seen_by, bytes_by, room_by, IsIdleIn}
 use Rattle.rb_shared_ring.specs.inner.LentState.{IsKeptRing}
 use Rattle.rb_shared_ring.specs.SharedCalls.{ReservesInChapter, OutputsInChapter, AuditsInChapter, sent_by_chapter_output}

@@ -1,14 +1,14 @@
 -- What binding the chapters of a closed ring promises of the seats with which it was closed (own).
 use Rattle.std.specs.Prelude.{◌≡◌, List, Result, Ok, Err}
 use Rattle.rb_history.specs.declared.entries.Entry.{Entry}
-use Rattle.rb_chapter.specs.Chapters.{Chapter, joined}
-use Rattle.rb_chapter.specs.ChapterRing.{ChapterRing}
+use Rattle.rb_chapter_ring.specs.Chapters.{Chapter, joined}
+use Rattle.rb_chapter_ring.specs.ChapterRing.{ChapterRing}
 use Rattle.rb_ledger.specs.Seats.{WorkerSeat}
 use Rattle.rb_ledger.specs.Headline.{IsClosed, IsGathered}
-use Rattle.rb_chapter_ledger.specs.declared.binding.BindFault.{BindFault}
-use Rattle.rb_chapter_ledger.specs.ChapterSeats.{ChapterConsumerSeat, whole_consumer}
-use Rattle.rb_chapter_ledger.specs.ChapterClosing.{IsClosedByChapters, bound_book, AreTied}
-use Rattle.rb_chapter_ledger.specs.ChapterHeadline.{bound_ring}
+use Rattle.rb_ledger.specs.declared.binding.BindFault.{BindFault}
+use Rattle.rb_ledger.specs.ChapterSeats.{ChapterConsumerSeat, whole_consumer}
+use Rattle.rb_ledger.specs.ChapterClosing.{IsClosedByChapters, bound_book, AreTied}
+use Rattle.rb_ledger.specs.ChapterHeadline.{bound_ring}
 
 -- the answer is this fault
 abbrev pub IsNotBound : {A B C : Type 0} → BindFault → Result A (BindFault × B × C) → Type 0

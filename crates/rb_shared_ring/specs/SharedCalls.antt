@@ -1,4 +1,4 @@
--- What the calls on a shared ring over chapters do and answer, beside those that rb_chapter_ledger defines; and what an answer adds to a
+-- What the calls on a shared ring over chapters do and answer, beside those that rb_ledger defines; and what an answer adds to a
 -- seat's numbers and bytes (own).
 use Rattle.std.specs.Prelude.{◌≡◌, ◌≢◌, ℕ, ◌+◌, ◌≤◌, ◌<◌, ◌↔◌, List, Option, Some, None, length, replicate, slice_set as set, Result, Ok, Err}
 use Rattle.std.specs.FinMap.{insert}
@@ -8,15 +8,15 @@ use Rattle.rb_history.specs.declared.tally.Tally.{Tally}
 use Rattle.rb_history.specs.ReservationModel.{Granted}
 use Rattle.rb_history.specs.NoticesAndQueries.{IsDue}
 use Rattle.rb_history.specs.RingModel.{Contents}
-use Rattle.rb_chapter.specs.CountedFrom.{tally_from}
-use Rattle.rb_chapter.specs.ChapterRing.{ChapterRing}
-use Rattle.rb_chapter.specs.ChapterCalls.{Grants, Outputs, producer_now, consumer_now}
+use Rattle.rb_chapter_ring.specs.CountedFrom.{tally_from}
+use Rattle.rb_chapter_ring.specs.ChapterRing.{ChapterRing}
+use Rattle.rb_chapter_ring.specs.ChapterCalls.{Grants, Outputs, producer_now, consumer_now}
 use Rattle.rb_chapter_ring.specs.declared.faults.ReserveFault.{ReserveFault}
 use Rattle.rb_chapter_ring.specs.declared.faults.ReserveFault.TheVariants.{Full, Flags, ChapterFull, Foreign, HandsFull}
 use Rattle.rb_chapter_ring.specs.OpenedRing.{told_counts}
 use Rattle.rb_chapter_ring.specs.RingFaults.{RefusesInChapter}
-use Rattle.rb_hands.specs.declared.out_record.OutRecord.{OutRecord}
-use Rattle.rb_hands.specs.Hands.{Hands, in_hand, out_record}
+use Rattle.rb_chapter_ring.specs.declared.out_record.OutRecord.{OutRecord}
+use Rattle.rb_chapter_ring.specs.Hands.{Hands, in_hand, out_record}
 use Rattle.rb_chapter_ring.specs.HandGranted.{HandGranted}
 use Rattle.rb_ledger.specs.Seats.{Shared, WorkerSeat}
 use Rattle.rb_shared_ring.specs.declared.audit.Audit.{Audit}

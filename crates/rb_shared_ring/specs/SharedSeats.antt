@@ -1,7 +1,7 @@
 -- How the consumer's seat at a shared ring over chapters changes in a call.
 use Rattle.std.specs.Prelude.{◌≡◌, Result, Ok, Err}
-use Rattle.rb_chapter.specs.Chapters.{Chapter}
-use Rattle.rb_chapter_ledger.specs.ChapterSeats.{ChapterConsumerSeat}
+use Rattle.rb_chapter_ring.specs.Chapters.{Chapter}
+use Rattle.rb_ledger.specs.ChapterSeats.{ChapterConsumerSeat}
 use Rattle.rb_shared_ring.specs.declared.chapters.HandFault.{HandFault}
 
 -- it is the consumer's seat at the same ring

@@ -2,11 +2,11 @@
 
 ghost use Rattle.std.specs.Prelude.{◌≡◌, ◌≢◌, ◌↔◌, ◌<◌, IfOk, IsErr, None, length, slice_index_or};
 ghost use Rattle.crossbeam_queue.specs.Passes.{view, IsPassOf, IsSamePass, ruled_capacity};
-ghost use Rattle.rb_chapter.specs.Opening.{no_tally};
+ghost use Rattle.rb_chapter_ring.specs.Opening.{no_tally};
 ghost use Rattle.rb_ledger.specs.Roles.Role.{Worker};
 ghost use Rattle.rb_ledger.specs.Seats.{IsSameSeat};
-ghost use Rattle.rb_chapter_ledger.specs.LockedChapterCalls.{LockedChapterCall, InRoomAt};
-ghost use Rattle.rb_hand_ledger.specs.NoStranger.{HoldsOwnBusy};
+ghost use Rattle.rb_ledger.specs.LockedChapterCalls.{LockedChapterCall, InRoomAt};
+ghost use Rattle.rb_ledger.specs.NoStranger.{HoldsOwnBusy};
 ghost use Rattle.rb_shared_ring.specs.SharedCalls.{AuditsInChapter};
 ghost use Rattle.rb_shared_ring.specs.inner.HandCalls.{LeavesHands};
 ghost use Rattle.rb_shared_ring.specs.inner.HandPasses.{seen_with, bytes_with, room_with, hands_by, cut_by, IsIdleWith};

@@ -3,10 +3,10 @@
 ghost use Rattle.std.specs.Prelude.{◌≡◌, ◌≢◌, ◌<◌, ◌^◌, ◌↔◌, ◌++◌, ◌∷◌, [], IfOk, IfErr, IsErr, OnErr, IsTrue, None, length};
 ghost use Rattle.crossbeam_queue.specs.Passes.{view, IsPassOf, IsSamePass, ruled_capacity};
 ghost use Rattle.rb_chapter_ring.specs.OpenedRing.{MayGoOnIn};
-ghost use Rattle.rb_chapter.specs.ChapterCalls.{HandsOut};
+ghost use Rattle.rb_chapter_ring.specs.ChapterCalls.{HandsOut};
 ghost use Rattle.rb_ledger.specs.Roles.Role.{Consumer};
-ghost use Rattle.rb_chapter_ledger.specs.ChapterSeats.{IsFitChapter};
-ghost use Rattle.rb_chapter_ledger.specs.LockedChapterCalls.{LockedChapterCall, InKnownChapter, TellsUsed, HandsOutNext};
+ghost use Rattle.rb_ledger.specs.ChapterSeats.{IsFitChapter};
+ghost use Rattle.rb_ledger.specs.LockedChapterCalls.{LockedChapterCall, InKnownChapter, TellsUsed, HandsOutNext};
 ghost use Rattle.rb_shared_ring.specs.SharedSeats.{IsSameChapterConsumer, TakesNothing, IsHandFault};
 ghost use Rattle.rb_shared_ring.specs.inner.HandCalls.{LeavesHands};
 ghost use Rattle.rb_shared_ring.specs.inner.HandPasses.{seen_with, bytes_with, room_with, handed_out_with, IsIdleWith};
@@ -15,8 +15,7 @@ use crate::consumer_seat::ConsumerSeat;
 use crate::lock::{Lock, RingPass};
 use crate::locked_calls::with_state;
 use crate::shared::{Foreign, SharedRing};
-use rb_chapter::Chapter;
-use rb_chapter_ring::HandState;
+use rb_chapter_ring::{Chapter, HandState};
 use std::sync::Wait;
 use thiserror::Error;
 

@@ -2,21 +2,20 @@
 
 ghost use Rattle.std.specs.Prelude.{◌≡◌, ◌↔◌, ◌++◌, ◌∷◌, [], List, IfOk, IfErr, IsOk, IsTrue, All, true};
 ghost use Rattle.crossbeam_queue.specs.Passes.{view, IsPassOf, IsSamePass};
-ghost use Rattle.rb_chapter.specs.ChapterRing.{StandsForChapter};
-ghost use Rattle.rb_chapter.specs.ChapterCalls.{producer_now, consumer_now};
+ghost use Rattle.rb_chapter_ring.specs.ChapterRing.{StandsForChapter};
+ghost use Rattle.rb_chapter_ring.specs.ChapterCalls.{producer_now, consumer_now};
 ghost use Rattle.rb_chapter_ring.specs.OpenedRing.{told_counts};
 ghost use Rattle.rb_ledger.specs.Seats.{are_tagged, has_seat, HasAll};
 ghost use Rattle.rb_ledger.specs.SeatRoles.{roles_of, HasOwnCounts};
-ghost use Rattle.rb_chapter_ledger.specs.ChapterKnowledge.{ChapterKnowledge, chapter_view, whole_knowledge};
-ghost use Rattle.rb_chapter_ledger.specs.ChapterClosing.{IsClosedByChapters};
-ghost use Rattle.rb_hand_ledger.specs.HandKnowledge.{without_hands};
+ghost use Rattle.rb_ledger.specs.ChapterKnowledge.{ChapterKnowledge, chapter_view, whole_knowledge};
+ghost use Rattle.rb_ledger.specs.ChapterClosing.{IsClosedByChapters};
+ghost use Rattle.rb_ledger.specs.HandKnowledge.{without_hands};
 
 use crate::consumer_seat::ConsumerSeat;
 use crate::lock::{JoinRoles, Lock, RingPass, take_out};
 use crate::shared::SharedRing;
 use crate::worker_seat::Seat;
-use rb_chapter::Chapter;
-use rb_chapter_ring::HandState;
+use rb_chapter_ring::{Chapter, HandState};
 use rb_history::Counts;
 use std::marker::Model;
 use std::sync::Wait;
@@ -35,8 +34,8 @@ impl Model for Closing {
     ghost use Rattle.rb_history.specs.RingModel.{contents_code};
     ghost use Rattle.rb_history.specs.contracts.entries.Entry as entry;
     ghost use Rattle.rb_history.specs.contracts.tally.Tally as tally_row;
-    ghost use Rattle.rb_hands.specs.contracts.out_record.OutRecord as out_row;
-    ghost use Rattle.rb_chapter_ledger.specs.ChapterClosing.{ClosedChapterRing};
+    ghost use Rattle.rb_chapter_ring.specs.contracts.out_record.OutRecord as out_row;
+    ghost use Rattle.rb_ledger.specs.ChapterClosing.{ClosedChapterRing};
 
     ghost Value = { ClosedChapterRing };
 

@@ -4,12 +4,12 @@ ghost use Rattle.std.specs.Prelude.{◌≡◌, [], ◌∷◌, None, length};
 ghost use Rattle.crossbeam_queue.specs.Passes.{view, IsPassOf, IsSamePass};
 ghost use Rattle.rb_ledger.specs.Roles.Role.{Consumer};
 ghost use Rattle.rb_ledger.specs.Seats.{IsBook, ConsumerTies};
-ghost use Rattle.rb_chapter_ledger.specs.ChapterKnowledge.{chapter_view};
-ghost use Rattle.rb_chapter_ledger.specs.ChapterClosing.{consumer_knowledge};
-ghost use Rattle.rb_chapter_ledger.specs.ChapterLockSteps.{opening_role};
-ghost use Rattle.rb_hand_ledger.specs.HandKnowledge.{hand_view, without_hands};
-ghost use Rattle.rb_hand_ledger.specs.HandLockSteps.{first_hand_role, other_hand_roles, opening_hands};
-ghost use Rattle.rb_chapter_ledger.specs.ChapterSeats.{fresh_chapter_consumer};
+ghost use Rattle.rb_ledger.specs.ChapterKnowledge.{chapter_view};
+ghost use Rattle.rb_ledger.specs.ChapterClosing.{consumer_knowledge};
+ghost use Rattle.rb_ledger.specs.ChapterLockSteps.{opening_role};
+ghost use Rattle.rb_ledger.specs.HandKnowledge.{hand_view, without_hands};
+ghost use Rattle.rb_ledger.specs.HandLockSteps.{first_hand_role, other_hand_roles, opening_hands};
+ghost use Rattle.rb_ledger.specs.ChapterSeats.{fresh_chapter_consumer};
 ghost use Rattle.rb_shared_ring.specs.inner.HandPasses.{seen_with, room_with};
 
 use crate::lock::{Lock, RingPass, SplitFirstRole};
@@ -39,9 +39,9 @@ impl Model for ConsumerSeat {
     ghost use Rattle.rb_history.specs.RingModel.{contents_code};
     ghost use Rattle.rb_history.specs.contracts.entries.Entry as entry;
     ghost use Rattle.rb_history.specs.contracts.tally.Tally as tally_row;
-    ghost use Rattle.rb_chapter_ledger.specs.ChapterSeats.{ChapterConsumerSeat};
-    ghost use Rattle.rb_hands.specs.contracts.out_record.OutRecord as out_row;
-    ghost use Rattle.rb_hand_ledger.specs.HandKnowledge.{chapters_out};
+    ghost use Rattle.rb_ledger.specs.ChapterSeats.{ChapterConsumerSeat};
+    ghost use Rattle.rb_chapter_ring.specs.contracts.out_record.OutRecord as out_row;
+    ghost use Rattle.rb_ledger.specs.HandKnowledge.{chapters_out};
     ghost use Rattle.rb_shared_ring.specs.inner.HandPasses.{seen_with, bytes_with, room_with, handed_out_with};
     ghost use Rattle.rb_shared_ring.specs.inner.SeatsKeep.{KeepsConsumer, CountsTakes};
 

@@ -1,14 +1,14 @@
 //! A BPF ring buffer that threads share: many workers reserve, submit and discard records, and one consumer takes them in the order in which they
 //! were reserved, as the kernel's Documentation/bpf/ringbuf.rst has it. It is for hosts that run BPF programs on several threads. Its memory does
-//! not grow: it keeps one chapter of its history at a time (`rb_chapter`), and takes all its memory where it is opened. The consumer hands
+//! not grow: it keeps one chapter of its history at a time (`rb_chapter_ring`), and takes all its memory where it is opened. The consumer hands
 //! full chapters out, and keeps them or lets them go. The lock is crossbeam's `ArrayQueue` with one place.
 //!
 //! Whatever the threads do, all calls are in one history, of which each seat has seen a beginning: the entries of the chapters that were handed
-//! out, then those of the chapter under the lock (`rb_ledger` and `rb_chapter_ledger` have the definitions, with drawings, and the laws).
+//! out, then those of the chapter under the lock (`rb_ledger` has the definitions, with drawings, and the laws).
 //! `SharedRing` says what each call promises, `Closing::bind` what holds once all seats are back and the chapters are bound.
 //!
 //! Each seat has four hands, in which its reservations are out, and what they show are exactly its worker's busy records. So no reservation is a
-//! stranger to its ring: until its seat gives it back it is busy there, and giving it back is not refused (`rb_hand_ledger`).
+//! stranger to its ring: until its seat gives it back it is busy there, and giving it back is not refused (`rb_ledger`).
 //!
 //! ```text
 //! let (ring, mut seats, mut consumer) = open(rt, alloc, 7, 4096, 0, 1, 8)?;  // tag 7, 4096 bytes, one worker, chapters of 8 entries
@@ -49,7 +49,7 @@ pub use chapters::HandFault;
 pub use closing::{Closing, NotAll};
 pub use consumer_seat::ConsumerSeat;
 pub use opening::open;
-pub use rb_chapter_ledger::BindFault;
+pub use rb_ledger::BindFault;
 pub use rb_chapter_ring::{OpenFault, Reservation, ReserveFault};
 pub use shared::{Foreign, SharedRing};
 pub use wait_backoff::WaitBackoff;

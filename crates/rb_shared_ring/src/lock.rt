@@ -4,11 +4,11 @@
 ghost use Rattle.std.specs.Prelude.{◌≡◌, [], Some, None, IfOk};
 ghost use Rattle.std.specs.FinMap.{empty};
 ghost use Rattle.crossbeam_queue.specs.Passes.{view, IsPassOf, IsSamePass, ruled_capacity};
-ghost use Rattle.rb_chapter_ledger.specs.ChapteredRing.{chaptered_ring, IsChapteredRing};
-ghost use Rattle.rb_hands.specs.Hands.{free_book};
-ghost use Rattle.rb_hands.specs.HandRing.{HasHands};
-ghost use Rattle.rb_hand_ledger.specs.HandKnowledge.{hand_view};
-ghost use Rattle.rb_hand_ledger.specs.HandLockSteps.{TakesHandState, PutsHandState, OpensHandState, MayPutHands, unopened_hands};
+ghost use Rattle.rb_ledger.specs.ChapteredRing.{chaptered_ring, IsChapteredRing};
+ghost use Rattle.rb_chapter_ring.specs.Hands.{free_book};
+ghost use Rattle.rb_chapter_ring.specs.HandRing.{HasHands};
+ghost use Rattle.rb_ledger.specs.HandKnowledge.{hand_view};
+ghost use Rattle.rb_ledger.specs.HandLockSteps.{TakesHandState, PutsHandState, OpensHandState, MayPutHands, unopened_hands};
 
 use crate::wait_backoff::WaitBackoff;
 use crossbeam_queue::protocol::{Join, Lesson, Outcome, Protocol, Split};
@@ -27,8 +27,8 @@ impl Model for PassKnowledge {
     ghost use Rattle.rb_history.specs.RingModel.{contents_code};
     ghost use Rattle.rb_history.specs.contracts.entries.Entry as entry;
     ghost use Rattle.rb_history.specs.contracts.tally.Tally as tally_row;
-    ghost use Rattle.rb_hands.specs.contracts.out_record.OutRecord as out_row;
-    ghost use Rattle.rb_hand_ledger.specs.HandKnowledge.{HandPassView, hand_view};
+    ghost use Rattle.rb_chapter_ring.specs.contracts.out_record.OutRecord as out_row;
+    ghost use Rattle.rb_ledger.specs.HandKnowledge.{HandPassView, hand_view};
 
     ghost Value = { HandPassView };
 
@@ -48,8 +48,8 @@ impl Model for LockedState {
     ghost use Rattle.rb_history.specs.RingModel.{contents_code};
     ghost use Rattle.rb_history.specs.contracts.entries.Entry as entry;
     ghost use Rattle.rb_history.specs.contracts.tally.Tally as tally_row;
-    ghost use Rattle.rb_hands.specs.contracts.out_record.OutRecord as out_row;
-    ghost use Rattle.rb_hands.specs.HandRing.{HandRing};
+    ghost use Rattle.rb_chapter_ring.specs.contracts.out_record.OutRecord as out_row;
+    ghost use Rattle.rb_chapter_ring.specs.HandRing.{HandRing};
 
     ghost Value = { HandRing };
 
@@ -63,9 +63,9 @@ pub struct LockRule;
 
 impl Protocol<LockedState, PassKnowledge> for LockRule {
     ghost use Rattle.std.specs.Prelude.{[], Some};
-    ghost use Rattle.rb_hand_ledger.specs.HandKnowledge.{hand_view};
-    ghost use Rattle.rb_hand_ledger.specs.HandLockRule.{KeepsHandLockRule};
-    ghost use Rattle.rb_hand_ledger.specs.HandLockSteps.{unopened_hands};
+    ghost use Rattle.rb_ledger.specs.HandKnowledge.{hand_view};
+    ghost use Rattle.rb_ledger.specs.HandLockRule.{KeepsHandLockRule};
+    ghost use Rattle.rb_ledger.specs.HandLockSteps.{unopened_hands};
 
     ghost holds = { KeepsHandLockRule };
 
@@ -76,7 +76,7 @@ impl Protocol<LockedState, PassKnowledge> for LockRule {
 struct TakeOut;
 
 impl Outcome<LockedState, PassKnowledge> for TakeOut {
-    ghost use Rattle.rb_hand_ledger.specs.HandLockSteps.{TakesHandState};
+    ghost use Rattle.rb_ledger.specs.HandLockSteps.{TakesHandState};
 
     ghost then = { TakesHandState };
 }
@@ -89,7 +89,7 @@ impl Lesson<LockedState, PassKnowledge> for TakeOut {
 struct PutBack;
 
 impl Outcome<LockedState, PassKnowledge> for PutBack {
-    ghost use Rattle.rb_hand_ledger.specs.HandLockSteps.{PutsHandState};
+    ghost use Rattle.rb_ledger.specs.HandLockSteps.{PutsHandState};
 
     ghost then = { PutsHandState };
 }
@@ -104,7 +104,7 @@ impl Lesson<LockedState, PassKnowledge> for PutBack {
 struct PutFirst;
 
 impl Outcome<LockedState, PassKnowledge> for PutFirst {
-    ghost use Rattle.rb_hand_ledger.specs.HandLockSteps.{OpensHandState};
+    ghost use Rattle.rb_ledger.specs.HandLockSteps.{OpensHandState};
 
     ghost then = { OpensHandState };
 }
@@ -120,8 +120,8 @@ pub struct SplitFirstRole;
 
 impl Split<PassKnowledge> for SplitFirstRole {
     ghost use Rattle.std.specs.Prelude.{None};
-    ghost use Rattle.rb_hand_ledger.specs.HandKnowledge.{hand_view};
-    ghost use Rattle.rb_hand_ledger.specs.HandLockSteps.{first_hand_role, other_hand_roles};
+    ghost use Rattle.rb_ledger.specs.HandKnowledge.{hand_view};
+    ghost use Rattle.rb_ledger.specs.HandLockSteps.{first_hand_role, other_hand_roles};
 
     ghost left = { λ v. hand_view (other_hand_roles v.knows) v.out };
 
@@ -133,7 +133,7 @@ pub struct JoinRoles;
 
 impl Join<PassKnowledge> for JoinRoles {
     ghost use Rattle.std.specs.Prelude.{None, [], ◌++◌};
-    ghost use Rattle.rb_hand_ledger.specs.HandKnowledge.{hand_view};
+    ghost use Rattle.rb_ledger.specs.HandKnowledge.{hand_view};
 
     ghost both = { λ v w. hand_view (w.knows ++ v.knows) v.out };
 

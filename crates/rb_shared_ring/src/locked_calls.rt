@@ -4,12 +4,12 @@ ghost use Rattle.std.specs.Prelude.{◌≡◌, ◌<◌, None, Some, Ok, IfOk, If
 ghost use Rattle.std.specs.FinMap.{insert};
 ghost use Rattle.std.specs.Fn.{FnOnceTakesAtMut, FnOnceReturnsAtMut};
 ghost use Rattle.crossbeam_queue.specs.Passes.{view, IsPassOf, IsSamePass, ruled_capacity};
-ghost use Rattle.rb_chapter.specs.ChapterCalls.{producer_now};
+ghost use Rattle.rb_chapter_ring.specs.ChapterCalls.{producer_now};
 ghost use Rattle.rb_ledger.specs.Roles.Role.{Worker};
-ghost use Rattle.rb_chapter_ledger.specs.LockedChapterCalls.{LockedChapterCall, InRoomAt, QueriesInChapter, SubmitsInChapter, DiscardsInChapter};
-ghost use Rattle.rb_hands.specs.Hands.{out_record, in_hand, hands_of, IsFree};
-ghost use Rattle.rb_hands.specs.HandRing.{HasInHand};
-ghost use Rattle.rb_hand_ledger.specs.NoStranger.{HoldsOwnBusy};
+ghost use Rattle.rb_ledger.specs.LockedChapterCalls.{LockedChapterCall, InRoomAt, QueriesInChapter, SubmitsInChapter, DiscardsInChapter};
+ghost use Rattle.rb_chapter_ring.specs.Hands.{out_record, in_hand, hands_of, IsFree};
+ghost use Rattle.rb_chapter_ring.specs.HandRing.{HasInHand};
+ghost use Rattle.rb_ledger.specs.NoStranger.{HoldsOwnBusy};
 ghost use Rattle.rb_shared_ring.specs.inner.HandPasses.{seen_with, bytes_with, room_with, hands_by, cut_by, IsIdleWith};
 ghost use Rattle.rb_shared_ring.specs.inner.HandCalls.{ReservesToHand, SubmitsOut, DiscardsOut, LeavesHands};
 ghost use Rattle.rb_shared_ring.specs.inner.LentState.{IsKeptHandRing, MayLend, MayCall, LendsState};

@@ -2,9 +2,9 @@
 
 ghost use Rattle.std.specs.Prelude.{◌≡◌, ◌↔◌, IfOk, IsErrOf};
 ghost use Rattle.rb_history.specs.RingModel.{IsRingSize, IsStartPosition, IsWorkerCount};
-ghost use Rattle.rb_chapter.specs.Chapters.{IsChapterRoom};
+ghost use Rattle.rb_chapter_ring.specs.Chapters.{IsChapterRoom};
 ghost use Rattle.rb_ledger.specs.Seats.{fresh_book, fresh_seats};
-ghost use Rattle.rb_chapter_ledger.specs.ChapterSeats.{fresh_chapter_consumer};
+ghost use Rattle.rb_ledger.specs.ChapterSeats.{fresh_chapter_consumer};
 
 use crate::consumer_seat::{ConsumerSeat, new_consumer};
 use crate::lock::{new_lock, put_first};

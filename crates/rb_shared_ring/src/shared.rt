@@ -3,20 +3,19 @@
 ghost use Rattle.std.specs.Prelude.{◌≡◌, ◌≢◌, ◌↔◌, ◌⊎◌, Ok, IfOk, OnOk, IfErr, IsOk, IsErr, IsTrue, None, length, slice_set};
 ghost use Rattle.std.specs.FinMap.{insert};
 ghost use Rattle.rb_chapter_ring.specs.declared.faults.ReserveFault.TheVariants.{Foreign as FaultForeign, HandsFull};
-ghost use Rattle.rb_chapter.specs.ChapterCalls.{producer_now};
-ghost use Rattle.rb_hands.specs.Hands.{AreAllOut, IsLowestFree};
+ghost use Rattle.rb_chapter_ring.specs.ChapterCalls.{producer_now};
+ghost use Rattle.rb_chapter_ring.specs.Hands.{AreAllOut, IsLowestFree};
 ghost use Rattle.rb_ledger.specs.Roles.Role.{Worker};
 ghost use Rattle.rb_ledger.specs.Seats.{IsSameSeat};
 ghost use Rattle.rb_ledger.specs.LockedCalls.{submitted_by, discarded_by};
-ghost use Rattle.rb_chapter_ledger.specs.LockedChapterCalls.{LockedChapterCall, InRoomAt, SubmitsInChapter, DiscardsInChapter, QueriesInChapter};
+ghost use Rattle.rb_ledger.specs.LockedChapterCalls.{LockedChapterCall, InRoomAt, SubmitsInChapter, DiscardsInChapter, QueriesInChapter};
 ghost use Rattle.rb_shared_ring.specs.SharedCalls.{ReservesInChapter, OutputsInChapter, IsInSeatsHand, IsRefusedInChapterAs, granted_in, hands_after_reserve, reserved_in_chapter_by, output_in_chapter_by, sent_by_chapter_output};
 
 use crate::lock::Lock;
 use crate::locked_calls::{discard_with, output_with, query_with, reserve_with, submit_with};
 use crate::tally::{after_discard, after_output, after_reserve, after_submit};
 use crate::worker_seat::Seat;
-use rb_chapter_ring::{Reservation, ReserveFault};
-use rb_hands::{OutRecord, lowest_free};
+use rb_chapter_ring::{OutRecord, Reservation, ReserveFault, lowest_free};
 use rb_history::Notice;
 use rb_lend::Sheet;
 use std::marker::Model;
@@ -37,7 +36,7 @@ pub struct Foreign;
 /// ring of one thread answers as this call does, by its chapter, for the seat's worker; and the seat has then seen the whole history with
 /// this call in it (`call`). Which entries the chapter had then, and its room, the seat knows (`cut`, `room`), so that `ChapterFull` is told exactly
 /// where the chapter has no room. By that history each call is the one of a ring that keeps all its entries
-/// (`rb_chapter_ledger::each_locked_call_is_whole`). A seat that was opened with another tag is `Foreign`. Rings with the same tag are not told
+/// (`rb_ledger::each_locked_call_is_whole`). A seat that was opened with another tag is `Foreign`. Rings with the same tag are not told
 /// apart: each call requires that a seat with the ring's tag was opened with this ring.
 ///
 /// Each call may wait for other threads. No proof says that a call returns, that threads get their turns in any order, or how long

@@ -7,7 +7,7 @@ ghost use Rattle.rb_chapter_ring.specs.ManyTakes.{TakesManyInChapter};
 ghost use Rattle.rb_ledger.specs.Roles.Role.{Consumer};
 ghost use Rattle.rb_ledger.specs.LockedCalls.{got_by, events_in, skips_in, span_in, IsTakenAt};
 ghost use Rattle.rb_ledger.specs.ManyTakes.{events_among, skips_among, span_among, AreTakenFrom, got_by_all};
-ghost use Rattle.rb_chapter_ledger.specs.LockedChapterCalls.{LockedChapterCall, InKnownChapter, TakesInChapter};
+ghost use Rattle.rb_ledger.specs.LockedChapterCalls.{LockedChapterCall, InKnownChapter, TakesInChapter};
 ghost use Rattle.rb_shared_ring.specs.SharedSeats.{IsSameChapterConsumer};
 ghost use Rattle.rb_shared_ring.specs.inner.HandCalls.{LeavesHands};
 ghost use Rattle.rb_shared_ring.specs.inner.HandPasses.{seen_with, bytes_with, room_with, handed_out_with, IsIdleWith};

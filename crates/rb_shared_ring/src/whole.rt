@@ -1,13 +1,13 @@
 //! A closed ring and its chapters are bound to the whole history.
 
 ghost use Rattle.std.specs.Prelude.{◌≡◌, ◌↔◌, ◌++◌, ◌∷◌, [], IfOk, IfErr};
-ghost use Rattle.rb_chapter.specs.WholeHistory.{IsBound};
-ghost use Rattle.rb_chapter_ledger.specs.ChapterClosing.{AreNumberedFrom, AreOpenedInTurn};
+ghost use Rattle.rb_chapter_ring.specs.WholeHistory.{IsBound};
+ghost use Rattle.rb_ledger.specs.ChapterClosing.{AreNumberedFrom, AreOpenedInTurn};
 ghost use Rattle.rb_shared_ring.specs.BoundSeats.{IsNotBound, TiesAllSeats, GathersAllSeats};
 
 use crate::closing::Closing;
-use rb_chapter::Chapter;
-use rb_chapter_ledger::{BindFault, bind_chapters};
+use rb_chapter_ring::Chapter;
+use rb_ledger::{BindFault, bind_chapters};
 use rb_history::Entry;
 use std::alloc::Global;
 use std::marker::Model;
@@ -26,8 +26,8 @@ impl Model for Whole {
     ghost use Rattle.rb_history.specs.RingModel.{contents_code};
     ghost use Rattle.rb_history.specs.contracts.entries.Entry as entry;
     ghost use Rattle.rb_history.specs.contracts.tally.Tally as tally_row;
-    ghost use Rattle.rb_chapter.specs.WholeHistory.{IsBound};
-    ghost use Rattle.rb_chapter_ledger.specs.ChapterClosing.{BoundRing};
+    ghost use Rattle.rb_chapter_ring.specs.WholeHistory.{IsBound};
+    ghost use Rattle.rb_ledger.specs.ChapterClosing.{BoundRing};
 
     ghost Value = { BoundRing };
 

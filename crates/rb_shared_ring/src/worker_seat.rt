@@ -5,16 +5,16 @@ ghost use Rattle.std.specs.FinMap.{empty};
 ghost use Rattle.crossbeam_queue.specs.Passes.{view, IsPassOf, IsSamePass};
 ghost use Rattle.rb_ledger.specs.Roles.Role.{Worker};
 ghost use Rattle.rb_ledger.specs.Seats.{IsBook, Ties, SettlesWithin, fresh_seat};
-ghost use Rattle.rb_chapter_ledger.specs.ChapterLockSteps.{opening_role};
-ghost use Rattle.rb_hands.specs.Hands.{in_hand};
-ghost use Rattle.rb_hand_ledger.specs.HandKnowledge.{hand_view};
-ghost use Rattle.rb_hand_ledger.specs.HandLockSteps.{first_hand_role, other_hand_roles, opening_hands};
-ghost use Rattle.rb_hand_ledger.specs.NoStranger.{HoldsOwnBusy};
+ghost use Rattle.rb_ledger.specs.ChapterLockSteps.{opening_role};
+ghost use Rattle.rb_chapter_ring.specs.Hands.{in_hand};
+ghost use Rattle.rb_ledger.specs.HandKnowledge.{hand_view};
+ghost use Rattle.rb_ledger.specs.HandLockSteps.{first_hand_role, other_hand_roles, opening_hands};
+ghost use Rattle.rb_ledger.specs.NoStranger.{HoldsOwnBusy};
 ghost use Rattle.rb_shared_ring.specs.SharedCalls.{position_of};
 ghost use Rattle.rb_shared_ring.specs.inner.HandPasses.{seen_with, bytes_with, room_with, known_with};
 
 use crate::lock::{Lock, RingPass, SplitFirstRole};
-use rb_hands::OutRecord;
+use rb_chapter_ring::OutRecord;
 use rb_history::Tally;
 use std::marker::Model;
 
@@ -40,9 +40,9 @@ impl Model for Seat {
     ghost use Rattle.rb_history.specs.contracts.entries.Entry as entry;
     ghost use Rattle.rb_history.specs.contracts.tally.Tally as tally_row;
     ghost use Rattle.rb_ledger.specs.Seats.{WorkerSeat};
-    ghost use Rattle.rb_chapter_ledger.specs.ChapterKnowledge.{whole_out};
-    ghost use Rattle.rb_hands.specs.contracts.out_record.OutRecord as out_row;
-    ghost use Rattle.rb_hand_ledger.specs.HandKnowledge.{chapters_out};
+    ghost use Rattle.rb_ledger.specs.ChapterKnowledge.{whole_out};
+    ghost use Rattle.rb_chapter_ring.specs.contracts.out_record.OutRecord as out_row;
+    ghost use Rattle.rb_ledger.specs.HandKnowledge.{chapters_out};
     ghost use Rattle.rb_shared_ring.specs.inner.HandPasses.{seen_with, bytes_with, room_with, cut_by, KeepsHands};
     ghost use Rattle.rb_shared_ring.specs.inner.SeatsKeep.{KeepsWorker};
 

@@ -9,15 +9,15 @@ use Rattle.rb_history.specs.History.{producer_of, records}
 use Rattle.rb_history.specs.Legal.{IsLegal}
 use Rattle.rb_history.specs.inner.RecordRows.{InRow}
 use Rattle.rb_history.proofs.Laws.{kept-from-legal}
-use Rattle.rb_chapter.specs.CountedFrom.{producer_from, consumer_from}
-use Rattle.rb_chapter.specs.Chapters.{Chapter}
-use Rattle.rb_chapter.specs.ChapterRoom.{MayGrant, owed, owed_for}
-use Rattle.rb_chapter.specs.ChapterRing.{ChapterRing, whole_ring}
-use Rattle.rb_chapter.specs.ChapterCalls.{AllTaken, IsSameChapter, Outputs, Takes, HandsOut, ChapterRingHasRoom, producer_now, consumer_now}
-use Rattle.rb_chapter.specs.WholeHistory.{IsKept, IsSameFrom}
-use Rattle.rb_chapter.proofs.Alike.{calls-alike}
-use Rattle.rb_chapter.proofs.Keeping.{calls-keep}
-use Rattle.rb_chapter.proofs.Stands.{goes-on}
+use Rattle.rb_chapter_ring.specs.CountedFrom.{producer_from, consumer_from}
+use Rattle.rb_chapter_ring.specs.Chapters.{Chapter}
+use Rattle.rb_chapter_ring.specs.ChapterRoom.{MayGrant, owed, owed_for}
+use Rattle.rb_chapter_ring.specs.ChapterRing.{ChapterRing, whole_ring}
+use Rattle.rb_chapter_ring.specs.ChapterCalls.{AllTaken, IsSameChapter, Outputs, Takes, HandsOut, ChapterRingHasRoom, producer_now, consumer_now}
+use Rattle.rb_chapter_ring.specs.WholeHistory.{IsKept, IsSameFrom}
+use Rattle.rb_chapter_ring.proofs.Alike.{calls-alike}
+use Rattle.rb_chapter_ring.proofs.Keeping.{calls-keep}
+use Rattle.rb_chapter_ring.proofs.Stands.{goes-on}
 use Rattle.rb_tape_commands.specs.ChapterTurns.{IsSpareOf, MakesChapterRoom}
 use Rattle.rb_tape_commands.specs.Transfer.{MovesOn}
 use Rattle.rb_tape_commands.proofs.RingPass.{IsPassed, PassesOn, passes_on, empty_row}

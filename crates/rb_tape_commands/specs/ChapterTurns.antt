@@ -1,9 +1,9 @@
 -- A ring that goes on in its next chapter before its own is full, and the empty chapter that is kept beside it for that.
 use Rattle.std.specs.Prelude.{◌≡◌, ◌⊎◌, Option, Some}
-use Rattle.rb_chapter.specs.Chapters.{Chapter, empty_chapter}
-use Rattle.rb_chapter.specs.ChapterRoom.{MayGrant}
-use Rattle.rb_chapter.specs.ChapterRing.{ChapterRing}
-use Rattle.rb_chapter.specs.ChapterCalls.{HandsOut}
+use Rattle.rb_chapter_ring.specs.Chapters.{Chapter, empty_chapter}
+use Rattle.rb_chapter_ring.specs.ChapterRoom.{MayGrant}
+use Rattle.rb_chapter_ring.specs.ChapterRing.{ChapterRing}
+use Rattle.rb_chapter_ring.specs.ChapterCalls.{HandsOut}
 
 -- beside the ring is an empty chapter, of the room and for the workers of the one that it keeps
 abbrev pub IsSpareOf : ChapterRing → Option Chapter → Type 0

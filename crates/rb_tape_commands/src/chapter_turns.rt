@@ -1,12 +1,11 @@
 //! Chapters that are turned before they are full, so that a ring runs on in the memory that it was opened with.
 
 ghost use Rattle.std.specs.Prelude.{ℕ, ◌≡◌, ◌<◌, ◌^◌, OnOk};
-ghost use Rattle.rb_chapter.specs.ChapterRoom.{MayGrant};
-ghost use Rattle.rb_chapter.specs.ChapterCalls.{AllTaken};
+ghost use Rattle.rb_chapter_ring.specs.ChapterRoom.{MayGrant};
+ghost use Rattle.rb_chapter_ring.specs.ChapterCalls.{AllTaken};
 ghost use Rattle.rb_tape_commands.specs.ChapterTurns.{IsSpareOf, MakesChapterRoom};
 
-use rb_chapter::Chapter;
-use rb_chapter_ring::RingState;
+use rb_chapter_ring::{Chapter, RingState};
 
 #[inline]
 /// Has a ring in which every record was taken go on in the spare chapter, where its own has no room for what one more record logs:

@@ -2,13 +2,13 @@
 use Rattle.std.proofs.Common.{◌≡◌, ℕ, List, [], ◌∷◌, ◌++◌, refl, ap, sym, ◌∙◌, subst, append-nil, arith}
 use Rattle.std.proofs.lemmas.List.Elements.{All-nil, All-cons}
 use Rattle.std.specs.FinMap.{get}
-use Rattle.rb_chapter.specs.Chapters.{Chapter as RingChapter}
+use Rattle.rb_chapter_ring.specs.Chapters.{Chapter as RingChapter}
 use Rattle.rb_ledger.specs.Roles.{Book, BeginsWith, book_of}
 use Rattle.rb_ledger.specs.Roles.Role.{Consumer}
 use Rattle.rb_ledger.specs.LockedCalls.{LockedCall}
 use Rattle.rb_ledger.proofs.Beginnings.{begins_through, call_begins, same_begins}
-use Rattle.rb_chapter_ledger.specs.ChapterSeats.{ChapterConsumerSeat}
-use Rattle.rb_chapter_ledger.proofs.WholeCalls.{each-call-is-whole}
+use Rattle.rb_ledger.specs.ChapterSeats.{ChapterConsumerSeat}
+use Rattle.rb_ledger.proofs.WholeCalls.{each-call-is-whole}
 use Rattle.rb_shared_ring.specs.SharedSeats.{IsSameChapterConsumer, TakesNothing}
 use Rattle.rb_consumer.specs.Turns.{TurnsChapter}
 use Rattle.rb_workers.specs.Sink.{SinkItem, IsRecordIn, takes_in}

@@ -6,9 +6,9 @@ use Rattle.std.proofs.lemmas.List.Elements.{All-cons}
 use Rattle.atomic_table.specs.Seated.{TableId}
 use Rattle.rb_ledger.specs.Roles.{Book}
 use Rattle.rb_history.specs.WorkerCounts.{numbers_below}
-use Rattle.rb_chapter.specs.Chapters.{IsChapterRoom, empty_chapter}
+use Rattle.rb_chapter_ring.specs.Chapters.{IsChapterRoom, empty_chapter}
 use Rattle.rb_ledger.specs.Seats.{Shared, HasSettledAll, WorkerSeat, fresh_book, fresh_seat, fresh_seats}
-use Rattle.rb_chapter_ledger.specs.ChapterSeats.{ChapterConsumerSeat, fresh_chapter_consumer}
+use Rattle.rb_ledger.specs.ChapterSeats.{ChapterConsumerSeat, fresh_chapter_consumer}
 use Rattle.rb_consumer.specs.Keepers.{KeeperValue, handed_in}
 use Rattle.rb_seats.specs.SeatHelpers.{IsAt}
 use Rattle.rb_workers.specs.declared.opened.Opened.{Opened}

@@ -11,9 +11,9 @@ use Rattle.rb_ledger.specs.Roles.Role.{Consumer, Worker as WorkerRole}
 use Rattle.rb_ledger.proofs.Beginnings.{begins_through, extended_begins}
 use Rattle.rb_seats.specs.SeatLaws.{SeatBegins}
 use Rattle.rb_ledger.specs.Seats.{WorkerSeat, IsSameSeat}
-use Rattle.rb_chapter.specs.Chapters.{joined}
-use Rattle.rb_chapter.proofs.Chain.{binds-continue}
-use Rattle.rb_chapter_ledger.proofs.WholeCalls.{consumer-same}
+use Rattle.rb_chapter_ring.specs.Chapters.{joined}
+use Rattle.rb_chapter_ring.proofs.Chain.{binds-continue}
+use Rattle.rb_ledger.proofs.WholeCalls.{consumer-same}
 use Rattle.rb_shared_ring.specs.SharedSeats.{IsSameChapterConsumer}
 use Rattle.rb_jobs.specs.declared.job.Job.{Job}
 use Rattle.rb_jobs.specs.declared.job.JobAnswer.{JobAnswer}

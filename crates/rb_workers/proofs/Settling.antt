@@ -8,13 +8,13 @@ use Rattle.rb_ledger.specs.Seats.{WorkerSeat, IsSameSeat, SettlesWithin, HasSett
 use Rattle.rb_ledger.proofs.Sums.{once-closed}
 use Rattle.rb_history.specs.declared.answers.Counts.{Counts}
 use Rattle.rb_history.specs.Counting.{counts_of}
-use Rattle.rb_chapter.specs.Chapters.{Chapter, joined}
-use Rattle.rb_chapter.specs.ChapterRing.{ChapterRing}
+use Rattle.rb_chapter_ring.specs.Chapters.{Chapter, joined}
+use Rattle.rb_chapter_ring.specs.ChapterRing.{ChapterRing}
 use Rattle.rb_chapter_ring.specs.OpenedRing.{told_counts}
-use Rattle.rb_chapter_ledger.specs.ChapteredRing.{HasChapters, chaptered_ring, whole_of}
-use Rattle.rb_chapter_ledger.specs.ChapterSeats.{whole_consumer}
-use Rattle.rb_chapter.proofs.Chain.{binds-continue}
-use Rattle.rb_chapter_ledger.proofs.WholeCalls.{said}
+use Rattle.rb_ledger.specs.ChapteredRing.{HasChapters, chaptered_ring, whole_of}
+use Rattle.rb_ledger.specs.ChapterSeats.{whole_consumer}
+use Rattle.rb_chapter_ring.proofs.Chain.{binds-continue}
+use Rattle.rb_ledger.proofs.WholeCalls.{said}
 use Rattle.rb_seats.specs.SeatHelpers.{made_in, submitted_in, discarded_in}
 use Rattle.rb_jobs.specs.declared.job.Job.{Job}
 use Rattle.rb_workers.specs.declared.opened.Opened.{Opened}

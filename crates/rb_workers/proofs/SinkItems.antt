@@ -23,7 +23,7 @@ use Rattle.rb_history.specs.ManyTakes.{HasRecord, TakesEach, TakesMany}
 use Rattle.rb_history.proofs.Lists.{sum_by-cons}
 use Rattle.rb_ledger.specs.LockedCalls.{LockedCall, got_by, span_in, IsTakenAt}
 use Rattle.rb_ledger.specs.ManyTakes.{span_among, AreTakenFrom, got_by_all}
-use Rattle.rb_chapter_ledger.specs.ChapterSeats.{ChapterConsumerSeat}
+use Rattle.rb_ledger.specs.ChapterSeats.{ChapterConsumerSeat}
 use Rattle.rb_shared_ring.specs.SharedSeats.{IsSameChapterConsumer}
 use Rattle.rb_ledger.proofs.Beginnings.{begins_through, begins_with_all, call_begins, logged_begins}
 use Rattle.rb_ledger.proofs.ManyTakes.{takes_of, logs-each}

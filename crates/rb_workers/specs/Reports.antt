@@ -4,14 +4,14 @@ use Rattle.std.specs.List.{AllZip, count_by, list_any, sum_by}
 use Rattle.rb_helpers.specs.declared.done.Done.{Done}
 use Rattle.rb_helpers.specs.AnsweredCalls.{AllMayAnswer, notes_of}
 use Rattle.rb_history.specs.RingModel.{Ring}
-use Rattle.rb_chapter.specs.ChapterCalls.{consumer_now}
+use Rattle.rb_chapter_ring.specs.ChapterCalls.{consumer_now}
 use Rattle.rb_interp.specs.declared.fault.RunFault.TheVariants.{Stray}
 use Rattle.rb_interp.specs.RunTraces.{RunMatches, TellsLength, TraceBalances}
 use Rattle.rb_ledger.specs.Roles.{BeginsWith, book_of}
 use Rattle.rb_ledger.specs.Seats.{WorkerSeat, IsSameSeat}
-use Rattle.rb_chapter_ledger.specs.ChapteredRing.{chaptered_ring, whole_of}
-use Rattle.rb_chapter_ledger.specs.ChapterSeats.{ChapterConsumerSeat}
-use Rattle.rb_chapter_ledger.specs.ChapterClosing.{IsClosedByChapters}
+use Rattle.rb_ledger.specs.ChapteredRing.{chaptered_ring, whole_of}
+use Rattle.rb_ledger.specs.ChapterSeats.{ChapterConsumerSeat}
+use Rattle.rb_ledger.specs.ChapterClosing.{IsClosedByChapters}
 use Rattle.rb_shared_ring.specs.SharedSeats.{IsSameChapterConsumer}
 use Rattle.rb_seats.specs.SeatLaws.{SeatBegins}
 use Rattle.rb_seats.specs.SeatRecords.{record_bytes, with_record_bytes}

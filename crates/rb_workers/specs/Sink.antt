@@ -9,8 +9,8 @@ use Rattle.rb_history.specs.declared.entries.Entry.{Entry}
 use Rattle.rb_history.specs.declared.entries.Entry.TheVariants.{Res, Take}
 use Rattle.rb_history.specs.History.{is_submitted_at, is_discarded_at}
 use Rattle.rb_history.specs.RingModel.{Contents, HasLength}
-use Rattle.rb_chapter.specs.Chapters.{Chapter as RingChapter}
-use Rattle.rb_chapter_ledger.specs.ChapterSeats.{ChapterConsumerSeat}
+use Rattle.rb_chapter_ring.specs.Chapters.{Chapter as RingChapter}
+use Rattle.rb_ledger.specs.ChapterSeats.{ChapterConsumerSeat}
 
 -- an event that was taken, with the worker that made its record, the record's number among that worker's, and its bytes; a discarded
 -- record that was passed over, with its length; or a chapter that the ring handed out

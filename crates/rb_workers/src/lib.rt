@@ -4,7 +4,7 @@
 //! `run_jobs` is for whoever has many verified programs run at once. What is promised: each result is one that the program's
 //! meaning gives (RFC 9669); each worker's seats counted just what the calls of its own jobs say; each ring was closed with all its
 //! seats, so the law of closed rings holds of its whole history, which are the entries of the chapters that it handed out and of its last
-//! one (rb_chapter_ledger); each ring's sink was given just the records that were taken, in their order and with their bytes, and just the
+//! one (rb_ledger); each ring's sink was given just the records that were taken, in their order and with their bytes, and just the
 //! chapters that were handed out meanwhile, each once and in order, so that with the last one they may be bound; and where there is an
 //! error, all comes back and may be run again. Records are taken many at a time, and the sheets of long ones are used again. A ring's
 //! memory does not grow: its consumer's thread looks at its chapter between its batches, and hands it out in time.
@@ -34,7 +34,7 @@ mod workers;
 pub use jobs_run::run_jobs;
 pub use null_sink::NullSink;
 pub use opened::{Ended, JobFault, Opened, Report};
-pub use rb_chapter::Chapter;
+pub use rb_chapter_ring::Chapter;
 pub use rb_consumer::Keeper;
 pub use rb_jobs::{Gate, Job, OpenGate};
 pub use sink::Sink;

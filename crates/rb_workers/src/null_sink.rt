@@ -1,7 +1,7 @@
 //! A sink that keeps nothing.
 
 use crate::sink::Sink;
-use rb_chapter::Chapter;
+use rb_chapter_ring::Chapter;
 use rb_header::span;
 
 /// Gives up all records and chapters that it is given, for whoever wants a run's counts alone.

@@ -2,13 +2,13 @@
 
 ghost use Rattle.std.specs.Prelude.{◌≡◌, ◌↔◌, All, IfOk, IsErrOf, false};
 ghost use Rattle.rb_history.specs.RingModel.{IsRingSize, IsStartPosition, IsWorkerCount};
-ghost use Rattle.rb_chapter.specs.Chapters.{IsChapterRoom, empty_chapter};
+ghost use Rattle.rb_chapter_ring.specs.Chapters.{IsChapterRoom, empty_chapter};
 ghost use Rattle.rb_ledger.specs.Seats.{HasSettledAll, fresh_book, fresh_seats};
-ghost use Rattle.rb_chapter_ledger.specs.ChapterSeats.{fresh_chapter_consumer};
+ghost use Rattle.rb_ledger.specs.ChapterSeats.{fresh_chapter_consumer};
 ghost use Rattle.rb_workers.specs.Opened.{IsOpened};
 
 use crate::sink::Sink;
-use rb_chapter::Chapter;
+use rb_chapter_ring::Chapter;
 use rb_consumer::Keeper;
 use rb_history::Tally;
 use rb_interp::RunFault;

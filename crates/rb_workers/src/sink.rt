@@ -5,7 +5,7 @@ ghost use Rattle.rb_header.specs.Span.{span};
 ghost use Rattle.rb_workers.specs.Sink.{SinkItem};
 ghost use Rattle.rb_workers.specs.Sink.SinkItem.{Event, Skip, Chapter as ChapterItem};
 
-use rb_chapter::Chapter;
+use rb_chapter_ring::Chapter;
 
 /// What a ring's consumer gives its records to, one by one and in the order of their positions, and each chapter that the ring hands out. It
 /// has a position, which moves with the consumer's.

@@ -6,7 +6,7 @@ use Rattle.rb_history.specs.declared.answers.Taken.{Taken}
 use Rattle.rb_history.specs.RingModel.{Ring}
 use Rattle.rb_lend.specs.Ranges.{in_place_of}
 use Rattle.rb_chapter_ring.proofs.Written.{long-as}
-use Rattle.rb_hands.specs.Hands.{out_record}
+use Rattle.rb_chapter_ring.specs.Hands.{out_record}
 use Rattle.rb_interp.specs.StoredMemory.{held_record, others}
 use Rattle.rb_interleavings.specs.Worlds.{WorldRing, table_with}
 use Rattle.rb_interleavings.specs.CallsInWorld.{RingSteps, RecordOutcome, BadFlags, NoRoom, Made, WorkerReserves, WorkerOutputs, Unlogged}

@@ -5,15 +5,15 @@ use Rattle.std.proofs.lemmas.Bool.{cases_eq}
 use Rattle.rb_history.specs.Calls.{IsBusy}
 use Rattle.rb_history.specs.declared.entries.Entry.{Entry}
 use Rattle.rb_history.specs.ReservationModel.{Granted}
-use Rattle.rb_chapter.specs.Chapters.{Chapter, joined}
-use Rattle.rb_chapter.specs.WholeHistory.{IsKept}
+use Rattle.rb_chapter_ring.specs.Chapters.{Chapter, joined}
+use Rattle.rb_chapter_ring.specs.WholeHistory.{IsKept}
 use Rattle.rb_chapter_ring.proofs.FreedHands.{freed-stays}
 use Rattle.rb_chapter_ring.proofs.StateSteps.{out-below}
-use Rattle.rb_hands.specs.declared.out_record.OutRecord.{OutRecord}
-use Rattle.rb_hands.specs.Hands.{hand_at, out_record}
-use Rattle.rb_hands.specs.HandRing.{HandRing, HasHands, HasInHand}
-use Rattle.rb_hands.proofs.BusyEntries.{some-out}
-use Rattle.rb_hands.proofs.HandCalls.{to-whole}
+use Rattle.rb_chapter_ring.specs.declared.out_record.OutRecord.{OutRecord}
+use Rattle.rb_chapter_ring.specs.Hands.{hand_at, out_record}
+use Rattle.rb_chapter_ring.specs.HandRing.{HandRing, HasHands, HasInHand}
+use Rattle.rb_chapter_ring.proofs.BusyEntries.{some-out}
+use Rattle.rb_chapter_ring.proofs.HandCalls.{to-whole}
 use Rattle.rb_interp.specs.MachineState.{MachineState}
 use Rattle.rb_interp.specs.StoredMemory.{held_record}
 use Rattle.rb_interleavings.specs.Worlds.{WorldRing}

@@ -2,14 +2,14 @@
 use Rattle.std.proofs.Common.{◌≡◌, ℕ, ◌<◌, List, [], ◌∷◌, ◌++◌, length, refl, sym, ap, subst, ◌∙◌}
 use Rattle.rb_history.specs.declared.answers.Taken.{Taken}
 use Rattle.rb_history.specs.RoomRule.{Setup}
-use Rattle.rb_chapter.specs.Chapters.{Chapter, first_chapter, joined}
-use Rattle.rb_chapter.specs.ChapterCalls.{IsSameChapter, HandsOut}
+use Rattle.rb_chapter_ring.specs.Chapters.{Chapter, first_chapter, joined}
+use Rattle.rb_chapter_ring.specs.ChapterCalls.{IsSameChapter, HandsOut}
 use Rattle.rb_chapter_ring.specs.TaggedRing.{TaggedRing}
-use Rattle.rb_chapter.specs.WholeHistory.{Binds, IsBound, IsKept}
-use Rattle.rb_chapter.proofs.Bound.{once-bound}
-use Rattle.rb_chapter.proofs.Chain.{handed-out-bind, binds-continue, binds-same, binds-next, joined-next}
-use Rattle.rb_chapter.proofs.Empty.{empty-kept}
-use Rattle.rb_chapter.proofs.Keeping.{calls-keep}
+use Rattle.rb_chapter_ring.specs.WholeHistory.{Binds, IsBound, IsKept}
+use Rattle.rb_chapter_ring.proofs.Bound.{once-bound}
+use Rattle.rb_chapter_ring.proofs.Chain.{handed-out-bind, binds-continue, binds-same, binds-next, joined-next}
+use Rattle.rb_chapter_ring.proofs.Empty.{empty-kept}
+use Rattle.rb_chapter_ring.proofs.Keeping.{calls-keep}
 use Rattle.rb_interleavings.specs.Worlds.{WorldRing}
 use Rattle.rb_world.specs.WorldValue.{KeptRing, WorldValue, world_of, world_ring, ring_at}
 use Rattle.rb_world.specs.inner.KeptChapters.{HasChapters}

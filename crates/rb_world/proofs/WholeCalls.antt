@@ -8,14 +8,14 @@ use Rattle.rb_history.specs.History.{grants}
 use Rattle.rb_history.specs.ReservationModel.{Granted}
 use Rattle.rb_history.specs.RingModel.{Ring, StandsFor}
 use Rattle.rb_history.specs.Calls as ring
-use Rattle.rb_chapter.specs.Chapters.{Chapter, joined}
-use Rattle.rb_chapter.specs.ChapterRing.{ChapterRing, StandsForChapter, whole_ring}
-use Rattle.rb_chapter.specs.ChapterCalls.{IsSameChapter, Grants, FindsFull, Outputs, Takes, HandsOut}
-use Rattle.rb_chapter.specs.CountedFrom.{query_answer_from}
-use Rattle.rb_chapter.specs.WholeHistory.{IsKept}
-use Rattle.rb_chapter.proofs.Alike.{stands-alike, calls-alike}
-use Rattle.rb_chapter.proofs.Keeping.{calls-keep}
-use Rattle.rb_chapter.proofs.Stands.{goes-on}
+use Rattle.rb_chapter_ring.specs.Chapters.{Chapter, joined}
+use Rattle.rb_chapter_ring.specs.ChapterRing.{ChapterRing, StandsForChapter, whole_ring}
+use Rattle.rb_chapter_ring.specs.ChapterCalls.{IsSameChapter, Grants, FindsFull, Outputs, Takes, HandsOut}
+use Rattle.rb_chapter_ring.specs.CountedFrom.{query_answer_from}
+use Rattle.rb_chapter_ring.specs.WholeHistory.{IsKept}
+use Rattle.rb_chapter_ring.proofs.Alike.{stands-alike, calls-alike}
+use Rattle.rb_chapter_ring.proofs.Keeping.{calls-keep}
+use Rattle.rb_chapter_ring.proofs.Stands.{goes-on}
 use Rattle.rb_chapter_ring.specs.RingFaults.{RefusesInChapter}
 use Rattle.rb_chapter_ring.specs.TaggedRing.{TaggedRing}
 use Rattle.rb_chapter_ring.specs.declared.faults.ReserveFault.{ReserveFault}

@@ -2,10 +2,10 @@
 use Rattle.std.specs.Prelude.{ℕ, ◌≡◌, ◌≤◌, ◌+◌, List, [], ◌∷◌, All, length}
 use Rattle.std.specs.List.{AllZip}
 use Rattle.rb_history.specs.RingModel.{IsRingSize, IsStartPosition, IsWorkerCount}
-use Rattle.rb_chapter.specs.Chapters.{IsChapterRoom}
+use Rattle.rb_chapter_ring.specs.Chapters.{IsChapterRoom}
 use Rattle.rb_chapter_ring.specs.OpenedRing as chapter_ring
-use Rattle.rb_hands.specs.Hands.{free_book}
-use Rattle.rb_hands.specs.HandRing.{hand_ring}
+use Rattle.rb_chapter_ring.specs.Hands.{free_book}
+use Rattle.rb_chapter_ring.specs.HandRing.{hand_ring}
 use Rattle.rb_semantics.specs.ProgramStates.{entry_program_state}
 use Rattle.rb_interp.specs.MachineState.{MachineState}
 use Rattle.rb_interp.specs.declared.step.Phase.TheVariants.{Ready}

@@ -2,8 +2,8 @@
 use Rattle.std.specs.Prelude.{ℕ, ◌≡◌, List, [], ◌∷◌, ◌++◌, map, slice_set}
 use Rattle.std.specs.List.{slice_index_or}
 use Rattle.rb_history.specs.declared.answers.Taken.TheVariants.{Event, Skipped as SkippedRecord, BusyFront, Empty}
-use Rattle.rb_chapter.specs.Chapters.{Chapter}
-use Rattle.rb_chapter.specs.ChapterCalls.{HandsOut}
+use Rattle.rb_chapter_ring.specs.Chapters.{Chapter}
+use Rattle.rb_chapter_ring.specs.ChapterCalls.{HandsOut}
 use Rattle.rb_interleavings.specs.declared.actor.Actor.{Actor}
 use Rattle.rb_interleavings.specs.declared.actor.Actor.TheVariants.{Keeper}
 use Rattle.rb_interleavings.specs.Turns.{TurnEvent, Went, HandedOver, Ended, Idle, Took, HandedChapter, NoMemory, WorldStep}

@@ -3,12 +3,12 @@ use Rattle.std.specs.Prelude.{ℕ, ◌<◌, List, [], Some, None, Option, option
 use Rattle.std.specs.List.{slice_index_or}
 use Rattle.rb_history.specs.declared.answers.Taken.{Taken}
 use Rattle.rb_history.specs.RingModel.{fresh}
-use Rattle.rb_chapter.specs.Chapters.{Chapter, joined}
-use Rattle.rb_chapter.specs.ChapterRing.{whole_ring}
+use Rattle.rb_chapter_ring.specs.Chapters.{Chapter, joined}
+use Rattle.rb_chapter_ring.specs.ChapterRing.{whole_ring}
 use Rattle.rb_chapter_ring.specs.OpenedRing.{opened_ring}
 use Rattle.rb_chapter_ring.specs.TaggedRing.{TaggedRing}
-use Rattle.rb_hands.specs.Hands.{free_book}
-use Rattle.rb_hands.specs.HandRing.{hand_ring}
+use Rattle.rb_chapter_ring.specs.Hands.{free_book}
+use Rattle.rb_chapter_ring.specs.HandRing.{hand_ring}
 use Rattle.rb_semantics.specs.ProgramStates.{entry_program_state}
 use Rattle.rb_interp.specs.MachineState.{MachineState}
 use Rattle.rb_interp.specs.StoredMemory.{held_record}

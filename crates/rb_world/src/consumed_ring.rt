@@ -4,8 +4,7 @@ use crate::record_end::RecordEnd;
 use crate::ring_answers;
 use crate::turn_done::TurnDone;
 use crate::world_record::WorldRecord;
-use rb_chapter::Chapter;
-use rb_chapter_ring::RingState;
+use rb_chapter_ring::{Chapter, RingState};
 use rb_history::Taken;
 use rb_interp::{Answer, Machine};
 use std::alloc::{AllocError, Global};
@@ -24,7 +23,7 @@ impl Model for ConsumedRing {
     ghost use Rattle.rb_history.specs.RingModel.{contents_code};
     ghost use Rattle.rb_history.specs.contracts.entries.Entry as entry;
     ghost use Rattle.rb_history.specs.contracts.tally.Tally as tally_row;
-    ghost use Rattle.rb_hands.specs.contracts.out_record.OutRecord as out_row;
+    ghost use Rattle.rb_chapter_ring.specs.contracts.out_record.OutRecord as out_row;
     ghost use Rattle.rb_world.specs.WorldValue.{KeptRing};
     ghost use Rattle.rb_world.specs.inner.KeptChapters.{HasChapters};
 
@@ -39,9 +38,9 @@ impl Model for ConsumedRing {
 
 impl ConsumedRing {
     ghost use Rattle.std.specs.Prelude.{◌≡◌, ◌<◌, ℕ};
-    ghost use Rattle.rb_chapter.specs.Chapters.{joined};
-    ghost use Rattle.rb_chapter.specs.WholeHistory.{Binds, IsKept};
-    ghost use Rattle.rb_hands.specs.HandRing.{HasInHand};
+    ghost use Rattle.rb_chapter_ring.specs.Chapters.{joined};
+    ghost use Rattle.rb_chapter_ring.specs.WholeHistory.{Binds, IsKept};
+    ghost use Rattle.rb_chapter_ring.specs.HandRing.{HasInHand};
     ghost use Rattle.rb_interp.specs.declared.step.Phase.TheVariants as phase;
     ghost use Rattle.rb_semantics.specs.declared.pending_call.PendingCall.TheVariants as asked;
     ghost use Rattle.rb_world.specs.inner.WorkerTurn.{TakesOnce, KeepsChapter, AnswersReserve, AnswersOutput, AnswersGivenBack, AnswersQuery};

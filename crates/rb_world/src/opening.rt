@@ -3,7 +3,7 @@
 ghost use Rattle.std.specs.Prelude.{◌≡◌, ◌↔◌, IsTrue, OnOk, IfOk, IfErr, length};
 ghost use Rattle.std.specs.List.{AllZip};
 ghost use Rattle.rb_history.specs.RingModel.{IsWorkerCount};
-ghost use Rattle.rb_chapter.specs.Chapters.{IsChapterRoom};
+ghost use Rattle.rb_chapter_ring.specs.Chapters.{IsChapterRoom};
 ghost use Rattle.rb_world.specs.inner.Refusals.{IsOpenRefusal};
 ghost use Rattle.rb_world.specs.OpenedWorlds.{IsRingSetup, AreRings, HaveRooms, HaveContexts, HaveRings, MayOpen, IsStarted, opened_rings};
 

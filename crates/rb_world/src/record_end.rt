@@ -1,8 +1,8 @@
 //! How a worker gives a record back.
 
 ghost use Rattle.std.specs.Prelude.{◌≡◌};
-ghost use Rattle.rb_chapter.specs.ChapterCalls.{IsSameChapter};
-ghost use Rattle.rb_hands.specs.HandRing.{HasInHand};
+ghost use Rattle.rb_chapter_ring.specs.ChapterCalls.{IsSameChapter};
+ghost use Rattle.rb_chapter_ring.specs.HandRing.{HasInHand};
 ghost use Rattle.rb_world.specs.inner.RecordEnds.{EndsFromHand};
 
 use rb_chapter_ring::{Reservation, RingState};

@@ -1,9 +1,9 @@
 //! The answers of one ring to the calls of a program.
 
 ghost use Rattle.std.specs.Prelude.{◌<◌, ◌≡◌, negsuc, IfSome, option_map};
-ghost use Rattle.rb_chapter.specs.ChapterCalls.{IsSameChapter};
-ghost use Rattle.rb_chapter.specs.ChapterRing.{StandsForChapter};
-ghost use Rattle.rb_hands.specs.HandRing.{HasInHand};
+ghost use Rattle.rb_chapter_ring.specs.ChapterCalls.{IsSameChapter};
+ghost use Rattle.rb_chapter_ring.specs.ChapterRing.{StandsForChapter};
+ghost use Rattle.rb_chapter_ring.specs.HandRing.{HasInHand};
 ghost use Rattle.rb_world.specs.inner.HeldInHands.{StaysOut};
 ghost use Rattle.rb_world.specs.inner.RingAnswers.{IsReserved, IsOutput, IsWholeAnswer};
 

@@ -6,8 +6,7 @@ use crate::turn_done::TurnDone;
 use crate::worker_turn::work;
 use crate::world_fault::WorldOpenFault;
 use crate::world_record::WorldRecord;
-use rb_chapter::Chapter;
-use rb_chapter_ring::RingState;
+use rb_chapter_ring::{Chapter, RingState};
 use rb_history::Taken;
 use rb_interleavings::Actor;
 use rb_interp::{Machine, Phase};
@@ -33,7 +32,7 @@ impl<'p> Model for World<'p> {
     ghost use Rattle.rb_history.specs.RingModel.{contents_code};
     ghost use Rattle.rb_history.specs.contracts.entries.Entry as entry;
     ghost use Rattle.rb_history.specs.contracts.tally.Tally as tally_row;
-    ghost use Rattle.rb_hands.specs.contracts.out_record.OutRecord as out_row;
+    ghost use Rattle.rb_chapter_ring.specs.contracts.out_record.OutRecord as out_row;
 
     ghost Value = { WorldValue };
 
@@ -53,9 +52,9 @@ impl<'p> World<'p> {
     ghost use Rattle.rb_world.specs.OpenedWorlds.{AreRings, HaveContexts, HaveRings, HaveRooms, IsOpenedWorld, MayOpen};
     ghost use Rattle.rb_world.specs.WorldRuns.{next_unit, result_of};
     ghost use Rattle.rb_world.specs.TurnsDone.{IsTurnOf, TurnsChaptersOf, chapters_of};
-    ghost use Rattle.rb_chapter.specs.Chapters.{joined};
-    ghost use Rattle.rb_chapter.specs.ChapterRing.{whole_ring};
-    ghost use Rattle.rb_chapter.specs.WholeHistory.{Binds, IsBound, IsKept};
+    ghost use Rattle.rb_chapter_ring.specs.Chapters.{joined};
+    ghost use Rattle.rb_chapter_ring.specs.ChapterRing.{whole_ring};
+    ghost use Rattle.rb_chapter_ring.specs.WholeHistory.{Binds, IsBound, IsKept};
     ghost use Rattle.rb_world.specs.WorldValue.{IsThere, ring_at, world_of};
 
     /// A world with these rings, of which nothing was taken, and these workers, each at the first instruction of its program.

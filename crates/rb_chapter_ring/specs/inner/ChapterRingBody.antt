@@ -12,10 +12,10 @@ use Rattle.rb_history.specs.History.Status.{Busy, Waiting}
 use Rattle.rb_history.specs.Counting.{counts_of}
 use Rattle.rb_history.specs.RingModel.{IsRingSize, IsStartPosition, IsWorkerCount}
 use Rattle.rb_history.specs.StoredRecords.{shown_record, contents_of, IsSized}
-use Rattle.rb_chapter.specs.Opening.{Opening}
-use Rattle.rb_chapter.specs.Chapters.{Chapter, IsChapterRoom, closing_of}
-use Rattle.rb_chapter.specs.ChapterRing.{ChapterRing}
-use Rattle.rb_chapter.specs.WholeHistory.{IsKept}
+use Rattle.rb_chapter_ring.specs.Opening.{Opening}
+use Rattle.rb_chapter_ring.specs.Chapters.{Chapter, IsChapterRoom, closing_of}
+use Rattle.rb_chapter_ring.specs.ChapterRing.{ChapterRing}
+use Rattle.rb_chapter_ring.specs.WholeHistory.{IsKept}
 use Rattle.rb_chapter_ring.specs.declared.chapter_state.ChapterState.TheInside.{Inside}
 use Rattle.rb_chapter_ring.specs.OpenedRing.{capped_counts}
 use Rattle.rb_chapter_ring.specs.inner.Ordinals.{taken_before}

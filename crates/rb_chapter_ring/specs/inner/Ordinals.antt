@@ -1,11 +1,11 @@
 -- A record's ordinal: how many records its ring had granted before it.
 use Rattle.std.specs.Prelude.{ℕ, ◌≡◌, ◌+◌, ◌<◌, ◌≤◌, List, [], Some, length}
 use Rattle.std.specs.List.{slice_index_or as get_or}
-use Rattle.rb_chapter.specs.Opening.{Opening, record_in}
-use Rattle.rb_chapter.specs.Chapters.{Chapter, closing_of}
-use Rattle.rb_hands.specs.declared.out_record.OutRecord.{OutRecord}
-use Rattle.rb_hands.specs.Hands.{hand_at}
-use Rattle.rb_hands.specs.HandRing.{HandRing, HasHands}
+use Rattle.rb_chapter_ring.specs.Opening.{Opening, record_in}
+use Rattle.rb_chapter_ring.specs.Chapters.{Chapter, closing_of}
+use Rattle.rb_chapter_ring.specs.declared.out_record.OutRecord.{OutRecord}
+use Rattle.rb_chapter_ring.specs.Hands.{hand_at}
+use Rattle.rb_chapter_ring.specs.HandRing.{HandRing, HasHands}
 
 -- how many records were taken: the ordinal of the one at the front
 abbrev pub taken_before : Opening → ℕ

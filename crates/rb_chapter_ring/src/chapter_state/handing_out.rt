@@ -1,13 +1,13 @@
 //! Handing the chapter out.
 
 ghost use Rattle.std.specs.Prelude.{◌≡◌, ◌↔◌, IsTrue, IsOk, IfOk, IfErr, OnErr};
-ghost use Rattle.rb_chapter.specs.ChapterCalls.{HandsOut};
+ghost use Rattle.rb_chapter_ring.specs.ChapterCalls.{HandsOut};
 ghost use Rattle.rb_chapter_ring.specs.OpenedRing.{MayGoOnIn};
 ghost use Rattle.rb_chapter_ring.specs.inner.Ordinals.{KeepsNumbers};
 
 use crate::chapter_state::ChapterState;
 use crate::setup::is_fit;
-use rb_chapter::Chapter;
+use crate::Chapter;
 use std::mem;
 
 impl ChapterState {

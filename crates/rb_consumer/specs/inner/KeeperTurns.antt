@@ -1,6 +1,6 @@
 -- The chapter of a keeper, and what a turn hands out, as the bodies hold them.
 use Rattle.std.specs.Prelude.{List, [], ◌∷◌, Option, None, Some, Result, Ok, Err}
-use Rattle.rb_chapter.specs.Chapters.{Chapter, empty_chapter}
+use Rattle.rb_chapter_ring.specs.Chapters.{Chapter, empty_chapter}
 
 -- the chapter that is there whenever no call is being made
 abbrev pub kept_chapter : Option Chapter → Chapter

@@ -2,7 +2,7 @@
 use Rattle.std.proofs.Common.{◌≡◌, ℕ, List, Some, length, sym, subst, length-append, arith}
 use Rattle.std.proofs.lemmas.List.{length-take, length-drop}
 use Rattle.rb_lend.specs.Ranges.{in_place_of}
-use Rattle.rb_hands.specs.Hands.{out_record, in_hand}
+use Rattle.rb_chapter_ring.specs.Hands.{out_record, in_hand}
 use Rattle.rb_seats.specs.declared.seat_record.SeatRecord.{SeatRecord}
 use Rattle.rb_seats.specs.SeatRecords.{with_record_bytes}
 use Rattle.rb_seats.specs.SeatHelpers.{AtSeats}

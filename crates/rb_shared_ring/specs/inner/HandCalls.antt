@@ -3,12 +3,12 @@ use Rattle.std.specs.Prelude.{◌≡◌, ◌≢◌, ◌↔◌, ℕ, List, replic
 use Rattle.rb_history.specs.declared.answers.Notice.{Notice}
 use Rattle.rb_history.specs.declared.answers.Notice.TheVariants.{Due}
 use Rattle.rb_history.specs.NoticesAndQueries.{IsDue}
-use Rattle.rb_chapter.specs.ChapterRing.{ChapterRing}
-use Rattle.rb_chapter.specs.ChapterCalls.{consumer_now}
+use Rattle.rb_chapter_ring.specs.ChapterRing.{ChapterRing}
+use Rattle.rb_chapter_ring.specs.ChapterCalls.{consumer_now}
 use Rattle.rb_chapter_ring.specs.declared.faults.ReserveFault.{ReserveFault}
 use Rattle.rb_chapter_ring.specs.declared.faults.ReserveFault.TheVariants.{Flags}
 use Rattle.rb_chapter_ring.specs.RingFaults.{RefusesInChapter}
-use Rattle.rb_hands.specs.HandRing.{HandRing, GrantsToHand, SubmitsFromHand, DiscardsFromHand}
+use Rattle.rb_chapter_ring.specs.HandRing.{HandRing, GrantsToHand, SubmitsFromHand, DiscardsFromHand}
 use Rattle.rb_chapter_ring.specs.HandGranted.{HandGranted}
 
 abbrev pub ReservesToHand : ℕ → ℕ → ℕ → Result HandGranted (ReserveFault × List ℕ) → HandRing → HandRing → Type 0

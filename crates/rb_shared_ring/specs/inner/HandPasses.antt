@@ -1,11 +1,11 @@
 -- What a seat's pass knows between calls, its hands among it.
 use Rattle.std.specs.Prelude.{◌≡◌, ℕ, List, [], ◌∷◌, None, length}
 use Rattle.rb_history.specs.RingModel.{Contents}
-use Rattle.rb_chapter.specs.Chapters.{Chapter}
+use Rattle.rb_chapter_ring.specs.Chapters.{Chapter}
 use Rattle.rb_ledger.specs.Roles.{Role, Book}
-use Rattle.rb_hands.specs.Hands.{Hands}
-use Rattle.rb_hand_ledger.specs.HandKnowledge.{HandKnowledge, HandPassView, hand_view, without_hands}
-use Rattle.rb_hand_ledger.specs.NoStranger.{HoldsOwnBusy}
+use Rattle.rb_chapter_ring.specs.Hands.{Hands}
+use Rattle.rb_ledger.specs.HandKnowledge.{HandKnowledge, HandPassView, hand_view, without_hands}
+use Rattle.rb_ledger.specs.NoStranger.{HoldsOwnBusy}
 use Rattle.rb_shared_ring.specs.inner.SeatPasses.{known_in, seen_by, bytes_by, room_by, handed_out_by}
 
 -- what it has seen of the whole history, its bytes, the chapters' room, and those that were handed out

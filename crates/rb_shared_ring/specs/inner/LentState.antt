@@ -1,11 +1,11 @@
 -- The ring's state, taken out of the lock for one call.
-use Rattle.rb_chapter.specs.Chapters.{IsLegalChapter}
-use Rattle.rb_chapter.specs.ChapterRoom.{HasRoomForOwed}
-use Rattle.rb_chapter.specs.ChapterRing.{ChapterRing, StandsForChapter}
+use Rattle.rb_chapter_ring.specs.Chapters.{IsLegalChapter}
+use Rattle.rb_chapter_ring.specs.ChapterRoom.{HasRoomForOwed}
+use Rattle.rb_chapter_ring.specs.ChapterRing.{ChapterRing, StandsForChapter}
 use Rattle.rb_chapter_ring.specs.OpenedRing.{IsChapterRingWithin}
-use Rattle.rb_hands.specs.HandRing.{HandRing, HasHands}
-use Rattle.rb_hand_ledger.specs.HandKnowledge.{HandPassView}
-use Rattle.rb_hand_ledger.specs.HandLockSteps.{TakesHandState, MayPutHands, PutsHandState}
+use Rattle.rb_chapter_ring.specs.HandRing.{HandRing, HasHands}
+use Rattle.rb_ledger.specs.HandKnowledge.{HandPassView}
+use Rattle.rb_ledger.specs.HandLockSteps.{TakesHandState, MayPutHands, PutsHandState}
 
 -- what the ring of one thread tells of its state
 pub record IsKeptRing (v : ChapterRing) : Type 0 where

@@ -3,7 +3,7 @@ use Rattle.std.specs.Prelude.{◌≡◌, ℕ, ◌+◌, ◌*◌, ◌≤◌, lengt
 use Rattle.rb_history.specs.declared.tally.Tally.{Tally}
 use Rattle.rb_ledger.specs.Roles.Role.{Consumer, Worker}
 use Rattle.rb_ledger.specs.Seats.{IsBook, Ties, ConsumerTies}
-use Rattle.rb_hand_ledger.specs.HandKnowledge.{HandPassView}
+use Rattle.rb_ledger.specs.HandKnowledge.{HandPassView}
 use Rattle.rb_shared_ring.specs.inner.HandPasses.{seen_with, room_with, handed_out_with, IsIdleWith}
 
 -- a worker's seat: its pass has this role alone, and its numbers are those of its worker's entries in the whole history as it saw it

@@ -1,7 +1,7 @@
 -- What `feed` opens: a ring in chapters of a room, and a spare chapter beside it.
 use Rattle.std.specs.Prelude.{ℕ, ◌≡◌, Option}
-use Rattle.rb_chapter.specs.Chapters.{Chapter}
-use Rattle.rb_chapter.specs.ChapterRing.{ChapterRing}
+use Rattle.rb_chapter_ring.specs.Chapters.{Chapter}
+use Rattle.rb_chapter_ring.specs.ChapterRing.{ChapterRing}
 use Rattle.rb_chapter_ring.specs.OpenedRing.{opened_ring}
 use Rattle.rb_tape_commands.specs.ChapterTurns.{IsSpareOf}
 

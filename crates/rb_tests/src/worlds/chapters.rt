@@ -1,7 +1,7 @@
 //! Worlds whose keepers hand chapters out.
 
 use crate::worlds::{SUBMIT_42, is_event, opened_with, ring_0, turn, turns, verified};
-use rb_chapter_ledger::bind_chapters;
+use rb_ledger::bind_chapters;
 use rb_history::{Counts, Entry};
 use rb_world::{Actor, TurnDone, WorkerSetup, World};
 use std::alloc::Global;

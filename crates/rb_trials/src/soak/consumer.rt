@@ -4,7 +4,7 @@ ghost use Rattle.std.specs.Prelude.{◌≡◌};
 ghost use Rattle.rb_shared_ring.specs.SharedSeats.{IsSameChapterConsumer};
 
 use super::seen::Seen;
-use rb_chapter::Chapter;
+use rb_chapter_ring::Chapter;
 use rb_consumer::{Batch, Keeper};
 use rb_for_tests::{Consumer, Found};
 use rb_shared_ring::{ConsumerSeat, SharedRing};

@@ -6,7 +6,7 @@ use super::seen::Seen;
 use super::sums::Sums;
 use super::worker::Steps;
 use crate::fault::TrialFault;
-use rb_chapter::Chapter;
+use rb_chapter_ring::Chapter;
 use rb_consumer::{Batch, Keeper};
 use rb_for_tests::OpenRing;
 use rb_shared_ring::{Closing, ConsumerSeat, Seat};

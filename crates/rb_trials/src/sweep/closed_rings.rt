@@ -4,7 +4,7 @@ ghost use Rattle.std.specs.Prelude.{◌≡◌};
 
 use super::memory::TRIES;
 use crate::fault::TrialFault;
-use rb_chapter::Chapter;
+use rb_chapter_ring::Chapter;
 use rb_history::Counts;
 use rb_shared_ring::{BindFault, Closing, ConsumerSeat, Seat, SharedRing};
 use std::alloc::Global;

@@ -2,7 +2,7 @@
 
 ghost use Rattle.std.specs.Prelude.{◌≡◌, IfOk};
 ghost use Rattle.rb_ledger.specs.Seats.{IsSameSeat, fresh_book, fresh_seats};
-ghost use Rattle.rb_chapter_ledger.specs.ChapterSeats.{fresh_chapter_consumer};
+ghost use Rattle.rb_ledger.specs.ChapterSeats.{fresh_chapter_consumer};
 ghost use Rattle.rb_shared_ring.specs.SharedSeats.{IsSameChapterConsumer};
 
 use super::closed_rings::{bind, close};
@@ -10,7 +10,7 @@ use super::memory::{TRIES, tell_memory};
 use super::rings::ROOM;
 use super::sheets::filled;
 use crate::fault::TrialFault;
-use rb_chapter::Chapter;
+use rb_chapter_ring::Chapter;
 use rb_history::Taken;
 use rb_shared_ring::{ConsumerSeat, OpenFault, Seat, SharedRing, open};
 use std::alloc::Global;

@@ -5,7 +5,7 @@ use Rattle.rb_history.specs.declared.answers.Taken.{Taken}
 use Rattle.rb_history.specs.declared.answers.Taken.TheVariants.{Event as TakenEvent, Skipped, BusyFront, Empty}
 use Rattle.rb_ledger.specs.Roles.{BeginsWith}
 use Rattle.rb_ledger.specs.Seats.{Shared}
-use Rattle.rb_chapter_ledger.specs.ChapterSeats.{ChapterConsumerSeat}
+use Rattle.rb_ledger.specs.ChapterSeats.{ChapterConsumerSeat}
 use Rattle.rb_workers.specs.Sink.{SinkItem, GetsTaken}
 use Rattle.rb_workers.specs.Sink.SinkItem.{Event, Skip, Chapter}
 use Rattle.rb_workers.specs.declared.opened.Opened.{Opened}

@@ -1,6 +1,6 @@
 -- How a ring is closed.
 use Rattle.std.specs.Prelude.{◌≡◌, map}
-use Rattle.rb_chapter_ledger.specs.ChapterClosing.{IsClosedByChapters}
+use Rattle.rb_ledger.specs.ChapterClosing.{IsClosedByChapters}
 use Rattle.rb_workers.specs.declared.opened.Opened.{Opened}
 use Rattle.rb_workers.specs.declared.opened.Ended.{Ended}
 

@@ -2,8 +2,8 @@
 use Rattle.std.specs.Prelude.{ℕ, ◌≡◌, ◌<◌, ◌⊎◌, List, [], Some, length, map}
 use Rattle.std.specs.List.{slice_index_or}
 use Rattle.rb_history.specs.Calls.{IsBusy}
-use Rattle.rb_hands.specs.declared.out_record.OutRecord.{OutRecord}
-use Rattle.rb_hands.specs.Hands.{HandBook, hand_at, out_record}
+use Rattle.rb_chapter_ring.specs.declared.out_record.OutRecord.{OutRecord}
+use Rattle.rb_chapter_ring.specs.Hands.{HandBook, hand_at, out_record}
 use Rattle.rb_interp.specs.MachineState.{MachineState}
 use Rattle.rb_interp.specs.StoredMemory.{held_record}
 use Rattle.rb_world.specs.declared.world_record.WorldRecord.{WorldRecord}

@@ -1,6 +1,6 @@
 -- What each ring of a world keeps of its chapters.
-use Rattle.rb_chapter.specs.ChapterRoom.{HasRoomForOwed}
-use Rattle.rb_chapter.specs.WholeHistory.{Binds}
+use Rattle.rb_chapter_ring.specs.ChapterRoom.{HasRoomForOwed}
+use Rattle.rb_chapter_ring.specs.WholeHistory.{Binds}
 use Rattle.rb_world.specs.WorldValue.{KeptRing}
 
 -- the chapters that were handed out and then the one that the ring keeps are a ring's: numbered 0 upward, from the empty ring on, each

@@ -1,7 +1,7 @@
 -- What a record's end is to its ring, and to the world.
 use Rattle.std.specs.Prelude.{ℕ}
 use Rattle.rb_history.specs.ReservationModel.{Granted}
-use Rattle.rb_hands.specs.HandRing.{HandRing, SubmitsFromHand, DiscardsFromHand}
+use Rattle.rb_chapter_ring.specs.HandRing.{HandRing, SubmitsFromHand, DiscardsFromHand}
 use Rattle.rb_semantics.specs.HelperCalls.{HelperAnswer}
 use Rattle.rb_interleavings.specs.Worlds.{WorldRing}
 use Rattle.rb_interleavings.specs.CallsInWorld.{WorkerSubmits, WorkerDiscards}

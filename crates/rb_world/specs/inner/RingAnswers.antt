@@ -3,8 +3,8 @@ use Rattle.std.specs.Prelude.{ℕ, ℤ, ◌≡◌, List, [], Option, Some, None,
 use Rattle.rb_history.specs.ReservationModel.{Granted}
 use Rattle.rb_history.specs.declared.entries.Entry.{Entry}
 use Rattle.rb_history.specs.RingModel.{Ring}
-use Rattle.rb_chapter.specs.ChapterRing.{ChapterRing, whole_ring}
-use Rattle.rb_chapter.specs.WholeHistory.{IsKept}
+use Rattle.rb_chapter_ring.specs.ChapterRing.{ChapterRing, whole_ring}
+use Rattle.rb_chapter_ring.specs.WholeHistory.{IsKept}
 use Rattle.rb_semantics.specs.HelperCalls.{Code}
 use Rattle.rb_interleavings.specs.Worlds.{WorldRing}
 use Rattle.rb_interleavings.specs.CallsInWorld.{RecordOutcome, Made, WorkerReserves, WorkerOutputs, answer_to_output}

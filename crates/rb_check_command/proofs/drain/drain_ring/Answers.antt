@@ -1,6 +1,6 @@
 use Rattle.std.proofs.Common.{◌∙◌, refl, sym, subst}
 use Rattle.std.specs.Prelude.{IsNone}
-use Rattle.rb_chapter_ledger.proofs.WholeCalls.{in-one-chapter}
+use Rattle.rb_ledger.proofs.WholeCalls.{in-one-chapter}
 use Rattle.rb_check_command.specs.DrainedRings.{TakesEach}
 use Rattle.rb_check_command.proofs.Draining.{each_then_none, each_then_one, told_end}
 use Rattle.rb_check_command.proofs.drain.drain_ring.Goals as goal

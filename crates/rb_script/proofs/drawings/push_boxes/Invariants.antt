@@ -1,6 +1,6 @@
 use Rattle.std.proofs.Common.{◌≡◌, ◌++◌, map, take}
 use Rattle.std.specs.List.{flat_map}
-use Rattle.rb_chapter.specs.UntakenRecords.{untaken_shown}
+use Rattle.rb_chapter_ring.specs.UntakenRecords.{untaken_shown}
 use Rattle.rb_script.specs.Drawings.{box_text}
 use Rattle.rb_script.proofs.drawings.push_boxes.Given as goal
 

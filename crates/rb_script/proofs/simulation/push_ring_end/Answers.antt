@@ -1,6 +1,6 @@
 use Rattle.std.proofs.Common.{◌≡◌, ◌++◌, subst}
 use Rattle.std.specs.Prelude.{OnOk}
-use Rattle.rb_chapter.specs.Chapters.{joined}
+use Rattle.rb_chapter_ring.specs.Chapters.{joined}
 use Rattle.rb_world.specs.WorldValue.{ring_at, world_of}
 use Rattle.rb_script.proofs.WorldEnds.{ring-shown}
 use Rattle.rb_script.proofs.simulation.push_ring_end.Goals as goal

@@ -1,7 +1,7 @@
 use Rattle.std.proofs.Common.{◌≡◌, ◌<◌, ◌∙◌, ap, sym, subst, length, refl, slice_index_or}
-use Rattle.rb_chapter.specs.Opening.{Opening, no_tally, tally_at}
-use Rattle.rb_chapter.specs.Chapters.{closing_of}
-use Rattle.rb_chapter.proofs.Numbers.{tally-after}
+use Rattle.rb_chapter_ring.specs.Opening.{Opening, no_tally, tally_at}
+use Rattle.rb_chapter_ring.specs.Chapters.{closing_of}
+use Rattle.rb_chapter_ring.proofs.ChapterNumbers.{tally-after}
 use Rattle.rb_shared_ring.proofs.SeatNumbers.{totals-long}
 use Rattle.rb_shared_ring.proofs.audit.audit_of.Goals as goal
 

@@ -1,8 +1,8 @@
 use Rattle.std.proofs.Common.{◌≡◌, refl, sym, subst}
-use Rattle.rb_chapter.specs.ChapterCalls.{HandsOut}
+use Rattle.rb_chapter_ring.specs.ChapterCalls.{HandsOut}
 use Rattle.rb_chapter_ring.specs.OpenedRing.{MayGoOnIn}
 use Rattle.rb_ledger.specs.Roles.Role.{Consumer}
-use Rattle.rb_hands.specs.HandRing.{HandRing}
+use Rattle.rb_chapter_ring.specs.HandRing.{HandRing}
 use Rattle.rb_shared_ring.specs.inner.HandCalls.{LeavesHands}
 use Rattle.rb_shared_ring.proofs.HandPassing.{called-in-hands, chapter-idle}
 use Rattle.rb_shared_ring.proofs.ConsumerPassing.{put-next, handed-next, handed-fits, goes-on-in}

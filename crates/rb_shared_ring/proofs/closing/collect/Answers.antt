@@ -1,11 +1,11 @@
 use Rattle.std.proofs.Common.{◌≡◌, ◌∷◌, ◌++◌, [], None, ◌∙◌, sym, subst}
 use Rattle.std.specs.List.{All}
 use Rattle.crossbeam_queue.specs.Passes.{view}
-use Rattle.rb_chapter_ledger.specs.ChapterKnowledge.{ChapterPassView, chapter_view}
-use Rattle.rb_chapter_ledger.specs.ChapterLockSteps.{TakesChapterState}
-use Rattle.rb_chapter_ledger.specs.ChapterClosing.{consumer_knowledge}
-use Rattle.rb_chapter_ledger.proofs.ChapterGathers.{closed-where-gathered}
-use Rattle.rb_hand_ledger.specs.HandKnowledge.{without_hands}
+use Rattle.rb_ledger.specs.ChapterKnowledge.{ChapterPassView, chapter_view}
+use Rattle.rb_ledger.specs.ChapterLockSteps.{TakesChapterState}
+use Rattle.rb_ledger.specs.ChapterClosing.{consumer_knowledge}
+use Rattle.rb_ledger.proofs.ChapterGathers.{closed-where-gathered}
+use Rattle.rb_ledger.specs.HandKnowledge.{without_hands}
 use Rattle.rb_shared_ring.proofs.closing.collect.Goals as goal
 
 pub gather-requires-clause-seats : goal.gather-requires-clause-seats

@@ -1,8 +1,8 @@
 use Rattle.std.proofs.Common.{◌∙◌, ap}
 use Rattle.rb_ledger.specs.SeatRoles.{HasOwnCounts}
 use Rattle.rb_ledger.proofs.Gathers.{rest-rings, all-each}
-use Rattle.rb_hand_ledger.specs.HandKnowledge.{HandPassView}
-use Rattle.rb_hand_ledger.proofs.HandLock.{merges}
+use Rattle.rb_ledger.specs.HandKnowledge.{HandPassView}
+use Rattle.rb_ledger.proofs.HandLock.{merges}
 use Rattle.rb_shared_ring.proofs.GatheredSeats.{gather-more}
 use Rattle.rb_shared_ring.proofs.closing.gather.Goals as goal
 

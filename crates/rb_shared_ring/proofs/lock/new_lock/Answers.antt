@@ -1,4 +1,4 @@
-use Rattle.rb_hand_ledger.proofs.HandLock.{begins}
+use Rattle.rb_ledger.proofs.HandLock.{begins}
 use Rattle.rb_shared_ring.proofs.lock.new_lock.Goals as goal
 
 pub ruled-requires-clause-rule : goal.ruled-requires-clause-rule

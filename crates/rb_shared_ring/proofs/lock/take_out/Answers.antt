@@ -1,8 +1,8 @@
 use Rattle.std.proofs.Common.{ap, sym, subst, ◌∙◌}
 use Rattle.crossbeam_queue.specs.Passes.{view}
-use Rattle.rb_hand_ledger.specs.HandKnowledge.{HandPassView}
-use Rattle.rb_hand_ledger.specs.HandLockSteps.{TakesHandState}
-use Rattle.rb_hand_ledger.proofs.HandLock.{takes}
+use Rattle.rb_ledger.specs.HandKnowledge.{HandPassView}
+use Rattle.rb_ledger.specs.HandLockSteps.{TakesHandState}
+use Rattle.rb_ledger.proofs.HandLock.{takes}
 use Rattle.rb_shared_ring.proofs.lock.take_out.Goals as goal
 
 pub pop_as-requires-clause-rule : goal.pop_as-requires-clause-rule

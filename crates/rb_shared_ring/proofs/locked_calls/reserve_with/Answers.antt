@@ -1,6 +1,6 @@
 use Rattle.std.proofs.Common.{◌<◌, sym, subst}
-use Rattle.rb_hands.specs.Hands.{hands_of, IsFree}
-use Rattle.rb_hands.specs.HandRing.{HandRing}
+use Rattle.rb_chapter_ring.specs.Hands.{hands_of, IsFree}
+use Rattle.rb_chapter_ring.specs.HandRing.{HandRing}
 use Rattle.rb_shared_ring.specs.inner.HandCalls.{ReservesToHand}
 use Rattle.rb_shared_ring.proofs.HandPassing.{called-in-hands, worker-low, hand-free}
 use Rattle.rb_shared_ring.proofs.SeatPassing.{put-reserve, reserved}

@@ -1,5 +1,5 @@
 use Rattle.std.proofs.Common.{sym, subst}
-use Rattle.rb_hands.specs.HandRing.{HandRing, HasInHand}
+use Rattle.rb_chapter_ring.specs.HandRing.{HandRing, HasInHand}
 use Rattle.rb_shared_ring.specs.inner.HandCalls.{SubmitsOut}
 use Rattle.rb_shared_ring.proofs.HandPassing.{called-in-hands, out-there, hand-low}
 use Rattle.rb_shared_ring.proofs.SeatPassing.{put-submit, submitted}

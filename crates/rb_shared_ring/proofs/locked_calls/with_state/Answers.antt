@@ -1,7 +1,7 @@
 use Rattle.std.proofs.Common.{refl, sym, subst}
 use Rattle.std.specs.Fn.{FnOnceReturnsAtMut}
 use Rattle.crossbeam_queue.specs.Passes.{view}
-use Rattle.rb_hand_ledger.specs.HandLockSteps.{TakesHandState}
+use Rattle.rb_ledger.specs.HandLockSteps.{TakesHandState}
 use Rattle.rb_shared_ring.proofs.locked_calls.with_state.Goals as goal
 
 pub call-answer-requires : goal.call-answer-requires

@@ -1,9 +1,9 @@
 use Rattle.std.proofs.Common.{◌≡◌, ◌-◌, ◌++◌, ◌∙◌, ◌<◌, [], ap, sym, subst, refl, append-nil, arith}
 use Rattle.std.specs.FinMap.{empty}
 use Rattle.crossbeam_queue.specs.Passes.{view}
-use Rattle.rb_hands.specs.Hands.{free_book}
-use Rattle.rb_hands.specs.HandRing.{HandRing, HasHands}
-use Rattle.rb_chapter_ledger.specs.ChapteredRing.{chaptered_ring, IsChapteredRing}
+use Rattle.rb_chapter_ring.specs.Hands.{free_book}
+use Rattle.rb_chapter_ring.specs.HandRing.{HandRing, HasHands}
+use Rattle.rb_ledger.specs.ChapteredRing.{chaptered_ring, IsChapteredRing}
 use Rattle.rb_ledger.specs.Roles.{Book}
 use Rattle.rb_ledger.specs.Seats.{IsBook, fresh_book, fresh_seat, fresh_seats}
 use Rattle.rb_ledger.proofs.Opens.{seats-more}

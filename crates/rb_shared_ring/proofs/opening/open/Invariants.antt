@@ -1,8 +1,8 @@
 use Rattle.std.proofs.Common.{◌≡◌, ◌-◌, ◌++◌, None}
 use Rattle.crossbeam_queue.specs.Passes.{view, IsSamePass}
 use Rattle.rb_ledger.specs.Seats.{fresh_book, fresh_seats}
-use Rattle.rb_hand_ledger.specs.HandKnowledge.{hand_view}
-use Rattle.rb_hand_ledger.specs.HandLockSteps.{opening_worker_hands}
+use Rattle.rb_ledger.specs.HandKnowledge.{hand_view}
+use Rattle.rb_ledger.specs.HandLockSteps.{opening_worker_hands}
 use Rattle.rb_shared_ring.proofs.opening.open.Given as goal
 
 abbrev pub invariant-loop-worker : goal.invariant-loop-worker

@@ -1,7 +1,7 @@
 use Rattle.std.proofs.Common.{sym, subst, ◌∙◌}
 use Rattle.crossbeam_queue.specs.Passes.{view}
 use Rattle.rb_ledger.specs.Roles.Role.{Consumer}
-use Rattle.rb_hand_ledger.specs.HandLockSteps.{TakesHandState}
+use Rattle.rb_ledger.specs.HandLockSteps.{TakesHandState}
 use Rattle.rb_shared_ring.proofs.HandPassing.{chapter-idle}
 use Rattle.rb_shared_ring.proofs.ConsumerPassing.{put-takes, took-many}
 use Rattle.rb_shared_ring.proofs.TakerPassing.{put-taker, put-back-chapter, leaves-taker}

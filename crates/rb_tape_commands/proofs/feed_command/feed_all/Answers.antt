@@ -2,7 +2,7 @@ use Rattle.std.proofs.Common.{◌≡◌, ◌+◌, ◌∷◌, ◌++◌, [], lengt
 use Rattle.std.proofs.lemmas.Result.{err_from_is_err_and}
 use Rattle.std.proofs.lemmas.List.{length_push}
 use Rattle.std.specs.Io.KnownBytes.{Appends}
-use Rattle.rb_chapter.specs.Chapters.{Chapter}
+use Rattle.rb_chapter_ring.specs.Chapters.{Chapter}
 use Rattle.rb_header.specs.Span.{span}
 use Rattle.rb_header.specs.TapeBytes.{IsItemAt, item_bytes}
 use Rattle.rb_header.specs.TapeBytes.Item.{Event}

@@ -1,5 +1,5 @@
 use Rattle.std.proofs.Common.{[], ◌∷◌, sym, subst}
-use Rattle.rb_chapter_ledger.specs.ChapterSeats.{ChapterConsumerSeat}
+use Rattle.rb_ledger.specs.ChapterSeats.{ChapterConsumerSeat}
 use Rattle.rb_workers.specs.inner.ConsumerTasks.{HasGiven}
 use Rattle.rb_workers.proofs.ChapterTurns.{turn_same, turned_none, turned_one}
 use Rattle.rb_workers.proofs.SinkItems.{nothing_given}

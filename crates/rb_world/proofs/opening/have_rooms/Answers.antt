@@ -1,5 +1,5 @@
 use Rattle.std.proofs.Common.{refl}
-use Rattle.rb_chapter.specs.Chapters.{IsChapterRoom}
+use Rattle.rb_chapter_ring.specs.Chapters.{IsChapterRoom}
 use Rattle.rb_world.specs.declared.opening.RingSetup.{RingSetup}
 use Rattle.rb_world.proofs.ListSteps.{all-more, all-done}
 use Rattle.rb_world.proofs.opening.have_rooms.Goals as goal

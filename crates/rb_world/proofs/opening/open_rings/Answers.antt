@@ -1,6 +1,6 @@
 use Rattle.std.proofs.Common.{◌≡◌, ◌+◌, ◌<◌, ◌++◌, ◌∷◌, [], take, length, get_or, sym, ap, ◌∙◌, arith}
 use Rattle.std.proofs.lemmas.List.{length-take, take_more}
-use Rattle.rb_hands.specs.HandRing.{HandRing}
+use Rattle.rb_chapter_ring.specs.HandRing.{HandRing}
 use Rattle.rb_world.specs.declared.opening.RingSetup.{RingSetup}
 use Rattle.rb_world.specs.OpenedWorlds.{opened_ring, opened_rings}
 use Rattle.rb_world.proofs.KeptChapters.{first-has}

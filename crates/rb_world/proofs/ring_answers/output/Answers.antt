@@ -1,5 +1,5 @@
 use Rattle.std.proofs.Common.{refl, sym, ap, subst, length, to_z, of_z, w64}
-use Rattle.rb_chapter.specs.ChapterCalls.{Outputs}
+use Rattle.rb_chapter_ring.specs.ChapterCalls.{Outputs}
 use Rattle.rb_world.specs.inner.RingAnswers.{IsOutput, IsWholeAnswer}
 use Rattle.rb_world.proofs.WholeCalls.{output-bad, output-unlogged, output-made, output-refused}
 use Rattle.rb_world.proofs.ring_answers.output.Goals as goal

@@ -1,6 +1,6 @@
 use Rattle.std.proofs.Common.{rules, ◌≡◌, ◌<◌, ◌≤◌, [], length, map, set, get_or, refl, inl, inr, sym, ap, subst, ◌∙◌, arith}
 use Rattle.std.specs.Prelude.{◌⊎◌}
-use Rattle.rb_hands.specs.Hands.{hand_at}
+use Rattle.rb_chapter_ring.specs.Hands.{hand_at}
 use Rattle.rb_semantics.specs.HelperCalls.{Submit, Discard}
 use Rattle.rb_semantics.specs.Instructions.{Asks, next_step}
 use Rattle.rb_semantics.specs.Soundness.{IsLawful}

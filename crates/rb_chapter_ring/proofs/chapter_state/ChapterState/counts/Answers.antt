@@ -1,9 +1,9 @@
 use Rattle.std.proofs.Common.{length, sym, ap, ◌∙◌, refl, arith}
-use Rattle.rb_chapter.specs.Opening.{Opening}
+use Rattle.rb_chapter_ring.specs.Opening.{Opening}
 use Rattle.rb_history.specs.StoredRecords.{shown_record}
 use Rattle.rb_history.proofs.Contents.{length-map}
-use Rattle.rb_chapter.specs.ChapterRing.{ChapterRing}
-use Rattle.rb_chapter.specs.ChapterRoom.{owed}
+use Rattle.rb_chapter_ring.specs.ChapterRing.{ChapterRing}
+use Rattle.rb_chapter_ring.specs.ChapterRoom.{owed}
 use Rattle.rb_chapter_ring.specs.inner.ChapterRingBody.{stored_of}
 use Rattle.rb_chapter_ring.specs.OpenedRing.{capped_counts, told_counts}
 use Rattle.rb_chapter_ring.proofs.Rows.{said}

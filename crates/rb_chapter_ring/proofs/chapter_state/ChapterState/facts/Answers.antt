@@ -1,7 +1,7 @@
 use Rattle.std.proofs.Common.{subst}
 use Rattle.rb_history.proofs.Row.{InRow-le}
-use Rattle.rb_chapter.specs.ChapterRing.{ChapterRing, StandsForChapter}
-use Rattle.rb_chapter.specs.WholeHistory.{IsKept}
+use Rattle.rb_chapter_ring.specs.ChapterRing.{ChapterRing, StandsForChapter}
+use Rattle.rb_chapter_ring.specs.WholeHistory.{IsKept}
 use Rattle.rb_chapter_ring.specs.inner.ChapterRingBody.{stored_of}
 use Rattle.rb_chapter_ring.specs.OpenedRing.{IsChapterRingWithin}
 use Rattle.rb_chapter_ring.proofs.Rows.{rows, stands-for}

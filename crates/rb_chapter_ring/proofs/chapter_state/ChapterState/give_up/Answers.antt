@@ -2,9 +2,9 @@ use Rattle.std.proofs.Common.{◌+◌, ◌/◌, ◌≤◌, ℕ, length, sym, ap,
 use Rattle.rb_history.specs.declared.entries.Entry.TheVariants.{Dis}
 use Rattle.rb_history.specs.StoredRecords.{contents_of}
 use Rattle.rb_history.specs.inner.RecordRows.{IsBusyAt}
-use Rattle.rb_chapter.specs.Chapters.{Chapter, closing_of}
-use Rattle.rb_chapter.specs.ChapterRing.{ChapterRing}
-use Rattle.rb_chapter.specs.ChapterRoom.{record_now, with_entry}
+use Rattle.rb_chapter_ring.specs.Chapters.{Chapter, closing_of}
+use Rattle.rb_chapter_ring.specs.ChapterRing.{ChapterRing}
+use Rattle.rb_chapter_ring.specs.ChapterRoom.{record_now, with_entry}
 use Rattle.rb_chapter_ring.specs.inner.ChapterRingBody.{IsRingOf, stored_of}
 use Rattle.rb_chapter_ring.specs.inner.Ordinals.{KeepsNumbers, KeepsOrdinals}
 use Rattle.rb_chapter_ring.proofs.CountSteps.{counting_discard, countable}

@@ -7,11 +7,11 @@ use Rattle.rb_history.specs.History.Status.{Busy}
 use Rattle.rb_history.specs.StoredRecords.{shown_record, contents_of}
 use Rattle.rb_history.proofs.Contents.{length-map}
 use Rattle.rb_history.proofs.Row.{InRow-le}
-use Rattle.rb_chapter.specs.Opening.{Opening, no_tally}
-use Rattle.rb_chapter.specs.Chapters.{Chapter, closing_of}
-use Rattle.rb_chapter.specs.ChapterRing.{ChapterRing}
-use Rattle.rb_chapter.specs.ChapterRoom.{with_entry}
-use Rattle.rb_chapter.specs.ChapterCalls.{Grants, FindsChapterFull}
+use Rattle.rb_chapter_ring.specs.Opening.{Opening, no_tally}
+use Rattle.rb_chapter_ring.specs.Chapters.{Chapter, closing_of}
+use Rattle.rb_chapter_ring.specs.ChapterRing.{ChapterRing}
+use Rattle.rb_chapter_ring.specs.ChapterRoom.{with_entry}
+use Rattle.rb_chapter_ring.specs.ChapterCalls.{Grants, FindsChapterFull}
 use Rattle.rb_chapter_ring.specs.inner.ChapterRingBody.{ring_of, stored_of}
 use Rattle.rb_chapter_ring.specs.inner.Ordinals.{IsNumbered, KeepsNumbers, KeepsOrdinals, taken_before}
 use Rattle.rb_chapter_ring.proofs.CountSteps.{counting_grant}

@@ -1,8 +1,8 @@
 use Rattle.std.proofs.Common.{◌≡◌, ◌/◌, ◌≤◌, ◌++◌, ℕ, length, sym, ap, ◌∙◌, subst}
-use Rattle.rb_chapter.specs.Opening.{Opening}
-use Rattle.rb_chapter.specs.Chapters.{Chapter, closing_of}
-use Rattle.rb_chapter.specs.ChapterRing.{ChapterRing}
-use Rattle.rb_chapter.specs.ChapterCalls.{HandsOut}
+use Rattle.rb_chapter_ring.specs.Opening.{Opening}
+use Rattle.rb_chapter_ring.specs.Chapters.{Chapter, closing_of}
+use Rattle.rb_chapter_ring.specs.ChapterRing.{ChapterRing}
+use Rattle.rb_chapter_ring.specs.ChapterCalls.{HandsOut}
 use Rattle.rb_chapter_ring.specs.inner.ChapterRingBody.{ring_of, IsRingOf, stored_in, stored_of}
 use Rattle.rb_chapter_ring.specs.inner.Ordinals.{KeepsNumbers, KeepsOrdinals}
 use Rattle.rb_chapter_ring.proofs.Numbers.{ordinals-same}

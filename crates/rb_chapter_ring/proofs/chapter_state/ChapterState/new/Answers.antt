@@ -1,7 +1,7 @@
 use Rattle.std.proofs.Common.{◌≡◌, ◌/◌, ◌≤◌, ℕ, [], length, refl, sym, ap, ◌∙◌, subst}
 use Rattle.std.specs.Int.{IsPowerOfTwo}
 use Rattle.rb_history.specs.RoomRule.{Setup}
-use Rattle.rb_chapter.specs.Chapters.{Chapter, first_chapter}
+use Rattle.rb_chapter_ring.specs.Chapters.{Chapter, first_chapter}
 use Rattle.rb_chapter_ring.specs.inner.ChapterRingBody.{stored_in, stored_of}
 use Rattle.rb_chapter_ring.proofs.Begins.{begins-closing, begins}
 use Rattle.rb_chapter_ring.proofs.CountSteps.{zero_counts}

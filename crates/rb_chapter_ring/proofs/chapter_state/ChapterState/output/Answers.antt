@@ -1,4 +1,4 @@
-use Rattle.rb_chapter.specs.Chapters.{closing_of}
+use Rattle.rb_chapter_ring.specs.Chapters.{closing_of}
 use Rattle.rb_chapter_ring.proofs.Numbers.{ordinals-on}
 use Rattle.rb_chapter_ring.proofs.chapter_state.ChapterState.output.Goals as goal
 

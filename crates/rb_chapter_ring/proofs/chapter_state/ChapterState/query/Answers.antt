@@ -1,6 +1,6 @@
 use Rattle.std.proofs.Common.{◌-◌, ap, ◌∙◌, arith}
 use Rattle.rb_history.proofs.Row.{InRow-le}
-use Rattle.rb_chapter.specs.Opening.{Opening}
+use Rattle.rb_chapter_ring.specs.Opening.{Opening}
 use Rattle.rb_chapter_ring.specs.inner.ChapterRingBody.{stored_of}
 use Rattle.rb_chapter_ring.proofs.Rows.{rows}
 use Rattle.rb_chapter_ring.proofs.chapter_state.ChapterState.query.Goals as goal

@@ -2,10 +2,10 @@ use Rattle.std.proofs.Common.{◌≡◌, ◌+◌, ◌/◌, ◌<◌, ◌≤◌, �
 use Rattle.std.proofs.lemmas.Bool.{false≢true}
 use Rattle.rb_history.specs.declared.entries.Entry.TheVariants.{Full}
 use Rattle.rb_history.specs.StoredRecords.{contents_of}
-use Rattle.rb_chapter.specs.Chapters.{Chapter, closing_of}
-use Rattle.rb_chapter.specs.ChapterRing.{ChapterRing}
-use Rattle.rb_chapter.specs.ChapterRoom.{with_entry}
-use Rattle.rb_chapter.specs.ChapterCalls.{ChapterRingHasRoom, FindsFull, FindsChapterFull}
+use Rattle.rb_chapter_ring.specs.Chapters.{Chapter, closing_of}
+use Rattle.rb_chapter_ring.specs.ChapterRing.{ChapterRing}
+use Rattle.rb_chapter_ring.specs.ChapterRoom.{with_entry}
+use Rattle.rb_chapter_ring.specs.ChapterCalls.{ChapterRingHasRoom, FindsFull, FindsChapterFull}
 use Rattle.rb_chapter_ring.specs.OpenedRing.{capped}
 use Rattle.rb_chapter_ring.specs.inner.Ordinals.{KeepsNumbers, KeepsOrdinals}
 use Rattle.rb_chapter_ring.specs.inner.ChapterRingBody.{ring_of, IsRingOf, stored_of}

@@ -4,10 +4,10 @@ use Rattle.std.specs.FinMap.{insert}
 use Rattle.std.specs.Int.{IsPowerOfTwo}
 use Rattle.rb_history.specs.StoredRecords.{contents_of}
 use Rattle.rb_history.specs.inner.RecordRows.{IsBusyAt}
-use Rattle.rb_chapter.specs.Opening.{Opening}
-use Rattle.rb_chapter.specs.Chapters.{Chapter, closing_of}
-use Rattle.rb_chapter.specs.ChapterRing.{ChapterRing}
-use Rattle.rb_chapter.specs.ChapterRoom.{record_now, with_entry}
+use Rattle.rb_chapter_ring.specs.Opening.{Opening}
+use Rattle.rb_chapter_ring.specs.Chapters.{Chapter, closing_of}
+use Rattle.rb_chapter_ring.specs.ChapterRing.{ChapterRing}
+use Rattle.rb_chapter_ring.specs.ChapterRoom.{record_now, with_entry}
 use Rattle.rb_chapter_ring.specs.inner.Ordinals.{KeepsNumbers, KeepsOrdinals, taken_before}
 use Rattle.rb_chapter_ring.specs.inner.ChapterRingBody.{IsRingOf, stored_of}
 use Rattle.rb_chapter_ring.proofs.CountSteps.{counting_submit}

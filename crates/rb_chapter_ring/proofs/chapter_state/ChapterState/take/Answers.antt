@@ -4,10 +4,10 @@ use Rattle.std.proofs.lemmas.List.{length-map}
 use Rattle.rb_history.specs.declared.answers.Taken.TheVariants.{Event, Skipped, BusyFront, Empty}
 use Rattle.rb_history.specs.History.{Shown}
 use Rattle.rb_history.proofs.Row.{get_or-default}
-use Rattle.rb_chapter.specs.Opening.{Opening, no_record, record_in}
-use Rattle.rb_chapter.specs.UntakenRecords.{status_shown, untaken_shown}
-use Rattle.rb_chapter.specs.ChapterRing.{ChapterRing}
-use Rattle.rb_chapter.specs.Chapters.{Chapter, closing_of}
+use Rattle.rb_chapter_ring.specs.Opening.{Opening, no_record, record_in}
+use Rattle.rb_chapter_ring.specs.UntakenRecords.{status_shown, untaken_shown}
+use Rattle.rb_chapter_ring.specs.ChapterRing.{ChapterRing}
+use Rattle.rb_chapter_ring.specs.Chapters.{Chapter, closing_of}
 use Rattle.rb_chapter_ring.specs.inner.Ordinals.{KeepsNumbers, taken_before}
 use Rattle.rb_chapter_ring.specs.inner.ChapterRingBody.{ring_of, stored_of, IsRingOf}
 use Rattle.rb_chapter_ring.proofs.CountSteps.{counting_take}

@@ -1,8 +1,8 @@
 use Rattle.std.proofs.Common.{◌<◌, ◌∷◌, [], inl, inr, length, length-append, arith, ap, sym, ◌∙◌, subst}
 use Rattle.rb_history.proofs.ManyTakes.{has-record, pushed-more, kept-more}
 use Rattle.rb_history.specs.ManyTakes.{pushed}
-use Rattle.rb_chapter.specs.ChapterCalls.{Takes}
-use Rattle.rb_chapter.specs.Chapters.{closing_of}
+use Rattle.rb_chapter_ring.specs.ChapterCalls.{Takes}
+use Rattle.rb_chapter_ring.specs.Chapters.{closing_of}
 use Rattle.rb_chapter_ring.specs.ManyTakes.{TakesEachInChapter}
 use Rattle.rb_chapter_ring.proofs.ManyTakes.{each-more, stops-busy, stops-empty, takes-all, same-chapter}
 use Rattle.rb_chapter_ring.proofs.Numbers.{ordinals-on, ordinals-same}

@@ -1,6 +1,6 @@
 use Rattle.std.proofs.Common.{◌≡◌, ◌++◌, length, vec_capacity}
 use Rattle.rb_history.specs.ManyTakes.{pushed}
-use Rattle.rb_chapter.specs.ChapterCalls.{IsSameChapter}
+use Rattle.rb_chapter_ring.specs.ChapterCalls.{IsSameChapter}
 use Rattle.rb_chapter_ring.specs.ManyTakes.{TakesEachInChapter}
 use Rattle.rb_chapter_ring.specs.inner.Ordinals.{KeepsNumbers}
 use Rattle.rb_chapter_ring.proofs.chapter_state.ChapterState.take_many.Given as goal

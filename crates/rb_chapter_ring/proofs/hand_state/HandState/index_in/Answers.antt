@@ -1,6 +1,6 @@
 use Rattle.std.proofs.Common.{◌-◌, get_or, length, sym, subst}
 use Rattle.rb_history.specs.inner.RecordRows.{IsBusyAt}
-use Rattle.rb_hands.specs.HandRing.{HandRing, hand_ring, HasInHand}
+use Rattle.rb_chapter_ring.specs.HandRing.{HandRing, hand_ring, HasInHand}
 use Rattle.rb_chapter_ring.proofs.StateSteps.{found-by-ordinal}
 use Rattle.rb_chapter_ring.proofs.hand_state.HandState.index_in.Goals as goal
 

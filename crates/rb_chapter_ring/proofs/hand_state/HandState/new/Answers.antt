@@ -1,4 +1,4 @@
-use Rattle.rb_hands.specs.HandRing.{hand_ring}
+use Rattle.rb_chapter_ring.specs.HandRing.{hand_ring}
 use Rattle.rb_chapter_ring.proofs.StateSteps.{opened-holds}
 use Rattle.rb_chapter_ring.proofs.hand_state.HandState.new.Goals as goal
 

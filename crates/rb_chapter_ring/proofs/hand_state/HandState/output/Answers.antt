@@ -1,8 +1,8 @@
 use Rattle.std.proofs.Common.{◌≡◌, ◌↔◌, ◌<◌, refl, sym, subst, IfOk}
 use Rattle.rb_history.specs.declared.answers.Notice.TheVariants.{Due}
 use Rattle.rb_history.specs.NoticesAndQueries.{IsDue}
-use Rattle.rb_chapter.specs.ChapterCalls.{consumer_now, producer_now}
-use Rattle.rb_hands.specs.HandRing.{HandRing, hand_ring}
+use Rattle.rb_chapter_ring.specs.ChapterCalls.{consumer_now, producer_now}
+use Rattle.rb_chapter_ring.specs.HandRing.{HandRing, hand_ring}
 use Rattle.rb_chapter_ring.proofs.StateSteps.{output-holds}
 use Rattle.rb_chapter_ring.proofs.hand_state.HandState.output.Goals as goal
 

@@ -1,6 +1,6 @@
 use Rattle.std.proofs.Common.{◌≡◌, subst}
-use Rattle.rb_chapter.specs.CountedFrom.{query_answer_from}
-use Rattle.rb_hands.specs.HandRing.{HandRing}
+use Rattle.rb_chapter_ring.specs.CountedFrom.{query_answer_from}
+use Rattle.rb_chapter_ring.specs.HandRing.{HandRing}
 use Rattle.rb_chapter_ring.proofs.hand_state.HandState.query.Goals as goal
 
 pub returns : goal.returns

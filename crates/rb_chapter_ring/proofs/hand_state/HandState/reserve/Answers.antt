@@ -1,10 +1,10 @@
 use Rattle.std.proofs.Common.{◌<◌, Some, length, refl, sym, ◌∙◌, ap, subst}
 use Rattle.std.proofs.lemmas.List.{length-replicate}
-use Rattle.rb_chapter.specs.Chapters.{closing_of}
+use Rattle.rb_chapter_ring.specs.Chapters.{closing_of}
 use Rattle.rb_chapter_ring.specs.inner.Ordinals.{IsHandState, IsNumbered}
-use Rattle.rb_hands.specs.Hands.{hand_at, hands_of, out_record, with_hand, IsFree}
-use Rattle.rb_hands.proofs.ChangedHands.{hand-here}
-use Rattle.rb_hands.specs.HandRing.{HandRing, hand_ring, GrantsToHand}
+use Rattle.rb_chapter_ring.specs.Hands.{hand_at, hands_of, out_record, with_hand, IsFree}
+use Rattle.rb_chapter_ring.proofs.ChangedHands.{hand-here}
+use Rattle.rb_chapter_ring.specs.HandRing.{HandRing, hand_ring, GrantsToHand}
 use Rattle.rb_chapter_ring.proofs.StateSteps.{refused-holds, granted-holds}
 use Rattle.rb_chapter_ring.proofs.hand_state.HandState.reserve.Goals as goal
 

@@ -2,10 +2,10 @@ use Rattle.std.proofs.Common.{◌≡◌, None, length, sym, ap, ◌∙◌, subst
 use Rattle.rb_history.specs.declared.answers.Notice.TheVariants.{Due}
 use Rattle.rb_history.specs.NoticesAndQueries.{IsDue}
 use Rattle.rb_history.specs.inner.RecordRows.{IsBusyAt}
-use Rattle.rb_chapter.specs.ChapterCalls.{consumer_now}
-use Rattle.rb_hands.specs.Hands.{with_hand}
-use Rattle.rb_hands.specs.HandRing.{HandRing, hand_ring, HasInHand}
-use Rattle.rb_hands.proofs.HandCalls.{in-hand-is-busy}
+use Rattle.rb_chapter_ring.specs.ChapterCalls.{consumer_now}
+use Rattle.rb_chapter_ring.specs.Hands.{with_hand}
+use Rattle.rb_chapter_ring.specs.HandRing.{HandRing, hand_ring, HasInHand}
+use Rattle.rb_chapter_ring.proofs.HandCalls.{in-hand-is-busy}
 use Rattle.rb_chapter_ring.proofs.StateSteps.{out-below, submitted-holds}
 use Rattle.rb_chapter_ring.proofs.hand_state.HandState.send.Goals as goal
 

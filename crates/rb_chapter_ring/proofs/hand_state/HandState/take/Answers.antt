@@ -1,7 +1,7 @@
 use Rattle.std.proofs.Common.{◌≡◌, ◌↔◌, refl, subst}
 use Rattle.rb_history.specs.declared.answers.Taken.TheVariants.{BusyFront, Empty}
-use Rattle.rb_chapter.specs.ChapterCalls.{HasBusyFront, AllTaken}
-use Rattle.rb_hands.specs.HandRing.{HandRing, hand_ring}
+use Rattle.rb_chapter_ring.specs.ChapterCalls.{HasBusyFront, AllTaken}
+use Rattle.rb_chapter_ring.specs.HandRing.{HandRing, hand_ring}
 use Rattle.rb_chapter_ring.proofs.StateSteps.{taken-holds}
 use Rattle.rb_chapter_ring.proofs.hand_state.HandState.take.Goals as goal
 

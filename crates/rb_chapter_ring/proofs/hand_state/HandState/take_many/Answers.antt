@@ -1,5 +1,5 @@
 use Rattle.std.proofs.Common.{refl}
-use Rattle.rb_hands.specs.HandRing.{hand_ring}
+use Rattle.rb_chapter_ring.specs.HandRing.{hand_ring}
 use Rattle.rb_history.specs.ManyTakes.{pushed}
 use Rattle.rb_chapter_ring.proofs.StateSteps.{many-hold}
 use Rattle.rb_chapter_ring.proofs.hand_state.HandState.take_many.Goals as goal

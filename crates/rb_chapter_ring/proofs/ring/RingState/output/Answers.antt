@@ -1,7 +1,7 @@
 use Rattle.std.proofs.Common.{◌≡◌, ◌↔◌, subst, IfOk}
 use Rattle.rb_history.specs.declared.answers.Notice.TheVariants.{Due}
 use Rattle.rb_history.specs.NoticesAndQueries.{IsDue}
-use Rattle.rb_chapter.specs.ChapterCalls.{consumer_now, producer_now}
+use Rattle.rb_chapter_ring.specs.ChapterCalls.{consumer_now, producer_now}
 use Rattle.rb_chapter_ring.specs.TaggedRing.{TaggedRing}
 use Rattle.rb_chapter_ring.proofs.ring.RingState.output.Goals as goal
 

@@ -1,5 +1,5 @@
 use Rattle.std.proofs.Common.{◌≡◌, subst}
-use Rattle.rb_chapter.specs.CountedFrom.{query_answer_from}
+use Rattle.rb_chapter_ring.specs.CountedFrom.{query_answer_from}
 use Rattle.rb_chapter_ring.specs.TaggedRing.{TaggedRing}
 use Rattle.rb_chapter_ring.proofs.ring.RingState.query.Goals as goal
 

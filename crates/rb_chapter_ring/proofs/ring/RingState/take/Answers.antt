@@ -1,6 +1,6 @@
 use Rattle.std.proofs.Common.{◌≡◌, ◌↔◌, subst}
 use Rattle.rb_history.specs.declared.answers.Taken.TheVariants.{BusyFront, Empty}
-use Rattle.rb_chapter.specs.ChapterCalls.{HasBusyFront, AllTaken}
+use Rattle.rb_chapter_ring.specs.ChapterCalls.{HasBusyFront, AllTaken}
 use Rattle.rb_chapter_ring.specs.TaggedRing.{TaggedRing}
 use Rattle.rb_chapter_ring.proofs.ring.RingState.take.Goals as goal
 

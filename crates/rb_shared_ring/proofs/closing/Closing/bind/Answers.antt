@@ -1,7 +1,7 @@
 use Rattle.std.proofs.Common.{List, subst}
-use Rattle.rb_chapter.specs.Chapters.{Chapter}
-use Rattle.rb_chapter.specs.WholeHistory.{IsBound}
-use Rattle.rb_chapter_ledger.proofs.BoundChapters.{tied-once-bound, gathered-once-bound}
+use Rattle.rb_chapter_ring.specs.Chapters.{Chapter}
+use Rattle.rb_chapter_ring.specs.WholeHistory.{IsBound}
+use Rattle.rb_ledger.proofs.BoundChapters.{tied-once-bound, gathered-once-bound}
 use Rattle.rb_shared_ring.proofs.closing.Closing.bind.Goals as goal
 
 pub returns-in-Ok-clause-tied : goal.returns-in-Ok-clause-tied

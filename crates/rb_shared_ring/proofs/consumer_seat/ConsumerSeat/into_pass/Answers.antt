@@ -1,6 +1,6 @@
 use Rattle.std.proofs.Common.{subst}
 use Rattle.rb_ledger.specs.Seats.{ConsumerTies}
-use Rattle.rb_chapter_ledger.specs.ChapterSeats.{ChapterConsumerSeat}
+use Rattle.rb_ledger.specs.ChapterSeats.{ChapterConsumerSeat}
 use Rattle.rb_shared_ring.proofs.consumer_seat.ConsumerSeat.into_pass.Goals as goal
 
 pub returns-clause-ties : goal.returns-clause-ties

@@ -1,6 +1,6 @@
 use Rattle.std.proofs.Common.{◌≡◌, ◌∙◌, subst}
 use Rattle.rb_ledger.specs.Seats.{WorkerSeat}
-use Rattle.rb_chapter_ledger.proofs.WholeCalls.{in-one-chapter}
+use Rattle.rb_ledger.proofs.WholeCalls.{in-one-chapter}
 use Rattle.rb_shared_ring.proofs.SeatNumbers.{book-in, audit-tied, audit-own, keeps-hands}
 use Rattle.rb_shared_ring.proofs.shared.SharedRing.audit.Goals as goal
 

@@ -1,6 +1,6 @@
 use Rattle.std.proofs.Common.{◌≡◌, ◌+◌, ◌∙◌, ◌∷◌, [], ap, sym, subst, length, length-append, arith}
 use Rattle.crossbeam_queue.specs.Passes.{view}
-use Rattle.rb_chapter_ledger.specs.ChapterSeats.{ChapterConsumerSeat}
+use Rattle.rb_ledger.specs.ChapterSeats.{ChapterConsumerSeat}
 use Rattle.rb_shared_ring.specs.inner.HandPasses.{handed_out_with}
 use Rattle.rb_shared_ring.proofs.SeatNumbers.{book-in}
 use Rattle.rb_shared_ring.proofs.TakenNumbers.{next-counts, next-number, keeps-after}

@@ -1,10 +1,10 @@
 use Rattle.std.proofs.Common.{◌≡◌, ◌∙◌, sym, subst}
 use Rattle.crossbeam_queue.specs.Passes.{view}
-use Rattle.rb_chapter.specs.ChapterCalls.{producer_now}
+use Rattle.rb_chapter_ring.specs.ChapterCalls.{producer_now}
 use Rattle.rb_ledger.specs.Roles.Role.{Worker}
 use Rattle.rb_ledger.specs.Seats.{WorkerSeat, Ties}
-use Rattle.rb_chapter_ledger.specs.LockedChapterCalls.{LockedChapterCall, InRoomAt}
-use Rattle.rb_chapter_ledger.proofs.WholeCalls.{in-one-chapter}
+use Rattle.rb_ledger.specs.LockedChapterCalls.{LockedChapterCall, InRoomAt}
+use Rattle.rb_ledger.proofs.WholeCalls.{in-one-chapter}
 use Rattle.rb_shared_ring.specs.inner.HandPasses.{seen_with, bytes_with, cut_by}
 use Rattle.rb_shared_ring.specs.SharedCalls.{OutputsInChapter, sent_by_chapter_output}
 use Rattle.rb_shared_ring.proofs.SeatNumbers.{book-in, tied-low, output-fits, output-tied, keeps-hands}

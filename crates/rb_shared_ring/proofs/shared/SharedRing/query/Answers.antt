@@ -1,8 +1,8 @@
 use Rattle.std.proofs.Common.{◌∙◌, subst}
 use Rattle.crossbeam_queue.specs.Passes.{view}
-use Rattle.rb_chapter_ledger.proofs.WholeCalls.{in-one-chapter}
-use Rattle.rb_hands.specs.Hands.{Hands}
-use Rattle.rb_hand_ledger.specs.NoStranger.{HoldsOwnBusy}
+use Rattle.rb_ledger.proofs.WholeCalls.{in-one-chapter}
+use Rattle.rb_chapter_ring.specs.Hands.{Hands}
+use Rattle.rb_ledger.specs.NoStranger.{HoldsOwnBusy}
 use Rattle.rb_shared_ring.specs.inner.HandPasses.{seen_with}
 use Rattle.rb_shared_ring.proofs.SeatNumbers.{book-in, query-tied, keeps-hands}
 use Rattle.rb_shared_ring.proofs.shared.SharedRing.query.Goals as goal

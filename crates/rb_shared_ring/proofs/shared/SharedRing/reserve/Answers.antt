@@ -1,11 +1,11 @@
 use Rattle.std.proofs.Common.{◌≡◌, ◌∙◌, Some, sym, ap, subst, set, IfOk}
 use Rattle.std.proofs.lemmas.List.{length-set}
 use Rattle.crossbeam_queue.specs.Passes.{view}
-use Rattle.rb_hands.specs.Hands.{out_record}
+use Rattle.rb_chapter_ring.specs.Hands.{out_record}
 use Rattle.rb_ledger.specs.Roles.Role.{Worker}
 use Rattle.rb_ledger.specs.Seats.{WorkerSeat, Ties}
-use Rattle.rb_chapter_ledger.specs.LockedChapterCalls.{LockedChapterCall, InRoomAt}
-use Rattle.rb_chapter_ledger.proofs.WholeCalls.{in-one-chapter}
+use Rattle.rb_ledger.specs.LockedChapterCalls.{LockedChapterCall, InRoomAt}
+use Rattle.rb_ledger.proofs.WholeCalls.{in-one-chapter}
 use Rattle.rb_shared_ring.specs.inner.HandPasses.{seen_with, hands_by, cut_by}
 use Rattle.rb_shared_ring.specs.SharedCalls.{ReservesInChapter, granted_in, hands_reserved}
 use Rattle.rb_shared_ring.proofs.SeatNumbers.{book-in, tied-low, reserve-fits, reserve-tied, serial-in, keeps-hands}

@@ -1,11 +1,11 @@
 use Rattle.std.proofs.Common.{◌≡◌, ◌∙◌, None, Ok, sym, ap, subst, set}
 use Rattle.std.proofs.lemmas.List.{length-set}
 use Rattle.crossbeam_queue.specs.Passes.{view}
-use Rattle.rb_hands.specs.Hands.{Hands}
+use Rattle.rb_chapter_ring.specs.Hands.{Hands}
 use Rattle.rb_ledger.specs.Roles.Role.{Worker}
 use Rattle.rb_ledger.specs.Seats.{WorkerSeat, Ties}
-use Rattle.rb_chapter_ledger.specs.LockedChapterCalls.{LockedChapterCall, InRoomAt, SubmitsInChapter}
-use Rattle.rb_chapter_ledger.proofs.WholeCalls.{in-one-chapter}
+use Rattle.rb_ledger.specs.LockedChapterCalls.{LockedChapterCall, InRoomAt, SubmitsInChapter}
+use Rattle.rb_ledger.proofs.WholeCalls.{in-one-chapter}
 use Rattle.rb_shared_ring.specs.inner.HandPasses.{seen_with, cut_by}
 use Rattle.rb_shared_ring.proofs.SeatNumbers.{book-in, tied-low, submit-tied, keeps-hands}
 use Rattle.rb_shared_ring.proofs.shared.SharedRing.submit.Goals as goal

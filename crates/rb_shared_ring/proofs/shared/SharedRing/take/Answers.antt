@@ -1,6 +1,6 @@
 use Rattle.std.proofs.Common.{◌∙◌, ap, sym, subst, arith, length}
 use Rattle.rb_ledger.specs.LockedCalls.{IsTakenAt}
-use Rattle.rb_chapter_ledger.specs.ChapterSeats.{ChapterConsumerSeat}
+use Rattle.rb_ledger.specs.ChapterSeats.{ChapterConsumerSeat}
 use Rattle.rb_shared_ring.proofs.SeatNumbers.{book-in}
 use Rattle.rb_shared_ring.proofs.TakenNumbers.{take-counts, take-stood, keeps-after, counts-after}
 use Rattle.rb_shared_ring.proofs.shared.SharedRing.take.Goals as goal

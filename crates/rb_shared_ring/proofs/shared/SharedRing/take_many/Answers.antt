@@ -2,7 +2,7 @@ use Rattle.std.proofs.Common.{◌≡◌, ◌+◌, ◌-◌, ◌∙◌, ap, sym, s
 use Rattle.rb_history.specs.ManyTakes.{pushed}
 use Rattle.rb_ledger.specs.ManyTakes.{events_among, skips_among, span_among, AreTakenFrom}
 use Rattle.rb_ledger.proofs.ManyTakes.{slice-pushed}
-use Rattle.rb_chapter_ledger.specs.ChapterSeats.{ChapterConsumerSeat}
+use Rattle.rb_ledger.specs.ChapterSeats.{ChapterConsumerSeat}
 use Rattle.rb_shared_ring.proofs.SeatNumbers.{book-in}
 use Rattle.rb_shared_ring.proofs.TakenNumbers.{many-counts, many-stood, keeps-after, counts-after}
 use Rattle.rb_shared_ring.proofs.shared.SharedRing.take_many.Goals as goal

@@ -1,6 +1,6 @@
 use Rattle.std.proofs.Common.{sym, ap, subst, ◌∙◌}
-use Rattle.rb_chapter.specs.Chapters.{joined}
-use Rattle.rb_hands.specs.HandRing.{HasInHand}
+use Rattle.rb_chapter_ring.specs.Chapters.{joined}
+use Rattle.rb_chapter_ring.specs.HandRing.{HasInHand}
 use Rattle.rb_semantics.specs.HelperCalls.{Taken, resume}
 use Rattle.rb_semantics.specs.declared.pending_call.PendingCall.TheVariants as asked
 use Rattle.rb_world.specs.WorldValue.{KeptRing, world_ring, held_by}

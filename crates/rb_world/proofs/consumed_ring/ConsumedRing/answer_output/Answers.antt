@@ -3,8 +3,8 @@ use Rattle.std.specs.Prelude.{ℤ}
 use Rattle.rb_interleavings.specs.CallsInWorld.{RecordOutcome, BadFlags, NoRoom, Made, answer_to_output, Unlogged}
 use Rattle.rb_semantics.specs.declared.pending_call.PendingCall.TheVariants as asked
 use Rattle.rb_semantics.specs.HelperCalls.{Code}
-use Rattle.rb_chapter.specs.Chapters.{joined}
-use Rattle.rb_chapter.specs.ChapterRing.{whole_ring}
+use Rattle.rb_chapter_ring.specs.Chapters.{joined}
+use Rattle.rb_chapter_ring.specs.ChapterRing.{whole_ring}
 use Rattle.rb_world.specs.WorldValue.{KeptRing, world_ring}
 use Rattle.rb_world.specs.TurnsDone.{chapters_of}
 use Rattle.rb_world.specs.inner.RingAnswers.{IsOutput}

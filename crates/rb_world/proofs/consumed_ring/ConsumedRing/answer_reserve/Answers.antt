@@ -1,14 +1,14 @@
 use Rattle.std.proofs.Common.{◌≡◌, ◌<◌, Option, Some, None, refl, inl, inr, sym, ap, subst, ◌∙◌}
 use Rattle.std.specs.Prelude.{◌⊎◌, option_map}
 use Rattle.rb_chapter_ring.specs.HandGranted.{HandGranted}
-use Rattle.rb_hands.specs.Hands.{hand_at}
+use Rattle.rb_chapter_ring.specs.Hands.{hand_at}
 use Rattle.rb_semantics.specs.declared.pending_call.PendingCall.TheVariants as asked
 use Rattle.rb_interp.specs.MachineState.{MachineState}
 use Rattle.rb_world.specs.declared.world_record.WorldRecord.{WorldRecord}
 use Rattle.rb_world.specs.inner.WorkerTurn.{AnswersReserve}
 use Rattle.rb_world.specs.inner.FittingWorlds.{AreOwn}
-use Rattle.rb_chapter.specs.Chapters.{joined}
-use Rattle.rb_chapter.specs.ChapterRing.{whole_ring}
+use Rattle.rb_chapter_ring.specs.Chapters.{joined}
+use Rattle.rb_chapter_ring.specs.ChapterRing.{whole_ring}
 use Rattle.rb_world.specs.WorldValue.{KeptRing, world_ring}
 use Rattle.rb_world.specs.TurnsDone.{chapters_of}
 use Rattle.rb_world.specs.inner.RingAnswers.{IsReserved}

@@ -1,7 +1,7 @@
 use Rattle.std.proofs.Common.{◌++◌, [], ◌∷◌, sym, ap, ◌∙◌, append-nil}
-use Rattle.rb_chapter.specs.Chapters.{joined}
-use Rattle.rb_chapter.proofs.Keeping.{calls-keep}
-use Rattle.rb_chapter.specs.ChapterRing.{whole_ring}
+use Rattle.rb_chapter_ring.specs.Chapters.{joined}
+use Rattle.rb_chapter_ring.proofs.Keeping.{calls-keep}
+use Rattle.rb_chapter_ring.specs.ChapterRing.{whole_ring}
 use Rattle.rb_history.specs.declared.answers.Taken.TheVariants.{Event, Skipped, BusyFront, Empty}
 use Rattle.rb_world.specs.declared.turn_done.TurnDone.TheVariants as turn
 use Rattle.rb_world.specs.WorldValue.{KeptRing, world_ring}

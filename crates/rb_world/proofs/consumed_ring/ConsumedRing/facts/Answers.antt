@@ -1,6 +1,6 @@
 use Rattle.std.proofs.Common.{subst}
-use Rattle.rb_chapter.specs.Chapters.{joined}
-use Rattle.rb_chapter.specs.WholeHistory.{IsKept}
+use Rattle.rb_chapter_ring.specs.Chapters.{joined}
+use Rattle.rb_chapter_ring.specs.WholeHistory.{IsKept}
 use Rattle.rb_world.specs.WorldValue.{KeptRing}
 use Rattle.rb_world.proofs.KeptChapters.{kept-of}
 use Rattle.rb_world.proofs.consumed_ring.ConsumedRing.facts.Goals as goal

@@ -1,5 +1,5 @@
 use Rattle.std.proofs.Common.{◌≡◌, ◌<◌, length, sym, ap, subst, ◌∙◌}
-use Rattle.rb_chapter.specs.WholeHistory.{Binds, IsBound}
+use Rattle.rb_chapter_ring.specs.WholeHistory.{Binds, IsBound}
 use Rattle.rb_world.specs.WorldValue.{KeptRing, WorldValue, no_kept_ring, ring_at, world_of}
 use Rattle.rb_world.proofs.KeptChapters.{bound-of}
 use Rattle.rb_world.proofs.ShownWorlds.{at-default}

@@ -1,6 +1,0 @@
-use Rattle.std.proofs.Common.{ap, ◌∙◌}
-use Rattle.rb_chapter.specs.Chapters.{closing_of}
-use Rattle.rb_chapter.proofs.chapter.Chapter.closing.Goals as goal
-
-pub returns-clause-closing : goal.returns-clause-closing
-returns-clause-closing c = c.self.invariant.closing_is ∙ ap closing_of c.self.view_is

@@ -1,5 +1,0 @@
-use Rattle.rb_chapter.proofs.Stands.{goes-on}
-use Rattle.rb_chapter.proofs.chapter_laws.counted_from_the_opening.Goals as goal
-
-pub returns : goal.returns
-returns c = record { law = goes-on }

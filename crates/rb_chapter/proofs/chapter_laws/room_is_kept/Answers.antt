@@ -1,6 +1,0 @@
-use Rattle.rb_chapter.proofs.Keeping.{calls-keep}
-use Rattle.rb_chapter.proofs.Room.{keep-room, next-room}
-use Rattle.rb_chapter.proofs.chapter_laws.room_is_kept.Goals as goal
-
-pub returns : goal.returns
-returns c = record { entries = keep-room; next = next-room; calls = calls-keep }

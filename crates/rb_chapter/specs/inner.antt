@@ -1,4 +1,0 @@
-pub mod OpeningNumbers
-pub mod OpeningBody
-pub mod ChapterBody
-pub mod OpeningSteps

@@ -1,0 +1,80 @@
+use Rattle.std.proofs.Common.{◌≡◌, [], ◌∷◌, length, length-append, length-set, sym, ap, ◌∙◌, subst, arith}
+use Rattle.rb_history.specs.declared.entries.Entry.TheVariants.{Dis}
+use Rattle.rb_history.specs.History.{Shown}
+use Rattle.rb_history.specs.History.Status.{Discarded}
+use Rattle.rb_chapter_ring.specs.Opening.{Opening, record_in}
+use Rattle.rb_chapter_ring.specs.Chapters.{Chapter, closing_of}
+use Rattle.rb_chapter_ring.specs.ChapterRoom.{IsBusyNow, record_now, with_entry}
+use Rattle.rb_chapter_ring.specs.inner.ChapterBody.{chapter_shown, IsBehindTakes}
+use Rattle.rb_chapter_ring.proofs.Running.{records-owe}
+use Rattle.rb_chapter_ring.proofs.Settling.{index-fits, worker-fits, few, same-now, discarded}
+use Rattle.rb_chapter_ring.proofs.chapter.Chapter.log_discard.Goals as goal
+
+pub add_discard-pos-requires-clause-within : goal.add_discard-pos-requires-clause-within
+add_discard-pos-requires-clause-within c =
+    let was = c.self.invariant in
+    let busy = subst (λ x. IsBusyNow x c.args.index) (sym c.self.view_is) c.requires.busy in
+    index-fits was.earlier (chapter_shown c.self.inside) was.kept c.self.inside.closing.opening was.closing_is c.args.index busy
+
+pub add_discard-pos-requires-clause-worker : goal.add_discard-pos-requires-clause-worker
+add_discard-pos-requires-clause-worker c =
+    let was = c.self.invariant in
+    let busy = subst (λ x. IsBusyNow x c.args.index) (sym c.self.view_is) c.requires.busy in
+    worker-fits was.earlier (chapter_shown c.self.inside) was.kept c.self.inside.closing.opening was.closing_is c.args.index busy
+
+pub add_discard-pos-requires-clause-total : goal.add_discard-pos-requires-clause-total
+add_discard-pos-requires-clause-total c =
+    let was = c.self.invariant in
+    let busy = subst (λ x. IsBusyNow x c.args.index) (sym c.self.view_is) c.requires.busy in
+    (few was.earlier (chapter_shown c.self.inside) was.kept c.self.inside.closing.opening was.closing_is c.args.index busy).1
+
+pub log_owed-requires : goal.log_owed-requires
+log_owed-requires c =
+    let was = c.self.invariant in
+    let busy = subst (λ x. IsBusyNow x c.args.index) (sym c.self.view_is) c.requires.busy in
+    record { owing = omega (arith, was.owed_is, records-owe (closing_of (chapter_shown c.self.inside)).records, busy.0); space = omega (arith, was.space, was.kept.room, was.owed_is, records-owe (closing_of (chapter_shown c.self.inside)).records, busy.0, c.self.inside.entries.ok.0) }
+
+pub invariant_of-self : goal.invariant_of-self
+invariant_of-self c =
+    let was = c.self.invariant in
+    let old = chapter_shown c.self.inside in
+    let closing = c.self.inside.closing.opening in
+    let busy = subst (λ x. IsBusyNow x c.args.index) (sym c.self.view_is) c.requires.busy in
+    let pos = c.add_discard-pos.ensures.position ∙ ap (λ (s : Shown). s.pos) (same-now was.earlier old was.kept closing was.closing_is c.args.index busy) in
+    let new : Chapter = record { number = c.self.inside.number; room = c.self.inside.room; opening = c.self.inside.opening.opening; entries = c.log_owed.new.entries.items } in
+    let logged : new ≡ with_entry old (Dis (record_now old c.args.index).pos) = ap (λ es. record old { entries = es }) c.log_owed.ensures.logged ∙ ap (λ q. with_entry old (Dis q)) pos in
+    let runs = discarded was.earlier old was.kept closing was.closing_is c.args.index busy c.add_discard-pos.new.self.opening c.self.inside.owed new was.owed_is c.add_discard-pos.ensures.added logged in
+    record {
+      room = was.room;
+      workers = was.workers;
+      space = omega (arith, was.space, c.log_owed.ensures.space);
+      opening_space = was.opening_space;
+      closing_space = omega (arith, was.closing_space, c.add_discard-pos.ensures.room);
+      passed = omega (
+        arith,
+        was.passed,
+        was.owed_is,
+        records-owe (closing_of old).records,
+        busy.0,
+        c.add_discard-pos.ensures.passed,
+        ap (λ (o : Opening). length o.records) c.add_discard-pos.ensures.added,
+        length-set closing.records c.args.index (record (record_in closing c.args.index) { status = Discarded }),
+        ap length c.log_owed.ensures.logged,
+        length-append old.entries (Dis c.add_discard-pos.result ∷ []),
+      );
+      takes = subst IsBehindTakes (sym c.add_discard-pos.ensures.added) was.takes;
+      closing_is = runs.closing_is;
+      owed_is = c.log_owed.ensures.owing ∙ runs.owed_is;
+      earlier = was.earlier;
+      kept = runs.kept;
+    }
+
+pub returns : goal.returns
+returns c =
+    let was = c.self.invariant in
+    let old = chapter_shown c.self.inside in
+    let closing = c.self.inside.closing.opening in
+    let busy = subst (λ x. IsBusyNow x c.args.index) (sym c.self.view_is) c.requires.busy in
+    let pos = c.add_discard-pos.ensures.position ∙ ap (λ (s : Shown). s.pos) (same-now was.earlier old was.kept closing was.closing_is c.args.index busy) in
+    let logged = ap (λ es. record old { entries = es }) c.log_owed.ensures.logged ∙ ap (λ q. with_entry old (Dis q)) pos in
+    record { logged = logged ∙ ap (λ (x : Chapter). with_entry x (Dis (record_now x c.args.index).pos)) c.self.view_is }

@@ -1,0 +1,63 @@
+-- How many entries a chapter has, and how many more it owes to the records that are there: so that a submit, a discard and a take
+-- always find room (own). For example, with two busy records in a chapter of room 8: used 2, owed 4, and no third grant, since
+-- 2 + 4 + 3 is more than 8.
+use Rattle.std.specs.Prelude.{ℕ, ◌≡◌, ◌≢◌, ◌+◌, ◌<◌, ◌≤◌, ◌^◌, List, ◌∷◌, ◌++◌, [], length}
+use Rattle.std.specs.List.{sum_by, slice_index_or as get_or}
+use Rattle.rb_history.specs.declared.entries.Entry.{Entry}
+use Rattle.rb_history.specs.declared.entries.Entry.TheVariants.{Res, Full}
+use Rattle.rb_history.specs.History.{Shown}
+use Rattle.rb_history.specs.History.Status.{Busy}
+use Rattle.rb_history.specs.StoredRecords.{entries_owed}
+use Rattle.rb_chapter_ring.specs.Opening.{no_record}
+use Rattle.rb_chapter_ring.specs.CountedFrom.{records_from, tally_from}
+use Rattle.rb_chapter_ring.specs.Chapters.{Chapter}
+
+-- how many entries it has
+abbrev pub used : Chapter → ℕ
+used c = length c.entries
+
+-- two for each busy record, its submit or discard and its take; one for each other, its take
+abbrev pub owed_for : List Shown → ℕ
+owed_for ss = sum_by (λ s. entries_owed s.status) ss
+
+-- how many entries its records wait for
+abbrev pub owed : Chapter → ℕ
+owed c = owed_for (records_from c.opening c.entries)
+
+-- there is room for all that is owed
+abbrev pub HasRoomForOwed : Chapter → Type 0
+HasRoomForOwed c = used c + owed c ≤ c.room
+
+-- there is room for a grant, and for the submit or discard and the take of its record
+abbrev pub MayGrant : Chapter → Type 0
+MayGrant c = used c + owed c + 3 ≤ c.room
+
+-- there is room for a refusal
+abbrev pub HasRefusalRoom : Chapter → Type 0
+HasRefusalRoom c = used c + owed c + 1 ≤ c.room
+
+-- a refusal of the worker may be logged: there is room, and the worker's refusals stay below 2^62 until then, so that they fit 64 bits
+abbrev pub MayRefuse : Chapter → ℕ → Type 0
+MayRefuse c w = HasRefusalRoom c × ((tally_from c.opening w c.entries).refused < 2 ^ 62)
+
+-- the room that an entry asks for; what a submit, a discard or a take asks for was owed
+abbrev pub HasEntryRoom : Chapter → Entry → Type 0
+HasEntryRoom c (Res w k n p) = MayGrant c
+HasEntryRoom c (Full w n) = HasRefusalRoom c
+HasEntryRoom c _ = HasRoomForOwed c
+
+-- the record at an index, from the front on, of those that are there
+abbrev pub record_now : Chapter → ℕ → Shown
+record_now c i = get_or (records_from c.opening c.entries) i no_record
+
+-- there is a record at the index, and it is busy
+abbrev pub IsBusyNow : Chapter → ℕ → Type 0
+IsBusyNow c i = (i < length (records_from c.opening c.entries)) × ((record_now c i).status ≡ Busy)
+
+-- there is a record at the front, and it is no longer busy
+abbrev pub HasSettledFront : Chapter → Type 0
+HasSettledFront c = (0 < length (records_from c.opening c.entries)) × ((record_now c 0).status ≢ Busy)
+
+-- the chapter with one entry more
+abbrev pub with_entry : Chapter → Entry → Chapter
+with_entry c e = record c { entries = c.entries ++ e ∷ [] }

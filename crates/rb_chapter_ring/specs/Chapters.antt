@@ -1,0 +1,81 @@
+-- A ring's history, cut into numbered chapters. Each begins with what the one before it stands for at its end, so that none has to
+-- be kept for the next to be read (own).
+--
+--      number 0                        number 1                                 number 2
+--     +---------+-------------------+ +---------+----------------------------+ +---------+---- -
+--     | opening | entries, up to    | | opening | entries, up to             | | opening | entries
+--     |         | the room          | |         | the room                   | |         |
+--     +---------+-------------------+ +---------+----------------------------+ +---------+---- -
+--      the empty  Res Res Full Sub     producer, consumer: the next record's position, and the next to be taken
+--      ring                            records: those that were granted and not taken, in order, each with its status
+--                                      tallies, consumed, skipped: the totals of all entries before
+use Rattle.std.specs.Prelude.{ℕ, ◌≡◌, ◌+◌, ◌≤◌, List, [], ◌∷◌, replicate}
+use Rattle.std.specs.List.{flat_map}
+use Rattle.rb_history.specs.declared.entries.Entry.{Entry}
+use Rattle.rb_history.specs.RoomRule.{Setup}
+use Rattle.rb_chapter_ring.specs.Opening.{Opening, no_tally}
+use Rattle.rb_chapter_ring.specs.CountedFrom.{opening_after, IsLegalFrom}
+
+-- its number, how many entries it has room for, what stood when it was opened, and its entries
+pub record Chapter : Type 0 where
+  pub number : ℕ
+  pub room : ℕ
+  pub opening : Opening
+  pub entries : List Entry
+
+-- how many entries a chapter may have room for
+abbrev pub IsChapterRoom : ℕ → Type 0
+IsChapterRoom room = (8 ≤ room) × (room ≤ 1048576)
+
+-- an opening without records or totals, both positions at the start
+abbrev pub empty_ring : Setup → Opening
+empty_ring r = record {
+  setup = r;
+  producer = r.start;
+  consumer = r.start;
+  records = [];
+  tallies = replicate r.workers no_tally;
+  consumed = 0;
+  skipped = 0;
+}
+
+-- the first chapter of a ring, without entries
+abbrev pub first_chapter : ℕ → Setup → Chapter
+first_chapter room r = record { number = 0; room = room; opening = empty_ring r; entries = [] }
+
+-- a chapter that no ring keeps: number 0, no entries, and an opening of zeros but for its workers
+abbrev pub empty_chapter : ℕ → ℕ → Chapter
+empty_chapter room workers = record { number = 0; room = room; opening = empty_ring (record { size = 0; start = 0; workers = workers }); entries = [] }
+
+-- what a chapter stands for at its end
+abbrev pub closing_of : Chapter → Opening
+closing_of c = opening_after c.opening c.entries
+
+-- the later begins where the earlier ends
+pub record Meets (earlier later : Chapter) : Type 0 where
+  pub next_number : later.number ≡ earlier.number + 1
+  pub goes_on : later.opening ≡ closing_of earlier
+
+abbrev pub IsLegalChapter : Chapter → Type 0
+IsLegalChapter c = IsLegalFrom c.opening c.entries
+
+-- the chapters behind c: each meets the next, and all are legal
+abbrev pub AreMeeting : Chapter → List Chapter → Type 0
+AreMeeting c [] = Unit {0}
+AreMeeting c (d ∷ ds) = Meets c d × IsLegalChapter d × AreMeeting d ds
+
+-- chapters of a ring, from number 0 and the empty ring on
+pub record AreChaptersOf (r : Setup) (first : Chapter) (rest : List Chapter) : Type 0 where
+  pub from_zero : first.number ≡ 0
+  pub from_empty : first.opening ≡ empty_ring r
+  pub legal : IsLegalChapter first
+  pub meeting : AreMeeting first rest
+
+-- all entries, in order
+abbrev pub joined : List Chapter → List Entry
+joined cs = flat_map (λ c. c.entries) cs
+
+-- the last of the chapters that begin with c
+abbrev pub last_of : Chapter → List Chapter → Chapter
+last_of c [] = c
+last_of c (d ∷ ds) = last_of d ds

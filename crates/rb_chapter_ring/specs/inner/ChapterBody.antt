@@ -1,0 +1,32 @@
+-- What a chapter's fields mean, and what they keep.
+use Rattle.std.specs.Prelude.{◌≡◌, ◌+◌, ◌*◌, ◌≤◌, List, length, vec_capacity}
+use Rattle.rb_history.specs.declared.entries.Entry.{Entry}
+use Rattle.rb_history.specs.RingModel.{IsWorkerCount}
+use Rattle.rb_chapter_ring.specs.declared.chapter.Chapter.TheInside.{Inside}
+use Rattle.rb_chapter_ring.specs.Opening.{Opening}
+use Rattle.rb_chapter_ring.specs.Chapters.{Chapter, IsChapterRoom, closing_of}
+use Rattle.rb_chapter_ring.specs.ChapterRoom.{owed}
+use Rattle.rb_chapter_ring.specs.WholeHistory.{IsKept}
+
+abbrev pub chapter_shown : Inside → Chapter
+chapter_shown a = record { number = a.number; room = a.room; opening = a.opening.opening; entries = a.entries.items }
+
+-- the consumer position is a header at least beyond the start for each record that was taken
+abbrev pub IsBehindTakes : Opening → Type 0
+IsBehindTakes o = 8 * (o.consumed + o.skipped) ≤ o.consumer
+
+-- it has memory for the entries that it has room for, and for as many records at both ends, of which the taken ones are so few that
+-- each more that is granted has a place; the running totals are what it
+-- stands for at its end, and what it owes; it continues some history, and has room for what it owes
+pub record ChapterInvariant (a : Inside) : Type 0 where
+  pub room : IsChapterRoom a.room
+  pub workers : IsWorkerCount a.opening.opening.setup.workers
+  pub space : a.room ≤ vec_capacity a.entries
+  pub opening_space : a.room ≤ a.opening.room
+  pub closing_space : a.room ≤ a.closing.room
+  pub passed : a.closing.passed + length a.closing.opening.records ≤ length a.entries.items + a.owed
+  pub takes : IsBehindTakes a.closing.opening
+  pub closing_is : a.closing.opening ≡ closing_of (chapter_shown a)
+  pub owed_is : a.owed ≡ owed (chapter_shown a)
+  pub earlier : List Entry
+  pub kept : IsKept earlier (chapter_shown a)

@@ -1,0 +1,358 @@
+//! What a chapter begins with.
+
+ghost use Rattle.std.specs.Prelude.{◌≡◌, ◌+◌, ◌<◌, ◌≤◌, ◌^◌, ◌↔◌, IfOk, IsTrue, drop, length, map, replicate, slice_index_or, slice_set};
+ghost use Rattle.rb_header.specs.Span.{span};
+ghost use Rattle.rb_chapter_ring.specs.Opening.{no_record, no_tally, record_in, tally_at};
+ghost use Rattle.rb_chapter_ring.specs.OpeningValue.{OpeningValue};
+ghost use Rattle.rb_chapter_ring.specs.Chapters.{empty_ring};
+ghost use Rattle.rb_chapter_ring.specs.UntakenRecords.{status_shown, untaken_shown};
+ghost use Rattle.rb_chapter_ring.specs.inner.OpeningNumbers.{first_numbers};
+ghost use Rattle.rb_chapter_ring.specs.inner.OpeningSteps.{with_refusal, with_grant, next_record, with_submit, with_discard, with_take, events_by, skips_by};
+
+use crate::opening_lists::{
+    are_same_records, are_same_tallies, copy, count_discarded, count_made, count_refused,
+    count_submitted, forget, front_of, settle, tally_of,
+};
+use rb_header::span;
+use rb_history::Tally;
+use std::alloc::{AllocError, Global};
+use std::marker::Model;
+
+/// What has become of a record that was not taken.
+#[derive(Clone, Copy, Debug, PartialEq, Eq)]
+pub enum UntakenStatus {
+    /// It was neither submitted nor discarded.
+    Busy,
+    /// It was submitted.
+    Waiting,
+    /// It was discarded, and is still to be passed over.
+    Discarded,
+}
+
+/// A record that was granted and not taken when a chapter was opened.
+#[derive(Clone, Copy, Debug, PartialEq, Eq)]
+pub struct UntakenRecord {
+    /// Its position, in bytes.
+    pub pos: u64,
+    /// Its length, in bytes.
+    pub len: u32,
+    /// The worker to whom it was granted.
+    pub worker: u32,
+    /// How many records that worker was granted before.
+    pub serial: u64,
+    /// What has become of it.
+    pub status: UntakenStatus,
+}
+
+// The numbers of an opening, each as its teller below says.
+#[derive(Clone, Copy, PartialEq, Eq)]
+struct Numbers {
+    size: u64,
+    start: u64,
+    workers: u32,
+    producer: u64,
+    consumer: u64,
+    consumed: u64,
+    skipped: u64,
+}
+
+impl Numbers {
+    // Those of a ring where nothing was done.
+    fn of_ring(size: u64, start: u64, workers: u32) -> Numbers
+        ensures first { result ≡ first_numbers size start workers }
+    {
+        Numbers {
+            size,
+            start,
+            workers,
+            producer: start,
+            consumer: start,
+            consumed: 0,
+            skipped: 0,
+        }
+    }
+
+    #[inline(always)]
+    // Counts a record that was taken, by what had become of it.
+    fn count_take(&mut self, status: UntakenStatus)
+        requires totals { self.old.consumed + self.old.skipped < 2 ^ 62 }
+        ensures counted { self.new ≡ record self.old { consumed = self.old.consumed + events_by (status_shown status); skipped = self.old.skipped + skips_by (status_shown status) } }
+    {
+        match status {
+            UntakenStatus::Busy => {}
+            UntakenStatus::Waiting => self.consumed += 1,
+            UntakenStatus::Discarded => self.skipped += 1,
+        }
+    }
+
+    // Whether each number is the same.
+    fn is_same(&self, other: &Numbers) -> bool
+        ensures exact { IsTrue result ↔ (self.now ≡ other.now) }
+    {
+        *self == *other
+    }
+}
+
+/// What a ring's history stands for where a chapter begins: the ring's numbers, both positions, the records that were not taken,
+/// and the totals of all entries before. It is made and changed by its chapter alone.
+#[derive(Drop)]
+pub struct Opening {
+    numbers: Numbers,
+    records: Vec<UntakenRecord>,
+    // Where the records that are there begin: before them stand those that were taken.
+    first: usize,
+    // One for each worker, by its number.
+    tallies: Vec<Tally>,
+}
+
+impl Model for Opening {
+    ghost use Rattle.std.specs.Coded.{codes};
+    ghost use Rattle.rb_history.specs.contracts.tally.Tally as tally_row;
+    ghost use Rattle.rb_chapter_ring.specs.OpeningValue.{OpeningValue};
+    ghost use Rattle.rb_chapter_ring.specs.inner.OpeningBody.{opening_value, OpeningInvariant};
+
+    ghost Value = { OpeningValue };
+
+    ghost coded = { Prim.hlevel (codes, tally_row.the_row.coded) };
+
+    ghost view = { opening_value };
+
+    ghost invariant = { OpeningInvariant };
+}
+
+impl Opening {
+    // An opening of zeros, with room for `room` records.
+    pub(crate) fn of_zeros(alloc: Global, room: u32, workers: u32) -> Result<Opening, AllocError>
+        ensures zeros { IfOk result (λ o. o.opening ≡ empty_ring (record { size = 0; start = 0; workers = workers })) }
+        ensures room { IfOk result (λ o. o.room ≡ room) }
+        ensures passed { IfOk result (λ o. o.passed ≡ 0) }
+    {
+        Ok(Opening {
+            numbers: Numbers::of_ring(0, 0, workers),
+            records: Vec::with_capacity(alloc, room as usize)?,
+            first: 0,
+            tallies: vec![in alloc; Tally::none(); workers as usize]?,
+        })
+    }
+
+    // Makes it that of a ring where nothing was done, for as many workers.
+    pub(crate) fn begin(&mut self, size: u64, start: u64)
+        ensures first { self.new.opening ≡ empty_ring (record { size = size; start = start; workers = self.old.opening.setup.workers }) }
+        ensures room { self.new.room ≡ self.old.room }
+        ensures passed { self.new.passed ≡ 0 }
+    {
+        self.numbers = Numbers::of_ring(size, start, self.numbers.workers);
+        self.records.clear();
+        self.first = 0;
+        forget(self.tallies.as_mut_slice());
+    }
+
+    // Makes it say what the other says. It takes no memory.
+    pub(crate) fn copy_from(&mut self, other: &Opening)
+        requires room { length other.now.opening.records ≤ self.old.room }
+        requires workers { self.old.opening.setup.workers ≡ other.now.opening.setup.workers }
+        ensures same { self.new.opening ≡ other.now.opening }
+        ensures room { self.old.room ≤ self.new.room }
+        ensures passed { self.new.passed ≡ 0 }
+    {
+        self.numbers = other.numbers;
+        self.records.clear();
+        self.first = 0;
+        let _within = self.records.extend_from_slice(other.records());
+        copy(self.tallies.as_mut_slice(), other.tallies.as_slice());
+    }
+
+    // Another that says the same, with room for `room` records at least.
+    pub(crate) fn try_clone(&self, alloc: Global, room: u32) -> Result<Opening, AllocError>
+        ensures same { IfOk result (λ o. o.opening ≡ self.now.opening) }
+        ensures room { IfOk result (λ o. room ≤ o.room) }
+        ensures passed { IfOk result (λ o. o.passed ≡ 0) }
+    {
+        let mut records = Vec::with_capacity(alloc, room as usize)?;
+        records.extend_from_slice(self.records())?;
+        let mut tallies = Vec::with_capacity(alloc, self.tallies.len())?;
+        tallies.extend_from_slice(self.tallies())?;
+        Ok(Opening {
+            numbers: self.numbers,
+            records,
+            first: 0,
+            tallies,
+        })
+    }
+
+    // Counts a refusal of the worker.
+    pub(crate) fn add_refusal(&mut self, worker: u32)
+        requires worker { worker < self.old.opening.setup.workers }
+        requires total { (tally_at self.old.opening worker).refused < 2 ^ 62 }
+        ensures added { self.new.opening ≡ with_refusal worker self.old.opening }
+        ensures room { self.new.room ≡ self.old.room }
+        ensures passed { self.new.passed ≡ self.old.passed }
+    {
+        count_refused(self.tallies.as_mut_slice(), worker);
+    }
+
+    // Adds the record that the worker is granted next, of `len` bytes, and returns it.
+    pub(crate) fn add_grant(&mut self, worker: u32, len: u32) -> UntakenRecord
+        requires worker { worker < self.old.opening.setup.workers }
+        requires total { (tally_at self.old.opening worker).made < 2 ^ 62 }
+        requires limit { self.old.opening.producer + span len ≤ 2 ^ 62 }
+        requires room { self.old.passed + length self.old.opening.records < self.old.room }
+        ensures added { self.new.opening ≡ with_grant worker len self.old.opening }
+        ensures room { self.old.room ≤ self.new.room }
+        ensures passed { self.new.passed ≡ self.old.passed }
+        ensures record { untaken_shown result ≡ next_record worker len self.old.opening }
+    {
+        let record = UntakenRecord {
+            pos: self.numbers.producer,
+            len,
+            worker,
+            serial: count_made(self.tallies.as_mut_slice(), worker),
+            status: UntakenStatus::Busy,
+        };
+        self.records.push_reserved(record);
+        self.numbers.producer += span(len);
+        record
+    }
+
+    // The record at an index, from the front on, was submitted. Returns its position.
+    pub(crate) fn add_submit(&mut self, index: usize) -> u64
+        requires within { index < length self.old.opening.records }
+        requires worker { (record_in self.old.opening index).worker < self.old.opening.setup.workers }
+        requires total { (tally_at self.old.opening (record_in self.old.opening index).worker).submitted < 2 ^ 62 }
+        ensures added { self.new.opening ≡ with_submit index self.old.opening }
+        ensures room { self.new.room ≡ self.old.room }
+        ensures passed { self.new.passed ≡ self.old.passed }
+        ensures position { result ≡ (record_in self.old.opening index).pos }
+    {
+        let record = settle(
+            self.records.as_mut_slice(),
+            self.first,
+            index,
+            UntakenStatus::Waiting,
+        );
+        count_submitted(self.tallies.as_mut_slice(), record.worker);
+        record.pos
+    }
+
+    // The record at an index, from the front on, was discarded. Returns its position.
+    pub(crate) fn add_discard(&mut self, index: usize) -> u64
+        requires within { index < length self.old.opening.records }
+        requires worker { (record_in self.old.opening index).worker < self.old.opening.setup.workers }
+        requires total { (tally_at self.old.opening (record_in self.old.opening index).worker).discarded < 2 ^ 62 }
+        ensures added { self.new.opening ≡ with_discard index self.old.opening }
+        ensures room { self.new.room ≡ self.old.room }
+        ensures passed { self.new.passed ≡ self.old.passed }
+        ensures position { result ≡ (record_in self.old.opening index).pos }
+    {
+        let record = settle(
+            self.records.as_mut_slice(),
+            self.first,
+            index,
+            UntakenStatus::Discarded,
+        );
+        count_discarded(self.tallies.as_mut_slice(), record.worker);
+        record.pos
+    }
+
+    // The record at the front was taken. Returns the consumer position before.
+    pub(crate) fn add_take(&mut self) -> u64
+        requires some { 0 < length self.old.opening.records }
+        requires limit { self.old.opening.consumer + span (record_in self.old.opening 0).len ≤ 2 ^ 62 }
+        requires totals { self.old.opening.consumed + self.old.opening.skipped < 2 ^ 62 }
+        ensures taken { self.new.opening ≡ with_take self.old.opening }
+        ensures room { self.new.room ≡ self.old.room }
+        ensures passed { self.new.passed ≡ self.old.passed + 1 }
+        ensures position { result ≡ self.old.opening.consumer }
+    {
+        let record = front_of(self.records.as_slice(), self.first);
+        let position = self.numbers.consumer;
+        self.first += 1;
+        self.numbers.consumer += span(record.len);
+        self.numbers.count_take(record.status);
+        position
+    }
+
+    // The worker's totals.
+    pub(crate) fn tally(&self, worker: u32) -> Tally
+        requires worker { worker < self.now.opening.setup.workers }
+        ensures tally { result ≡ tally_at self.now.opening worker }
+    {
+        tally_of(self.tallies.as_slice(), worker)
+    }
+
+    // Whether both say the same. In time linear in the records and the workers.
+    pub(crate) fn is_same(&self, other: &Opening) -> bool
+        ensures exact { IsTrue result ↔ (self.now.opening ≡ other.now.opening) }
+    {
+        if !self.numbers.is_same(&other.numbers) {
+            return false;
+        }
+        if !are_same_records(self.records(), other.records()) {
+            return false;
+        }
+        are_same_tallies(self.tallies.as_slice(), other.tallies.as_slice())
+    }
+
+    /// The ring's size in bytes; 0 where no ring keeps the chapter. In constant time, as the calls below.
+    pub fn size(&self) -> u64
+        ensures size { result ≡ self.now.opening.setup.size }
+    {
+        self.numbers.size
+    }
+
+    /// The ring's first position, in bytes.
+    pub fn start(&self) -> u64
+        ensures start { result ≡ self.now.opening.setup.start }
+    {
+        self.numbers.start
+    }
+
+    /// The ring's number of workers.
+    pub fn workers(&self) -> u32
+        ensures workers { result ≡ self.now.opening.setup.workers }
+    {
+        self.numbers.workers
+    }
+
+    /// The position of the next record that is granted.
+    pub fn producer(&self) -> u64
+        ensures position { result ≡ self.now.opening.producer }
+    {
+        self.numbers.producer
+    }
+
+    /// The position of the next record that is taken.
+    pub fn consumer(&self) -> u64
+        ensures position { result ≡ self.now.opening.consumer }
+    {
+        self.numbers.consumer
+    }
+
+    /// The records that were granted and not taken, in the order of their grants.
+    pub fn records(&self) -> &[UntakenRecord]
+        ensures records { map untaken_shown result.now ≡ self.now.opening.records }
+    {
+        &self.records.as_slice()[self.first..]
+    }
+
+    /// Each worker's totals before the chapter, by its number.
+    pub fn tallies(&self) -> &[Tally]
+        ensures tallies { result.now ≡ self.now.opening.tallies }
+    {
+        self.tallies.as_slice()
+    }
+
+    /// How many submitted records were taken before the chapter.
+    pub fn consumed(&self) -> u64
+        ensures total { result ≡ self.now.opening.consumed }
+    {
+        self.numbers.consumed
+    }
+
+    /// How many discarded records were passed over before the chapter.
+    pub fn skipped(&self) -> u64
+        ensures total { result ≡ self.now.opening.skipped }
+    {
+        self.numbers.skipped
+    }
+}

@@ -1,3 +1,0 @@
-pub mod HandLock
-pub mod NoStranger
-pub mod HeldRecords

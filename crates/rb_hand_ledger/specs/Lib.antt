@@ -1,5 +1,0 @@
-pub mod HandKnowledge
-pub mod HandLockRule
-pub mod HandLockSteps
-pub mod HandLockLaws
-pub mod NoStranger

@@ -1,4 +1,0 @@
-pub mod ChangedHands
-pub mod BusyEntries
-pub mod FourHands
-pub mod HandCalls

@@ -1,5 +1,0 @@
-use Rattle.rb_hands.proofs.ChangedHands.{one-hand-changes}
-use Rattle.rb_hands.proofs.hand_laws.one_hand_changes.Goals as goal
-
-pub returns : goal.returns
-returns c = record { law = one-hand-changes }

@@ -1,3 +1,0 @@
-pub mod Hands
-pub mod HandRing
-pub mod HandLaws

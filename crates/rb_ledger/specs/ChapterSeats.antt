@@ -1,0 +1,41 @@
+-- What contracts see of the consumer's seat at a shared ring over chapters. A worker's seat is seen as at any shared ring (own).
+use Rattle.std.specs.Prelude.{◌≡◌, ℕ, ◌<◌, ◌^◌, List, [], Option, None, length}
+use Rattle.std.specs.FinMap.{empty}
+use Rattle.atomic_table.specs.Seated.{TableId}
+use Rattle.rb_history.specs.RingModel.{Contents}
+use Rattle.rb_chapter_ring.specs.Chapters.{Chapter}
+use Rattle.rb_ledger.specs.Roles.{Book}
+use Rattle.rb_ledger.specs.Seats.{ConsumerSeatValue}
+use Rattle.rb_ledger.specs.ChapteredRing.{ChapteredRing}
+use Rattle.rb_ledger.specs.ChapterKnowledge.{whole_out}
+
+-- the consumer's seat: the tag and the ring that it was opened with, how many entries each chapter has room for, its numbers, the book of
+-- the whole history as it saw it last, the bytes that it took as events, by position, the chapters that were handed out, oldest first,
+-- and the ring's state where the seat has it out of the lock
+pub record ChapterConsumerSeat : Type 0 where
+  pub tag : ℕ
+  pub ring : TableId
+  pub room : ℕ
+  pub consumed : ℕ
+  pub skipped : ℕ
+  pub position : ℕ
+  pub seen : Book
+  pub got : Contents
+  pub handed_out : List Chapter
+  pub out : Option ChapteredRing
+
+-- the same, of the ring with its whole history
+abbrev pub whole_consumer : ChapterConsumerSeat → ConsumerSeatValue
+whole_consumer s = record { tag = s.tag; ring = s.ring; consumed = s.consumed; skipped = s.skipped; position = s.position; seen = s.seen; got = s.got; out = whole_out s.out }
+
+-- at a ring that was just opened
+abbrev pub fresh_chapter_consumer : ℕ → TableId → ℕ → Book → ChapterConsumerSeat
+fresh_chapter_consumer tag ring room seen =
+    record { tag = tag; ring = ring; room = room; consumed = 0; skipped = 0; position = seen.setup.start; seen = seen; got = empty; handed_out = []; out = None }
+
+-- the chapter may be handed in for the ring's own: it has no entries, the ring's room and workers, and there is a next number
+pub record IsFitChapter (s : ChapterConsumerSeat) (c : Chapter) : Type 0 where
+  pub no_entries : c.entries ≡ []
+  pub room_same : c.room ≡ s.room
+  pub workers_same : c.opening.setup.workers ≡ s.seen.setup.workers
+  pub next_number : length s.handed_out < 2 ^ 62

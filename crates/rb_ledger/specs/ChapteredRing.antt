@@ -1,0 +1,39 @@
+-- A ring that keeps its history by chapters, with the chapters that it handed out: together they are the ring with its whole history
+-- (own).
+--
+--      handed out, oldest first                         the ring's own chapter
+--     +-----------+ +-----------+     +-------------+  +--------------+
+--     | number 0  | | number 1  | ..  | number n-1  |  | number n     |  and its records, contents and positions
+--     +-----------+ +-----------+     +-------------+  +--------------+
+--      all their entries, then those of its own: the whole history
+use Rattle.std.specs.Prelude.{List}
+use Rattle.rb_history.specs.RingModel.{Ring}
+use Rattle.rb_chapter_ring.specs.Chapters.{Chapter, IsChapterRoom, joined}
+use Rattle.rb_chapter_ring.specs.ChapterRoom.{HasRoomForOwed}
+use Rattle.rb_chapter_ring.specs.ChapterRing.{ChapterRing, whole_ring}
+use Rattle.rb_chapter_ring.specs.WholeHistory.{Binds}
+use Rattle.rb_ledger.specs.Ledger.{IsRing}
+
+-- a ring, and the chapters that it handed out, oldest first
+pub record ChapteredRing : Type 0 where
+  pub handed_out : List Chapter
+  pub ring : ChapterRing
+
+abbrev pub chaptered_ring : List Chapter → ChapterRing → ChapteredRing
+chaptered_ring handed_out ring = record { handed_out = handed_out; ring = ring }
+
+-- the ring with its whole history: the entries of the chapters that were handed out, then those of its own
+abbrev pub whole_of : ChapteredRing → Ring
+whole_of c = whole_ring (joined c.handed_out) c.ring
+
+-- the chapters, its own as the last, are numbered 0 upward from the empty ring on, each meets the next, and all are legal; and its own
+-- has room for what it owes, a room within bounds
+pub record HasChapters (c : ChapteredRing) : Type 0 where
+  pub binds : Binds c.handed_out c.ring.chapter
+  pub room : HasRoomForOwed c.ring.chapter
+  pub within : IsChapterRoom c.ring.chapter.room
+
+-- what holds of each ring over chapters that is made by calls
+pub record IsChapteredRing (c : ChapteredRing) : Type 0 where
+  pub has_chapters : HasChapters c
+  pub is_ring : IsRing (whole_of c)

@@ -1,0 +1,46 @@
+-- What keeps the lock's rule with hands: taking the state out, putting it back, putting the first one in, and splitting and joining roles (own).
+use Rattle.std.specs.Prelude.{◌≡◌, ℕ, [], ◌∷◌, ◌++◌, Option, Some, None}
+use Rattle.std.specs.FinMap.{empty}
+use Rattle.crossbeam_queue.specs.Fifo.{Pushes, Pops, Forks, Merges, Learns}
+use Rattle.rb_ledger.specs.Ledger.{IsRing}
+use Rattle.rb_ledger.specs.Roles.Role.{Worker}
+use Rattle.rb_ledger.specs.ChapteredRing.{chaptered_ring, whole_of, HasChapters}
+use Rattle.rb_chapter_ring.specs.declared.out_record.OutRecord.{OutRecord}
+use Rattle.rb_chapter_ring.specs.Hands.{HandBook, free_book, with_hand}
+use Rattle.rb_chapter_ring.specs.HandRing.{HandRing, HasHands}
+use Rattle.rb_ledger.specs.HandKnowledge.{ChapteredHandRing, HandPassView, hand_view}
+use Rattle.rb_ledger.specs.HandLockRule.{KeepsHandLockRule}
+use Rattle.rb_ledger.specs.HandLockSteps.{TakesHandState, MayPutHands, PutsHandState, LeavesOtherHands, unopened_hands, OpensHandState, first_hand_role, other_hand_roles}
+
+-- a change of one worker's hand leaves the hands of all others
+abbrev pub OneHandLeavesOthers : Type 0
+OneHandLeavesOthers = (w h : ℕ) (x : Option OutRecord) (old new : HandBook) → new ≡ with_hand old w h x → LeavesOtherHands (Worker w) old new
+
+-- ---- each step keeps the rule
+
+-- it holds of an empty queue and the one pass that puts the first state in
+abbrev pub HoldsAtFirst : Type 0
+HoldsAtFirst = KeepsHandLockRule [] (hand_view [] (Some unopened_hands) ∷ [])
+
+abbrev pub KeptWhereOpened : Type 0
+KeptWhereOpened =
+    (n pass : ℕ) (v : HandPassView) (r : HandRing) → v ≡ hand_view [] (Some unopened_hands) → IsRing (whole_of (chaptered_ring [] r.ring)) → HasChapters (chaptered_ring [] r.ring) → r.ring.contents ≡ empty
+    → HasHands r → r.hands ≡ free_book r.ring.chapter.opening.setup.workers → Pushes KeepsHandLockRule n pass v r (OpensHandState v r)
+
+abbrev pub KeptWhereTakenOut : Type 0
+KeptWhereTakenOut = (pass : ℕ) (v : HandPassView) → v.out ≡ None → Pops KeepsHandLockRule pass v (TakesHandState v)
+
+abbrev pub KeptWherePutBack : Type 0
+KeptWherePutBack = (n pass : ℕ) (v : HandPassView) (new : HandRing) → MayPutHands v new → Pushes KeepsHandLockRule n pass v new (PutsHandState v new)
+
+-- while a pass has the state out, the queue is empty
+abbrev pub IsAwayWhereOut : Type 0
+IsAwayWhereOut = (pass : ℕ) (v : HandPassView) (c : ChapteredHandRing) → v.out ≡ Some c → Learns KeepsHandLockRule pass v (λ items. items ≡ [])
+
+abbrev pub KeptWhereSplit : Type 0
+KeptWhereSplit = (pass : ℕ) (v : HandPassView) → Forks KeepsHandLockRule pass v (hand_view (other_hand_roles v.knows) v.out) (hand_view (first_hand_role v.knows) None)
+
+abbrev pub KeptWhereJoined : Type 0
+KeptWhereJoined =
+    (pass : ℕ) (v : HandPassView) (other : ℕ) (u : HandPassView) → u.out ≡ None
+    → Merges KeepsHandLockRule pass v other u (hand_view (u.knows ++ v.knows) v.out) (hand_view [] None)

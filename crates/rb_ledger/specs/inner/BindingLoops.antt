@@ -1,0 +1,13 @@
+-- What the loops over chapters that are bound look for.
+use Rattle.std.specs.Prelude.{ℕ, ◌+◌, ◌==◌, ◌&&◌, Bool, true, List, [], ◌∷◌}
+use Rattle.rb_chapter_ring.specs.Chapters.{Chapter, Meets}
+
+-- the chapters are numbered from n upward
+abbrev pub numbered_from : ℕ → List Chapter → Bool
+numbered_from n [] = true
+numbered_from n (c ∷ cs) = (c.number == n) && numbered_from (n + 1) cs
+
+-- each of the chapters behind c meets the one before it
+abbrev pub EachMeets : Chapter → List Chapter → Type 0
+EachMeets c [] = Unit {0}
+EachMeets c (d ∷ ds) = Meets c d × EachMeets d ds
