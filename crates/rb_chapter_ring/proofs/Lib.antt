@@ -2,6 +2,7 @@ pub mod ChangedHands
 pub mod BusyEntries
 pub mod FourHands
 pub mod HandCalls
+pub mod ChapterNumbers
 pub mod ChapterPieces
 pub mod Shown
 pub mod From

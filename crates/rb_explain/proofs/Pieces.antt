@@ -5,7 +5,7 @@ use Rattle.std.specs.Fmt.{decimal}
 use Rattle.hex.specs.Hex.{encode_lower}
 use Rattle.rb_insn.specs.declared.insn.Insn.{Insn}
 use Rattle.rb_insn.specs.Spelling.{spelling}
-use Rattle.rb_assembly.specs.Assembly.{assembly_of}
+use Rattle.rb_explain.specs.Assembly.{assembly_of}
 use Rattle.rb_explain.specs.Objects.{fault_object, helper_field, insn_fields}
 
 fault_pieces : (layer name unit advice : List ℕ)

@@ -1,3 +1,6 @@
+pub mod Assembly
+pub mod AssemblyParts
+pub mod inner
 pub mod Joined
 pub mod Lines
 pub mod StateTexts

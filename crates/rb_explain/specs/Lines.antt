@@ -8,7 +8,7 @@ use Rattle.rb_insn.specs.Spelling.{spelling}
 use Rattle.rb_refs.specs.declared.helper.Helper.{Helper}
 use Rattle.rb_refs.specs.declared.helper.Helper.TheVariants.{Output, Reserve, Submit, Discard, Query}
 use Rattle.rb_refs.specs.HelperChecks.{helper_of}
-use Rattle.rb_assembly.specs.Assembly.{assembly_of}
+use Rattle.rb_explain.specs.Assembly.{assembly_of}
 
 abbrev pub helper_name : Helper → List ℕ
 helper_name Output = codes "bpf_ringbuf_output"

@@ -6,7 +6,7 @@ use Rattle.hex.specs.Hex.{encode_lower}
 use Rattle.rb_insn.specs.declared.insn.Insn.{Insn}
 use Rattle.rb_insn.specs.declared.insn.Insn.TheVariants.{Call}
 use Rattle.rb_insn.specs.Spelling.{spelling}
-use Rattle.rb_assembly.specs.Assembly.{assembly_of}
+use Rattle.rb_explain.specs.Assembly.{assembly_of}
 use Rattle.rb_decode.specs.declared.fault.DecodeKind.{DecodeKind}
 use Rattle.rb_decode.specs.declared.fault.DecodeKind.TheVariants as bytes_faults
 use Rattle.rb_cfg.specs.declared.fault.ShapeFaultKind.{ShapeFaultKind}

@@ -3,7 +3,7 @@
 ghost use Rattle.std.specs.Prelude.{◌≡◌, ◌++◌, Some, OnOk, codes, string_bytes};
 ghost use Rattle.rb_explain.specs.Lines as lines;
 
-use rb_assembly::Assembly;
+use crate::Assembly;
 use rb_insn::Insn;
 use rb_refs::Helper;
 use std::alloc::{AllocError, Global};

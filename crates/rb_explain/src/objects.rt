@@ -7,7 +7,7 @@ ghost use Rattle.rb_explain.specs.Objects.{bytes_object, fault_object, held_valu
 
 use crate::lines::helper_name;
 use crate::state_lines::{Kept, Value, is_data, is_readable};
-use rb_assembly::Assembly;
+use crate::Assembly;
 use rb_insn::Insn;
 use rb_refs::{Abs, AbsState, Held, Helper, Reference};
 use std::alloc::{AllocError, Global};

@@ -11,11 +11,11 @@ use Rattle.rb_interp.specs.RunTraces.{RunMatches, TellsLength, TraceBalances}
 use Rattle.rb_ledger.specs.Seats.{Shared, WorkerSeat}
 use Rattle.rb_verifier.specs.Subject.{call_count, calls}
 use Rattle.rb_verifier.proofs.Counting.{count-units_of}
-use Rattle.rb_seats.specs.declared.seat_record.SeatRecord.{SeatRecord}
-use Rattle.rb_seats.specs.SeatRecords.{record_bytes, with_record_bytes}
-use Rattle.rb_seats.specs.SeatHelpers.{AtSeats, Leads, SeatsLead}
-use Rattle.rb_seats.proofs.Leading.{all_may_answer, leads_seats}
-use Rattle.rb_seats.proofs.Totals.{totals_rise}
+use Rattle.rb_jobs.specs.declared.seat_record.SeatRecord.{SeatRecord}
+use Rattle.rb_jobs.specs.SeatRecords.{record_bytes, with_record_bytes}
+use Rattle.rb_jobs.specs.SeatHelpers.{AtSeats, Leads, SeatsLead}
+use Rattle.rb_jobs.proofs.Leading.{all_may_answer, leads_seats}
+use Rattle.rb_jobs.proofs.Totals.{totals_rise}
 use Rattle.rb_jobs.specs.declared.job.JobAnswer.{JobAnswer}
 use Rattle.rb_jobs.specs.Jobs.{Task, JobRan, JobRanCounted, counted_on}
 use Rattle.rb_jobs.specs.inner.CallCount.{CountsCalls}

@@ -2,13 +2,13 @@
 
 ghost use Rattle.std.specs.Prelude.{◌≡◌, ◌≤◌, [], false, length, IfOk, IfErr};
 ghost use Rattle.rb_verifier.specs.Subject.{call_count};
-ghost use Rattle.rb_seats.specs.SeatHelpers.{AtRings};
+ghost use Rattle.rb_jobs.specs.SeatHelpers.{AtRings};
 ghost use Rattle.rb_jobs.specs.Jobs.{JobRanCounted, task_of};
 
 use crate::gated_helpers::GatedHelpers;
 use crate::job::{Gate, Job, JobAnswer};
 use rb_interp::{MachineRoom, run_in};
-use rb_seats::{SeatHelpers, SeatRecord, Stock};
+use crate::{SeatHelpers, SeatRecord, Stock};
 use rb_shared_ring::{Seat, SharedRing};
 use std::alloc::{AllocError, Global};
 use std::marker::Model;

@@ -1,7 +1,7 @@
 //! Programs as assembly.
 
 use crate::decoded::tell_text_fault;
-use rb_assembly::Assembly;
+use rb_explain::Assembly;
 use rb_decode::{Program, from_text};
 use std::alloc::{AllocError, Global};
 use std::fmt::Write;

@@ -1,3 +1,8 @@
+mod Checking
+mod Draining
+mod Fresh
+mod CheckPrinting
+mod Sizes
 mod Printing
 mod Running
 mod TapeGiven

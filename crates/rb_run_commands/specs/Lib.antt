@@ -1,3 +1,7 @@
+pub mod Check
+pub mod DrainedRings
+pub mod FreshRings
+pub mod Printed
 pub mod ReportLines
 pub mod RunCommand
 pub mod TapedRun

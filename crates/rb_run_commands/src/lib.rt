@@ -1,20 +1,35 @@
-//! The command `run`: a verified program as jobs on threads over a fresh ring; and `run --tape`, which writes what the ring's consumer took as
-//! a tape.
+//! The commands that run a verified program: `check`, once over fresh rings, with the records that it left in them; `run`, as jobs on threads over a
+//! fresh ring; and `run --tape`, which writes what the ring's consumer took as a tape.
 //!
-//! For `rbhost`, and for whoever wants it over readers and writers of his own. What is promised: each job's result is one that the program's
-//! meaning gives (RFC 9669) under the answers of the ring, the report's lines are those of closed rings, and the tape is that of the records
-//! taken.
+//! For `rbhost`, and for whoever wants them over readers and writers of his own. What is promised: each result is one that the program's
+//! meaning gives (RFC 9669) under the answers of these rings, the records that `check` prints are those that the rings handed out, up to where their
+//! producers stood, the report's lines of `run` are those of closed rings, and the tape is that of the records taken.
+//!
+//! ```text
+//! let bounds = Bounds { ctx_len: 0, rings: 1 };
+//! check(rt, alloc, &mut input, &mut out, bounds, LineForm::Words)?;             // the hex of a program that submits 42, and exits with 0
+//! // accepted
+//! // result 0
+//! // ring 0 pos 0 worker 0 serial 0 len 8 2a00000000000000
+//! ```
 #![tactic(auto)]
 
+mod check_command;
+mod drain;
+mod fresh_rings;
 mod jobs_fault;
+mod record_lines;
+mod record_objects;
 mod report;
 mod report_lines;
 mod report_objects;
 mod run_command;
+mod run_lines;
 mod tape_sink;
 mod taped_run;
 mod worker_jobs;
 
+pub use check_command::{Checked, check, check_text};
 pub use jobs_fault::JobsFault;
 pub use run_command::{JOB_BOUNDS, JobsRequest, check_ring, run};
 pub use taped_run::{WrittenTape, run_taped, run_to_file};

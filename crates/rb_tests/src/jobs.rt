@@ -1,14 +1,13 @@
 //! Worked jobs at one ring of 4,096 bytes, whose chapters have room for 8 entries, one after another.
 
 ghost use Rattle.std.specs.Prelude.{◌≡◌, ◌≤◌, length};
-ghost use Rattle.rb_seats.specs.SeatHelpers.{AtRings};
+ghost use Rattle.rb_jobs.specs.SeatHelpers.{AtRings};
 
 use super::shared::{SUBMIT_42, counts, opened, taken, verified};
 use rb_history::Taken;
 use rb_interp::RunFault;
-use rb_jobs::{Gate, Job, JobAnswer, jobs_give_back, run_job};
+use rb_jobs::{Gate, Job, JobAnswer, NoStock, jobs_give_back, run_job};
 use rb_lend::{Lent, Sheet};
-use rb_seats::NoStock;
 use rb_shared_ring::{ConsumerSeat, Seat, SharedRing};
 use rb_verifier::Verified;
 use std::alloc::{AllocError, Global};

@@ -2,7 +2,7 @@
 
 ghost use Rattle.std.specs.Prelude.{◌≡◌, ◌≤◌};
 ghost use Rattle.rb_shared_ring.specs.SharedSeats.{IsSameChapterConsumer};
-ghost use Rattle.rb_seats.specs.SeatHelpers.{IsAt};
+ghost use Rattle.rb_jobs.specs.SeatHelpers.{IsAt};
 
 use rb_cfg::shape;
 use rb_decode::from_text;

@@ -10,7 +10,7 @@ use Rattle.rb_chapter_ring.specs.Chapters.{IsChapterRoom, empty_chapter}
 use Rattle.rb_ledger.specs.Seats.{Shared, HasSettledAll, WorkerSeat, fresh_book, fresh_seat, fresh_seats}
 use Rattle.rb_ledger.specs.ChapterSeats.{ChapterConsumerSeat, fresh_chapter_consumer}
 use Rattle.rb_consumer.specs.Keepers.{KeeperValue, handed_in}
-use Rattle.rb_seats.specs.SeatHelpers.{IsAt}
+use Rattle.rb_jobs.specs.SeatHelpers.{IsAt}
 use Rattle.rb_workers.specs.declared.opened.Opened.{Opened}
 use Rattle.rb_workers.specs.Opened.{AreOpened, IsOpened}
 use Rattle.rb_workers.proofs.Numbered.{seats_length}

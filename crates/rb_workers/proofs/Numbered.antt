@@ -9,7 +9,7 @@ use Rattle.std.specs.Prelude.{All}
 use Rattle.rb_history.specs.WorkerCounts.{numbers_below}
 use Rattle.rb_ledger.specs.Seats.{Shared, WorkerSeat, has_seat, HasAll, are_tagged}
 use Rattle.rb_workers.specs.declared.opened.Opened.{Opened}
-use Rattle.rb_seats.specs.SeatHelpers.{IsAt}
+use Rattle.rb_jobs.specs.SeatHelpers.{IsAt}
 use Rattle.rb_workers.specs.Opened.{IsOpened}
 
 numbers_length : (n : ℕ) → length (numbers_below n) ≡ n

@@ -9,7 +9,7 @@ use Rattle.rb_ledger.specs.Headline.{Accounts}
 use Rattle.rb_ledger.specs.Roles.{Book, BeginsWith, book_of}
 use Rattle.rb_ledger.specs.Roles.Role.{Consumer, Worker as WorkerRole}
 use Rattle.rb_ledger.proofs.Beginnings.{begins_through, extended_begins}
-use Rattle.rb_seats.specs.SeatLaws.{SeatBegins}
+use Rattle.rb_jobs.specs.SeatLaws.{SeatBegins}
 use Rattle.rb_ledger.specs.Seats.{WorkerSeat, IsSameSeat}
 use Rattle.rb_chapter_ring.specs.Chapters.{joined}
 use Rattle.rb_chapter_ring.proofs.Chain.{binds-continue}
@@ -29,7 +29,7 @@ use Rattle.rb_workers.specs.Reports.{RingsEnd, ring_at_end, IsHandedBack, IsRepo
 use Rattle.rb_workers.specs.Sink.{SinkItem}
 use Rattle.rb_workers.specs.SeatRows.{seat_rows, worker_column}
 use Rattle.rb_workers.specs.inner.WorkerRuns.{HasRun}
-use Rattle.rb_seats.proofs.Lists.{zip_length}
+use Rattle.rb_jobs.proofs.Lists.{zip_length}
 use Rattle.rb_workers.proofs.Same.{opened_long, list_head, list_tail}
 use Rattle.rb_workers.proofs.Totals.{results_of_runs, runs_of, report_of_runs, unlogged_of_runs}
 use Rattle.rb_workers.proofs.SinkItems.{gets_at_close}

@@ -8,9 +8,9 @@ use Rattle.rb_ledger.specs.Roles.{BeginsWith}
 use Rattle.rb_ledger.specs.Seats.{Shared, WorkerSeat, IsSameSeat}
 use Rattle.rb_shared_ring.specs.SharedSeats.{IsSameChapterConsumer}
 use Rattle.rb_ledger.proofs.Beginnings.{begins_with_all}
-use Rattle.rb_seats.specs.SeatLaws.{SeatBegins}
-use Rattle.rb_seats.proofs.Lists.{zip_self}
-use Rattle.rb_seats.proofs.Beginnings.{begins_itself}
+use Rattle.rb_jobs.specs.SeatLaws.{SeatBegins}
+use Rattle.rb_jobs.proofs.Lists.{zip_self}
+use Rattle.rb_jobs.proofs.Beginnings.{begins_itself}
 use Rattle.rb_jobs.specs.declared.job.Job.{Job}
 use Rattle.rb_workers.specs.declared.opened.Opened.{Opened}
 use Rattle.rb_workers.specs.inner.ConsumerTasks.{IsConsumed}
@@ -20,7 +20,7 @@ use Rattle.rb_workers.specs.Sink.{SinkItem}
 use Rattle.rb_workers.proofs.SinkItems.{nothing_given}
 use Rattle.rb_workers.specs.Reports.{IsHandedBack, RunsFirst}
 use Rattle.rb_workers.specs.SeatRows.{seat_rows, worker_column}
-use Rattle.rb_seats.proofs.Lists.{zip_length}
+use Rattle.rb_jobs.proofs.Lists.{zip_length}
 use Rattle.rb_workers.proofs.Numbered.{seats_length}
 use Rattle.rb_workers.proofs.Parts.{all_first, all_rest, rows_length}
 use Rattle.rb_workers.proofs.SameSeats.{same_seats, seats_same_of_runs, seats_begin_of_runs, rows_of_columns}

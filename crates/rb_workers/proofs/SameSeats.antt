@@ -4,10 +4,10 @@ use Rattle.std.proofs.lemmas.List.Elements.{All-head, All-tail}
 use Rattle.std.specs.Prelude.{slice_get}
 use Rattle.std.specs.List.{All, AllZip, cons_option}
 use Rattle.rb_ledger.specs.Seats.{WorkerSeat, IsSameSeat}
-use Rattle.rb_seats.specs.SeatLaws.{SeatBegins}
-use Rattle.rb_seats.proofs.Lists.{zip_self, zip_through}
-use Rattle.rb_seats.proofs.Totals.{same_seat, same_through}
-use Rattle.rb_seats.proofs.Beginnings.{begins_itself, begins_on, seats_go_on}
+use Rattle.rb_jobs.specs.SeatLaws.{SeatBegins}
+use Rattle.rb_jobs.proofs.Lists.{zip_self, zip_through}
+use Rattle.rb_jobs.proofs.Totals.{same_seat, same_through}
+use Rattle.rb_jobs.proofs.Beginnings.{begins_itself, begins_on, seats_go_on}
 use Rattle.rb_jobs.specs.Jobs.{JobRan, Task, task_of}
 use Rattle.rb_jobs.specs.declared.job.JobAnswer.{JobAnswer}
 use Rattle.rb_workers.specs.JobRuns.{JobRun, RunsInTurn}

@@ -15,7 +15,7 @@ use Rattle.rb_ledger.specs.ChapteredRing.{HasChapters, chaptered_ring, whole_of}
 use Rattle.rb_ledger.specs.ChapterSeats.{whole_consumer}
 use Rattle.rb_chapter_ring.proofs.Chain.{binds-continue}
 use Rattle.rb_ledger.proofs.WholeCalls.{said}
-use Rattle.rb_seats.specs.SeatHelpers.{made_in, submitted_in, discarded_in}
+use Rattle.rb_jobs.specs.SeatHelpers.{made_in, submitted_in, discarded_in}
 use Rattle.rb_jobs.specs.declared.job.Job.{Job}
 use Rattle.rb_workers.specs.declared.opened.Opened.{Opened}
 use Rattle.rb_workers.specs.declared.opened.Ended.{Ended}

@@ -8,7 +8,7 @@ use Rattle.rb_helpers.specs.AnsweredCalls.{notes_of}
 use Rattle.rb_interp.specs.declared.fault.RunFault.{RunFault}
 use Rattle.rb_interp.specs.declared.fault.RunFault.TheVariants.{ContextLength, Stray}
 use Rattle.rb_ledger.specs.Seats.{WorkerSeat}
-use Rattle.rb_seats.specs.SeatHelpers.{makes, submits, discards, call_total, made_in, submitted_in, discarded_in}
+use Rattle.rb_jobs.specs.SeatHelpers.{makes, submits, discards, call_total, made_in, submitted_in, discarded_in}
 use Rattle.rb_jobs.proofs.Returned.{calls_give_back}
 use Rattle.rb_workers.specs.JobRuns.{JobRun, own_runs, is_stray}
 use Rattle.rb_workers.specs.Reports.{IsRun, HasRisen, times_in}

@@ -7,7 +7,7 @@ use Rattle.std.specs.List.{All, sum_by}
 use Rattle.rb_helpers.specs.declared.done.Done.{Done}
 use Rattle.rb_helpers.specs.AnsweredCalls.{notes_of}
 use Rattle.rb_ledger.specs.Seats.{WorkerSeat}
-use Rattle.rb_seats.specs.SeatHelpers.{makes, submits, discards, fails, call_total, made_in, refused_in, submitted_in, discarded_in}
+use Rattle.rb_jobs.specs.SeatHelpers.{makes, submits, discards, fails, call_total, made_in, refused_in, submitted_in, discarded_in}
 use Rattle.rb_jobs.specs.declared.job.Job.{Job}
 use Rattle.rb_jobs.specs.declared.job.JobAnswer.{JobAnswer}
 use Rattle.rb_jobs.specs.Jobs.{JobRan, Task, task_of}

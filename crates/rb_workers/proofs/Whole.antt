@@ -12,7 +12,7 @@ use Rattle.rb_workers.specs.declared.consumer_task.ConsumerTask.{ConsumerTask}
 use Rattle.rb_workers.specs.declared.opened.Opened.{Opened}
 use Rattle.rb_jobs.specs.declared.job.Job.{Job}
 use Rattle.rb_jobs.specs.declared.job.JobAnswer.{JobAnswer}
-use Rattle.rb_seats.specs.SeatHelpers.{IsAt, AtRings}
+use Rattle.rb_jobs.specs.SeatHelpers.{IsAt, AtRings}
 use Rattle.rb_workers.specs.inner.ConsumerTasks.{IsSameConsumer, IsConsumerTaskOf, IsSplitOff, Consumed, IsMergedInto, IsConsumed}
 use Rattle.rb_workers.specs.JobRuns.{own_jobs}
 use Rattle.rb_workers.specs.inner.WorkerRuns.{RunsOwnJobs}

@@ -3,7 +3,7 @@ use Rattle.std.specs.Prelude.{◌≡◌, ℕ, List, [], ◌∷◌, All, length, 
 use Rattle.rb_history.specs.WorkerCounts.{numbers_below}
 use Rattle.rb_ledger.specs.ChapterSeats.{ChapterConsumerSeat}
 use Rattle.rb_consumer.specs.Keepers.{KeeperValue, handed_in}
-use Rattle.rb_seats.specs.SeatHelpers.{IsAt}
+use Rattle.rb_jobs.specs.SeatHelpers.{IsAt}
 use Rattle.rb_workers.specs.declared.opened.Opened.{Opened}
 use Rattle.rb_workers.specs.Sink.{SinkItem, GetsTaken}
 

@@ -3,7 +3,7 @@ use Rattle.std.specs.Prelude.{◌≡◌, ℕ, ◌+◌, ◌<◌, List, All}
 use Rattle.rb_history.specs.declared.tally.Tally.{Tally}
 use Rattle.rb_chapter_ring.specs.OpenedRing.{told_counts}
 use Rattle.rb_ledger.specs.Seats.{WorkerSeat}
-use Rattle.rb_seats.specs.SeatHelpers.{made_in, submitted_in, discarded_in}
+use Rattle.rb_jobs.specs.SeatHelpers.{made_in, submitted_in, discarded_in}
 use Rattle.rb_workers.specs.declared.opened.Ended.{Ended}
 use Rattle.rb_workers.specs.SeatRows.{worker_column}
 

@@ -10,7 +10,7 @@ ghost use Rattle.rb_workers.specs.inner.ConsumerTasks.{IsConsumerTaskOf, IsSameC
 use crate::pace::Pace;
 use crate::sink::Sink;
 use rb_consumer::{Batch, Keeper};
-use rb_seats::{SHORT, Stock};
+use rb_jobs::{SHORT, Stock};
 use rb_shared_ring::{ConsumerSeat, Foreign, Seat, SharedRing};
 use rb_tape::{Item, Items};
 use std::sync::Wait;

@@ -4,7 +4,7 @@ ghost use Rattle.std.specs.Prelude.{◌≡◌, IfSome};
 
 use crossbeam_queue::ArrayQueue;
 use rb_lend::Sheet;
-use rb_seats::{SHORT, Stock};
+use rb_jobs::{SHORT, Stock};
 use std::sync::Wait;
 
 /// How many used sheets wait at most.

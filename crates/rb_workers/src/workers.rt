@@ -1,13 +1,12 @@
 //! Workers, each with its seats and the answers of its jobs.
 
 ghost use Rattle.std.specs.Prelude.{◌≡◌, ◌<◌, ◌≤◌, [], All, false, if◌then◌else◌, length, vec_len, vec_capacity};
-ghost use Rattle.rb_seats.specs.SeatHelpers.{AtRings};
+ghost use Rattle.rb_jobs.specs.SeatHelpers.{AtRings};
 ghost use Rattle.rb_workers.specs.JobRuns.{own_jobs};
 ghost use Rattle.rb_workers.specs.inner.WorkerRuns.{HasSpareSeat, IsOneMore, IsOneAnswerMore, IsReady, GivesBack, RunsJobs, RunsOne, RunsOwnJobs};
 
 use crate::stored_answer::StoredAnswer;
-use rb_jobs::{Gate, Job, JobAnswer, JobRunner};
-use rb_seats::Stock;
+use rb_jobs::{Gate, Job, JobAnswer, JobRunner, Stock};
 use rb_shared_ring::{Seat, SharedRing};
 use std::alloc::Global;
 use std::mem;

@@ -7,7 +7,7 @@
 //! one is asked for. `sim` runs a script of workers and rings in turns, without threads.
 //!
 //! What is promised is on the public calls of the crates below: `command` (rb_command_line) says which statuses there are, `feed` and `tape`
-//! (rb_tape_commands) what was read and written by their answers, `explain` (rb_loader) what was explained, `check` (rb_check_command), `run`
+//! (rb_tape_commands) what was read and written by their answers, `explain` (rb_loader) what was explained, `check`, `run`
 //! and `run_taped` (rb_run_commands) that what is printed is what the rings handed out, and `sim` (rb_script) that its lines are those of a
 //! world's turns.
 #![tactic(auto)]

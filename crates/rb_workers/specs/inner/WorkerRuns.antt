@@ -1,7 +1,7 @@
 -- What becomes of workers, their seats and their answers.
 use Rattle.std.specs.Prelude.{◌≡◌, ℕ, ◌<◌, ◌≤◌, ◌==◌, List, [], ◌∷◌, ◌++◌, Bool, true, false, cond, vec_len, vec_capacity}
 use Rattle.rb_ledger.specs.Seats.{Shared, WorkerSeat}
-use Rattle.rb_seats.specs.SeatHelpers.{AtRings}
+use Rattle.rb_jobs.specs.SeatHelpers.{AtRings}
 use Rattle.rb_jobs.specs.declared.job.Job.{Job}
 use Rattle.rb_jobs.specs.declared.job.JobAnswer.{JobAnswer}
 use Rattle.rb_jobs.specs.Jobs.{JobRan, task_of}

@@ -1,8 +1,8 @@
 use Rattle.std.proofs.Common.{◌≡◌, ◌≤◌, List, refl, subst, arith}
 use Rattle.rb_decode.specs.Program.{unit_count}
 use Rattle.rb_insn.specs.declared.insn.Insn.{Insn}
-use Rattle.rb_seats.specs.SeatHelpers.{AtSeats}
-use Rattle.rb_seats.proofs.Leading.{leads_seats}
+use Rattle.rb_jobs.specs.SeatHelpers.{AtSeats}
+use Rattle.rb_jobs.proofs.Leading.{leads_seats}
 use Rattle.rb_jobs.specs.Jobs.{task_of}
 use Rattle.rb_jobs.proofs.Doing.{did_counted, few_unlogged}
 use Rattle.rb_jobs.proofs.job_run.run_begun.Goals as goal

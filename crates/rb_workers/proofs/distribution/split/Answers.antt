@@ -7,7 +7,7 @@ use Rattle.rb_ledger.specs.Seats.{WorkerSeat}
 use Rattle.rb_workers.specs.declared.opened.Opened.{Opened}
 use Rattle.rb_workers.specs.inner.ConsumerTasks.{IsSplitOff}
 use Rattle.rb_workers.specs.SeatRows.{worker_column, seat_rows}
-use Rattle.rb_seats.proofs.Lists.{zip_length}
+use Rattle.rb_jobs.proofs.Lists.{zip_length}
 use Rattle.rb_workers.proofs.Parts.{column_length, column_more, some_of, less, shift, zip_more, all_first, all_rest, rows_length, nothing}
 use Rattle.rb_workers.proofs.distribution.split.Goals as goal
 

@@ -5,11 +5,11 @@ use Rattle.std.proofs.lemmas.List.Elements.{AllZip-get_or}
 use Rattle.rb_ledger.specs.Seats.{Shared}
 use Rattle.rb_workers.specs.declared.opened.Opened.{Opened}
 use Rattle.rb_workers.specs.declared.consumer_task.ConsumerTask.{ConsumerTask}
-use Rattle.rb_seats.specs.SeatHelpers.{IsAt, AtRings}
+use Rattle.rb_jobs.specs.SeatHelpers.{IsAt, AtRings}
 use Rattle.rb_workers.specs.inner.WorkerRuns.{GivesBack}
 use Rattle.rb_workers.specs.inner.ConsumerTasks.{IsSplitOff, IsConsumerTaskOf, Consumed, IsMergedInto}
 use Rattle.rb_workers.specs.SeatRows.{seat_rows}
-use Rattle.rb_seats.proofs.Lists.{zip_length}
+use Rattle.rb_jobs.proofs.Lists.{zip_length}
 use Rattle.rb_workers.proofs.Whole.{column_at, takers_at, homes_at, lent_whole, rings_length, ends_at, worked_at}
 use Rattle.rb_workers.proofs.Numbered.{seats_length}
 use Rattle.rb_workers.proofs.Reported.{each_ran}

@@ -10,7 +10,7 @@ use Rattle.rb_workers.specs.Opened.{IsOpened, workers_of}
 use Rattle.rb_workers.specs.inner.RunBuffers.{IsEmptyFor}
 use Rattle.rb_workers.specs.SeatRows.{seat_rows, worker_column}
 use Rattle.rb_workers.proofs.Reported.{each_answered, each_told, known_rings, known_workers, ran_length, reported}
-use Rattle.rb_seats.proofs.Lists.{zip_length}
+use Rattle.rb_jobs.proofs.Lists.{zip_length}
 use Rattle.rb_workers.proofs.Parts.{rows_length}
 use Rattle.rb_workers.proofs.Whole.{lent_whole}
 use Rattle.rb_workers.proofs.jobs_run.run_known.Goals as goal

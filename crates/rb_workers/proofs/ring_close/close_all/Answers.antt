@@ -5,7 +5,7 @@ use Rattle.std.specs.Vec.Iter.{into_iter_items}
 use Rattle.rb_workers.specs.inner.RingEnds.{Closes}
 use Rattle.rb_workers.specs.Opened.{IsOpened, workers_of}
 use Rattle.rb_workers.specs.inner.RunBuffers.{IsEmptyFor}
-use Rattle.rb_seats.proofs.Lists.{zip_length}
+use Rattle.rb_jobs.proofs.Lists.{zip_length}
 use Rattle.rb_workers.proofs.Numbered.{seats_length}
 use Rattle.rb_workers.proofs.Parts.{less, shift, zip_more, all_first, all_rest, all_front, all_last}
 use Rattle.rb_workers.proofs.ring_close.close_all.Goals as goal

@@ -1,5 +1,5 @@
 use Rattle.std.proofs.Common.{◌∙◌, refl, ap, sym}
-use Rattle.rb_seats.specs.SeatHelpers.{AtSeats}
+use Rattle.rb_jobs.specs.SeatHelpers.{AtSeats}
 use Rattle.rb_jobs.specs.Jobs.{WorkerAtRings, task_of}
 use Rattle.rb_jobs.proofs.Doing.{counted_as}
 use Rattle.rb_jobs.proofs.job_run.JobRunner.run.Goals as goal

@@ -1,5 +1,0 @@
-mod Checking
-mod Draining
-mod Fresh
-mod Printing
-mod Sizes

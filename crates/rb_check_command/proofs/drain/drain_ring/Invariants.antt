@@ -1,9 +1,0 @@
-use Rattle.rb_shared_ring.specs.SharedSeats.{IsSameChapterConsumer}
-use Rattle.rb_check_command.specs.DrainedRings.{TakesEach}
-use Rattle.rb_check_command.proofs.drain.drain_ring.Given as goal
-
-abbrev pub invariant-loop : goal.invariant-loop
-invariant-loop g l = record {
-  same : IsSameChapterConsumer l.fn.consumer l.consumer;
-  each : TakesEach l.fn.consumer l.records.items l.consumer;
-}

@@ -1,6 +1,0 @@
-use Rattle.std.proofs.Common.{◌≡◌, ◌++◌, string_bytes, take}
-use Rattle.rb_check_command.specs.Printed.{ring_lines}
-use Rattle.rb_check_command.proofs.record_lines.push_ring.Given as goal
-
-abbrev pub invariant-loop-taken : goal.invariant-loop-taken
-invariant-loop-taken l = string_bytes l.text ≡ string_bytes l.fn.text ++ ring_lines l.ring (take l.taken-index l.records)

@@ -1,4 +1,0 @@
-pub mod Check
-pub mod DrainedRings
-pub mod FreshRings
-pub mod Printed

@@ -1,0 +1,130 @@
+-- What each call of a helper does to the one seat that it uses, before and after it, as the shared ring answers it, by its chapter and over
+-- its whole history (own).
+use Rattle.std.specs.FinMap.{insert}
+use Rattle.std.specs.Prelude.{◌≡◌, ◌≢◌, ℕ, ◌+◌, ◌<◌, ◌≤◌, ◌⊎◌, ℤ, ◌↔◌, pos, neg_ℤ, Bool, true, false, List, length, slice_get, slice_set, Option, Some, None, Ok}
+use Rattle.rb_history.specs.declared.answers.Notice.{Notice}
+use Rattle.rb_history.specs.declared.answers.Notice.TheVariants.{Due, NotDue}
+use Rattle.rb_history.specs.RingModel.{Ring}
+use Rattle.rb_history.specs.Calls.{FindsFull as FindsAllFull, producer_now}
+use Rattle.rb_chapter_ring.specs.ChapterRing.{ChapterRing}
+use Rattle.rb_chapter_ring.specs.ChapterCalls.{FindsFull, FindsChapterFull}
+use Rattle.rb_ledger.specs.Roles.Role.{Worker}
+use Rattle.rb_ledger.specs.Seats.{WorkerSeat}
+use Rattle.rb_ledger.specs.LockedCalls.{Reserves, SubmitsAt, DiscardsAt, OutputsAt, Queries, output_by, sent_by_output}
+use Rattle.rb_ledger.specs.ChapteredRing.{whole_of}
+use Rattle.rb_ledger.specs.LockedChapterCalls.{LockedChapterCall, InRoomAt, SubmitsInChapter, DiscardsInChapter, QueriesInChapter}
+use Rattle.rb_chapter_ring.specs.Hands.{out_record, in_hand, IsLowestFree}
+use Rattle.rb_chapter_ring.specs.HandGranted.{HandGranted}
+use Rattle.rb_shared_ring.specs.SharedCalls.{ReservesInChapter, OutputsInChapter}
+use Rattle.rb_helpers.specs.ErrorNumbers.{EAGAIN, EINVAL}
+use Rattle.rb_helpers.specs.AnsweredCalls.{AnsweredCall, Reserved, Submitted, Discarded, SentOut, Queried, MayAnswerOutput}
+use Rattle.rb_jobs.specs.declared.seat_record.SeatRecord.{SeatRecord}
+
+-- ---- one seat
+
+-- The seat made one call of the ring, at one moment under its lock: there the ring did the one by its chapter, and so the other over its whole
+-- history, which begins with what the seat had seen. What others had added since has no entry of the seat's worker. The chapter had the seat's room,
+-- and so many entries had been handed out before it as the seat then knows.
+abbrev pub SeatCallsRing : (ByChapter : ChapterRing → ChapterRing → Type 0) (OverAll : Ring → Ring → Type 0) → WorkerSeat → WorkerSeat → Type 0
+SeatCallsRing ByChapter OverAll b a =
+    LockedChapterCall (Worker b.worker) b.seen a.seen (λ old new. InRoomAt b.room a.cut ByChapter old new × OverAll (whole_of old) (whole_of new))
+
+-- the reservation is out at the seat: it has the seat's tag and worker, and the hand that it names is out with its position, serial and length
+pub record IsOutAtSeat (seat : WorkerSeat) (r : HandGranted) : Type 0 where
+  pub tag_is : r.tag ≡ seat.tag
+  pub worker_is : r.granted.worker ≡ seat.worker
+  pub out : in_hand seat.hands r.hand ≡ Some (out_record r.granted.pos r.granted.serial (length r.granted.bytes))
+
+-- at one call of the ring it answered this number; of the seat only what it has seen is another
+abbrev pub SeatQueries : ℕ → ℕ → WorkerSeat → WorkerSeat → Type 0
+SeatQueries what answer b a = SeatCallsRing (QueriesInChapter what answer) (Queries what answer) b a × (a ≡ record b { seen = a.seen; cut = a.cut })
+
+-- at one call the ring granted this very reservation of n bytes to the seat's worker, into the seat's lowest free hand
+abbrev pub SeatIsGranted : ℕ → HandGranted → WorkerSeat → WorkerSeat → Type 0
+SeatIsGranted n r b a =
+    SeatCallsRing (ReservesInChapter b.worker n (Ok r.granted)) (Reserves b.worker n (Ok r.granted)) b a × (r.granted.serial ≡ b.tally.made)
+    × IsLowestFree b.hands r.hand × IsOutAtSeat a r
+    × (a ≡ record b { seen = a.seen; cut = a.cut; tally = record b.tally { made = b.tally.made + 1 }; hands = slice_set b.hands r.hand (Some (out_record r.granted.pos r.granted.serial n)) })
+
+-- at one call the ring had no room for n bytes, which its history says
+abbrev pub SeatFindsFull : ℕ → WorkerSeat → WorkerSeat → Type 0
+SeatFindsFull n b a =
+    SeatCallsRing (λ old new. FindsFull old new b.worker n) (λ old new. FindsAllFull old new b.worker n) b a
+    × (a ≡ record b { seen = a.seen; cut = a.cut; tally = record b.tally { refused = b.tally.refused + 1 } })
+
+-- at one call the chapter had no room: for all that a record would log where the ring had room for n bytes, else for their refusal.
+-- Nothing was added to the history
+abbrev pub SeatFindsChapterFull : ℕ → WorkerSeat → WorkerSeat → Type 0
+SeatFindsChapterFull n b a = SeatCallsRing (λ old new. FindsChapterFull old new b.worker n) (λ old new. new ≡ old) b a × (a ≡ record b { seen = a.seen; cut = a.cut })
+
+-- no record of n bytes was made: the ring had no room; or its chapter had none; or no hand was free for a reservation, or no sheet could be had,
+-- which make no call of the ring. All but the first are unlogged
+abbrev pub SeatIsRefused : ℕ → ℕ → WorkerSeat → WorkerSeat → Type 0
+SeatIsRefused n unlogged b a =
+    (SeatFindsFull n b a × (unlogged ≡ 0)) ⊎ (SeatFindsChapterFull n b a × (unlogged ≡ 1)) ⊎ ((a ≡ b) × (unlogged ≡ 1))
+
+abbrev pub notice_of : Bool → Notice
+notice_of true = Due
+notice_of false = NotDue
+
+-- a submit of the reservation with these flags was taken exactly where it is out at the seat; then the ring took it at one call, and the hand is free.
+-- Else it is handed back without a call
+pub record SeatSubmits (r : HandGranted) (flags : ℕ) (taken due : Bool) (b a : WorkerSeat) : Type 0 where
+  pub exact : (taken ≡ true) ↔ IsOutAtSeat b r
+  pub takes : taken ≡ true
+      → SeatCallsRing (SubmitsInChapter r.granted flags (Ok (notice_of due))) (SubmitsAt r.granted flags (Ok (notice_of due))) b a
+      × (a ≡ record b { seen = a.seen; cut = a.cut; tally = record b.tally { submitted = b.tally.submitted + 1 }; hands = slice_set b.hands r.hand None; sent = insert b.sent r.granted.pos r.granted.bytes })
+  pub hands_back : taken ≡ false → (due ≡ false) × (a ≡ b)
+
+-- a discard, likewise; it sends nothing
+pub record SeatDiscards (r : HandGranted) (flags : ℕ) (taken due : Bool) (b a : WorkerSeat) : Type 0 where
+  pub exact : (taken ≡ true) ↔ IsOutAtSeat b r
+  pub takes : taken ≡ true
+      → SeatCallsRing (DiscardsInChapter r.granted flags (Ok (notice_of due))) (DiscardsAt r.granted flags (Ok (notice_of due))) b a
+      × (a ≡ record b { seen = a.seen; cut = a.cut; tally = record b.tally { discarded = b.tally.discarded + 1 }; hands = slice_set b.hands r.hand None })
+  pub hands_back : taken ≡ false → (due ≡ false) × (a ≡ b)
+
+-- at one call the ring took these bytes with these flags, as the record that stands where the producer was
+abbrev pub SeatOutputs : List ℕ → ℕ → Bool → WorkerSeat → WorkerSeat → Type 0
+SeatOutputs bytes flags due b a = SeatCallsRing (OutputsInChapter b.worker bytes flags (Ok (notice_of due))) (λ old new.
+    OutputsAt b.worker bytes flags (Ok (notice_of due)) old new
+    × (a ≡ record b { seen = a.seen; cut = a.cut; tally = output_by b.tally (Ok (notice_of due)); sent = sent_by_output b.sent (producer_now old) bytes (Ok (notice_of due)) })) b a
+
+-- ---- all seats of the helpers
+
+-- there is a seat at this ring, to which the call did so; the other seats stayed
+pub record AtSeat (ring : ℕ) (Did : WorkerSeat → WorkerSeat → Type 0) (old new : List WorkerSeat) : Type 0 where
+  pub before : WorkerSeat
+  pub after : WorkerSeat
+  pub before_is : slice_get old ring ≡ Some before
+  pub new_is : new ≡ slice_set old ring after
+  pub did : Did before after
+
+-- a call to reserve n bytes was answered by a record of this ring, or by null; flags but 0 make no step
+abbrev pub ReserveAnswered : ℕ → ℕ → ℕ → Option SeatRecord → ℕ → List WorkerSeat → List WorkerSeat → Type 0
+ReserveAnswered ring n flags (Some r) unlogged old new =
+    (flags ≡ 0) × (unlogged ≡ 0) × (r.ring ≡ ring) × AtSeat ring (SeatIsGranted n r.reservation) old new
+ReserveAnswered ring n flags None unlogged old new =
+    (flags ≡ 0 → AtSeat ring (SeatIsRefused n unlogged) old new) × (flags ≢ 0 → (new ≡ old) × (unlogged ≡ 0))
+
+-- a call to submit or discard a record did so to the seat at its ring; a record of no ring here is handed back without a step
+pub record RecordAnswered (ring : ℕ) (taken due : Bool) (Did : WorkerSeat → WorkerSeat → Type 0) (old new : List WorkerSeat) : Type 0 where
+  pub at_ring : ring < length old → AtSeat ring Did old new
+  pub no_ring : length old ≤ ring → (taken ≡ false) × (due ≡ false) × (new ≡ old)
+
+-- a call to output the bytes was answered so; bad flags make no step
+pub record OutputAnswered (ring : ℕ) (bytes : List ℕ) (flags : ℕ) (answer : ℤ) (due : Bool) (unlogged : ℕ) (old new : List WorkerSeat) : Type 0 where
+  pub answer_is : MayAnswerOutput flags answer
+  pub sent : answer ≡ pos 0 → AtSeat ring (SeatOutputs bytes flags due) old new × (unlogged ≡ 0)
+  pub refused : answer ≡ neg_ℤ EAGAIN → AtSeat ring (SeatIsRefused (length bytes) unlogged) old new × (due ≡ false)
+  pub no_step : answer ≡ neg_ℤ EINVAL → (new ≡ old) × (due ≡ false) × (unlogged ≡ 0)
+
+-- the call was made and answered so at the seats; whether it made a notice due, and how many failures it added that no history says
+abbrev pub CallsSeats : AnsweredCall SeatRecord → Bool → ℕ → List WorkerSeat → List WorkerSeat → Type 0
+CallsSeats (Reserved ring n flags answer) due unlogged old new = ReserveAnswered ring n flags answer unlogged old new × (due ≡ false)
+CallsSeats (Submitted owned flags taken) due unlogged old new =
+    RecordAnswered owned.ring taken due (SeatSubmits owned.reservation flags taken due) old new × (unlogged ≡ 0)
+CallsSeats (Discarded owned flags taken) due unlogged old new =
+    RecordAnswered owned.ring taken due (SeatDiscards owned.reservation flags taken due) old new × (unlogged ≡ 0)
+CallsSeats (SentOut ring bytes flags answer) due unlogged old new = OutputAnswered ring bytes flags answer due unlogged old new
+CallsSeats (Queried ring what answer) due unlogged old new = AtSeat ring (SeatQueries what answer) old new × (due ≡ false) × (unlogged ≡ 0)

@@ -1,0 +1,62 @@
+-- What a call at one of the seats answers, before it is noted, and how it is noted.
+use Rattle.std.specs.Prelude.{◌≡◌, ℕ, ◌+◌, ◌-◌, cond, ℤ, pos, neg_ℤ, Bool, true, false, List, [], ◌∷◌, ◌++◌, length, Result, Ok, Err}
+use Rattle.rb_history.specs.declared.answers.Notice.{Notice}
+use Rattle.rb_history.specs.declared.answers.Notice.TheVariants.{Due, NotDue}
+use Rattle.rb_chapter_ring.specs.HandGranted.{HandGranted}
+use Rattle.rb_chapter_ring.specs.declared.faults.ReserveFault.TheVariants.{Full, Flags, ChapterFull, Foreign, HandsFull}
+use Rattle.rb_ledger.specs.Seats.{WorkerSeat}
+use Rattle.rb_helpers.specs.ErrorNumbers.{EAGAIN, EINVAL}
+use Rattle.rb_helpers.specs.declared.done.Done.{Done}
+use Rattle.rb_jobs.specs.declared.no_record.NoRecord.{NoRecord}
+use Rattle.rb_jobs.specs.declared.no_record.NoRecord.TheVariants.{BadFlags, NoSheet, Refused}
+use Rattle.rb_jobs.specs.SeatCalls.{SeatIsGranted, SeatFindsFull, SeatFindsChapterFull, SeatOutputs}
+use Rattle.rb_jobs.specs.SeatHelpers.{AtSeats}
+
+-- no record of n bytes was made, for this reason; it is not the flags, and the seat is at the ring
+abbrev pub SeatFails : ℕ → NoRecord → WorkerSeat → WorkerSeat → Type 0
+SeatFails n BadFlags b a = ⊥
+SeatFails n NoSheet b a = a ≡ b
+SeatFails n (Refused Full) b a = SeatFindsFull n b a
+SeatFails n (Refused ChapterFull) b a = SeatFindsChapterFull n b a
+SeatFails n (Refused Flags) b a = ⊥
+SeatFails n (Refused Foreign) b a = ⊥
+SeatFails n (Refused HandsFull) b a = a ≡ b
+
+abbrev pub SeatReserves : ℕ → Result HandGranted NoRecord → WorkerSeat → WorkerSeat → Type 0
+SeatReserves n (Ok r) b a = SeatIsGranted n r b a
+SeatReserves n (Err fault) b a = SeatFails n fault b a
+
+abbrev pub is_due_by : Notice → Bool
+is_due_by Due = true
+is_due_by NotDue = false
+
+abbrev pub SeatSends : List ℕ → ℕ → Result Notice NoRecord → WorkerSeat → WorkerSeat → Type 0
+SeatSends bytes flags (Ok notice) b a = SeatOutputs bytes flags (is_due_by notice) b a
+SeatSends bytes flags (Err fault) b a = SeatFails (length bytes) fault b a
+
+-- the answer makes a notice due
+abbrev pub due_in : {E : Type 0} → Result Notice E → Bool
+due_in (Ok notice) = is_due_by notice
+due_in (Err e) = false
+
+-- the answer is a failure that no history says
+abbrev pub unlogged_in : {T : Type 0} → Result T NoRecord → Bool
+unlogged_in (Ok x) = false
+unlogged_in (Err BadFlags) = false
+unlogged_in (Err NoSheet) = true
+unlogged_in (Err (Refused Full)) = false
+unlogged_in (Err (Refused ChapterFull)) = true
+unlogged_in (Err (Refused Flags)) = false
+unlogged_in (Err (Refused Foreign)) = false
+unlogged_in (Err (Refused HandsFull)) = true
+
+-- the answer of an output
+abbrev pub output_number : Result Notice NoRecord → ℤ
+output_number (Ok _) = pos 0
+output_number (Err BadFlags) = neg_ℤ EINVAL
+output_number (Err NoSheet) = neg_ℤ EAGAIN
+output_number (Err (Refused _)) = neg_ℤ EAGAIN
+
+-- with a call noted
+abbrev pub with_call : AtSeats → Done → Bool → Bool → AtSeats
+with_call h done unlogged due = record h { trace = h.trace ++ done ∷ []; room = h.room - 1; unlogged = h.unlogged + cond unlogged 1 0; due = due }

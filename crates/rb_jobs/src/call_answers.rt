@@ -1,0 +1,40 @@
+//! What the answer of a ring says.
+
+ghost use Rattle.std.specs.Prelude.{◌≡◌};
+ghost use Rattle.rb_jobs.specs.inner.CallAnswers.{due_in, output_number, unlogged_in};
+
+use crate::no_record::NoRecord;
+use rb_helpers::{EAGAIN, EINVAL};
+use rb_history::Notice;
+use rb_shared_ring::ReserveFault;
+
+// Whether a notice is due.
+pub(crate) fn is_due<E>(answer: &Result<Notice, E>) -> bool
+    ensures { result ≡ due_in answer.now }
+{
+    matches!(answer, Ok(Notice::Due))
+}
+
+// Whether the call failed and no history says so.
+pub(crate) fn is_unlogged<T>(answer: &Result<T, NoRecord>) -> bool
+    ensures { result ≡ unlogged_in answer.now }
+{
+    matches!(
+        answer,
+        Err(
+            NoRecord::NoSheet
+                | NoRecord::Refused(ReserveFault::ChapterFull | ReserveFault::HandsFull)
+        )
+    )
+}
+
+// The answer of an output.
+pub(crate) fn answer_of(answer: &Result<Notice, NoRecord>) -> i64
+    ensures { result ≡ output_number answer.now }
+{
+    match answer {
+        Ok(_) => 0,
+        Err(NoRecord::BadFlags) => -EINVAL,
+        Err(_) => -EAGAIN,
+    }
+}

@@ -1,0 +1,444 @@
+//! Helpers over the seats of one worker.
+
+ghost use Rattle.std.specs.Prelude.{◌≡◌, ◌≢◌, ◌↔◌, ◌⊎◌, ◌+◌, ◌<◌, ◌≤◌, pos, neg_ℤ, refl, true, false, [], ◌∷◌, ◌++◌, IfOk, IfErr, IfSome, IsErr, IsErrOf, is_ok, is_some, length, replicate};
+ghost use Rattle.rb_helpers.specs.declared.done.Done.TheVariants.{Reserve, Submit, Discard, Output, Query};
+ghost use Rattle.rb_helpers.specs.AnsweredCalls.{Reserved, Submitted, Discarded, SentOut, Queried};
+ghost use Rattle.rb_helpers.specs.ErrorNumbers.{EAGAIN, EINVAL};
+ghost use Rattle.rb_jobs.specs.declared.no_record.NoRecord.TheVariants.{BadFlags};
+ghost use Rattle.rb_jobs.specs.SeatCalls.{AtSeat, RecordAnswered, SeatDiscards, SeatQueries, SeatSubmits};
+ghost use Rattle.rb_jobs.specs.SeatHelpers.{AtRings, CallsHelpers, Leads, has_number};
+ghost use Rattle.rb_jobs.specs.inner.CallAnswers.{SeatReserves, SeatSends, due_in, with_call};
+
+use crate::call_answers::{answer_of, is_due, is_unlogged};
+use crate::no_record::NoRecord;
+use crate::seat_record::SeatRecord;
+use crate::sheets::{copied_sheet, give_back, zero_sheet};
+use crate::stock::Stock;
+use rb_helpers::{Done, Helpers};
+use rb_history::Notice;
+use rb_shared_ring::{Foreign, Reservation, Seat, SharedRing};
+use std::alloc::{AllocError, Global};
+use std::marker::Model;
+use std::sync::Wait;
+
+/// Helpers over the seats of one worker, one at each of some rings. A ring's number is its place among them.
+#[derive(Drop)]
+pub struct SeatHelpers<'h, R, S> {
+    rt: &'h R,
+    alloc: Global,
+    stock: &'h S,
+    rings: &'h [SharedRing],
+    seats: Vec<Seat>,
+    trace: Vec<Done>,
+    room: usize,
+    unlogged: u64,
+    due: bool,
+}
+
+impl<'h, R, S> Model for SeatHelpers<'h, R, S> {
+    ghost use Rattle.std.specs.Prelude.{◌+◌, ◌≤◌, ◌<◌, ◌^◌, vec_len, vec_capacity};
+    ghost use Rattle.std.specs.Coded.{codes};
+    ghost use Rattle.atomic_table.specs.Seated.{table_id_coded};
+    ghost use Rattle.rb_history.specs.RingModel.{contents_code};
+    ghost use Rattle.rb_history.specs.contracts.entries.Entry as entry;
+    ghost use Rattle.rb_history.specs.contracts.tally.Tally as tally_row;
+    ghost use Rattle.rb_chapter_ring.specs.contracts.out_record.OutRecord as out_row;
+    ghost use Rattle.rb_helpers.specs.contracts.done.Done as done_row;
+    ghost use Rattle.rb_jobs.specs.SeatHelpers.{AtSeats, AtRings};
+
+    ghost Value = { AtSeats };
+
+    ghost coded = { Prim.hlevel (codes, contents_code, table_id_coded, entry.the_row.coded, tally_row.the_row.coded, out_row.the_row.coded, done_row.the_row.coded) };
+
+    ghost view = { λ h. record { rings = h.rings.now; seats = h.seats.items; trace = h.trace.items; room = h.room; unlogged = h.unlogged; due = h.due } };
+
+    ghost invariant = { λ h. AtRings h.rings.now h.seats.items × (vec_len h.trace + h.room ≤ vec_capacity h.trace) × (h.unlogged ≤ vec_len h.trace) × (vec_capacity h.trace < 2 ^ 63) };
+}
+
+impl<'h, R: Wait, S: Stock> SeatHelpers<'h, R, S> {
+    /// Helpers over these rings and the worker's seats there, in the rings' order, with room for `room` calls. Where there is no memory
+    /// for the trace, the seats are handed back.
+    pub fn new(
+        rt: &'h R,
+        alloc: Global,
+        rings: &'h [SharedRing],
+        seats: Vec<Seat>,
+        room: usize,
+        stock: &'h S,
+    ) -> Result<SeatHelpers<'h, R, S>, (AllocError, Vec<Seat>)>
+        requires seats { AtRings rings.now seats.items }
+        ensures new { IfOk result (λ h. h ≡ record { rings = rings.now; seats = seats.items; trace = []; room = room; unlogged = 0; due = false }) }
+        ensures handed_back { IfErr result (λ e. e.1 ≡ seats) }
+    {
+        match Vec::with_capacity(alloc, room) {
+            Ok(trace) => Ok(SeatHelpers {
+                rt,
+                alloc,
+                stock,
+                rings,
+                seats,
+                trace,
+                room,
+                unlogged: 0,
+                due: false,
+            }),
+            Err(refused) => Err((refused, seats)),
+        }
+    }
+
+    /// Helpers over these rings and the worker's seats there, in the rings' order, with room for no call: `begin` makes some. It takes no memory.
+    pub(crate) fn at_rest(
+        rt: &'h R,
+        alloc: Global,
+        rings: &'h [SharedRing],
+        seats: Vec<Seat>,
+        stock: &'h S,
+    ) -> SeatHelpers<'h, R, S>
+        requires seats { AtRings rings.now seats.items }
+        ensures new { result ≡ record { rings = rings.now; seats = seats.items; trace = []; room = 0; unlogged = 0; due = false } }
+    {
+        SeatHelpers {
+            rt,
+            alloc,
+            stock,
+            rings,
+            seats,
+            trace: Vec::new(alloc),
+            room: 0,
+            unlogged: 0,
+            due: false,
+        }
+    }
+
+    /// Forgets the calls so far, and makes room for `room` more: memory is taken only where the trace never had room for as many. Where there is
+    /// none, there is room for no call.
+    pub(crate) fn begin(&mut self, room: usize) -> Result<(), AllocError>
+        ensures begun { IfOk result (λ _. self.new ≡ record { rings = self.old.rings; seats = self.old.seats; trace = []; room = room; unlogged = 0; due = false }) }
+        ensures refused { IfErr result (λ _. self.new ≡ record { rings = self.old.rings; seats = self.old.seats; trace = []; room = 0; unlogged = 0; due = false }) }
+    {
+        self.trace.clear();
+        self.room = 0;
+        self.unlogged = 0;
+        self.due = false;
+        self.trace.reserve(room)?;
+        self.room = room;
+        Ok(())
+    }
+
+    /// The seats, in the rings' order.
+    pub fn into_seats(self) -> Vec<Seat>
+        ensures seats { result.items ≡ self.entry.seats }
+        ensures at_rings { AtRings self.entry.rings result.items }
+    {
+        self.seats
+    }
+
+    /// How many of the nulls for flags 0 and of the answers `-EAGAIN` no entry of a ring explains.
+    pub fn unlogged(&self) -> u64
+        ensures count { result ≡ self.now.unlogged }
+        ensures within { result ≤ length self.now.trace }
+    {
+        self.unlogged
+    }
+
+    /// Whether the last call made a notice due: it was a submit, a discard or an output that its ring took, and the ring's consumer is to be
+    /// told (bpf-helpers(7), BPF_RB_NO_WAKEUP and BPF_RB_FORCE_WAKEUP).
+    pub fn due(&self) -> bool
+        ensures due { result ≡ self.now.due }
+    {
+        self.due
+    }
+}
+
+impl<'h, R: Wait, S: Stock> SeatHelpers<'h, R, S> {
+    // Reserves a record at the ring's seat, without noting the call. Its sheet is made before the ring is held.
+    fn try_reserve(&mut self, ring: u32, n: u32, flags: u64) -> Result<Reservation, NoRecord>
+        requires ring { has_number self.old ring ≡ true }
+        ensures rest { self.new ≡ record self.old { seats = self.new.seats } }
+        ensures flags { IsErrOf result BadFlags ↔ (flags ≢ 0) }
+        ensures no_step { flags ≢ 0 → self.new.seats ≡ self.old.seats }
+        ensures seat { flags ≡ 0 → AtSeat ring (SeatReserves n result) self.old.seats self.new.seats }
+        ensures zeros { IfOk result (λ r. r.granted.bytes ≡ replicate n 0) }
+    {
+        if flags != 0 {
+            return Err(NoRecord::BadFlags);
+        }
+        let sheet = zero_sheet(self.alloc, self.stock, n).ok_or(NoRecord::NoSheet)?;
+        let at = ring as usize;
+        let seat = &self.seats[at];
+        seat.facts();
+        match self.rings[at].reserve(self.rt, &mut self.seats[at], n, sheet) {
+            Ok(reservation) => Ok(reservation),
+            Err(refused) => {
+                give_back(self.stock, refused.1);
+                Err(NoRecord::Refused(refused.0))
+            }
+        }
+    }
+
+    // Submits a record at the ring's seat, without noting the call. One of no ring here is handed back.
+    fn try_submit(
+        &mut self,
+        ring: u32,
+        reservation: Reservation,
+        flags: u64,
+    ) -> Result<Notice, Reservation>
+        ensures rest { self.new ≡ record self.old { seats = self.new.seats } }
+        ensures seat { RecordAnswered ring (is_ok result) (due_in result) (SeatSubmits reservation flags (is_ok result) (due_in result)) self.old.seats self.new.seats }
+        ensures handed_back { IfErr result (λ back. back ≡ reservation) }
+    {
+        let at = ring as usize;
+        if at >= self.rings.len() {
+            return Err(reservation);
+        }
+        self.rings[at].submit(self.rt, &mut self.seats[at], reservation, flags)
+    }
+
+    // Discards a record at the ring's seat, without noting the call. One of no ring here is handed back.
+    fn try_discard(
+        &mut self,
+        ring: u32,
+        reservation: Reservation,
+        flags: u64,
+    ) -> Result<Notice, Reservation>
+        ensures rest { self.new ≡ record self.old { seats = self.new.seats } }
+        ensures seat { RecordAnswered ring (is_ok result) (due_in result) (SeatDiscards reservation flags (is_ok result) (due_in result)) self.old.seats self.new.seats }
+        ensures handed_back { IfErr result (λ back. back ≡ reservation) }
+    {
+        let at = ring as usize;
+        if at >= self.rings.len() {
+            return Err(reservation);
+        }
+        self.rings[at].discard(self.rt, &mut self.seats[at], reservation, flags)
+    }
+
+    // Outputs the bytes at the ring's seat, without noting the call. Its sheet is made before the ring is held.
+    fn try_output(&mut self, ring: u32, bytes: &[u8], flags: u64) -> Result<Notice, NoRecord>
+        requires ring { has_number self.old ring ≡ true }
+        ensures rest { self.new ≡ record self.old { seats = self.new.seats } }
+        ensures flags { IsErrOf result BadFlags ↔ (3 < flags) }
+        ensures no_step { 3 < flags → self.new.seats ≡ self.old.seats }
+        ensures seat { flags ≤ 3 → AtSeat ring (SeatSends bytes.now flags result) self.old.seats self.new.seats }
+    {
+        if flags > 3 {
+            return Err(NoRecord::BadFlags);
+        }
+        let sheet = copied_sheet(self.alloc, self.stock, bytes).ok_or(NoRecord::NoSheet)?;
+        let at = ring as usize;
+        let seat = &self.seats[at];
+        seat.facts();
+        match self.rings[at].output(self.rt, &mut self.seats[at], sheet, flags) {
+            Ok(notice) => Ok(notice),
+            Err(refused) => {
+                give_back(self.stock, refused.1);
+                Err(NoRecord::Refused(refused.0))
+            }
+        }
+    }
+
+    // Asks the ring for a number at its seat, without noting the call.
+    fn try_query(&mut self, ring: u32, what: u64) -> u64
+        requires ring { has_number self.old ring ≡ true }
+        ensures rest { self.new ≡ record self.old { seats = self.new.seats } }
+        ensures seat { AtSeat ring (SeatQueries what result) self.old.seats self.new.seats }
+    {
+        let at = ring as usize;
+        match self.rings[at].query(self.rt, &mut self.seats[at], what) {
+            Ok(answer) => answer,
+            Err(Foreign) => unreachable!(),
+        }
+    }
+
+    // Notes a call and its answer, with one failure that no history says where `unlogged` says so, and whether a notice is due.
+    fn log(&mut self, done: Done, unlogged: bool, due: bool)
+        requires room { 0 < self.old.room }
+        ensures noted { self.new ≡ with_call self.old done unlogged due }
+    {
+        self.trace.push_reserved(done);
+        self.room -= 1;
+        if unlogged {
+            self.unlogged += 1;
+        }
+        self.due = due;
+    }
+}
+
+impl<'h, R: Wait, S: Stock> Helpers for SeatHelpers<'h, R, S> {
+    ghost use Rattle.rb_jobs.specs.SeatHelpers.{Leads, has_number};
+    ghost use Rattle.rb_jobs.specs.KeptRecords.{IsKept, record_name};
+    ghost use Rattle.rb_jobs.specs.inner.Chains.{none_called, called_on};
+    ghost use Rattle.rb_jobs.specs.inner.WrittenRecords.{kept_written};
+
+    type Record = SeatRecord;
+
+    ghost trace_of = { λ h. h.trace };
+
+    ghost room_of = { λ h. h.room };
+
+    ghost has_ring = { has_number };
+
+    ghost leads = { Leads };
+
+    ghost keeps_records = { true };
+
+    ghost keeps = { IsKept };
+
+    ghost name_of = { record_name };
+
+    ghost kept_written = { kept_written };
+
+    ghost name_stays = { λ r w. refl };
+
+    ghost leads_by_none = { none_called };
+
+    ghost leads_on = { called_on };
+
+    /// Null where flags are not 0, without memory and without a step of the ring; where the ring has no room, which its history says; and
+    /// where its chapter has no room, where none of the seat's four hands is free, or memory is refused, which are unlogged.
+    fn reserve(&mut self, ring: u32, n: u32, flags: u64) -> Option<SeatRecord>
+        requires room { 0 < self.old.room }
+        requires ring { has_number self.old ring ≡ true }
+        ensures trace { self.new.trace ≡ self.old.trace ++ Reserve ring n flags (is_some result) ∷ [] }
+        ensures room { self.new.room + 1 ≡ self.old.room }
+        ensures rings { has_number self.new ≡ has_number self.old }
+        ensures zeros { IfSome result (λ r. r.reservation.granted.bytes ≡ replicate n 0) }
+        ensures called { Leads self.old (Reserved ring n flags result ∷ []) self.new }
+        ensures call { CallsHelpers (Reserved ring n flags result) self.old self.new }
+    {
+        let answer = self.try_reserve(ring, n, flags);
+        let unlogged = is_unlogged(&answer);
+        match answer {
+            Ok(reservation) => {
+                let done = Done::Reserve {
+                    ring,
+                    len: n,
+                    flags,
+                    granted: true,
+                };
+                self.log(done, unlogged, false);
+                Some(SeatRecord { ring, reservation })
+            }
+            Err(_) => {
+                let done = Done::Reserve {
+                    ring,
+                    len: n,
+                    flags,
+                    granted: false,
+                };
+                self.log(done, unlogged, false);
+                None
+            }
+        }
+    }
+
+    /// Takes each record that these helpers granted and that was not given back since. Hands one back where its ring is none of these, or where it
+    /// is out in no hand of the seat there.
+    fn submit(&mut self, owned: SeatRecord, flags: u64) -> Result<(), SeatRecord>
+        requires room { 0 < self.old.room }
+        ensures trace { self.new.trace ≡ self.old.trace ++ Submit flags (is_ok result) ∷ [] }
+        ensures room { self.new.room + 1 ≡ self.old.room }
+        ensures rings { has_number self.new ≡ has_number self.old }
+        ensures handed_back { IfErr result (λ back. back ≡ owned) }
+        ensures called { Leads self.old (Submitted owned flags (is_ok result) ∷ []) self.new }
+        ensures call { CallsHelpers (Submitted owned flags (is_ok result)) self.old self.new }
+    {
+        let SeatRecord { ring, reservation } = owned;
+        let answer = self.try_submit(ring, reservation, flags);
+        let due = is_due(&answer);
+        match answer {
+            Ok(_) => {
+                self.log(Done::Submit { flags, taken: true }, false, due);
+                Ok(())
+            }
+            Err(reservation) => {
+                let done = Done::Submit {
+                    flags,
+                    taken: false,
+                };
+                self.log(done, false, due);
+                Err(SeatRecord { ring, reservation })
+            }
+        }
+    }
+
+    /// Takes each record that these helpers granted and that was not given back since. Hands one back where its ring is none of these, or where it
+    /// is out in no hand of the seat there.
+    fn discard(&mut self, owned: SeatRecord, flags: u64) -> Result<(), SeatRecord>
+        requires room { 0 < self.old.room }
+        ensures trace { self.new.trace ≡ self.old.trace ++ Discard flags (is_ok result) ∷ [] }
+        ensures room { self.new.room + 1 ≡ self.old.room }
+        ensures rings { has_number self.new ≡ has_number self.old }
+        ensures handed_back { IfErr result (λ back. back ≡ owned) }
+        ensures called { Leads self.old (Discarded owned flags (is_ok result) ∷ []) self.new }
+        ensures call { CallsHelpers (Discarded owned flags (is_ok result)) self.old self.new }
+    {
+        let SeatRecord { ring, reservation } = owned;
+        let answer = self.try_discard(ring, reservation, flags);
+        let due = is_due(&answer);
+        match answer {
+            Ok(_) => {
+                self.log(Done::Discard { flags, taken: true }, false, due);
+                Ok(())
+            }
+            Err(reservation) => {
+                let done = Done::Discard {
+                    flags,
+                    taken: false,
+                };
+                self.log(done, false, due);
+                Err(SeatRecord { ring, reservation })
+            }
+        }
+    }
+
+    /// `-EINVAL` where flags are above 3, without memory and without a step of the ring; `-EAGAIN` where the ring has no room, which its
+    /// history says, where its chapter has no room, where memory is refused, and for more bytes than a record can have, which are
+    /// unlogged; else 0.
+    fn output(&mut self, ring: u32, bytes: &[u8], flags: u64) -> i64
+        requires room { 0 < self.old.room }
+        requires ring { has_number self.old ring ≡ true }
+        ensures trace { self.new.trace ≡ self.old.trace ++ Output ring (length bytes.now) flags result ∷ [] }
+        ensures room { self.new.room + 1 ≡ self.old.room }
+        ensures rings { has_number self.new ≡ has_number self.old }
+        ensures called { Leads self.old (SentOut ring bytes.now flags result ∷ []) self.new }
+        ensures call { CallsHelpers (SentOut ring bytes.now flags result) self.old self.new }
+    {
+        let answer = self.try_output(ring, bytes, flags);
+        let unlogged = is_unlogged(&answer);
+        let number = answer_of(&answer);
+        self.log(
+            Done::Output {
+                ring,
+                len: bytes.len() as u64,
+                flags,
+                answer: number,
+            },
+            unlogged,
+            is_due(&answer),
+        );
+        number
+    }
+
+    /// The ring's answer. It changes no seat's counts.
+    fn query(&mut self, ring: u32, what: u64) -> u64
+        requires room { 0 < self.old.room }
+        requires ring { has_number self.old ring ≡ true }
+        ensures trace { self.new.trace ≡ self.old.trace ++ Query ring what result ∷ [] }
+        ensures room { self.new.room + 1 ≡ self.old.room }
+        ensures rings { has_number self.new ≡ has_number self.old }
+        ensures called { Leads self.old (Queried ring what result ∷ []) self.new }
+        ensures call { CallsHelpers (Queried ring what result) self.old self.new }
+    {
+        let answer = self.try_query(ring, what);
+        self.log(Done::Query { ring, what, answer }, false, false);
+        answer
+    }
+
+    fn trace(&self) -> &[Done] {
+        self.trace.as_slice()
+    }
+
+    fn room(&self) -> usize {
+        self.room
+    }
+}

@@ -1,0 +1,112 @@
+//! A program from its text: verified, run once over fresh rings, and what it left in them.
+
+ghost use Rattle.std.specs.Prelude.{◌≡◌, ◌≢◌, ◌≤◌, ℕ, List, Ok, Err, IfErr, IfOk, IfSome, IsErr, OnErr, OnOk, length, map, take};
+ghost use Rattle.std.specs.Io.KnownBytes.{Keeps};
+ghost use Rattle.rb_jobs.specs.SeatHelpers.{AtRings};
+ghost use Rattle.rb_loader.specs.Acceptance.{IsRightFault, IsRightProgramFault};
+ghost use Rattle.rb_run_commands.specs.Check.{Checks, PrintsCheck, RunsOnce};
+
+use crate::drain::drain_rings;
+use crate::fresh_rings::{Fresh, fresh_rings};
+use crate::run_lines::lines_of_run;
+use rb_history::Taken;
+use rb_io::write_whole;
+use rb_jobs::{Job, NoStock, OpenGate, run_job};
+use rb_json::LineForm;
+use rb_loader::{Bounds, ProgramFault, accept, read_all, text_of};
+use rb_shared_ring::{Seat, SharedRing};
+use rb_verifier::Verified;
+use std::alloc::{AllocError, Global};
+use std::io::{Read, Write};
+use std::sync::Wait;
+
+/// What a run left: its result, and the records of each ring.
+#[derive(Drop)]
+pub struct Checked {
+    /// What the program ended with.
+    pub value: u64,
+    /// The records that were taken of each ring, in the order of the rings' numbers.
+    pub records: Vec<Vec<Taken>>,
+}
+
+/// Verifies the program whose text is the input, runs it once with a context of zeros over fresh rings of 4,096 bytes, and prints
+/// `accepted`, what it ended with, and a line for each record that it left, in this form. Input that is no UTF-8 is `Text`. Nothing is printed where
+/// the program is refused or memory runs out.
+pub fn check<T: Wait, R: Read, W: Write>(
+    rt: &T,
+    alloc: Global,
+    input: &mut R,
+    out: &mut W,
+    bounds: Bounds,
+    form: LineForm,
+) -> Result<(), ProgramFault>
+    ensures printed { OnOk result (IfSome (R.remaining input.old) (λ text. PrintsCheck text bounds.ctx_len bounds.rings form (W.contents out.old) (W.contents out.new))) }
+    ensures refused { IfErr result (λ fault. IfSome (R.remaining input.old) (λ text. IsRightProgramFault text bounds.ctx_len bounds.rings fault)) }
+    ensures nothing_printed { IfErr result (λ fault. fault ≢ ProgramFault.Device → Keeps (W.contents out.old) (W.contents out.new)) }
+{
+    let bytes = read_all(alloc, input)?;
+    let text = text_of(bytes.as_slice())?;
+    let Checked { value, records } = check_text(rt, alloc, text, bounds)?;
+    let printed = lines_of_run(alloc, value, records.as_slice(), form)?;
+    match write_whole(out, printed.as_slice()) {
+        Ok(()) => Ok(()),
+        Err(_) => Err(ProgramFault::Device),
+    }
+}
+
+/// Verifies the program of a text in hex, and runs it once with a context of zeros over fresh rings.
+pub fn check_text<T: Wait>(
+    rt: &T,
+    alloc: Global,
+    text: &str,
+    bounds: Bounds,
+) -> Result<Checked, ProgramFault>
+    ensures checked { IfOk result (λ c. Checks text.now bounds.ctx_len bounds.rings c.value (map (λ ring. ring.items) c.records.items)) }
+    ensures refused { IfErr result (IsRightFault text.now bounds.ctx_len bounds.rings) }
+    ensures no_device { result ≢ Err ProgramFault.Device }
+{
+    let verified = accept(alloc, text, bounds)?;
+    let Fresh {
+        rings,
+        seats,
+        mut consumers,
+    } = fresh_rings(rt, alloc, verified.rings())?;
+    let (value, mut seats) = run_once(rt, alloc, &verified, rings.as_slice(), seats)?;
+    let records = drain_rings(
+        rt,
+        alloc,
+        rings.as_slice(),
+        seats.as_mut_slice(),
+        consumers.as_mut_slice(),
+    )?;
+    Ok(Checked { value, records })
+}
+
+// What a program ends with over a context of zeros, and the seats as the run left them.
+fn run_once<T: Wait>(
+    rt: &T,
+    alloc: Global,
+    verified: &Verified,
+    rings: &[SharedRing],
+    seats: Vec<Seat>,
+) -> Result<(u64, Vec<Seat>), AllocError>
+    requires rings { verified.now.rings ≤ length rings.now }
+    requires seats { AtRings rings.now seats.items }
+    ensures ran { IfOk result (λ ran. RunsOnce verified.now (Ok ran.0) seats.items ran.1.items) }
+    ensures seats { IfOk result (λ ran. AtRings rings.now ran.1.items) }
+{
+    let context = vec![in alloc; 0; verified.ctx_len() as usize]?;
+    let job = Job {
+        worker: 0,
+        program: verified,
+        ctx: context.as_slice(),
+    };
+    let mut calls = 0;
+    let (answer, seats) = run_job(
+        rt, alloc, rings, seats, &job, &OpenGate, &NoStock, &mut calls,
+    );
+    match answer?.result {
+        Ok(value) => Ok((value, seats)),
+        Err(_) => unreachable!(),
+    }
+}

@@ -1,3 +1,0 @@
-pub mod CallAnswers
-pub mod Chains
-pub mod WrittenRecords
