@@ -4,8 +4,8 @@ use Rattle.std.proofs.lemmas.Bool.{cases_lt}
 use Rattle.std.proofs.lemmas.List.{get_or_past}
 use Rattle.rb_insn.specs.declared.insn.Insn.{Insn}
 use Rattle.rb_decode.specs.Program.{units_of, unit_count, slot_at}
-use Rattle.rb_cfg.specs.declared.fault.ShapeFaultKind.{ShapeFaultKind}
-use Rattle.rb_cfg.specs.declared.fault.ShapeFaultKind.TheVariants.{Backward, OutOfProgram, IntoWide, FallsOff, Unreachable, Memory}
+use Rattle.rb_cfg.specs.declared.shape_fault.ShapeFaultKind.{ShapeFaultKind}
+use Rattle.rb_cfg.specs.declared.shape_fault.ShapeFaultKind.TheVariants.{Backward, OutOfProgram, IntoWide, FallsOff, Unreachable, Memory}
 use Rattle.rb_cfg.specs.Edges.{IsReached}
 use Rattle.rb_cfg.specs.ShapeFaults.{HasShapeFault, HasNoFault}
 use Rattle.rb_cfg.specs.Shape.{IsInstructionStart, IsWellShaped}

@@ -8,9 +8,9 @@ use Rattle.rb_insn.specs.declared.insn.Insn.{Insn}
 use Rattle.rb_insn.specs.Units.{units_taken}
 use Rattle.rb_decode.specs.Program.{units_of, unit_count, slot_at, IsProgram, IsLaidOut}
 use Rattle.rb_decode.proofs.Laws.{units_taken-bounds}
-use Rattle.rb_cfg.specs.declared.fault.ShapeFault.{ShapeFault}
-use Rattle.rb_cfg.specs.declared.fault.ShapeFaultKind.{ShapeFaultKind}
-use Rattle.rb_cfg.specs.declared.fault.ShapeFaultKind.TheVariants.{Backward, OutOfProgram, IntoWide, FallsOff, Unreachable, Memory}
+use Rattle.rb_cfg.specs.declared.shape_fault.ShapeFault.{ShapeFault}
+use Rattle.rb_cfg.specs.declared.shape_fault.ShapeFaultKind.{ShapeFaultKind}
+use Rattle.rb_cfg.specs.declared.shape_fault.ShapeFaultKind.TheVariants.{Backward, OutOfProgram, IntoWide, FallsOff, Unreachable, Memory}
 use Rattle.rb_cfg.specs.Edges.{Edge, Next, Target, falls_through, distance_of, unit_from, edge_target, HasEdge, IsReached, start, by_edge}
 use Rattle.rb_cfg.specs.ShapeFaults.{HasShapeFault, HasNoFault, fault_order, IsFirstShapeFault}
 use Rattle.rb_cfg.specs.Shape.{IsInstructionStart, AllIsReached, IsWellShaped, EdgesLeadForward, NothingFallsOff, JumpsLand, EachIsEntered}

@@ -2,9 +2,9 @@
 use Rattle.std.specs.Prelude.{◌≡◌, ℕ, ◌<◌, ◌≤◌, ℤ, pos, ◌<ℤ◌, List, Some, None}
 use Rattle.rb_insn.specs.declared.insn.Insn.{Insn}
 use Rattle.rb_decode.specs.Program.{unit_count, slot_at}
-use Rattle.rb_cfg.specs.declared.fault.ShapeFault.{ShapeFault}
-use Rattle.rb_cfg.specs.declared.fault.ShapeFaultKind.{ShapeFaultKind}
-use Rattle.rb_cfg.specs.declared.fault.ShapeFaultKind.TheVariants.{Backward, OutOfProgram, IntoWide, FallsOff, Unreachable, Memory}
+use Rattle.rb_cfg.specs.declared.shape_fault.ShapeFault.{ShapeFault}
+use Rattle.rb_cfg.specs.declared.shape_fault.ShapeFaultKind.{ShapeFaultKind}
+use Rattle.rb_cfg.specs.declared.shape_fault.ShapeFaultKind.TheVariants.{Backward, OutOfProgram, IntoWide, FallsOff, Unreachable, Memory}
 use Rattle.rb_cfg.specs.Edges.{Next, Target, distance_of, HasEdge, IsReached}
 
 -- the instruction jumps by a distance below 0

@@ -5,12 +5,12 @@
 #![tactic(auto)]
 
 mod edges;
-mod fault;
+mod shape_fault;
 mod reach;
 mod shape_check;
 mod shape_type;
 
 pub use edges::{jump_target, next_unit};
-pub use fault::{ShapeFault, ShapeFaultKind};
+pub use shape_fault::{ShapeFault, ShapeFaultKind};
 pub use shape_check::shape;
 pub use shape_type::Shape;

@@ -8,7 +8,7 @@ ghost use Rattle.rb_cfg.specs.inner.Reach.{MarksReached};
 ghost use Rattle.rb_cfg.specs.Shape.{IsWellShaped};
 
 use crate::edges::{distance, jump_target, next_unit};
-use crate::fault::{ShapeFault, ShapeFaultKind};
+use crate::shape_fault::{ShapeFault, ShapeFaultKind};
 use crate::reach::reached_units;
 use crate::shape_type::Shape;
 use rb_decode::Program;

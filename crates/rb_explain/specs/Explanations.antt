@@ -9,7 +9,7 @@ use Rattle.rb_decode.specs.declared.fault.DecodeKind.{DecodeKind}
 use Rattle.rb_decode.specs.declared.fault.DecodeKind.TheVariants.{Length, TooLong}
 use Rattle.rb_cfg.specs.Shape.{IsWellShaped}
 use Rattle.rb_cfg.specs.ShapeFaults.{IsFirstShapeFault}
-use Rattle.rb_cfg.specs.declared.fault.ShapeFaultKind.{ShapeFaultKind}
+use Rattle.rb_cfg.specs.declared.shape_fault.ShapeFaultKind.{ShapeFaultKind}
 use Rattle.rb_json.specs.declared.form.LineForm.{LineForm}
 use Rattle.rb_json.specs.declared.form.LineForm.TheVariants.{Words, Json}
 use Rattle.rb_refs.specs.declared.limits.Limits.{Limits}

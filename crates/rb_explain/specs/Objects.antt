@@ -9,8 +9,8 @@ use Rattle.rb_insn.specs.Spelling.{spelling}
 use Rattle.rb_explain.specs.Assembly.{assembly_of}
 use Rattle.rb_decode.specs.declared.fault.DecodeKind.{DecodeKind}
 use Rattle.rb_decode.specs.declared.fault.DecodeKind.TheVariants as bytes_faults
-use Rattle.rb_cfg.specs.declared.fault.ShapeFaultKind.{ShapeFaultKind}
-use Rattle.rb_cfg.specs.declared.fault.ShapeFaultKind.TheVariants as shape_faults
+use Rattle.rb_cfg.specs.declared.shape_fault.ShapeFaultKind.{ShapeFaultKind}
+use Rattle.rb_cfg.specs.declared.shape_fault.ShapeFaultKind.TheVariants as shape_faults
 use Rattle.rb_refs.specs.declared.helper.Helper.{Helper}
 use Rattle.rb_refs.specs.declared.references.Reference.{Reference}
 use Rattle.rb_refs.specs.declared.rule.Rule.{Rule}

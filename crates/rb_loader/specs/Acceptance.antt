@@ -10,9 +10,9 @@ use Rattle.rb_decode.specs.declared.fault.TextFault.{TextFault}
 use Rattle.rb_decode.specs.declared.fault.TextFault.TheVariants as text_faults
 use Rattle.rb_cfg.specs.Shape.{IsWellShaped}
 use Rattle.rb_cfg.specs.ShapeFaults.{IsFirstShapeFault}
-use Rattle.rb_cfg.specs.declared.fault.ShapeFault.{ShapeFault}
-use Rattle.rb_cfg.specs.declared.fault.ShapeFaultKind.{ShapeFaultKind}
-use Rattle.rb_cfg.specs.declared.fault.ShapeFaultKind.TheVariants as shape_faults
+use Rattle.rb_cfg.specs.declared.shape_fault.ShapeFault.{ShapeFault}
+use Rattle.rb_cfg.specs.declared.shape_fault.ShapeFaultKind.{ShapeFaultKind}
+use Rattle.rb_cfg.specs.declared.shape_fault.ShapeFaultKind.TheVariants as shape_faults
 use Rattle.rb_refs.specs.Rules.{rule_number}
 use Rattle.rb_refs.specs.declared.rule.Rule.{Rule}
 use Rattle.rb_verifier.specs.Annotation.{HasNoValid, HasValid, IsFirstBrokenRule}
