@@ -1,10 +1,10 @@
 -- A record that was put into a buffer as its header, its payload and zeros is that item of a tape.
 use Rattle.std.proofs.Common.{◌≡◌, ℕ, ◌+◌, ◌-◌, ◌<◌, ◌≤◌, List, [], ◌++◌, length, replicate, refl, ◌∙◌, sym, ap, subst, arith}
 use Rattle.std.proofs.lemmas.List.{append-nil, append_assoc, replicate-append-replicate}
-use Rattle.rb_header.specs.Header.{header_bytes}
-use Rattle.rb_header.specs.Span.{span}
-use Rattle.rb_header.specs.TapeBytes.{Item, IsItemAt, header_of, item_bytes, item_len, item_position, padding, zeros}
-use Rattle.rb_header.specs.TapeBytes.Item.{Event, Skip}
+use Rattle.rb_history.specs.Header.{header_bytes}
+use Rattle.rb_history.specs.Span.{span}
+use Rattle.rb_history.specs.TapeBytes.{Item, IsItemAt, header_of, item_bytes, item_len, item_position, padding, zeros}
+use Rattle.rb_history.specs.TapeBytes.Item.{Event, Skip}
 use Rattle.heskavo_c.specs.Tapes.{HasRoomAt, PutsItem}
 use Rattle.heskavo_c.specs.Writing.{WritesFront}
 

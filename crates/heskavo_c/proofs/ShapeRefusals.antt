@@ -3,11 +3,11 @@ use Rattle.std.proofs.Common.{◌≡◌, ◌⊎◌, ℕ, List, Option, sym, ap, 
 use Rattle.std.specs.Prelude.{IfSome}
 use Rattle.rb_insn.specs.declared.insn.Insn.{Insn}
 use Rattle.rb_insn.specs.Spelling.{SpellsAll}
-use Rattle.rb_decode.specs.Program.{IsProgram}
-use Rattle.rb_cfg.specs.ShapeFaults.{IsFirstShapeFault, shape_no_memory}
-use Rattle.rb_cfg.specs.declared.fault.ShapeFault.{ShapeFault}
-use Rattle.rb_cfg.specs.declared.fault.ShapeFaultKind.{ShapeFaultKind}
-use Rattle.rb_cfg.specs.declared.fault.ShapeFaultKind.TheVariants as shape_faults
+use Rattle.rb_program.specs.Program.{IsProgram}
+use Rattle.rb_program.specs.ShapeFaults.{IsFirstShapeFault, shape_no_memory}
+use Rattle.rb_program.specs.declared.shape_fault.ShapeFault.{ShapeFault}
+use Rattle.rb_program.specs.declared.shape_fault.ShapeFaultKind.{ShapeFaultKind}
+use Rattle.rb_program.specs.declared.shape_fault.ShapeFaultKind.TheVariants as shape_faults
 use Rattle.heskavo_c.specs.Verdicts.{HasFirstShapeFault, IsRightRefusal}
 use Rattle.heskavo_c.specs.declared.load.Refused.{Refused}
 use Rattle.heskavo_c.specs.inner.Loading.{refused_shape, refused_shape_at}

@@ -1,11 +1,11 @@
 -- What a reader of a tape tells at its first record, in the words of the export.
 use Rattle.std.proofs.Common.{◌≡◌, ◌≢◌, ℕ, List, Some, Result, Err, inl, inr, ◌∙◌, sym, ap, subst, arith}
-use Rattle.rb_reader.specs.declared.fault.TapeKind.{TapeKind}
-use Rattle.rb_reader.specs.declared.fault.TapeKind.TheVariants.{Busy, Page, Padding, TooLong, DiscardedBytes, Truncated, Memory}
-use Rattle.rb_reader.specs.TapeFront.{IsUndecided}
-use Rattle.rb_reader.specs.TapeReading.{Reading, IsToldAtEnd, ReadsToEnd, reading_from}
-use Rattle.rb_reader.specs.declared.fault.TapeFault.{TapeFault}
-use Rattle.rb_reader.specs.declared.record.Record.{Record}
+use Rattle.rb_tape.specs.declared.fault.TapeKind.{TapeKind}
+use Rattle.rb_tape.specs.declared.fault.TapeKind.TheVariants.{Busy, Page, Padding, TooLong, DiscardedBytes, Truncated, Memory}
+use Rattle.rb_tape.specs.TapeFront.{IsUndecided}
+use Rattle.rb_tape.specs.TapeReading.{Reading, IsToldAtEnd, ReadsToEnd, reading_from}
+use Rattle.rb_tape.specs.declared.fault.TapeFault.{TapeFault}
+use Rattle.rb_tape.specs.declared.record.Record.{Record}
 use Rattle.heskavo_c.specs.Tapes.{FindsFault, fault_number}
 
 -- a number above 0 is not 0

@@ -3,8 +3,8 @@ use Rattle.std.proofs.Common.{◌≡◌, ℕ, suc, ◌+◌, ◌-◌, ◌<◌, Li
 use Rattle.std.proofs.lemmas.Grind.{flat_map-append}
 use Rattle.std.proofs.lemmas.List.{take_more}
 use Rattle.rb_explain.specs.Joined.{joined_below}
-use Rattle.rb_header.specs.TapeBytes.{Item, AreItemsFrom, end_of, tape}
-use Rattle.rb_header.proofs.Laws.{AreItemsFrom-append, end_of-append, tape-append}
+use Rattle.rb_history.specs.TapeBytes.{Item, AreItemsFrom, end_of, tape}
+use Rattle.rb_history.proofs.HeaderLaws.{AreItemsFrom-append, end_of-append, tape-append}
 use Rattle.rb_history.specs.declared.answers.Taken.{Taken}
 use Rattle.rb_world.specs.WorldValue.{WorldValue, world_of}
 use Rattle.heskavo_c.specs.Runs.{IsDrained, LeavesTapes, item_taken, items_left, lengths_below, tape_items, tape_left}

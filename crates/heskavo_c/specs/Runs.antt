@@ -2,14 +2,14 @@
 use Rattle.std.specs.Prelude.{◌≡◌, ◌≢◌, ℕ, zero, suc, ◌<◌, List, [], ◌∷◌, ◌++◌, All, Some, length, replicate}
 use Rattle.std.specs.List.{flat_map}
 use Rattle.rb_chapter_ring.specs.CountedFrom.{consumer_from, producer_from}
-use Rattle.rb_decode.specs.Program.{unit_count}
+use Rattle.rb_program.specs.Program.{unit_count}
 use Rattle.rb_explain.specs.Joined.{joined_below}
-use Rattle.rb_header.specs.TapeBytes.{Item, AreItemsFrom, tape}
-use Rattle.rb_header.specs.TapeBytes.Item.{Event, Skip}
+use Rattle.rb_history.specs.TapeBytes.{Item, AreItemsFrom, tape}
+use Rattle.rb_history.specs.TapeBytes.Item.{Event, Skip}
 use Rattle.rb_history.specs.declared.answers.Taken.{Taken}
 use Rattle.rb_history.specs.declared.answers.Taken.TheVariants as answers
-use Rattle.rb_interleavings.specs.declared.actor.Actor.{Actor}
-use Rattle.rb_interleavings.specs.declared.actor.Actor.TheVariants.{Consumer, Worker}
+use Rattle.rb_world.specs.declared.actor.Actor.{Actor}
+use Rattle.rb_world.specs.declared.actor.Actor.TheVariants.{Consumer, Worker}
 use Rattle.rb_verifier.specs.Subject.{Subject}
 use Rattle.rb_world.specs.OpenedWorlds.{IsOpenedWorld}
 use Rattle.rb_world.specs.WorldRuns.{IsRunOf, result_of}

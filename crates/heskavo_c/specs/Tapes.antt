@@ -1,11 +1,11 @@
--- What is told of the bytes of a tape, and what is written of a record (own; the tape is rb_header's).
+-- What is told of the bytes of a tape, and what is written of a record (own; the tape is rb_history's).
 use Rattle.std.specs.Prelude.{ℕ, ◌≡◌, ◌^◌, ◌<◌, List, if◌then◌else◌}
-use Rattle.rb_header.specs.Span.{span}
-use Rattle.rb_header.specs.TapeBytes.{Item, item_bytes, item_len, item_span, is_skip, IsItemAt}
+use Rattle.rb_history.specs.Span.{span}
+use Rattle.rb_history.specs.TapeBytes.{Item, item_bytes, item_len, item_span, is_skip, IsItemAt}
 use Rattle.rb_history.specs.RingModel.{IsRingSize, IsStartPosition}
-use Rattle.rb_reader.specs.declared.fault.TapeKind.{TapeKind}
-use Rattle.rb_reader.specs.declared.fault.TapeKind.TheVariants.{Busy, Page, Padding, TooLong, DiscardedBytes, Truncated, Memory}
-use Rattle.rb_reader.specs.TapeFront.{StartsWithItem, ShowsFault}
+use Rattle.rb_tape.specs.declared.fault.TapeKind.{TapeKind}
+use Rattle.rb_tape.specs.declared.fault.TapeKind.TheVariants.{Busy, Page, Padding, TooLong, DiscardedBytes, Truncated, Memory}
+use Rattle.rb_tape.specs.TapeFront.{StartsWithItem, ShowsFault}
 use Rattle.heskavo_c.specs.declared.tapes.TapeRecord.{TapeRecord}
 use Rattle.heskavo_c.specs.Writing.{WritesFront}
 

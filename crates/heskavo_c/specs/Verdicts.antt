@@ -2,17 +2,17 @@
 use Rattle.std.specs.Prelude.{◌≡◌, ℕ, ◌≤◌, List}
 use Rattle.rb_insn.specs.declared.insn.Insn.{Insn}
 use Rattle.rb_insn.specs.Spelling.{SpellsAll}
-use Rattle.rb_decode.specs.FirstDecodeFault.{IsFirstDecodeFault}
-use Rattle.rb_decode.specs.Program.{IsProgram}
-use Rattle.rb_decode.specs.declared.fault.DecodeKind.{DecodeKind}
-use Rattle.rb_decode.specs.declared.fault.DecodeKind.TheVariants as decode_faults
-use Rattle.rb_cfg.specs.Shape.{IsWellShaped}
-use Rattle.rb_cfg.specs.ShapeFaults.{IsFirstShapeFault}
-use Rattle.rb_cfg.specs.declared.fault.ShapeFault.{ShapeFault}
-use Rattle.rb_cfg.specs.declared.fault.ShapeFaultKind.{ShapeFaultKind}
-use Rattle.rb_cfg.specs.declared.fault.ShapeFaultKind.TheVariants as shape_faults
-use Rattle.rb_refs.specs.Rules.{rule_number}
-use Rattle.rb_refs.specs.declared.rule.Rule.{Rule as BrokenRule}
+use Rattle.rb_program.specs.FirstDecodeFault.{IsFirstDecodeFault}
+use Rattle.rb_program.specs.Program.{IsProgram}
+use Rattle.rb_program.specs.declared.fault.DecodeKind.{DecodeKind}
+use Rattle.rb_program.specs.declared.fault.DecodeKind.TheVariants as decode_faults
+use Rattle.rb_program.specs.Shape.{IsWellShaped}
+use Rattle.rb_program.specs.ShapeFaults.{IsFirstShapeFault}
+use Rattle.rb_program.specs.declared.shape_fault.ShapeFault.{ShapeFault}
+use Rattle.rb_program.specs.declared.shape_fault.ShapeFaultKind.{ShapeFaultKind}
+use Rattle.rb_program.specs.declared.shape_fault.ShapeFaultKind.TheVariants as shape_faults
+use Rattle.rb_verifier.specs.Rules.{rule_number}
+use Rattle.rb_verifier.specs.declared.rule.Rule.{Rule as BrokenRule}
 use Rattle.rb_verifier.specs.Annotation.{HasNoValid, HasValid, IsFirstBrokenRule}
 use Rattle.rb_verifier.specs.Subject.{Subject, limits_of}
 use Rattle.heskavo_c.specs.declared.load.Refused.{Refused}

@@ -4,10 +4,8 @@ ghost use Rattle.std.specs.Prelude.{◌≡◌, ◌≢◌, ◌≤◌, ◌↔◌, 
 ghost use Rattle.heskavo_c.specs.Verdicts.{AreBounds, IsAccepted, IsRightRefusal};
 ghost use Rattle.heskavo_c.specs.inner.Loading.{refused_bytes, refused_shape};
 
-use rb_cfg::{ShapeFault, ShapeFaultKind, shape};
-use rb_decode::{DecodeFault, DecodeKind, decode};
-use rb_refs::Rule;
-use rb_verifier::{Refusal, Verified, verify};
+use rb_program::{DecodeFault, DecodeKind, ShapeFault, ShapeFaultKind, decode, shape};
+use rb_verifier::{Refusal, Rule, Verified, verify};
 use std::alloc::Global;
 
 /// The longest context of a program, in bytes.

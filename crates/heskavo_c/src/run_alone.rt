@@ -1,7 +1,7 @@
 //! A program's run over fresh rings that nobody else uses.
 
 ghost use Rattle.std.specs.Prelude.{◌≡◌, ◌≢◌, ◌++◌, All, IfOk, IsTrue, OnOk, length, replicate};
-ghost use Rattle.rb_decode.specs.Program.{unit_count};
+ghost use Rattle.rb_program.specs.Program.{unit_count};
 ghost use Rattle.rb_history.specs.RingModel.{IsRingSize};
 ghost use Rattle.heskavo_c.specs.Runs.{RunsAlone, turns_alone};
 
@@ -13,7 +13,7 @@ use std::alloc::{AllocError, Global};
 const ROOM: u32 = 16_384;
 
 /// Why a run came to no end.
-#[derive(Clone, Copy, Debug, PartialEq, Eq)]
+#[derive(Clone, Copy, PartialEq, Eq)]
 pub(crate) enum RunFault {
     /// There was no memory.
     Memory,

@@ -1,15 +1,14 @@
 //! The tapes of what a run left.
 
 ghost use Rattle.std.specs.Prelude.{◌≡◌, ◌<◌, ◌++◌, ◌∷◌, [], IfOk, OnOk, length};
-ghost use Rattle.rb_header.specs.TapeBytes.{AreItemsFrom, IsItemAt, end_of, item_bytes, tape};
-ghost use Rattle.rb_header.specs.TapeBytes.Item.{Event, Skip};
+ghost use Rattle.rb_history.specs.TapeBytes.{AreItemsFrom, IsItemAt, end_of, item_bytes, tape};
+ghost use Rattle.rb_history.specs.TapeBytes.Item.{Event, Skip};
 ghost use Rattle.heskavo_c.specs.Runs.{IsDrained, LeavesTapes, tape_items};
 
 use crate::run_alone::RunFault;
 use crate::status::DONE;
 use crate::tapes::{heskavo_tape_put, heskavo_tape_put_discarded};
-use rb_header::span;
-use rb_history::{CONS_POS, PROD_POS, Taken};
+use rb_history::{CONS_POS, PROD_POS, Taken, span};
 use rb_lend::Lent;
 use rb_world::World;
 use std::alloc::Global;

@@ -1,20 +1,19 @@
 //! The records of tapes.
 
 ghost use Rattle.std.specs.Prelude.{◌≡◌, ◌≢◌, ◌/◌, ◌%◌, ◌<◌, ◌↔◌, ◌⊎◌, IsTrue, false, length, if◌then◌else◌};
-ghost use Rattle.rb_header.specs.Header.{header_bytes};
-ghost use Rattle.rb_header.specs.Span as spans;
-ghost use Rattle.rb_header.specs.TapeBytes.{header_of, item_bytes, item_len, item_position, IsItemAt};
-ghost use Rattle.rb_header.specs.TapeBytes.Item.{Event, Skip};
-ghost use Rattle.rb_reader.specs.TapeFront.{IsUndecided};
-ghost use Rattle.rb_reader.specs.TapeReading.{item_read, HasItsLength};
+ghost use Rattle.rb_history.specs.Header.{header_bytes};
+ghost use Rattle.rb_history.specs.Span as spans;
+ghost use Rattle.rb_history.specs.TapeBytes.{header_of, item_bytes, item_len, item_position, IsItemAt};
+ghost use Rattle.rb_history.specs.TapeBytes.Item.{Event, Skip};
+ghost use Rattle.rb_tape.specs.TapeFront.{IsUndecided};
+ghost use Rattle.rb_tape.specs.TapeReading.{item_read, HasItsLength};
 ghost use Rattle.heskavo_c.specs.Tapes.{FindsFault, FindsRecord, HasRoomAt, IsPlace, PutsItem, fault_number};
 ghost use Rattle.heskavo_c.specs.Writing.{WritesFront};
 
 use crate::outgoing::put_parts;
 use crate::status::{ARGUMENT, DONE, FAULT, MORE, ROOM};
-use rb_header::{Header, page_of, span};
-use rb_history::{is_size, is_start};
-use rb_reader::{Record, Tape, TapeKind};
+use rb_history::{Header, is_size, is_start, page_of, span};
+use rb_tape::{Record, Tape, TapeKind};
 
 /// What the bytes of a tape begin with: a record, or what is wrong there.
 #[repr(C)]
@@ -28,7 +27,7 @@ pub struct TapeRecord {
     pub len: u32,
     /// 1 where the record was discarded, else 0. The bytes of a discarded one are zeros.
     pub discarded: u32,
-    /// What is wrong with the record, counted from 1 in the order of `rb_reader`'s kinds; 0 where nothing is.
+    /// What is wrong with the record, counted from 1 in the order of `rb_tape`'s kinds; 0 where nothing is.
     pub fault: u32,
 }
 

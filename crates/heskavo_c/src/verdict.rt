@@ -4,8 +4,7 @@ ghost use Rattle.std.specs.Prelude.{◌≡◌, ◌≢◌};
 ghost use Rattle.heskavo_c.specs.Verdicts.{decode_number, shape_number, verdict_of};
 
 use crate::load::Refused;
-use rb_cfg::ShapeFaultKind;
-use rb_decode::DecodeKind;
+use rb_program::{DecodeKind, ShapeFaultKind};
 
 /// The layer of a fault of the bytes: they are no program.
 pub const BYTES: u32 = 1;

@@ -1,8 +1,7 @@
 //! Runs of verified programs.
 
 use crate::fault::BenchFault;
-use rb_helpers::Listed;
-use rb_interp::run;
+use rb_interp::{Listed, run};
 use rb_verifier::Verified;
 use std::alloc::Global;
 

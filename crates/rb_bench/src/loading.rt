@@ -3,8 +3,7 @@
 ghost use Rattle.std.specs.Prelude.{◌≤◌};
 
 use crate::fault::BenchFault;
-use rb_cfg::shape;
-use rb_decode::decode;
+use rb_program::{decode, shape};
 use rb_verifier::{Verified, verify};
 use std::alloc::Global;
 

@@ -1,7 +1,7 @@
 -- What a submit, a discard and a take change of what a chapter stands for at its end.
 use Rattle.std.proofs.Common.{◌≡◌, ◌≢◌, ℕ, ◌+◌, ◌-◌, ◌<◌, ◌≤◌, ◌^◌, Bool, true, false, ◌||◌, cond, List, [], ◌∷◌, ◌++◌, length, get_or, set, drop, refl, sym, ap, ◌∙◌, subst, append_assoc, add-zero, arith}
 use Rattle.std.proofs.lemmas.Bool.{false_from_ne_true, true≢false}
-use Rattle.rb_header.specs.Span.{span}
+use Rattle.rb_history.specs.Span.{span}
 use Rattle.rb_history.specs.declared.entries.Entry.{Entry}
 use Rattle.rb_history.specs.declared.entries.Entry.TheVariants.{Sub, Dis, Take}
 use Rattle.rb_history.specs.declared.tally.Tally.{Tally}

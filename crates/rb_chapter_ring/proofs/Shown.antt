@@ -6,7 +6,7 @@ use Rattle.std.proofs.lemmas.List.Folds.{list_any_none}
 use Rattle.std.proofs.lemmas.List.Elements.{All-weaker}
 use Rattle.rb_history.specs.declared.entries.Entry.{Entry}
 use Rattle.rb_history.specs.declared.entries.Entry.TheVariants.{Res, Full, Sub, Dis, Take}
-use Rattle.rb_header.specs.Span.{span}
+use Rattle.rb_history.specs.Span.{span}
 use Rattle.rb_history.specs.History.{Shown, status_by, is_grant_at, is_granted_at, is_submitted_at, is_discarded_at, is_taken_at, granted_span_at, span_of_record, untaken, records}
 use Rattle.rb_history.specs.History.Status.{Waiting, Discarded}
 use Rattle.rb_history.specs.Counting.{is_same}

@@ -5,7 +5,7 @@ use Rattle.std.specs.List.{list_any, sum_by, count_by, filter_map}
 use Rattle.rb_history.specs.declared.entries.Entry.{Entry}
 use Rattle.rb_history.specs.declared.entries.Entry.TheVariants.{Res, Full, Sub, Dis, Take}
 use Rattle.rb_history.specs.declared.answers.Counts.{Counts}
-use Rattle.rb_header.specs.Span.{span}
+use Rattle.rb_history.specs.Span.{span}
 use Rattle.rb_history.specs.History.{Shown, Status, status_by, is_granted_at, is_submitted_at, is_discarded_at, is_taken_at, producer_of, span_of_record, grants, records}
 use Rattle.rb_history.specs.History.Status.{Waiting, Discarded}
 use Rattle.rb_history.specs.Counting.{is_same}

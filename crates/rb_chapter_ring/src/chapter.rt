@@ -1,7 +1,7 @@
 //! A chapter as a value.
 
 ghost use Rattle.std.specs.Prelude.{◌≡◌, ◌+◌, ◌-◌, ◌<◌, ◌≤◌, ◌^◌, ◌↔◌, ◌++◌, ◌∷◌, [], IfOk, IsTrue, List, vec_len, vec_capacity};
-ghost use Rattle.rb_header.specs.Span.{span};
+ghost use Rattle.rb_history.specs.Span.{span};
 ghost use Rattle.rb_history.specs.declared.entries.Entry.{Entry};
 ghost use Rattle.rb_history.specs.declared.entries.Entry.TheVariants.{Res, Full, Sub, Dis, Take};
 ghost use Rattle.rb_history.specs.RingModel.{IsWorkerCount};
@@ -11,8 +11,7 @@ ghost use Rattle.rb_chapter_ring.specs.CountedFrom.{HasRoomFrom, grants_from, pr
 ghost use Rattle.rb_chapter_ring.specs.WholeHistory.{IsKept};
 
 use crate::opening::Opening;
-use rb_header::span;
-use rb_history::Entry;
+use rb_history::{Entry, span};
 use std::alloc::{AllocError, Global};
 use std::marker::Model;
 

@@ -1,7 +1,7 @@
 //! What a chapter begins with.
 
 ghost use Rattle.std.specs.Prelude.{◌≡◌, ◌+◌, ◌<◌, ◌≤◌, ◌^◌, ◌↔◌, IfOk, IsTrue, drop, length, map, replicate, slice_index_or, slice_set};
-ghost use Rattle.rb_header.specs.Span.{span};
+ghost use Rattle.rb_history.specs.Span.{span};
 ghost use Rattle.rb_chapter_ring.specs.Opening.{no_record, no_tally, record_in, tally_at};
 ghost use Rattle.rb_chapter_ring.specs.OpeningValue.{OpeningValue};
 ghost use Rattle.rb_chapter_ring.specs.Chapters.{empty_ring};
@@ -13,8 +13,7 @@ use crate::opening_lists::{
     are_same_records, are_same_tallies, copy, count_discarded, count_made, count_refused,
     count_submitted, forget, front_of, settle, tally_of,
 };
-use rb_header::span;
-use rb_history::Tally;
+use rb_history::{Tally, span};
 use std::alloc::{AllocError, Global};
 use std::marker::Model;
 

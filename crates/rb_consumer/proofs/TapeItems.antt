@@ -3,9 +3,9 @@ use Rattle.std.proofs.Common.{◌≡◌, ℕ, ◌+◌, ◌<◌, ◌≤◌, ◌^�
 use Rattle.std.specs.Prelude.{Result, Ok, Err, OnOk}
 use Rattle.std.specs.List.{sum_by}
 use Rattle.std.proofs.lemmas.List.Sums.{sum_by-cons, sum_by-append}
-use Rattle.rb_header.specs.Span.{span}
-use Rattle.rb_header.specs.TapeBytes.{item_span, AreItemsFrom, end_of}
-use Rattle.rb_header.specs.TapeBytes.Item.{Event as EventItem, Skip as SkipItem}
+use Rattle.rb_history.specs.Span.{span}
+use Rattle.rb_history.specs.TapeBytes.{item_span, AreItemsFrom, end_of}
+use Rattle.rb_history.specs.TapeBytes.Item.{Event as EventItem, Skip as SkipItem}
 use Rattle.rb_history.specs.declared.answers.Taken.{Taken}
 use Rattle.rb_history.specs.declared.answers.Taken.TheVariants.{Event, Skipped, BusyFront, Empty}
 use Rattle.rb_history.specs.History.{granted_span, producer_of, consumer_of}

@@ -9,7 +9,7 @@ ghost use Rattle.rb_ledger.specs.ManyTakes.{events_among, skips_among, span_amon
 ghost use Rattle.rb_chapter_ring.specs.ManyTakes.{TakesManyInChapter};
 ghost use Rattle.rb_ledger.specs.LockedChapterCalls.{LockedChapterCall, InKnownChapter};
 ghost use Rattle.rb_shared_ring.specs.SharedSeats.{IsSameChapterConsumer};
-ghost use Rattle.rb_header.specs.TapeBytes.{AreItemsFrom, end_of};
+ghost use Rattle.rb_history.specs.TapeBytes.{AreItemsFrom, end_of};
 ghost use Rattle.rb_tape.specs.Items.{tape_items, AreRecords};
 ghost use Rattle.rb_consumer.specs.Batches.{Recycles, is_event, is_longer_event};
 ghost use Rattle.rb_consumer.specs.inner.LastEvents.{IsLastEvent};

@@ -2,20 +2,20 @@
 use Rattle.std.specs.Prelude.{◌≡◌, ℕ, ◌+◌, ◌*◌, ◌&&◌, ◌==◌, nat_le, nat_lt, Bool, List, [], ◌++◌, codes, length, take, drop, string_bytes, Option, Some, None, if◌then◌else◌}
 use Rattle.rb_insn.specs.declared.insn.Insn.{Insn}
 use Rattle.rb_insn.specs.Spelling.{SpellsAll}
-use Rattle.rb_decode.specs.Program.{unit_count, slot_at, IsProgram}
-use Rattle.rb_decode.specs.Text.{IsHexOf, without_white_space}
-use Rattle.rb_decode.specs.FirstDecodeFault.{IsFirstDecodeFault}
-use Rattle.rb_decode.specs.declared.fault.DecodeKind.{DecodeKind}
-use Rattle.rb_decode.specs.declared.fault.DecodeKind.TheVariants.{Length, TooLong}
-use Rattle.rb_cfg.specs.Shape.{IsWellShaped}
-use Rattle.rb_cfg.specs.ShapeFaults.{IsFirstShapeFault}
-use Rattle.rb_cfg.specs.declared.fault.ShapeFaultKind.{ShapeFaultKind}
+use Rattle.rb_program.specs.Program.{unit_count, slot_at, IsProgram}
+use Rattle.rb_program.specs.Text.{IsHexOf, without_white_space}
+use Rattle.rb_program.specs.FirstDecodeFault.{IsFirstDecodeFault}
+use Rattle.rb_program.specs.declared.fault.DecodeKind.{DecodeKind}
+use Rattle.rb_program.specs.declared.fault.DecodeKind.TheVariants.{Length, TooLong}
+use Rattle.rb_program.specs.Shape.{IsWellShaped}
+use Rattle.rb_program.specs.ShapeFaults.{IsFirstShapeFault}
+use Rattle.rb_program.specs.declared.shape_fault.ShapeFaultKind.{ShapeFaultKind}
 use Rattle.rb_json.specs.declared.form.LineForm.{LineForm}
 use Rattle.rb_json.specs.declared.form.LineForm.TheVariants.{Words, Json}
-use Rattle.rb_refs.specs.declared.limits.Limits.{Limits}
-use Rattle.rb_refs.specs.declared.rule.Rule.{Rule}
+use Rattle.rb_verifier.specs.declared.limits.Limits.{Limits}
+use Rattle.rb_verifier.specs.declared.rule.Rule.{Rule}
 use Rattle.rb_verifier.specs.Annotation.{Annotation, state_at, IsLeast, HasNoValid, IsFirstBrokenRule}
-use Rattle.rb_refs.specs.declared.state.AbsState.{AbsState}
+use Rattle.rb_verifier.specs.declared.state.AbsState.{AbsState}
 use Rattle.rb_explain.specs.Joined.{joined_below}
 use Rattle.rb_explain.specs.Lines.{line_text, unit_text, bytes_text}
 use Rattle.rb_explain.specs.StateTexts.{state_text}

@@ -5,9 +5,9 @@ use Rattle.hex.specs.Hex.{encode_lower}
 use Rattle.rb_insn.specs.declared.insn.Insn.{Insn}
 use Rattle.rb_insn.specs.declared.insn.Insn.TheVariants.{Call}
 use Rattle.rb_insn.specs.Spelling.{spelling}
-use Rattle.rb_refs.specs.declared.helper.Helper.{Helper}
-use Rattle.rb_refs.specs.declared.helper.Helper.TheVariants.{Output, Reserve, Submit, Discard, Query}
-use Rattle.rb_refs.specs.HelperChecks.{helper_of}
+use Rattle.rb_verifier.specs.declared.helper.Helper.{Helper}
+use Rattle.rb_verifier.specs.declared.helper.Helper.TheVariants.{Output, Reserve, Submit, Discard, Query}
+use Rattle.rb_verifier.specs.HelperChecks.{helper_of}
 use Rattle.rb_explain.specs.Assembly.{assembly_of}
 
 abbrev pub helper_name : Helper → List ℕ

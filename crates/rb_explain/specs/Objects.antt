@@ -7,19 +7,19 @@ use Rattle.rb_insn.specs.declared.insn.Insn.{Insn}
 use Rattle.rb_insn.specs.declared.insn.Insn.TheVariants.{Call}
 use Rattle.rb_insn.specs.Spelling.{spelling}
 use Rattle.rb_explain.specs.Assembly.{assembly_of}
-use Rattle.rb_decode.specs.declared.fault.DecodeKind.{DecodeKind}
-use Rattle.rb_decode.specs.declared.fault.DecodeKind.TheVariants as bytes_faults
-use Rattle.rb_cfg.specs.declared.fault.ShapeFaultKind.{ShapeFaultKind}
-use Rattle.rb_cfg.specs.declared.fault.ShapeFaultKind.TheVariants as shape_faults
-use Rattle.rb_refs.specs.declared.helper.Helper.{Helper}
-use Rattle.rb_refs.specs.declared.references.Reference.{Reference}
-use Rattle.rb_refs.specs.declared.rule.Rule.{Rule}
-use Rattle.rb_refs.specs.declared.state.AbsState.{AbsState}
-use Rattle.rb_refs.specs.declared.value.Abs.{Abs}
-use Rattle.rb_refs.specs.AbstractStates.{value_in}
-use Rattle.rb_refs.specs.HelperChecks.{helper_of}
-use Rattle.rb_refs.specs.KeptPointers.{known_in, is_data}
-use Rattle.rb_refs.specs.Rules.{rule_number}
+use Rattle.rb_program.specs.declared.fault.DecodeKind.{DecodeKind}
+use Rattle.rb_program.specs.declared.fault.DecodeKind.TheVariants as bytes_faults
+use Rattle.rb_program.specs.declared.shape_fault.ShapeFaultKind.{ShapeFaultKind}
+use Rattle.rb_program.specs.declared.shape_fault.ShapeFaultKind.TheVariants as shape_faults
+use Rattle.rb_verifier.specs.declared.helper.Helper.{Helper}
+use Rattle.rb_verifier.specs.declared.references.Reference.{Reference}
+use Rattle.rb_verifier.specs.declared.rule.Rule.{Rule}
+use Rattle.rb_verifier.specs.declared.state.AbsState.{AbsState}
+use Rattle.rb_verifier.specs.declared.value.Abs.{Abs}
+use Rattle.rb_verifier.specs.AbstractStates.{value_in}
+use Rattle.rb_verifier.specs.HelperChecks.{helper_of}
+use Rattle.rb_verifier.specs.KeptPointers.{known_in, is_data}
+use Rattle.rb_verifier.specs.Rules.{rule_number}
 use Rattle.rb_json.specs.Json.{quoted}
 use Rattle.rb_explain.specs.Joined.{joined_below}
 use Rattle.rb_explain.specs.Lines.{helper_name}

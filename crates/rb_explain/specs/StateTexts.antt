@@ -4,13 +4,13 @@ use Rattle.std.specs.Prelude.{ℕ, ℤ, ◌^◌, ◌+◌, ◌-◌, ◌*◌, Bool
 use Rattle.std.specs.Fmt.{format_spec, decimal, signed_decimal, styled_signed_decimal}
 use Rattle.std.specs.Int.{w64, cast_signed}
 use Rattle.std.specs.List.{flat_map}
-use Rattle.rb_refs.specs.declared.references.Reference.{Reference}
-use Rattle.rb_refs.specs.declared.state.AbsState.{AbsState}
-use Rattle.rb_refs.specs.declared.value.Abs.{Abs}
-use Rattle.rb_refs.specs.declared.value.Abs.TheVariants.{Unreadable, Number, Known, Ctx, Stack, Ring, Perhaps, Record}
-use Rattle.rb_refs.specs.AbstractStates.{value_in}
-use Rattle.rb_refs.specs.KeptPointers.{known_in, is_data}
-use Rattle.rb_refs.specs.References.{has_id}
+use Rattle.rb_verifier.specs.declared.references.Reference.{Reference}
+use Rattle.rb_verifier.specs.declared.state.AbsState.{AbsState}
+use Rattle.rb_verifier.specs.declared.value.Abs.{Abs}
+use Rattle.rb_verifier.specs.declared.value.Abs.TheVariants.{Unreadable, Number, Known, Ctx, Stack, Ring, Perhaps, Record}
+use Rattle.rb_verifier.specs.AbstractStates.{value_in}
+use Rattle.rb_verifier.specs.KeptPointers.{known_in, is_data}
+use Rattle.rb_verifier.specs.References.{has_id}
 use Rattle.rb_explain.specs.Joined.{joined_below}
 
 -- an offset with its sign: `+0`, `-8`

@@ -1,8 +1,7 @@
 //! What each fault and each rule wants, and how programs mend it.
 
-use rb_cfg::ShapeFaultKind;
-use rb_decode::DecodeKind;
-use rb_refs::Rule;
+use rb_program::{DecodeKind, ShapeFaultKind};
+use rb_verifier::Rule;
 
 /// What a fault of bytes says, and how programs mend it: a line without its end.
 pub(crate) fn decode_advice(kind: DecodeKind) -> &'static str {

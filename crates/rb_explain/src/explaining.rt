@@ -2,9 +2,9 @@
 
 ghost use Rattle.std.specs.Prelude.{◌≡◌, ◌≢◌, ◌<◌, ◌≤◌, ◌⊎◌, List, None, Some, IfErr, IfOk, MatchOption, string_bytes};
 ghost use Rattle.rb_insn.specs.declared.insn.Insn.{Insn};
-ghost use Rattle.rb_decode.specs.FirstDecodeFault.{IsFirstDecodeFault, decode_no_memory};
-ghost use Rattle.rb_decode.specs.Text.{IsHexOf, without_white_space};
-ghost use Rattle.rb_decode.specs.inner.TextFaults.{IsTextFault};
+ghost use Rattle.rb_program.specs.FirstDecodeFault.{IsFirstDecodeFault, decode_no_memory};
+ghost use Rattle.rb_program.specs.Text.{IsHexOf, without_white_space};
+ghost use Rattle.rb_program.specs.inner.TextFaults.{IsTextFault};
 ghost use Rattle.rb_explain.specs.Explanations.{ExplainsBytes, Explains, IsNoHex, IsProgramOf, IsShapedProgramOf, ShowsFault, ShowsFront, ShowsRule, ShowsShape, no_hex_text};
 
 use crate::advice::{decode_advice, rule_advice, shape_advice};
@@ -12,11 +12,9 @@ use crate::explanation::{Explanation, Reason};
 use crate::listing::listing_text;
 use crate::saying::{decode_name, push_rule_said, push_said, shape_name};
 use crate::windows::{decode_again, push_window, units_text};
-use rb_cfg::{Shape, ShapeFault, ShapeFaultKind, shape};
-use rb_decode::{DecodeFault, DecodeKind, TextFault, decode};
+use rb_program::{DecodeFault, DecodeKind, Shape, ShapeFault, ShapeFaultKind, TextFault, decode, shape};
 use rb_json::LineForm;
-use rb_refs::Rule;
-use rb_verifier::{Refusal, verify};
+use rb_verifier::{Refusal, Rule, verify};
 use std::alloc::{AllocError, Global};
 
 /// Explains the program of a text in hex, with ASCII white space anywhere, for a context of so many bytes and so many rings. The text answered is, of

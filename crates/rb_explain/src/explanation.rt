@@ -1,8 +1,7 @@
 //! What an explanation is.
 
-use rb_cfg::ShapeFault;
-use rb_decode::DecodeFault;
-use rb_refs::Rule as BrokenRule;
+use rb_program::{DecodeFault, ShapeFault};
+use rb_verifier::Rule as BrokenRule;
 
 /// Why a program is refused: the first fault of the first layer that has one.
 #[derive(Clone, Copy, Debug, PartialEq, Eq)]

@@ -5,7 +5,7 @@ ghost use Rattle.rb_explain.specs.Lines as lines;
 
 use crate::Assembly;
 use rb_insn::Insn;
-use rb_refs::Helper;
+use rb_verifier::Helper;
 use std::alloc::{AllocError, Global};
 use std::fmt;
 use std::fmt::Write;

@@ -1,7 +1,7 @@
 //! The listing of an accepted program.
 
 ghost use Rattle.std.specs.Prelude.{◌≡◌, ◌<◌, ◌++◌, IfOk, OnOk, length, string_bytes};
-ghost use Rattle.rb_decode.specs.Program.{unit_count};
+ghost use Rattle.rb_program.specs.Program.{unit_count};
 ghost use Rattle.rb_verifier.specs.Annotation.{state_at};
 ghost use Rattle.rb_verifier.specs.Subject.{limits_of};
 ghost use Rattle.rb_explain.specs.Explanations.{known_line, known_text, listing, IsListing};
@@ -9,11 +9,10 @@ ghost use Rattle.rb_explain.specs.Explanations.{known_line, known_text, listing,
 use crate::lines::push_line;
 use crate::objects::push_known_object;
 use crate::state_lines::push_state;
-use rb_decode::Program;
+use rb_program::Program;
 use rb_insn::Insn;
 use rb_json::LineForm;
-use rb_refs::AbsState;
-use rb_verifier::Verified;
+use rb_verifier::{AbsState, Verified};
 use std::alloc::{AllocError, Global};
 
 // An instruction with what is known there.

@@ -9,7 +9,7 @@ use crate::lines::helper_name;
 use crate::state_lines::{Kept, Value, is_data, is_readable};
 use crate::Assembly;
 use rb_insn::Insn;
-use rb_refs::{Abs, AbsState, Held, Helper, Reference};
+use rb_verifier::{Abs, AbsState, Held, Helper, Reference};
 use std::alloc::{AllocError, Global};
 use std::fmt;
 use std::fmt::Write;

@@ -5,10 +5,9 @@ ghost use Rattle.rb_explain.specs.Explanations.{number_text, said_text};
 ghost use Rattle.rb_explain.specs.Objects as objects;
 
 use crate::objects::push_fault_object;
-use rb_cfg::ShapeFaultKind;
-use rb_decode::DecodeKind;
+use rb_program::{DecodeKind, ShapeFaultKind};
 use rb_json::LineForm;
-use rb_refs::Rule;
+use rb_verifier::Rule;
 use std::alloc::{AllocError, Global};
 use std::fmt::Write;
 

@@ -4,9 +4,9 @@ ghost use Rattle.std.specs.Prelude.{◌≡◌, ◌<◌, ◌++◌, Some, OnOk, st
 ghost use Rattle.std.specs.List.{flat_map};
 ghost use Rattle.rb_explain.specs.StateTexts.{size_text, value_text, register_in, registers_text, kept_text, place_in, places_text, tested_text, reference_text, state_text};
 ghost use Rattle.rb_explain.specs.StateTexts as texts;
-ghost use Rattle.rb_refs.specs.KeptPointers as kept;
+ghost use Rattle.rb_verifier.specs.KeptPointers as kept;
 
-use rb_refs::{Abs, AbsState, Held, Reference};
+use rb_verifier::{Abs, AbsState, Held, Reference};
 use std::alloc::AllocError;
 use std::fmt;
 use std::fmt::Write;

@@ -2,14 +2,14 @@
 
 ghost use Rattle.std.specs.Prelude.{◌≡◌, ◌+◌, ◌*◌, ◌<◌, ◌≤◌, ◌%◌, ◌++◌, List, IfOk, OnOk, length, take, string_bytes};
 ghost use Rattle.rb_insn.specs.declared.insn.Insn.{Insn};
-ghost use Rattle.rb_decode.specs.Program.{IsProgram, unit_count};
+ghost use Rattle.rb_program.specs.Program.{IsProgram, unit_count};
 ghost use Rattle.rb_insn.specs.Spelling.{SpellsAll};
 ghost use Rattle.rb_explain.specs.Joined.{joined_below};
 ghost use Rattle.rb_explain.specs.Explanations.{is_near, mark_under, near_line, near_text, window, raw_line, raw_text, ShowsUnits};
 
 use crate::lines::{push_bytes, push_line};
 use crate::objects::{push_bytes_object, push_unit_object};
-use rb_decode::{Program, decode};
+use rb_program::{Program, decode};
 use rb_insn::Insn;
 use rb_json::LineForm;
 use std::alloc::{AllocError, Global};

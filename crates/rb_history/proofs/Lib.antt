@@ -1,3 +1,6 @@
+pub mod HeaderBytes
+pub mod HeaderLaws
+pub mod Masks
 pub mod Lists
 pub mod Row
 pub mod Steps

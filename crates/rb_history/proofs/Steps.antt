@@ -6,7 +6,7 @@ use Rattle.std.proofs.lemmas.Bool.{cases_eq, eq-eqb, ne_eqb, eqb-false, or_right
 use Rattle.std.proofs.lemmas.List.Elements.{All-nil, All-cons, All-weaker, Contains-append_right, Contains-append_cases}
 use Rattle.rb_history.specs.declared.entries.Entry.{Entry}
 use Rattle.rb_history.specs.declared.entries.Entry.TheVariants.{Res, Full, Sub, Dis, Take}
-use Rattle.rb_header.specs.Span.{span}
+use Rattle.rb_history.specs.Span.{span}
 use Rattle.rb_history.specs.History.{Shown, Status, status_by, status_of, is_submit, is_discard, is_take, is_granted_at, is_submitted_at, is_discarded_at, is_taken_at, granted_span, granted_span_at, taken_span, producer_of, consumer_of, untaken, records}
 use Rattle.rb_history.specs.History.Status.{Busy, Waiting, Discarded}
 use Rattle.rb_history.proofs.Lists.{option_map, option_filter, or-false, list_any-snoc, sum_by-snoc, sum_by-cons, sum_by-agree, opt_sum, sum_by-only, filter_map-agree, filter_map-map, filter_map-filter}

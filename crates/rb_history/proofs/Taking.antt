@@ -8,7 +8,7 @@ use Rattle.rb_history.specs.declared.entries.Entry.TheVariants.{Res, Take}
 use Rattle.rb_history.specs.declared.stored_records.StoredRecord.{StoredRecord}
 use Rattle.rb_history.specs.declared.stored_records.RecordState.{RecordState}
 use Rattle.rb_history.specs.declared.stored_records.RecordState.TheVariants.{Reserved, Submitted, Discarded as DiscardedState}
-use Rattle.rb_header.specs.Span.{span}
+use Rattle.rb_history.specs.Span.{span}
 use Rattle.rb_history.specs.History.{status_by, status_of, is_granted_at, is_submitted_at, is_discarded_at, consumer_of}
 use Rattle.rb_history.specs.History.Status.{Busy}
 use Rattle.rb_history.specs.RoomRule.{Setup}

@@ -1,3 +1,6 @@
+pub mod Header
+pub mod Span
+pub mod TapeBytes
 pub mod History
 pub mod Counting
 pub mod RoomRule

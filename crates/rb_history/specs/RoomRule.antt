@@ -1,7 +1,7 @@
 -- The room rule: when a ring has room for a record. `has_room` of the rings is its test.
 use Rattle.std.specs.Prelude.{ℕ, ◌+◌, ◌-◌, ◌≤◌, ◌^◌, List}
 use Rattle.rb_history.specs.declared.entries.Entry.{Entry}
-use Rattle.rb_header.specs.Span.{span}
+use Rattle.rb_history.specs.Span.{span}
 use Rattle.rb_history.specs.History.{producer_of, consumer_of}
 
 -- what a ring is made with: its size in bytes, its first position, and its number of workers

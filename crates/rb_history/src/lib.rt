@@ -1,5 +1,5 @@
 //! What a BPF ring buffer's history says, for the rings (`rb_chapter_ring`, `rb_shared_ring`) and their callers: the
-//! entries, the answers of a ring's calls, and the definitions that all their contracts cite. The rules are those of Linux
+//! entries, the answers of a ring's calls, the bytes of its records, and the definitions that all their contracts cite. The rules are those of Linux
 //! Documentation/bpf/ringbuf.rst and bpf-helpers(7); where these leave a choice, the definition says 'own'.
 //!
 //! `specs/` has the whole of it: positions and records as sums and filters over the history, the room rule, which entry may follow
@@ -11,24 +11,49 @@
 //! assert_eq!(rt; notice_for(0, 0, NO_WAKEUP), Notice::NotDue);
 //! assert_eq!(rt; notice_for(0, 16, FORCE_WAKEUP), Notice::Due);
 //! ```
+//!
+//! # The bytes of records
+//!
+//! `span` is how far a record moves a ring's positions, `page_of` the page that it begins in, `Header` the eight bytes in front of it (Linux
+//! Documentation/bpf/ringbuf.rst and include/uapi/linux/bpf.h). A tape is what was taken from a ring, its records written one behind the other.
+//!
+//! Proved: `from_bytes` gives the one header whose bytes these are, and a fault exactly where both bits are set; `span` is the least
+//! that holds header and payload in eights; and bytes begin with at most one tape of so many records (`tapes_are_unique`), so that a
+//! tape reads back in one way alone. No call takes memory, each takes constant time.
+//!
+//! ```text
+//! assert_eq!(rt; span(13), 24);
+//! let header = Header { len: 13, busy: false, discard: true, page: 0 };
+//! let bytes = header.to_bytes();
+//! assert_eq!(rt; bytes, [13, 0, 0, 0x40, 0, 0, 0, 0]);
+//! assert_eq!(rt; Header::from_bytes(&bytes), Ok(header));
+//! ```
 #![tactic(auto)]
 
 mod answers;
 mod bounds;
 mod entries;
+mod headers;
 mod notices_and_queries;
 mod one_call;
+mod pages;
 mod reservations;
+mod spans;
 mod stored_records;
 mod tally;
+mod tapes;
 
 pub use answers::{Counts, Notice, OpenFault, ReserveFault, Stray, Taken};
 pub use bounds::{POSITION_LIMIT, check_setup, is_size, is_start, is_worker_count};
 pub use entries::Entry;
+pub use headers::{BUSY_BIT, DISCARD_BIT, Header, HeaderFault};
 pub use notices_and_queries::{
     AVAIL_DATA, CONS_POS, FORCE_WAKEUP, KNOWN_FLAGS, NO_WAKEUP, PROD_POS, RING_SIZE, notice_for,
 };
 pub use one_call::each_entry_is_one_call;
+pub use pages::page_of;
 pub use reservations::Reservation;
+pub use spans::span;
 pub use stored_records::{RecordState, StoredRecord};
 pub use tally::Tally;
+pub use tapes::tapes_are_unique;

@@ -1,3 +1,5 @@
+pub mod ArithmeticLaws
+mod Signed
 pub mod Registers
 pub mod Units
 pub mod Reading

@@ -1,3 +1,5 @@
+pub mod WholeNumbers
+pub mod ArithmeticAndJumps
 pub mod Opcodes
 pub mod Sizes
 pub mod Spelling

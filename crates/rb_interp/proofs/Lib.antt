@@ -1,3 +1,5 @@
+pub mod Laws
+pub mod Counts
 mod Slots
 mod Tables
 mod KeptEntries

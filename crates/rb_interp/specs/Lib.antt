@@ -1,3 +1,11 @@
+pub mod Lending
+pub mod MemoryLaws
+pub mod PartsMemory
+pub mod RecordSlots
+pub mod Stack
+pub mod AnsweredCalls
+pub mod ErrorNumbers
+pub mod ListedAnswers
 pub mod StoredMemory
 pub mod ShownState
 pub mod CodeCalls

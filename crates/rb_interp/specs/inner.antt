@@ -1,3 +1,6 @@
+pub mod Lending
+pub mod SomeOf
+pub mod ListCalls
 pub mod Advancing
 pub mod ExecutedInstruction
 pub mod Reaching

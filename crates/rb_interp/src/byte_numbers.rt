@@ -6,8 +6,7 @@ ghost use Rattle.rb_insn.specs.Sizes.{byte_count, signed_byte_count};
 ghost use Rattle.rb_semantics.specs.Instructions.{signed_number};
 
 use byteorder::{ByteOrder, LittleEndian};
-use rb_alu::sign_extended;
-use rb_insn::{Extend64, SignedSize, Size};
+use rb_insn::{Extend64, SignedSize, Size, sign_extended};
 
 /// The number in some bytes.
 #[inline(always)]

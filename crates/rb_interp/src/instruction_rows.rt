@@ -2,7 +2,7 @@
 
 ghost use Rattle.std.specs.Prelude.{◌≡◌, ◌≢◌, ◌<◌, ◌^◌, length};
 ghost use Rattle.byteorder.specs.Endian.{little_number};
-ghost use Rattle.rb_alu.specs.ArithmeticAndJumps.{IsArithmetic, IsConditional};
+ghost use Rattle.rb_insn.specs.ArithmeticAndJumps.{IsArithmetic, IsConditional};
 ghost use Rattle.rb_insn.specs.Sizes.{byte_count, signed_byte_count};
 ghost use Rattle.rb_semantics.specs.StackPointers.{spill_of};
 ghost use Rattle.rb_semantics.specs.ProgramStates.{fill_of, pointed, register, operand_in};
@@ -16,11 +16,10 @@ ghost use Rattle.rb_interp.specs.inner.KeptPointers.{IsKeepable};
 use crate::byte_numbers::{number_in, signed_number_in};
 use crate::cpu::Cpu;
 use crate::offsets::behind;
-use rb_alu::{jumps, value};
-use rb_cfg::next_unit;
-use rb_insn::{BinaryOp, Condition, Insn, Operand, Reg, SignedSize, Size, Width};
+use rb_insn::{BinaryOp, Condition, Insn, Operand, Reg, SignedSize, Size, Width, jumps, value};
+use rb_program::next_unit;
 use rb_lend::Lent;
-use rb_parts::Context;
+use crate::Context;
 use rb_semantics::{MemoryRegion, Value};
 
 impl<C: Context, R: Lent> Cpu<C, R> {

@@ -1,7 +1,7 @@
 //! The pointers that a program keeps on its stack.
 
 ghost use Rattle.std.specs.Prelude.{◌≡◌, ◌<◌, length, filter, IfSome, IfNone, false, true, slice_index_or};
-ghost use Rattle.rb_refs.specs.StackPlaces.{touches};
+ghost use Rattle.rb_verifier.specs.StackPlaces.{touches};
 ghost use Rattle.rb_semantics.specs.StackPointers.{is_pointer_among, pointer_at};
 ghost use Rattle.rb_interp.specs.inner.KeptPointers.{pointers_of, entry_left};
 

@@ -3,30 +3,79 @@
 //! 9669), and it is never stuck. A `Machine` does it one instruction at a time: `step` is one step of the meaning, a call
 //! comes out as a `Request`, and `answer` goes on with its `Answer`. A step takes constant time and no memory, and a run
 //! has at most as many steps as the program has units.
+//!
+//! # Helpers
+//!
+//! `Helpers` is the interface of the ring buffer helpers that a program calls (bpf-helpers(7): bpf_ringbuf_output, _reserve, _submit, _discard and
+//! _query): each call adds one `Done` with its arguments and its
+//! answer to a trace, for which there is room beforehand, and a refused submit or discard hands the very record back.
+//! `Listed` answers from a list, for tests and examples. The helpers' numbers are those of Linux, and failures are its
+//! error numbers, negated.
+//!
+//! # Memory
+//!
+//! `Parts` are the disjoint parts of memory that a program reaches: its stack of 512 bytes (Linux include/linux/filter.h), its context,
+//! which is only read, and at most four records in slots. It lends ranges of them.
+//!
+//! Proved: a loan leaves what was written in its own range and changes nothing else; a range is `Outside` exactly where it does not
+//! lie inside its part; and `give` hands out the very record that `hold` took. The laws in `memory_laws` say it of all parts
+//! together. No call takes memory.
+//!
+//! ```text
+//! let mut sheet = Sheet::new(rt.alloc(), 4)?;
+//! sheet.range_mut(1, 2).fill(9);
+//! let mut parts: Parts<&[u8], Sheet> = Parts::new([5, 6, 7].as_slice());
+//! assert!(rt; matches!(parts.hold(sheet), Ok(Slot::First)));
+//! assert_eq!(rt; parts.read(Part::Record(Slot::First), 0, 2)?, [0, 9].as_slice());
+//! assert!(rt; parts.read(Part::Ctx, 2, 2).is_err());
+//! ```
 #![tactic(auto)]
 
 mod byte_numbers;
+mod context;
 mod cpu;
+mod done;
 mod fault;
 mod helper_requests;
+mod helpers;
 mod instruction;
 mod instruction_rows;
 mod kept_pointers;
+mod listed;
 mod machine;
 mod machine_memory;
+mod memory_laws;
 mod memory_operations;
+mod numbers;
 mod offsets;
 mod operations;
 mod part_range;
+mod parts;
 mod pointer_table;
 mod program_run;
+mod records;
 mod registers;
 mod request;
 mod slot_table;
+mod stack;
 mod step;
+mod writable_range;
 
+pub use context::Context;
+pub use done::Done;
 pub use fault::RunFault;
+pub use helpers::Helpers;
+pub use listed::Listed;
 pub use machine::Machine;
+pub use memory_laws::{
+    a_slot_leaves_the_other_parts, a_slot_shows_what_it_holds, a_write_leaves_the_other_parts,
+    a_write_shows, four_are_held_where_no_slot_is_empty,
+};
+pub use numbers::{DISCARD, EAGAIN, EINVAL, OUTPUT, QUERY, RESERVE, SUBMIT};
+pub use parts::{Outside, Part, Parts};
 pub use program_run::{MachineRoom, run, run_in};
+pub use records::{Records, Slot};
 pub use request::{Answer, Request};
+pub use stack::Stack;
 pub use step::{Phase, Step};
+pub use writable_range::WritableRange;

@@ -15,7 +15,7 @@ use crate::slot_table::{SlotEntry, entry_of, without};
 use arrayvec::ArrayVec;
 use rb_insn::Size;
 use rb_lend::Lent;
-use rb_parts::{Context, Part, Parts};
+use crate::{Context, Part, Parts};
 use rb_semantics::{MemoryRegion, Value, writes_take_pointers_out};
 use std::marker::Model;
 

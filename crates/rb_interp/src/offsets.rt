@@ -1,8 +1,8 @@
 //! Offsets of pointers, and signed numbers.
 
 ghost use Rattle.std.specs.Prelude.{◌≡◌, ◌+ℤ◌, true};
-ghost use Rattle.rb_alu.specs.WholeNumbers.{signed_of, wrapped};
-ghost use Rattle.rb_refs.specs.AbstractArithmetic.{is_near};
+ghost use Rattle.rb_insn.specs.WholeNumbers.{signed_of, wrapped};
+ghost use Rattle.rb_verifier.specs.AbstractArithmetic.{is_near};
 ghost use Rattle.rb_interp.specs.inner.NearOffsets.{IsNear};
 
 /// A signed number as one of 64 bits, in two's complement.

@@ -1,12 +1,12 @@
 //! Some bytes of a part.
 
 ghost use Rattle.std.specs.Prelude.{◌≡◌, true};
-ghost use Rattle.rb_refs.specs.AbstractArithmetic.{is_near};
+ghost use Rattle.rb_verifier.specs.AbstractArithmetic.{is_near};
 
 use rb_semantics::MemoryRegion;
 
 /// Some bytes of a part.
-#[derive(Clone, Copy, Debug)]
+#[derive(Clone, Copy)]
 pub(crate) struct Range {
     pub(crate) place: MemoryRegion,
     pub(crate) offset: i64,

@@ -11,7 +11,7 @@ use rb_semantics::{MemoryRegion, Value};
 use std::marker::Model;
 
 /// What kind of value a register holds, and of a pointer to which part of the memory.
-#[derive(Clone, Copy, Debug)]
+#[derive(Clone, Copy)]
 pub(crate) enum Kind {
     /// Nothing.
     Nothing,

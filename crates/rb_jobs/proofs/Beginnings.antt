@@ -14,7 +14,7 @@ use Rattle.rb_ledger.specs.Seats.{WorkerSeat}
 use Rattle.rb_ledger.specs.LockedCalls.{Reserves, SubmitsAt, DiscardsAt, OutputsAt, Queries, output_by, sent_by_output}
 use Rattle.rb_ledger.proofs.Beginnings.{begins_with_all, begins_through, logged_begins, same_begins, call_begins}
 use Rattle.rb_shared_ring.specs.SharedCalls.{OutputsInChapter}
-use Rattle.rb_helpers.specs.AnsweredCalls.{AnsweredCall, Reserved, Submitted, Discarded, SentOut, Queried}
+use Rattle.rb_interp.specs.AnsweredCalls.{AnsweredCall, Reserved, Submitted, Discarded, SentOut, Queried}
 use Rattle.rb_jobs.specs.declared.seat_record.SeatRecord.{SeatRecord}
 use Rattle.rb_jobs.specs.SeatCalls.{AtSeat, CallsSeats, OutputAnswered, RecordAnswered, SeatCallsRing, SeatDiscards, SeatIsRefused, SeatOutputs, SeatSubmits, ReserveAnswered, notice_of}
 use Rattle.rb_jobs.specs.SeatLaws.{SeatsGoOn, SeatBegins}

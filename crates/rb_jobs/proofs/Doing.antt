@@ -3,8 +3,8 @@ use Rattle.std.proofs.Common.{false, ◌≡◌, ◌≢◌, Err, ℕ, ◌+◌, �
 use Rattle.std.proofs.lemmas.List.{length_push}
 use Rattle.std.proofs.lemmas.List.Sums.{count_by-le-length}
 use Rattle.std.specs.Prelude.{OnOk}
-use Rattle.rb_decode.specs.Program.{unit_count, units_of}
-use Rattle.rb_helpers.specs.AnsweredCalls.{AnsweredCall, note_of, notes_of}
+use Rattle.rb_program.specs.Program.{unit_count, units_of}
+use Rattle.rb_interp.specs.AnsweredCalls.{AnsweredCall, note_of, notes_of}
 use Rattle.rb_insn.specs.declared.insn.Insn.{Insn}
 use Rattle.rb_interp.specs.declared.fault.RunFault.TheVariants.{Stray}
 use Rattle.rb_interp.specs.RunTraces.{RunMatches, TellsLength, TraceBalances}

@@ -7,7 +7,7 @@ use Rattle.rb_ledger.specs.Seats.{WorkerSeat}
 use Rattle.rb_chapter_ring.specs.declared.out_record.OutRecord.{OutRecord}
 use Rattle.rb_chapter_ring.specs.Hands.{Hands, out_record, in_hand}
 use Rattle.rb_chapter_ring.specs.HandGranted.{HandGranted}
-use Rattle.rb_helpers.specs.AnsweredCalls.{Reserved, Submitted, Discarded, SentOut, Queried}
+use Rattle.rb_interp.specs.AnsweredCalls.{Reserved, Submitted, Discarded, SentOut, Queried}
 use Rattle.rb_jobs.specs.declared.seat_record.SeatRecord.{SeatRecord}
 use Rattle.rb_jobs.specs.SeatCalls.{AtSeat, IsOutAtSeat, SeatQueries, SeatIsGranted, SeatIsRefused, SeatSubmits, SeatDiscards, SeatOutputs, ReserveAnswered, RecordAnswered, OutputAnswered}
 use Rattle.rb_jobs.specs.SeatHelpers.{AtSeats, CallsHelpers}

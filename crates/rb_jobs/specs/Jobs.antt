@@ -2,7 +2,7 @@
 use Rattle.std.specs.Prelude.{◌≡◌, ◌≢◌, ℕ, ◌+◌, ◌-◌, ◌^◌, List, [], length, min, Err, OnOk}
 use Rattle.std.specs.List.{AllZip}
 use Rattle.rb_verifier.specs.Subject.{Subject}
-use Rattle.rb_helpers.specs.AnsweredCalls.{AnsweredCall, AllMayAnswer, notes_of}
+use Rattle.rb_interp.specs.AnsweredCalls.{AnsweredCall, AllMayAnswer, notes_of}
 use Rattle.rb_interp.specs.declared.fault.RunFault.TheVariants.{Stray}
 use Rattle.rb_interp.specs.RunTraces.{RunMatches, TellsLength, TraceBalances}
 use Rattle.rb_ledger.specs.Seats.{Shared, WorkerSeat, IsSameSeat}

@@ -16,8 +16,8 @@ use Rattle.rb_ledger.specs.LockedChapterCalls.{LockedChapterCall, InRoomAt, Subm
 use Rattle.rb_chapter_ring.specs.Hands.{out_record, in_hand, IsLowestFree}
 use Rattle.rb_chapter_ring.specs.HandGranted.{HandGranted}
 use Rattle.rb_shared_ring.specs.SharedCalls.{ReservesInChapter, OutputsInChapter}
-use Rattle.rb_helpers.specs.ErrorNumbers.{EAGAIN, EINVAL}
-use Rattle.rb_helpers.specs.AnsweredCalls.{AnsweredCall, Reserved, Submitted, Discarded, SentOut, Queried, MayAnswerOutput}
+use Rattle.rb_interp.specs.ErrorNumbers.{EAGAIN, EINVAL}
+use Rattle.rb_interp.specs.AnsweredCalls.{AnsweredCall, Reserved, Submitted, Discarded, SentOut, Queried, MayAnswerOutput}
 use Rattle.rb_jobs.specs.declared.seat_record.SeatRecord.{SeatRecord}
 
 -- ---- one seat

@@ -3,10 +3,10 @@ use Rattle.std.specs.Ordering.{int_eq}
 use Rattle.std.specs.Prelude.{◌≡◌, ℕ, zero, ◌+◌, cond, ℤ, pos, neg_ℤ, Bool, true, false, List, [], ◌∷◌, ◌++◌, length, nat_lt}
 use Rattle.std.specs.List.{AllZip, sum_by}
 use Rattle.rb_ledger.specs.Seats.{Shared, WorkerSeat}
-use Rattle.rb_helpers.specs.ErrorNumbers.{EAGAIN}
-use Rattle.rb_helpers.specs.declared.done.Done.{Done}
-use Rattle.rb_helpers.specs.declared.done.Done.TheVariants.{Reserve, Submit, Discard, Output}
-use Rattle.rb_helpers.specs.AnsweredCalls.{AnsweredCall, note_of}
+use Rattle.rb_interp.specs.ErrorNumbers.{EAGAIN}
+use Rattle.rb_interp.specs.declared.done.Done.{Done}
+use Rattle.rb_interp.specs.declared.done.Done.TheVariants.{Reserve, Submit, Discard, Output}
+use Rattle.rb_interp.specs.AnsweredCalls.{AnsweredCall, note_of}
 use Rattle.rb_jobs.specs.declared.seat_record.SeatRecord.{SeatRecord}
 use Rattle.rb_jobs.specs.SeatCalls.{CallsSeats}
 

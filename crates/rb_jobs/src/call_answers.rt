@@ -4,7 +4,7 @@ ghost use Rattle.std.specs.Prelude.{◌≡◌};
 ghost use Rattle.rb_jobs.specs.inner.CallAnswers.{due_in, output_number, unlogged_in};
 
 use crate::no_record::NoRecord;
-use rb_helpers::{EAGAIN, EINVAL};
+use rb_interp::{EAGAIN, EINVAL};
 use rb_history::Notice;
 use rb_shared_ring::ReserveFault;
 

@@ -1,13 +1,13 @@
 //! Helpers with a gate before each call.
 
 ghost use Rattle.std.specs.Prelude.{◌≡◌, ℕ, ◌+◌, ◌<◌, List, [], ◌∷◌, ◌++◌, length, replicate, IfErr, IfSome, is_some, is_ok, true};
-ghost use Rattle.rb_helpers.specs.declared.done.Done.{Done};
-ghost use Rattle.rb_helpers.specs.declared.done.Done.TheVariants.{Reserve, Submit, Discard, Output, Query};
+ghost use Rattle.rb_interp.specs.declared.done.Done.{Done};
+ghost use Rattle.rb_interp.specs.declared.done.Done.TheVariants.{Reserve, Submit, Discard, Output, Query};
 ghost use Rattle.rb_jobs.specs.Jobs.{counted_on};
 ghost use Rattle.rb_jobs.specs.inner.CallCount.{CountsCalls, both_counted, none_counted};
 
 use crate::job::Gate;
-use rb_helpers::{Done, Helpers};
+use rb_interp::{Done, Helpers};
 use rb_lend::Lent;
 
 /// Helpers of which each call goes through a worker's gate first, and is counted. They answer as the inner helpers do.

@@ -3,7 +3,7 @@
 use rb_shared_ring::ReserveFault;
 
 /// Why a call of `reserve` or `output` made no record.
-#[derive(Clone, Copy, Debug, PartialEq, Eq)]
+#[derive(Clone, Copy, PartialEq, Eq)]
 pub(crate) enum NoRecord {
     /// The flags are unknown. Nothing was tried.
     BadFlags,

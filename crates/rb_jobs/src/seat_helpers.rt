@@ -1,9 +1,9 @@
 //! Helpers over the seats of one worker.
 
 ghost use Rattle.std.specs.Prelude.{◌≡◌, ◌≢◌, ◌↔◌, ◌⊎◌, ◌+◌, ◌<◌, ◌≤◌, pos, neg_ℤ, refl, true, false, [], ◌∷◌, ◌++◌, IfOk, IfErr, IfSome, IsErr, IsErrOf, is_ok, is_some, length, replicate};
-ghost use Rattle.rb_helpers.specs.declared.done.Done.TheVariants.{Reserve, Submit, Discard, Output, Query};
-ghost use Rattle.rb_helpers.specs.AnsweredCalls.{Reserved, Submitted, Discarded, SentOut, Queried};
-ghost use Rattle.rb_helpers.specs.ErrorNumbers.{EAGAIN, EINVAL};
+ghost use Rattle.rb_interp.specs.declared.done.Done.TheVariants.{Reserve, Submit, Discard, Output, Query};
+ghost use Rattle.rb_interp.specs.AnsweredCalls.{Reserved, Submitted, Discarded, SentOut, Queried};
+ghost use Rattle.rb_interp.specs.ErrorNumbers.{EAGAIN, EINVAL};
 ghost use Rattle.rb_jobs.specs.declared.no_record.NoRecord.TheVariants.{BadFlags};
 ghost use Rattle.rb_jobs.specs.SeatCalls.{AtSeat, RecordAnswered, SeatDiscards, SeatQueries, SeatSubmits};
 ghost use Rattle.rb_jobs.specs.SeatHelpers.{AtRings, CallsHelpers, Leads, has_number};
@@ -14,7 +14,7 @@ use crate::no_record::NoRecord;
 use crate::seat_record::SeatRecord;
 use crate::sheets::{copied_sheet, give_back, zero_sheet};
 use crate::stock::Stock;
-use rb_helpers::{Done, Helpers};
+use rb_interp::{Done, Helpers};
 use rb_history::Notice;
 use rb_shared_ring::{Foreign, Reservation, Seat, SharedRing};
 use std::alloc::{AllocError, Global};
@@ -43,7 +43,7 @@ impl<'h, R, S> Model for SeatHelpers<'h, R, S> {
     ghost use Rattle.rb_history.specs.contracts.entries.Entry as entry;
     ghost use Rattle.rb_history.specs.contracts.tally.Tally as tally_row;
     ghost use Rattle.rb_chapter_ring.specs.contracts.out_record.OutRecord as out_row;
-    ghost use Rattle.rb_helpers.specs.contracts.done.Done as done_row;
+    ghost use Rattle.rb_interp.specs.contracts.done.Done as done_row;
     ghost use Rattle.rb_jobs.specs.SeatHelpers.{AtSeats, AtRings};
 
     ghost Value = { AtSeats };

@@ -1,7 +1,7 @@
 -- What each call on a shared ring does and answers, at one point of the ring's history (own).
 use Rattle.std.specs.Prelude.{◌≡◌, ◌≢◌, ℕ, ◌+◌, ◌<◌, ◌≤◌, ◌↔◌, List, length, replicate, Result, Ok, Err}
 use Rattle.std.specs.FinMap.{insert}
-use Rattle.rb_header.specs.Span.{span}
+use Rattle.rb_history.specs.Span.{span}
 use Rattle.rb_history.specs.declared.answers.Notice.{Notice}
 use Rattle.rb_history.specs.declared.answers.Notice.TheVariants.{Due}
 use Rattle.rb_history.specs.declared.answers.ReserveFault.{ReserveFault}

@@ -1,8 +1,8 @@
 -- What was explained of a text that was read was explained of the input.
 use Rattle.std.proofs.Common.{◌≡◌, ℕ, List, Option, Some, None, refl, sym, subst, inr}
 use Rattle.std.specs.Io.KnownBytes.{Appends}
-use Rattle.rb_cfg.specs.declared.fault.ShapeFaultKind.{ShapeFaultKind}
-use Rattle.rb_cfg.specs.declared.fault.ShapeFaultKind.TheVariants.{Backward, OutOfProgram, IntoWide, FallsOff, Unreachable, Memory}
+use Rattle.rb_program.specs.declared.shape_fault.ShapeFaultKind.{ShapeFaultKind}
+use Rattle.rb_program.specs.declared.shape_fault.ShapeFaultKind.TheVariants.{Backward, OutOfProgram, IntoWide, FallsOff, Unreachable, Memory}
 use Rattle.rb_explain.specs.Explanations.{ExplainsAs}
 use Rattle.rb_explain.specs.declared.explanation.Reason.{Reason}
 use Rattle.rb_explain.specs.declared.explanation.Reason.TheVariants.{Text, Decode, Shape, Rule}

@@ -2,16 +2,16 @@
 use Rattle.std.proofs.Common.{◌≡◌, ◌⊎◌, ℕ, List, Result, Err, sym, ap, subst, inl, inr}
 use Rattle.rb_insn.specs.declared.insn.Insn.{Insn}
 use Rattle.rb_insn.specs.Spelling.{SpellsAll}
-use Rattle.rb_cfg.specs.ShapeFaults.{IsFirstShapeFault, shape_no_memory}
-use Rattle.rb_cfg.specs.declared.fault.ShapeFault.{ShapeFault}
-use Rattle.rb_cfg.specs.declared.fault.ShapeFaultKind.{ShapeFaultKind}
-use Rattle.rb_cfg.specs.declared.fault.ShapeFaultKind.TheVariants as shape_faults
-use Rattle.rb_decode.specs.FirstDecodeFault.{IsFirstDecodeFault}
-use Rattle.rb_decode.specs.Program.{IsProgram}
-use Rattle.rb_decode.specs.Text.{IsHexOf, without_white_space}
-use Rattle.rb_decode.specs.declared.fault.DecodeFault.{DecodeFault}
-use Rattle.rb_decode.specs.declared.fault.TextFault.{TextFault}
-use Rattle.rb_decode.specs.declared.fault.TextFault.TheVariants.{NotHex, Memory, Decode}
+use Rattle.rb_program.specs.ShapeFaults.{IsFirstShapeFault, shape_no_memory}
+use Rattle.rb_program.specs.declared.shape_fault.ShapeFault.{ShapeFault}
+use Rattle.rb_program.specs.declared.shape_fault.ShapeFaultKind.{ShapeFaultKind}
+use Rattle.rb_program.specs.declared.shape_fault.ShapeFaultKind.TheVariants as shape_faults
+use Rattle.rb_program.specs.FirstDecodeFault.{IsFirstDecodeFault}
+use Rattle.rb_program.specs.Program.{IsProgram}
+use Rattle.rb_program.specs.Text.{IsHexOf, without_white_space}
+use Rattle.rb_program.specs.declared.fault.DecodeFault.{DecodeFault}
+use Rattle.rb_program.specs.declared.fault.TextFault.{TextFault}
+use Rattle.rb_program.specs.declared.fault.TextFault.TheVariants.{NotHex, Memory, Decode}
 use Rattle.rb_loader.specs.Acceptance.{HasFirstShapeFault, IsNoHex, IsRightFault, fault_of_shape, fault_of_text, shape_fault_at}
 use Rattle.rb_loader.specs.declared.program.ProgramFault.{ProgramFault}
 

@@ -5,7 +5,7 @@ use Rattle.rb_explain.specs.Explanations.{ExplainsAs}
 use Rattle.rb_explain.specs.declared.explanation.Reason.{Reason}
 use Rattle.rb_explain.specs.declared.explanation.Reason.TheVariants as reasons
 use Rattle.rb_json.specs.declared.form.LineForm.{LineForm}
-use Rattle.rb_refs.specs.Rules.{rule_number}
+use Rattle.rb_verifier.specs.Rules.{rule_number}
 use Rattle.rb_loader.specs.Acceptance.{fault_of_shape}
 use Rattle.rb_loader.specs.declared.program.ProgramFault.{ProgramFault}
 use Rattle.rb_loader.specs.declared.program.ProgramFault.TheVariants.{Text, Decode, Verify, Memory, Device}

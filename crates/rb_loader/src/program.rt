@@ -4,8 +4,7 @@ ghost use Rattle.std.specs.Prelude.{◌≡◌, ◌≢◌, ◌≤◌, ◌↔◌, 
 ghost use Rattle.rb_loader.specs.Acceptance.{IsAccepted, IsRightFault, IsRightProgramFault, fault_of_text, fault_of_shape};
 ghost use Rattle.rb_loader.specs.MachineFaults.{IsMachineFault};
 
-use rb_cfg::{ShapeFault, ShapeFaultKind, shape};
-use rb_decode::{DecodeFault, DecodeKind, TextFault, from_text};
+use rb_program::{DecodeFault, DecodeKind, ShapeFault, ShapeFaultKind, TextFault, from_text, shape};
 use rb_verifier::{Refusal, Verified, verify};
 use std::alloc::{AllocError, Global};
 use std::io;

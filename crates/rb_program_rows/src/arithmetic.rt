@@ -1,8 +1,7 @@
 //! What an instruction computes of two numbers.
 
 use crate::decoded::insn_of;
-use rb_alu::{jumps, value};
-use rb_insn::Insn;
+use rb_insn::{Insn, jumps, value};
 use std::alloc::{AllocError, Global};
 use std::fmt::Write;
 

@@ -2,7 +2,7 @@
 
 use crate::decoded::tell_text_fault;
 use rb_explain::Assembly;
-use rb_decode::{Program, from_text};
+use rb_program::{Program, from_text};
 use std::alloc::{AllocError, Global};
 use std::fmt::Write;
 

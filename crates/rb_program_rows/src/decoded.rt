@@ -1,7 +1,7 @@
 //! What bytes and texts decode to.
 
 use crate::bytes::{bytes_of, unescaped};
-use rb_decode::{DecodeFault, DecodeKind, Program, TextFault, decode, encode, from_text};
+use rb_program::{DecodeFault, DecodeKind, Program, TextFault, decode, encode, from_text};
 use rb_insn::Insn;
 use std::alloc::{AllocError, Global};
 use std::fmt::Write;

@@ -4,7 +4,7 @@ ghost use Rattle.std.specs.Prelude.{◌≤◌};
 
 use crate::decoded::{tell_decode_fault, tell_text_fault};
 use crate::shapes::tell_shape_fault;
-use rb_decode::TextFault;
+use rb_program::TextFault;
 use rb_explain::{Explanation, Reason, explain};
 use rb_json::LineForm;
 use std::alloc::{AllocError, Global};

@@ -11,7 +11,7 @@ use crate::shapes::{answer_edges, answer_shape};
 use crate::steps::{Way, answer_join, answer_step};
 use crate::verified::answer_verify;
 use rb_insn::Reg;
-use rb_refs::{Helper, Limits};
+use rb_verifier::{Helper, Limits};
 use std::alloc::{AllocError, Global};
 use std::fmt::Write;
 use std::fs::File;

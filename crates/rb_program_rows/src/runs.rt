@@ -3,8 +3,7 @@
 use crate::bytes::bytes_of;
 use crate::verified::verified;
 use crate::witness::Witness;
-use rb_helpers::{Helpers, Listed};
-use rb_interp::run;
+use rb_interp::{Helpers, Listed, run};
 use std::alloc::{AllocError, Global};
 use std::fmt::Write;
 

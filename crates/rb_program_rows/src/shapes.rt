@@ -3,8 +3,7 @@
 ghost use Rattle.std.specs.Prelude.{◌<◌, ◌^◌};
 
 use crate::decoded::{insn_of, tell_bytes, tell_text_fault};
-use rb_cfg::{ShapeFault, ShapeFaultKind, jump_target, next_unit, shape};
-use rb_decode::from_text;
+use rb_program::{ShapeFault, ShapeFaultKind, from_text, jump_target, next_unit, shape};
 use std::alloc::{AllocError, Global};
 use std::fmt::Write;
 

@@ -1,10 +1,10 @@
 //! States of the verifier, as words spell them.
 
 ghost use Rattle.std.specs.Prelude.{◌≤◌, ◌<◌, IsTrue, length};
-ghost use Rattle.rb_refs.specs.References.{AreEarlier};
+ghost use Rattle.rb_verifier.specs.References.{AreEarlier};
 
 use crate::numbers::number_of;
-use rb_refs::{Abs, AbsState, Held, Reference};
+use rb_verifier::{Abs, AbsState, Held, Reference};
 use std::alloc::{AllocError, Global};
 
 /// The state that a word spells, over that of the entry: `entry`, or assignments with commas between them, none where one is no assignment.

@@ -1,6 +1,6 @@
 //! What changed in a state of the verifier.
 
-use rb_refs::{Abs, AbsState};
+use rb_verifier::{Abs, AbsState};
 use std::alloc::AllocError;
 use std::fmt::{self, Formatter, Write};
 

@@ -4,8 +4,7 @@ ghost use Rattle.std.specs.Prelude.{◌≤◌};
 
 use crate::decoded::tell_text_fault;
 use crate::shapes::tell_shape_fault;
-use rb_cfg::shape;
-use rb_decode::from_text;
+use rb_program::{from_text, shape};
 use rb_verifier::{Refusal, Verified, verify};
 use std::alloc::{AllocError, Global};
 use std::fmt::Write;

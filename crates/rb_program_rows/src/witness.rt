@@ -2,7 +2,7 @@
 
 ghost use Rattle.std.specs.Prelude.{◌≡◌, length, false, refl, true};
 
-use rb_helpers::{Done, Helpers, Listed};
+use rb_interp::{Done, Helpers, Listed};
 use rb_lend::{Lent, Sheet};
 use std::alloc::{AllocError, Global};
 

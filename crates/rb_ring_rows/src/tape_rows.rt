@@ -1,16 +1,14 @@
 //! Rows on tapes.
 
 ghost use Rattle.std.specs.Prelude.{◌≡◌, ◌+◌, ◌<◌, ◌≤◌, ◌^◌, IsTrue};
-ghost use Rattle.rb_header.specs.Span.{span};
-ghost use Rattle.rb_header.specs.TapeBytes.{IsItemAt};
+ghost use Rattle.rb_history.specs.Span.{span};
+ghost use Rattle.rb_history.specs.TapeBytes.{IsItemAt};
 ghost use Rattle.rb_tape.specs.Items.{item_of as item_in};
 
 use crate::text::Text;
-use rb_header::span;
-use rb_history::{OpenFault, Taken, is_size, is_start};
+use rb_history::{OpenFault, Taken, is_size, is_start, span};
 use rb_lend::Lent;
-use rb_reader::{Feed, Record, Tape, TapeFault, TapeKind, count_records};
-use rb_tape::{Event, Item, TapeWriter};
+use rb_tape::{Event, Feed, Item, Record, Tape, TapeFault, TapeKind, TapeWriter, count_records};
 use std::alloc::Global;
 
 // How long the pieces are in which a tape is fed.

@@ -1,7 +1,7 @@
 //! Tapes of a writer that fails in the midst of a record.
 
 ghost use Rattle.std.specs.Prelude.{◌≡◌};
-ghost use Rattle.rb_header.specs.TapeBytes.{AreItemsFrom};
+ghost use Rattle.rb_history.specs.TapeBytes.{AreItemsFrom};
 ghost use Rattle.rb_tape.specs.Items.{tape_items};
 
 use super::rings_with_seats::{discarded, granted, one_seat, output};

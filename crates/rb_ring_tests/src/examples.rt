@@ -1,12 +1,9 @@
 //! The examples of the crates' module docs, line by line.
 
 use rb_chapter_ring::{Chapter, RingState};
-use rb_header::{Header, span};
-use rb_history::{
-    Entry, FORCE_WAKEUP, NO_WAKEUP, Notice, OpenFault, Taken, check_setup, notice_for,
-};
+use rb_history::{Entry, FORCE_WAKEUP, Header, NO_WAKEUP, Notice, OpenFault, Taken, check_setup, notice_for, span};
 use rb_lend::{Lent, Sheet};
-use rb_parts::{Part, Parts, Slot};
+use rb_interp::{Part, Parts, Slot};
 use rb_for_tests::RingState as ListState;
 use rb_shared_ring::open;
 use std::process::Abort;

@@ -2,11 +2,11 @@
 
 ghost use Rattle.std.specs.Prelude.{◌≡◌, ◌≤◌, ℕ, List, IsSome, take, length, if◌then◌else◌};
 ghost use Rattle.rb_lend.specs.Ranges.{written_at};
-ghost use Rattle.rb_parts.specs.PartsMemory.{part_with};
+ghost use Rattle.rb_interp.specs.PartsMemory.{part_with};
 
 use crate::expected::{same_bytes, sheet};
 use rb_lend::{Lent, Sheet};
-use rb_parts::{Context, Part, Parts, Slot};
+use rb_interp::{Context, Part, Parts, Slot};
 use std::alloc::Global;
 use std::process::Abort;
 

@@ -1,6 +1,6 @@
 //! Reading tapes.
 
-use rb_reader::{Feed, Record, Tape, TapeFault, TapeKind, count_records};
+use rb_tape::{Feed, Record, Tape, TapeFault, TapeKind, count_records};
 use std::test::Fail;
 
 // The tape of one record of eight bytes.

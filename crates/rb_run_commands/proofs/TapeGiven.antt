@@ -6,8 +6,8 @@ use Rattle.std.proofs.lemmas.List.{length-drop, drop_all}
 use Rattle.std.proofs.lemmas.List.Elements.{All-nil, All-cons, filter_map-append}
 use Rattle.std.specs.Io.KnownBytes.{Appends, Keeps}
 use Rattle.std.proofs.KnownBytes.{Appends-nil, Appends-trans, Appends-kept}
-use Rattle.rb_header.specs.TapeBytes.{Item, item_bytes, item_span, tape}
-use Rattle.rb_header.proofs.Laws.{length-item_bytes, tape-append}
+use Rattle.rb_history.specs.TapeBytes.{Item, item_bytes, item_span, tape}
+use Rattle.rb_history.proofs.HeaderLaws.{length-item_bytes, tape-append}
 use Rattle.rb_verifier.specs.Subject.{Subject}
 use Rattle.rb_workers.specs.Reports.{RingEnds, RingsEnd}
 use Rattle.rb_workers.specs.Sink.{SinkItem, TakesAll, positions_among, tape_item, takes_in}

@@ -1,9 +1,9 @@
 -- What `run --tape` writes: the tape of all that the ring's consumer took, up to the first write that fails (own; the tape's bytes are
--- rb_header's).
+-- rb_history's).
 use Rattle.std.specs.Prelude.{◌≡◌, ◌≢◌, ◌⊎◌, ℕ, Bool, true, false, All, IfSome, List, [], ◌∷◌, ◌++◌, Option}
 use Rattle.std.specs.List.{filter_map}
 use Rattle.std.specs.Io.KnownBytes.{Appends, append_known}
-use Rattle.rb_header.specs.TapeBytes.{Item, tape}
+use Rattle.rb_history.specs.TapeBytes.{Item, tape}
 use Rattle.rb_ledger.specs.Seats.{WorkerSeat}
 use Rattle.rb_ledger.specs.ChapterClosing.{IsClosedByChapters}
 use Rattle.rb_ledger.specs.ChapterSeats.{ChapterConsumerSeat}

@@ -1,7 +1,7 @@
 //! A sink that writes a tape.
 
 use rb_chapter_ring::Chapter;
-use rb_header::span;
+use rb_history::span;
 use rb_tape::{Event, Item, TapeWriter};
 use rb_workers::Sink;
 use std::io::Write;
@@ -31,7 +31,7 @@ impl<W> Model for TapeSink<W> {
 
 impl<W: Write> TapeSink<W> {
     ghost use Rattle.std.specs.Prelude.{◌≡◌, ◌+◌, ◌<◌, ◌≤◌, ◌^◌, [], ◌∷◌, false};
-    ghost use Rattle.rb_header.specs.TapeBytes.{item_len, item_position, item_span};
+    ghost use Rattle.rb_history.specs.TapeBytes.{item_len, item_position, item_span};
     ghost use Rattle.rb_history.specs.RingModel.{IsRingSize, IsStartPosition};
     ghost use Rattle.rb_tape.specs.Items.{item_of};
     ghost use Rattle.rb_run_commands.specs.TapedRun.{WritesOn};

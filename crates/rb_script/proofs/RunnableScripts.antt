@@ -6,8 +6,8 @@ use Rattle.std.proofs.lemmas.List.{length-append, length-map, take_all}
 use Rattle.std.proofs.lemmas.List.Elements.{All-nil, All-cons, All-append, All-replicate, All-weaker}
 use Rattle.rb_chapter_ring.specs.Chapters.{IsChapterRoom}
 use Rattle.rb_history.specs.RingModel.{IsWorkerCount}
-use Rattle.rb_interleavings.specs.declared.actor.Actor.{Actor}
-use Rattle.rb_interleavings.specs.declared.actor.Actor.TheVariants.{Worker, Consumer, Keeper}
+use Rattle.rb_world.specs.declared.actor.Actor.{Actor}
+use Rattle.rb_world.specs.declared.actor.Actor.TheVariants.{Worker, Consumer, Keeper}
 use Rattle.rb_verifier.specs.Subject.{Subject}
 use Rattle.rb_world.specs.declared.opening.RingSetup.{RingSetup}
 use Rattle.rb_world.specs.declared.opening.WorkerSetup.{WorkerSetup}

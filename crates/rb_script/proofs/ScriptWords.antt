@@ -15,7 +15,7 @@ use Rattle.rb_world.specs.declared.opening.RingSetup.{RingSetup}
 use Rattle.rb_world.specs.OpenedWorlds.{IsRingSetup}
 use Rattle.rb_script.specs.ScriptText.{Spells, SaysRing, SaysWorker, SaysTurns, SaysOneTurn, words_of}
 use Rattle.rb_script.specs.ScriptText.Statement.{RingOf, WorkerOf, TurnsOf}
-use Rattle.rb_interleavings.specs.declared.actor.Actor.TheVariants.{Worker, Consumer, Keeper}
+use Rattle.rb_world.specs.declared.actor.Actor.TheVariants.{Worker, Consumer, Keeper}
 use Rattle.rb_script.specs.inner.ScriptRead.{AreNumbersOf, IsWorkerText, SaysNone}
 use Rattle.rb_script.proofs.Keywords.{clash}
 

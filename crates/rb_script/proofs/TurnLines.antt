@@ -5,12 +5,12 @@ use Rattle.std.specs.List.{AllZip}
 use Rattle.std.proofs.lemmas.List.{take_more}
 use Rattle.rb_history.specs.declared.answers.Taken.{Taken}
 use Rattle.rb_history.specs.declared.answers.Taken.TheVariants.{Event, Skipped, BusyFront, Empty}
-use Rattle.rb_interleavings.specs.declared.actor.Actor.{Actor}
-use Rattle.rb_interleavings.specs.declared.actor.Actor.TheVariants.{Worker, Consumer, Keeper}
-use Rattle.rb_interleavings.specs.Worlds.{WorldRing, World, table_with}
-use Rattle.rb_interleavings.specs.Turns.{TurnEvent, Went, HandedOver, Ended, GotStuck, GotBack, Idle, Took, HandedChapter, NoMemory, WorldStep, WorldRun, TakesConsumerTurn, taken_by}
+use Rattle.rb_world.specs.declared.actor.Actor.{Actor}
+use Rattle.rb_world.specs.declared.actor.Actor.TheVariants.{Worker, Consumer, Keeper}
+use Rattle.rb_world.specs.Worlds.{WorldRing, World, table_with}
+use Rattle.rb_world.specs.Turns.{TurnEvent, Went, HandedOver, Ended, GotStuck, GotBack, Idle, Took, HandedChapter, NoMemory, WorldStep, WorldRun, TakesConsumerTurn, taken_by}
 use Rattle.std.proofs.lemmas.Bool.{eq-eqb}
-use Rattle.rb_interleavings.proofs.WholeRuns.{run-push}
+use Rattle.rb_world.proofs.WholeRuns.{run-push}
 use Rattle.rb_world.specs.declared.turn_done.TurnDone.{TurnDone}
 use Rattle.rb_world.specs.declared.turn_done.TurnDone.TheVariants as turn
 use Rattle.rb_world.specs.WorldValue.{WorldValue, world_of}

@@ -4,7 +4,7 @@
 use Rattle.std.specs.Prelude.{ℕ, ◌-◌, List, ◌++◌, codes}
 use Rattle.std.specs.Fmt.{decimal}
 use Rattle.std.specs.List.{flat_map}
-use Rattle.rb_header.specs.Span.{span}
+use Rattle.rb_history.specs.Span.{span}
 use Rattle.rb_history.specs.Calls.{producer_now, consumer_now}
 use Rattle.rb_history.specs.History.{Shown, Status, records}
 use Rattle.rb_history.specs.History.Status.{Busy, Waiting, Consumed, Discarded}

@@ -2,9 +2,9 @@
 use Rattle.std.specs.Prelude.{ℕ, ◌≡◌, ◌≤◌, List, ◌∷◌, ◌++◌, length}
 use Rattle.std.specs.List.{AllZip}
 use Rattle.rb_insn.specs.Spelling.{SpellsAll}
-use Rattle.rb_decode.specs.Program.{IsProgram}
-use Rattle.rb_decode.specs.Text.{IsHexOf, without_white_space}
-use Rattle.rb_cfg.specs.Shape.{IsWellShaped}
+use Rattle.rb_program.specs.Program.{IsProgram}
+use Rattle.rb_program.specs.Text.{IsHexOf, without_white_space}
+use Rattle.rb_program.specs.Shape.{IsWellShaped}
 use Rattle.rb_verifier.specs.Annotation.{HasValid}
 use Rattle.rb_verifier.specs.Subject.{Subject, limits_of}
 use Rattle.rb_script.specs.declared.script_fault.ScriptFault.{ScriptFault}

@@ -5,8 +5,8 @@ use Rattle.std.specs.List.{AllPass, onto_first, slice_split}
 use Rattle.std.specs.Str.Parse.{IsNumeral, digits_value}
 use Rattle.hex.specs.Hex.{decode_of}
 use Rattle.rb_chapter_ring.specs.Chapters.{IsChapterRoom}
-use Rattle.rb_interleavings.specs.declared.actor.Actor.{Actor}
-use Rattle.rb_interleavings.specs.declared.actor.Actor.TheVariants.{Worker, Consumer, Keeper}
+use Rattle.rb_world.specs.declared.actor.Actor.{Actor}
+use Rattle.rb_world.specs.declared.actor.Actor.TheVariants.{Worker, Consumer, Keeper}
 use Rattle.rb_world.specs.declared.opening.RingSetup.{RingSetup}
 use Rattle.rb_world.specs.OpenedWorlds.{IsRingSetup}
 

@@ -1,9 +1,9 @@
 -- What is written of the turns of a world and of its end, and what a script's run is (own).
 use Rattle.std.specs.Prelude.{ℕ, ◌≡◌, Bool, true, false, List, [], ◌∷◌, ◌++◌, Option, Some, None, length, map, take, ◌⊎◌}
 use Rattle.std.specs.List.{AllZip}
-use Rattle.rb_interleavings.specs.declared.actor.Actor.{Actor}
-use Rattle.rb_interleavings.specs.declared.actor.Actor.TheVariants.{Consumer, Keeper}
-use Rattle.rb_interleavings.specs.Turns.{TurnEvent, Took, WorldRun}
+use Rattle.rb_world.specs.declared.actor.Actor.{Actor}
+use Rattle.rb_world.specs.declared.actor.Actor.TheVariants.{Consumer, Keeper}
+use Rattle.rb_world.specs.Turns.{TurnEvent, Took, WorldRun}
 use Rattle.rb_world.specs.declared.turn_done.TurnDone.{TurnDone}
 use Rattle.rb_world.specs.declared.turn_done.TurnDone.TheVariants.{Chapter}
 use Rattle.rb_world.specs.WorldValue.{WorldValue, world_of}

@@ -7,7 +7,7 @@ ghost use Rattle.rb_script.specs.Drawings.{box_text, drawing_end, drawing_front,
 
 use crate::output_lines::push_number;
 use rb_chapter_ring::{Opening, UntakenRecord, UntakenStatus};
-use rb_header::span;
+use rb_history::span;
 use std::alloc::AllocError;
 
 // Adds the drawing of the ring of this number, of what its chapter stands for at its end: its positions, the records between them, and what is free.

@@ -8,8 +8,7 @@ ghost use Rattle.rb_script.specs.inner.ScriptRead.{IsFaultUnless};
 
 use crate::script::ScriptWorker;
 use crate::script_fault::ScriptFault;
-use rb_cfg::{ShapeFaultKind, shape};
-use rb_decode::{TextFault, from_text};
+use rb_program::{ShapeFaultKind, TextFault, from_text, shape};
 use rb_verifier::{Refusal, Verified, verify};
 use std::alloc::Global;
 

@@ -2,7 +2,7 @@
 
 ghost use Rattle.std.specs.Prelude.{◌≡◌, ◌≤◌, ◌⊎◌, ◌++◌, ℕ, All, length, map, Err, IfOk, IfErr, OnOk, OnErr};
 ghost use Rattle.rb_world.specs.WorldValue.{IsThere, world_of};
-ghost use Rattle.rb_interleavings.specs.declared.actor.Actor.TheVariants.{Worker, Consumer};
+ghost use Rattle.rb_world.specs.declared.actor.Actor.TheVariants.{Worker, Consumer};
 ghost use Rattle.std.specs.List.{AllZip};
 ghost use Rattle.rb_script.specs.Programs.{IsFirstRefused, IsProgramOf, IsProgramsFault};
 ghost use Rattle.rb_script.specs.Scripts.{MayRun, worker_text};

@@ -9,24 +9,24 @@ use Rattle.rb_insn.specs.declared.insn.Insn.{Insn}
 use Rattle.rb_insn.specs.declared.insn.Size.{Size}
 use Rattle.rb_insn.specs.declared.insn.Size.TheVariants.{Byte, Half, Word, Double}
 use Rattle.rb_insn.specs.declared.reg.Reg.{Reg}
-use Rattle.rb_decode.specs.Program.{slot_at}
-use Rattle.rb_cfg.specs.Edges.{falls_through}
-use Rattle.rb_refs.specs.declared.references.Reference.{Reference}
-use Rattle.rb_refs.specs.declared.rule.Rule.{Rule}
-use Rattle.rb_refs.specs.declared.rule.Rule.TheVariants as rule
-use Rattle.rb_refs.specs.declared.state.AbsState.{AbsState}
-use Rattle.rb_refs.specs.declared.state.Effect as refs
-use Rattle.rb_refs.specs.declared.value.Abs.{Abs}
-use Rattle.rb_refs.specs.declared.value.Abs.TheVariants as abs
-use Rattle.rb_refs.specs.ValueChecks.{◌>>=◌, check_writable, check_tested, check_inside}
-use Rattle.rb_refs.specs.Extents.{reaches, record_contains, contains_range, stack_extent, extent_from_zero}
+use Rattle.rb_program.specs.Program.{slot_at}
+use Rattle.rb_program.specs.Edges.{falls_through}
+use Rattle.rb_verifier.specs.declared.references.Reference.{Reference}
+use Rattle.rb_verifier.specs.declared.rule.Rule.{Rule}
+use Rattle.rb_verifier.specs.declared.rule.Rule.TheVariants as rule
+use Rattle.rb_verifier.specs.declared.state.AbsState.{AbsState}
+use Rattle.rb_verifier.specs.declared.state.Effect as refs
+use Rattle.rb_verifier.specs.declared.value.Abs.{Abs}
+use Rattle.rb_verifier.specs.declared.value.Abs.TheVariants as abs
+use Rattle.rb_verifier.specs.ValueChecks.{◌>>=◌, check_writable, check_tested, check_inside}
+use Rattle.rb_verifier.specs.Extents.{reaches, record_contains, contains_range, stack_extent, extent_from_zero}
 use Rattle.rb_insn.specs.Sizes.{byte_count}
-use Rattle.rb_refs.specs.References.{has_id}
-use Rattle.rb_refs.specs.AbstractValues.{IsNumber}
-use Rattle.rb_refs.specs.StackPlaces.{stack_byte, place_from, touches, any_place, whole_place}
-use Rattle.rb_refs.specs.KeptPointers.{KnownPlaces, known_in, is_data, may_keep, byte_behind, check_data, check_filled, check_loaded}
-use Rattle.rb_refs.specs.AbstractStates.{value_in}
-use Rattle.rb_refs.specs.VerifierChecks as table
+use Rattle.rb_verifier.specs.References.{has_id}
+use Rattle.rb_verifier.specs.AbstractValues.{IsNumber}
+use Rattle.rb_verifier.specs.StackPlaces.{stack_byte, place_from, touches, any_place, whole_place}
+use Rattle.rb_verifier.specs.KeptPointers.{KnownPlaces, known_in, is_data, may_keep, byte_behind, check_data, check_filled, check_loaded}
+use Rattle.rb_verifier.specs.AbstractStates.{value_in}
+use Rattle.rb_verifier.specs.VerifierChecks as table
 use Rattle.rb_verifier.specs.Subject.{Subject, limits_of}
 use Rattle.rb_semantics.specs.declared.value.MemoryRegion.{MemoryRegion}
 use Rattle.rb_semantics.specs.declared.value.MemoryRegion.TheVariants.{Stack, Context, Record}

@@ -9,23 +9,23 @@ use Rattle.rb_insn.specs.declared.insn.Operand.TheVariants.{Immediate}
 use Rattle.rb_insn.specs.declared.insn.Width.{Width}
 use Rattle.rb_insn.specs.declared.insn.Width.TheVariants.{W64}
 use Rattle.rb_insn.specs.declared.reg.Reg.{Reg}
-use Rattle.rb_alu.specs.ArithmeticAndJumps.{jumps_of}
-use Rattle.rb_alu.specs.WholeNumbers.{wrapped, condition_holds}
-use Rattle.rb_decode.specs.Program.{slot_at}
-use Rattle.rb_cfg.specs.Edges.{Edge, Next, Target, falls_through, distance_of}
-use Rattle.rb_cfg.proofs.Laws.{jumps_land}
-use Rattle.rb_refs.specs.declared.rule.Rule.{Rule}
-use Rattle.rb_refs.specs.declared.rule.Rule.TheVariants as rule
-use Rattle.rb_refs.specs.declared.state.AbsState.{AbsState}
-use Rattle.rb_refs.specs.declared.state.Effect as refs
-use Rattle.rb_refs.specs.declared.value.Abs.{Abs}
-use Rattle.rb_refs.specs.declared.value.Abs.TheVariants as abs
-use Rattle.rb_refs.specs.AbstractArithmetic.{operand_value}
-use Rattle.rb_refs.specs.Branches.{null_test_of, check_branch}
-use Rattle.rb_refs.specs.ReferenceChanges.{null_state, there_state}
-use Rattle.rb_refs.specs.ValueChecks.{◌>>=◌, check_readable, check_number}
-use Rattle.rb_refs.specs.References.{has_id}
-use Rattle.rb_refs.specs.AbstractStates.{value_in, effect_on_both}
+use Rattle.rb_insn.specs.ArithmeticAndJumps.{jumps_of}
+use Rattle.rb_insn.specs.WholeNumbers.{wrapped, condition_holds}
+use Rattle.rb_program.specs.Program.{slot_at}
+use Rattle.rb_program.specs.Edges.{Edge, Next, Target, falls_through, distance_of}
+use Rattle.rb_program.proofs.ShapeLaws.{jumps_land}
+use Rattle.rb_verifier.specs.declared.rule.Rule.{Rule}
+use Rattle.rb_verifier.specs.declared.rule.Rule.TheVariants as rule
+use Rattle.rb_verifier.specs.declared.state.AbsState.{AbsState}
+use Rattle.rb_verifier.specs.declared.state.Effect as refs
+use Rattle.rb_verifier.specs.declared.value.Abs.{Abs}
+use Rattle.rb_verifier.specs.declared.value.Abs.TheVariants as abs
+use Rattle.rb_verifier.specs.AbstractArithmetic.{operand_value}
+use Rattle.rb_verifier.specs.Branches.{null_test_of, check_branch}
+use Rattle.rb_verifier.specs.ReferenceChanges.{null_state, there_state}
+use Rattle.rb_verifier.specs.ValueChecks.{◌>>=◌, check_readable, check_number}
+use Rattle.rb_verifier.specs.References.{has_id}
+use Rattle.rb_verifier.specs.AbstractStates.{value_in, effect_on_both}
 use Rattle.rb_verifier.specs.Annotation.{along_edge}
 use Rattle.rb_verifier.specs.Subject.{Subject}
 use Rattle.rb_semantics.specs.declared.value.Value.{Value}

@@ -2,26 +2,26 @@
 use Rattle.std.proofs.Common.{◌≡◌, ℕ, ◌+◌, ◌<◌, ℤ, pos, true, false, List, [], ◌∷◌, ◌++◌, Option, Some, None, length, find, replicate, sym, ap, subst, refl, arith, Result, Ok}
 use Rattle.std.specs.Ordering.{int_eq}
 use Rattle.std.proofs.lemmas.List.{length-replicate}
-use Rattle.rb_alu.specs.WholeNumbers.{wrapped}
+use Rattle.rb_insn.specs.WholeNumbers.{wrapped}
 use Rattle.rb_insn.specs.declared.insn.Insn.TheVariants.{Call}
-use Rattle.rb_decode.specs.Program.{slot_at}
-use Rattle.rb_cfg.specs.Edges.{Next}
-use Rattle.rb_cfg.proofs.Laws.{leads-goes_on}
-use Rattle.rb_refs.specs.declared.references.Reference.{Reference}
-use Rattle.rb_refs.specs.declared.helper.Helper.{Helper}
-use Rattle.rb_refs.specs.declared.helper.Helper.TheVariants as helper
-use Rattle.rb_refs.specs.declared.rule.Rule.{Rule}
-use Rattle.rb_refs.specs.declared.rule.Rule.TheVariants as rule
-use Rattle.rb_refs.specs.declared.state.AbsState.{AbsState}
-use Rattle.rb_refs.specs.declared.state.Effect as refs
-use Rattle.rb_refs.specs.declared.value.Abs.{Abs}
-use Rattle.rb_refs.specs.declared.value.Abs.TheVariants as abs
-use Rattle.rb_refs.specs.ReferenceChanges.{given_back_state}
-use Rattle.rb_refs.specs.ValueChecks.{refused_if, check_tested, check_number, check_inside, check_ring, check_part_pointer, check_known_size, check_record_size, check_record_start}
-use Rattle.rb_refs.specs.KeptPointers.{known_in, byte_behind, check_data}
-use Rattle.rb_refs.specs.HelperChecks as table
-use Rattle.rb_refs.specs.References.{has_id, is_full}
-use Rattle.rb_refs.specs.AbstractStates.{value_in, effect_on_both}
+use Rattle.rb_program.specs.Program.{slot_at}
+use Rattle.rb_program.specs.Edges.{Next}
+use Rattle.rb_program.proofs.ShapeLaws.{leads-goes_on}
+use Rattle.rb_verifier.specs.declared.references.Reference.{Reference}
+use Rattle.rb_verifier.specs.declared.helper.Helper.{Helper}
+use Rattle.rb_verifier.specs.declared.helper.Helper.TheVariants as helper
+use Rattle.rb_verifier.specs.declared.rule.Rule.{Rule}
+use Rattle.rb_verifier.specs.declared.rule.Rule.TheVariants as rule
+use Rattle.rb_verifier.specs.declared.state.AbsState.{AbsState}
+use Rattle.rb_verifier.specs.declared.state.Effect as refs
+use Rattle.rb_verifier.specs.declared.value.Abs.{Abs}
+use Rattle.rb_verifier.specs.declared.value.Abs.TheVariants as abs
+use Rattle.rb_verifier.specs.ReferenceChanges.{given_back_state}
+use Rattle.rb_verifier.specs.ValueChecks.{refused_if, check_tested, check_number, check_inside, check_ring, check_part_pointer, check_known_size, check_record_size, check_record_start}
+use Rattle.rb_verifier.specs.KeptPointers.{known_in, byte_behind, check_data}
+use Rattle.rb_verifier.specs.HelperChecks as table
+use Rattle.rb_verifier.specs.References.{has_id, is_full}
+use Rattle.rb_verifier.specs.AbstractStates.{value_in, effect_on_both}
 use Rattle.rb_verifier.specs.Annotation.{Annotation}
 use Rattle.rb_verifier.specs.Subject.{Subject, limits_of, calls}
 use Rattle.rb_semantics.specs.declared.pending_call.PendingCall.TheVariants as asked

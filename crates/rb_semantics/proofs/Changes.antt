@@ -1,13 +1,13 @@
 -- A state is as is known of it, after each change.
 use Rattle.std.proofs.Common.{◌≡◌, ℕ, zero, suc, true, false, List, [], ◌∷◌, ◌++◌, Some, None, length, map, find, get_or, set, sym, ap, subst, ◌∙◌, refl, arith}
 use Rattle.std.proofs.lemmas.List.{length-set, length-map}
-use Rattle.rb_refs.specs.declared.state.AbsState.{AbsState}
-use Rattle.rb_refs.specs.declared.value.Abs.{Abs}
-use Rattle.rb_refs.specs.declared.value.Abs.TheVariants as abs
-use Rattle.rb_refs.specs.ReferenceChanges.{if_null, if_there, if_given_back, null_state, there_state, given_back_state}
-use Rattle.rb_refs.specs.References.{IsAscending, AreEarlier, has_id}
-use Rattle.rb_refs.specs.AbstractStates.{Below, value_in, put}
-use Rattle.rb_refs.specs.HelperChecks as helpers
+use Rattle.rb_verifier.specs.declared.state.AbsState.{AbsState}
+use Rattle.rb_verifier.specs.declared.value.Abs.{Abs}
+use Rattle.rb_verifier.specs.declared.value.Abs.TheVariants as abs
+use Rattle.rb_verifier.specs.ReferenceChanges.{if_null, if_there, if_given_back, null_state, there_state, given_back_state}
+use Rattle.rb_verifier.specs.References.{IsAscending, AreEarlier, has_id}
+use Rattle.rb_verifier.specs.AbstractStates.{Below, value_in, put}
+use Rattle.rb_verifier.specs.HelperChecks as helpers
 use Rattle.rb_verifier.specs.Subject.{Subject}
 use Rattle.rb_semantics.specs.declared.value.Value.{Value}
 use Rattle.rb_semantics.specs.declared.value.Value.TheVariants.{Nothing}

@@ -4,16 +4,16 @@ use Rattle.std.specs.Prelude.{nat_le, if◌then◌else◌}
 use Rattle.std.specs.Ordering.{int_eq}
 use Rattle.std.proofs.lemmas.Bool.Decides.{nat_tests}
 use Rattle.std.proofs.lemmas.Int.{ints}
-use Rattle.rb_refs.specs.declared.rule.Rule.{Rule}
-use Rattle.rb_refs.specs.declared.rule.Rule.TheVariants as rule
-use Rattle.rb_refs.specs.declared.value.Abs.{Abs}
-use Rattle.rb_refs.specs.declared.value.Abs.TheVariants as abs
-use Rattle.rb_refs.specs.AbstractArithmetic.{is_near, check_near}
-use Rattle.rb_refs.specs.ValueChecks.{refused_if, check_readable, check_number, check_ring, check_known_size, check_record_size, check_record_start}
-use Rattle.rb_refs.specs.Extents.{stack_extent, extent_from_zero, contains_range}
-use Rattle.rb_refs.specs.AbstractValues.{IsNumber}
+use Rattle.rb_verifier.specs.declared.rule.Rule.{Rule}
+use Rattle.rb_verifier.specs.declared.rule.Rule.TheVariants as rule
+use Rattle.rb_verifier.specs.declared.value.Abs.{Abs}
+use Rattle.rb_verifier.specs.declared.value.Abs.TheVariants as abs
+use Rattle.rb_verifier.specs.AbstractArithmetic.{is_near, check_near}
+use Rattle.rb_verifier.specs.ValueChecks.{refused_if, check_readable, check_number, check_ring, check_known_size, check_record_size, check_record_start}
+use Rattle.rb_verifier.specs.Extents.{stack_extent, extent_from_zero, contains_range}
+use Rattle.rb_verifier.specs.AbstractValues.{IsNumber}
 use Rattle.rb_semantics.specs.declared.value.Value.TheVariants.{Nothing, Number}
-use Rattle.rb_refs.specs.StackPlaces.{natural}
+use Rattle.rb_verifier.specs.StackPlaces.{natural}
 use Rattle.rb_semantics.specs.Agreement.{reserved_value, AgreesValue}
 
 -- a test that is not refused

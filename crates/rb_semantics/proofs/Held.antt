@@ -1,7 +1,7 @@
 -- The records that are held are those of the references, after each change.
 use Rattle.std.proofs.Common.{◌≡◌, ℕ, ◌+◌, ◌≤◌, true, false, List, [], ◌∷◌, ◌++◌, Some, None, length, map, filter, find, sym, ap, subst, ◌∙◌, refl, arith, eq-eqb, inl, inr}
-use Rattle.rb_refs.specs.declared.references.Reference.{Reference}
-use Rattle.rb_refs.specs.References.{IsAscending, has_id, other_than, tested_in}
+use Rattle.rb_verifier.specs.declared.references.Reference.{Reference}
+use Rattle.rb_verifier.specs.References.{IsAscending, has_id, other_than, tested_in}
 use Rattle.rb_semantics.specs.ProgramMemory.{record_named, without_record, with_bytes}
 use Rattle.rb_semantics.specs.Agreement.{AreHeld}
 use Rattle.rb_semantics.proofs.Ids.{not_equal, eq_cases, IsApart, apart_later}

@@ -3,8 +3,8 @@ use Rattle.std.proofs.Common.{◌≡◌, ◌≢◌, ℕ, ◌<◌, Bool, true, fa
 use Rattle.std.specs.List.{AllByRecursion}
 use Rattle.std.proofs.lemmas.Bool.{cases_eq}
 use Rattle.std.proofs.lemmas.Bool.Decides.{nat_tests}
-use Rattle.rb_refs.specs.declared.references.Reference.{Reference}
-use Rattle.rb_refs.specs.References.{AreEarlier, has_id, other_than, tested_in}
+use Rattle.rb_verifier.specs.declared.references.Reference.{Reference}
+use Rattle.rb_verifier.specs.References.{AreEarlier, has_id, other_than, tested_in}
 use Rattle.rb_semantics.specs.Agreement.{IsTested}
 
 pub not_equal : (m n : ℕ) → m ≢ n → eqb m n ≡ false

@@ -1,9 +1,9 @@
 -- Steps under one annotation: what an instruction does is sound, and the states to which it leads agree with the annotation that the old
 -- state agrees with.
 use Rattle.std.proofs.Common.{◌≡◌, ℕ, ◌+◌, ◌<◌, true, [], ◌∷◌, length}
-use Rattle.rb_decode.specs.Program.{slot_at}
-use Rattle.rb_cfg.specs.Shape.{IsWellShaped, IsInstructionStart}
-use Rattle.rb_refs.specs.Forms.{IsFormed}
+use Rattle.rb_program.specs.Program.{slot_at}
+use Rattle.rb_program.specs.Shape.{IsWellShaped, IsInstructionStart}
+use Rattle.rb_verifier.specs.Forms.{IsFormed}
 use Rattle.rb_verifier.specs.Annotation.{Annotation, IsValid}
 use Rattle.rb_verifier.specs.Subject.{Subject, limits_of, calls}
 use Rattle.rb_semantics.specs.declared.pending_call.PendingCall.{PendingCall}

@@ -5,20 +5,20 @@ use Rattle.std.proofs.lemmas.Bool.Decides.{nat_tests}
 use Rattle.rb_insn.specs.declared.insn.Insn.{Insn}
 use Rattle.rb_insn.specs.declared.insn.Operand.{Operand}
 use Rattle.rb_insn.specs.declared.reg.Reg.{Reg}
-use Rattle.rb_alu.specs.ArithmeticAndJumps.{value_of}
-use Rattle.rb_decode.specs.Program.{slot_at}
-use Rattle.rb_cfg.specs.Edges.{falls_through}
-use Rattle.rb_refs.specs.declared.references.Reference.{Reference}
-use Rattle.rb_refs.specs.declared.rule.Rule.{Rule}
-use Rattle.rb_refs.specs.declared.rule.Rule.TheVariants as rule
-use Rattle.rb_refs.specs.declared.state.AbsState.{AbsState}
-use Rattle.rb_refs.specs.declared.state.Effect as refs
-use Rattle.rb_refs.specs.declared.value.Abs.{Abs}
-use Rattle.rb_refs.specs.declared.value.Abs.TheVariants as abs
-use Rattle.rb_refs.specs.AbstractArithmetic.{operand_value, abstract_result, check_numbers, check_arithmetic}
-use Rattle.rb_refs.specs.ValueChecks.{◌>>=◌, Check, refused_if, check_readable, check_writable, check_number}
-use Rattle.rb_refs.specs.AbstractStates.{value_in}
-use Rattle.rb_refs.specs.VerifierChecks as table
+use Rattle.rb_insn.specs.ArithmeticAndJumps.{value_of}
+use Rattle.rb_program.specs.Program.{slot_at}
+use Rattle.rb_program.specs.Edges.{falls_through}
+use Rattle.rb_verifier.specs.declared.references.Reference.{Reference}
+use Rattle.rb_verifier.specs.declared.rule.Rule.{Rule}
+use Rattle.rb_verifier.specs.declared.rule.Rule.TheVariants as rule
+use Rattle.rb_verifier.specs.declared.state.AbsState.{AbsState}
+use Rattle.rb_verifier.specs.declared.state.Effect as refs
+use Rattle.rb_verifier.specs.declared.value.Abs.{Abs}
+use Rattle.rb_verifier.specs.declared.value.Abs.TheVariants as abs
+use Rattle.rb_verifier.specs.AbstractArithmetic.{operand_value, abstract_result, check_numbers, check_arithmetic}
+use Rattle.rb_verifier.specs.ValueChecks.{◌>>=◌, Check, refused_if, check_readable, check_writable, check_number}
+use Rattle.rb_verifier.specs.AbstractStates.{value_in}
+use Rattle.rb_verifier.specs.VerifierChecks as table
 use Rattle.rb_verifier.specs.Subject.{Subject, limits_of}
 use Rattle.rb_semantics.specs.declared.value.Value.{Value}
 use Rattle.rb_semantics.specs.declared.value.Value.TheVariants.{Nothing, Number, Pointer, Ring}

@@ -6,17 +6,17 @@ use Rattle.std.proofs.lemmas.Bool.Decides.{nat_tests}
 use Rattle.std.proofs.lemmas.Grind.{common_steps}
 use Rattle.std.proofs.lemmas.Slice.{between_is, take-put_mid_below, drop-put_mid}
 use Rattle.byteorder.specs.Endian.{little_number}
-use Rattle.rb_refs.specs.declared.references.Reference.{Reference}
-use Rattle.rb_refs.specs.declared.state.AbsState.{AbsState}
-use Rattle.rb_refs.specs.declared.value.Abs.{Abs}
-use Rattle.rb_refs.specs.declared.value.Abs.TheVariants as abs
-use Rattle.rb_refs.specs.AbstractStates.{Below}
-use Rattle.rb_refs.specs.AbstractValues.{BelowValue}
-use Rattle.rb_refs.specs.KeptPointers.{KnownPlaces, listed_places, known_in, with_place, with_data}
-use Rattle.rb_refs.specs.ReferenceChanges.{if_null, place_if_null, if_there, if_given_back, null_state, there_state, given_back_state}
-use Rattle.rb_refs.specs.References.{AreEarlier, has_id}
-use Rattle.rb_refs.specs.StackPlaces.{touches}
-use Rattle.rb_refs.proofs.Laws.{known-listed}
+use Rattle.rb_verifier.specs.declared.references.Reference.{Reference}
+use Rattle.rb_verifier.specs.declared.state.AbsState.{AbsState}
+use Rattle.rb_verifier.specs.declared.value.Abs.{Abs}
+use Rattle.rb_verifier.specs.declared.value.Abs.TheVariants as abs
+use Rattle.rb_verifier.specs.AbstractStates.{Below}
+use Rattle.rb_verifier.specs.AbstractValues.{BelowValue}
+use Rattle.rb_verifier.specs.KeptPointers.{KnownPlaces, listed_places, known_in, with_place, with_data}
+use Rattle.rb_verifier.specs.ReferenceChanges.{if_null, place_if_null, if_there, if_given_back, null_state, there_state, given_back_state}
+use Rattle.rb_verifier.specs.References.{AreEarlier, has_id}
+use Rattle.rb_verifier.specs.StackPlaces.{touches}
+use Rattle.rb_verifier.proofs.Laws.{known-listed}
 use Rattle.rb_semantics.specs.declared.value.Value.{Value}
 use Rattle.rb_semantics.specs.declared.value.Value.TheVariants.{Number}
 use Rattle.rb_semantics.specs.StackPointers.{StackPointers, pointer_at, pointers_beside}

@@ -5,22 +5,22 @@ use Rattle.rb_insn.specs.declared.insn.Insn.{Insn}
 use Rattle.rb_insn.specs.declared.insn.Insn.TheVariants.{Binary, Division, Negate, Move, MoveExtended32, MoveExtended64, Reorder, Jump, JumpFar, Branch, Call, Exit, LoadNumber, LoadRing, Load, LoadSigned, StoreImmediate, StoreRegister}
 use Rattle.rb_insn.specs.declared.reg.Reg.{Reg}
 use Rattle.rb_insn.specs.Sizes.{byte_count, signed_byte_count}
-use Rattle.rb_refs.specs.declared.helper.Helper.{Helper}
-use Rattle.rb_refs.specs.declared.helper.Helper.TheVariants as helper
-use Rattle.rb_refs.specs.declared.limits.Limits.{Limits}
-use Rattle.rb_refs.specs.declared.rule.Rule.TheVariants as rule
-use Rattle.rb_refs.specs.declared.state.AbsState.{AbsState}
-use Rattle.rb_refs.specs.declared.state.Effect.{Effect}
-use Rattle.rb_refs.specs.declared.value.Abs.{Abs}
-use Rattle.rb_refs.specs.declared.value.Abs.TheVariants.{Unreadable, Number, Known, Ctx, Stack, Ring, Perhaps, Record}
-use Rattle.rb_refs.specs.ValueChecks.{◌>>=◌, refused_if, check_tested, check_not_context, check_inside, check_number, check_ring, check_part_pointer, check_known_size}
-use Rattle.rb_refs.specs.HelperChecks.{helper_of, check_call, check_output}
-use Rattle.rb_refs.specs.StackPlaces.{touches, whole_place}
-use Rattle.rb_refs.specs.KeptPointers.{all_data, known_in, listed_places, with_data, may_keep, byte_behind, check_data, check_filled, check_loaded, check_stored}
-use Rattle.rb_refs.specs.AbstractStates.{value_in}
-use Rattle.rb_refs.specs.VerifierChecks.{abstract_step, check_load, check_store}
-use Rattle.rb_refs.proofs.Laws.{known-listed, known-past, both_hold}
-use Rattle.rb_refs.proofs.KeptPlaces.{any_place-false, not_kept, listed_same, with_data-data}
+use Rattle.rb_verifier.specs.declared.helper.Helper.{Helper}
+use Rattle.rb_verifier.specs.declared.helper.Helper.TheVariants as helper
+use Rattle.rb_verifier.specs.declared.limits.Limits.{Limits}
+use Rattle.rb_verifier.specs.declared.rule.Rule.TheVariants as rule
+use Rattle.rb_verifier.specs.declared.state.AbsState.{AbsState}
+use Rattle.rb_verifier.specs.declared.state.Effect.{Effect}
+use Rattle.rb_verifier.specs.declared.value.Abs.{Abs}
+use Rattle.rb_verifier.specs.declared.value.Abs.TheVariants.{Unreadable, Number, Known, Ctx, Stack, Ring, Perhaps, Record}
+use Rattle.rb_verifier.specs.ValueChecks.{◌>>=◌, refused_if, check_tested, check_not_context, check_inside, check_number, check_ring, check_part_pointer, check_known_size}
+use Rattle.rb_verifier.specs.HelperChecks.{helper_of, check_call, check_output}
+use Rattle.rb_verifier.specs.StackPlaces.{touches, whole_place}
+use Rattle.rb_verifier.specs.KeptPointers.{all_data, known_in, listed_places, with_data, may_keep, byte_behind, check_data, check_filled, check_loaded, check_stored}
+use Rattle.rb_verifier.specs.AbstractStates.{value_in}
+use Rattle.rb_verifier.specs.VerifierChecks.{abstract_step, check_load, check_store}
+use Rattle.rb_verifier.proofs.Laws.{known-listed, known-past, both_hold}
+use Rattle.rb_verifier.proofs.KeptPlaces.{any_place-false, not_kept, listed_same, with_data-data}
 use Rattle.rb_semantics.specs.PlainPrograms.{plain_load, plain_store, plain_output, plain_call, plain_step, HoldsPlainly, PlainAnnotationsAreValid}
 
 -- where each place has data

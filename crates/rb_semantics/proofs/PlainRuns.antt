@@ -13,23 +13,23 @@ use Rattle.rb_insn.specs.declared.insn.Size.TheVariants.{Byte, Half, Word, Doubl
 use Rattle.rb_insn.specs.declared.insn.Width.{Width}
 use Rattle.rb_insn.specs.declared.insn.Width.TheVariants.{W32, W64}
 use Rattle.rb_insn.specs.declared.reg.Reg.{Reg}
-use Rattle.rb_alu.specs.WholeNumbers.{wrapped}
+use Rattle.rb_insn.specs.WholeNumbers.{wrapped}
 use Rattle.rb_insn.specs.Sizes.{byte_count, signed_byte_count}
-use Rattle.rb_decode.specs.Program.{slot_at, unit_count}
-use Rattle.rb_cfg.specs.Edges.{Edge, Target}
-use Rattle.rb_cfg.specs.Shape.{IsWellShaped, IsInstructionStart}
-use Rattle.rb_cfg.proofs.Laws.{begins-lt}
-use Rattle.rb_refs.specs.declared.helper.Helper.{Helper}
-use Rattle.rb_refs.specs.declared.helper.Helper.TheVariants as helper
-use Rattle.rb_refs.specs.declared.limits.Limits.{Limits}
-use Rattle.rb_refs.specs.declared.rule.Rule.TheVariants as rule
-use Rattle.rb_refs.specs.declared.state.AbsState.{AbsState}
-use Rattle.rb_refs.specs.declared.state.Effect as refs
-use Rattle.rb_refs.specs.declared.value.Abs.{Abs}
-use Rattle.rb_refs.specs.AbstractStates.{value_in}
-use Rattle.rb_refs.specs.ValueChecks.{check_tested, check_not_context, check_inside, check_number}
-use Rattle.rb_refs.specs.HelperChecks.{helper_of}
-use Rattle.rb_refs.proofs.Laws.{both_hold}
+use Rattle.rb_program.specs.Program.{slot_at, unit_count}
+use Rattle.rb_program.specs.Edges.{Edge, Target}
+use Rattle.rb_program.specs.Shape.{IsWellShaped, IsInstructionStart}
+use Rattle.rb_program.proofs.ShapeLaws.{begins-lt}
+use Rattle.rb_verifier.specs.declared.helper.Helper.{Helper}
+use Rattle.rb_verifier.specs.declared.helper.Helper.TheVariants as helper
+use Rattle.rb_verifier.specs.declared.limits.Limits.{Limits}
+use Rattle.rb_verifier.specs.declared.rule.Rule.TheVariants as rule
+use Rattle.rb_verifier.specs.declared.state.AbsState.{AbsState}
+use Rattle.rb_verifier.specs.declared.state.Effect as refs
+use Rattle.rb_verifier.specs.declared.value.Abs.{Abs}
+use Rattle.rb_verifier.specs.AbstractStates.{value_in}
+use Rattle.rb_verifier.specs.ValueChecks.{check_tested, check_not_context, check_inside, check_number}
+use Rattle.rb_verifier.specs.HelperChecks.{helper_of}
+use Rattle.rb_verifier.proofs.Laws.{both_hold}
 use Rattle.rb_verifier.specs.Annotation.{Annotation}
 use Rattle.rb_verifier.specs.Subject.{Subject, limits_of}
 use Rattle.rb_semantics.specs.declared.pending_call.PendingCall.{PendingCall}

@@ -5,21 +5,21 @@ use Rattle.rb_insn.specs.declared.insn.Operand.{Operand}
 use Rattle.rb_insn.specs.declared.insn.Operand.TheVariants.{Immediate, Register}
 use Rattle.rb_insn.specs.declared.reg.Reg.{Reg}
 use Rattle.rb_insn.specs.Units.{units_taken}
-use Rattle.rb_decode.specs.Program.{slot_at}
-use Rattle.rb_decode.proofs.Laws.{is_laid_out}
-use Rattle.rb_cfg.specs.Edges.{Edge, Next, Target, edge_target, falls_through}
-use Rattle.rb_cfg.specs.Shape.{IsInstructionStart}
-use Rattle.rb_cfg.proofs.Laws.{edges_forward, leads-goes_on}
-use Rattle.rb_refs.specs.declared.rule.Rule.{Rule}
-use Rattle.rb_refs.specs.declared.state.AbsState.{AbsState}
-use Rattle.rb_refs.specs.declared.state.Effect as refs
-use Rattle.rb_refs.specs.declared.value.Abs.{Abs}
-use Rattle.rb_refs.specs.AbstractArithmetic.{operand_value}
-use Rattle.rb_refs.specs.ValueChecks.{◌>>=◌}
-use Rattle.rb_refs.specs.Forms.{IsFormed}
-use Rattle.rb_refs.specs.AbstractStates.{Below}
-use Rattle.rb_refs.specs.VerifierChecks as table
-use Rattle.rb_refs.proofs.Laws.{form_below}
+use Rattle.rb_program.specs.Program.{slot_at}
+use Rattle.rb_program.proofs.Laws.{is_laid_out}
+use Rattle.rb_program.specs.Edges.{Edge, Next, Target, edge_target, falls_through}
+use Rattle.rb_program.specs.Shape.{IsInstructionStart}
+use Rattle.rb_program.proofs.ShapeLaws.{edges_forward, leads-goes_on}
+use Rattle.rb_verifier.specs.declared.rule.Rule.{Rule}
+use Rattle.rb_verifier.specs.declared.state.AbsState.{AbsState}
+use Rattle.rb_verifier.specs.declared.state.Effect as refs
+use Rattle.rb_verifier.specs.declared.value.Abs.{Abs}
+use Rattle.rb_verifier.specs.AbstractArithmetic.{operand_value}
+use Rattle.rb_verifier.specs.ValueChecks.{◌>>=◌}
+use Rattle.rb_verifier.specs.Forms.{IsFormed}
+use Rattle.rb_verifier.specs.AbstractStates.{Below}
+use Rattle.rb_verifier.specs.VerifierChecks as table
+use Rattle.rb_verifier.proofs.Laws.{form_below}
 use Rattle.rb_verifier.specs.Annotation.{along_edge}
 use Rattle.rb_verifier.specs.Subject.{Subject}
 use Rattle.rb_semantics.specs.declared.value.Value.{Value}

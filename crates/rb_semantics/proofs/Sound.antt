@@ -6,24 +6,24 @@ use Rattle.rb_insn.specs.declared.insn.Insn.{Insn}
 use Rattle.rb_insn.specs.declared.insn.Insn.TheVariants.{Binary, Division, Negate, Move, MoveExtended32, MoveExtended64, Reorder, Jump, JumpFar, Branch, Call, Exit, LoadNumber, LoadRing, Load, LoadSigned, StoreImmediate, StoreRegister}
 use Rattle.rb_insn.specs.declared.insn.Operand.TheVariants.{Immediate, Register}
 use Rattle.rb_insn.specs.declared.insn.Width.TheVariants.{W32, W64}
-use Rattle.rb_alu.specs.ArithmeticAndJumps.{value_of}
-use Rattle.rb_decode.specs.Program.{slot_at, unit_count}
-use Rattle.rb_decode.proofs.Laws.{is_laid_out}
-use Rattle.rb_cfg.specs.Shape.{IsWellShaped, IsInstructionStart}
-use Rattle.rb_cfg.proofs.Laws.{edges_forward, begins-lt}
-use Rattle.rb_refs.specs.declared.rule.Rule.TheVariants as rule
-use Rattle.rb_refs.specs.declared.references.Reference.{Reference}
-use Rattle.rb_refs.specs.declared.value.Abs.TheVariants as abs
-use Rattle.rb_refs.specs.ValueChecks.{refused_if, check_number}
-use Rattle.rb_refs.specs.HelperChecks.{helper_of}
+use Rattle.rb_insn.specs.ArithmeticAndJumps.{value_of}
+use Rattle.rb_program.specs.Program.{slot_at, unit_count}
+use Rattle.rb_program.proofs.Laws.{is_laid_out}
+use Rattle.rb_program.specs.Shape.{IsWellShaped, IsInstructionStart}
+use Rattle.rb_program.proofs.ShapeLaws.{edges_forward, begins-lt}
+use Rattle.rb_verifier.specs.declared.rule.Rule.TheVariants as rule
+use Rattle.rb_verifier.specs.declared.references.Reference.{Reference}
+use Rattle.rb_verifier.specs.declared.value.Abs.TheVariants as abs
+use Rattle.rb_verifier.specs.ValueChecks.{refused_if, check_number}
+use Rattle.rb_verifier.specs.HelperChecks.{helper_of}
 use Rattle.rb_insn.specs.declared.insn.SignedSize.{SignedSize}
 use Rattle.rb_insn.specs.declared.insn.SignedSize.TheVariants as signed
 use Rattle.rb_insn.specs.Sizes.{signed_byte_count}
-use Rattle.rb_refs.specs.StackPlaces.{whole_place}
-use Rattle.rb_refs.specs.References.{is_empty}
-use Rattle.rb_refs.specs.AbstractStates.{value_in, effect_on_both, entry_state}
-use Rattle.rb_refs.specs.VerifierChecks as table
-use Rattle.rb_refs.proofs.Laws.{step_forms, form_entry, form_below, known-listed}
+use Rattle.rb_verifier.specs.StackPlaces.{whole_place}
+use Rattle.rb_verifier.specs.References.{is_empty}
+use Rattle.rb_verifier.specs.AbstractStates.{value_in, effect_on_both, entry_state}
+use Rattle.rb_verifier.specs.VerifierChecks as table
+use Rattle.rb_verifier.proofs.Laws.{step_forms, form_entry, form_below, known-listed}
 use Rattle.rb_verifier.specs.Annotation.{Annotation, HoldsAt, IsValid, HasValid}
 use Rattle.rb_verifier.specs.Subject.{Subject, limits_of}
 use Rattle.rb_semantics.specs.declared.value.Value.TheVariants.{Number}

@@ -6,23 +6,23 @@ use Rattle.rb_insn.specs.declared.insn.Insn.{Insn}
 use Rattle.rb_insn.specs.declared.insn.Size.{Size}
 use Rattle.rb_insn.specs.declared.insn.Size.TheVariants.{Byte, Half, Word, Double}
 use Rattle.rb_insn.specs.declared.reg.Reg.{Reg}
-use Rattle.rb_decode.specs.Program.{slot_at}
-use Rattle.rb_cfg.specs.Edges.{falls_through}
-use Rattle.rb_refs.specs.declared.rule.Rule.{Rule}
-use Rattle.rb_refs.specs.declared.rule.Rule.TheVariants as rule
-use Rattle.rb_refs.specs.declared.state.AbsState.{AbsState}
-use Rattle.rb_refs.specs.declared.state.Effect as refs
-use Rattle.rb_refs.specs.declared.value.Abs.{Abs}
-use Rattle.rb_refs.specs.declared.value.Abs.TheVariants as abs
-use Rattle.rb_refs.specs.ValueChecks.{◌>>=◌, check_readable, check_tested, check_not_context, check_inside, check_number}
-use Rattle.rb_refs.specs.Extents.{reaches, record_contains}
+use Rattle.rb_program.specs.Program.{slot_at}
+use Rattle.rb_program.specs.Edges.{falls_through}
+use Rattle.rb_verifier.specs.declared.rule.Rule.{Rule}
+use Rattle.rb_verifier.specs.declared.rule.Rule.TheVariants as rule
+use Rattle.rb_verifier.specs.declared.state.AbsState.{AbsState}
+use Rattle.rb_verifier.specs.declared.state.Effect as refs
+use Rattle.rb_verifier.specs.declared.value.Abs.{Abs}
+use Rattle.rb_verifier.specs.declared.value.Abs.TheVariants as abs
+use Rattle.rb_verifier.specs.ValueChecks.{◌>>=◌, check_readable, check_tested, check_not_context, check_inside, check_number}
+use Rattle.rb_verifier.specs.Extents.{reaches, record_contains}
 use Rattle.rb_insn.specs.Sizes.{byte_count}
-use Rattle.rb_refs.specs.References.{has_id}
-use Rattle.rb_refs.specs.AbstractValues.{IsNumber}
-use Rattle.rb_refs.specs.StackPlaces.{stack_byte, place_from, whole_place}
-use Rattle.rb_refs.specs.KeptPointers.{listed_places, known_in, is_data, byte_behind, with_place, with_data, check_kept, check_stored}
-use Rattle.rb_refs.specs.AbstractStates.{value_in, effect_on_both}
-use Rattle.rb_refs.specs.VerifierChecks as table
+use Rattle.rb_verifier.specs.References.{has_id}
+use Rattle.rb_verifier.specs.AbstractValues.{IsNumber}
+use Rattle.rb_verifier.specs.StackPlaces.{stack_byte, place_from, whole_place}
+use Rattle.rb_verifier.specs.KeptPointers.{listed_places, known_in, is_data, byte_behind, with_place, with_data, check_kept, check_stored}
+use Rattle.rb_verifier.specs.AbstractStates.{value_in, effect_on_both}
+use Rattle.rb_verifier.specs.VerifierChecks as table
 use Rattle.rb_verifier.specs.Subject.{Subject, limits_of}
 use Rattle.rb_semantics.specs.declared.value.MemoryRegion.{MemoryRegion}
 use Rattle.rb_semantics.specs.declared.value.MemoryRegion.TheVariants.{Stack, Record}

@@ -7,18 +7,18 @@ use Rattle.rb_insn.specs.declared.insn.Operand.{Operand}
 use Rattle.rb_insn.specs.declared.insn.Width.{Width}
 use Rattle.rb_insn.specs.declared.insn.Width.TheVariants.{W64}
 use Rattle.rb_insn.specs.declared.reg.Reg.{Reg}
-use Rattle.rb_decode.specs.Program.{slot_at}
-use Rattle.rb_cfg.specs.Edges.{falls_through}
-use Rattle.rb_refs.specs.declared.rule.Rule.{Rule}
-use Rattle.rb_refs.specs.declared.state.Effect as refs
-use Rattle.rb_refs.specs.declared.value.Abs.{Abs}
-use Rattle.rb_refs.specs.declared.value.Abs.TheVariants as abs
-use Rattle.rb_refs.specs.declared.state.AbsState.{AbsState}
-use Rattle.rb_refs.specs.AbstractArithmetic.{operand_value, direction_of, check_arithmetic, moved_offset, check_near, is_near}
-use Rattle.rb_refs.specs.ValueChecks.{◌>>=◌}
-use Rattle.rb_refs.specs.AbstractStates.{value_in}
-use Rattle.rb_refs.specs.VerifierChecks as table
-use Rattle.rb_refs.proofs.Laws.{BothHold, both_hold}
+use Rattle.rb_program.specs.Program.{slot_at}
+use Rattle.rb_program.specs.Edges.{falls_through}
+use Rattle.rb_verifier.specs.declared.rule.Rule.{Rule}
+use Rattle.rb_verifier.specs.declared.state.Effect as refs
+use Rattle.rb_verifier.specs.declared.value.Abs.{Abs}
+use Rattle.rb_verifier.specs.declared.value.Abs.TheVariants as abs
+use Rattle.rb_verifier.specs.declared.state.AbsState.{AbsState}
+use Rattle.rb_verifier.specs.AbstractArithmetic.{operand_value, direction_of, check_arithmetic, moved_offset, check_near, is_near}
+use Rattle.rb_verifier.specs.ValueChecks.{◌>>=◌}
+use Rattle.rb_verifier.specs.AbstractStates.{value_in}
+use Rattle.rb_verifier.specs.VerifierChecks as table
+use Rattle.rb_verifier.proofs.Laws.{BothHold, both_hold}
 use Rattle.rb_verifier.specs.Subject.{Subject}
 use Rattle.rb_semantics.specs.declared.value.MemoryRegion.{MemoryRegion}
 use Rattle.rb_semantics.specs.declared.value.MemoryRegion.TheVariants.{Stack, Context, Record}

@@ -1,12 +1,12 @@
 -- What registers hold is as is known of them, after each change.
 use Rattle.std.proofs.Common.{◌≡◌, ◌≢◌, ℕ, true, false, List, [], ◌∷◌, ◌++◌, Some, None, map, filter, find, sym, ap, subst, ◌∙◌, inl, inr}
-use Rattle.rb_refs.specs.declared.references.Reference.{Reference}
-use Rattle.rb_refs.specs.declared.value.Abs.{Abs}
-use Rattle.rb_refs.specs.declared.value.Abs.TheVariants as abs
-use Rattle.rb_refs.specs.References.{AreEarlier, has_id, other_than, tested_in}
-use Rattle.rb_refs.specs.AbstractValues.{IsNumber, BelowValue}
-use Rattle.rb_refs.specs.ReferenceChanges.{if_null, if_there, if_given_back}
-use Rattle.rb_refs.proofs.Laws.{below_cases, number_cases}
+use Rattle.rb_verifier.specs.declared.references.Reference.{Reference}
+use Rattle.rb_verifier.specs.declared.value.Abs.{Abs}
+use Rattle.rb_verifier.specs.declared.value.Abs.TheVariants as abs
+use Rattle.rb_verifier.specs.References.{AreEarlier, has_id, other_than, tested_in}
+use Rattle.rb_verifier.specs.AbstractValues.{IsNumber, BelowValue}
+use Rattle.rb_verifier.specs.ReferenceChanges.{if_null, if_there, if_given_back}
+use Rattle.rb_verifier.proofs.Laws.{below_cases, number_cases}
 use Rattle.rb_semantics.specs.declared.value.Value.{Value}
 use Rattle.rb_semantics.specs.declared.value.Value.TheVariants.{Number}
 use Rattle.rb_semantics.specs.ProgramMemory.{record_named, without_record, with_bytes}

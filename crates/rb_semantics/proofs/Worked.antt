@@ -11,9 +11,9 @@ use Rattle.rb_insn.specs.declared.insn.SignedSize.TheVariants as signed
 use Rattle.rb_insn.specs.declared.insn.Size.TheVariants.{Byte, Word, Double}
 use Rattle.rb_insn.specs.declared.insn.Width.TheVariants.{W32, W64}
 use Rattle.rb_insn.specs.declared.reg.Reg.{Reg}
-use Rattle.rb_alu.specs.ArithmeticAndJumps.{value_of, jumps_of, sign_extended, division_of}
-use Rattle.rb_alu.specs.WholeNumbers.{wrapped, signed_of, binary_of, unsigned_division, condition_holds}
-use Rattle.rb_cfg.specs.Edges.{edge_target}
+use Rattle.rb_insn.specs.ArithmeticAndJumps.{value_of, jumps_of, sign_extended, division_of}
+use Rattle.rb_insn.specs.WholeNumbers.{wrapped, signed_of, binary_of, unsigned_division, condition_holds}
+use Rattle.rb_program.specs.Edges.{edge_target}
 use Rattle.rb_semantics.specs.ProgramStates.{entry_program_state}
 use Rattle.rb_semantics.specs.HelperCalls.{HelperCall, Reserve, Submit, Discard, Output, Query, HelperAnswer, Granted, Null, Taken, HandedBack, Code, Told}
 use Rattle.rb_semantics.specs.Instructions.{execute}

@@ -1,14 +1,14 @@
 -- When the state of a program is as an annotation says (own profile).
 use Rattle.std.specs.Prelude.{◌≡◌, ℕ, ◌*◌, ◌<◌, pos, Bool, true, false, List, [], ◌∷◌, Option, Some, None, find, length, take, drop, ◌⊎◌}
 use Rattle.byteorder.specs.Endian.{little_number}
-use Rattle.rb_refs.specs.declared.references.Reference.{Reference}
-use Rattle.rb_refs.specs.declared.state.AbsState.{AbsState}
-use Rattle.rb_refs.specs.declared.value.Abs.{Abs}
-use Rattle.rb_refs.specs.declared.value.Abs.TheVariants as abs
-use Rattle.rb_refs.specs.AbstractArithmetic.{is_near}
-use Rattle.rb_refs.specs.KeptPointers.{known_in}
-use Rattle.rb_refs.specs.References.{has_id}
-use Rattle.rb_refs.specs.AbstractStates.{value_in}
+use Rattle.rb_verifier.specs.declared.references.Reference.{Reference}
+use Rattle.rb_verifier.specs.declared.state.AbsState.{AbsState}
+use Rattle.rb_verifier.specs.declared.value.Abs.{Abs}
+use Rattle.rb_verifier.specs.declared.value.Abs.TheVariants as abs
+use Rattle.rb_verifier.specs.AbstractArithmetic.{is_near}
+use Rattle.rb_verifier.specs.KeptPointers.{known_in}
+use Rattle.rb_verifier.specs.References.{has_id}
+use Rattle.rb_verifier.specs.AbstractStates.{value_in}
 use Rattle.rb_verifier.specs.Subject.{Subject}
 use Rattle.rb_semantics.specs.declared.value.MemoryRegion.TheVariants.{Stack, Context, Record}
 use Rattle.rb_semantics.specs.declared.value.Value.{Value}

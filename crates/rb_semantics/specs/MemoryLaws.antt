@@ -3,7 +3,7 @@ use Rattle.std.specs.Prelude.{◌≡◌, ℕ, ℤ, true, List, length, replicate
 use Rattle.rb_semantics.specs.declared.value.MemoryRegion.{MemoryRegion}
 use Rattle.rb_semantics.specs.declared.value.MemoryRegion.TheVariants.{Stack}
 use Rattle.rb_semantics.specs.declared.value.Value.{Value}
-use Rattle.rb_refs.specs.StackPlaces.{touches}
+use Rattle.rb_verifier.specs.StackPlaces.{touches}
 use Rattle.rb_semantics.specs.StackPointers.{pointer_at}
 use Rattle.rb_semantics.specs.ProgramMemory.{Memory, byte_of, byte_range, read, write, spill, fill}
 

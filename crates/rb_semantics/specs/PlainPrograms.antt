@@ -7,23 +7,23 @@ use Rattle.rb_insn.specs.declared.insn.Insn.{Insn}
 use Rattle.rb_insn.specs.declared.insn.Insn.TheVariants.{Call, Load, LoadSigned, StoreImmediate, StoreRegister}
 use Rattle.rb_insn.specs.declared.reg.Reg.{Reg}
 use Rattle.rb_insn.specs.Sizes.{byte_count, signed_byte_count}
-use Rattle.rb_decode.specs.Program.{unit_count, slot_at}
-use Rattle.rb_cfg.specs.Edges.{Edge, edge_target}
-use Rattle.rb_cfg.specs.Shape.{IsWellShaped, IsInstructionStart}
-use Rattle.rb_refs.specs.declared.helper.Helper.{Helper}
-use Rattle.rb_refs.specs.declared.helper.Helper.TheVariants as helper
-use Rattle.rb_refs.specs.declared.limits.Limits.{Limits}
-use Rattle.rb_refs.specs.declared.rule.Rule.{Rule}
-use Rattle.rb_refs.specs.declared.rule.Rule.TheVariants as rule
-use Rattle.rb_refs.specs.declared.state.AbsState.{AbsState}
-use Rattle.rb_refs.specs.declared.state.Effect.{Effect}
-use Rattle.rb_refs.specs.declared.value.Abs.{Abs}
-use Rattle.rb_refs.specs.declared.value.Abs.TheVariants.{Number}
-use Rattle.rb_refs.specs.ValueChecks.{◌>>=◌, check_writable, check_tested, check_not_context, check_inside, check_number, check_ring, check_part_pointer, check_known_size}
-use Rattle.rb_refs.specs.HelperChecks.{helper_of, after_answer, check_call}
-use Rattle.rb_refs.specs.KeptPointers.{all_data}
-use Rattle.rb_refs.specs.AbstractStates.{Below, value_in, effect_on_both, entry_state}
-use Rattle.rb_refs.specs.VerifierChecks.{abstract_step, assignment_effect}
+use Rattle.rb_program.specs.Program.{unit_count, slot_at}
+use Rattle.rb_program.specs.Edges.{Edge, edge_target}
+use Rattle.rb_program.specs.Shape.{IsWellShaped, IsInstructionStart}
+use Rattle.rb_verifier.specs.declared.helper.Helper.{Helper}
+use Rattle.rb_verifier.specs.declared.helper.Helper.TheVariants as helper
+use Rattle.rb_verifier.specs.declared.limits.Limits.{Limits}
+use Rattle.rb_verifier.specs.declared.rule.Rule.{Rule}
+use Rattle.rb_verifier.specs.declared.rule.Rule.TheVariants as rule
+use Rattle.rb_verifier.specs.declared.state.AbsState.{AbsState}
+use Rattle.rb_verifier.specs.declared.state.Effect.{Effect}
+use Rattle.rb_verifier.specs.declared.value.Abs.{Abs}
+use Rattle.rb_verifier.specs.declared.value.Abs.TheVariants.{Number}
+use Rattle.rb_verifier.specs.ValueChecks.{◌>>=◌, check_writable, check_tested, check_not_context, check_inside, check_number, check_ring, check_part_pointer, check_known_size}
+use Rattle.rb_verifier.specs.HelperChecks.{helper_of, after_answer, check_call}
+use Rattle.rb_verifier.specs.KeptPointers.{all_data}
+use Rattle.rb_verifier.specs.AbstractStates.{Below, value_in, effect_on_both, entry_state}
+use Rattle.rb_verifier.specs.VerifierChecks.{abstract_step, assignment_effect}
 use Rattle.rb_verifier.specs.Annotation.{Annotation, along_edge, IsValid}
 use Rattle.rb_verifier.specs.Subject.{Subject, limits_of}
 use Rattle.rb_semantics.specs.ProgramStates.{State, entry_program_state, register, pointed}

@@ -1,6 +1,6 @@
 -- The consumer's numbers after each call on a shared ring over chapters.
 use Rattle.std.proofs.Common.{◌≡◌, ℕ, ◌+◌, ◌*◌, ◌≤◌, ◌^◌, List, [], ◌∷◌, length, sym, ap, ◌∙◌, subst, arith}
-use Rattle.rb_header.specs.Span.{span}
+use Rattle.rb_history.specs.Span.{span}
 use Rattle.rb_history.specs.declared.answers.Taken.{Taken}
 use Rattle.rb_history.specs.declared.answers.Taken.TheVariants.{Event, Skipped, BusyFront, Empty}
 use Rattle.rb_history.specs.History.{consumer_of}

@@ -16,8 +16,7 @@ use crate::consumer_seat::ConsumerSeat;
 use crate::lock::{Lock, RingPass, put_back, take_out};
 use crate::locked_calls::{facts_of, with_state};
 use crate::shared::{Foreign, SharedRing};
-use rb_header::span;
-use rb_history::Taken;
+use rb_history::{Taken, span};
 use std::sync::Wait;
 
 // `RingState::take`, for the consumer.

@@ -5,9 +5,9 @@ use Rattle.std.proofs.lemmas.Bool.{true≢false}
 use Rattle.std.proofs.lemmas.List.{take_all}
 use Rattle.std.specs.Io.KnownBytes.{Appends}
 use Rattle.std.proofs.KnownBytes.{Appends-nil, Appends-trans}
-use Rattle.rb_header.specs.TapeBytes.{Item, item_bytes, item_span, tape, IsItemAt, AreItemsFrom, end_of}
-use Rattle.rb_header.specs.TapeBytes.Item.{Event as EventItem, Skip as SkipItem}
-use Rattle.rb_header.proofs.Laws.{length-item_bytes, tape-append, end_of-nil, end_of-cons, end_of-append}
+use Rattle.rb_history.specs.TapeBytes.{Item, item_bytes, item_span, tape, IsItemAt, AreItemsFrom, end_of}
+use Rattle.rb_history.specs.TapeBytes.Item.{Event as EventItem, Skip as SkipItem}
+use Rattle.rb_history.proofs.HeaderLaws.{length-item_bytes, tape-append, end_of-nil, end_of-cons, end_of-append}
 use Rattle.rb_history.specs.declared.answers.Taken.{Taken}
 use Rattle.rb_history.specs.declared.answers.Taken.TheVariants.{Event, Skipped, BusyFront, Empty}
 use Rattle.rb_tape.specs.declared.item.Item as given

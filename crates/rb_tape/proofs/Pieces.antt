@@ -5,10 +5,10 @@ use Rattle.std.proofs.Math.Seq.{drop-append-add, take-append_seam, take-add}
 use Rattle.std.proofs.lemmas.List.{take_all, drop-take, drop-append-le, take-take, drop-replicate, take-replicate, length-append, length-take, length-drop, length-take-le, length-replicate, replicate-append-replicate}
 use Rattle.std.specs.Io.KnownBytes.{Appends}
 use Rattle.std.proofs.KnownBytes.{Appends-trans}
-use Rattle.rb_header.specs.Header.{header_bytes}
-use Rattle.rb_header.specs.Span.{eights}
-use Rattle.rb_header.specs.TapeBytes.{Item, item_len, item_span, item_bytes, header_of, padding, zeros}
-use Rattle.rb_header.specs.TapeBytes.Item.{Event, Skip}
+use Rattle.rb_history.specs.Header.{header_bytes}
+use Rattle.rb_history.specs.Span.{eights}
+use Rattle.rb_history.specs.TapeBytes.{Item, item_len, item_span, item_bytes, header_of, padding, zeros}
+use Rattle.rb_history.specs.TapeBytes.Item.{Event, Skip}
 use Rattle.rb_tape.specs.inner.RecordParts.{bytes_before_zeros}
 
 -- what a part of a text has from its byte k on is a piece of the text

@@ -5,8 +5,8 @@ use Rattle.std.proofs.lemmas.List.{drop_all, drop-append-le, length-take-le}
 use Rattle.std.proofs.lemmas.List.Elements.{All-head, All-tail}
 use Rattle.std.specs.Io.KnownBytes.{Appends}
 use Rattle.std.proofs.KnownBytes.{Appends-nil, Appends-trans}
-use Rattle.rb_header.specs.TapeBytes.{Item, item_bytes, item_span, tape, end_of, IsItemAt, AreItemsFrom}
-use Rattle.rb_header.proofs.Laws.{length-item_bytes, tape-append, end_of-nil, end_of-cons, end_of-append, AreItemsFrom-append}
+use Rattle.rb_history.specs.TapeBytes.{Item, item_bytes, item_span, tape, end_of, IsItemAt, AreItemsFrom}
+use Rattle.rb_history.proofs.HeaderLaws.{length-item_bytes, tape-append, end_of-nil, end_of-cons, end_of-append, AreItemsFrom-append}
 use Rattle.rb_tape.specs.TapeOutput.{TapeOutput}
 use Rattle.rb_tape.specs.TapeCalls.{rest_of, still_missing, end_behind, end_of_begun, Begins, TapeCall, MakesCall, MakesCalls, failures_after, records_begun, all_begun, fresh_tape, CallsLeaveTape}
 use Rattle.rb_tape.specs.TapeCalls.TapeCall.{Put, Resume}

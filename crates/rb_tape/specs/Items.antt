@@ -1,7 +1,7 @@
 -- What an item that is lent says: the answer of `take` that it comes from, and its record on a tape (own).
 use Rattle.std.specs.Prelude.{ℕ, ◌≡◌, List, [], ◌∷◌, Option, None, Some}
-use Rattle.rb_header.specs.TapeBytes.{Item, item_span}
-use Rattle.rb_header.specs.TapeBytes.Item.{Event, Skip}
+use Rattle.rb_history.specs.TapeBytes.{Item, item_span}
+use Rattle.rb_history.specs.TapeBytes.Item.{Event, Skip}
 use Rattle.rb_history.specs.declared.answers.Taken.{Taken}
 use Rattle.rb_history.specs.declared.answers.Taken.TheVariants as answers
 use Rattle.rb_history.specs.ManyTakes.{HasRecord}
@@ -26,7 +26,7 @@ abbrev pub LendsItem : List Taken → List Taken → Option given.Item → Type 
 LendsItem old new None = (old ≡ []) × (new ≡ [])
 LendsItem old new (Some i) = old ≡ item_taken i ∷ new
 
--- as the records of a tape, which stand in rb_header
+-- as the records of a tape, which stand in rb_history
 abbrev pub item_of : given.Item → Item
 item_of (kinds.Event e) = Event e.pos e.bytes.now
 item_of (kinds.Skip pos n) = Skip pos n

@@ -1,8 +1,8 @@
--- A tape as a whole: what calls of its writer, one after the other, leave (own; the tape's bytes are rb_header's).
+-- A tape as a whole: what calls of its writer, one after the other, leave (own; the tape's bytes are rb_history's).
 use Rattle.std.specs.Prelude.{ℕ, ◌≡◌, ◌+◌, Bool, true, if◌then◌else◌, All, List, [], ◌∷◌, ◌++◌, Option, None, Some, drop}
 use Rattle.std.specs.List.{flat_map}
 use Rattle.std.specs.Io.KnownBytes.{Appends}
-use Rattle.rb_header.specs.TapeBytes.{Item, item_bytes, item_span, tape, end_of, AreItemsFrom}
+use Rattle.rb_history.specs.TapeBytes.{Item, item_bytes, item_span, tape, end_of, AreItemsFrom}
 use Rattle.rb_tape.specs.TapeOutput.{TapeOutput}
 
 -- ---- what is unfinished

@@ -1,7 +1,7 @@
--- A writer of a tape (own; the tape's bytes are rb_header's).
+-- A writer of a tape (own; the tape's bytes are rb_history's).
 use Rattle.std.specs.Prelude.{ℕ, ◌≡◌, List, ◌∷◌, ◌++◌, Option, take}
 use Rattle.std.specs.Io.KnownBytes.{Appends}
-use Rattle.rb_header.specs.TapeBytes.{Item, item_bytes, tape, end_of}
+use Rattle.rb_history.specs.TapeBytes.{Item, item_bytes, tape, end_of}
 use Rattle.rb_history.specs.declared.answers.Taken.{Taken}
 use Rattle.rb_tape.specs.declared.item.Item as given
 use Rattle.rb_tape.specs.Items.{item_of, item_taken, tape_items}

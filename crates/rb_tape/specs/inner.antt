@@ -1,2 +1,3 @@
+pub mod FrontLook
 pub mod ItemCode
 pub mod RecordParts

@@ -2,7 +2,7 @@
 
 ghost use Rattle.std.specs.Prelude.{◌≡◌};
 ghost use Rattle.std.specs.Borrow.{ftrue};
-ghost use Rattle.rb_header.specs.TapeBytes.{Item};
+ghost use Rattle.rb_history.specs.TapeBytes.{Item};
 ghost use Rattle.rb_tape.specs.inner.ItemCode.{coded_item};
 
 use crate::item::Item;

@@ -1,7 +1,7 @@
 //! A record that was taken.
 
 ghost use Rattle.std.specs.Prelude.{◌≡◌, ◌<◌, ◌^◌};
-ghost use Rattle.rb_header.specs.TapeBytes.{item_len, item_position};
+ghost use Rattle.rb_history.specs.TapeBytes.{item_len, item_position};
 ghost use Rattle.rb_tape.specs.Items.{item_of};
 ghost use Rattle.rb_tape.specs.inner.RecordParts.{bytes_before_zeros};
 

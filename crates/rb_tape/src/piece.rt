@@ -2,14 +2,14 @@
 
 ghost use Rattle.std.specs.Prelude.{◌≡◌, ◌+◌, ◌/◌, ◌%◌, ◌<◌, ◌≤◌, length, take, drop};
 ghost use Rattle.std.specs.Io.KnownBytes.{Appends};
-ghost use Rattle.rb_header.specs.Header.{header_bytes};
-ghost use Rattle.rb_header.specs.TapeBytes.{item_bytes, item_span, item_position, header_of, IsItemAt};
+ghost use Rattle.rb_history.specs.Header.{header_bytes};
+ghost use Rattle.rb_history.specs.TapeBytes.{item_bytes, item_span, item_position, header_of, IsItemAt};
 ghost use Rattle.rb_history.specs.RingModel.{IsRingSize};
 ghost use Rattle.rb_tape.specs.Items.{item_of};
 ghost use Rattle.rb_tape.specs.inner.RecordParts.{bytes_before_zeros};
 
 use crate::item::Item;
-use rb_header::{Header, page_of, span};
+use rb_history::{Header, page_of, span};
 use rb_io::write_out;
 use std::io::Write;
 

@@ -5,7 +5,7 @@ use crate::failures::Failures;
 use crate::item::Item;
 use crate::items::Items;
 use crate::piece::write_from;
-use rb_header::span;
+use rb_history::span;
 use rb_io::DeviceFault;
 use std::io::Write;
 use std::marker::Model;
@@ -27,7 +27,7 @@ pub struct TapeWriter<W> {
 
 impl<W> Model for TapeWriter<W> {
     ghost use Rattle.std.specs.Prelude.{◌<◌, IfSome, option_map};
-    ghost use Rattle.rb_header.specs.TapeBytes.{item_span, IsItemAt};
+    ghost use Rattle.rb_history.specs.TapeBytes.{item_span, IsItemAt};
     ghost use Rattle.rb_history.specs.RingModel.{IsRingSize};
     ghost use Rattle.rb_tape.specs.TapeOutput.{TapeOutput};
 
@@ -41,7 +41,7 @@ impl<W> Model for TapeWriter<W> {
 impl<W: Write> TapeWriter<W> {
     ghost use Rattle.std.specs.Prelude.{◌≡◌, ◌<◌, ◌≤◌, ◌+◌, [], None, Some, is_ok, is_some, if◌then◌else◌, take, drop, OnOk, OnErr, IfErr};
     ghost use Rattle.std.specs.Io.KnownBytes.{Appends};
-    ghost use Rattle.rb_header.specs.TapeBytes.{item_bytes, item_span, tape, end_of, IsItemAt, AreItemsFrom};
+    ghost use Rattle.rb_history.specs.TapeBytes.{item_bytes, item_span, tape, end_of, IsItemAt, AreItemsFrom};
     ghost use Rattle.rb_history.specs.RingModel.{IsRingSize, IsStartPosition};
     ghost use Rattle.rb_tape.specs.Items.{item_of, tape_items, sent_after};
     ghost use Rattle.rb_tape.specs.TapeCalls.{failures_after, fresh_tape, MakesCall, PutsAll};

@@ -3,7 +3,7 @@ use Rattle.std.proofs.Common.{◌≡◌, ◌≢◌, ℕ, ◌++◌, List, [], Opt
 use Rattle.std.specs.Int.{w32, to_le_bytes}
 use Rattle.std.specs.Io.KnownBytes.{Keeps}
 use Rattle.std.proofs.KnownBytes.{Appends-kept, Keeps-refl, Keeps-trans}
-use Rattle.rb_header.specs.TapeBytes.{end_of}
+use Rattle.rb_history.specs.TapeBytes.{end_of}
 use Rattle.rb_tape_commands.specs.Input.{framed, framed_all, events_from, Ending, Follows, InputIs}
 use Rattle.rb_tape_commands.specs.Input.Ending.{Whole, Unfit, Cut}
 use Rattle.rb_tape_commands.specs.inner.FeedRuns.{feed_run}

@@ -1,7 +1,7 @@
 -- A payload that goes through a ring which keeps a chapter of its history, and the chapter that such a ring goes on in.
 use Rattle.std.proofs.Common.{◌≡◌, ℕ, ◌+◌, ◌<◌, ◌≤◌, ◌^◌, List, [], ◌++◌, Option, length, sym, ap, ◌∙◌, arith, subst, inl, inr}
 use Rattle.std.proofs.lemmas.Bool.{cases_lt}
-use Rattle.rb_header.specs.Span.{span}
+use Rattle.rb_history.specs.Span.{span}
 use Rattle.rb_history.specs.declared.entries.Entry.{Entry}
 use Rattle.rb_history.specs.declared.answers.Taken.{Taken}
 use Rattle.rb_history.specs.declared.answers.Taken.TheVariants.{Event}

@@ -4,10 +4,10 @@ use Rattle.std.proofs.lemmas.Grind.{flat_map-append}
 use Rattle.std.specs.Int.{w32, to_le_bytes}
 use Rattle.std.specs.Io.KnownBytes.{Appends, Consumes}
 use Rattle.std.proofs.KnownBytes.{Appends-nil, Appends-trans, Appends-kept, Consumes-nil, Consumes-trans}
-use Rattle.rb_header.specs.Span.{span}
-use Rattle.rb_header.specs.TapeBytes.{Item, IsItemAt, item_bytes, tape, end_of}
-use Rattle.rb_header.specs.TapeBytes.Item.{Event}
-use Rattle.rb_header.proofs.Laws.{tape-append, end_of-nil, end_of-cons, end_of-append, AreItemsFrom-push}
+use Rattle.rb_history.specs.Span.{span}
+use Rattle.rb_history.specs.TapeBytes.{Item, IsItemAt, item_bytes, tape, end_of}
+use Rattle.rb_history.specs.TapeBytes.Item.{Event}
+use Rattle.rb_history.proofs.HeaderLaws.{tape-append, end_of-nil, end_of-cons, end_of-append, AreItemsFrom-push}
 use Rattle.rb_tape_commands.specs.Input.{framed, framed_all, events_from}
 use Rattle.rb_tape_commands.specs.PayloadReads.{FindsPayload, FindsEnd, FindsNext}
 use Rattle.rb_tape_commands.specs.inner.FeedRuns.{feed_run}

@@ -2,8 +2,8 @@
 use Rattle.std.proofs.Common.{◌≡◌, ℕ, List, [], ◌∷◌, ◌++◌, Ok, refl, sym, ap, ◌∙◌, subst, append-nil, true≢false}
 use Rattle.std.proofs.lemmas.Grind.{flat_map-append}
 use Rattle.std.specs.Prelude.{Bool, true, false, None}
-use Rattle.rb_header.specs.TapeBytes.{Item}
-use Rattle.rb_reader.specs.TapeReading.{Reading, PassesItem}
+use Rattle.rb_history.specs.TapeBytes.{Item}
+use Rattle.rb_tape.specs.TapeReading.{Reading, PassesItem}
 use Rattle.rb_tape_commands.specs.TapeText.{tape_line_as, tape_lines}
 use Rattle.rb_tape_commands.specs.inner.LineGathering.{PassesItems, ReadsLines, GathersNext}
 use Rattle.rb_json.specs.declared.form.LineForm.{LineForm}

@@ -2,11 +2,11 @@
 use Rattle.std.proofs.Common.{◌≡◌, ℕ, ◌+◌, ◌<◌, ◌≤◌, ◌^◌, ◌++◌, List, [], ◌∷◌, length, refl, sym, ap, ◌∙◌, subst, arith, append_assoc, inl, inr}
 use Rattle.std.proofs.lemmas.List.{length-append}
 use Rattle.std.specs.Int.{w32, to_le_bytes}
-use Rattle.rb_header.specs.Span.{span}
-use Rattle.rb_header.specs.TapeBytes.{IsItemAt, AreItemsFrom, end_of}
-use Rattle.rb_header.specs.TapeBytes.Item.{Event}
-use Rattle.rb_header.proofs.HeaderBytes.{halves}
-use Rattle.rb_header.proofs.Laws.{same_first_word, end_of-nil, end_of-cons}
+use Rattle.rb_history.specs.Span.{span}
+use Rattle.rb_history.specs.TapeBytes.{IsItemAt, AreItemsFrom, end_of}
+use Rattle.rb_history.specs.TapeBytes.Item.{Event}
+use Rattle.rb_history.proofs.HeaderBytes.{halves}
+use Rattle.rb_history.proofs.HeaderLaws.{same_first_word, end_of-nil, end_of-cons}
 use Rattle.rb_tape_commands.specs.Input.{framed, framed_all, events_from, Ending, Follows, InputIs}
 use Rattle.rb_tape_commands.specs.Input.Ending.{Whole, Unfit, Cut}
 

@@ -10,7 +10,7 @@ use Rattle.std.specs.Io.KnownBytes.{Consumes, IsAtEnd}
 use Rattle.std.proofs.BufReadLemmas.{Consumes_shown}
 use Rattle.std.proofs.KnownBytes.{Consumes-trans}
 use denote.Ref.{Bor}
-use Rattle.rb_header.specs.Span.{span}
+use Rattle.rb_history.specs.Span.{span}
 use Rattle.rb_tape_commands.specs.PayloadReads.{FindsPayload, FindsSome, FindsCut}
 use Rattle.rb_tape_commands.specs.inner.SeenPayloads.{IsSeenWhole}
 

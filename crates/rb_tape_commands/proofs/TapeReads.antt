@@ -5,18 +5,18 @@ use Rattle.std.proofs.lemmas.Grind.{flat_map-append}
 use Rattle.std.specs.Prelude.{Option, Bool, false, is_err, OnOk}
 use Rattle.std.specs.Io.KnownBytes.{Appends, Consumes, Keeps, IsAtEnd, append_known}
 use Rattle.std.proofs.KnownBytes.{Appends-nil, Appends-trans, Appends-kept, Consumes-nil, Consumes-trans, Keeps-refl, Keeps-trans}
-use Rattle.rb_header.specs.declared.headers.Header.{Header}
-use Rattle.rb_header.specs.Header.{header_bytes}
-use Rattle.rb_header.specs.TapeBytes.{Item, item_bytes, end_of, padding}
-use Rattle.rb_header.proofs.Laws.{length-item_bytes}
+use Rattle.rb_history.specs.declared.headers.Header.{Header}
+use Rattle.rb_history.specs.Header.{header_bytes}
+use Rattle.rb_history.specs.TapeBytes.{Item, item_bytes, end_of, padding}
+use Rattle.rb_history.proofs.HeaderLaws.{length-item_bytes}
 use Rattle.rb_history.specs.RingModel.{IsRingSize}
-use Rattle.rb_reader.specs.declared.fault.TapeKind.{TapeKind}
-use Rattle.rb_reader.specs.declared.fault.TapeKind.TheVariants as kinds
-use Rattle.rb_reader.specs.declared.fault.TapeFault.{TapeFault}
-use Rattle.rb_reader.specs.TapeFront.{ShowsFault, IsUndecided, StartsWithItem, IsFirstTapeFault, HasWholeSpan}
-use Rattle.rb_reader.specs.TapeReading.{Reading, AddsPiece, reading_from}
-use Rattle.rb_reader.specs.LongestTape.{IsTapeAndRest, HasReadItems}
-use Rattle.rb_reader.proofs.ItemsRead.{begins, fed, goes_on, is_longest}
+use Rattle.rb_tape.specs.declared.fault.TapeKind.{TapeKind}
+use Rattle.rb_tape.specs.declared.fault.TapeKind.TheVariants as kinds
+use Rattle.rb_tape.specs.declared.fault.TapeFault.{TapeFault}
+use Rattle.rb_tape.specs.TapeFront.{ShowsFault, IsUndecided, StartsWithItem, IsFirstTapeFault, HasWholeSpan}
+use Rattle.rb_tape.specs.TapeReading.{Reading, AddsPiece, reading_from}
+use Rattle.rb_tape.specs.LongestTape.{IsTapeAndRest, HasReadItems}
+use Rattle.rb_tape.proofs.ItemsRead.{begins, fed, goes_on, is_longest}
 use Rattle.rb_tape_commands.specs.TapeText.{tape_line_as, tape_lines, PrintsTape, PrintsFirst, PrintsSome, IsTape, TapeAnswer}
 use Rattle.rb_tape_commands.specs.inner.TapePrinting.{PrintsSoFar, EndsTape}
 use Rattle.rb_tape_commands.specs.inner.LineGathering.{PassesItems, ReadsLines, GathersLines}

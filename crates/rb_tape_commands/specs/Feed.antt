@@ -1,7 +1,7 @@
 -- What `feed` did with its input and its output, by its answer (own).
 use Rattle.std.specs.Prelude.{ℕ, ◌≡◌, ◌⊎◌, List, ◌++◌, length, Option, Result, Ok, Err, IfSome, ⊤}
 use Rattle.std.specs.Io.KnownBytes.{Appends, Consumes, Keeps, IsAtEnd}
-use Rattle.rb_header.specs.TapeBytes.{AreItemsFrom, end_of, tape}
+use Rattle.rb_history.specs.TapeBytes.{AreItemsFrom, end_of, tape}
 use Rattle.rb_history.specs.RingModel.{IsRingSize, IsStartPosition}
 use Rattle.rb_tape_commands.specs.Input.{framed_all, events_from, Ending, Follows, InputIs}
 use Rattle.rb_tape_commands.specs.Input.Ending.{Whole, Unfit, Cut}

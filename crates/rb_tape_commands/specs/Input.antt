@@ -2,9 +2,9 @@
 use Rattle.std.specs.Prelude.{ℕ, ◌≡◌, ◌+◌, ◌<◌, ◌≤◌, ◌^◌, ◌⊎◌, List, [], ◌∷◌, ◌++◌, length}
 use Rattle.std.specs.Int.{w32, to_le_bytes}
 use Rattle.std.specs.List.{flat_map}
-use Rattle.rb_header.specs.Span.{span}
-use Rattle.rb_header.specs.TapeBytes.{Item, AreItemsFrom, end_of}
-use Rattle.rb_header.specs.TapeBytes.Item.{Event}
+use Rattle.rb_history.specs.Span.{span}
+use Rattle.rb_history.specs.TapeBytes.{Item, AreItemsFrom, end_of}
+use Rattle.rb_history.specs.TapeBytes.Item.{Event}
 
 -- ---- payloads, as bytes and as records
 

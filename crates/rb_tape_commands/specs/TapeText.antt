@@ -1,13 +1,13 @@
--- What `tape` prints of a tape, and what it answers (own; the tape's bytes are those of rb_header, its faults those of rb_reader).
+-- What `tape` prints of a tape, and what it answers (own; the tape's bytes are those of rb_history, its faults those of rb_reader).
 use Rattle.std.specs.Prelude.{ℕ, ◌≡◌, ◌-◌, List, [], ◌++◌, codes, length, Option, None, Some, IfNone, IfSome, Result, Ok, Err}
 use Rattle.std.specs.Fmt.{decimal}
 use Rattle.std.specs.List.{flat_map}
 use Rattle.std.specs.Io.KnownBytes.{Appends, Keeps}
-use Rattle.rb_header.specs.TapeBytes.{Item, end_of}
-use Rattle.rb_header.specs.TapeBytes.Item.{Event, Skip}
-use Rattle.rb_reader.specs.declared.fault.TapeKind.{TapeKind}
-use Rattle.rb_reader.specs.TapeReading.{Reading, reading_from, IsToldAtEnd}
-use Rattle.rb_reader.specs.LongestTape.{IsTapeAndRest, IsLongestList}
+use Rattle.rb_history.specs.TapeBytes.{Item, end_of}
+use Rattle.rb_history.specs.TapeBytes.Item.{Event, Skip}
+use Rattle.rb_tape.specs.declared.fault.TapeKind.{TapeKind}
+use Rattle.rb_tape.specs.TapeReading.{Reading, reading_from, IsToldAtEnd}
+use Rattle.rb_tape.specs.LongestTape.{IsTapeAndRest, IsLongestList}
 use Rattle.rb_io.specs.Lines.{hex_text, line}
 use Rattle.rb_json.specs.Json.{json_number, payload_fields}
 use Rattle.rb_json.specs.declared.form.LineForm.{LineForm}

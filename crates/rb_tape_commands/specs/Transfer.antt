@@ -1,6 +1,6 @@
 -- A payload that goes through a ring in which every record was taken: it is output and taken at once.
 use Rattle.std.specs.Prelude.{ℕ, ◌≡◌, ◌+◌, ◌<◌, ◌≤◌, ◌^◌}
-use Rattle.rb_header.specs.Span.{span}
+use Rattle.rb_history.specs.Span.{span}
 use Rattle.rb_chapter_ring.specs.ChapterRing.{ChapterRing}
 use Rattle.rb_chapter_ring.specs.ChapterCalls.{AllTaken, IsSameChapter, producer_now}
 use Rattle.rb_tape_commands.specs.declared.feed_fault.FeedFault.{FeedFault}

@@ -1,7 +1,7 @@
 //! Payloads in, their tape out.
 
 ghost use Rattle.std.specs.Prelude.{◌≡◌, ◌≢◌, [], ◌+◌, ◌<◌, ◌≤◌, ◌⊎◌, ◌↔◌, List, ℕ, None, Some, Err, IsErrOf, IfOk, IfErr, IfSome, OnOk, length};
-ghost use Rattle.rb_header.specs.Span.{span};
+ghost use Rattle.rb_history.specs.Span.{span};
 ghost use Rattle.rb_history.specs.RingModel.{IsRingSize, IsStartPosition};
 ghost use Rattle.rb_chapter_ring.specs.ChapterRoom.{MayGrant};
 ghost use Rattle.rb_chapter_ring.specs.ChapterCalls.{AllTaken, producer_now};

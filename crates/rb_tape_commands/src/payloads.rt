@@ -7,7 +7,7 @@ ghost use Rattle.rb_tape_commands.specs.inner.LengthReads.{FindsLength};
 ghost use Rattle.rb_tape_commands.specs.inner.SeenPayloads.{IsSeenWhole};
 
 use crate::feed_fault::FeedFault;
-use rb_header::span;
+use rb_history::span;
 use rb_io::read_full;
 use rb_lend::{Lent, Sheet};
 use std::alloc::AllocError;

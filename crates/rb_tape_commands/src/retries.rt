@@ -2,7 +2,7 @@
 
 ghost use Rattle.std.specs.Prelude.{◌≡◌, ◌<◌, ◌≤◌, ◌+◌, [], None, Some, is_ok, if◌then◌else◌, take, OnOk, OnErr};
 ghost use Rattle.std.specs.Io.KnownBytes.{Appends, Keeps};
-ghost use Rattle.rb_header.specs.TapeBytes.{item_bytes, item_span, IsItemAt};
+ghost use Rattle.rb_history.specs.TapeBytes.{item_bytes, item_span, IsItemAt};
 ghost use Rattle.rb_tape.specs.Items.{item_of};
 ghost use Rattle.rb_tape_commands.specs.Retries.{TriesToHandOut};
 

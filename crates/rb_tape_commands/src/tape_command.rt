@@ -2,7 +2,7 @@
 
 ghost use Rattle.std.specs.Prelude.{◌≡◌, ◌≢◌, ◌↔◌, [], None, Err, IfSome, IsErrOf, OnOk};
 ghost use Rattle.rb_history.specs.RingModel.{IsRingSize, IsStartPosition};
-ghost use Rattle.rb_reader.specs.TapeReading.{reading_from};
+ghost use Rattle.rb_tape.specs.TapeReading.{reading_from};
 ghost use Rattle.rb_tape_commands.specs.inner.TapePrinting.{EndsTape};
 ghost use Rattle.rb_tape_commands.specs.TapeText.{TapeAnswer};
 
@@ -12,7 +12,7 @@ use crate::tape_refusal::TapeRefusal;
 use rb_history::OpenFault;
 use rb_io::{Outgoing, write_out};
 use rb_json::LineForm;
-use rb_reader::Feed;
+use rb_tape::Feed;
 use std::alloc::Global;
 use std::io::{Read, Write};
 

@@ -1,7 +1,7 @@
 //! The lines of a tape's records.
 
 ghost use Rattle.std.specs.Prelude.{◌≡◌, ◌<◌, ◌≤◌, ◌+◌, ◌*◌, ◌^◌, ◌++◌, None, IfOk, OnErr, OnOk, length};
-ghost use Rattle.rb_reader.specs.TapeReading.{HasItsLength, item_read};
+ghost use Rattle.rb_tape.specs.TapeReading.{HasItsLength, item_read};
 ghost use Rattle.rb_io.specs.Lines.{hex_text};
 ghost use Rattle.rb_tape_commands.specs.TapeText.{tape_line, tape_line_as, tape_object};
 ghost use Rattle.rb_tape_commands.specs.inner.LineGathering.{GathersLines, GathersNext};
@@ -10,7 +10,7 @@ use crate::lines::Lines;
 use crate::tape_refusal::TapeRefusal;
 use itoa::Buffer;
 use rb_json::{LineForm, push_field, push_payload};
-use rb_reader::{Feed, Record};
+use rb_tape::{Feed, Record};
 use std::alloc::{AllocError, Global};
 
 // What a line takes but for its hex digits, at most: its words, two numbers of 20 and 10 digits, and its end.

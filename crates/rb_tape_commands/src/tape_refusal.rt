@@ -1,6 +1,6 @@
 //! Why a tape was refused.
 
-use rb_reader::TapeKind;
+use rb_tape::TapeKind;
 use thiserror::Error;
 
 /// Why `tape` did not go through its whole input.

@@ -1,7 +1,7 @@
 //! One payload through the ring.
 
 ghost use Rattle.std.specs.Prelude.{◌≡◌, ◌<◌, IfOk, IfErr, length};
-ghost use Rattle.rb_header.specs.Span.{span};
+ghost use Rattle.rb_history.specs.Span.{span};
 ghost use Rattle.rb_chapter_ring.specs.ChapterRoom.{MayGrant};
 ghost use Rattle.rb_chapter_ring.specs.ChapterCalls.{AllTaken, producer_now};
 ghost use Rattle.rb_tape_commands.specs.Transfer.{MovesOn, IsRefusal};

@@ -1,8 +1,8 @@
 //! The shared types, and the laws called once.
 
-use rb_decode::decoding_laws;
+use rb_program::decoding_laws;
 use rb_insn::spelling_laws;
-use rb_refs::{step_keeps_form, step_keeps_order};
+use rb_verifier::{step_keeps_form, step_keeps_order};
 use rb_semantics::{
     MemoryRegion, PendingCall, Value, bytes_written_are_read, plain_annotations_are_valid,
     plain_programs_run_alike, pointers_are_not_read, pointers_stored_are_found,

@@ -1,6 +1,6 @@
 ghost use Rattle.std.specs.Prelude.{◌≡◌, ◌≤◌, true};
 
-use rb_helpers::{DISCARD, Done, EAGAIN, Helpers, Listed, OUTPUT, QUERY, RESERVE, SUBMIT};
+use rb_interp::{DISCARD, Done, EAGAIN, Helpers, Listed, OUTPUT, QUERY, RESERVE, SUBMIT};
 use rb_lend::{Lent, Sheet};
 use std::alloc::Global;
 use std::process::Abort;

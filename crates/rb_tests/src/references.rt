@@ -2,7 +2,7 @@
 
 ghost use Rattle.std.specs.Prelude.{◌≡◌, ◌<◌};
 
-use rb_refs::{Held, Reference};
+use rb_verifier::{Held, Reference};
 
 /// A reference to a record of 8 bytes.
 fn reference(id: u32, sure: bool) -> Reference

@@ -3,7 +3,7 @@
 ghost use Rattle.std.specs.Prelude.{◌≡◌, ◌≤◌, true};
 
 use super::shared::{counts, opened, taken};
-use rb_helpers::{Done, EAGAIN, EINVAL, Helpers};
+use rb_interp::{Done, EAGAIN, EINVAL, Helpers};
 use rb_lend::{Lent, Sheet};
 use rb_jobs::{NoStock, SeatHelpers, SeatRecord, Stock};
 use std::alloc::Global;

@@ -4,8 +4,7 @@ ghost use Rattle.std.specs.Prelude.{◌≡◌, ◌≤◌};
 ghost use Rattle.rb_shared_ring.specs.SharedSeats.{IsSameChapterConsumer};
 ghost use Rattle.rb_jobs.specs.SeatHelpers.{IsAt};
 
-use rb_cfg::shape;
-use rb_decode::from_text;
+use rb_program::{from_text, shape};
 use rb_history::Taken;
 use rb_lend::Sheet;
 use rb_shared_ring::{ConsumerSeat, Seat, SharedRing, open};

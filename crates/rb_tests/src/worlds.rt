@@ -5,8 +5,7 @@ mod orders;
 mod refusals;
 mod scripts;
 
-use rb_cfg::shape;
-use rb_decode::from_text;
+use rb_program::{from_text, shape};
 use rb_history::{Counts, Taken};
 use rb_lend::Lent;
 use rb_verifier::{Verified, verify};

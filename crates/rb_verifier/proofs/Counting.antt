@@ -4,7 +4,7 @@ use Rattle.std.proofs.lemmas.List.Sums.{sum_by-cons}
 use Rattle.std.specs.Prelude.{count_by}
 use Rattle.rb_insn.specs.declared.insn.Insn.{Insn}
 use Rattle.rb_insn.specs.Units.{units_taken}
-use Rattle.rb_decode.specs.Program.{units_of}
+use Rattle.rb_program.specs.Program.{units_of}
 use Rattle.rb_verifier.specs.Subject.{calls, is_call, call_count}
 
 -- how many of a list pass a test, by its first element and the rest

@@ -2,17 +2,17 @@
 use Rattle.std.proofs.Common.{◌≡◌, ⊎_elim, ℕ, ◌<◌, ◌≤◌, refl, sym, ◌∙◌, subst, List, Result, Ok, Err, Some, arith}
 use Rattle.std.proofs.lemmas.Bool.{cases_lt}
 use Rattle.rb_insn.specs.declared.insn.Insn.{Insn}
-use Rattle.rb_decode.specs.Program.{unit_count, slot_at}
-use Rattle.rb_cfg.specs.Edges.{Edge, Next, Target, HasEdge}
-use Rattle.rb_cfg.specs.Shape.{EachIsEntered}
-use Rattle.rb_refs.specs.declared.limits.Limits.{Limits}
-use Rattle.rb_refs.specs.declared.rule.Rule.{Rule}
-use Rattle.rb_refs.specs.declared.state.AbsState.{AbsState}
-use Rattle.rb_refs.specs.declared.state.Effect.{Effect}
-use Rattle.rb_refs.specs.AbstractStates.{Below, EffectBelow, entry_state}
-use Rattle.rb_refs.specs.VerifierChecks.{abstract_step}
-use Rattle.rb_refs.specs.StepOrder.{ResultBelow}
-use Rattle.rb_refs.proofs.Laws.{below_trans, step_below}
+use Rattle.rb_program.specs.Program.{unit_count, slot_at}
+use Rattle.rb_program.specs.Edges.{Edge, Next, Target, HasEdge}
+use Rattle.rb_program.specs.Shape.{EachIsEntered}
+use Rattle.rb_verifier.specs.declared.limits.Limits.{Limits}
+use Rattle.rb_verifier.specs.declared.rule.Rule.{Rule}
+use Rattle.rb_verifier.specs.declared.state.AbsState.{AbsState}
+use Rattle.rb_verifier.specs.declared.state.Effect.{Effect}
+use Rattle.rb_verifier.specs.AbstractStates.{Below, EffectBelow, entry_state}
+use Rattle.rb_verifier.specs.VerifierChecks.{abstract_step}
+use Rattle.rb_verifier.specs.StepOrder.{ResultBelow}
+use Rattle.rb_verifier.proofs.Laws.{below_trans, step_below}
 use Rattle.rb_verifier.specs.Annotation.{Annotation, along_edge, HoldsAt, IsValidBefore, IsLeastBefore, Arrives, at_entry, by_edge, IsLeastAbove, HaveDifferent, HasNoValid}
 
 -- along each edge the order is kept

@@ -1,10 +1,10 @@
 -- What is noted of the states that arrive, as one more flows to a unit.
 use Rattle.std.proofs.Common.{◌≡◌, ◌≢◌, ◌⊎◌, inl, inr, ⊎_elim, ℕ, refl, sym, ◌∙◌, ap, subst, List, Option, Some, None}
 use Rattle.std.proofs.lemmas.Bool.{cases_eq}
-use Rattle.rb_refs.specs.declared.state.AbsState.{AbsState}
-use Rattle.rb_refs.specs.Forms.{IsFormed}
-use Rattle.rb_refs.specs.AbstractStates.{Below}
-use Rattle.rb_refs.proofs.Laws.{below_refl, below_trans, form_below}
+use Rattle.rb_verifier.specs.declared.state.AbsState.{AbsState}
+use Rattle.rb_verifier.specs.Forms.{IsFormed}
+use Rattle.rb_verifier.specs.AbstractStates.{Below}
+use Rattle.rb_verifier.proofs.Laws.{below_refl, below_trans, form_below}
 use Rattle.rb_verifier.specs.declared.arrivals.Arrival.{Arrival}
 use Rattle.rb_verifier.specs.declared.arrivals.Arrival.TheVariants.{Nothing, Least, Differ}
 use Rattle.rb_verifier.specs.inner.Sweep.{noted_at, IsArrivalOf, IsFormedAt, IsMerged, Flows}

@@ -3,18 +3,18 @@ use Rattle.std.proofs.Common.{◌≡◌, ⊎_elim, ℕ, ◌+◌, ◌<◌, refl, 
 use Rattle.std.proofs.lemmas.Bool.{cases_eq, cases_lt}
 use Rattle.std.proofs.lemmas.List.{get_or_past}
 use Rattle.rb_insn.specs.declared.insn.Insn.{Insn}
-use Rattle.rb_decode.specs.Program.{unit_count, units_of, slot_at}
-use Rattle.rb_cfg.specs.Edges.{Edge, Next, Target, edge_target}
-use Rattle.rb_cfg.specs.Shape.{EdgesLeadForward, EachIsEntered}
-use Rattle.rb_refs.specs.declared.limits.Limits.{Limits}
-use Rattle.rb_refs.specs.declared.rule.Rule.{Rule}
-use Rattle.rb_refs.specs.declared.rule.Rule.TheVariants.{ReferencesDiffer}
-use Rattle.rb_refs.specs.declared.state.AbsState.{AbsState}
-use Rattle.rb_refs.specs.declared.state.Effect.{Effect}
-use Rattle.rb_refs.specs.Forms.{IsFormed}
-use Rattle.rb_refs.specs.AbstractStates.{Below, entry_state}
-use Rattle.rb_refs.specs.VerifierChecks.{abstract_step}
-use Rattle.rb_refs.proofs.Laws.{below_refl, form_entry, step_forms}
+use Rattle.rb_program.specs.Program.{unit_count, units_of, slot_at}
+use Rattle.rb_program.specs.Edges.{Edge, Next, Target, edge_target}
+use Rattle.rb_program.specs.Shape.{EdgesLeadForward, EachIsEntered}
+use Rattle.rb_verifier.specs.declared.limits.Limits.{Limits}
+use Rattle.rb_verifier.specs.declared.rule.Rule.{Rule}
+use Rattle.rb_verifier.specs.declared.rule.Rule.TheVariants.{ReferencesDiffer}
+use Rattle.rb_verifier.specs.declared.state.AbsState.{AbsState}
+use Rattle.rb_verifier.specs.declared.state.Effect.{Effect}
+use Rattle.rb_verifier.specs.Forms.{IsFormed}
+use Rattle.rb_verifier.specs.AbstractStates.{Below, entry_state}
+use Rattle.rb_verifier.specs.VerifierChecks.{abstract_step}
+use Rattle.rb_verifier.proofs.Laws.{below_refl, form_entry, step_forms}
 use Rattle.rb_verifier.specs.declared.arrivals.Arrival.{Arrival}
 use Rattle.rb_verifier.specs.declared.arrivals.Arrival.TheVariants.{Nothing, Least, Differ}
 use Rattle.rb_verifier.specs.Annotation.{Annotation, IsValid, IsValidBefore, Arrives, at_entry, by_edge, HaveDifferent, differ, check, IsFirstBrokenRule, HasNoValid}

@@ -4,15 +4,15 @@ use Rattle.std.proofs.Math.ListN.{get_or-append}
 use Rattle.std.proofs.Math.Seq.{get_or-append_seam}
 use Rattle.std.proofs.lemmas.Bool.{cases_eq}
 use Rattle.rb_insn.specs.declared.insn.Insn.{Insn}
-use Rattle.rb_decode.specs.Program.{unit_count, slot_at}
-use Rattle.rb_cfg.specs.Edges.{Edge, Next, Target, edge_target}
-use Rattle.rb_cfg.specs.Shape.{EdgesLeadForward}
-use Rattle.rb_refs.specs.declared.limits.Limits.{Limits}
-use Rattle.rb_refs.specs.declared.state.AbsState.{AbsState}
-use Rattle.rb_refs.specs.declared.state.Effect.{Effect}
-use Rattle.rb_refs.specs.AbstractStates.{Below, entry_state}
-use Rattle.rb_refs.specs.VerifierChecks.{abstract_step}
-use Rattle.rb_refs.proofs.Laws.{below_refl}
+use Rattle.rb_program.specs.Program.{unit_count, slot_at}
+use Rattle.rb_program.specs.Edges.{Edge, Next, Target, edge_target}
+use Rattle.rb_program.specs.Shape.{EdgesLeadForward}
+use Rattle.rb_verifier.specs.declared.limits.Limits.{Limits}
+use Rattle.rb_verifier.specs.declared.state.AbsState.{AbsState}
+use Rattle.rb_verifier.specs.declared.state.Effect.{Effect}
+use Rattle.rb_verifier.specs.AbstractStates.{Below, entry_state}
+use Rattle.rb_verifier.specs.VerifierChecks.{abstract_step}
+use Rattle.rb_verifier.proofs.Laws.{below_refl}
 use Rattle.rb_verifier.specs.declared.arrivals.Arrival.{Arrival}
 use Rattle.rb_verifier.specs.Annotation.{Annotation, along_edge, HoldsAt, IsValidBefore, IsLeastBefore, Arrives, at_entry, by_edge, IsLeastAbove}
 use Rattle.rb_verifier.specs.Annotation.{state_at}

@@ -1,15 +1,15 @@
 -- Annotations of a program, when they are valid, and the first fault of a program that has none (own profile).
 use Rattle.std.specs.Prelude.{◌≡◌, ◌≢◌, ℕ, ◌<◌, List, slice_index_or, Some, Ok, Err}
 use Rattle.rb_insn.specs.declared.insn.Insn.{Insn}
-use Rattle.rb_decode.specs.Program.{unit_count, slot_at}
-use Rattle.rb_cfg.specs.Edges.{Edge, Next, Target, edge_target}
-use Rattle.rb_refs.specs.declared.limits.Limits.{Limits}
-use Rattle.rb_refs.specs.declared.rule.Rule.{Rule}
-use Rattle.rb_refs.specs.declared.rule.Rule.TheVariants.{ReferencesDiffer}
-use Rattle.rb_refs.specs.declared.state.AbsState.{AbsState}
-use Rattle.rb_refs.specs.declared.state.Effect.{Effect}
-use Rattle.rb_refs.specs.AbstractStates.{Below, entry_state}
-use Rattle.rb_refs.specs.VerifierChecks.{abstract_step}
+use Rattle.rb_program.specs.Program.{unit_count, slot_at}
+use Rattle.rb_program.specs.Edges.{Edge, Next, Target, edge_target}
+use Rattle.rb_verifier.specs.declared.limits.Limits.{Limits}
+use Rattle.rb_verifier.specs.declared.rule.Rule.{Rule}
+use Rattle.rb_verifier.specs.declared.rule.Rule.TheVariants.{ReferencesDiffer}
+use Rattle.rb_verifier.specs.declared.state.AbsState.{AbsState}
+use Rattle.rb_verifier.specs.declared.state.Effect.{Effect}
+use Rattle.rb_verifier.specs.AbstractStates.{Below, entry_state}
+use Rattle.rb_verifier.specs.VerifierChecks.{abstract_step}
 
 -- a state for each unit; what it says of a unit at which no instruction begins is of no account
 abbrev pub Annotation : Type 0

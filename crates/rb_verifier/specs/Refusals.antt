@@ -1,7 +1,7 @@
 -- When a program is refused.
 use Rattle.std.specs.Prelude.{List}
 use Rattle.rb_insn.specs.declared.insn.Insn.{Insn}
-use Rattle.rb_refs.specs.declared.limits.Limits.{Limits}
+use Rattle.rb_verifier.specs.declared.limits.Limits.{Limits}
 use Rattle.rb_verifier.specs.declared.refusal.Refusal.{Refusal}
 use Rattle.rb_verifier.specs.declared.refusal.Refusal.TheVariants as refusal
 use Rattle.rb_verifier.specs.Annotation.{HasNoValid, IsFirstBrokenRule}

@@ -2,7 +2,7 @@
 use Rattle.std.specs.Prelude.{ℕ, Bool, true, false, List, count_by, Option, Some, None}
 use Rattle.rb_insn.specs.declared.insn.Insn.{Insn}
 use Rattle.rb_insn.specs.declared.insn.Insn.TheVariants.{Call}
-use Rattle.rb_refs.specs.declared.limits.Limits.{Limits}
+use Rattle.rb_verifier.specs.declared.limits.Limits.{Limits}
 
 -- a program, the length of its context in bytes, and the number of rings that it knows
 pub record Subject : Type 0 where

@@ -1,10 +1,10 @@
 //! What is noted of the states that arrive at the units.
 
 ghost use Rattle.std.specs.Prelude.{◌≡◌, ◌≢◌, ◌<◌, ◌≤◌, ℕ, Some, IfOk, OnOk, vec_len};
-ghost use Rattle.rb_refs.specs.AbstractStates.{along_jump};
+ghost use Rattle.rb_verifier.specs.AbstractStates.{along_jump};
 ghost use Rattle.rb_verifier.specs.inner.Sweep.{IsMerged, TakesArrival, Flows, AreFirstArrivals, noted_at};
 
-use rb_refs::{AbsState, join};
+use crate::{AbsState, join};
 use std::alloc::{AllocError, Global};
 use std::mem;
 

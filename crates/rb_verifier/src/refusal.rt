@@ -1,6 +1,6 @@
 //! Why a program is refused.
 
-use rb_refs::Rule;
+use crate::Rule;
 use thiserror::Error;
 
 /// Why a program is refused.

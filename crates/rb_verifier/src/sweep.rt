@@ -1,17 +1,17 @@
 //! One pass over a program in unit order.
 
 ghost use Rattle.std.specs.Prelude.{◌≡◌, ◌+◌, ◌++◌, [], ◌∷◌, ◌<◌, ℕ, Some, length, IfOk, IfErr, OnOk};
-ghost use Rattle.rb_decode.specs.Program.{unit_count, slot_at};
-ghost use Rattle.rb_refs.specs.AbstractStates.{entry_state};
+ghost use Rattle.rb_program.specs.Program.{unit_count, slot_at};
+ghost use Rattle.rb_verifier.specs.AbstractStates.{entry_state};
 ghost use Rattle.rb_verifier.specs.Annotation.{IsLeast, state_at};
 ghost use Rattle.rb_verifier.specs.inner.Sweep.{Progress};
 ghost use Rattle.rb_verifier.specs.Refusals.{IsRightRefusal};
 
 use crate::arrivals::{Arrival, first_arrivals, flow, flow_jump, take};
 use crate::refusal::Refusal;
-use rb_cfg::{Shape, jump_target, next_unit};
+use rb_program::{Shape, jump_target, next_unit};
 use rb_insn::Insn;
-use rb_refs::{AbsState, Limits, Rule, StepFault, step_in_place};
+use crate::{AbsState, Limits, Rule, StepFault, step_in_place};
 use std::alloc::Global;
 
 /// Keeps a copy of a state, which is put together where it is kept.

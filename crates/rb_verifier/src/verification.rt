@@ -8,8 +8,8 @@ use crate::operation::operations_of;
 use crate::refusal::Refusal;
 use crate::sweep::annotate;
 use crate::verified::Verified;
-use rb_cfg::Shape;
-use rb_refs::Limits;
+use rb_program::Shape;
+use crate::Limits;
 use std::alloc::Global;
 
 /// Verifies a program for a context of so many bytes and so many rings. It returns the verified program exactly where the

@@ -1,9 +1,9 @@
 -- A sink is given the records that a batch lends one by one.
 use Rattle.std.proofs.Common.{◌≡◌, ℕ, ◌+◌, List, [], ◌∷◌, length, refl, ap, sym, ◌∙◌, subst}
-use Rattle.rb_header.specs.Span.{span}
-use Rattle.rb_header.specs.TapeBytes.{AreItemsFrom, end_of}
-use Rattle.rb_header.specs.TapeBytes.Item.{Event as TapeEvent, Skip as TapeSkip}
-use Rattle.rb_header.proofs.Laws.{end_of-nil, end_of-cons}
+use Rattle.rb_history.specs.Span.{span}
+use Rattle.rb_history.specs.TapeBytes.{AreItemsFrom, end_of}
+use Rattle.rb_history.specs.TapeBytes.Item.{Event as TapeEvent, Skip as TapeSkip}
+use Rattle.rb_history.proofs.HeaderLaws.{end_of-nil, end_of-cons}
 use Rattle.rb_history.specs.declared.answers.Taken.{Taken}
 use Rattle.rb_history.specs.declared.answers.Taken.TheVariants.{Event as TakenEvent, Skipped}
 use Rattle.rb_tape.specs.Items.{tape_items}

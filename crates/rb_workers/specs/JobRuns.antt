@@ -1,7 +1,7 @@
 -- What jobs do at the seats of their worker (own).
 use Rattle.std.specs.Prelude.{◌≡◌, ℕ, ◌==◌, List, [], ◌∷◌, Bool, true, false, Result, Ok, Err}
 use Rattle.std.specs.List.{filter}
-use Rattle.rb_helpers.specs.AnsweredCalls.{AnsweredCall}
+use Rattle.rb_interp.specs.AnsweredCalls.{AnsweredCall}
 use Rattle.rb_interp.specs.declared.fault.RunFault.{RunFault}
 use Rattle.rb_interp.specs.declared.fault.RunFault.TheVariants.{ContextLength, Stray}
 use Rattle.rb_ledger.specs.Seats.{WorkerSeat}

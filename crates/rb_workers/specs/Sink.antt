@@ -2,9 +2,9 @@
 use Rattle.std.specs.Prelude.{◌≡◌, ℕ, true, List, [], ◌∷◌, ◌++◌, All, Option, Some, None, length}
 use Rattle.std.specs.List.{Contains, filter_map}
 use Rattle.std.specs.FinMap.{get}
-use Rattle.rb_header.specs.Span.{span}
-use Rattle.rb_header.specs.TapeBytes.{Item}
-use Rattle.rb_header.specs.TapeBytes.Item.{Event as TapeEvent, Skip as TapeSkip}
+use Rattle.rb_history.specs.Span.{span}
+use Rattle.rb_history.specs.TapeBytes.{Item}
+use Rattle.rb_history.specs.TapeBytes.Item.{Event as TapeEvent, Skip as TapeSkip}
 use Rattle.rb_history.specs.declared.entries.Entry.{Entry}
 use Rattle.rb_history.specs.declared.entries.Entry.TheVariants.{Res, Take}
 use Rattle.rb_history.specs.History.{is_submitted_at, is_discarded_at}

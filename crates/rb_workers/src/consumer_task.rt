@@ -1,7 +1,7 @@
 //! A ring's consumer.
 
 ghost use Rattle.std.specs.Prelude.{◌≡◌, ℕ};
-ghost use Rattle.rb_header.specs.TapeBytes.{AreItemsFrom, end_of};
+ghost use Rattle.rb_history.specs.TapeBytes.{AreItemsFrom, end_of};
 ghost use Rattle.rb_tape.specs.Items.{tape_items};
 ghost use Rattle.rb_workers.specs.Opened.{IsKeeperFor};
 ghost use Rattle.rb_workers.specs.Sink.{TakesAll};

@@ -2,7 +2,7 @@
 
 use crate::sink::Sink;
 use rb_chapter_ring::Chapter;
-use rb_header::span;
+use rb_history::span;
 
 /// Gives up all records and chapters that it is given, for whoever wants a run's counts alone.
 #[derive(Clone, Copy, Debug, Drop)]

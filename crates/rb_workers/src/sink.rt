@@ -1,7 +1,7 @@
 //! What records and chapters are given to.
 
 ghost use Rattle.std.specs.Prelude.{◌≡◌, ◌+◌, ◌<◌, ◌≤◌, ◌^◌, ℕ, length};
-ghost use Rattle.rb_header.specs.Span.{span};
+ghost use Rattle.rb_history.specs.Span.{span};
 ghost use Rattle.rb_workers.specs.Sink.{SinkItem};
 ghost use Rattle.rb_workers.specs.Sink.SinkItem.{Event, Skip, Chapter as ChapterItem};
 

@@ -8,9 +8,9 @@ use Rattle.rb_lend.specs.Ranges.{in_place_of}
 use Rattle.rb_chapter_ring.proofs.Written.{long-as}
 use Rattle.rb_chapter_ring.specs.Hands.{out_record}
 use Rattle.rb_interp.specs.StoredMemory.{held_record, others}
-use Rattle.rb_interleavings.specs.Worlds.{WorldRing, table_with}
-use Rattle.rb_interleavings.specs.CallsInWorld.{RingSteps, RecordOutcome, BadFlags, NoRoom, Made, WorkerReserves, WorkerOutputs, Unlogged}
-use Rattle.rb_interleavings.proofs.Tables.{eq_cases, placed-here, placed-else}
+use Rattle.rb_world.specs.Worlds.{WorldRing, table_with}
+use Rattle.rb_world.specs.CallsInWorld.{RingSteps, RecordOutcome, BadFlags, NoRoom, Made, WorkerReserves, WorkerOutputs, Unlogged}
+use Rattle.rb_world.proofs.Tables.{eq_cases, placed-here, placed-else}
 use Rattle.rb_world.specs.declared.world_record.WorldRecord.{WorldRecord}
 use Rattle.rb_world.specs.inner.HeldInHands.{Mark, mark_of, AllHeld, WasHeld}
 use Rattle.rb_world.specs.inner.RingAnswers.{untaken_ring}

@@ -16,7 +16,7 @@ use Rattle.rb_chapter_ring.proofs.BusyEntries.{some-out}
 use Rattle.rb_chapter_ring.proofs.HandCalls.{to-whole}
 use Rattle.rb_interp.specs.MachineState.{MachineState}
 use Rattle.rb_interp.specs.StoredMemory.{held_record}
-use Rattle.rb_interleavings.specs.Worlds.{WorldRing}
+use Rattle.rb_world.specs.Worlds.{WorldRing}
 use Rattle.rb_world.specs.declared.record_end.RecordEnd.{RecordEnd}
 use Rattle.rb_world.specs.declared.record_end.RecordEnd.TheVariants.{Submit, Discard}
 use Rattle.rb_world.specs.declared.turn_done.TurnDone.{TurnDone}

@@ -10,7 +10,7 @@ use Rattle.rb_chapter_ring.proofs.Bound.{once-bound}
 use Rattle.rb_chapter_ring.proofs.Chain.{handed-out-bind, binds-continue, binds-same, binds-next, joined-next}
 use Rattle.rb_chapter_ring.proofs.Empty.{empty-kept}
 use Rattle.rb_chapter_ring.proofs.Keeping.{calls-keep}
-use Rattle.rb_interleavings.specs.Worlds.{WorldRing}
+use Rattle.rb_world.specs.Worlds.{WorldRing}
 use Rattle.rb_world.specs.WorldValue.{KeptRing, WorldValue, world_of, world_ring, ring_at}
 use Rattle.rb_world.specs.inner.KeptChapters.{HasChapters}
 use Rattle.rb_world.proofs.WholeTurns.{ring-shown}

@@ -1,3 +1,12 @@
+pub mod Tables
+pub mod RecordSizes
+mod BusyRecords
+mod TakenInOrder
+mod RingSteps
+mod KeptWorlds
+mod TurnsOfWorkers
+mod ActorTurns
+pub mod WholeRuns
 mod WholeCalls
 mod WholeLists
 mod ShownWorlds

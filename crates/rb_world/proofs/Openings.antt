@@ -5,8 +5,8 @@ use Rattle.std.specs.List.{AllZip}
 use Rattle.std.proofs.lemmas.List.Elements.{All-head, All-tail}
 use Rattle.rb_interp.specs.MachineState.{MachineState}
 use Rattle.rb_interp.specs.StoredMemory.{held_record}
-use Rattle.rb_interleavings.specs.OpeningWorld.{BeginsVerified, IsFreshRing, IsOpeningWorld}
-use Rattle.rb_interleavings.proofs.WholeRuns.{opening-reached}
+use Rattle.rb_world.specs.OpeningWorld.{BeginsVerified, IsFreshRing, IsOpeningWorld}
+use Rattle.rb_world.proofs.WholeRuns.{opening-reached}
 use Rattle.rb_world.specs.declared.opening.RingSetup.{RingSetup}
 use Rattle.rb_world.specs.declared.opening.WorkerSetup.{WorkerSetup}
 use Rattle.rb_world.specs.declared.world_record.WorldRecord.{WorldRecord}

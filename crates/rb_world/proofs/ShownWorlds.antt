@@ -5,9 +5,9 @@ use Rattle.rb_history.specs.declared.answers.Taken.{Taken}
 use Rattle.rb_history.specs.RingModel.{Ring, StandsFor}
 use Rattle.rb_history.specs.Calls.{Takes}
 use Rattle.rb_history.proofs.Row.{get_or-default}
-use Rattle.rb_interleavings.specs.Worlds.{with_ring, table_with, WorldRing}
-use Rattle.rb_interleavings.specs.Turns.{TurnEvent, Went, HandedOver, Ended, GotStuck, GotBack, Idle, Took, HandedChapter, NoMemory, WorldStep, taken_by}
-use Rattle.rb_interleavings.specs.declared.actor.Actor.TheVariants.{Consumer}
+use Rattle.rb_world.specs.Worlds.{with_ring, table_with, WorldRing}
+use Rattle.rb_world.specs.Turns.{TurnEvent, Went, HandedOver, Ended, GotStuck, GotBack, Idle, Took, HandedChapter, NoMemory, WorldStep, taken_by}
+use Rattle.rb_world.specs.declared.actor.Actor.TheVariants.{Consumer}
 use Rattle.rb_world.specs.declared.turn_done.TurnDone.{TurnDone}
 use Rattle.rb_world.specs.declared.turn_done.TurnDone.TheVariants as turn
 use Rattle.rb_world.specs.WorldValue.{WholeWorld, shown_world, no_ring}

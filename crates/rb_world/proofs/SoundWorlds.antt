@@ -4,11 +4,11 @@ use Rattle.std.specs.Prelude.{option_map}
 use Rattle.rb_history.specs.Calls.{IsBusy}
 use Rattle.rb_interp.specs.MachineState.{MachineState}
 use Rattle.rb_interp.specs.StoredMemory.{held_record}
-use Rattle.rb_interleavings.specs.declared.actor.Actor.{Actor}
-use Rattle.rb_interleavings.specs.Worlds.{WorkerState}
-use Rattle.rb_interleavings.specs.OpeningWorld.{IsActor}
-use Rattle.rb_interleavings.specs.EveryInterleaving.{HoldsRecord, IsBusyAsHeld, IsWellRun}
-use Rattle.rb_interleavings.proofs.WholeRuns.{leads-on, reached-well}
+use Rattle.rb_world.specs.declared.actor.Actor.{Actor}
+use Rattle.rb_world.specs.Worlds.{WorkerState}
+use Rattle.rb_world.specs.OpeningWorld.{IsActor}
+use Rattle.rb_world.specs.EveryInterleaving.{HoldsRecord, IsBusyAsHeld, IsWellRun}
+use Rattle.rb_world.proofs.WholeRuns.{leads-on, reached-well}
 use Rattle.rb_world.specs.declared.world_record.WorldRecord.{WorldRecord}
 use Rattle.rb_world.specs.declared.turn_done.TurnDone.{TurnDone}
 use Rattle.rb_world.specs.WorldValue.{WholeWorld, place_of, worker_of, shown_world}

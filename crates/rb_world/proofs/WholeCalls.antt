@@ -21,8 +21,8 @@ use Rattle.rb_chapter_ring.specs.TaggedRing.{TaggedRing}
 use Rattle.rb_chapter_ring.specs.declared.faults.ReserveFault.{ReserveFault}
 use Rattle.rb_chapter_ring.specs.declared.faults.ReserveFault.TheVariants.{Full, Flags, ChapterFull, Foreign, HandsFull}
 use Rattle.rb_semantics.specs.HelperCalls.{Taken as TakenAnswer}
-use Rattle.rb_interleavings.specs.Worlds.{WorldRing}
-use Rattle.rb_interleavings.specs.CallsInWorld.{RingSteps, BadFlags, Unlogged, NoRoom, Made}
+use Rattle.rb_world.specs.Worlds.{WorldRing}
+use Rattle.rb_world.specs.CallsInWorld.{RingSteps, BadFlags, Unlogged, NoRoom, Made}
 use Rattle.rb_world.specs.declared.record_end.RecordEnd.{RecordEnd}
 use Rattle.rb_world.specs.declared.record_end.RecordEnd.TheVariants.{Submit, Discard}
 use Rattle.rb_world.specs.WorldValue.{KeptRing, world_ring}

@@ -1,8 +1,8 @@
 -- The turns of consumers and keepers, in a world whose rings keep chapters.
 use Rattle.std.proofs.Common.{◌≡◌, ℕ, ◌<◌, List, [], ◌∷◌, ◌++◌, length, map, get_or, set, refl, sym, ap, subst, ◌∙◌}
-use Rattle.rb_interleavings.specs.Worlds.{WorldRing}
-use Rattle.rb_interleavings.specs.Turns.{HandedChapter, NoMemory}
-use Rattle.rb_interleavings.specs.declared.actor.Actor.TheVariants.{Consumer, Keeper}
+use Rattle.rb_world.specs.Worlds.{WorldRing}
+use Rattle.rb_world.specs.Turns.{HandedChapter, NoMemory}
+use Rattle.rb_world.specs.declared.actor.Actor.TheVariants.{Consumer, Keeper}
 use Rattle.rb_world.specs.declared.turn_done.TurnDone.{TurnDone}
 use Rattle.rb_world.specs.declared.turn_done.TurnDone.TheVariants as turn
 use Rattle.rb_world.specs.WorldValue.{KeptRing, world_ring, WorldValue, WholeWorld, whole_world, shown_world, no_ring, no_kept_ring, ring_at, world_of}

@@ -11,10 +11,10 @@ use Rattle.rb_interp.specs.CodeCalls.{left_by}
 use Rattle.rb_interp.specs.StoredMemory.{held_record, others, Rewrites}
 use Rattle.rb_interp.specs.declared.step.Phase.{Phase}
 use Rattle.rb_interp.specs.declared.step.Phase.TheVariants as phase
-use Rattle.rb_interleavings.specs.Worlds.{RecordPlace, HeldRecords, Running, Finished, WorkerState, WorldRing, World, with_worker, with_ring, table_with}
-use Rattle.rb_interleavings.specs.CallsInWorld.{RecordOutcome, BadFlags, NoRoom, Made, WorkerReserves, WorkerOutputs, answer_to_reserve, held_after_reserve, answer_to_output, Unlogged, granted_at}
-use Rattle.rb_interleavings.specs.Turns.{TurnEvent, Went, Ended, Idle, GivingBack, output_event, worker_after, event_of, GetsAnswer, GivesRecordBack, MakesCall, ExecutesStep, TakesWorkerTurn, WorldStep}
-use Rattle.rb_interleavings.specs.declared.actor.Actor.TheVariants.{Worker}
+use Rattle.rb_world.specs.Worlds.{RecordPlace, HeldRecords, Running, Finished, WorkerState, WorldRing, World, with_worker, with_ring, table_with}
+use Rattle.rb_world.specs.CallsInWorld.{RecordOutcome, BadFlags, NoRoom, Made, WorkerReserves, WorkerOutputs, answer_to_reserve, held_after_reserve, answer_to_output, Unlogged, granted_at}
+use Rattle.rb_world.specs.Turns.{TurnEvent, Went, Ended, Idle, GivingBack, output_event, worker_after, event_of, GetsAnswer, GivesRecordBack, MakesCall, ExecutesStep, TakesWorkerTurn, WorldStep}
+use Rattle.rb_world.specs.declared.actor.Actor.TheVariants.{Worker}
 use Rattle.rb_world.specs.declared.world_record.WorldRecord.{WorldRecord}
 use Rattle.rb_world.specs.declared.turn_done.TurnDone.{TurnDone}
 use Rattle.rb_world.specs.declared.turn_done.TurnDone.TheVariants as turn

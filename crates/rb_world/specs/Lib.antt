@@ -1,3 +1,8 @@
+pub mod Worlds
+pub mod CallsInWorld
+pub mod Turns
+pub mod OpeningWorld
+pub mod EveryInterleaving
 pub mod WorldValue
 pub mod TurnsDone
 pub mod OpenedWorlds

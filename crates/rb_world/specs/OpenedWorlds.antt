@@ -9,7 +9,7 @@ use Rattle.rb_chapter_ring.specs.HandRing.{hand_ring}
 use Rattle.rb_semantics.specs.ProgramStates.{entry_program_state}
 use Rattle.rb_interp.specs.MachineState.{MachineState}
 use Rattle.rb_interp.specs.declared.step.Phase.TheVariants.{Ready}
-use Rattle.rb_interleavings.specs.OpeningWorld.{BeginsVerified}
+use Rattle.rb_world.specs.OpeningWorld.{BeginsVerified}
 use Rattle.rb_world.specs.declared.opening.RingSetup.{RingSetup}
 use Rattle.rb_world.specs.declared.opening.WorkerSetup.{WorkerSetup}
 use Rattle.rb_world.specs.declared.world_record.WorldRecord.{WorldRecord}

@@ -4,9 +4,9 @@ use Rattle.std.specs.List.{slice_index_or}
 use Rattle.rb_history.specs.declared.answers.Taken.TheVariants.{Event, Skipped as SkippedRecord, BusyFront, Empty}
 use Rattle.rb_chapter_ring.specs.Chapters.{Chapter}
 use Rattle.rb_chapter_ring.specs.ChapterCalls.{HandsOut}
-use Rattle.rb_interleavings.specs.declared.actor.Actor.{Actor}
-use Rattle.rb_interleavings.specs.declared.actor.Actor.TheVariants.{Keeper}
-use Rattle.rb_interleavings.specs.Turns.{TurnEvent, Went, HandedOver, Ended, Idle, Took, HandedChapter, NoMemory, WorldStep}
+use Rattle.rb_world.specs.declared.actor.Actor.{Actor}
+use Rattle.rb_world.specs.declared.actor.Actor.TheVariants.{Keeper}
+use Rattle.rb_world.specs.Turns.{TurnEvent, Went, HandedOver, Ended, Idle, Took, HandedChapter, NoMemory, WorldStep}
 use Rattle.rb_world.specs.declared.turn_done.TurnDone.{TurnDone}
 use Rattle.rb_world.specs.declared.turn_done.TurnDone.TheVariants as answer
 use Rattle.rb_world.specs.WorldValue.{KeptRing, WorldValue, WholeWorld, whole_world, shown_world, no_kept_ring}

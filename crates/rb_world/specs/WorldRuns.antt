@@ -1,9 +1,9 @@
 -- Runs of a world (own).
 use Rattle.std.specs.Prelude.{ℕ, ◌≡◌, List, [], ◌∷◌, Option, Some, None}
 use Rattle.std.specs.List.{AllZip}
-use Rattle.rb_interleavings.specs.declared.actor.Actor.{Actor}
-use Rattle.rb_interleavings.specs.Worlds.{WorkerStatus, Running, Finished, WorkerState}
-use Rattle.rb_interleavings.specs.Turns.{TurnEvent, WorldRun}
+use Rattle.rb_world.specs.declared.actor.Actor.{Actor}
+use Rattle.rb_world.specs.Worlds.{WorkerStatus, Running, Finished, WorkerState}
+use Rattle.rb_world.specs.Turns.{TurnEvent, WorldRun}
 use Rattle.rb_world.specs.declared.turn_done.TurnDone.{TurnDone}
 use Rattle.rb_world.specs.WorldValue.{WorldValue, world_of, IsThere}
 use Rattle.rb_world.specs.TurnsDone.{TellsEvent, IsTurnOf, TurnsChaptersOf}

@@ -14,9 +14,9 @@ use Rattle.rb_interp.specs.MachineState.{MachineState}
 use Rattle.rb_interp.specs.StoredMemory.{held_record}
 use Rattle.rb_interp.specs.declared.step.Phase.{Phase}
 use Rattle.rb_interp.specs.declared.step.Phase.TheVariants as phase
-use Rattle.rb_interleavings.specs.declared.actor.Actor.{Actor}
-use Rattle.rb_interleavings.specs.declared.actor.Actor.TheVariants.{Worker, Consumer, Keeper}
-use Rattle.rb_interleavings.specs.Worlds.{RecordPlace, HeldRecords, WorkerStatus, Running, Finished, Halted, Strayed, WorkerState, WorldRing, World}
+use Rattle.rb_world.specs.declared.actor.Actor.{Actor}
+use Rattle.rb_world.specs.declared.actor.Actor.TheVariants.{Worker, Consumer, Keeper}
+use Rattle.rb_world.specs.Worlds.{RecordPlace, HeldRecords, WorkerStatus, Running, Finished, Halted, Strayed, WorkerState, WorldRing, World}
 use Rattle.rb_world.specs.declared.world_record.WorldRecord.{WorldRecord}
 
 -- a ring, the chapters that it handed out, oldest first, and what was taken of it

@@ -5,7 +5,7 @@
 //! bpf_ringbuf_submit, bpf_ringbuf_discard, bpf_ringbuf_output and bpf_ringbuf_query, over rings after Linux
 //! Documentation/bpf/ringbuf.rst.
 //!
-//! Each turn is one turn of the definitions (`rb_interleavings`), so whatever list of actors is run, no worker is ever stuck
+//! Each turn is one turn of the definitions (`specs/Turns.antt`), so whatever list of actors is run, no worker is ever stuck
 //! and no record is handed back, the busy records of each ring are exactly those that unfinished workers hold, and what is
 //! taken as an event of a worker are the bytes that this worker handed over, in the order of reservation.
 //!
@@ -19,9 +19,18 @@
 //! world.at(0);                            // Some(5): the next unit
 //! world.turn(Actor::Consumer(0));         // BusyFront: the record is not submitted yet
 //! ```
+//!
+//! # Every interleaving
+//!
+//! `specs/Worlds.antt` and `specs/Turns.antt` say what a world is and what one turn of an actor does to it, over what
+//! programs mean (`rb_semantics`) and what a ring's history may be (`rb_history`), and the law on every list of turns is the
+//! contract of `every_interleaving_is_well` (`specs/EveryInterleaving.antt`). What threads promise in place of it stands beside this law in
+//! docs/PROOF_STATUS.md, "Every interleaving, and running threads".
 #![tactic(auto)]
 
+mod actor;
 mod consumed_ring;
+mod interleaving_laws;
 mod opening;
 mod record_end;
 mod ring_answers;
@@ -32,8 +41,9 @@ mod world;
 mod world_fault;
 mod world_record;
 
+pub use actor::Actor;
+pub use interleaving_laws::{every_interleaving_is_well, reached_worlds_are_well};
 pub use opening::{RingSetup, WorkerSetup};
-pub use rb_interleavings::Actor;
 pub use run::Report;
 pub use turn_done::TurnDone;
 pub use world::World;

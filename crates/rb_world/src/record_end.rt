@@ -9,7 +9,7 @@ use rb_chapter_ring::{Reservation, RingState};
 use rb_history::Notice;
 
 // What becomes of a record that is given back.
-#[derive(Clone, Copy, Debug, PartialEq, Eq)]
+#[derive(Clone, Copy, PartialEq, Eq)]
 pub(crate) enum RecordEnd {
     // The consumer takes its bytes.
     Submit,

@@ -8,7 +8,7 @@ ghost use Rattle.rb_world.specs.WorldValue.{IsThere};
 use crate::turn_done::TurnDone;
 use crate::world::World;
 use crate::world_fault::WorldFault;
-use rb_interleavings::Actor;
+use crate::Actor;
 
 /// What the turns of a list of actors answered.
 #[derive(Drop)]

@@ -8,7 +8,7 @@ use crate::world_fault::WorldOpenFault;
 use crate::world_record::WorldRecord;
 use rb_chapter_ring::{Chapter, RingState};
 use rb_history::Taken;
-use rb_interleavings::Actor;
+use crate::Actor;
 use rb_interp::{Machine, Phase};
 use std::alloc::Global;
 use std::marker::Model;
@@ -46,9 +46,9 @@ impl<'p> Model for World<'p> {
 impl<'p> World<'p> {
     ghost use Rattle.std.specs.Prelude.{◌≡◌, ◌<◌, ◌↔◌, IsTrue, IsErrOf, OnOk, IfOk, length};
     ghost use Rattle.rb_history.specs.RingModel.{IsWorkerCount};
-    ghost use Rattle.rb_interleavings.specs.declared.actor.Actor.TheVariants.{Worker, Consumer, Keeper};
-    ghost use Rattle.rb_interleavings.specs.EveryInterleaving.{IsReachedWorld};
-    ghost use Rattle.rb_interleavings.specs.OpeningWorld.{IsOpeningWorld};
+    ghost use Rattle.rb_world.specs.declared.actor.Actor.TheVariants.{Worker, Consumer, Keeper};
+    ghost use Rattle.rb_world.specs.EveryInterleaving.{IsReachedWorld};
+    ghost use Rattle.rb_world.specs.OpeningWorld.{IsOpeningWorld};
     ghost use Rattle.rb_world.specs.OpenedWorlds.{AreRings, HaveContexts, HaveRings, HaveRooms, IsOpenedWorld, MayOpen};
     ghost use Rattle.rb_world.specs.WorldRuns.{next_unit, result_of};
     ghost use Rattle.rb_world.specs.TurnsDone.{IsTurnOf, TurnsChaptersOf, chapters_of};

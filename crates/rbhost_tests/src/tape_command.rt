@@ -3,7 +3,7 @@
 use crate::endings::ended_over;
 use crate::fakes::{Sink, Source, Trouble};
 use rb_json::LineForm;
-use rb_reader::TapeKind;
+use rb_tape::TapeKind;
 use rb_tape_commands::{TapeRefusal, tape};
 use std::alloc::Global;
 use std::io::ErrorKind;

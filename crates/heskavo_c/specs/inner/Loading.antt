@@ -1,11 +1,11 @@
 -- Faults of lower layers, as refusals of a program; out of memory is none.
 use Rattle.std.specs.Prelude.{ℕ, Option, Some, None}
-use Rattle.rb_cfg.specs.declared.fault.ShapeFault.{ShapeFault}
-use Rattle.rb_cfg.specs.declared.fault.ShapeFaultKind.{ShapeFaultKind}
-use Rattle.rb_cfg.specs.declared.fault.ShapeFaultKind.TheVariants as shape_faults
-use Rattle.rb_decode.specs.declared.fault.DecodeFault.{DecodeFault}
-use Rattle.rb_decode.specs.declared.fault.DecodeKind.{DecodeKind}
-use Rattle.rb_decode.specs.declared.fault.DecodeKind.TheVariants as decode_faults
+use Rattle.rb_program.specs.declared.shape_fault.ShapeFault.{ShapeFault}
+use Rattle.rb_program.specs.declared.shape_fault.ShapeFaultKind.{ShapeFaultKind}
+use Rattle.rb_program.specs.declared.shape_fault.ShapeFaultKind.TheVariants as shape_faults
+use Rattle.rb_program.specs.declared.fault.DecodeFault.{DecodeFault}
+use Rattle.rb_program.specs.declared.fault.DecodeKind.{DecodeKind}
+use Rattle.rb_program.specs.declared.fault.DecodeKind.TheVariants as decode_faults
 use Rattle.heskavo_c.specs.declared.load.Refused.{Refused}
 use Rattle.heskavo_c.specs.declared.load.Refused.TheVariants.{Bytes, Shape}
 

@@ -1,7 +1,7 @@
 -- What one entry more changes of what a chapter stands for at its end.
 use Rattle.std.specs.Prelude.{ℕ, ◌+◌, [], ◌∷◌, ◌++◌, drop}
 use Rattle.std.specs.List.{slice_set as set}
-use Rattle.rb_header.specs.Span.{span}
+use Rattle.rb_history.specs.Span.{span}
 use Rattle.rb_history.specs.declared.tally.Tally.{Tally}
 use Rattle.rb_history.specs.History.{Shown, Status}
 use Rattle.rb_history.specs.History.Status.{Busy, Waiting, Discarded}

@@ -3,7 +3,7 @@ use Rattle.std.specs.Prelude.{ℕ, ◌≡◌, ◌+◌, ◌<◌, ◌||◌, true, 
 use Rattle.std.specs.List.{count_by, All, slice_index_or as get_or}
 use Rattle.rb_history.specs.declared.entries.Entry.{Entry}
 use Rattle.rb_history.specs.declared.entries.Entry.TheVariants.{Res, Full, Sub, Dis, Take}
-use Rattle.rb_header.specs.Span.{span}
+use Rattle.rb_history.specs.Span.{span}
 use Rattle.rb_history.specs.History.{Shown, producer_of, consumer_of, records, is_granted_at, is_submitted_at, is_discarded_at, is_taken_at, is_grant_at}
 use Rattle.rb_history.specs.History.Status.{Busy, Discarded}
 use Rattle.rb_history.specs.Counting.{is_discard_entry, status_count}

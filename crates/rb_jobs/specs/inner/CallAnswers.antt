@@ -5,8 +5,8 @@ use Rattle.rb_history.specs.declared.answers.Notice.TheVariants.{Due, NotDue}
 use Rattle.rb_chapter_ring.specs.HandGranted.{HandGranted}
 use Rattle.rb_chapter_ring.specs.declared.faults.ReserveFault.TheVariants.{Full, Flags, ChapterFull, Foreign, HandsFull}
 use Rattle.rb_ledger.specs.Seats.{WorkerSeat}
-use Rattle.rb_helpers.specs.ErrorNumbers.{EAGAIN, EINVAL}
-use Rattle.rb_helpers.specs.declared.done.Done.{Done}
+use Rattle.rb_interp.specs.ErrorNumbers.{EAGAIN, EINVAL}
+use Rattle.rb_interp.specs.declared.done.Done.{Done}
 use Rattle.rb_jobs.specs.declared.no_record.NoRecord.{NoRecord}
 use Rattle.rb_jobs.specs.declared.no_record.NoRecord.TheVariants.{BadFlags, NoSheet, Refused}
 use Rattle.rb_jobs.specs.SeatCalls.{SeatIsGranted, SeatFindsFull, SeatFindsChapterFull, SeatOutputs}

@@ -1,6 +1,6 @@
 -- Calls at the seats, one after another.
 use Rattle.std.proofs.Common.{refl, subst, List, [], ◌∷◌, ◌++◌}
-use Rattle.rb_helpers.specs.AnsweredCalls.{AnsweredCall}
+use Rattle.rb_interp.specs.AnsweredCalls.{AnsweredCall}
 use Rattle.rb_jobs.specs.declared.seat_record.SeatRecord.{SeatRecord}
 use Rattle.rb_jobs.specs.SeatHelpers.{AtSeats, Leads}
 

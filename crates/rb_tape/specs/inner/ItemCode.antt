@@ -1,8 +1,8 @@
 -- How the logic stores a record of a tape.
 use Rattle.std.specs.Prelude.{◌≡◌, ℕ, List, [], ◌==◌, cond, refl}
 use Rattle.std.specs.Coded.{Coded, code_by, coded×, coded_ℕ, coded_list}
-use Rattle.rb_header.specs.TapeBytes.{Item}
-use Rattle.rb_header.specs.TapeBytes.Item.{Event, Skip}
+use Rattle.rb_history.specs.TapeBytes.{Item}
+use Rattle.rb_history.specs.TapeBytes.Item.{Event, Skip}
 
 -- whether it is a skip, the position, a skip's length, and an event's bytes
 abbrev Parts : Type 0

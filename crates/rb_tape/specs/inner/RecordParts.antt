@@ -1,7 +1,7 @@
 -- The parts of a record on a tape, as they are written.
 use Rattle.std.specs.Prelude.{ℕ, List, []}
-use Rattle.rb_header.specs.TapeBytes.{Item}
-use Rattle.rb_header.specs.TapeBytes.Item.{Event, Skip}
+use Rattle.rb_history.specs.TapeBytes.{Item}
+use Rattle.rb_history.specs.TapeBytes.Item.{Event, Skip}
 
 -- what stands behind the header before zeros do
 abbrev pub bytes_before_zeros : Item → List ℕ

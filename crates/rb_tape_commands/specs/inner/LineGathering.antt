@@ -1,9 +1,9 @@
 -- The lines of the records that a reader has, put together (own).
 use Rattle.std.specs.Prelude.{ℕ, ◌≡◌, ◌-◌, Bool, true, false, List, [], ◌∷◌, ◌++◌, Result, Ok, Err}
-use Rattle.rb_header.specs.TapeBytes.{Item}
-use Rattle.rb_reader.specs.declared.fault.TapeKind.{TapeKind}
-use Rattle.rb_reader.specs.TapeFront.{ShowsFault, IsUndecided}
-use Rattle.rb_reader.specs.TapeReading.{Reading, PassesItem}
+use Rattle.rb_history.specs.TapeBytes.{Item}
+use Rattle.rb_tape.specs.declared.fault.TapeKind.{TapeKind}
+use Rattle.rb_tape.specs.TapeFront.{ShowsFault, IsUndecided}
+use Rattle.rb_tape.specs.TapeReading.{Reading, PassesItem}
 use Rattle.rb_json.specs.declared.form.LineForm.{LineForm}
 use Rattle.rb_tape_commands.specs.TapeText.{tape_line_as, tape_lines}
 use Rattle.rb_tape_commands.specs.declared.tape_refusal.TapeRefusal.{TapeRefusal}

@@ -1,9 +1,9 @@
 -- What one payload adds to the output, what the opening of a ring is refused for, and an input of whole payloads.
 use Rattle.std.specs.Prelude.{ℕ, ◌≡◌, ◌+◌, ◌<◌, ◌^◌, List, length, take, Option, Result, Ok, Err, IfSome}
 use Rattle.std.specs.Io.KnownBytes.{Appends, Keeps}
-use Rattle.rb_header.specs.TapeBytes.{IsItemAt, item_bytes}
-use Rattle.rb_header.specs.TapeBytes.Item.{Event}
-use Rattle.rb_header.specs.Span.{span}
+use Rattle.rb_history.specs.TapeBytes.{IsItemAt, item_bytes}
+use Rattle.rb_history.specs.TapeBytes.Item.{Event}
+use Rattle.rb_history.specs.Span.{span}
 use Rattle.rb_tape_commands.specs.Input.{InputIs}
 use Rattle.rb_tape_commands.specs.Input.Ending.{Whole}
 use Rattle.rb_tape_commands.specs.declared.feed_fault.FeedFault.{FeedFault}

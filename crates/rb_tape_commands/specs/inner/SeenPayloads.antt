@@ -1,6 +1,6 @@
 -- A payload that a reader's buffer has whole.
 use Rattle.std.specs.Prelude.{ℕ, ◌≡◌, ◌+◌, ◌<◌, ◌≤◌, ◌^◌, List, length, take}
-use Rattle.rb_header.specs.Span.{span}
+use Rattle.rb_history.specs.Span.{span}
 use Rattle.rb_tape_commands.specs.Input.{framed}
 
 -- the payload stands at the front of the bytes, behind its length, and a ring of this size has room for its record

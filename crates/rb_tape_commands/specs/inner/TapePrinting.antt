@@ -1,12 +1,12 @@
 -- The printing of a tape, piece by piece of the input.
 use Rattle.std.specs.Prelude.{ℕ, ◌≡◌, ◌≢◌, ◌-◌, List, [], Option, None, Result, Ok, Err}
 use Rattle.std.specs.Io.KnownBytes.{Appends, Consumes}
-use Rattle.rb_header.specs.TapeBytes.{Item}
-use Rattle.rb_reader.specs.TapeReading.{Reading}
-use Rattle.rb_reader.specs.LongestTape.{HasReadItems}
+use Rattle.rb_history.specs.TapeBytes.{Item}
+use Rattle.rb_tape.specs.TapeReading.{Reading}
+use Rattle.rb_tape.specs.LongestTape.{HasReadItems}
 use Rattle.rb_json.specs.declared.form.LineForm.{LineForm}
 use Rattle.rb_tape_commands.specs.TapeText.{tape_lines}
-use Rattle.rb_reader.specs.declared.fault.TapeKind.TheVariants.{Truncated}
+use Rattle.rb_tape.specs.declared.fault.TapeKind.TheVariants.{Truncated}
 use Rattle.rb_tape_commands.specs.declared.tape_refusal.TapeRefusal.{TapeRefusal}
 use Rattle.rb_tape_commands.specs.declared.tape_refusal.TapeRefusal.TheVariants.{Record}
 

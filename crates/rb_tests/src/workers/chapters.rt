@@ -4,7 +4,7 @@ ghost use Rattle.std.specs.Prelude.{◌≡◌, ◌<◌};
 ghost use Rattle.rb_workers.specs.Opened.{AreOpened, IsOpened};
 
 use super::given::{Free, OUTPUT_CONTEXT, ROOM, job, verified};
-use rb_header::span;
+use rb_history::span;
 use rb_interp::RunFault;
 use rb_shared_ring::Closing;
 use rb_verifier::Verified;

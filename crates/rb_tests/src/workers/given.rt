@@ -3,9 +3,8 @@
 ghost use Rattle.std.specs.Prelude.{◌≡◌, ◌≤◌, ℕ, length};
 ghost use Rattle.rb_workers.specs.Opened.{AreOpened, IsOpened};
 
-use rb_cfg::shape;
-use rb_decode::from_text;
-use rb_header::span;
+use rb_program::{from_text, shape};
+use rb_history::span;
 use rb_verifier::{Verified, verify};
 use rb_workers::{Chapter, Gate, Job, Opened, Report, Sink, run_jobs};
 use std::alloc::Global;

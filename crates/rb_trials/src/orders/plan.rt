@@ -1,8 +1,7 @@
 //! What is gone through: workers with their steps, and takes.
 
 use crate::fault::TrialFault;
-use rb_cfg::shape;
-use rb_decode::from_text;
+use rb_program::{from_text, shape};
 use rb_verifier::{Verified, verify};
 use std::alloc::Global;
 

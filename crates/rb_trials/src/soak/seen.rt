@@ -1,7 +1,7 @@
 //! What a consumer has seen of its ring's records.
 
 use super::bytes::are_right;
-use rb_header::span;
+use rb_history::span;
 use rb_tape::{Event, Item};
 use std::alloc::{AllocError, Global};
 

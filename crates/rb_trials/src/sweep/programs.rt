@@ -2,8 +2,7 @@
 
 use super::memory::{TRIES, tell_memory};
 use crate::fault::TrialFault;
-use rb_cfg::{Shape, ShapeFaultKind, shape};
-use rb_decode::{DecodeKind, Program, decode};
+use rb_program::{DecodeKind, Program, Shape, ShapeFaultKind, decode, shape};
 use rb_verifier::{Refusal, Verified, verify};
 use std::alloc::Global;
 use std::io::Print;

@@ -1,12 +1,12 @@
 -- The sweep over a program in unit order: what was noted at each unit so far.
 use Rattle.std.specs.Prelude.{◌≡◌, ◌≢◌, ℕ, ◌<◌, ◌≤◌, Option, Some, List, length, slice_index_or}
 use Rattle.rb_insn.specs.declared.insn.Insn.{Insn}
-use Rattle.rb_decode.specs.Program.{unit_count}
-use Rattle.rb_refs.specs.declared.limits.Limits.{Limits}
-use Rattle.rb_refs.specs.declared.state.AbsState.{AbsState}
-use Rattle.rb_refs.specs.Forms.{IsFormed}
-use Rattle.rb_refs.specs.Joins.{IsJoin}
-use Rattle.rb_refs.specs.AbstractStates.{entry_state}
+use Rattle.rb_program.specs.Program.{unit_count}
+use Rattle.rb_verifier.specs.declared.limits.Limits.{Limits}
+use Rattle.rb_verifier.specs.declared.state.AbsState.{AbsState}
+use Rattle.rb_verifier.specs.Forms.{IsFormed}
+use Rattle.rb_verifier.specs.Joins.{IsJoin}
+use Rattle.rb_verifier.specs.AbstractStates.{entry_state}
 use Rattle.rb_verifier.specs.declared.arrivals.Arrival.{Arrival}
 use Rattle.rb_verifier.specs.declared.arrivals.Arrival.TheVariants.{Nothing, Least, Differ}
 use Rattle.rb_verifier.specs.Annotation.{state_at, Arrives, IsLeastBefore, IsLeastAbove, HaveDifferent}

@@ -4,8 +4,8 @@ use Rattle.std.specs.List.{slice_index_or, AllByRecursion}
 use Rattle.rb_history.specs.RoomRule.{Setup}
 use Rattle.rb_interp.specs.MachineState.{MachineState}
 use Rattle.rb_interp.specs.StoredMemory.{held_record}
-use Rattle.rb_interleavings.specs.Worlds.{WorldRing}
-use Rattle.rb_interleavings.specs.EveryInterleaving.{IsReachedWorld}
+use Rattle.rb_world.specs.Worlds.{WorldRing}
+use Rattle.rb_world.specs.EveryInterleaving.{IsReachedWorld}
 use Rattle.rb_world.specs.declared.world_record.WorldRecord.{WorldRecord}
 use Rattle.rb_world.specs.WorldValue.{WholeWorld, shown_world}
 

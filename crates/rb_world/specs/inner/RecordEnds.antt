@@ -3,8 +3,8 @@ use Rattle.std.specs.Prelude.{ℕ}
 use Rattle.rb_history.specs.ReservationModel.{Granted}
 use Rattle.rb_chapter_ring.specs.HandRing.{HandRing, SubmitsFromHand, DiscardsFromHand}
 use Rattle.rb_semantics.specs.HelperCalls.{HelperAnswer}
-use Rattle.rb_interleavings.specs.Worlds.{WorldRing}
-use Rattle.rb_interleavings.specs.CallsInWorld.{WorkerSubmits, WorkerDiscards}
+use Rattle.rb_world.specs.Worlds.{WorldRing}
+use Rattle.rb_world.specs.CallsInWorld.{WorkerSubmits, WorkerDiscards}
 use Rattle.rb_world.specs.declared.record_end.RecordEnd.{RecordEnd}
 use Rattle.rb_world.specs.declared.record_end.RecordEnd.TheVariants.{Submit, Discard}
 

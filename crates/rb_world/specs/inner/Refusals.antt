@@ -1,7 +1,7 @@
 -- Why a world is not opened or not run: the first refusal that applies.
 use Rattle.std.specs.Prelude.{ℕ, List, All, length}
 use Rattle.rb_history.specs.RingModel.{IsWorkerCount}
-use Rattle.rb_interleavings.specs.declared.actor.Actor.{Actor}
+use Rattle.rb_world.specs.declared.actor.Actor.{Actor}
 use Rattle.rb_world.specs.declared.opening.RingSetup.{RingSetup}
 use Rattle.rb_world.specs.declared.opening.WorkerSetup.{WorkerSetup}
 use Rattle.rb_world.specs.declared.world_fault.WorldFault.{WorldFault}

@@ -6,8 +6,8 @@ use Rattle.rb_history.specs.RingModel.{Ring}
 use Rattle.rb_chapter_ring.specs.ChapterRing.{ChapterRing, whole_ring}
 use Rattle.rb_chapter_ring.specs.WholeHistory.{IsKept}
 use Rattle.rb_semantics.specs.HelperCalls.{Code}
-use Rattle.rb_interleavings.specs.Worlds.{WorldRing}
-use Rattle.rb_interleavings.specs.CallsInWorld.{RecordOutcome, Made, WorkerReserves, WorkerOutputs, answer_to_output}
+use Rattle.rb_world.specs.Worlds.{WorldRing}
+use Rattle.rb_world.specs.CallsInWorld.{RecordOutcome, Made, WorkerReserves, WorkerOutputs, answer_to_output}
 
 -- a ring of which nothing was taken
 abbrev pub untaken_ring : Ring → WorldRing

@@ -8,10 +8,10 @@ use Rattle.rb_history.specs.NoticesAndQueries.{query_answer}
 use Rattle.rb_history.specs.RingModel.{StandsFor}
 use Rattle.rb_history.specs.Calls.{Takes}
 use Rattle.rb_interp.specs.MachineState.{MachineState}
-use Rattle.rb_interleavings.specs.declared.actor.Actor.TheVariants.{Worker}
-use Rattle.rb_interleavings.specs.Worlds.{HeldRecords, Running, WorldRing}
-use Rattle.rb_interleavings.specs.CallsInWorld.{RecordOutcome, WorkerReserves, WorkerOutputs, answer_to_reserve, held_after_reserve, answer_to_output}
-use Rattle.rb_interleavings.specs.Turns.{TurnEvent, Took, NoMemory, GivingBack, worker_after, taken_by}
+use Rattle.rb_world.specs.declared.actor.Actor.TheVariants.{Worker}
+use Rattle.rb_world.specs.Worlds.{HeldRecords, Running, WorldRing}
+use Rattle.rb_world.specs.CallsInWorld.{RecordOutcome, WorkerReserves, WorkerOutputs, answer_to_reserve, held_after_reserve, answer_to_output}
+use Rattle.rb_world.specs.Turns.{TurnEvent, Took, NoMemory, GivingBack, worker_after, taken_by}
 use Rattle.rb_world.specs.declared.turn_done.TurnDone.{TurnDone}
 use Rattle.rb_world.specs.declared.turn_done.TurnDone.TheVariants as turn
 use Rattle.rb_world.specs.declared.world_record.WorldRecord.{WorldRecord}

@@ -1,4 +1,4 @@
-use Rattle.rb_header.proofs.Masks.{mask-is}
+use Rattle.rb_history.proofs.Masks.{mask-is}
 use Rattle.rb_chapter_ring.proofs.finding.slot_in.Goals as goal
 
 pub returns-clause-value : goal.returns-clause-value

@@ -1,5 +1,5 @@
 use Rattle.std.proofs.lemmas.Result.{err_from_is_err_and}
-use Rattle.rb_decode.proofs.Texts.{hex_fault, decode_of-is_hex}
+use Rattle.rb_program.proofs.Texts.{hex_fault, decode_of-is_hex}
 use Rattle.rb_explain.proofs.explaining.decode_hex.Goals as goal
 
 pub returns-in_err-bytes-clause-fault : goal.returns-in_err-bytes-clause-fault

@@ -1,6 +1,6 @@
 use Rattle.std.proofs.Common.{◌≡◌, ◌<◌, false, true, length, filter, get_or, ap, sym, ◌∙◌, subst, List}
 use Rattle.std.specs.Prelude.{not}
-use Rattle.rb_refs.specs.StackPlaces.{touches}
+use Rattle.rb_verifier.specs.StackPlaces.{touches}
 use Rattle.rb_semantics.specs.StackPointers.{is_pointer_among}
 use Rattle.rb_interp.specs.declared.kept_pointers.KeptPointer.{KeptPointer}
 use Rattle.rb_interp.specs.inner.KeptPointers.{pointers_of, entry_left}

@@ -2,8 +2,8 @@ use Rattle.std.proofs.Common.{◌≡◌, sym, ap, ◌∙◌}
 use Rattle.std.specs.Int.{cast_signed, cast_unsigned}
 use Rattle.std.proofs.lemmas.Int.{to_z-of_z}
 use mir.Syntax.{w64}
-use Rattle.rb_alu.specs.WholeNumbers.{signed_of}
-use Rattle.rb_alu.proofs.Laws.{signed_of-cast, signed_of-fits}
+use Rattle.rb_insn.specs.WholeNumbers.{signed_of}
+use Rattle.rb_insn.proofs.ArithmeticLaws.{signed_of-cast, signed_of-fits}
 use Rattle.rb_interp.proofs.offsets.signed.Goals as goal
 
 pub returns : goal.returns

@@ -2,8 +2,8 @@ use Rattle.std.proofs.Common.{◌≡◌, ap, ◌∙◌, arith}
 use Rattle.std.specs.Int.{cast_unsigned}
 use Rattle.std.proofs.lemmas.Int.{ints}
 use mir.Syntax.{w64}
-use Rattle.rb_alu.specs.WholeNumbers.{signed_of, wrapped}
-use Rattle.rb_alu.proofs.Laws.{signed_of-wrapped}
+use Rattle.rb_insn.specs.WholeNumbers.{signed_of, wrapped}
+use Rattle.rb_insn.proofs.ArithmeticLaws.{signed_of-wrapped}
 use Rattle.rb_interp.proofs.Nearness.{wrapped-unsigned}
 use Rattle.rb_interp.proofs.offsets.unsigned.Goals as goal
 

@@ -1,5 +1,5 @@
 use Rattle.std.proofs.Common.{◌≡◌, ◌≤◌, List, refl, subst, arith}
-use Rattle.rb_decode.specs.Program.{unit_count}
+use Rattle.rb_program.specs.Program.{unit_count}
 use Rattle.rb_insn.specs.declared.insn.Insn.{Insn}
 use Rattle.rb_jobs.specs.SeatHelpers.{AtSeats}
 use Rattle.rb_jobs.proofs.Leading.{leads_seats}

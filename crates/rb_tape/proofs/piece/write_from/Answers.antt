@@ -1,6 +1,6 @@
 use Rattle.std.proofs.Common.{◌+◌, arith}
-use Rattle.rb_header.specs.TapeBytes.{item_bytes}
-use Rattle.rb_header.proofs.Laws.{length-item_bytes}
+use Rattle.rb_history.specs.TapeBytes.{item_bytes}
+use Rattle.rb_history.proofs.HeaderLaws.{length-item_bytes}
 use Rattle.rb_tape.specs.Items.{item_of}
 use Rattle.rb_tape.proofs.Pieces.{first-out, then-out}
 use Rattle.rb_tape.proofs.piece.write_from.Goals as goal

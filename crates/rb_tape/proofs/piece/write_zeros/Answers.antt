@@ -1,8 +1,8 @@
 use Rattle.std.proofs.Common.{◌-◌, ◌≤◌, ℕ, replicate, ap, arith}
 use Rattle.std.proofs.lemmas.List.{length-take}
-use Rattle.rb_header.specs.Span.{span}
-use Rattle.rb_header.specs.TapeBytes.{item_bytes, item_span}
-use Rattle.rb_header.proofs.Laws.{length-item_bytes}
+use Rattle.rb_history.specs.Span.{span}
+use Rattle.rb_history.specs.TapeBytes.{item_bytes, item_span}
+use Rattle.rb_history.proofs.HeaderLaws.{length-item_bytes}
 use Rattle.rb_tape.specs.Items.{item_of}
 use Rattle.rb_tape.proofs.Pieces.{filling-out, went-out}
 use Rattle.rb_tape.proofs.piece.write_zeros.Goals as goal

@@ -1,6 +1,6 @@
 use Rattle.std.proofs.Common.{◌-◌, ◌≤◌, take, drop}
 use Rattle.std.specs.Io.KnownBytes.{Appends}
-use Rattle.rb_header.specs.TapeBytes.{item_bytes, item_span}
+use Rattle.rb_history.specs.TapeBytes.{item_bytes, item_span}
 use Rattle.rb_tape.specs.Items.{item_of}
 use Rattle.rb_tape.proofs.piece.write_zeros.Given as goal
 

@@ -3,9 +3,9 @@ use Rattle.std.proofs.lemmas.Result.{err_from_is_err_and}
 use Rattle.std.proofs.lemmas.List.{length_push}
 use Rattle.std.specs.Io.KnownBytes.{Appends}
 use Rattle.rb_chapter_ring.specs.Chapters.{Chapter}
-use Rattle.rb_header.specs.Span.{span}
-use Rattle.rb_header.specs.TapeBytes.{IsItemAt, item_bytes}
-use Rattle.rb_header.specs.TapeBytes.Item.{Event}
+use Rattle.rb_history.specs.Span.{span}
+use Rattle.rb_history.specs.TapeBytes.{IsItemAt, item_bytes}
+use Rattle.rb_history.specs.TapeBytes.Item.{Event}
 use Rattle.rb_tape_commands.specs.inner.PayloadSteps.{FeedsOne}
 use Rattle.rb_tape_commands.proofs.ChapterPass.{goes_on, spare_stays}
 use Rattle.rb_tape_commands.proofs.Feeding.{fed_next, fed_one, passes_more, end_of-push}

@@ -1,6 +1,6 @@
 use Rattle.std.proofs.Common.{◌≡◌, ◌+◌, ◌-◌, ◌*◌, ◌≤◌, ◌^◌, List, ℕ, [], length}
 use Rattle.std.specs.Prelude.{None}
-use Rattle.rb_header.specs.TapeBytes.{end_of}
+use Rattle.rb_history.specs.TapeBytes.{end_of}
 use Rattle.rb_chapter_ring.specs.ChapterCalls.{AllTaken, producer_now}
 use Rattle.rb_tape_commands.specs.ChapterTurns.{IsSpareOf}
 use Rattle.rb_tape_commands.specs.Feed.{FeedsAll}

@@ -1,5 +1,5 @@
 use Rattle.std.proofs.Common.{◌≡◌, ◌<◌, length, refl, ap, ◌∙◌, arith}
-use Rattle.rb_header.specs.Span.{span}
+use Rattle.rb_history.specs.Span.{span}
 use Rattle.rb_tape_commands.proofs.PayloadReads.{some_read, cut_read}
 use Rattle.rb_tape_commands.proofs.payloads.read_payload.Goals as goal
 

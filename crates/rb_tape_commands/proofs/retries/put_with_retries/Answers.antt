@@ -1,6 +1,6 @@
 use Rattle.std.proofs.Common.{◌+◌, ◌∙◌, sym, ap, arith, if◌then◌else◌}
 use Rattle.std.specs.Prelude.{None, Some}
-use Rattle.rb_header.specs.TapeBytes.{item_bytes, item_span}
+use Rattle.rb_history.specs.TapeBytes.{item_bytes, item_span}
 use Rattle.rb_tape.specs.Items.{item_of}
 use Rattle.rb_tape.specs.TapeCalls.{failures_after}
 use Rattle.rb_tape_commands.proofs.Sending.{resumed, on_not_ok}

@@ -1,7 +1,7 @@
 use Rattle.std.proofs.Common.{◌≡◌, ◌+◌, ◌<◌, ◌≤◌, take}
 use Rattle.std.specs.Prelude.{Some}
 use Rattle.std.specs.Io.KnownBytes.{Appends}
-use Rattle.rb_header.specs.TapeBytes.{item_bytes, item_span}
+use Rattle.rb_history.specs.TapeBytes.{item_bytes, item_span}
 use Rattle.rb_tape.specs.Items.{item_of}
 use Rattle.rb_tape_commands.proofs.retries.put_with_retries.Given as goal
 

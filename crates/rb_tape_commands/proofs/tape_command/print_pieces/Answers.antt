@@ -2,8 +2,8 @@ use Rattle.std.proofs.Common.{length, take, sym, ap, subst, arith, take_all}
 use Rattle.std.proofs.lemmas.Result.{err_from_is_err_and}
 use Rattle.std.specs.Io.KnownBytes.{Appends, Consumes}
 use Rattle.std.proofs.KnownBytes.{Keeps-refl}
-use Rattle.rb_reader.specs.TapeFront.{IsUndecided}
-use Rattle.rb_reader.specs.TapeReading.{Reading}
+use Rattle.rb_tape.specs.TapeFront.{IsUndecided}
+use Rattle.rb_tape.specs.TapeReading.{Reading}
 use Rattle.rb_tape_commands.specs.inner.TapePrinting.{PrintsSoFar}
 use Rattle.rb_tape_commands.proofs.TapeReads.{nothing_yet, nothing_shown, piece_more, piece_added, answers_read, answers_memory, answers_end, answers_gathered, answers_cut, went_on}
 use Rattle.rb_tape_commands.proofs.tape_command.print_pieces.Goals as goal

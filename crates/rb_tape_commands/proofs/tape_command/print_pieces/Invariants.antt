@@ -1,4 +1,4 @@
-use Rattle.rb_reader.specs.TapeFront.{IsUndecided}
+use Rattle.rb_tape.specs.TapeFront.{IsUndecided}
 use Rattle.rb_tape_commands.specs.inner.TapePrinting.{PrintsSoFar}
 use Rattle.rb_tape_commands.proofs.tape_command.print_pieces.Given as goal
 

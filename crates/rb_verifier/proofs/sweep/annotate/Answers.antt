@@ -1,5 +1,5 @@
 use Rattle.std.proofs.Common.{◌≡◌, ◌<◌, ◌∙◌, ap, sym, subst, arith}
-use Rattle.rb_decode.specs.Program.{unit_count}
+use Rattle.rb_program.specs.Program.{unit_count}
 use Rattle.rb_verifier.specs.Annotation.{state_at, IsLeastBefore}
 use Rattle.rb_verifier.specs.inner.Sweep.{Progress, AreFirstArrivals}
 use Rattle.rb_verifier.proofs.Passing.{progress_start}

@@ -1,6 +1,6 @@
 use Rattle.std.proofs.Common.{◌≡◌, ◌+◌, sym, ◌∙◌, ap, subst, None}
 use Rattle.std.proofs.lemmas.Result.{on_ok_weaker}
-use Rattle.rb_decode.specs.Program.{slot_at}
+use Rattle.rb_program.specs.Program.{slot_at}
 use Rattle.rb_verifier.specs.inner.Sweep.{Progress}
 use Rattle.rb_verifier.proofs.Passing.{sweep_over}
 use Rattle.rb_verifier.proofs.sweep.sweep_unit.Goals as goal

@@ -1,9 +1,9 @@
 use Rattle.std.proofs.Common.{◌≡◌, ◌+◌, ◌<◌, ◌++◌, [], ◌∷◌, length, ap, sym, ◌∙◌, subst, arith, rules, Err}
-use Rattle.rb_cfg.specs.Edges.{Next, Target}
-use Rattle.rb_refs.specs.declared.state.Effect.{Effect}
-use Rattle.rb_refs.specs.declared.rule.StepFault.TheVariants as fault
-use Rattle.rb_refs.specs.AbstractStates.{IsLeft, along_jump}
-use Rattle.rb_refs.specs.VerifierChecks.{abstract_step}
+use Rattle.rb_program.specs.Edges.{Next, Target}
+use Rattle.rb_verifier.specs.declared.state.Effect.{Effect}
+use Rattle.rb_verifier.specs.declared.rule.StepFault.TheVariants as fault
+use Rattle.rb_verifier.specs.AbstractStates.{IsLeft, along_jump}
+use Rattle.rb_verifier.specs.VerifierChecks.{abstract_step}
 use Rattle.rb_verifier.specs.inner.Sweep.{Flows, Progress}
 use Rattle.rb_verifier.proofs.Turning.{more}
 use Rattle.rb_verifier.proofs.Passing.{formed_here, not_nothing, refused_differ, refused_check, advance, leads_inside}

@@ -1,5 +1,5 @@
 use Rattle.std.proofs.Common.{◌+◌, ◌∙◌, ap, drop, get_or, map}
-use Rattle.rb_header.specs.Span.{span}
+use Rattle.rb_history.specs.Span.{span}
 use Rattle.rb_history.specs.History.{Shown}
 use Rattle.rb_chapter_ring.specs.OpeningValue.{OpeningValue}
 use Rattle.rb_chapter_ring.specs.Opening.{no_record}

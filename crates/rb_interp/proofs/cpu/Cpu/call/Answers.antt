@@ -1,5 +1,5 @@
 use Rattle.std.proofs.Common.{Some, sym, ap, ◌∙◌, subst, refl}
-use Rattle.rb_refs.specs.declared.helper.Helper.TheVariants as helper
+use Rattle.rb_verifier.specs.declared.helper.Helper.TheVariants as helper
 use Rattle.rb_semantics.specs.ProgramStates.{State, register}
 use Rattle.rb_semantics.specs.HelperCalls.{Submit, Discard, call_of_helper}
 use Rattle.rb_interp.specs.declared.request.Request.TheVariants as request

@@ -1,6 +1,6 @@
 use Rattle.std.proofs.Common.{◌≡◌, ap, sym, ◌∙◌, subst}
 use Rattle.std.specs.Prelude.{not}
-use Rattle.rb_refs.specs.StackPlaces.{touches}
+use Rattle.rb_verifier.specs.StackPlaces.{touches}
 use Rattle.rb_semantics.specs.StackPointers.{pointers_beside}
 use Rattle.rb_interp.specs.inner.KeptPointers.{pointers_of, pointers_written, AreAtPlaces}
 use Rattle.rb_interp.proofs.KeptEntries.{entries_beside, places_left}

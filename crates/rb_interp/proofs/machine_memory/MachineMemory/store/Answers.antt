@@ -4,8 +4,8 @@ use mir.Syntax.{w64}
 use Rattle.byteorder.specs.Endian.{little_bytes}
 use Rattle.byteorder.specs.Numbers.{length-bytes_low_first}
 use Rattle.rb_insn.specs.Sizes.{byte_count}
-use Rattle.rb_parts.specs.PartsMemory.{may_write, part_with}
-use Rattle.rb_parts.specs.declared.parts.Parts.{Parts}
+use Rattle.rb_interp.specs.PartsMemory.{may_write, part_with}
+use Rattle.rb_interp.specs.declared.parts.Parts.{Parts}
 use Rattle.rb_semantics.specs.StackPointers.{StackPointers}
 use Rattle.rb_interp.specs.inner.SlotTable.{part_named}
 use Rattle.rb_interp.specs.inner.KeptPointers.{pointers_written}

@@ -1,6 +1,6 @@
 use Rattle.std.proofs.Common.{◌∷◌, ◌+◌, [], true, subst, take}
 use Rattle.std.specs.Io.KnownBytes.{Appends}
-use Rattle.rb_header.specs.TapeBytes.{item_bytes}
+use Rattle.rb_history.specs.TapeBytes.{item_bytes}
 use Rattle.rb_tape.specs.Items.{item_of}
 use Rattle.rb_run_commands.specs.TapedRun.{WritesOn}
 use Rattle.rb_run_commands.proofs.TapeGiven.{sink_tape, gives_up, ends_before, writes_record}

@@ -1,6 +1,6 @@
 use Rattle.std.proofs.Common.{◌+◌, ap, ◌∙◌, sym, subst, not}
 use Rattle.std.specs.Io.KnownBytes.{Appends}
-use Rattle.rb_header.specs.TapeBytes.{tape, IsItemAt, end_of}
+use Rattle.rb_history.specs.TapeBytes.{tape, IsItemAt, end_of}
 use Rattle.rb_tape.specs.Items.{item_of, tape_items, sent_after}
 use Rattle.rb_tape.proofs.ItemsPut.{none-put, next-stands, next-stays, one-more, stops-within, all-whole, puts-within, puts-whole, on-ok, on-err, moved-on, stayed}
 use Rattle.rb_tape.proofs.tape_writer.TapeWriter.put_all.Goals as goal

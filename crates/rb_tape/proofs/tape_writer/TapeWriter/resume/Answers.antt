@@ -1,6 +1,6 @@
 use Rattle.std.proofs.Common.{◌≤◌, ap, drop, subst, take}
 use Rattle.std.specs.Io.KnownBytes.{Appends}
-use Rattle.rb_header.specs.TapeBytes.{item_bytes}
+use Rattle.rb_history.specs.TapeBytes.{item_bytes}
 use Rattle.rb_tape.specs.Items.{item_of}
 use Rattle.rb_tape.proofs.TapeCalls.{makes_resume}
 use Rattle.rb_tape.proofs.tape_writer.TapeWriter.resume.Goals as goal

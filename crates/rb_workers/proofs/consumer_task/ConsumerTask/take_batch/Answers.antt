@@ -1,5 +1,5 @@
 use Rattle.std.proofs.Common.{◌≡◌, List, refl, ap, sym, ◌∙◌, subst}
-use Rattle.rb_header.specs.TapeBytes.{end_of}
+use Rattle.rb_history.specs.TapeBytes.{end_of}
 use Rattle.rb_history.specs.declared.answers.Taken.{Taken}
 use Rattle.rb_tape.specs.Items.{tape_items}
 use Rattle.rb_workers.specs.Sink.{TakesAll}

@@ -1,6 +1,6 @@
 use Rattle.std.proofs.Common.{◌≡◌, refl, sym, ap, subst, ◌∙◌, to_z, of_z, w64}
 use Rattle.std.specs.Prelude.{ℤ}
-use Rattle.rb_interleavings.specs.CallsInWorld.{RecordOutcome, BadFlags, NoRoom, Made, answer_to_output, Unlogged}
+use Rattle.rb_world.specs.CallsInWorld.{RecordOutcome, BadFlags, NoRoom, Made, answer_to_output, Unlogged}
 use Rattle.rb_semantics.specs.declared.pending_call.PendingCall.TheVariants as asked
 use Rattle.rb_semantics.specs.HelperCalls.{Code}
 use Rattle.rb_chapter_ring.specs.Chapters.{joined}

@@ -1,5 +1,5 @@
 use Rattle.std.proofs.Common.{◌≡◌, ◌<◌, length, set, sym, subst}
-use Rattle.rb_interleavings.specs.declared.actor.Actor.TheVariants.{Keeper}
+use Rattle.rb_world.specs.declared.actor.Actor.TheVariants.{Keeper}
 use Rattle.rb_world.specs.WorldValue.{WorldValue}
 use Rattle.rb_world.specs.TurnsDone.{IsTurnOf, TurnsChaptersOf}
 use Rattle.rb_world.proofs.MachineAnswers.{set-length}

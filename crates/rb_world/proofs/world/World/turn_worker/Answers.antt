@@ -1,5 +1,5 @@
 use Rattle.std.proofs.Common.{◌≡◌, ◌<◌, length, map, set, sym, subst, ◌∙◌}
-use Rattle.rb_interleavings.specs.declared.actor.Actor.TheVariants.{Worker}
+use Rattle.rb_world.specs.declared.actor.Actor.TheVariants.{Worker}
 use Rattle.rb_world.specs.WorldValue.{world_ring, WorldValue, whole_world}
 use Rattle.rb_world.specs.TurnsDone.{IsTurnOf}
 use Rattle.rb_world.specs.inner.FittingWorlds.{AreOwn, IsSoundWorld}

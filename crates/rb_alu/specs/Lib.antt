@@ -1,2 +1,0 @@
-pub mod WholeNumbers
-pub mod ArithmeticAndJumps

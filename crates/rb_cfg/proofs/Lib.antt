@@ -1,3 +1,0 @@
-mod Faultless
-pub mod Laws
-mod Searching

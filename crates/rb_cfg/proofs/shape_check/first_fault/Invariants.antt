@@ -1,6 +1,0 @@
-use Rattle.std.proofs.Common.{ℕ, ◌<◌}
-use Rattle.rb_cfg.proofs.Faultless.{IsFaultless}
-use Rattle.rb_cfg.proofs.shape_check.first_fault.Given as goal
-
-abbrev pub invariant-loop-unit : goal.invariant-loop-unit
-invariant-loop-unit l = (lower : ℕ) → lower < l.unit → IsFaultless l.program lower

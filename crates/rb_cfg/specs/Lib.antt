@@ -1,4 +1,0 @@
-pub mod Edges
-pub mod ShapeFaults
-pub mod Shape
-pub mod inner

@@ -1,9 +1,0 @@
-pub mod UnitFields
-pub mod OpcodeTable
-pub mod DecodeFaults
-pub mod FirstDecodeFault
-pub mod Program
-pub mod Text
-pub mod TextFaults
-pub mod DecodedUnits
-pub mod inner

@@ -1,3 +1,0 @@
-pub mod HeaderBytes
-pub mod Laws
-pub mod Masks

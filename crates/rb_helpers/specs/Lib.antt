@@ -1,4 +1,0 @@
-pub mod AnsweredCalls
-pub mod ErrorNumbers
-pub mod ListedAnswers
-pub mod inner

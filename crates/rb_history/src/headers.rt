@@ -1,0 +1,81 @@
+//! A record's header, as eight bytes.
+
+ghost use Rattle.std.specs.Prelude.{◌≡◌, ◌<◌, ◌^◌, ◌&&◌, ◌↔◌, false, IsErr, IfOk};
+
+use byteorder::{ByteOrder, LittleEndian};
+use thiserror::Error;
+
+/// The bit of a header's length word that says that the record is busy: bit 31, above the 30 bits of the length and the discard
+/// bit (Linux include/uapi/linux/bpf.h, BPF_RINGBUF_BUSY_BIT).
+pub const BUSY_BIT: u32 = 1 << 31;
+
+/// The bit of a header's length word that says that the record was discarded: bit 30, right above the length (Linux
+/// include/uapi/linux/bpf.h, BPF_RINGBUF_DISCARD_BIT).
+pub const DISCARD_BIT: u32 = 1 << 30;
+
+/// The header in front of a record, eight bytes when written: its length, its state and its page. (Linux
+/// Documentation/bpf/ringbuf.rst.)
+#[derive(Clone, Copy, Debug, PartialEq, Eq)]
+pub struct Header {
+    /// How many bytes the record has, below 2^30.
+    pub len: u32,
+    /// Whether the record was granted and neither submitted nor discarded yet.
+    pub busy: bool,
+    /// Whether the record was discarded, so that the consumer passes it over.
+    pub discard: bool,
+    /// The page of 4,096 bytes that the record begins in, counted from the front of the ring's bytes.
+    pub page: u32,
+}
+
+/// Why eight bytes are no record's header.
+#[derive(Clone, Copy, Debug, PartialEq, Eq, Error)]
+pub enum HeaderFault {
+    /// The busy bit and the discard bit are both set beside the length.
+    #[error("the header is both busy and discarded")]
+    LengthWithBusyAndDiscard,
+}
+
+impl Header {
+    ghost use Rattle.rb_history.specs.Header.{header_bytes, IsHeader, HasBothBits};
+
+    /// The eight bytes of the header: the length word, whose bits 0 to 29 are the length, bit 30 the discard bit and bit 31 the
+    /// busy bit, and then the page, each of the two with its lowest byte first. In constant time.
+    pub fn to_bytes(&self) -> [u8; 8]
+        requires len { self.now.len < 2 ^ 30 }
+        requires one_bit { (self.now.busy && self.now.discard) ≡ false }
+        ensures { result ≡ header_bytes self.now }
+    {
+        let mut word = self.len;
+        if self.discard {
+            word |= DISCARD_BIT;
+        }
+        if self.busy {
+            word |= BUSY_BIT;
+        }
+        let mut bytes = [0; 8];
+        LittleEndian::write_u32(&mut bytes, word);
+        LittleEndian::write_u32(&mut bytes[4..], self.page);
+        bytes
+    }
+
+    /// The one header whose bytes these are, or `LengthWithBusyAndDiscard` exactly where both bits are set. In constant time.
+    pub fn from_bytes(bytes: &[u8; 8]) -> Result<Header, HeaderFault>
+        ensures found { IfOk result (λ h. IsHeader h × (header_bytes h ≡ bytes.now)) }
+        ensures only { (h : Header) → IsHeader h → header_bytes h ≡ bytes.now → result ≡ Ok h }
+        ensures fault { IsErr result ↔ HasBothBits bytes.now }
+    {
+        let word = LittleEndian::read_u32(bytes);
+        let page = LittleEndian::read_u32(&bytes[4..]);
+        let busy = word & BUSY_BIT != 0;
+        let discard = word & DISCARD_BIT != 0;
+        if busy && discard {
+            return Err(HeaderFault::LengthWithBusyAndDiscard);
+        }
+        Ok(Header {
+            len: word & (DISCARD_BIT - 1),
+            busy,
+            discard,
+            page,
+        })
+    }
+}

@@ -1,0 +1,168 @@
+//! The value that an arithmetic instruction gives.
+
+ghost use Rattle.std.specs.Prelude.{◌≡◌, ℕ, ◌*◌, ◌^◌, ◌<◌};
+ghost use Rattle.rb_insn.specs.WholeNumbers.{low_bits, reversed_bytes, binary_of};
+ghost use Rattle.rb_insn.specs.ArithmeticAndJumps.{bits_of, division_of, extend32_bits, extend64_bits, sign_extended, reordered, swap_bytes_of, IgnoresDestination, IgnoresSource, IsArithmetic, value_of};
+
+use crate::operands::{low_bits, operand_value, shift_count, signed};
+use crate::{
+    BinaryOp, ByteOrder, DivisionOp, Extend32, Extend64, Insn, Signedness, SwapWidth, Width,
+};
+
+#[inline(always)]
+#[tactic(auto, unfolding(crate::specs::ArithmeticAndJumps::value_of))]
+/// The value that an arithmetic instruction gives, where its destination register holds `dst` and its source register `src`
+/// (RFC 9669, sections 4.1 and 4.2). An instruction with an immediate operand does not look at `src`, and a move does not look
+/// at `dst`. Results wrap at the instruction's width, and above it all bits are zero. Takes constant time.
+pub fn value(insn: &Insn, dst: u64, src: u64) -> u64
+    requires { IsArithmetic insn.now }
+    ensures value { result ≡ value_of insn.now dst src }
+    ensures source_unread { IgnoresSource insn.now → (other : ℕ) → result ≡ value_of insn.now dst other }
+    ensures destination_unread { IgnoresDestination insn.now → (other : ℕ) → result ≡ value_of insn.now other src }
+{
+    match *insn {
+        Insn::Binary {
+            width,
+            op,
+            operand,
+            ..
+        } => {
+            let second = operand_value(operand, src);
+            match width {
+                Width::W32 => binary_at(Width::W32, op, dst, second),
+                Width::W64 => binary_at(Width::W64, op, dst, second),
+            }
+        }
+        Insn::Division {
+            width,
+            op,
+            sign,
+            operand,
+            ..
+        } => {
+            let divisor = low_bits(width, operand_value(operand, src));
+            division(sign, width, op, low_bits(width, dst), divisor)
+        }
+        Insn::Negate { width, .. } => low_bits(width, dst.wrapping_neg()),
+        Insn::Move { width, operand, .. } => low_bits(width, operand_value(operand, src)),
+        Insn::MoveExtended32 { from, .. } => extended_to_32(from, src),
+        Insn::MoveExtended64 { from, .. } => sign_extended(from, src),
+        Insn::Reorder { order, width, .. } => reordered(order, width, dst),
+        _ => unreachable!(),
+    }
+}
+
+/// Arithmetic on the low bits of two numbers, as many as the width has. Callers name the width, so that each gets code for it
+/// alone.
+#[inline(always)]
+fn binary_at(width: Width, op: BinaryOp, dst: u64, src: u64) -> u64
+    ensures { result ≡ binary_of (bits_of width) op (low_bits (bits_of width) dst) (low_bits (bits_of width) src) }
+{
+    binary(width, op, low_bits(width, dst), low_bits(width, src))
+}
+
+/// Arithmetic on two numbers of the width.
+#[inline(always)]
+#[tactic(auto, unfolding(crate::specs::WholeNumbers::binary_of))]
+fn binary(width: Width, op: BinaryOp, a: u64, b: u64) -> u64
+    requires first { a < 2 ^ bits_of width }
+    requires second { b < 2 ^ bits_of width }
+    ensures { result ≡ binary_of (bits_of width) op a b }
+{
+    match op {
+        BinaryOp::Add => low_bits(width, a.wrapping_add(b)),
+        BinaryOp::Sub => low_bits(width, a.wrapping_sub(b)),
+        BinaryOp::Mul => low_bits(width, a.wrapping_mul(b)),
+        BinaryOp::Or => a | b,
+        BinaryOp::And => a & b,
+        BinaryOp::Lsh => low_bits(width, a << shift_count(width, b)),
+        BinaryOp::Rsh => a >> shift_count(width, b),
+        BinaryOp::Xor => a ^ b,
+        BinaryOp::Arsh => {
+            let shifted = signed(width, a) >> shift_count(width, b);
+            low_bits(width, shifted.cast_unsigned())
+        }
+    }
+}
+
+/// A division of two numbers of the width, or its remainder.
+#[tactic(auto, unfolding(crate::specs::WholeNumbers::unsigned_division, crate::specs::WholeNumbers::signed_division, crate::specs::ArithmeticAndJumps::division_of))]
+fn division(sign: Signedness, width: Width, op: DivisionOp, a: u64, b: u64) -> u64
+    requires first { a < 2 ^ bits_of width }
+    requires second { b < 2 ^ bits_of width }
+    ensures { result ≡ division_of sign (bits_of width) op a b }
+{
+    match (sign, op) {
+        (_, DivisionOp::Div) if b == 0 => 0,
+        (_, DivisionOp::Mod) if b == 0 => a,
+        (Signedness::Unsigned, DivisionOp::Div) => a / b,
+        (Signedness::Unsigned, DivisionOp::Mod) => a % b,
+        (Signedness::Signed, DivisionOp::Div) => {
+            let quotient = signed(width, a).wrapping_div(signed(width, b));
+            low_bits(width, quotient.cast_unsigned())
+        }
+        (Signedness::Signed, DivisionOp::Mod) => {
+            let remainder = signed(width, a).wrapping_rem(signed(width, b));
+            low_bits(width, remainder.cast_unsigned())
+        }
+    }
+}
+
+/// The low bits, sign-extended to 32 bits.
+#[tactic(auto, unfolding(crate::specs::ArithmeticAndJumps::sign_extended))]
+fn extended_to_32(from: Extend32, number: u64) -> u64
+    ensures { result ≡ sign_extended (extend32_bits from) 32 number }
+{
+    let extended = match from {
+        Extend32::From8 => i32::from(((number % (1 << 8)) as u8).cast_signed()),
+        Extend32::From16 => i32::from(((number % (1 << 16)) as u16).cast_signed()),
+    };
+    u64::from(extended.cast_unsigned())
+}
+
+#[tactic(auto, unfolding(crate::specs::ArithmeticAndJumps::sign_extended))]
+/// The low bits of a number, sign-extended to 64 bits (RFC 9669, section 4.1), as a sign-extending load does too.
+pub fn sign_extended(from: Extend64, number: u64) -> u64
+    ensures { result ≡ sign_extended (extend64_bits from) 64 number }
+{
+    let extended = match from {
+        Extend64::From8 => i64::from(((number % (1 << 8)) as u8).cast_signed()),
+        Extend64::From16 => i64::from(((number % (1 << 16)) as u16).cast_signed()),
+        Extend64::From32 => i64::from(((number % (1 << 32)) as u32).cast_signed()),
+    };
+    extended.cast_unsigned()
+}
+
+/// The low bytes, in the order asked for; all bits above them are zero.
+#[tactic(auto, unfolding(crate::specs::ArithmeticAndJumps::reordered))]
+fn reordered(order: ByteOrder, width: SwapWidth, number: u64) -> u64
+    ensures { result ≡ reordered order (swap_bytes_of width) number }
+{
+    match order {
+        ByteOrder::Little => low_bytes(width, number),
+        ByteOrder::Big | ByteOrder::Swap => swapped(width, number),
+    }
+}
+
+/// The low bytes alone.
+fn low_bytes(width: SwapWidth, number: u64) -> u64
+    ensures { result ≡ low_bits (8 * swap_bytes_of width) number }
+{
+    match width {
+        SwapWidth::B16 => number % (1 << 16),
+        SwapWidth::B32 => number % (1 << 32),
+        SwapWidth::B64 => number,
+    }
+}
+
+/// The low bytes, in reverse order.
+#[tactic(auto, unfolding(crate::specs::WholeNumbers::reversed_bytes))]
+fn swapped(width: SwapWidth, number: u64) -> u64
+    ensures { result ≡ reversed_bytes (swap_bytes_of width) number }
+{
+    match width {
+        SwapWidth::B16 => u64::from(((number % (1 << 16)) as u16).swap_bytes()),
+        SwapWidth::B32 => u64::from(((number % (1 << 32)) as u32).swap_bytes()),
+        SwapWidth::B64 => number.swap_bytes(),
+    }
+}

@@ -1,0 +1,52 @@
+//! Operands, at the width of an instruction.
+
+ghost use Rattle.std.specs.Prelude.{◌≡◌, ◌%◌, ◌^◌, ◌<◌};
+ghost use Rattle.rb_insn.specs.WholeNumbers.{low_bits, signed_of};
+ghost use Rattle.rb_insn.specs.ArithmeticAndJumps.{bits_of, operand_of};
+
+use crate::{Operand, Width};
+
+/// The second operand as a number of 64 bits: the immediate, sign-extended, or the source register.
+#[inline(always)]
+pub(crate) fn operand_value(operand: Operand, src: u64) -> u64
+    ensures { result ≡ operand_of operand src }
+{
+    match operand {
+        Operand::Immediate(value) => i64::from(value).cast_unsigned(),
+        Operand::Register(_) => src,
+    }
+}
+
+/// A shift's count: the operand modulo the number of the width's bits.
+#[inline(always)]
+pub(crate) fn shift_count(width: Width, operand: u64) -> u32
+    ensures { result ≡ operand % bits_of width }
+{
+    match width {
+        Width::W32 => (operand % 32) as u32,
+        Width::W64 => (operand % 64) as u32,
+    }
+}
+
+/// The low bits, as many as the width has.
+#[inline(always)]
+pub(crate) fn low_bits(width: Width, number: u64) -> u64
+    ensures { result ≡ low_bits (bits_of width) number }
+{
+    match width {
+        Width::W32 => number % (1 << 32),
+        Width::W64 => number,
+    }
+}
+
+/// A number of the width, read as signed.
+#[inline(always)]
+pub(crate) fn signed(width: Width, number: u64) -> i64
+    requires { number < 2 ^ bits_of width }
+    ensures { result ≡ signed_of (bits_of width) number }
+{
+    match width {
+        Width::W32 => i64::from((number as u32).cast_signed()),
+        Width::W64 => number.cast_signed(),
+    }
+}

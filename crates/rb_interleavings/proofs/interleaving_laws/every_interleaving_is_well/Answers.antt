@@ -1,5 +1,0 @@
-use Rattle.rb_interleavings.proofs.WholeRuns.{every-interleaving}
-use Rattle.rb_interleavings.proofs.interleaving_laws.every_interleaving_is_well.Goals as goal
-
-pub returns : goal.returns
-returns c = every-interleaving

@@ -1,5 +1,0 @@
-pub mod Worlds
-pub mod CallsInWorld
-pub mod Turns
-pub mod OpeningWorld
-pub mod EveryInterleaving

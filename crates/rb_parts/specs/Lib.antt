@@ -1,6 +1,0 @@
-pub mod Lending
-pub mod MemoryLaws
-pub mod PartsMemory
-pub mod RecordSlots
-pub mod Stack
-pub mod inner

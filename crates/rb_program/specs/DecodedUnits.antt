@@ -1,0 +1,35 @@
+-- The units of a program as the type `Program` keeps them, and the list of instructions that contracts see in their place.
+use Rattle.std.specs.Prelude.{◌≡◌, ◌-◌, ◌==◌, cond, List, [], ◌∷◌, ◌++◌, replicate, Option, Some, None}
+use Rattle.std.specs.List.{AllByRecursion}
+use Rattle.rb_insn.specs.declared.insn.Insn.{Insn}
+use Rattle.rb_insn.specs.declared.insn.Insn.TheVariants.{Exit}
+use Rattle.rb_insn.specs.Spelling.{FieldsFit}
+use Rattle.rb_insn.specs.Units.{units_taken}
+use Rattle.rb_program.specs.Program.{IsProgram}
+
+-- What is kept for each unit, in order: the instruction that begins there, and an EXIT that says nothing at the second unit of
+-- a wide one.
+abbrev pub kept_units : List Insn → List Insn
+kept_units [] = []
+kept_units (insn ∷ insns) = (insn ∷ replicate (units_taken insn - 1) Exit) ++ kept_units insns
+
+-- what is at each unit, behind a unit that keeps `before`: nothing where that is wide
+abbrev pub slots_behind : Insn → List Insn → List (Option Insn)
+slots_behind before [] = []
+slots_behind before (insn ∷ units) = cond (units_taken before == 2) None (Some insn) ∷ slots_behind insn units
+
+-- the instructions that begin at the units of a list
+abbrev pub insns_in : List (Option Insn) → List Insn
+insns_in [] = []
+insns_in (Some insn ∷ units) = insn ∷ insns_in units
+insns_in (None ∷ units) = insns_in units
+
+-- the instructions of which these units are kept
+abbrev pub insns_kept : List Insn → List Insn
+insns_kept units = insns_in (slots_behind Exit units)
+
+-- what a program keeps of its units
+pub record AreUnits (units : List Insn) : Type 0 where
+  pub laid_out : kept_units (insns_kept units) ≡ units
+  pub bounds : IsProgram (insns_kept units)
+  pub fit : AllByRecursion FieldsFit (insns_kept units)

@@ -1,0 +1,12 @@
+pub mod Edges
+pub mod ShapeFaults
+pub mod Shape
+pub mod UnitFields
+pub mod OpcodeTable
+pub mod DecodeFaults
+pub mod FirstDecodeFault
+pub mod Program
+pub mod Text
+pub mod TextFaults
+pub mod DecodedUnits
+pub mod inner

@@ -1,0 +1,382 @@
+//! What the decoder checks of an operation's fields, and the instruction that it makes of them.
+
+ghost use Rattle.std.specs.Prelude.{◌≡◌, ◌≤◌, ◌==◌, ◌||◌, ℕ, true, is_some};
+ghost use Rattle.rb_program.specs.inner.FieldChecks.{
+  is_named_by,
+  row_for,
+  is_register,
+  fits_unused,
+  registers_fit,
+  numbers_fit,
+  reg_at,
+  operand_from,
+  sign_from,
+  move32_from,
+  move64_from,
+  swap_width_from,
+  wide_from,
+  insn_from,
+  IsAluOperation,
+  IsJumpOperation,
+  IsAccessOperation,
+};
+
+use crate::fields::Fields;
+use crate::operation::{Operation, Source};
+use rb_insn::{Extend32, Extend64, Insn, Operand, Reg, Signedness, SwapWidth, Width};
+
+impl Operation {
+    /// Whether the source field and the immediate name an instruction, where the opcode alone does not.
+    pub(crate) fn is_named_by(self, fields: &Fields) -> bool
+        ensures { result ≡ is_named_by self fields.now }
+    {
+        match self {
+            Operation::Reorder(_) => fields.imm == 16 || fields.imm == 32 || fields.imm == 64,
+            Operation::Call => fields.src == 0,
+            Operation::Wide => fields.src == 0 || fields.src == 5,
+            _ => true,
+        }
+    }
+
+    /// Whether the destination field is a register.
+    fn has_dst(self) -> bool
+        ensures { (src : ℕ) → result ≡ is_register (row_for self src).dst }
+    {
+        match self {
+            Operation::Jump | Operation::JumpFar | Operation::Call | Operation::Exit => false,
+            _ => true,
+        }
+    }
+
+    /// Whether the source field is a register.
+    fn has_src(self) -> bool
+        ensures { (src : ℕ) → result ≡ is_register (row_for self src).src }
+    {
+        match self {
+            Operation::Binary(_, _, source)
+            | Operation::Division(_, _, source)
+            | Operation::Move(_, source)
+            | Operation::Branch(_, _, source) => match source {
+                Source::Immediate => false,
+                Source::Register => true,
+            },
+            Operation::Load(_) | Operation::LoadSigned(_) | Operation::StoreRegister(_) => true,
+            _ => false,
+        }
+    }
+
+    /// Whether the fields that are registers are 0 to 10.
+    pub(crate) fn has_registers(self, fields: &Fields) -> bool
+        ensures { result ≡ registers_fit (row_for self fields.now.src) fields.now }
+    {
+        (!self.has_dst() || fields.dst <= 10) && (!self.has_src() || fields.src <= 10)
+    }
+
+    /// Whether the offset is one that the operation allows.
+    fn allows_offset(self, offset: u16) -> bool
+        ensures { (src : ℕ) → result ≡ fits_unused (row_for self src).offset offset }
+    {
+        match self {
+            Operation::Division(_, _, _) => offset == 0 || offset == 1,
+            Operation::Move(Width::W32, Source::Register) => offset == 0
+                || offset == 8
+                || offset == 16,
+            Operation::Move(Width::W64, Source::Register) => {
+                offset == 0 || offset == 8 || offset == 16 || offset == 32
+            }
+            Operation::Branch(_, _, _)
+            | Operation::Jump
+            | Operation::Load(_)
+            | Operation::LoadSigned(_)
+            | Operation::StoreImmediate(_)
+            | Operation::StoreRegister(_) => true,
+            _ => offset == 0,
+        }
+    }
+
+    /// Whether the immediate is used.
+    fn has_imm(self) -> bool
+        ensures { (src : ℕ) (imm : ℕ) → fits_unused (row_for self src).imm imm ≡ (result || (imm == 0)) }
+    {
+        match self {
+            Operation::Binary(_, _, source)
+            | Operation::Division(_, _, source)
+            | Operation::Move(_, source)
+            | Operation::Branch(_, _, source) => match source {
+                Source::Immediate => true,
+                Source::Register => false,
+            },
+            Operation::Reorder(_)
+            | Operation::JumpFar
+            | Operation::Call
+            | Operation::Wide
+            | Operation::StoreImmediate(_) => true,
+            _ => false,
+        }
+    }
+
+    /// Whether the other fields have numbers that the operation allows: zero where it does not use them. The source field of
+    /// a wide instruction is looked at by its name.
+    pub(crate) fn has_numbers(self, fields: &Fields) -> bool
+        requires { is_named_by self fields.now ≡ true }
+        ensures { result ≡ numbers_fit (row_for self fields.now.src) fields.now }
+    {
+        let dst = self.has_dst() || fields.dst == 0;
+        let src = self.has_src() || fields.src == 0 || self.is_wide();
+        dst && src && self.allows_offset(fields.offset) && (self.has_imm() || fields.imm == 0)
+    }
+
+    /// Whether the instruction takes two units.
+    pub(crate) fn is_wide(self) -> bool
+        ensures { (src : ℕ) → result ≡ is_some (row_for self src).next }
+    {
+        match self {
+            Operation::Wide => true,
+            _ => false,
+        }
+    }
+
+    /// The instruction of an operation with these fields, and this next immediate where it is wide.
+    pub(crate) fn insn(self, fields: &Fields, next_imm: u32) -> Insn
+        requires { registers_fit (row_for self fields.now.src) fields.now ≡ true }
+        ensures { result ≡ insn_from self fields.now next_imm }
+    {
+        match self {
+            Operation::Binary(_, _, _)
+            | Operation::Division(_, _, _)
+            | Operation::Negate(_)
+            | Operation::Move(_, _)
+            | Operation::Reorder(_) => self.arithmetic_insn(fields),
+            Operation::Branch(_, _, _)
+            | Operation::Jump
+            | Operation::JumpFar
+            | Operation::Call
+            | Operation::Exit => self.jump_insn(fields),
+            Operation::Wide => wide(fields, next_imm),
+            Operation::Load(_)
+            | Operation::LoadSigned(_)
+            | Operation::StoreImmediate(_)
+            | Operation::StoreRegister(_) => self.access_insn(fields),
+        }
+    }
+
+    /// The instruction of an operation of the classes ALU and ALU64.
+    fn arithmetic_insn(self, fields: &Fields) -> Insn
+        requires class { IsAluOperation self }
+        requires registers { registers_fit (row_for self fields.now.src) fields.now ≡ true }
+        ensures { (next : ℕ) → result ≡ insn_from self fields.now next }
+    {
+        match self {
+            Operation::Binary(width, op, source) => Insn::Binary {
+                width,
+                op,
+                dst: register(fields.dst),
+                operand: operand(source, fields),
+            },
+            Operation::Division(width, op, source) => Insn::Division {
+                width,
+                op,
+                sign: sign(fields.offset),
+                dst: register(fields.dst),
+                operand: operand(source, fields),
+            },
+            Operation::Negate(width) => Insn::Negate {
+                width,
+                dst: register(fields.dst),
+            },
+            Operation::Move(width, Source::Immediate) => Insn::Move {
+                width,
+                dst: register(fields.dst),
+                operand: operand(Source::Immediate, fields),
+            },
+            Operation::Move(Width::W32, Source::Register) => move32(fields),
+            Operation::Move(Width::W64, Source::Register) => move64(fields),
+            Operation::Reorder(order) => Insn::Reorder {
+                order,
+                width: swap_width(fields.imm),
+                dst: register(fields.dst),
+            },
+            _ => unreachable!(),
+        }
+    }
+
+    /// The instruction of an operation of the classes JMP and JMP32.
+    fn jump_insn(self, fields: &Fields) -> Insn
+        requires class { IsJumpOperation self }
+        requires registers { registers_fit (row_for self fields.now.src) fields.now ≡ true }
+        ensures { (next : ℕ) → result ≡ insn_from self fields.now next }
+    {
+        match self {
+            Operation::Branch(width, condition, source) => Insn::Branch {
+                width,
+                condition,
+                dst: register(fields.dst),
+                operand: operand(source, fields),
+                distance: fields.offset.cast_signed(),
+            },
+            Operation::Jump => Insn::Jump {
+                distance: fields.offset.cast_signed(),
+            },
+            Operation::JumpFar => Insn::JumpFar {
+                distance: fields.imm.cast_signed(),
+            },
+            Operation::Call => Insn::Call { helper: fields.imm },
+            Operation::Exit => Insn::Exit,
+            _ => unreachable!(),
+        }
+    }
+
+    /// The instruction of a load or a store.
+    fn access_insn(self, fields: &Fields) -> Insn
+        requires class { IsAccessOperation self }
+        requires registers { registers_fit (row_for self fields.now.src) fields.now ≡ true }
+        ensures { (next : ℕ) → result ≡ insn_from self fields.now next }
+    {
+        match self {
+            Operation::Load(size) => Insn::Load {
+                size,
+                dst: register(fields.dst),
+                base: register(fields.src),
+                offset: fields.offset.cast_signed(),
+            },
+            Operation::LoadSigned(size) => Insn::LoadSigned {
+                size,
+                dst: register(fields.dst),
+                base: register(fields.src),
+                offset: fields.offset.cast_signed(),
+            },
+            Operation::StoreImmediate(size) => Insn::StoreImmediate {
+                size,
+                base: register(fields.dst),
+                offset: fields.offset.cast_signed(),
+                value: fields.imm.cast_signed(),
+            },
+            Operation::StoreRegister(size) => Insn::StoreRegister {
+                size,
+                base: register(fields.dst),
+                offset: fields.offset.cast_signed(),
+                src: register(fields.src),
+            },
+            _ => unreachable!(),
+        }
+    }
+}
+
+/// The register of a number.
+fn register(number: u8) -> Reg
+    requires { number ≤ 10 }
+    ensures { result ≡ reg_at number }
+{
+    Reg { number }
+}
+
+/// The second operand, from its source.
+fn operand(source: Source, fields: &Fields) -> Operand
+    requires { source ≡ Source.Register → fields.now.src ≤ 10 }
+    ensures { result ≡ operand_from source fields.now }
+{
+    match source {
+        Source::Immediate => Operand::Immediate(fields.imm.cast_signed()),
+        Source::Register => Operand::Register(register(fields.src)),
+    }
+}
+
+/// Whether a division of this offset is signed.
+fn sign(offset: u16) -> Signedness
+    ensures { result ≡ sign_from offset }
+{
+    if offset == 0 {
+        Signedness::Unsigned
+    } else {
+        Signedness::Signed
+    }
+}
+
+/// A move between registers in the class ALU.
+fn move32(fields: &Fields) -> Insn
+    requires dst { fields.now.dst ≤ 10 }
+    requires src { fields.now.src ≤ 10 }
+    ensures { result ≡ move32_from fields.now }
+{
+    let dst = register(fields.dst);
+    let src = register(fields.src);
+    match fields.offset {
+        8 => Insn::MoveExtended32 {
+            from: Extend32::From8,
+            dst,
+            src,
+        },
+        16 => Insn::MoveExtended32 {
+            from: Extend32::From16,
+            dst,
+            src,
+        },
+        _ => Insn::Move {
+            width: Width::W32,
+            dst,
+            operand: Operand::Register(src),
+        },
+    }
+}
+
+/// A move between registers in the class ALU64.
+fn move64(fields: &Fields) -> Insn
+    requires dst { fields.now.dst ≤ 10 }
+    requires src { fields.now.src ≤ 10 }
+    ensures { result ≡ move64_from fields.now }
+{
+    let dst = register(fields.dst);
+    let src = register(fields.src);
+    match fields.offset {
+        8 => Insn::MoveExtended64 {
+            from: Extend64::From8,
+            dst,
+            src,
+        },
+        16 => Insn::MoveExtended64 {
+            from: Extend64::From16,
+            dst,
+            src,
+        },
+        32 => Insn::MoveExtended64 {
+            from: Extend64::From32,
+            dst,
+            src,
+        },
+        _ => Insn::Move {
+            width: Width::W64,
+            dst,
+            operand: Operand::Register(src),
+        },
+    }
+}
+
+/// How many bits a byte swap of this immediate works on.
+fn swap_width(imm: u32) -> SwapWidth
+    ensures { result ≡ swap_width_from imm }
+{
+    match imm {
+        16 => SwapWidth::B16,
+        32 => SwapWidth::B32,
+        _ => SwapWidth::B64,
+    }
+}
+
+/// A wide instruction.
+fn wide(fields: &Fields, next_imm: u32) -> Insn
+    requires { fields.now.dst ≤ 10 }
+    ensures { result ≡ wide_from fields.now next_imm }
+{
+    let dst = register(fields.dst);
+    if fields.src == 0 {
+        Insn::LoadNumber {
+            dst,
+            value: (u64::from(next_imm) << 32) + u64::from(fields.imm),
+        }
+    } else {
+        Insn::LoadRing {
+            dst,
+            ring: fields.imm,
+        }
+    }
+}

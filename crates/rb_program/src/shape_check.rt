@@ -1,0 +1,91 @@
+//! The check of a program's shape.
+
+ghost use Rattle.std.specs.Prelude.{◌≡◌, ◌⊎◌, ◌↔◌, Some, IsTrue, IsOk, OnOk, IfOk, IfErr, MatchOption};
+ghost use Rattle.rb_program.specs.Program.{slot_at};
+ghost use Rattle.rb_program.specs.Edges.{IsReached};
+ghost use Rattle.rb_program.specs.ShapeFaults.{IsFirstFaultHere, IsFirstShapeFault, HasNoFault, JumpsBack, shape_no_memory};
+ghost use Rattle.rb_program.specs.inner.Reach.{MarksReached};
+ghost use Rattle.rb_program.specs.Shape.{IsWellShaped};
+
+use crate::edges::{distance, jump_target, next_unit};
+use crate::shape_fault::{ShapeFault, ShapeFaultKind};
+use crate::reach::reached_units;
+use crate::shape_type::Shape;
+use crate::Program;
+use rb_insn::Insn;
+use std::alloc::Global;
+
+/// The shape of a program, or its first fault: at the lowest unit that has one, and there the first kind. Out of memory may
+/// come in place of either.
+///
+/// Each unit is looked at twice at most, so the time and the memory are linear in the number of units.
+pub fn shape(alloc: Global, program: Program) -> Result<Shape, ShapeFault>
+    // What is answered is the shape of this program, which is without a fault, and such a program is accepted.
+    ensures same_program { IfOk result (λ shape. shape ≡ program) }
+    ensures well_shaped { OnOk result (IsWellShaped program) }
+    ensures accepts { IsWellShaped program → IsOk result ⊎ (result ≡ Err shape_no_memory) }
+
+    // A fault is the first one, and where there is one it is answered.
+    ensures fault { IfErr result (λ fault. (fault ≡ shape_no_memory) ⊎ IsFirstShapeFault program fault) }
+    ensures only_fault { (fault : ShapeFault) → IsFirstShapeFault program fault → (result ≡ Err fault) ⊎ (result ≡ Err shape_no_memory) }
+{
+    let marks = reached_units(alloc, &program)?;
+    match first_fault(&program, &marks) {
+        Some(fault) => Err(fault),
+        None => Ok(Shape::new(program)),
+    }
+}
+
+/// The first fault of a program, where there is one, by the marks on the units that a path reaches.
+fn first_fault(program: &Program, marks: &[bool]) -> Option<ShapeFault>
+    requires { MarksReached program.now marks.now }
+    ensures { MatchOption result (IsWellShaped program.now) (IsFirstShapeFault program.now) }
+{
+    for unit in 0..program.units() {
+        if let Some(insn) = program.at(unit) {
+            if let Some(kind) = fault_at(program, unit, insn, marks) {
+                return Some(ShapeFault { unit, kind });
+            }
+        }
+    }
+    None
+}
+
+/// The first fault at an instruction, where there is one.
+fn fault_at(program: &Program, unit: u32, insn: &Insn, marks: &[bool]) -> Option<ShapeFaultKind>
+    requires begins { slot_at program.now unit ≡ Some insn.now }
+    requires marks { MarksReached program.now marks.now }
+    ensures { MatchOption result (HasNoFault program.now unit × IsReached program.now unit) (IsFirstFaultHere program.now unit) }
+{
+    program.facts();
+    if jumps_back(insn) {
+        return Some(ShapeFaultKind::Backward);
+    }
+    if let Some(target) = jump_target(unit, insn) {
+        if target >= program.units() {
+            return Some(ShapeFaultKind::OutOfProgram);
+        }
+        if program.at(target).is_none() {
+            return Some(ShapeFaultKind::IntoWide);
+        }
+    }
+    if let Some(next) = next_unit(unit, insn) {
+        if next >= program.units() {
+            return Some(ShapeFaultKind::FallsOff);
+        }
+    }
+    if !marks[unit as usize] {
+        return Some(ShapeFaultKind::Unreachable);
+    }
+    None
+}
+
+/// Whether the instruction jumps by a distance below 0.
+fn jumps_back(insn: &Insn) -> bool
+    ensures { IsTrue result ↔ JumpsBack insn.now }
+{
+    match distance(insn) {
+        Some(distance) => distance < 0,
+        None => false,
+    }
+}

@@ -1,4 +1,0 @@
-mod HeaderBegins
-mod TapeFronts
-pub mod ItemsRead
-mod RecordsCounted

@@ -1,4 +1,0 @@
-pub mod TapeFront
-pub mod TapeReading
-pub mod LongestTape
-pub mod inner

@@ -1,5 +1,0 @@
-use Rattle.rb_refs.proofs.Forms.{step_forms}
-use Rattle.rb_refs.proofs.step_laws.step_keeps_form.Goals as goal
-
-pub returns : goal.returns
-returns c = step_forms

@@ -1,5 +1,0 @@
-use Rattle.rb_refs.proofs.StepOrder.{step_below}
-use Rattle.rb_refs.proofs.step_laws.step_keeps_order.Goals as goal
-
-pub returns : goal.returns
-returns c = step_below

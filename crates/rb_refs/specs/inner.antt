@@ -1,4 +1,0 @@
-pub mod ChangedValues
-pub mod KeptList
-pub mod StackReach
-pub mod ValueJoins

@@ -1,0 +1,104 @@
+//! A tape that is there as a whole.
+
+use crate::fault::{TapeFault, TapeKind};
+use crate::front::{look, record_at_front};
+use crate::record::Record;
+use rb_history::{OpenFault, is_size, is_start, span};
+use std::marker::Model;
+
+/// Reads the records of a tape in order, and then what is wrong behind them; after a fault it gives `None`. It takes no memory, and the
+/// records lend their bytes from the input. For a tape that comes in pieces there is `Feed`.
+#[derive(Drop)]
+pub struct Tape<'a> {
+    rest: &'a [u8],
+    size: u64,
+    start: u64,
+    position: u64,
+    // The fault, once it was told.
+    told: Option<TapeKind>,
+}
+
+impl<'a> Model for Tape<'a> {
+    ghost use Rattle.rb_tape.specs.TapeReading.{Reading, IsReading};
+
+    ghost Value = { Reading };
+
+    ghost view = { λ t. record { size = t.size; start = t.start; position = t.position; rest = t.rest.now; told = t.told } };
+
+    ghost invariant = { λ t. IsReading (record { size = t.size; start = t.start; position = t.position; rest = t.rest.now; told = t.told }) };
+}
+
+impl<'a> Tape<'a> {
+    ghost use Rattle.std.specs.Prelude.{◌≡◌, ◌≢◌, ◌↔◌, IsErrOf, IfOk, OnOk, Err};
+    ghost use Rattle.rb_history.specs.declared.answers.OpenFault.TheVariants as OpenFault;
+    ghost use Rattle.rb_history.specs.RingModel.{IsRingSize, IsStartPosition};
+    ghost use Rattle.rb_tape.specs.TapeReading.{reading_from};
+
+    /// A reader of these bytes, as the tape of a ring of `size` bytes whose first record stands at `start`; or `OpenFault`'s `Size` or
+    /// `Start` where no ring has these numbers. In constant time.
+    pub fn new(bytes: &'a [u8], size: u64, start: u64) -> Result<Tape<'a>, OpenFault>
+        ensures opened { IfOk result (λ t. t ≡ reading_from size start bytes.now) }
+        ensures size { IsErrOf result OpenFault.Size ↔ ¬ IsRingSize size }
+        ensures start { IsErrOf result OpenFault.Start ↔ (IsRingSize size × ¬ IsStartPosition start) }
+        ensures allowed { OnOk result (IsRingSize size × IsStartPosition start) }
+        ensures workers { result ≢ Err OpenFault.Workers }
+        ensures memory { result ≢ Err OpenFault.Memory }
+    {
+        if !is_size(size) {
+            return Err(OpenFault::Size);
+        }
+        if !is_start(start) {
+            return Err(OpenFault::Start);
+        }
+        Ok(Tape {
+            rest: bytes,
+            size,
+            start,
+            position: start,
+            told: None,
+        })
+    }
+}
+
+impl<'a> Iterator for Tape<'a> {
+    ghost use Rattle.std.specs.Iterator.{at_most};
+    ghost use Rattle.rb_tape.specs.TapeReading.{ReadsToEnd, bytes_to_read};
+
+    type Item = Result<Record<'a>, TapeFault>;
+
+    ghost next_gives = { λ old result new. ReadsToEnd old new result };
+
+    ghost remaining = { λ s. at_most (bytes_to_read s) };
+
+    /// The next record, or what is wrong with it; `None` at the end of the bytes and after a fault. In time linear in the record.
+    fn next(&mut self) -> Option<Result<Record<'a>, TapeFault>> {
+        match self.told {
+            Some(_) => return None,
+            None => {}
+        }
+        if self.rest.is_empty() {
+            return None;
+        }
+        let offset = self.position - self.start;
+        let bytes = self.rest;
+        let header = match look(bytes, self.size, self.position) {
+            Ok(Some(header)) => header,
+            Ok(None) => {
+                self.told = Some(TapeKind::Truncated);
+                return Some(Err(TapeFault {
+                    kind: TapeKind::Truncated,
+                    offset,
+                }));
+            }
+            Err(kind) => {
+                self.told = Some(kind);
+                return Some(Err(TapeFault { kind, offset }));
+            }
+        };
+        let position = self.position;
+        let span = span(header.len);
+        self.rest = &bytes[span as usize..];
+        self.position += span;
+        Some(Ok(record_at_front(bytes, position, header)))
+    }
+}

@@ -1,0 +1,62 @@
+//! What is known along both edges of a conditional jump.
+
+ghost use Rattle.std.specs.Prelude.{◌≡◌, IfErr};
+ghost use Rattle.rb_verifier.specs.Branches.{null_test_of, check_branch};
+ghost use Rattle.rb_verifier.specs.AbstractStates.{IsLeft};
+
+use crate::rule::{Rule, StepFault};
+use crate::state::AbsState;
+use crate::value::Abs;
+use crate::value_checks::{check_number, check_readable};
+use rb_insn::{Condition, Operand, Width};
+
+/// A test of a value against null.
+#[derive(Clone, Copy)]
+pub(crate) enum NullTest {
+    /// It jumps where the value is null.
+    JumpsIfNull,
+    /// It jumps where the value is not null.
+    JumpsIfThere,
+}
+
+/// The test against null that a conditional jump is, where it is one.
+pub(crate) fn null_test_of(width: Width, condition: Condition, operand: Operand) -> Option<NullTest>
+    ensures { result ≡ null_test_of width condition operand }
+{
+    match (width, condition, operand) {
+        (Width::W64, Condition::Equal, Operand::Immediate(0)) => Some(NullTest::JumpsIfNull),
+        (Width::W64, Condition::NotEqual, Operand::Immediate(0)) => Some(NullTest::JumpsIfThere),
+        _ => None,
+    }
+}
+
+/// The test of a reservation tells each edge what it found; else both operands are numbers.
+pub(crate) fn check_branch(
+    test: Option<NullTest>,
+    dst: Abs,
+    operand: Abs,
+    state: &mut AbsState,
+) -> Result<Option<AbsState>, StepFault>
+    ensures effect { IsLeft result state.new (check_branch test dst operand state.old) }
+    ensures unchanged { IfErr result (λ _. state.new ≡ state.old) }
+{
+    if let (Some(test), Abs::Perhaps(id)) = (test, dst) {
+        let null = state.where_null(id)?;
+        let there = state.where_there(id)?;
+        return match test {
+            NullTest::JumpsIfNull => {
+                *state = there;
+                Ok(Some(null))
+            }
+            NullTest::JumpsIfThere => {
+                *state = null;
+                Ok(Some(there))
+            }
+        };
+    }
+    check_readable(dst)?;
+    check_readable(operand)?;
+    check_number(Rule::PointerCompared, dst)?;
+    check_number(Rule::PointerCompared, operand)?;
+    Ok(None)
+}

@@ -1,0 +1,128 @@
+//! The loads and stores of what is kept on the stack.
+
+ghost use Rattle.std.specs.Prelude.{◌≡◌, ◌+◌, ◌≤◌, ◌+ℤ◌, true, false, Some, Ok, Err, IfOk, IfErr};
+ghost use Rattle.rb_verifier.specs.Extents.{contains_range, stack_extent};
+ghost use Rattle.rb_verifier.specs.StackPlaces.{stack_byte};
+ghost use Rattle.rb_verifier.specs.KeptPointers.{known_in, byte_behind, is_data, check_data, check_loaded, check_kept, check_stored};
+ghost use Rattle.rb_verifier.specs.ValueChecks.{check_inside};
+ghost use Rattle.rb_verifier.specs.inner.StackReach.{IsPlace, IsPlaced, LiesInside};
+
+use crate::extents::reaches;
+use crate::limits::Limits;
+use crate::places::{Places, whole_place};
+use crate::references::Held;
+use crate::rule::{Rule, StepFault};
+use crate::value::Abs;
+use crate::value_checks::{check_number, check_readable};
+
+/// The length of the stack in bytes.
+const STACK_LEN: i64 = 512;
+
+/// The offset `by` behind another, where so many bytes from there on lie on the stack.
+#[tactic(auto, using(crate::proofs::Numbers::on_stack))]
+fn offset_behind(offset: i64, by: i64, len: u64) -> i64
+    requires { contains_range stack_extent (offset +ℤ by) len ≡ true }
+    ensures { result ≡ offset +ℤ by }
+{
+    let _ = len;
+    offset + by
+}
+
+/// The byte of the stack that an offset names, counted from the stack's first, where so many bytes from there on lie on it.
+#[tactic(auto, using(crate::proofs::Numbers::on_stack, crate::proofs::Numbers::byte_on_stack))]
+fn stack_byte(offset: i64, len: u64) -> u64
+    requires { contains_range stack_extent offset len ≡ true }
+    ensures byte { stack_byte offset ≡ Some result }
+    ensures inside { result + len ≤ 512 }
+{
+    let _ = len;
+    (offset + STACK_LEN) as u64
+}
+
+/// So many bytes, from `by` behind the pointer on, lie in its part: which byte of the stack is the first, where that is the part.
+pub(crate) fn check_reach(
+    limits: Limits,
+    held: &Held,
+    value: Abs,
+    by: i64,
+    len: u64,
+) -> Result<Option<u64>, Rule>
+    ensures reach { IfOk result (λ _. check_inside limits held.now value by len ≡ Ok tt) }
+    ensures byte { IfOk result (λ byte. byte ≡ byte_behind value by) }
+    ensures inside { IfOk result (LiesInside len) }
+    ensures refused { IfErr result (λ broken. check_inside limits held.now value by len ≡ Err broken) }
+{
+    if !reaches(limits, held, value, by, len) {
+        return Err(Rule::OutsidePart);
+    }
+    match value {
+        Abs::Stack(offset) => Ok(Some(stack_byte(offset_behind(offset, by, len), len))),
+        _ => Ok(None),
+    }
+}
+
+/// Bytes that are read as such are data.
+pub(crate) fn check_data(byte: Option<u64>, len: u64, places: &Places) -> Result<(), Rule>
+    requires { LiesInside len byte }
+    ensures { result ≡ check_data byte len (known_in places.now) }
+{
+    match byte {
+        Some(at) if places.may_keep(at, len) => Err(Rule::Unreadable),
+        _ => Ok(()),
+    }
+}
+
+/// What a load of `len` bytes gives, from a byte of the stack or from another part.
+pub(crate) fn check_loaded(byte: Option<u64>, len: u64, places: &Places) -> Result<Abs, Rule>
+    requires { LiesInside len byte }
+    ensures { result ≡ check_loaded byte len (known_in places.now) }
+{
+    if let Some(at) = byte {
+        if let Some(place) = whole_place(at, len) {
+            return Ok(places.get(place));
+        }
+        check_data(byte, len, places)?;
+    }
+    Ok(Abs::Number)
+}
+
+/// What a store of a pointer leaves of the places: the one that has exactly the bytes keeps it, and no other bytes do.
+fn keep_at(place: Option<u64>, value: Abs, places: &mut Places) -> Result<(), StepFault>
+    requires place { IsPlace place }
+    requires pointer { is_data value ≡ false }
+    ensures placed { IsPlaced result places.new (check_kept place value (known_in places.old)) }
+    ensures unchanged { IfErr result (λ _. places.new ≡ places.old) }
+{
+    check_readable(value)?;
+    match place {
+        Some(place) => {
+            *places = places.with_place(place, value)?;
+            Ok(())
+        }
+        None => Err(StepFault::Rule(Rule::PointerStored)),
+    }
+}
+
+/// What a store of `len` bytes of a value leaves of the places, to a byte of the stack or to another part.
+#[tactic(auto, using(crate::proofs::Numbers::whole_inside))]
+pub(crate) fn store_to(
+    byte: Option<u64>,
+    len: u64,
+    value: Abs,
+    places: &mut Places,
+) -> Result<(), StepFault>
+    requires { LiesInside len byte }
+    ensures placed { IsPlaced result places.new (check_stored byte len value places.old) }
+    ensures unchanged { IfErr result (λ _. places.new ≡ places.old) }
+{
+    let Some(at) = byte else {
+        return Ok(check_number(Rule::PointerStored, value)?);
+    };
+    match value {
+        Abs::Number | Abs::Known(_) => {
+            *places = places.with_data(at, len)?;
+            Ok(())
+        }
+        _ => keep_at(whole_place(at, len), value, places),
+    }
+}

@@ -1,0 +1,100 @@
+//! What a null test and the giving back of a record tell of every register, place of the stack and reference.
+
+ghost use Rattle.std.specs.Prelude.{◌≡◌, map, IfOk, IsErr};
+ghost use Rattle.rb_verifier.specs.KeptPointers.{MayKeepPointer};
+ghost use Rattle.rb_verifier.specs.ReferenceChanges.{null_state, there_state, given_back_state};
+ghost use Rattle.rb_verifier.specs.inner.ChangedValues.{after_change, place_after};
+
+use crate::state::AbsState;
+use crate::value::Abs;
+use std::alloc::AllocError;
+
+/// What becomes known of a reservation, by its id.
+#[derive(Clone, Copy)]
+pub(crate) enum Change {
+    /// It was null.
+    IsNull(u32),
+    /// It was a record.
+    IsThere(u32),
+    /// Its record was given back.
+    GivenBack(u32),
+}
+
+impl Abs {
+    /// What is known of a value from then on.
+    fn changed(self, change: Change) -> Abs
+        ensures { result ≡ after_change change self }
+    {
+        match (change, self) {
+            (Change::IsNull(id), Abs::Perhaps(other)) if other == id => Abs::Known(0),
+            (Change::IsThere(id), Abs::Perhaps(other)) if other == id => Abs::Record(id, 0),
+            (Change::GivenBack(id), Abs::Record(other, _)) if other == id => Abs::Unreadable,
+            _ => self,
+        }
+    }
+
+    /// What is known of a place of the stack from then on: where null is kept it has data.
+    pub(crate) fn changed_place(self, change: Change) -> Abs
+        ensures { result ≡ place_after change self }
+    {
+        match (change, self) {
+            (Change::IsNull(id), Abs::Perhaps(other)) if other == id => Abs::Number,
+            _ => self.changed(change),
+        }
+    }
+}
+
+/// What is known of every register from then on.
+fn changed_values(mut values: [Abs; 11], change: Change) -> [Abs; 11]
+    ensures { result ≡ map (after_change change) values }
+{
+    for i in 0..11 {
+        values[i] = values[i].changed(change);
+    }
+    values
+}
+
+impl AbsState {
+    /// Where the reservation was null.
+    pub(crate) fn where_null(&self, id: u32) -> Result<AbsState, AllocError>
+        ensures changed { IfOk result (λ state. state ≡ null_state id self.now) }
+        ensures memory { IsErr result → MayKeepPointer self.now.places }
+    {
+        let change = Change::IsNull(id);
+        let places = self.places.changed(change)?;
+        let others = self.held.without(id);
+        Ok(AbsState {
+            values: changed_values(self.values, change),
+            held: others,
+            places,
+        })
+    }
+
+    /// Where the reservation was a record.
+    pub(crate) fn where_there(&self, id: u32) -> Result<AbsState, AllocError>
+        ensures changed { IfOk result (λ state. state ≡ there_state id self.now) }
+        ensures memory { IsErr result → MayKeepPointer self.now.places }
+    {
+        let change = Change::IsThere(id);
+        let places = self.places.changed(change)?;
+        Ok(AbsState {
+            values: changed_values(self.values, change),
+            held: self.held.tested(id),
+            places,
+        })
+    }
+
+    /// Once the record was given back.
+    pub(crate) fn once_given_back(&self, id: u32) -> Result<AbsState, AllocError>
+        ensures changed { IfOk result (λ state. state ≡ given_back_state id self.now) }
+        ensures memory { IsErr result → MayKeepPointer self.now.places }
+    {
+        let change = Change::GivenBack(id);
+        let places = self.places.changed(change)?;
+        Ok(AbsState {
+            values: changed_values(self.values, change),
+            held: self.held.without(id),
+            places,
+        })
+    }
+}

@@ -1,0 +1,140 @@
+//! The checks of one value. Each returns the first rule that is broken.
+
+ghost use Rattle.std.specs.Prelude.{◌≡◌};
+ghost use Rattle.rb_verifier.specs.ValueChecks.{check_writable, check_readable, check_number, check_tested, check_not_context, check_inside, check_ring, check_part_pointer, check_known_size, check_record_size, check_record_start};
+
+use crate::extents::reaches;
+use crate::limits::Limits;
+use crate::references::Held;
+use crate::rule::Rule;
+use crate::value::Abs;
+use rb_insn::Reg;
+
+/// The greatest length of a record.
+const MAX_RECORD: u64 = 1 << 26;
+
+/// The frame pointer r10 is not written.
+pub(crate) fn check_writable(register: Reg) -> Result<(), Rule>
+    ensures { result ≡ check_writable register }
+{
+    if register.number == 10 {
+        Err(Rule::FramePointerWritten)
+    } else {
+        Ok(())
+    }
+}
+
+/// A register may be read.
+pub(crate) fn check_readable(value: Abs) -> Result<(), Rule>
+    ensures { result ≡ check_readable value }
+{
+    match value {
+        Abs::Unreadable => Err(Rule::Unreadable),
+        _ => Ok(()),
+    }
+}
+
+/// A register may be read, and holds a number; the given rule is returned for a pointer.
+pub(crate) fn check_number(at_pointer: Rule, value: Abs) -> Result<(), Rule>
+    ensures { result ≡ check_number at_pointer value }
+{
+    match value {
+        Abs::Unreadable => Err(Rule::Unreadable),
+        Abs::Number | Abs::Known(_) => Ok(()),
+        _ => Err(at_pointer),
+    }
+}
+
+/// A register may be read, and is no reservation that was not tested against null.
+pub(crate) fn check_tested(value: Abs) -> Result<(), Rule>
+    ensures { result ≡ check_tested value }
+{
+    match value {
+        Abs::Unreadable => Err(Rule::Unreadable),
+        Abs::Perhaps(_) => Err(Rule::NullNotTested),
+        _ => Ok(()),
+    }
+}
+
+/// A register may be read, and does not point to the context, which is not written.
+pub(crate) fn check_not_context(value: Abs) -> Result<(), Rule>
+    ensures { result ≡ check_not_context value }
+{
+    match value {
+        Abs::Unreadable => Err(Rule::Unreadable),
+        Abs::Ctx(_) => Err(Rule::ContextWritten),
+        _ => Ok(()),
+    }
+}
+
+/// So many bytes, from `by` behind the pointer on, lie in its part; no other value leads to a part.
+pub(crate) fn check_inside(
+    limits: Limits,
+    held: &Held,
+    value: Abs,
+    by: i64,
+    len: u64,
+) -> Result<(), Rule>
+    ensures { result ≡ check_inside limits held.now value by len }
+{
+    if reaches(limits, held, value, by, len) {
+        Ok(())
+    } else {
+        Err(Rule::OutsidePart)
+    }
+}
+
+/// The argument's ring.
+pub(crate) fn check_ring(value: Abs) -> Result<u32, Rule>
+    ensures { result ≡ check_ring value }
+{
+    match value {
+        Abs::Unreadable => Err(Rule::Unreadable),
+        Abs::Ring(ring) => Ok(ring),
+        _ => Err(Rule::HelperArgument),
+    }
+}
+
+/// The argument is a pointer into a part.
+pub(crate) fn check_part_pointer(value: Abs) -> Result<(), Rule>
+    ensures { result ≡ check_part_pointer value }
+{
+    match value {
+        Abs::Ctx(_) | Abs::Stack(_) | Abs::Record(_, _) => Ok(()),
+        _ => Err(Rule::HelperArgument),
+    }
+}
+
+/// The number that the argument is known to be.
+pub(crate) fn check_known_size(value: Abs) -> Result<u64, Rule>
+    ensures { result ≡ check_known_size value }
+{
+    match value {
+        Abs::Unreadable => Err(Rule::Unreadable),
+        Abs::Known(size) => Ok(size),
+        _ => Err(Rule::SizeNotKnown),
+    }
+}
+
+/// The number that the argument is known to be, where a record may have that length.
+pub(crate) fn check_record_size(value: Abs) -> Result<u32, Rule>
+    ensures { result ≡ check_record_size value }
+{
+    match value {
+        Abs::Unreadable => Err(Rule::Unreadable),
+        Abs::Known(size) if size <= MAX_RECORD => Ok(size as u32),
+        _ => Err(Rule::SizeNotKnown),
+    }
+}
+
+/// The record to whose first byte the argument points.
+pub(crate) fn check_record_start(value: Abs) -> Result<u32, Rule>
+    ensures { result ≡ check_record_start value }
+{
+    match value {
+        Abs::Unreadable => Err(Rule::Unreadable),
+        Abs::Perhaps(_) => Err(Rule::NullNotTested),
+        Abs::Record(id, 0) => Ok(id),
+        _ => Err(Rule::HelperArgument),
+    }
+}
