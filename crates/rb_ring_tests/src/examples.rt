@@ -55,7 +55,7 @@ fn example_of_rb_history(rt: HostRuntime) {
 }
 
 #[test]
-fn example_of_rb_for_tests(rt: HostRuntime) -> Result<(), Fail> {
+fn example_of_rb_ring_list(rt: HostRuntime) -> Result<(), Fail> {
     let mut ring = ListState::new(rt.alloc(), 4096, 0, 1)?;
     let Ok(mut record) = ring.reserve(0, 4, Sheet::new(rt.alloc(), 4)?) else {
         return Err(Fail::from("no record"));
