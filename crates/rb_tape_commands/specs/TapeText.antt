@@ -1,4 +1,4 @@
--- What `tape` prints of a tape, and what it answers (own; the tape's bytes are those of rb_history, its faults those of rb_reader).
+-- What `tape` prints of a tape, and what it answers (own; the tape's bytes are those of rb_history, its faults those of rb_tape).
 use Rattle.std.specs.Prelude.{ℕ, ◌≡◌, ◌-◌, List, [], ◌++◌, codes, length, Option, None, Some, IfNone, IfSome, Result, Ok, Err}
 use Rattle.std.specs.Fmt.{decimal}
 use Rattle.std.specs.List.{flat_map}
