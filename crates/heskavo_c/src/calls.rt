@@ -6,6 +6,7 @@ use crate::status::{DONE, FAULT, MORE, REFUSED, ROOM};
 use crate::tapes::{TapeRecord, heskavo_tape_next, heskavo_tape_put, heskavo_tape_put_discarded};
 use crate::verdict::{RULES, Verdict};
 use crate::verifying::heskavo_verify;
+use std::alloc::Global;
 
 // Reserves a record of eight bytes, and submits 42 where it was granted.
 const SUBMIT_42: [u8; 96] = [
@@ -27,43 +28,40 @@ const NONE: Verdict = Verdict {
 // The tape of what the program submits.
 const TAPE: [u8; 16] = [8, 0, 0, 0, 0, 0, 0, 0, 42, 0, 0, 0, 0, 0, 0, 0];
 
+// What `heskavo_verify` answers, and the verdict's layer, number and unit.
+fn verified(alloc: Global, program: &[u8]) -> (u32, [u32; 3]) {
+    let mut verdict = NONE;
+    let status = heskavo_verify(alloc, program, 16, 1, &mut verdict);
+    (status, [verdict.layer, verdict.number, verdict.unit])
+}
+
 #[test]
 fn programs_are_accepted_and_refused(rt: HostRuntime) {
-    let mut verdict = NONE;
+    let accepted = verified(rt.alloc(), &SUBMIT_42);
+    let refused = verified(rt.alloc(), &EXIT);
     assert_eq!(rt;
-        heskavo_verify(rt.alloc(), &SUBMIT_42, 16, 1, &mut verdict),
-        DONE
+        (accepted, refused),
+        ((DONE, [0; 3]), (REFUSED, [RULES, 1, 0]))
     );
-    assert_eq!(rt;
-        heskavo_verify(rt.alloc(), &EXIT, 16, 1, &mut verdict),
-        REFUSED
-    );
-    assert_eq!(rt;
-        verdict,
-        Verdict {
-            layer: RULES,
-            number: 1,
-            unit: 0
-        }
-    );
+}
+
+// What `heskavo_explain` answers, and how many bytes it wants.
+fn explained(alloc: Global, program: &[u8], text: &mut [u8]) -> (u32, u64) {
+    let mut wanted = 0;
+    let status = heskavo_explain(alloc, program, 16, 1, text, &mut wanted);
+    (status, wanted)
 }
 
 #[test]
 fn programs_are_explained(rt: HostRuntime) {
-    let (mut text, mut wanted) = ([0; 2048], 0);
+    let mut text = [0; 2048];
+    let accepted = explained(rt.alloc(), &SUBMIT_42, &mut text);
+    let is_begun = text.starts_with(b"      #  r1 ");
+    let (refused, _) = explained(rt.alloc(), &EXIT, &mut text);
+    let (too_long, _) = explained(rt.alloc(), &EXIT, &mut []);
     assert_eq!(rt;
-        heskavo_explain(rt.alloc(), &SUBMIT_42, 16, 1, &mut text, &mut wanted),
-        DONE
-    );
-    assert_eq!(rt; wanted, 1348);
-    assert_eq!(rt; &text[..12], b"      #  r1 ".as_slice());
-    assert_eq!(rt;
-        heskavo_explain(rt.alloc(), &EXIT, 16, 1, &mut text, &mut wanted),
-        REFUSED
-    );
-    assert_eq!(rt;
-        heskavo_explain(rt.alloc(), &EXIT, 16, 1, &mut [], &mut wanted),
-        ROOM
+        (accepted, is_begun, refused, too_long),
+        ((DONE, 1348), true, REFUSED, ROOM)
     );
 }
 
@@ -80,22 +78,12 @@ fn a_program_runs(rt: HostRuntime) {
         &mut value,
         &mut verdict,
     );
-    assert_eq!(rt; (status, value, written), (DONE, 0, [16]));
-    assert_eq!(rt; tape, TAPE);
+    assert_eq!(rt; (status, value, written, tape), (DONE, 0, [16], TAPE));
 }
 
-#[test]
-fn records_are_put_and_read(rt: HostRuntime) {
-    let (mut tape, mut written) = ([1; 32], 0);
-    assert_eq!(rt;
-        heskavo_tape_put(&[42, 0, 0, 0, 0, 0, 0, 0], 4096, 0, &mut tape, &mut written),
-        DONE
-    );
-    assert_eq!(rt; &tape[..16], TAPE.as_slice());
-    assert_eq!(rt;
-        heskavo_tape_put_discarded(3, 4096, 16, &mut tape[16..], &mut written),
-        DONE
-    );
+// What `heskavo_tape_next` answers of bytes at this position: the status, and of the record its offset, span, length, whether it was discarded, and
+// its fault.
+fn next_of(bytes: &[u8], position: u64) -> (u32, [u64; 2], [u32; 3]) {
     let mut record = TapeRecord {
         offset: 0,
         span: 0,
@@ -103,13 +91,33 @@ fn records_are_put_and_read(rt: HostRuntime) {
         discarded: 0,
         fault: 0,
     };
-    assert_eq!(rt; heskavo_tape_next(&tape[16..], 4096, 16, &mut record), DONE);
-    assert_eq!(rt;
-        (record.offset, record.span, record.len, record.discarded),
-        (8, 16, 3, 1)
-    );
-    assert_eq!(rt; heskavo_tape_next(&tape[..15], 4096, 0, &mut record), MORE);
+    let status = heskavo_tape_next(bytes, 4096, position, &mut record);
+    let TapeRecord {
+        offset,
+        span,
+        len,
+        discarded,
+        fault,
+    } = record;
+    (status, [offset, span], [len, discarded, fault])
+}
+
+#[test]
+fn records_are_put_and_read(rt: HostRuntime) {
+    let (mut tape, mut written) = ([1; 32], 0);
+    let put = heskavo_tape_put(&[42, 0, 0, 0, 0, 0, 0, 0], 4096, 0, &mut tape, &mut written);
+    let is_put = tape.starts_with(&TAPE);
+    let discarded = heskavo_tape_put_discarded(3, 4096, 16, &mut tape[16..], &mut written);
+    let read = next_of(&tape[16..], 16);
+    let (cut, _, _) = next_of(&tape[..15], 0);
     tape[3] = 0x80;
-    assert_eq!(rt; heskavo_tape_next(&tape, 4096, 0, &mut record), FAULT);
-    assert_eq!(rt; record.fault, 1);
+    let (busy, _, [_, _, fault]) = next_of(&tape, 0);
+    assert_eq!(rt;
+        ((put, is_put, discarded), read, (cut, busy, fault)),
+        (
+            (DONE, true, DONE),
+            (DONE, [8, 16], [3, 1, 0]),
+            (MORE, FAULT, 1)
+        )
+    );
 }

@@ -15,7 +15,7 @@ const MAX_CONTEXT: u32 = 65_536;
 const MAX_RINGS: u32 = 16;
 
 /// Why a program is refused.
-#[derive(Clone, Copy, Debug, PartialEq, Eq)]
+#[derive(Clone, Copy)]
 pub enum Refused {
     /// The bytes are no program.
     Bytes(DecodeFault),

@@ -13,7 +13,7 @@ use std::alloc::{AllocError, Global};
 const ROOM: u32 = 16_384;
 
 /// Why a run came to no end.
-#[derive(Clone, Copy, PartialEq, Eq)]
+#[derive(Clone, Copy)]
 pub(crate) enum RunFault {
     /// There was no memory.
     Memory,

@@ -91,15 +91,15 @@ pub extern "C" fn heskavo_run(
     if !may_run(context.len(), written.len(), size) {
         return ARGUMENT;
     }
-    let verified = match load(alloc, program, context.len() as u32, written.len() as u32) {
-        Ok(verified) => verified,
+    let ran = match load(alloc, program, context.len() as u32, written.len() as u32) {
+        Ok(verified) => run_once(alloc, &verified, context, size),
         Err(Some(refused)) => {
             *verdict = verdict_on(refused);
             return REFUSED;
         }
         Err(None) => return MEMORY,
     };
-    let left = match run_once(alloc, &verified, context, size) {
+    let left = match ran {
         Ok(left) => left,
         Err(RunFault::Memory) => return MEMORY,
         Err(RunFault::Broken) => return BROKEN,

@@ -17,7 +17,7 @@ use rb_tape::{Record, Tape, TapeKind};
 
 /// What the bytes of a tape begin with: a record, or what is wrong there.
 #[repr(C)]
-#[derive(Clone, Copy, Debug, PartialEq, Eq)]
+#[derive(Clone, Copy)]
 pub struct TapeRecord {
     /// Where the payload begins, in bytes from the front of the record.
     pub offset: u64,

@@ -17,7 +17,7 @@ pub const RULES: u32 = 3;
 
 /// Why a program is refused: the first fault of the first layer that has one.
 #[repr(C)]
-#[derive(Clone, Copy, Debug, PartialEq, Eq)]
+#[derive(Clone, Copy)]
 pub struct Verdict {
     /// The layer: `BYTES`, `SHAPE` or `RULES`.
     pub layer: u32,
