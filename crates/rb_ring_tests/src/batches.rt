@@ -4,12 +4,16 @@ ghost use Rattle.std.specs.Prelude.{◌≡◌};
 ghost use Rattle.rb_history.specs.TapeBytes.{AreItemsFrom};
 ghost use Rattle.rb_tape.specs.Items.{tape_items};
 
-use super::rings_with_seats::{discarded, granted, one_seat, output};
+use super::rings_with_seats::{ROOM, discarded, granted, one_seat, output};
+use crate::expected::same_of;
 use rb_consumer::Batch;
 use rb_io::DeviceFault;
 use rb_tape::{Event, Item, TapeWriter};
-use std::io::{Error, ErrorKind, Result, Write};
+use std::alloc::Global;
+use std::io;
+use std::io::{Error, ErrorKind, Write};
 use std::process::Abort;
+use std::sync::Wait;
 
 // A writer in memory that takes one byte a write, and fails once, at this write. Writes count from 1.
 #[derive(Drop)]
@@ -20,8 +24,19 @@ struct OneByteWriter {
     takes_nothing: bool,
 }
 
+impl OneByteWriter {
+    fn new(alloc: Global, fails_at: u32, takes_nothing: bool) -> OneByteWriter {
+        OneByteWriter {
+            taken: Vec::new(alloc),
+            writes: 0,
+            fails_at,
+            takes_nothing,
+        }
+    }
+}
+
 impl Write for OneByteWriter {
-    fn write(&mut self, buf: &[u8]) -> Result<usize> {
+    fn write(&mut self, buf: &[u8]) -> io::Result<usize> {
         self.writes = self.writes.wrapping_add(1);
         if self.writes == self.fails_at {
             if self.takes_nothing {
@@ -38,39 +53,61 @@ impl Write for OneByteWriter {
         }
     }
 
-    fn flush(&mut self) -> Result<()> {
+    fn flush(&mut self) -> io::Result<()> {
         Ok(())
     }
 }
 
-#[test]
-fn an_unfinished_record_is_resumed(rt: HostRuntime) {
-    let record = [8, 0, 0, 0, 0, 0, 0, 0, 0x2a, 0, 0, 0, 0, 0, 0, 0];
+// How much of the last record a tape sent, where it stands, and what its writer took.
+type Sent = (u64, u64, Vec<u8>);
+
+// The tape's numbers and bytes.
+fn sent_by(tape: TapeWriter<OneByteWriter>) -> Sent {
+    (tape.sent(), tape.position(), tape.into_writer().taken)
+}
+
+// The tape of one record of eight bytes.
+const RECORD: [u8; 16] = [8, 0, 0, 0, 0, 0, 0, 0, 0x2a, 0, 0, 0, 0, 0, 0, 0];
+
+// Puts the record by this writer, and resumes it: both answers, and the numbers between them; then what was sent.
+fn resumed(
+    writer: OneByteWriter,
+) -> (
+    (Result<(), DeviceFault>, (u64, u64), Result<(), DeviceFault>),
+    Sent,
+) {
     let item = Item::Event(Event {
         pos: 0,
         worker: 0,
         serial: 0,
-        bytes: &record[8..],
+        bytes: &RECORD[8..],
     });
-    for takes_nothing in [false, true] {
+    let mut tape = TapeWriter::new(writer, 4096, 0);
+    let put = tape.put(&item);
+    let between = (tape.sent(), tape.position());
+    let resumed = if tape.sent() < 16 {
+        tape.resume(&item)
+    } else {
+        put
+    };
+    ((put, between, resumed), sent_by(tape))
+}
+
+#[test]
+fn an_unfinished_record_is_resumed(rt: HostRuntime) {
+    for takes_nothing in &[false, true] {
         for fails_at in 1..=16 {
-            let writer = OneByteWriter {
-                taken: Vec::new(rt.alloc()),
-                writes: 0,
-                fails_at,
-                takes_nothing,
-            };
-            let mut tape = TapeWriter::new(writer, 4096, 0);
-            assert_eq!(rt; tape.put(&item), Err(DeviceFault));
-            assert_eq!(rt;
-                (tape.sent(), tape.position()),
-                (u64::from(fails_at) - 1, 0)
+            let writer = OneByteWriter::new(rt.alloc(), fails_at, *takes_nothing);
+            let (answers, (sent, position, taken)) = resumed(writer);
+            same_of(
+                &rt,
+                &(answers, (sent, position, taken.as_slice())),
+                &(
+                    (Err(DeviceFault), (u64::from(fails_at) - 1, 0), Ok(())),
+                    (16, 16, RECORD.as_slice()),
+                ),
+                &(fails_at, takes_nothing),
             );
-            if tape.sent() < 16 {
-                assert_eq!(rt; tape.resume(&item), Ok(()));
-            }
-            assert_eq!(rt; (tape.sent(), tape.position()), (16, 16));
-            assert_eq!(rt; tape.into_writer().taken.as_slice(), record.as_slice());
         }
     }
 }
@@ -98,25 +135,32 @@ fn written(rt: &impl Abort, batch: &Batch, writer: OneByteWriter) -> TapeWriter<
     tape
 }
 
-#[test]
-fn a_batch_is_written_as_a_tape(rt: HostRuntime) {
-    let (ring, mut seat, mut consumer) = one_seat(&rt, rt.alloc(), 1);
-    let _notice = output(&rt, rt.alloc(), &ring, &mut seat, 8, 7);
-    let given_up = granted(&rt, rt.alloc(), &ring, &mut seat, 8);
-    let _notice = discarded(&rt, &ring, &mut seat, given_up);
-    let mut batch = Batch::with_capacity(rt.alloc(), 64).expect(&rt, "memory");
-    let Ok(2) = batch.fill(&rt, &ring, &mut consumer) else {
+// A batch of the two records, taken of a ring.
+fn two_records<R: Wait + Abort>(rt: &R, alloc: Global) -> Batch
+    ensures { AreItemsFrom 4096 0 (tape_items result.taken) }
+{
+    let (ring, mut seat, mut consumer) = one_seat(rt, alloc, 1, ROOM);
+    let _notice = output(rt, alloc, &ring, &mut seat, 8, 7);
+    let given_up = granted(rt, alloc, &ring, &mut seat, 8);
+    let _notice = discarded(rt, &ring, &mut seat, given_up);
+    let mut batch = Batch::with_capacity(alloc, 64).expect(rt, "memory");
+    let Ok(2) = batch.fill(rt, &ring, &mut consumer) else {
         rt.panic("not both records");
     };
+    batch
+}
+
+#[test]
+fn a_batch_is_written_as_a_tape(rt: HostRuntime) {
+    let batch = two_records(&rt, rt.alloc());
     for fails_at in 1..=33 {
-        let writer = OneByteWriter {
-            taken: Vec::new(rt.alloc()),
-            writes: 0,
-            fails_at,
-            takes_nothing: false,
-        };
-        let tape = written(&rt, &batch, writer);
-        assert_eq!(rt; (tape.sent(), tape.position()), (16, 32));
-        assert_eq!(rt; tape.into_writer().taken.as_slice(), TWO_RECORDS.as_slice());
+        let writer = OneByteWriter::new(rt.alloc(), fails_at, false);
+        let (sent, position, taken) = sent_by(written(&rt, &batch, writer));
+        same_of(
+            &rt,
+            &(sent, position, taken.as_slice()),
+            &(16, 32, TWO_RECORDS.as_slice()),
+            &fails_at,
+        );
     }
 }

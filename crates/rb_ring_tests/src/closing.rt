@@ -2,17 +2,19 @@
 
 ghost use Rattle.std.specs.Prelude.{◌≡◌, All};
 ghost use Rattle.rb_history.specs.Counting.{counts_of};
-ghost use Rattle.rb_ledger.specs.Seats.{HasSettledAll};
+ghost use Rattle.rb_ledger.specs.Seats.{HasSettledAll, IsSameSeat};
 ghost use Rattle.rb_ledger.specs.ChapteredRing.{chaptered_ring, whole_of};
 
+use super::expected::same;
 use super::rings_with_seats::{discarded, granted, output, submitted, two_seats};
 use rb_ledger::numbers_agree;
 use rb_shared_ring::{Closing, ConsumerSeat, Seat, SharedRing};
+use std::alloc::Global;
 use std::process::Abort;
 use std::sync::Wait;
 
-// Closes a ring with all its seats. Where these have settled all, no record of the whole history is busy.
-fn closed<R: Wait + Abort>(
+/// Closes a ring with all its seats. Where these have settled all, no record of the whole history is busy.
+pub(super) fn closed<R: Wait + Abort>(
     rt: &R,
     ring: SharedRing,
     seats: Vec<Seat>,
@@ -29,26 +31,50 @@ fn closed<R: Wait + Abort>(
     }
 }
 
+// How many records a seat made, submitted and discarded.
+fn counts_of_seat(seat: &Seat) -> (u64, u64, u64) {
+    (seat.made(), seat.submitted(), seat.discarded())
+}
+
+// Has the first seat output a record, and the second submit one behind one that it discards.
+fn settle<R: Wait + Abort>(
+    rt: &R,
+    alloc: Global,
+    ring: &SharedRing,
+    zero: &mut Seat,
+    one: &mut Seat,
+)
+    requires rings { (zero.old.ring ≡ ring.now.ring) × (one.old.ring ≡ ring.now.ring) }
+    ensures zero { IsSameSeat zero.old zero.new }
+    ensures one { IsSameSeat one.old one.new }
+{
+    let _notice = output(rt, alloc, ring, zero, 8, 1);
+    let first = granted(rt, alloc, ring, one, 24);
+    let second = granted(rt, alloc, ring, one, 8);
+    let _notice = submitted(rt, ring, one, second, 0);
+    let _notice = discarded(rt, ring, one, first);
+}
+
 #[test]
 fn seats_that_settled_all_leave_none_busy(rt: HostRuntime) {
     let (ring, mut zero, mut one, consumer) = two_seats(&rt, rt.alloc(), 6);
-    let _notice = output(&rt, rt.alloc(), &ring, &mut zero, 8, 1);
-    let first = granted(&rt, rt.alloc(), &ring, &mut one, 24);
-    let second = granted(&rt, rt.alloc(), &ring, &mut one, 8);
-    let _notice = submitted(&rt, &ring, &mut one, second, 0);
-    let _notice = discarded(&rt, &ring, &mut one, first);
-    assert_eq!(rt;
-        (zero.made(), zero.submitted(), zero.discarded()),
-        (1, 1, 0)
+    settle(&rt, rt.alloc(), &ring, &mut zero, &mut one);
+    same(
+        &rt,
+        &[counts_of_seat(&zero), counts_of_seat(&one)],
+        &[(1, 1, 0), (2, 1, 1)],
     );
-    assert_eq!(rt; (one.made(), one.submitted(), one.discarded()), (2, 1, 1));
-    let mut seats = Vec::new(rt.alloc());
-    seats.push(zero).expect(&rt, "memory");
-    seats.push(one).expect(&rt, "memory");
+    let seats = vec![in rt.alloc(); zero, one].expect(&rt, "memory");
     let counts = closed(&rt, ring, seats, consumer).counts();
-    assert_eq!(rt; (counts.made, counts.busy), (3, 0));
-    assert_eq!(rt;
-        (counts.waiting, counts.consumed, counts.discarded),
-        (2, 0, 1)
+    same(
+        &rt,
+        &(
+            counts.made,
+            counts.busy,
+            counts.waiting,
+            counts.consumed,
+            counts.discarded,
+        ),
+        &(3, 0, 2, 0, 1),
     );
 }

@@ -1,17 +1,27 @@
-//! The examples of the crates' module docs, line by line.
+//! The examples of the crates' module docs, line by line, and one of the plain ring.
 
+ghost use Rattle.std.specs.Prelude.{◌≡◌};
+ghost use Rattle.rb_shared_ring.specs.SharedSeats.{IsSameChapterConsumer};
+
+use crate::closing::closed;
+use crate::expected::{same, sheet};
+use crate::rings_with_seats::{granted, one_seat, submitted};
 use rb_chapter_ring::{Chapter, RingState};
-use rb_history::{Entry, FORCE_WAKEUP, Header, NO_WAKEUP, Notice, OpenFault, Taken, check_setup, notice_for, span};
-use rb_lend::{Lent, Sheet};
+use rb_for_tests::{RingState as ListState, is_grant_of, is_refusal};
+use rb_history::{
+    Entry, FORCE_WAKEUP, Header, NO_WAKEUP, Notice, OpenFault, Taken, check_setup, notice_for, span,
+};
 use rb_interp::{Part, Parts, Slot};
-use rb_for_tests::RingState as ListState;
-use rb_shared_ring::open;
+use rb_lend::{Lent, Sheet};
+use rb_shared_ring::{Closing, ConsumerSeat, SharedRing};
+use std::alloc::Global;
 use std::process::Abort;
+use std::sync::Wait;
 use std::test::Fail;
 
 #[test]
-fn example_of_rb_header(rt: HostRuntime) {
-    assert_eq!(rt; span(13), 24);
+fn example_of_the_bytes_of_a_record(rt: HostRuntime) {
+    same(&rt, &span(13), &24);
     let header = Header {
         len: 13,
         busy: false,
@@ -19,20 +29,19 @@ fn example_of_rb_header(rt: HostRuntime) {
         page: 0,
     };
     let bytes = header.to_bytes();
-    assert_eq!(rt; bytes, [13, 0, 0, 0x40, 0, 0, 0, 0]);
-    assert_eq!(rt; Header::from_bytes(&bytes), Ok(header));
+    same(&rt, &bytes, &[13, 0, 0, 0x40, 0, 0, 0, 0]);
+    same(&rt, &Header::from_bytes(&bytes), &Ok(header));
 }
 
 #[test]
-fn example_of_rb_lend(rt: HostRuntime) -> Result<(), Fail> {
-    let mut sheet = Sheet::new(rt.alloc(), 4)?;
+fn example_of_rb_lend(rt: HostRuntime) {
+    let mut sheet = sheet(&rt, rt.alloc(), 4);
     sheet.range_mut(1, 2).fill(9);
-    assert_eq!(rt; sheet.bytes(), [0, 9, 9, 0].as_slice());
-    Ok(())
+    same(&rt, &sheet.bytes(), &[0, 9, 9, 0].as_slice());
 }
 
 #[test]
-fn example_of_rb_parts(rt: HostRuntime) -> Result<(), Fail> {
+fn example_of_the_parts_of_memory(rt: HostRuntime) -> Result<(), Fail> {
     let mut sheet = Sheet::new(rt.alloc(), 4)?;
     sheet.range_mut(1, 2).fill(9);
     let mut parts: Parts<&[u8], Sheet> = Parts::new([5, 6, 7].as_slice());
@@ -47,77 +56,96 @@ fn example_of_rb_parts(rt: HostRuntime) -> Result<(), Fail> {
 
 #[test]
 fn example_of_rb_history(rt: HostRuntime) {
-    assert_eq!(rt; check_setup(4096, 4, 1), Err(OpenFault::Start));
+    same(&rt, &check_setup(4096, 4, 1), &Err(OpenFault::Start));
     let history = [Entry::Res(0, 0, 8, 0), Entry::Sub(0), Entry::Full(0, 4096)];
-    assert!(rt; history[0].is_grant_of(0) && history[2].is_refusal());
-    assert_eq!(rt; notice_for(0, 0, NO_WAKEUP), Notice::NotDue);
-    assert_eq!(rt; notice_for(0, 16, FORCE_WAKEUP), Notice::Due);
+    let told = [is_grant_of(0, &history[0]), is_refusal(&history[2])];
+    same(&rt, &told, &[true, true]);
+    let notices = [notice_for(0, 0, NO_WAKEUP), notice_for(0, 16, FORCE_WAKEUP)];
+    same(&rt, &notices, &[Notice::NotDue, Notice::Due]);
+}
+
+// Whether this is the event of the first record of worker 0.
+fn is_first_event(taken: &Taken) -> bool {
+    matches!(taken, Taken::Event(0, 0, 0, _))
 }
 
 #[test]
-fn example_of_rb_ring_list(rt: HostRuntime) -> Result<(), Fail> {
-    let mut ring = ListState::new(rt.alloc(), 4096, 0, 1)?;
-    let Ok(mut record) = ring.reserve(0, 4, Sheet::new(rt.alloc(), 4)?) else {
-        return Err(Fail::from("no record"));
-    };
+fn example_of_the_plain_ring(rt: HostRuntime) {
+    let mut ring = ListState::new(rt.alloc(), 4096, 0, 1).expect(&rt, "a ring");
+    let reserved = ring.reserve(0, 4, sheet(&rt, rt.alloc(), 4));
+    let mut record = reserved.ok().expect(&rt, "a record");
     record.bytes_mut().fill(42);
-    assert!(rt; matches!(ring.submit(record, 0), Ok(Notice::Due)));
-    assert!(rt; matches!(ring.take(), Taken::Event(0, 0, 0, _)));
-    assert_eq!(rt; ring.counts().consumed, 1);
-    Ok(())
+    let notice = ring.submit(record, 0).ok();
+    let is_event = is_first_event(&ring.take());
+    same(
+        &rt,
+        &(notice, is_event, ring.counts().consumed),
+        &(Some(Notice::Due), true, 1),
+    );
+}
+
+// The number of the chapter that the ring hands out, and how many entries it has.
+fn handed_out(rt: &impl Abort, alloc: Global, ring: &mut RingState) -> (u64, u32) {
+    let empty = Chapter::new(alloc, 8, 1).expect(rt, "memory");
+    let chapter = ring.hand_out(empty).ok().expect(rt, "a chapter");
+    (chapter.number(), chapter.used())
 }
 
 #[test]
 fn example_of_rb_chapter_ring(rt: HostRuntime) {
-    let Ok(mut ring) = RingState::new(rt.alloc(), 7, 4096, 0, 1, 8) else {
-        rt.panic("no ring")
+    let mut ring = RingState::new(rt.alloc(), 7, 4096, 0, 1, 8).expect(&rt, "a ring");
+    let reserved = ring.reserve(0, 2, 4, sheet(&rt, rt.alloc(), 4));
+    let record = reserved.ok().expect(&rt, "a record");
+    let names = (record.tag(), record.hand());
+    let hands = (ring.is_out(&record), ring.free_hand(0));
+    let notice = ring.submit(record, 0);
+    let chapter = handed_out(&rt, rt.alloc(), &mut ring);
+    same(
+        &rt,
+        &(names, hands, notice, chapter, is_first_event(&ring.take())),
+        &((7, 2), (true, Some(0)), Notice::Due, (0, 2), true),
+    );
+}
+
+// The chapter that the ring hands out, and whether the next record is the first of worker 0.
+fn chapter_and_event<R: Wait + Abort>(
+    rt: &R,
+    alloc: Global,
+    ring: &SharedRing,
+    consumer: &mut ConsumerSeat,
+) -> (Chapter, bool)
+    requires { consumer.old.ring ≡ ring.now.ring }
+    ensures { IsSameChapterConsumer consumer.old consumer.new }
+{
+    let empty = Chapter::new(alloc, 8, 1).expect(rt, "memory");
+    let chapter = match ring.hand_out(rt, consumer, empty) {
+        Ok(chapter) => chapter,
+        Err(_) => rt.panic("not handed out"),
     };
-    let Ok(record) = ring.reserve(0, 2, 4, Sheet::new(rt.alloc(), 4).expect(&rt, "memory")) else {
-        rt.panic("no record")
-    };
-    assert_eq!(rt; (record.tag(), record.hand()), (7, 2));
-    assert!(rt; ring.is_out(&record));
-    assert_eq!(rt; ring.free_hand(0), Some(0));
-    assert!(rt; matches!(ring.submit(record, 0), Notice::Due));
-    let empty = Chapter::new(rt.alloc(), 8, 1).expect(&rt, "memory");
-    let Ok(chapter) = ring.hand_out(empty) else {
-        rt.panic("no chapter")
-    };
-    assert_eq!(rt; (chapter.number(), chapter.used()), (0, 2));
-    assert!(rt; matches!(&ring.take(), Taken::Event(0, 0, 0, _)));
+    match ring.take(rt, consumer) {
+        Ok(taken) => (chapter, is_first_event(&taken)),
+        Err(_) => rt.panic("not taken"),
+    }
+}
+
+// How many chapters a closed ring's history was bound of, and how many entries it has.
+fn bound(rt: &impl Abort, alloc: Global, closing: Closing, chapter: Chapter) -> (usize, usize) {
+    let chapters = vec![in alloc; chapter].expect(rt, "memory");
+    match closing.bind(alloc, chapters) {
+        Ok(whole) => (whole.chapters().len(), whole.history().len()),
+        Err(_) => rt.panic("not bound"),
+    }
 }
 
 #[test]
 fn example_of_rb_shared_ring(rt: HostRuntime) {
-    let Ok((ring, mut seats, mut consumer)) = open(&rt, rt.alloc(), 7, 4096, 0, 1, 8) else {
-        rt.panic("no ring")
-    };
-    let (Some(mut seat), Ok(sheet)) = (seats.pop(), Sheet::new(rt.alloc(), 8)) else {
-        rt.panic("no seat or no sheet")
-    };
-    let Ok(record) = ring.reserve(&rt, &mut seat, 8, sheet) else {
-        rt.panic("not granted")
-    };
-    if ring.submit(&rt, &mut seat, record, 0).is_err() {
-        rt.panic("a stray submit")
-    }
-    assert_eq!(rt; ring.used(&rt, &mut consumer), Ok((2, 1)));
-    let empty = Chapter::new(rt.alloc(), 8, 1).expect(&rt, "memory");
-    let Ok(chapter) = ring.hand_out(&rt, &mut consumer, empty) else {
-        rt.panic("not handed out")
-    };
-    let Ok(Taken::Event(0, 0, 0, _)) = ring.take(&rt, &mut consumer) else {
-        rt.panic("no event")
-    };
-    let mut chapters = Vec::new(rt.alloc());
-    chapters.push(chapter).expect(&rt, "memory");
-    seats.push(seat).expect(&rt, "memory");
-    let Ok(closing) = ring.close(&rt, seats, consumer) else {
-        rt.panic("not closed")
-    };
-    let Ok(whole) = closing.bind(rt.alloc(), chapters) else {
-        rt.panic("not bound")
-    };
-    assert_eq!(rt; whole.chapters().len(), 1);
-    assert_eq!(rt; whole.history().len(), 3);
+    let (ring, mut seat, mut consumer) = one_seat(&rt, rt.alloc(), 7, 8);
+    let record = granted(&rt, rt.alloc(), &ring, &mut seat, 8);
+    let _notice = submitted(&rt, &ring, &mut seat, record, 0);
+    let used = ring.used(&rt, &mut consumer);
+    let (chapter, is_event) = chapter_and_event(&rt, rt.alloc(), &ring, &mut consumer);
+    same(&rt, &(used, is_event), &(Ok((2, 1)), true));
+    let seats = vec![in rt.alloc(); seat].expect(&rt, "memory");
+    let closing = closed(&rt, ring, seats, consumer);
+    same(&rt, &bound(&rt, rt.alloc(), closing, chapter), &(1, 3));
 }

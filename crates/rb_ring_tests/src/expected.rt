@@ -4,6 +4,7 @@ ghost use Rattle.std.specs.Prelude.{◌≡◌, length};
 
 use rb_lend::Sheet;
 use std::alloc::Global;
+use std::fmt::Debug;
 use std::process::Abort;
 
 /// A sheet of `n` bytes.
@@ -16,7 +17,22 @@ pub(crate) fn sheet(rt: &impl Abort, alloc: Global, n: u32) -> Sheet
     }
 }
 
+/// Ends the test where the two differ, and prints both.
+pub(crate) fn same<T: PartialEq + Debug>(rt: &impl Abort, found: &T, wanted: &T) {
+    assert_eq!(rt; *found, *wanted);
+}
+
+/// Ends the test where the two differ, and prints both and the row of the table that they are of.
+pub(crate) fn same_of<T: PartialEq + Debug>(
+    rt: &impl Abort,
+    found: &T,
+    wanted: &T,
+    row: &impl Debug,
+) {
+    assert_eq!(rt; *found, *wanted, "of {row:?}");
+}
+
 /// Ends the test where the bytes are others.
 pub(crate) fn same_bytes(rt: &impl Abort, found: &[u8], wanted: &[u8]) {
-    assert_eq!(rt; found, wanted);
+    same(rt, &found, &wanted);
 }

@@ -3,14 +3,17 @@
 ghost use Rattle.std.specs.Prelude.{◌≡◌};
 ghost use Rattle.rb_shared_ring.specs.SharedSeats.{IsSameChapterConsumer};
 
+use super::expected::same;
+use super::threads::{counts_of, places_of};
 use rb_chapter_ring::Chapter;
 use rb_consumer::{Batch, Keeper};
 use rb_for_tests::{Consumer, Found, OpenRing, Outputs};
-use rb_shared_ring::{ConsumerSeat, SharedRing};
+use rb_shared_ring::{Closing, ConsumerSeat, SharedRing};
 use rb_tape::Event;
 use std::alloc::Global;
 use std::process::Abort;
 use std::sync::Wait;
+use std::thread::Threads;
 
 const WORKERS: u32 = 4;
 
@@ -71,43 +74,43 @@ fn sends<T: Send>(_x: &T) -> bool {
     true
 }
 
-#[test]
-fn four_producers_and_a_keeper(rt: HostRuntime) {
-    let alloc = rt.alloc();
-    let Ok(mut open) = OpenRing::open(&rt, alloc, 3, 4096, WORKERS, 64) else {
-        rt.panic("no ring")
-    };
-    let chapter = Chapter::new(alloc, 64, WORKERS).expect(&rt, "memory");
-    let mut desk = Desk {
-        batch: Batch::with_capacity(alloc, BATCH).expect(&rt, "memory"),
+fn new_desk(rt: &impl Abort, alloc: Global) -> Desk {
+    let chapter = Chapter::new(alloc, 64, WORKERS).expect(rt, "memory");
+    Desk {
+        batch: Batch::with_capacity(alloc, BATCH).expect(rt, "memory"),
         keeper: Keeper::with_margin(chapter, 16),
         events: [0; 4],
         chapters: 0,
         wrong: 0,
-    };
-    assert!(rt; sends(&desk));
+    }
+}
+
+// Has four producers and the consumer run in threads: the closed ring.
+fn ran<R: Threads + Wait + Sync + Abort>(rt: &R, alloc: Global, desk: &mut Desk) -> Closing {
+    let mut open = OpenRing::open(rt, alloc, 3, 4096, WORKERS, 64).expect(rt, "a ring");
     let outputs = Outputs {
         alloc,
         records: RECORDS,
         len: 8,
     };
-    open.run(&rt, &outputs, &mut desk);
-    let Ok(closing) = open.close(&rt) else {
-        rt.panic("not closed")
-    };
-    assert_eq!(rt; (desk.events, desk.wrong), ([2_500; 4], 0));
-    assert!(rt; desk.chapters > 300);
-    assert_eq!(rt;
-        (
-            closing.producer(),
-            closing.consumer(),
-            closing.chapter().number()
-        ),
-        (160_000, 160_000, desk.chapters)
+    open.run(rt, &outputs, desk);
+    open.close(rt).ok().expect(rt, "closed")
+}
+
+#[test]
+fn four_producers_and_a_keeper(rt: HostRuntime) {
+    let mut desk = new_desk(&rt, rt.alloc());
+    same(&rt, &sends(&desk), &true);
+    let closing = ran(&rt, rt.alloc(), &mut desk);
+    same(
+        &rt,
+        &(desk.events, desk.wrong, desk.chapters > 300),
+        &([2_500; 4], 0, true),
     );
-    let counts = closing.counts();
-    assert_eq!(rt;
-        (counts.made, counts.consumed, counts.waiting, counts.busy),
-        (10_000, 10_000, 0, 0)
+    same(
+        &rt,
+        &places_of(&closing),
+        &(160_000, 160_000, desk.chapters),
     );
+    same(&rt, &counts_of(&closing), &(10_000, 10_000, 0, 0, 0));
 }

@@ -5,8 +5,8 @@ ghost use Rattle.rb_lend.specs.Ranges.{written_at};
 ghost use Rattle.rb_interp.specs.PartsMemory.{part_with};
 
 use crate::expected::{same_bytes, sheet};
-use rb_lend::{Lent, Sheet};
 use rb_interp::{Context, Part, Parts, Slot};
+use rb_lend::{Lent, Sheet};
 use std::alloc::Global;
 use std::process::Abort;
 

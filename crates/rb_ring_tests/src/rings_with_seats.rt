@@ -3,6 +3,7 @@
 ghost use Rattle.std.specs.Prelude.{◌≡◌, length};
 ghost use Rattle.rb_ledger.specs.Seats.{IsSameSeat, fresh_seats, fresh_book};
 
+use super::expected::sheet;
 use rb_history::Notice;
 use rb_lend::{Lent, Sheet};
 use rb_shared_ring::{ConsumerSeat, Reservation, Seat, SharedRing, open};
@@ -13,17 +14,18 @@ use std::sync::Wait;
 /// The room of a chapter that has all entries of a test.
 pub(super) const ROOM: u32 = 65_536;
 
-/// A ring of 4,096 bytes from 0, with one worker and room for all entries of a test.
+/// A ring of 4,096 bytes from 0, with one worker, whose chapters have this room.
 pub(super) fn one_seat<R: Wait + Abort>(
     rt: &R,
     alloc: Global,
     tag: u64,
+    room: u32,
 ) -> (SharedRing, Seat, ConsumerSeat)
     ensures ring { (result.1.ring ≡ result.0.ring) × (result.2.ring ≡ result.0.ring) }
     ensures tags { (result.0.tag ≡ tag) × (result.1.tag ≡ tag) × (result.2.tag ≡ tag) }
     ensures consumer { (result.2.seen.setup.size ≡ 4096) × (result.2.position ≡ 0) }
 {
-    let Ok((ring, mut seats, consumer)) = open(rt, alloc, tag, 4096, 0, 1, ROOM) else {
+    let Ok((ring, mut seats, consumer)) = open(rt, alloc, tag, 4096, 0, 1, room) else {
         rt.panic("no ring")
     };
     match seats.pop() {
@@ -56,7 +58,7 @@ pub(super) fn two_seats<R: Wait + Abort>(
 pub(super) fn sheet_of(rt: &impl Abort, alloc: Global, n: u32, byte: u8) -> Sheet
     ensures { length result ≡ n }
 {
-    let mut sheet = Sheet::new(alloc, n).expect(rt, "memory");
+    let mut sheet = sheet(rt, alloc, n);
     sheet.bytes_mut().fill(byte);
     sheet
 }

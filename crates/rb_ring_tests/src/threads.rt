@@ -4,15 +4,17 @@
 ghost use Rattle.std.specs.Prelude.{◌≡◌};
 ghost use Rattle.rb_shared_ring.specs.SharedSeats.{IsSameChapterConsumer};
 
+use super::expected::same;
 use super::rings_with_seats::ROOM;
 use rb_chapter_ring::Chapter;
+use rb_for_tests::{Consumer, Found, OpenRing, Outputs};
 use rb_history::Taken;
 use rb_lend::Lent;
-use rb_for_tests::{Consumer, Found, OpenRing, Outputs};
-use rb_shared_ring::{ConsumerSeat, SharedRing};
+use rb_shared_ring::{Closing, ConsumerSeat, SharedRing};
 use std::alloc::Global;
 use std::process::Abort;
 use std::sync::Wait;
+use std::thread::Threads;
 
 const WORKERS: u32 = 4;
 
@@ -91,46 +93,66 @@ fn sends<T: Send>(_x: &T) -> bool {
     true
 }
 
-#[test]
-fn four_producers_and_a_consumer(rt: HostRuntime) {
-    let alloc = rt.alloc();
-    let Ok(mut open) = OpenRing::open(&rt, alloc, 3, 4096, WORKERS, ROOM) else {
-        rt.panic("no ring")
-    };
-    assert!(rt; syncs(&open.ring) && sends(&open.seats) && sends(&open.consumer));
-    let mut sums = no_sums(alloc);
+// What a consumer has taken and skipped, where it stands, and whether it was handed more than one chapter.
+fn numbers_of(consumer: &ConsumerSeat) -> (u64, u64, u64, bool) {
+    (
+        consumer.consumed(),
+        consumer.skipped(),
+        consumer.position(),
+        consumer.chapters() > 1,
+    )
+}
+
+/// What a closed ring counts: made, consumed, discarded, waiting and busy.
+pub(super) fn counts_of(closing: &Closing) -> (u64, u64, u64, u64, u64) {
+    let counts = closing.counts();
+    (
+        counts.made,
+        counts.consumed,
+        counts.discarded,
+        counts.waiting,
+        counts.busy,
+    )
+}
+
+/// Where a closed ring's producer and consumer stand, and which chapter is its last.
+pub(super) fn places_of(closing: &Closing) -> (u64, u64, u64) {
+    (
+        closing.producer(),
+        closing.consumer(),
+        closing.chapter().number(),
+    )
+}
+
+// Has four producers and the consumer run in threads, and looks at their seats: the closed ring, and how many chapters were handed out.
+fn ran<R: Threads + Wait + Sync + Abort>(rt: &R, alloc: Global, sums: &mut Sums) -> (Closing, u64) {
+    let mut open = OpenRing::open(rt, alloc, 3, 4096, WORKERS, ROOM).expect(rt, "a ring");
+    let goes_between_threads = syncs(&open.ring) && sends(&open.seats) && sends(&open.consumer);
+    same(rt, &goes_between_threads, &true);
     let outputs = Outputs {
         alloc,
         records: RECORDS,
         len: 8,
     };
-    open.run(&rt, &outputs, &mut sums);
-    assert_eq!(rt; sums.events, [10_000; 4]);
-    assert_eq!(rt; sums.bytes, [1_273_080; 4]);
-    assert_eq!(rt; (sums.out_of_order, sums.other_bytes), (0, 0));
+    open.run(rt, &outputs, sums);
     for seat in &open.seats {
-        assert_eq!(rt; (seat.made(), seat.submitted()), (10_000, 10_000));
+        same(rt, &(seat.made(), seat.submitted()), &(10_000, 10_000));
     }
-    assert_eq!(rt;
-        (open.consumer.consumed(), open.consumer.skipped()),
-        (40_000, 0)
-    );
-    assert_eq!(rt; open.consumer.position(), 640_000);
+    same(rt, &numbers_of(&open.consumer), &(40_000, 0, 640_000, true));
     let chapters = open.consumer.chapters();
-    assert!(rt; chapters > 1);
-    let Ok(closing) = open.close(&rt) else {
-        rt.panic("not closed")
-    };
-    assert!(rt; sends(&closing));
-    let counts = closing.counts();
-    assert_eq!(rt; (counts.made, counts.consumed), (40_000, 40_000));
-    assert_eq!(rt; (counts.discarded, counts.waiting, counts.busy), (0, 0, 0));
-    assert_eq!(rt;
-        (
-            closing.producer(),
-            closing.consumer(),
-            closing.chapter().number()
-        ),
-        (640_000, 640_000, chapters)
+    (open.close(rt).ok().expect(rt, "closed"), chapters)
+}
+
+#[test]
+fn four_producers_and_a_consumer(rt: HostRuntime) {
+    let mut sums = no_sums(rt.alloc());
+    let (closing, chapters) = ran(&rt, rt.alloc(), &mut sums);
+    same(
+        &rt,
+        &(sums.events, sums.bytes, sums.out_of_order, sums.other_bytes),
+        &([10_000; 4], [1_273_080; 4], 0, 0),
     );
+    same(&rt, &sends(&closing), &true);
+    same(&rt, &counts_of(&closing), &(40_000, 40_000, 0, 0, 0));
+    same(&rt, &places_of(&closing), &(640_000, 640_000, chapters));
 }

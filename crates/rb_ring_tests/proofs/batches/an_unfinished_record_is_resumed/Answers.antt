@@ -1,5 +1,0 @@
-use Rattle.std.proofs.Common.{refl, arith}
-use Rattle.rb_ring_tests.proofs.batches.an_unfinished_record_is_resumed.Goals as goal
-
-pub new-tape-requires-clause-size : goal.new-tape-requires-clause-size
-new-tape-requires-clause-size g c = ((12, refl), omega arith, omega arith)
