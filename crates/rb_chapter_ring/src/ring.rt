@@ -19,10 +19,10 @@ ghost use Rattle.rb_chapter_ring.specs.RingFaults.{RefusesInChapter};
 ghost use Rattle.rb_chapter_ring.specs.Hands.{AreAllOut, IsFree, IsLowestFree, free_book, hands_of};
 ghost use Rattle.rb_chapter_ring.specs.HandRing.{hand_ring, HasHands, HasInHand, GrantsToHand, SubmitsFromHand, DiscardsFromHand};
 
+use crate::Chapter;
 use crate::faults::{OpenFault, ReserveFault};
 use crate::hand_state::HandState;
 use crate::reservation::Reservation;
-use crate::Chapter;
 use rb_history::{Counts, Notice, Taken};
 use rb_lend::Sheet;
 use std::alloc::Global;

@@ -6,8 +6,8 @@ ghost use Rattle.rb_history.specs.RingModel.{IsRingSize, IsStartPosition, IsWork
 ghost use Rattle.rb_chapter_ring.specs.Opening.{no_tally};
 ghost use Rattle.rb_chapter_ring.specs.Chapters.{IsChapterRoom};
 
-use crate::faults::OpenFault;
 use crate::Chapter;
+use crate::faults::OpenFault;
 use rb_history::{Tally, is_size, is_start, is_worker_count};
 use rb_lend::Sheet;
 use std::alloc::{AllocError, Global};

@@ -1,3 +1,2 @@
-
 pub mod Joining
 mod Pieces

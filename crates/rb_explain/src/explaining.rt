@@ -12,8 +12,10 @@ use crate::explanation::{Explanation, Reason};
 use crate::listing::listing_text;
 use crate::saying::{decode_name, push_rule_said, push_said, shape_name};
 use crate::windows::{decode_again, push_window, units_text};
-use rb_program::{DecodeFault, DecodeKind, Shape, ShapeFault, ShapeFaultKind, TextFault, decode, shape};
 use rb_json::LineForm;
+use rb_program::{
+    DecodeFault, DecodeKind, Shape, ShapeFault, ShapeFaultKind, TextFault, decode, shape,
+};
 use rb_verifier::{Refusal, Rule, verify};
 use std::alloc::{AllocError, Global};
 

@@ -9,9 +9,9 @@ ghost use Rattle.rb_explain.specs.Explanations.{known_line, known_text, listing,
 use crate::lines::push_line;
 use crate::objects::push_known_object;
 use crate::state_lines::push_state;
-use rb_program::Program;
 use rb_insn::Insn;
 use rb_json::LineForm;
+use rb_program::Program;
 use rb_verifier::{AbsState, Verified};
 use std::alloc::{AllocError, Global};
 

@@ -5,9 +5,9 @@ ghost use Rattle.std.specs.List.{flat_map};
 ghost use Rattle.rb_explain.specs.Objects as objects;
 ghost use Rattle.rb_explain.specs.Objects.{bytes_object, fault_object, held_value, insn_fields, known_fields, known_object, place_field, place_fields, record_field, register_field, register_fields, unit_object};
 
+use crate::Assembly;
 use crate::lines::helper_name;
 use crate::state_lines::{Kept, Value, is_data, is_readable};
-use crate::Assembly;
 use rb_insn::Insn;
 use rb_verifier::{Abs, AbsState, Held, Helper, Reference};
 use std::alloc::{AllocError, Global};

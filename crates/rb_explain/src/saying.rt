@@ -5,8 +5,8 @@ ghost use Rattle.rb_explain.specs.Explanations.{number_text, said_text};
 ghost use Rattle.rb_explain.specs.Objects as objects;
 
 use crate::objects::push_fault_object;
-use rb_program::{DecodeKind, ShapeFaultKind};
 use rb_json::LineForm;
+use rb_program::{DecodeKind, ShapeFaultKind};
 use rb_verifier::Rule;
 use std::alloc::{AllocError, Global};
 use std::fmt::Write;

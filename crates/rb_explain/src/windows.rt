@@ -9,9 +9,9 @@ ghost use Rattle.rb_explain.specs.Explanations.{is_near, mark_under, near_line, 
 
 use crate::lines::{push_bytes, push_line};
 use crate::objects::{push_bytes_object, push_unit_object};
-use rb_program::{Program, decode};
 use rb_insn::Insn;
 use rb_json::LineForm;
+use rb_program::{Program, decode};
 use std::alloc::{AllocError, Global};
 
 /// How many units are shown before a fault, and how many behind it.

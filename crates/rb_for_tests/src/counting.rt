@@ -35,10 +35,7 @@ pub(crate) fn discards_in(history: &[Entry]) -> u64
 pub(crate) fn submitted_in(records: &VecDeque<StoredRecord>) -> u64
     ensures count { result ≡ count_by (λ s. is_submitted_state s.state) records.now.items }
 {
-    records
-        .iter()
-        .filter(|record| is_submitted(record))
-        .count() as u64
+    records.iter().filter(|record| is_submitted(record)).count() as u64
 }
 
 /// How many of the records are busy.

@@ -13,7 +13,11 @@ ghost use Rattle.rb_history.specs.Calls.{Logs, RingHasRoom, HasBusyFront, AllTak
 
 use crate::counting::{busy_index, discards_in, grants_in, refusals_in, reserved_in, submitted_in};
 use crate::entry_kinds::is_reserved;
-use rb_history::{AVAIL_DATA, CONS_POS, Counts, Entry, KNOWN_FLAGS, Notice, OpenFault, POSITION_LIMIT, PROD_POS, RING_SIZE, RecordState, Reservation, ReserveFault, StoredRecord, Stray, Taken, check_setup, notice_for, span};
+use rb_history::{
+    AVAIL_DATA, CONS_POS, Counts, Entry, KNOWN_FLAGS, Notice, OpenFault, POSITION_LIMIT, PROD_POS,
+    RING_SIZE, RecordState, Reservation, ReserveFault, StoredRecord, Stray, Taken, check_setup,
+    notice_for, span,
+};
 use rb_lend::Sheet;
 use std::alloc::Global;
 use std::collections::VecDeque;

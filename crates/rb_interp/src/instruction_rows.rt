@@ -13,13 +13,13 @@ ghost use Rattle.rb_interp.specs.inner.NearOffsets.{IsNearValue, LeavesNear};
 ghost use Rattle.rb_interp.specs.StoredMemory.{Rewrites};
 ghost use Rattle.rb_interp.specs.inner.KeptPointers.{IsKeepable};
 
+use crate::Context;
 use crate::byte_numbers::{number_in, signed_number_in};
 use crate::cpu::Cpu;
 use crate::offsets::behind;
 use rb_insn::{BinaryOp, Condition, Insn, Operand, Reg, SignedSize, Size, Width, jumps, value};
-use rb_program::next_unit;
 use rb_lend::Lent;
-use crate::Context;
+use rb_program::next_unit;
 use rb_semantics::{MemoryRegion, Value};
 
 impl<C: Context, R: Lent> Cpu<C, R> {

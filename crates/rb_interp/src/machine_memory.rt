@@ -12,10 +12,10 @@ ghost use Rattle.rb_interp.specs.inner.KeptPointers.{filled, IsPlace};
 use crate::byte_numbers::put_number;
 use crate::pointer_table::PointerTable;
 use crate::slot_table::{SlotEntry, entry_of, without};
+use crate::{Context, Part, Parts};
 use arrayvec::ArrayVec;
 use rb_insn::Size;
 use rb_lend::Lent;
-use crate::{Context, Part, Parts};
 use rb_semantics::{MemoryRegion, Value, writes_take_pointers_out};
 use std::marker::Model;
 

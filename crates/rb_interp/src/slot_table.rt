@@ -3,8 +3,8 @@
 ghost use Rattle.std.specs.Prelude.{◌≡◌, find, filter};
 ghost use Rattle.rb_interp.specs.inner.SlotTable.{entry_has_id, other_entry_than};
 
-use arrayvec::ArrayVec;
 use crate::Slot;
+use arrayvec::ArrayVec;
 
 /// A record that is held: its name, which is the unit of the CALL that reserved it, and its slot.
 #[derive(Clone, Copy, Debug)]

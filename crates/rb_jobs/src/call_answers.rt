@@ -4,8 +4,8 @@ ghost use Rattle.std.specs.Prelude.{◌≡◌};
 ghost use Rattle.rb_jobs.specs.inner.CallAnswers.{due_in, output_number, unlogged_in};
 
 use crate::no_record::NoRecord;
-use rb_interp::{EAGAIN, EINVAL};
 use rb_history::Notice;
+use rb_interp::{EAGAIN, EINVAL};
 use rb_shared_ring::ReserveFault;
 
 // Whether a notice is due.

@@ -7,8 +7,8 @@ ghost use Rattle.rb_jobs.specs.Jobs.{JobRanCounted, task_of};
 
 use crate::gated_helpers::GatedHelpers;
 use crate::job::{Gate, Job, JobAnswer};
-use rb_interp::{MachineRoom, run_in};
 use crate::{SeatHelpers, SeatRecord, Stock};
+use rb_interp::{MachineRoom, run_in};
 use rb_shared_ring::{Seat, SharedRing};
 use std::alloc::{AllocError, Global};
 use std::marker::Model;

@@ -6,10 +6,10 @@ ghost use Rattle.rb_loader.specs.Acceptance.{IsAccepted};
 ghost use Rattle.rb_loader.specs.Explained.{ExplainsRefusal, PrintsExplanation, fault_of_reason};
 
 use crate::program::{Bounds, ProgramFault, read_all, shape_fault, text_of};
-use rb_program::DecodeFault;
 use rb_explain::Reason;
 use rb_io::write_whole;
 use rb_json::LineForm;
+use rb_program::DecodeFault;
 use std::alloc::Global;
 use std::io::{Read, Write};
 

@@ -4,7 +4,9 @@ ghost use Rattle.std.specs.Prelude.{◌≡◌, ◌≢◌, ◌≤◌, ◌↔◌, 
 ghost use Rattle.rb_loader.specs.Acceptance.{IsAccepted, IsRightFault, IsRightProgramFault, fault_of_text, fault_of_shape};
 ghost use Rattle.rb_loader.specs.MachineFaults.{IsMachineFault};
 
-use rb_program::{DecodeFault, DecodeKind, ShapeFault, ShapeFaultKind, TextFault, from_text, shape};
+use rb_program::{
+    DecodeFault, DecodeKind, ShapeFault, ShapeFaultKind, TextFault, from_text, shape,
+};
 use rb_verifier::{Refusal, Verified, verify};
 use std::alloc::{AllocError, Global};
 use std::io;

@@ -4,8 +4,8 @@ ghost use Rattle.std.specs.Prelude.{◌≡◌, ◌+◌, ◌*◌, ◌<◌, ◌≤
 ghost use Rattle.rb_program.specs.Program.{unit_count};
 ghost use Rattle.rb_program.specs.inner.Reach.{Marks, MarksReached, Search, unmarked};
 
-use crate::edges::{jump_target, next_unit};
 use crate::Program;
+use crate::edges::{jump_target, next_unit};
 use std::alloc::{AllocError, Global};
 
 /// Which units a path reaches from unit 0, by edges in both directions: a mark for each unit. Each unit is looked at once at

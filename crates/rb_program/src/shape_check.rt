@@ -7,11 +7,11 @@ ghost use Rattle.rb_program.specs.ShapeFaults.{IsFirstFaultHere, IsFirstShapeFau
 ghost use Rattle.rb_program.specs.inner.Reach.{MarksReached};
 ghost use Rattle.rb_program.specs.Shape.{IsWellShaped};
 
-use crate::edges::{distance, jump_target, next_unit};
-use crate::shape_fault::{ShapeFault, ShapeFaultKind};
-use crate::reach::reached_units;
-use crate::shape_type::Shape;
 use crate::Program;
+use crate::edges::{distance, jump_target, next_unit};
+use crate::reach::reached_units;
+use crate::shape_fault::{ShapeFault, ShapeFaultKind};
+use crate::shape_type::Shape;
 use rb_insn::Insn;
 use std::alloc::Global;
 

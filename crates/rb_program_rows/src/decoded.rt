@@ -1,8 +1,8 @@
 //! What bytes and texts decode to.
 
 use crate::bytes::{bytes_of, unescaped};
-use rb_program::{DecodeFault, DecodeKind, Program, TextFault, decode, encode, from_text};
 use rb_insn::Insn;
+use rb_program::{DecodeFault, DecodeKind, Program, TextFault, decode, encode, from_text};
 use std::alloc::{AllocError, Global};
 use std::fmt::Write;
 

@@ -4,9 +4,9 @@ ghost use Rattle.std.specs.Prelude.{◌≤◌};
 
 use crate::decoded::{tell_decode_fault, tell_text_fault};
 use crate::shapes::tell_shape_fault;
-use rb_program::TextFault;
 use rb_explain::{Explanation, Reason, explain};
 use rb_json::LineForm;
+use rb_program::TextFault;
 use std::alloc::{AllocError, Global};
 use std::fmt::Write;
 

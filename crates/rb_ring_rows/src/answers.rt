@@ -2,8 +2,8 @@
 
 use crate::text::Text;
 use rb_chapter_ring::{Chapter, OpenFault, ReserveFault};
-use rb_ledger::BindFault;
 use rb_history::{Counts, Entry, Notice, Reservation, Stray, Taken, Tally};
+use rb_ledger::BindFault;
 use rb_lend::{Lent, Sheet};
 
 /// A granted record: its four numbers and its bytes.

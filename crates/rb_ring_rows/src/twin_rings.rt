@@ -11,12 +11,12 @@ use crate::sheets::{copied, filled, write_at};
 use crate::tape_rows::tell_written;
 use crate::text::Text;
 use rb_chapter_ring::{Chapter, Reservation, ReserveFault, RingState, UntakenStatus};
-use rb_ledger::bind_chapters;
+use rb_for_tests::RingState as ListState;
 use rb_history::{
     OpenFault as ListOpenFault, Reservation as ListReservation, ReserveFault as ListFault, Taken,
 };
+use rb_ledger::bind_chapters;
 use rb_lend::{Lent, Sheet};
-use rb_for_tests::RingState as ListState;
 use std::alloc::Global;
 
 /// A ring over chapters and its twin over a list, for the same workers.

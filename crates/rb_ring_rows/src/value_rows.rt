@@ -5,7 +5,9 @@ use crate::row::Row;
 use crate::script::{WRONG_WORDS, narrow};
 use crate::tape_rows::tell_tape;
 use crate::text::Text;
-use rb_history::{Header, OpenFault, check_setup, is_size, is_start, is_worker_count, notice_for, span};
+use rb_history::{
+    Header, OpenFault, check_setup, is_size, is_start, is_worker_count, notice_for, span,
+};
 use std::alloc::Global;
 
 /// What a row answers that needs no ring.

@@ -7,8 +7,8 @@ ghost use Rattle.rb_shared_ring.specs.BoundSeats.{IsNotBound, TiesAllSeats, Gath
 
 use crate::closing::Closing;
 use rb_chapter_ring::Chapter;
-use rb_ledger::{BindFault, bind_chapters};
 use rb_history::Entry;
+use rb_ledger::{BindFault, bind_chapters};
 use std::alloc::Global;
 use std::marker::Model;
 

@@ -1,14 +1,14 @@
 //! The shared types, and the laws called once.
 
-use rb_program::decoding_laws;
 use rb_insn::spelling_laws;
-use rb_verifier::{step_keeps_form, step_keeps_order};
+use rb_program::decoding_laws;
 use rb_semantics::{
     MemoryRegion, PendingCall, Value, bytes_written_are_read, plain_annotations_are_valid,
     plain_programs_run_alike, pointers_are_not_read, pointers_stored_are_found,
     pointers_stored_leave_zeros, programs_can_start, runs_call_once, runs_end_well,
     steps_are_sound, verified_programs_end_well, writes_take_pointers_out,
 };
+use rb_verifier::{step_keeps_form, step_keeps_order};
 
 #[test]
 fn pointers_differ_by_part_and_offset(rt: HostRuntime) {

@@ -4,8 +4,8 @@ ghost use Rattle.std.specs.Prelude.{◌≡◌, ◌≤◌, true};
 
 use super::shared::{counts, opened, taken};
 use rb_interp::{Done, EAGAIN, EINVAL, Helpers};
-use rb_lend::{Lent, Sheet};
 use rb_jobs::{NoStock, SeatHelpers, SeatRecord, Stock};
+use rb_lend::{Lent, Sheet};
 use std::alloc::Global;
 use std::cell::Cell;
 use std::process::Abort;

@@ -4,9 +4,9 @@ ghost use Rattle.std.specs.Prelude.{◌≡◌, ◌≤◌};
 ghost use Rattle.rb_shared_ring.specs.SharedSeats.{IsSameChapterConsumer};
 ghost use Rattle.rb_jobs.specs.SeatHelpers.{IsAt};
 
-use rb_program::{from_text, shape};
 use rb_history::Taken;
 use rb_lend::Sheet;
+use rb_program::{from_text, shape};
 use rb_shared_ring::{ConsumerSeat, Seat, SharedRing, open};
 use rb_verifier::{Verified, verify};
 use std::alloc::Global;

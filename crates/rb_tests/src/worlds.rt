@@ -5,9 +5,9 @@ mod orders;
 mod refusals;
 mod scripts;
 
-use rb_program::{from_text, shape};
 use rb_history::{Counts, Taken};
 use rb_lend::Lent;
+use rb_program::{from_text, shape};
 use rb_verifier::{Verified, verify};
 use rb_world::{Actor, RingSetup, TurnDone, WorkerSetup, World};
 use std::alloc::Global;

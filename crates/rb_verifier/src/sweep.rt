@@ -9,9 +9,9 @@ ghost use Rattle.rb_verifier.specs.Refusals.{IsRightRefusal};
 
 use crate::arrivals::{Arrival, first_arrivals, flow, flow_jump, take};
 use crate::refusal::Refusal;
-use rb_program::{Shape, jump_target, next_unit};
-use rb_insn::Insn;
 use crate::{AbsState, Limits, Rule, StepFault, step_in_place};
+use rb_insn::Insn;
+use rb_program::{Shape, jump_target, next_unit};
 use std::alloc::Global;
 
 /// Keeps a copy of a state, which is put together where it is kept.

@@ -4,12 +4,12 @@ ghost use Rattle.std.specs.Prelude.{◌≡◌, ◌≤◌, IfOk, IfErr, OnOk};
 ghost use Rattle.rb_verifier.specs.Annotation.{HasValid};
 ghost use Rattle.rb_verifier.specs.Refusals.{IsRightRefusal};
 
+use crate::Limits;
 use crate::operation::operations_of;
 use crate::refusal::Refusal;
 use crate::sweep::annotate;
 use crate::verified::Verified;
 use rb_program::Shape;
-use crate::Limits;
 use std::alloc::Global;
 
 /// Verifies a program for a context of so many bytes and so many rings. It returns the verified program exactly where the

@@ -3,8 +3,8 @@
 ghost use Rattle.std.specs.Prelude.{◌≡◌, IfSome};
 
 use crossbeam_queue::ArrayQueue;
-use rb_lend::Sheet;
 use rb_jobs::{SHORT, Stock};
+use rb_lend::Sheet;
 use std::sync::Wait;
 
 /// How many used sheets wait at most.

@@ -5,10 +5,10 @@ ghost use Rattle.rb_world.specs.WorldRuns.{IsFirstUnknown, IsRunOf, TakesTurns};
 ghost use Rattle.rb_world.specs.inner.Refusals.{IsRefusedRun};
 ghost use Rattle.rb_world.specs.WorldValue.{IsThere};
 
+use crate::Actor;
 use crate::turn_done::TurnDone;
 use crate::world::World;
 use crate::world_fault::WorldFault;
-use crate::Actor;
 
 /// What the turns of a list of actors answered.
 #[derive(Drop)]

@@ -1,5 +1,6 @@
 //! A world of workers and rings.
 
+use crate::Actor;
 use crate::consumed_ring::ConsumedRing;
 use crate::opening::{RingSetup, WorkerSetup, check_setups, open_rings, start_machines};
 use crate::turn_done::TurnDone;
@@ -8,7 +9,6 @@ use crate::world_fault::WorldOpenFault;
 use crate::world_record::WorldRecord;
 use rb_chapter_ring::{Chapter, RingState};
 use rb_history::Taken;
-use crate::Actor;
 use rb_interp::{Machine, Phase};
 use std::alloc::Global;
 use std::marker::Model;

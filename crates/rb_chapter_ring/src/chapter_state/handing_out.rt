@@ -5,9 +5,9 @@ ghost use Rattle.rb_chapter_ring.specs.ChapterCalls.{HandsOut};
 ghost use Rattle.rb_chapter_ring.specs.OpenedRing.{MayGoOnIn};
 ghost use Rattle.rb_chapter_ring.specs.inner.Ordinals.{KeepsNumbers};
 
+use crate::Chapter;
 use crate::chapter_state::ChapterState;
 use crate::setup::is_fit;
-use crate::Chapter;
 use std::mem;
 
 impl ChapterState {

@@ -3,8 +3,8 @@
 ghost use Rattle.std.specs.Prelude.{◌≡◌, ◌≤◌, ℕ, length};
 ghost use Rattle.rb_workers.specs.Opened.{AreOpened, IsOpened};
 
-use rb_program::{from_text, shape};
 use rb_history::span;
+use rb_program::{from_text, shape};
 use rb_verifier::{Verified, verify};
 use rb_workers::{Chapter, Gate, Job, Opened, Report, Sink, run_jobs};
 use std::alloc::Global;

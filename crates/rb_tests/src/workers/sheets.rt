@@ -2,8 +2,8 @@
 
 use super::given::{Free, ROOM, SUBMIT_42_LONG, SUBMIT_FULL, job, one_ring, report, verified};
 use crossbeam_queue::ArrayQueue;
-use rb_lend::Sheet;
 use rb_jobs::Stock;
+use rb_lend::Sheet;
 use rb_verifier::Verified;
 use rb_workers::Job;
 use rb_workers::used_sheets::{PLACES, UsedSheets};

@@ -1,8 +1,8 @@
 //! Worlds whose keepers hand chapters out.
 
 use crate::worlds::{SUBMIT_42, is_event, opened_with, ring_0, turn, turns, verified};
-use rb_ledger::bind_chapters;
 use rb_history::{Counts, Entry};
+use rb_ledger::bind_chapters;
 use rb_world::{Actor, TurnDone, WorkerSetup, World};
 use std::alloc::Global;
 use std::process::Abort;

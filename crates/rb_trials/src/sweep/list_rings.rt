@@ -6,8 +6,8 @@ use super::memory::{TRIES, tell_memory};
 use super::sheets::{LONG, is_filled};
 use super::standing::{Standing, Stands, sheet_beside, tell};
 use crate::fault::TrialFault;
-use rb_history::{CONS_POS, OpenFault, PROD_POS, Reservation, ReserveFault, Taken};
 use rb_for_tests::RingState;
+use rb_history::{CONS_POS, OpenFault, PROD_POS, Reservation, ReserveFault, Taken};
 use std::alloc::Global;
 use std::io::Print;
 
