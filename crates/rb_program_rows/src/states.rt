@@ -63,7 +63,7 @@ fn hold(held: &mut Held, word: &str) -> bool {
     let Some(reference) = reference_of(word) else {
         return false;
     };
-    if held.is_full() || !are_earlier(reference.id, held) {
+    if held.as_slice().len() == 4 || !are_earlier(reference.id, held) {
         return false;
     }
     *held = held.added(reference);

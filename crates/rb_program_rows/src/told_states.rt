@@ -41,7 +41,7 @@ pub(crate) fn tell_changes(
             write!(out, " p{place}={}", Word(value))?;
         }
     }
-    if state.held.is_same(&before.held) {
+    if state.held.as_slice() == before.held.as_slice() {
         return Ok(());
     }
     tell_held(state, out)
@@ -49,7 +49,7 @@ pub(crate) fn tell_changes(
 
 // Tells the references that are held.
 fn tell_held(state: &AbsState, out: &mut String) -> Result<(), AllocError> {
-    if state.held.is_empty() {
+    if state.held.as_slice().is_empty() {
         return out.push_str(" holds=none");
     }
     for reference in state.held.as_slice() {
