@@ -3,7 +3,7 @@
 #include <stdio.h>
 #include <time.h>
 
-// How often a workload runs and is told, after once that is not: as rb_bench has it.
+// How often a workload runs and is told, after once that is not: as `rb_trials bench` has it.
 #define ROUNDS 3
 
 static uint64_t now(void) {

@@ -8,7 +8,7 @@ use thiserror::Error;
 #[derive(Clone, Copy, Debug, Error)]
 pub(crate) enum TrialFault {
     /// The words are no trials.
-    #[error("usage: rb_trials orders TAKES AFTER LAST STEPS HEX [STEPS HEX].. | soak WORKERS RINGS SIZE ROOM STEPS SEED | sweep ring|list|seats|shared|jobs [-- ..]")]
+    #[error("usage: rb_trials orders TAKES AFTER LAST STEPS HEX [STEPS HEX].. | soak WORKERS RINGS SIZE ROOM STEPS SEED | sweep ring|list|seats|shared|jobs | bench [time WORKLOAD [NUMBER [NUMBER]]|payloads] [-- ..]")]
     Usage,
     /// A program is none, or is not accepted.
     #[error("a program was refused")]
@@ -22,8 +22,11 @@ pub(crate) enum TrialFault {
     /// There was no memory.
     #[error("no memory")]
     Memory,
-    /// The output failed.
-    #[error("the output failed")]
+    /// A ring with room gave no record, or did not hand it out.
+    #[error("a record was lost")]
+    Lost,
+    /// The clock or the output failed.
+    #[error("the clock or the output failed")]
     Device,
     /// So many things were wrong.
     #[error("wrong {0}")]

@@ -1,11 +1,15 @@
-//! Trials of the library that no test holds: every order of turns (`orders`), real threads over several rings (`soak`), and calls that find no
-//! memory (`sweep`). `tools/orders`, `tools/soak` and `tools/sweep` run one each.
+//! Trials of the library that no test holds: every order of turns (`orders`), real threads over several rings (`soak`), calls that find no
+//! memory (`sweep`), and a benchmark (`bench`). `tools/orders`, `tools/soak`, `tools/sweep` and `tools/bench` run one each.
 //!
 //! Its words are a trial's name and the words of that trial, and `--` between a trial and the next. The status is 0 where each went well, 2 for
 //! wrong words, and 1 otherwise; behind a trial that did not go well there is none.
 #![tactic(auto)]
 
+mod bench;
 mod fault;
+mod listing;
+mod loading;
+mod numbers;
 mod orders;
 mod soak;
 mod sweep;
@@ -16,6 +20,7 @@ use std::io::{Eprint, Print, Write};
 use std::process::ExitCode;
 use std::sync::Wait;
 use std::thread::Threads;
+use std::time::Clock;
 use std::{env, io};
 
 fn main(rt: HostRuntime) -> ExitCode {
@@ -33,7 +38,7 @@ fn main(rt: HostRuntime) -> ExitCode {
 }
 
 // Runs the trials one after the other.
-fn run_all<R: Threads + Wait + Sync + Print + Eprint, W: Write>(
+fn run_all<R: Threads + Wait + Sync + Print + Eprint + Clock, W: Write>(
     rt: &R,
     alloc: Global,
     words: &[String],
@@ -46,7 +51,7 @@ fn run_all<R: Threads + Wait + Sync + Print + Eprint, W: Write>(
 }
 
 // Runs one trial.
-fn run<R: Threads + Wait + Sync + Print + Eprint, W: Write>(
+fn run<R: Threads + Wait + Sync + Print + Eprint + Clock, W: Write>(
     rt: &R,
     alloc: Global,
     words: &[String],
@@ -59,6 +64,7 @@ fn run<R: Threads + Wait + Sync + Print + Eprint, W: Write>(
         "orders" => orders::run(alloc, words, out),
         "soak" => soak::run(rt, alloc, words),
         "sweep" => sweep::run(rt, alloc, words),
+        "bench" => bench::run(rt, alloc, words, out),
         _ => Err(TrialFault::Usage),
     }
 }

@@ -22,8 +22,12 @@ pub(crate) fn run<W: Write>(
     out: &mut W,
 ) -> Result<(), TrialFault> {
     let plan = Plan::read(alloc, words)?;
+    write_lines(alloc, &plan, out)
+}
+
+fn write_lines<W: Write>(alloc: Global, plan: &Plan, out: &mut W) -> Result<(), TrialFault> {
     let mut out = BufWriter::new(alloc, out)?;
-    runs::run_orders(alloc, &plan, &mut out)?;
+    runs::run_orders(alloc, plan, &mut out)?;
     out.flush()?;
     Ok(())
 }

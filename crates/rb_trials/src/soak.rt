@@ -52,8 +52,12 @@ fn sums_of<R: Threads + Wait + Sync>(
     let Ok(rounds) = map_indices(rt, alloc, plan.rings, &work) else {
         return Err(TrialFault::Memory);
     };
+    sum_of(rounds.as_slice())
+}
+
+fn sum_of(rounds: &[Result<Sums, TrialFault>]) -> Result<Sums, TrialFault> {
     let mut sums = Sums::none();
-    for one in &rounds {
+    for one in rounds {
         match one {
             Ok(ring) => sums.add(ring),
             Err(fault) => return Err(*fault),

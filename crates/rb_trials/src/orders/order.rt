@@ -8,6 +8,11 @@ use std::alloc::{AllocError, Global};
 /// The first order: each worker once for each of its steps, then the consumer, whose letter follows those of the workers.
 pub(crate) fn first_order(alloc: Global, plan: &Plan) -> Result<Vec<u32>, AllocError> {
     let mut order = Vec::new(alloc);
+    push_first(&mut order, plan)?;
+    Ok(order)
+}
+
+fn push_first(order: &mut Vec<u32>, plan: &Plan) -> Result<(), AllocError> {
     let mut letter: u32 = 0;
     for worker in &plan.workers {
         for _ in 0..worker.steps.len() {
@@ -18,7 +23,7 @@ pub(crate) fn first_order(alloc: Global, plan: &Plan) -> Result<Vec<u32>, AllocE
     for _ in 0..plan.takes {
         order.push(letter)?;
     }
-    Ok(order)
+    Ok(())
 }
 
 /// Makes an order the next one in the dictionary; false where it was the last.

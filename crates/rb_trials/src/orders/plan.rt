@@ -1,8 +1,9 @@
 //! What is gone through: workers with their steps, and takes.
 
 use crate::fault::TrialFault;
-use rb_program::{from_text, shape};
-use rb_verifier::{Verified, verify};
+use crate::loading;
+use rb_program::from_text;
+use rb_verifier::Verified;
 use std::alloc::Global;
 
 /// A worker: its program, and how many turns each of its steps has.
@@ -30,21 +31,16 @@ impl Plan {
         let [takes, after, last, rest @ ..] = words else {
             return Err(TrialFault::Usage);
         };
-        let mut workers = Vec::new(alloc);
-        for pair in rest.chunks(2) {
-            let [steps, text] = pair else {
-                return Err(TrialFault::Usage);
-            };
-            workers.push(PlannedWorker {
-                program: verified(alloc, text.as_str())?,
-                steps: steps_of(alloc, steps.as_str())?,
-            })?;
-        }
+        let (takes, after, last) = (
+            number(takes.as_str())?,
+            number(after.as_str())?,
+            number(last.as_str())?,
+        );
         Ok(Plan {
-            workers,
-            takes: number(takes.as_str())?,
-            after: number(after.as_str())?,
-            last: number(last.as_str())?,
+            workers: workers_of(alloc, rest)?,
+            takes,
+            after,
+            last,
         })
     }
 
@@ -52,6 +48,24 @@ impl Plan {
     pub(crate) fn count_workers(&self) -> u32 {
         u32::try_from(self.workers.len()).unwrap_or(u32::MAX)
     }
+}
+
+// The workers that pairs of words spell.
+fn workers_of(alloc: Global, words: &[String]) -> Result<Vec<PlannedWorker>, TrialFault> {
+    let mut workers = Vec::new(alloc);
+    for pair in words.chunks(2) {
+        workers.push(worker_of(alloc, pair)?)?;
+    }
+    Ok(workers)
+}
+
+fn worker_of(alloc: Global, words: &[String]) -> Result<PlannedWorker, TrialFault> {
+    let [steps, text] = words else {
+        return Err(TrialFault::Usage);
+    };
+    let program = verified(alloc, text.as_str())?;
+    let steps = steps_of(alloc, steps.as_str())?;
+    Ok(PlannedWorker { program, steps })
 }
 
 fn number(word: &str) -> Result<u32, TrialFault> {
@@ -72,14 +86,8 @@ fn steps_of(alloc: Global, word: &str) -> Result<Vec<u32>, TrialFault> {
 
 // A program, verified for no context and one ring.
 fn verified(alloc: Global, text: &str) -> Result<Verified, TrialFault> {
-    let Ok(program) = from_text(alloc, text) else {
-        return Err(TrialFault::Refused);
-    };
-    let Ok(shape) = shape(alloc, program) else {
-        return Err(TrialFault::Refused);
-    };
-    match verify(alloc, shape, 0, 1) {
-        Ok(verified) => Ok(verified),
+    match from_text(alloc, text) {
+        Ok(program) => loading::verified(alloc, program, 0, 1),
         Err(_) => Err(TrialFault::Refused),
     }
 }

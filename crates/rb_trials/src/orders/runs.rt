@@ -21,6 +21,12 @@ pub(crate) fn run_orders<W: Write>(
     plan: &Plan,
     out: &mut W,
 ) -> Result<(), TrialFault> {
+    let workers = setups_of(alloc, plan)?;
+    let mut order = first_order(alloc, plan)?;
+    run_from(alloc, plan, workers.as_slice(), order.as_mut_slice(), out)
+}
+
+fn setups_of(alloc: Global, plan: &Plan) -> Result<Vec<WorkerSetup<'_>>, TrialFault> {
     let mut workers = Vec::new(alloc);
     for worker in &plan.workers {
         workers.push(WorkerSetup {
@@ -28,32 +34,48 @@ pub(crate) fn run_orders<W: Write>(
             context: &[],
         })?;
     }
-    let mut order = first_order(alloc, plan)?;
+    Ok(workers)
+}
+
+// Runs this order and those that come after it.
+fn run_from<W: Write>(
+    alloc: Global,
+    plan: &Plan,
+    workers: &[WorkerSetup<'_>],
+    order: &mut [u32],
+    out: &mut W,
+) -> Result<(), TrialFault> {
     let mut steps = Vec::new(alloc);
     for _ in 0..u64::MAX {
-        let Ok(mut world) = World::new(alloc, [RING].as_slice(), workers.as_slice()) else {
-            return Err(TrialFault::Memory);
-        };
-        steps.clear();
-        run_order(plan, &mut world, order.as_slice(), &mut steps)?;
-        write_end(&world, plan.count_workers(), out)?;
-        if !advance(order.as_mut_slice()) {
+        run_one(alloc, plan, workers, order, &mut steps, out)?;
+        if !advance(order) {
             break;
         }
     }
     Ok(())
 }
 
-// Runs the steps of an order.
-fn run_order(
+// Runs an order in a world of its own, and writes the line of its end.
+fn run_one<W: Write>(
+    alloc: Global,
     plan: &Plan,
-    world: &mut World<'_>,
+    workers: &[WorkerSetup<'_>],
     order: &[u32],
-    done: &mut Vec<usize>,
+    steps: &mut Vec<usize>,
+    out: &mut W,
 ) -> Result<(), TrialFault> {
-    for _ in plan.workers.iter() {
-        done.push(0)?;
-    }
+    let Ok(mut world) = World::new(alloc, [RING].as_slice(), workers) else {
+        return Err(TrialFault::Memory);
+    };
+    steps.clear();
+    steps.resize(plan.workers.len(), 0)?;
+    run_order(plan, &mut world, order, steps.as_mut_slice());
+    write_end(&world, plan.count_workers(), out)?;
+    Ok(())
+}
+
+// Runs the steps of an order.
+fn run_order(plan: &Plan, world: &mut World<'_>, order: &[u32], done: &mut [usize]) {
     for letter in order {
         let place = *letter as usize;
         match (plan.workers.get(place), done.get_mut(place)) {
@@ -67,7 +89,6 @@ fn run_order(
         go(world, Actor::Consumer(0), plan.after);
     }
     go(world, Actor::Consumer(0), plan.last);
-    Ok(())
 }
 
 // Some turns of an actor that is there.

@@ -1,6 +1,7 @@
 //! What is run.
 
 use crate::fault::TrialFault;
+use crate::numbers::{number, small};
 
 // How many rings stand side by side at most.
 const MOST_RINGS: usize = 16;
@@ -43,13 +44,4 @@ impl Plan {
     pub(crate) fn is_bound(&self) -> bool {
         u64::from(self.workers) * u64::from(self.steps) <= BOUND_STEPS
     }
-}
-
-// A number, 0 where the word is none.
-fn number(word: &str) -> u64 {
-    word.parse::<u64>().unwrap_or(0)
-}
-
-fn small(word: &str) -> u32 {
-    word.parse::<u32>().unwrap_or(0)
 }

@@ -1,5 +1,9 @@
 //! One ring, from its opening to its end.
 
+ghost use Rattle.rb_history.specs.RingModel.{IsWorkerCount};
+ghost use Rattle.rb_chapter_ring.specs.Chapters.{IsChapterRoom};
+ghost use Rattle.rb_for_tests.specs.OwnSeats.{HasOwnSeats};
+
 use super::consumer::{BATCH, Desk};
 use super::plan::Plan;
 use super::seen::Seen;
@@ -10,7 +14,7 @@ use rb_chapter_ring::Chapter;
 use rb_consumer::{Batch, Keeper};
 use rb_for_tests::OpenRing;
 use rb_shared_ring::{Closing, ConsumerSeat, Seat};
-use std::alloc::Global;
+use std::alloc::{AllocError, Global};
 use std::sync::Wait;
 use std::thread::Threads;
 
@@ -24,43 +28,40 @@ pub(crate) fn round<R: Threads + Wait + Sync>(
     let Ok(mut open) = OpenRing::open(rt, alloc, tag, plan.size, plan.workers, plan.room) else {
         return Err(TrialFault::Ring);
     };
-    open.consumer.facts();
-    let Some(mut desk) = desk_for(
-        alloc,
-        &plan,
-        Chapter::new(alloc, plan.room, plan.workers).ok(),
-    ) else {
-        return Err(TrialFault::Memory);
-    };
+    let mut desk = desk_for(alloc, &plan)?;
     open.run(rt, &Steps { alloc, plan }, &mut desk);
-    let mut sums = sums_of(open.seats.as_slice(), &open.consumer, &desk.seen);
-    let Ok(closing) = open.close(rt) else {
+    close(rt, alloc, open, desk)
+}
+
+// What the consumer has at the beginning.
+fn desk_for(alloc: Global, plan: &Plan) -> Result<Desk, AllocError>
+    requires room { IsChapterRoom plan.now.room }
+    requires workers { IsWorkerCount plan.now.workers }
+{
+    let chapter = Chapter::new(alloc, plan.room, plan.workers)?;
+    Ok(Desk {
+        alloc,
+        batch: Batch::with_capacity(alloc, BATCH)?,
+        keeper: Keeper::with_margin(chapter, plan.room / 4),
+        seen: Seen::new(alloc, plan.workers)?,
+        is_bound: plan.is_bound(),
+        chapters: Vec::new(alloc),
+    })
+}
+
+// Closes the ring, and tells what its seats, its consumer and it itself counted.
+fn close<R: Wait>(rt: &R, alloc: Global, opened: OpenRing, desk: Desk) -> Result<Sums, TrialFault>
+    requires { HasOwnSeats opened }
+{
+    let mut sums = sums_of(opened.seats.as_slice(), &opened.consumer, &desk.seen);
+    let Ok(closing) = opened.close(rt) else {
         return Err(TrialFault::Open);
     };
     check_closing(&closing, &mut sums);
-    if plan.is_bound() {
+    if desk.is_bound {
         bind(alloc, closing, desk.chapters, &mut sums);
     }
     Ok(sums)
-}
-
-// What the consumer has at the beginning, where there is memory.
-fn desk_for(alloc: Global, plan: &Plan, chapter: Option<Chapter>) -> Option<Desk> {
-    match (
-        Batch::with_capacity(alloc, BATCH),
-        Seen::new(alloc, plan.workers),
-        chapter,
-    ) {
-        (Ok(batch), Ok(seen), Some(chapter)) => Some(Desk {
-            alloc,
-            batch,
-            keeper: Keeper::with_margin(chapter, plan.room / 4),
-            seen,
-            is_bound: plan.is_bound(),
-            chapters: Vec::new(alloc),
-        }),
-        _ => None,
-    }
 }
 
 // What the seats counted, and whether it is what the consumer saw of each worker.

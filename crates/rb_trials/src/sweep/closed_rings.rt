@@ -1,12 +1,13 @@
 //! The ring that threads shared, closed and bound.
 
-ghost use Rattle.std.specs.Prelude.{◌≡◌};
+ghost use Rattle.std.specs.Prelude.{◌≡◌, ◌∷◌, [], IfSome};
 
 use super::memory::TRIES;
 use crate::fault::TrialFault;
 use rb_chapter_ring::Chapter;
+use rb_for_tests::OpenRing;
 use rb_history::Counts;
-use rb_shared_ring::{BindFault, Closing, ConsumerSeat, Seat, SharedRing};
+use rb_shared_ring::{BindFault, Closing, NotAll, Seat};
 use std::alloc::Global;
 use std::io::Print;
 use std::sync::Wait;
@@ -14,30 +15,37 @@ use std::sync::Wait;
 /// The ring is not closed with one of its two seats, and is with both. The list has room for them.
 pub(crate) fn close<R: Wait + Print>(
     rt: &R,
-    ring: SharedRing,
-    room: Vec<Seat>,
+    opened: OpenRing,
     zero: Seat,
     one: Seat,
-    consumer: ConsumerSeat,
 ) -> Option<Closing>
-    requires zero { zero.ring ≡ ring.ring }
-    requires one { one.ring ≡ ring.ring }
-    requires consumer { consumer.ring ≡ ring.ring }
+    requires zero { zero.ring ≡ opened.ring.ring }
+    requires one { one.ring ≡ opened.ring.ring }
+    requires consumer { opened.consumer.ring ≡ opened.ring.ring }
 {
-    let mut seats = room;
-    seats.clear();
-    if seats.push(zero).is_err() {
-        return None;
-    }
-    let Err(back) = ring.close(rt, seats, consumer) else {
-        return None;
-    };
+    let back = not_closed(rt, opened, zero)?;
     let (ring, mut seats, consumer) = (back.ring, back.seats, back.consumer);
     let _ = println!(rt; "close: not all with {} seat", seats.len());
     if seats.push(one).is_err() {
         return None;
     }
     ring.close(rt, seats, consumer).ok()
+}
+
+// The ring and its seats, which is not closed with one alone.
+fn not_closed<R: Wait>(rt: &R, opened: OpenRing, zero: Seat) -> Option<NotAll>
+    requires zero { zero.ring ≡ opened.ring.ring }
+    requires consumer { opened.consumer.ring ≡ opened.ring.ring }
+    ensures ring { IfSome result (λ back. back.ring ≡ opened.ring) }
+    ensures seats { IfSome result (λ back. back.seats.items ≡ zero ∷ []) }
+    ensures consumer { IfSome result (λ back. back.consumer ≡ opened.consumer) }
+{
+    let mut seats = opened.seats;
+    seats.clear();
+    if seats.push(zero).is_err() {
+        return None;
+    }
+    opened.ring.close(rt, seats, opened.consumer).err()
 }
 
 /// Binds the chapters to one history, and prints how its records add up.

@@ -1,15 +1,19 @@
 //! Jobs on threads.
 
-ghost use Rattle.std.specs.Prelude.{◌≡◌, IfOk};
+ghost use Rattle.std.specs.Prelude.{IfOk};
 ghost use Rattle.rb_workers.specs.Opened.{AreOpened, IsOpened};
 
 use super::memory::{TRIES, tell_memory};
 use super::programs::{OUTPUT, RESERVE, verified};
 use super::standing::tell_counts;
 use crate::fault::TrialFault;
+use crate::listing::listed;
+use rb_interp::RunFault;
 use rb_shared_ring::OpenFault;
+use rb_verifier::Verified;
 use rb_workers::{Job, JobFault, NullSink, OpenGate, Opened, Report, run_jobs};
 use std::alloc::Global;
+use std::fmt::Display;
 use std::io::Print;
 use std::sync::Wait;
 use std::thread::Threads;
@@ -24,42 +28,54 @@ pub(crate) fn run<R: Threads + Wait + Sync + Print>(
 ) -> Result<(), TrialFault> {
     let reserving = verified(rt, alloc, RESERVE.as_slice())?;
     let sending = verified(rt, alloc, OUTPUT.as_slice())?;
-    let reserve = |worker| Job {
-        worker,
-        program: &reserving,
-        ctx: &[],
-    };
-    let output = |worker| Job {
-        worker,
-        program: &sending,
-        ctx: &[],
-    };
     let jobs = [
-        reserve(0),
-        output(1),
-        output(0),
-        reserve(1),
-        reserve(0),
-        output(1),
+        job(0, &reserving),
+        job(1, &sending),
+        job(0, &sending),
+        job(1, &reserving),
+        job(0, &reserving),
+        job(1, &sending),
     ];
+    run_over(rt, alloc, jobs.as_slice())
+}
+
+fn job(worker: u32, program: &Verified) -> Job<'_> {
+    Job {
+        worker,
+        program,
+        ctx: &[],
+    }
+}
+
+fn run_over<R: Threads + Wait + Sync + Print>(
+    rt: &R,
+    alloc: Global,
+    jobs: &[Job<'_>],
+) -> Result<(), TrialFault> {
     let rings = one_ring(rt, alloc)?;
     tell_all(rt, "open", rings.as_slice());
-    tell_report(rt, &report(rt, alloc, rings, jobs.as_slice())?);
+    let report = report(rt, alloc, rings, jobs)?;
+    tell_answers(rt, report.answers.as_slice());
+    tell_report(rt, &report);
     Ok(())
 }
 
-// What each job ended with, how many records found no memory that no entry tells of, and where each ring stands at its end.
-fn tell_report<R: Print>(rt: &R, report: &Report<NullSink>) {
-    for answer in &report.answers {
+// What each job ended with.
+fn tell_answers<R: Print>(rt: &R, answers: &[Result<u64, RunFault>]) {
+    for answer in answers {
         match answer {
-            Ok(value) => {
-                let _ = println!(rt; "job: {value}");
-            }
-            Err(fault) => {
-                let _ = println!(rt; "job: {fault}");
-            }
+            Ok(value) => tell_answer(rt, value),
+            Err(fault) => tell_answer(rt, fault),
         }
     }
+}
+
+fn tell_answer<R: Print, T: Display>(rt: &R, answer: &T) {
+    let _ = println!(rt; "job: {answer}");
+}
+
+// How many records found no memory that no entry tells of, and where each ring stands at its end.
+fn tell_report<R: Print>(rt: &R, report: &Report<NullSink>) {
     let (unlogged, strays) = (report.unlogged, report.strays);
     let _ = println!(rt; "unlogged {unlogged} strays {strays}");
     for ended in &report.rings {
@@ -126,21 +142,10 @@ fn one_ring<R: Wait + Print>(rt: &R, alloc: Global) -> Result<Vec<Opened<NullSin
 {
     for _ in 0..TRIES {
         let first = opened(rt, alloc)?;
-        match listed(alloc, first) {
+        match listed(alloc, 2, first) {
             Ok(rings) => return Ok(rings),
             Err(_) => tell_memory(rt, "list"),
         }
     }
     Err(TrialFault::Twice("list"))
-}
-
-// This ring alone, where there is memory for a list.
-fn listed(alloc: Global, first: Opened<NullSink>) -> Result<Vec<Opened<NullSink>>, TrialFault>
-    requires { IsOpened (λ s. s.position) 2 first }
-    ensures { IfOk result (λ rings. AreOpened (λ s. s.position) rings.items) }
-{
-    match vec![in alloc; first] {
-        Ok(rings) => Ok(rings),
-        Err(_) => Err(TrialFault::Twice("list")),
-    }
 }

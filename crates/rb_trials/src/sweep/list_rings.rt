@@ -8,6 +8,7 @@ use super::standing::{Standing, Stands, sheet_beside, tell};
 use crate::fault::TrialFault;
 use rb_for_tests::RingState;
 use rb_history::{CONS_POS, OpenFault, PROD_POS, Reservation, ReserveFault, Taken};
+use rb_lend::Sheet;
 use std::alloc::Global;
 use std::io::Print;
 
@@ -30,17 +31,34 @@ impl Stands for RingState {
 pub(crate) fn run<R: Print>(rt: &R, alloc: Global) -> Result<(), TrialFault> {
     let mut ring = opened(rt, alloc)?;
     tell(rt, "open", &ring);
-    for _ in 0..ROUNDS {
-        let record = reserve(rt, alloc, &mut ring)?;
-        tell(rt, "reserve", &ring);
-        if ring.submit(record, 0).is_err() {
-            return Err(TrialFault::Otherwise("submit"));
-        }
-        tell(rt, "submit", &ring);
-        output(rt, alloc, &mut ring)?;
-        tell(rt, "output", &ring);
-    }
+    send_all(rt, alloc, &mut ring)?;
     take_all(rt, &mut ring)
+}
+
+// Sends the records of all rounds.
+fn send_all<R: Print>(rt: &R, alloc: Global, ring: &mut RingState) -> Result<(), TrialFault>
+    requires { ring.old.setup.workers ≡ 1 }
+{
+    for _ in 0..ROUNDS {
+        submit(rt, alloc, ring)?;
+        output(rt, alloc, ring)?;
+        tell(rt, "output", ring);
+    }
+    Ok(())
+}
+
+// Reserves a record and submits it.
+fn submit<R: Print>(rt: &R, alloc: Global, ring: &mut RingState) -> Result<(), TrialFault>
+    requires { ring.old.setup.workers ≡ 1 }
+    ensures { ring.new.setup ≡ ring.old.setup }
+{
+    let record = reserve(rt, alloc, ring)?;
+    tell(rt, "reserve", ring);
+    if ring.submit(record, 0).is_err() {
+        return Err(TrialFault::Otherwise("submit"));
+    }
+    tell(rt, "submit", ring);
+    Ok(())
 }
 
 // A ring of 4,096 bytes with one worker.
@@ -66,11 +84,7 @@ fn reserve<R: Print>(rt: &R, alloc: Global, ring: &mut RingState) -> Result<Rese
     for _ in 0..TRIES {
         match ring.reserve(0, LONG, sheet) {
             Ok(record) => return Ok(record),
-            Err((ReserveFault::Memory, back)) => sheet = back,
-            Err(_) => return Err(TrialFault::Otherwise("reserve")),
-        }
-        if !is_filled(&sheet, LONG) {
-            return Err(TrialFault::Otherwise("reserve"));
+            Err((fault, back)) => sheet = handed_back("reserve", fault, back)?,
         }
         tell(rt, "reserve memory", ring);
     }
@@ -86,15 +100,21 @@ fn output<R: Print>(rt: &R, alloc: Global, ring: &mut RingState) -> Result<(), T
     for _ in 0..TRIES {
         match ring.output(0, sheet, 0) {
             Ok(_) => return Ok(()),
-            Err((ReserveFault::Memory, back)) => sheet = back,
-            Err(_) => return Err(TrialFault::Otherwise("output")),
-        }
-        if !is_filled(&sheet, LONG) {
-            return Err(TrialFault::Otherwise("output"));
+            Err((fault, back)) => sheet = handed_back("output", fault, back)?,
         }
         tell(rt, "output memory", ring);
     }
     Err(TrialFault::Twice("output"))
+}
+
+// The sheet as it was, from a call that found no memory.
+fn handed_back(call: &'static str, fault: ReserveFault, sheet: Sheet) -> Result<Sheet, TrialFault>
+    ensures { IfOk result (λ back. back ≡ sheet) }
+{
+    match fault {
+        ReserveFault::Memory if is_filled(&sheet, LONG) => Ok(sheet),
+        _ => Err(TrialFault::Otherwise(call)),
+    }
 }
 
 // Takes the records of all rounds.

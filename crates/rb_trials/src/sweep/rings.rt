@@ -30,8 +30,18 @@ impl Stands for RingState {
 /// A record is output and taken, the ring's chapter is handed out, and the record's sheet is renewed.
 pub(crate) fn run<R: Print>(rt: &R, alloc: Global) -> Result<(), TrialFault> {
     let mut ring = opened(rt, alloc)?;
-    let sheet = output_and_take(rt, alloc, &mut ring)?;
-    hand_out(rt, alloc, &mut ring)?;
+    pass_and_hand_out(rt, alloc, &mut ring)
+}
+
+fn pass_and_hand_out<R: Print>(
+    rt: &R,
+    alloc: Global,
+    ring: &mut RingState,
+) -> Result<(), TrialFault>
+    requires { ring.old.state.ring.chapter.opening.setup.workers ≡ 1 }
+{
+    let sheet = output_and_take(rt, alloc, ring)?;
+    hand_out(rt, alloc, ring)?;
     renew(rt, sheet)
 }
 

@@ -16,14 +16,12 @@ use std::sync::Wait;
 
 /// A worker outputs a record, which is taken, and its sheet is renewed.
 pub(crate) fn run<R: Wait + Print>(rt: &R, alloc: Global) -> Result<(), TrialFault> {
-    let (ring, mut seats, mut consumer) = opened(rt, alloc)?;
-    let Some(mut seat) = seats.pop() else {
+    let mut open = opened(rt, alloc)?;
+    let Some(mut seat) = open.seats.pop() else {
         return Err(TrialFault::Otherwise("seats"));
     };
-    renew(
-        rt,
-        output_and_take(rt, alloc, &ring, &mut seat, &mut consumer)?,
-    )
+    let sheet = output_and_take(rt, alloc, &open.ring, &mut seat, &mut open.consumer)?;
+    renew(rt, sheet)
 }
 
 // Outputs a long sheet, and takes it again.

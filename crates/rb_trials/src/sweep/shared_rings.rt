@@ -11,8 +11,9 @@ use super::rings::ROOM;
 use super::sheets::filled;
 use crate::fault::TrialFault;
 use rb_chapter_ring::Chapter;
+use rb_for_tests::OpenRing;
 use rb_history::Taken;
-use rb_shared_ring::{ConsumerSeat, OpenFault, Seat, SharedRing, open};
+use rb_shared_ring::{ConsumerSeat, OpenFault, Seat, SharedRing};
 use std::alloc::Global;
 use std::io::Print;
 use std::sync::Wait;
@@ -20,15 +21,40 @@ use std::sync::Wait;
 /// Each of two workers outputs a record of eight bytes, the chapter is handed out, one record is taken, and the ring is closed, with one of
 /// the two seats and then with both; then its chapters are bound.
 pub(crate) fn run<R: Wait + Print>(rt: &R, alloc: Global) -> Result<(), TrialFault> {
-    let (ring, mut seats, mut consumer) = opened(rt, alloc)?;
-    let (Some(mut one), Some(mut zero)) = (seats.pop(), seats.pop()) else {
+    let mut open = opened(rt, alloc)?;
+    let Some(one) = open.seats.pop() else {
         return Err(TrialFault::Otherwise("seats"));
     };
-    let sent = send_and_take(rt, alloc, &ring, &mut zero, &mut one, &mut consumer);
-    match (sent, close(rt, ring, seats, zero, one, consumer)) {
-        (Ok(chapters), Some(closing)) => bind(rt, alloc, closing, chapters),
-        (Err(fault), _) => Err(fault),
-        _ => Err(TrialFault::Otherwise("close")),
+    let Some(zero) = open.seats.pop() else {
+        return Err(TrialFault::Otherwise("seats"));
+    };
+    run_over(rt, alloc, open, zero, one)
+}
+
+// The calls over a ring, whose list has room for the two seats.
+fn run_over<R: Wait + Print>(
+    rt: &R,
+    alloc: Global,
+    opened: OpenRing,
+    zero: Seat,
+    one: Seat,
+) -> Result<(), TrialFault>
+    requires zero { zero.ring ≡ opened.ring.ring }
+    requires one { one.ring ≡ opened.ring.ring }
+    requires consumer { opened.consumer.ring ≡ opened.ring.ring }
+{
+    let (mut opened, mut zero, mut one) = (opened, zero, one);
+    let chapters = send_and_take(
+        rt,
+        alloc,
+        &opened.ring,
+        &mut zero,
+        &mut one,
+        &mut opened.consumer,
+    )?;
+    match close(rt, opened, zero, one) {
+        Some(closing) => bind(rt, alloc, closing, chapters),
+        None => Err(TrialFault::Otherwise("close")),
     }
 }
 
@@ -50,26 +76,36 @@ fn send_and_take<R: Wait + Print>(
     output(rt, alloc, ring, zero)?;
     output(rt, alloc, ring, one)?;
     let chapters = handed_out(rt, alloc, ring, consumer)?;
+    take(rt, ring, consumer)?;
+    Ok(chapters)
+}
+
+// Takes a record, and prints whose it was.
+fn take<R: Wait + Print>(
+    rt: &R,
+    ring: &SharedRing,
+    consumer: &mut ConsumerSeat,
+) -> Result<(), TrialFault>
+    requires { consumer.old.ring ≡ ring.now.ring }
+    ensures { IsSameChapterConsumer consumer.old consumer.new }
+{
     match ring.take(rt, consumer) {
         Ok(Taken::Event(pos, worker, _, sheet)) => {
             let _ = println!(rt; "take: {pos} of worker {worker}, {} bytes", sheet.len());
-            Ok(chapters)
+            Ok(())
         }
         _ => Err(TrialFault::Otherwise("take")),
     }
 }
 
 /// A shared ring of 4,096 bytes with two workers.
-pub(crate) fn opened<R: Wait + Print>(
-    rt: &R,
-    alloc: Global,
-) -> Result<(SharedRing, Vec<Seat>, ConsumerSeat), TrialFault>
-    ensures tag { IfOk result (λ o. o.0.tag ≡ 7) }
-    ensures seats { IfOk result (λ o. o.1.items ≡ fresh_seats 7 o.0.ring 8 (fresh_book 4096 0 2) 0 2) }
-    ensures consumer { IfOk result (λ o. o.2 ≡ fresh_chapter_consumer 7 o.0.ring 8 (fresh_book 4096 0 2)) }
+pub(crate) fn opened<R: Wait + Print>(rt: &R, alloc: Global) -> Result<OpenRing, TrialFault>
+    ensures tag { IfOk result (λ o. o.ring.tag ≡ 7) }
+    ensures seats { IfOk result (λ o. o.seats.items ≡ fresh_seats 7 o.ring.ring 8 (fresh_book 4096 0 2) 0 2) }
+    ensures consumer { IfOk result (λ o. o.consumer ≡ fresh_chapter_consumer 7 o.ring.ring 8 (fresh_book 4096 0 2)) }
 {
     for _ in 0..TRIES {
-        match open(rt, alloc, 7, 4096, 0, 2, ROOM) {
+        match OpenRing::open(rt, alloc, 7, 4096, 2, ROOM) {
             Ok(opened) => return Ok(opened),
             Err(OpenFault::Memory) => tell_memory(rt, "open"),
             Err(_) => return Err(TrialFault::Otherwise("open")),

@@ -1,12 +1,14 @@
 //! Whole jobs on threads over one ring.
 
-ghost use Rattle.std.specs.Prelude.{◌≡◌, IfOk, vec_len};
-ghost use Rattle.rb_workers.specs.Opened.{AreOpened, IsOpened};
+ghost use Rattle.std.specs.Prelude.{IfOk};
+ghost use Rattle.rb_workers.specs.Opened.{AreOpened};
 
-use crate::fault::BenchFault;
-use crate::loading::load;
-use crate::one_thread::ROOM;
-use crate::programs::reserving;
+use super::interpreting::load;
+use super::one_thread::ROOM;
+use super::programs::RESERVING;
+use crate::fault::TrialFault;
+use crate::listing::listed;
+use rb_interp::RunFault;
 use rb_verifier::Verified;
 use rb_workers::{Job, NullSink, OpenGate, Opened, run_jobs};
 use std::alloc::Global;
@@ -23,8 +25,8 @@ const MARGIN: u32 = ROOM / 2;
 static CONTEXT: [u8; 16] = [0; 16];
 
 /// The program that each job runs, verified for one ring.
-pub(crate) fn reserving_program(alloc: Global) -> Result<Verified, BenchFault> {
-    load(alloc, reserving(alloc)?.as_slice(), 1)
+pub(crate) fn reserving_program(alloc: Global) -> Result<Verified, TrialFault> {
+    load(alloc, RESERVING.as_slice(), 1)
 }
 
 /// So many jobs of each worker, worker by worker.
@@ -33,22 +35,28 @@ pub(crate) fn jobs_of<'j>(
     program: &'j Verified,
     workers: u32,
     each: u32,
-) -> Result<Vec<Job<'j>>, BenchFault> {
-    let count = (workers as usize).saturating_mul(each as usize);
-    let mut jobs = Vec::with_capacity(alloc, count)?;
-    for worker in 0..workers {
-        for _ in 0..each {
-            let job = Job {
-                worker,
-                program,
-                ctx: CONTEXT.as_slice(),
-            };
-            if jobs.push(job).is_err() {
-                return Err(BenchFault::Memory);
-            }
-        }
-    }
+) -> Result<Vec<Job<'j>>, TrialFault> {
+    let each = each as usize;
+    let mut jobs = Vec::with_capacity(alloc, (workers as usize).saturating_mul(each))?;
+    push_jobs(&mut jobs, program, workers, each)?;
     Ok(jobs)
+}
+
+fn push_jobs<'j>(
+    jobs: &mut Vec<Job<'j>>,
+    program: &'j Verified,
+    workers: u32,
+    each: usize,
+) -> Result<(), TrialFault> {
+    for worker in 0..workers {
+        let job = Job {
+            worker,
+            program,
+            ctx: CONTEXT.as_slice(),
+        };
+        jobs.resize(jobs.len().saturating_add(each), job)?;
+    }
+    Ok(())
 }
 
 /// An empty ring for so many workers, whose records nobody keeps.
@@ -56,28 +64,13 @@ pub(crate) fn opened<R: Wait>(
     rt: &R,
     alloc: Global,
     workers: u32,
-) -> Result<Vec<Opened<NullSink>>, BenchFault>
+) -> Result<Vec<Opened<NullSink>>, TrialFault>
     ensures { IfOk result (λ rings. AreOpened (λ s. s.position) rings.items) }
 {
     let sink = NullSink { position: 0 };
     match Opened::open(rt, alloc, 0, JOBS_SIZE, 0, workers, ROOM, MARGIN, sink) {
         Ok(one) => listed(alloc, workers, one),
-        Err(_) => Err(BenchFault::Memory),
-    }
-}
-
-// This ring alone, where there is memory for a list.
-fn listed(
-    alloc: Global,
-    workers: u32,
-    one: Opened<NullSink>,
-) -> Result<Vec<Opened<NullSink>>, BenchFault>
-    requires { IsOpened (λ s. s.position) workers one }
-    ensures { IfOk result (λ rings. AreOpened (λ s. s.position) rings.items) }
-{
-    match vec![in alloc; one] {
-        Ok(rings) => Ok(rings),
-        Err(_) => Err(BenchFault::Memory),
+        Err(_) => Err(TrialFault::Memory),
     }
 }
 
@@ -87,19 +80,24 @@ pub(crate) fn run_all<R: Threads + Wait + Sync>(
     alloc: Global,
     rings: Vec<Opened<NullSink>>,
     jobs: &[Job<'_>],
-) -> Result<u64, BenchFault>
+) -> Result<u64, TrialFault>
     requires { AreOpened (λ s. s.position) rings.items }
 {
     let Ok(report) = run_jobs(rt, alloc, rings, jobs, &OpenGate) else {
-        return Err(BenchFault::Memory);
+        return Err(TrialFault::Memory);
     };
+    Ok(refused_among(report.answers.as_slice()))
+}
+
+fn refused_among(answers: &[Result<u64, RunFault>]) -> u64 {
     let mut refused: u64 = 0;
-    for answer in &report.answers {
-        if *answer != Ok(0) {
-            refused = refused.wrapping_add(1);
+    for answer in answers {
+        match answer {
+            Ok(0) => {}
+            _ => refused = refused.wrapping_add(1),
         }
     }
-    Ok(refused)
+    refused
 }
 
 /// Opens a ring, runs so many jobs of each worker over it, and answers how many got no record.
@@ -109,7 +107,7 @@ pub(crate) fn run_over<R: Threads + Wait + Sync>(
     program: &Verified,
     workers: u32,
     each: u32,
-) -> Result<u64, BenchFault> {
+) -> Result<u64, TrialFault> {
     let jobs = jobs_of(alloc, program, workers, each)?;
     let rings = opened(rt, alloc, workers)?;
     run_all(rt, alloc, rings, jobs.as_slice())

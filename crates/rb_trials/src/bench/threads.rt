@@ -1,7 +1,10 @@
 //! Records through the ring that threads share.
 
-use crate::fault::BenchFault;
-use crate::one_thread::{ROOM, SIZE};
+ghost use Rattle.rb_history.specs.RingModel.{IsWorkerCount};
+ghost use Rattle.rb_for_tests.specs.OwnSeats.{HasOwnSeats};
+
+use super::one_thread::{ROOM, SIZE};
+use crate::fault::TrialFault;
 use rb_chapter_ring::Chapter;
 use rb_consumer::{Batch, Keeper};
 use rb_for_tests::{Consumer, Found, OpenRing, Outputs};
@@ -32,7 +35,7 @@ impl Consumer for Desk {
 }
 
 /// What came of a run.
-#[derive(Clone, Copy, Debug, PartialEq, Eq)]
+#[derive(Clone, Copy)]
 pub(crate) struct Shared {
     /// How many records the consumer was handed.
     pub consumed: u64,
@@ -46,11 +49,33 @@ pub(crate) fn share<R: Threads + Wait + Sync>(
     alloc: Global,
     producers: u32,
     each: u32,
-) -> Result<Shared, BenchFault> {
+) -> Result<Shared, TrialFault> {
     let Ok(mut open) = OpenRing::open(rt, alloc, 1, SIZE, producers, ROOM) else {
-        return Err(BenchFault::Memory);
+        return Err(TrialFault::Memory);
     };
-    open.consumer.facts();
+    run_threads(rt, alloc, &mut open, producers, each)?;
+    let Ok(closing) = open.close(rt) else {
+        return Err(TrialFault::Lost);
+    };
+    let counts = closing.counts();
+    Ok(Shared {
+        consumed: counts.consumed,
+        refused: counts.refused,
+    })
+}
+
+// The producers and the consumer, until all is taken.
+fn run_threads<R: Threads + Wait + Sync>(
+    rt: &R,
+    alloc: Global,
+    opened: &mut OpenRing,
+    producers: u32,
+    each: u32,
+) -> Result<(), TrialFault>
+    requires own { HasOwnSeats opened.old }
+    requires workers { IsWorkerCount producers }
+    ensures { HasOwnSeats opened.new }
+{
     let mut desk = Desk {
         batch: Batch::with_capacity(alloc, BATCH)?,
         keeper: Keeper::with_margin(Chapter::new(alloc, ROOM, producers)?, MARGIN),
@@ -60,13 +85,6 @@ pub(crate) fn share<R: Threads + Wait + Sync>(
         records: each,
         len: 8,
     };
-    open.run(rt, &outputs, &mut desk);
-    let Ok(closing) = open.close(rt) else {
-        return Err(BenchFault::Lost);
-    };
-    let counts = closing.counts();
-    Ok(Shared {
-        consumed: counts.consumed,
-        refused: counts.refused,
-    })
+    opened.run(rt, &outputs, &mut desk);
+    Ok(())
 }

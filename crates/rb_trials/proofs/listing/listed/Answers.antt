@@ -4,10 +4,10 @@ use Rattle.rb_workers.specs.declared.opened.Opened.{Opened}
 use Rattle.rb_workers.specs.declared.null_sink.NullSink.{NullSink}
 use Rattle.rb_workers.specs.Opened.{AreOpened, IsOpened}
 use Rattle.rb_workers.proofs.Fresh.{all_opened}
-use Rattle.rb_bench.proofs.jobs.listed.Goals as goal
+use Rattle.rb_trials.proofs.listing.listed.Goals as goal
 
 pub returns-in-Ok : goal.returns-in-Ok
 returns-in-Ok c =
     let Is = IsOpened (λ (s : NullSink). s.position) c.args.workers in
     subst (λ (l : List (Opened NullSink)). AreOpened (λ (s : NullSink). s.position) l) (sym c.in-Ok.ensures.items)
-    (all_opened (λ (s : NullSink). s.position) c.args.workers (c.args.one ∷ []) (All-cons Is c.args.one [] c.requires (All-nil Is)))
+    (all_opened (λ (s : NullSink). s.position) c.args.workers (c.args.ring ∷ []) (All-cons Is c.args.ring [] c.requires (All-nil Is)))

@@ -2,7 +2,7 @@
 
 ghost use Rattle.std.specs.Prelude.{◌≡◌, IfOk};
 
-use crate::fault::BenchFault;
+use crate::fault::TrialFault;
 use rb_chapter_ring::{Chapter, RingState};
 use rb_history::Taken;
 use rb_lend::{Lent, Sheet};
@@ -17,15 +17,27 @@ pub(crate) const ROOM: u32 = 65_536;
 // The byte that fills each record.
 const FILL: u8 = 42;
 
+// A ring for one worker, and the chapter in which it goes on.
+#[derive(Drop)]
+struct Course {
+    ring: RingState,
+    spare: Option<Chapter>,
+}
+
 /// Outputs and takes `records` records of `len` bytes, one after the other, and answers the sum of their first bytes. One
 /// sheet goes round, and two chapters.
-pub(crate) fn output_and_take(alloc: Global, records: u32, len: u32) -> Result<u64, BenchFault> {
-    let (mut ring, mut spare) = opened(alloc)?;
-    let mut sheet = Sheet::new(alloc, len)?;
+pub(crate) fn output_and_take(alloc: Global, records: u32, len: u32) -> Result<u64, TrialFault> {
+    let (mut course, sheet) = opened(alloc, len)?;
+    output_rounds(&mut course, sheet, records)
+}
+
+fn output_rounds(course: &mut Course, mut sheet: Sheet, records: u32) -> Result<u64, TrialFault>
+    requires { course.old.ring.state.ring.chapter.opening.setup.workers ≡ 1 }
+{
     let mut sum: u64 = 0;
     for _ in 0..records {
-        make_chapter_room(&mut ring, &mut spare)?;
-        sheet = pass(&mut ring, sheet)?;
+        make_chapter_room(&mut course.ring, &mut course.spare)?;
+        sheet = pass(&mut course.ring, sheet)?;
         sum = sum.wrapping_add(first_byte(&sheet));
     }
     Ok(sum)
@@ -33,27 +45,32 @@ pub(crate) fn output_and_take(alloc: Global, records: u32, len: u32) -> Result<u
 
 #[inline(always)]
 // One record through the ring: the sheet is filled, output and taken.
-fn pass(ring: &mut RingState, mut sheet: Sheet) -> Result<Sheet, BenchFault>
+fn pass(ring: &mut RingState, mut sheet: Sheet) -> Result<Sheet, TrialFault>
     requires { ring.old.state.ring.chapter.opening.setup.workers ≡ 1 }
     ensures { ring.new.state.ring.chapter.opening ≡ ring.old.state.ring.chapter.opening }
 {
     sheet.bytes_mut().fill(FILL);
     if ring.output(0, sheet, 0).is_err() {
-        return Err(BenchFault::Lost);
+        return Err(TrialFault::Lost);
     }
     next_sheet(ring)
 }
 
 /// Reserves, writes, submits and takes `records` records of `len` bytes, one after the other, and answers the sum of their
 /// first bytes. One sheet goes round, and two chapters.
-pub(crate) fn reserve_and_submit(alloc: Global, records: u32, len: u32) -> Result<u64, BenchFault> {
-    let (mut ring, mut spare) = opened(alloc)?;
-    let mut sheet = Sheet::new(alloc, len)?;
+pub(crate) fn reserve_and_submit(alloc: Global, records: u32, len: u32) -> Result<u64, TrialFault> {
+    let (mut course, sheet) = opened(alloc, len)?;
+    submit_rounds(&mut course, sheet, records)
+}
+
+fn submit_rounds(course: &mut Course, mut sheet: Sheet, records: u32) -> Result<u64, TrialFault>
+    requires { course.old.ring.state.ring.chapter.opening.setup.workers ≡ 1 }
+{
     let mut sum: u64 = 0;
     for _ in 0..records {
-        make_chapter_room(&mut ring, &mut spare)?;
-        hold_and_submit(&mut ring, sheet)?;
-        sheet = next_sheet(&mut ring)?;
+        make_chapter_room(&mut course.ring, &mut course.spare)?;
+        hold_and_submit(&mut course.ring, sheet)?;
+        sheet = next_sheet(&mut course.ring)?;
         sum = sum.wrapping_add(first_byte(&sheet));
     }
     Ok(sum)
@@ -61,36 +78,47 @@ pub(crate) fn reserve_and_submit(alloc: Global, records: u32, len: u32) -> Resul
 
 #[inline(always)]
 // One record of the sheet's length is reserved, written and submitted.
-fn hold_and_submit(ring: &mut RingState, sheet: Sheet) -> Result<(), BenchFault>
+fn hold_and_submit(ring: &mut RingState, sheet: Sheet) -> Result<(), TrialFault>
     requires { ring.old.state.ring.chapter.opening.setup.workers ≡ 1 }
     ensures { ring.new.state.ring.chapter.opening ≡ ring.old.state.ring.chapter.opening }
 {
     let Some(hand) = ring.free_hand(0) else {
-        return Err(BenchFault::Lost);
+        return Err(TrialFault::Lost);
     };
     let n = sheet.len();
     let Ok(mut reservation) = ring.reserve(0, hand, n, sheet) else {
-        return Err(BenchFault::Lost);
+        return Err(TrialFault::Lost);
     };
     reservation.bytes_mut().fill(FILL);
     ring.submit(reservation, 0);
     Ok(())
 }
 
-/// An empty ring for one worker, and the chapter in which it goes on.
-fn opened(alloc: Global) -> Result<(RingState, Option<Chapter>), BenchFault>
-    ensures { IfOk result (λ o. o.0.state.ring.chapter.opening.setup.workers ≡ 1) }
+// An empty ring for one worker with an empty chapter, and a sheet of `len` bytes.
+fn opened(alloc: Global, len: u32) -> Result<(Course, Sheet), TrialFault>
+    ensures { IfOk result (λ o. o.0.ring.state.ring.chapter.opening.setup.workers ≡ 1) }
+{
+    let course = empty_course(alloc)?;
+    let sheet = Sheet::new(alloc, len)?;
+    Ok((course, sheet))
+}
+
+fn empty_course(alloc: Global) -> Result<Course, TrialFault>
+    ensures { IfOk result (λ course. course.ring.state.ring.chapter.opening.setup.workers ≡ 1) }
 {
     let Ok(ring) = RingState::new(alloc, 0, SIZE, 0, 1, ROOM) else {
-        return Err(BenchFault::Memory);
+        return Err(TrialFault::Memory);
     };
     let spare = Chapter::new(alloc, ROOM, 1)?;
-    Ok((ring, Some(spare)))
+    Ok(Course {
+        ring,
+        spare: Some(spare),
+    })
 }
 
 #[inline(always)]
 // Has the ring go on in the spare chapter, where its own has no room for one more record.
-fn make_chapter_room(ring: &mut RingState, spare: &mut Option<Chapter>) -> Result<(), BenchFault>
+fn make_chapter_room(ring: &mut RingState, spare: &mut Option<Chapter>) -> Result<(), TrialFault>
     ensures { ring.new.state.ring.chapter.opening.setup ≡ ring.old.state.ring.chapter.opening.setup }
 {
     if ring.chapter().may_grant() {
@@ -102,14 +130,14 @@ fn make_chapter_room(ring: &mut RingState, spare: &mut Option<Chapter>) -> Resul
 #[cold]
 #[inline(never)]
 // Hands the ring's chapter out for the spare one. The old one is emptied, and is the next spare one.
-fn turn_chapter(ring: &mut RingState, spare: &mut Option<Chapter>) -> Result<(), BenchFault>
+fn turn_chapter(ring: &mut RingState, spare: &mut Option<Chapter>) -> Result<(), TrialFault>
     ensures { ring.new.state.ring.chapter.opening.setup ≡ ring.old.state.ring.chapter.opening.setup }
 {
     let Some(empty) = spare.take() else {
-        return Err(BenchFault::Lost);
+        return Err(TrialFault::Lost);
     };
     let Ok(mut full) = ring.hand_out(empty) else {
-        return Err(BenchFault::Lost);
+        return Err(TrialFault::Lost);
     };
     full.clear();
     *spare = Some(full);
@@ -118,12 +146,12 @@ fn turn_chapter(ring: &mut RingState, spare: &mut Option<Chapter>) -> Result<(),
 
 #[inline(always)]
 // The bytes of the record that is taken next.
-fn next_sheet(ring: &mut RingState) -> Result<Sheet, BenchFault>
+fn next_sheet(ring: &mut RingState) -> Result<Sheet, TrialFault>
     ensures { ring.new.state.ring.chapter.opening ≡ ring.old.state.ring.chapter.opening }
 {
     match ring.take() {
         Taken::Event(_, _, _, sheet) => Ok(sheet),
-        _ => Err(BenchFault::Lost),
+        _ => Err(TrialFault::Lost),
     }
 }
 

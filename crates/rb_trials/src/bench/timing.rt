@@ -2,14 +2,13 @@
 
 ghost use Rattle.rb_workers.specs.Opened.{AreOpened};
 
-use crate::fault::BenchFault;
-use crate::interpreting::run_rounds;
-use crate::jobs::{jobs_of, opened, reserving_program, run_all};
-use crate::loading::{load, load_often};
-use crate::one_thread::{output_and_take, reserve_and_submit};
-use crate::programs::{arithmetic, memory, spilling};
-use crate::threads::share;
-use crate::workload::Workload;
+use super::interpreting::{load_often, loaded, run_rounds};
+use super::jobs::{jobs_of, opened, reserving_program, run_all};
+use super::one_thread::{output_and_take, reserve_and_submit};
+use super::programs::{Body, program_of};
+use super::threads::share;
+use super::workload::Workload;
+use crate::fault::TrialFault;
 use rb_verifier::Verified;
 use rb_workers::{Job, NullSink, Opened};
 use std::alloc::Global;
@@ -27,7 +26,7 @@ const LOADS: u32 = 20;
 const RUNS: u32 = 250;
 
 /// What a round came to.
-#[derive(Drop)]
+#[derive(Clone, Copy)]
 struct Round {
     nanos: u64,
     refused: u64,
@@ -38,7 +37,7 @@ pub(crate) fn run<R: Threads + Wait + Sync + Print + Clock>(
     rt: &R,
     alloc: Global,
     workload: Workload,
-) -> Result<(), BenchFault> {
+) -> Result<(), TrialFault> {
     let _warm = one_round(rt, alloc, workload)?;
     for _ in 0..ROUNDS {
         let Round { nanos, refused } = one_round(rt, alloc, workload)?;
@@ -52,41 +51,61 @@ fn one_round<R: Threads + Wait + Sync + Clock>(
     rt: &R,
     alloc: Global,
     workload: Workload,
-) -> Result<Round, BenchFault> {
+) -> Result<Round, TrialFault> {
     match workload {
-        Workload::OutputTake { len, records } => {
-            let start = Instant::now(rt)?;
-            let _sum = output_and_take(alloc, records, len)?;
-            ended(rt, start, 0)
-        }
-        Workload::ReserveSubmitTake { len, records } => {
-            let start = Instant::now(rt)?;
-            let _sum = reserve_and_submit(alloc, records, len)?;
-            ended(rt, start, 0)
-        }
-        Workload::Shared { producers, each } => {
-            let start = Instant::now(rt)?;
-            let shared = share(rt, alloc, producers, each)?;
-            ended(rt, start, shared.refused)
-        }
-        Workload::Load { units } => loads(rt, alloc, arithmetic(alloc, units)?.as_slice()),
-        Workload::Spill => loads(rt, alloc, spilling(alloc, 4095)?.as_slice()),
-        Workload::Arithmetic => runs(rt, alloc, arithmetic(alloc, 4000)?.as_slice()),
-        Workload::Memory => runs(rt, alloc, memory(alloc, 4000)?.as_slice()),
+        Workload::OutputTake { len, records } => outputs(rt, alloc, records, len),
+        Workload::ReserveSubmitTake { len, records } => submits(rt, alloc, records, len),
+        Workload::Shared { producers, each } => shares(rt, alloc, producers, each),
+        Workload::Load { units } => loads(rt, alloc, Body::Arithmetic, units),
+        Workload::Spill => loads(rt, alloc, Body::Spilling, 4095),
+        Workload::Arithmetic => runs(rt, alloc, Body::Arithmetic),
+        Workload::Memory => runs(rt, alloc, Body::Memory),
         Workload::Jobs { workers, each } => jobs(rt, alloc, workers, each),
     }
 }
 
-fn loads<R: Clock>(rt: &R, alloc: Global, bytes: &[u8]) -> Result<Round, BenchFault> {
+fn outputs<R: Clock>(rt: &R, alloc: Global, records: u32, len: u32) -> Result<Round, TrialFault> {
+    let start = Instant::now(rt)?;
+    let _sum = output_and_take(alloc, records, len)?;
+    ended(rt, start, 0)
+}
+
+fn submits<R: Clock>(rt: &R, alloc: Global, records: u32, len: u32) -> Result<Round, TrialFault> {
+    let start = Instant::now(rt)?;
+    let _sum = reserve_and_submit(alloc, records, len)?;
+    ended(rt, start, 0)
+}
+
+fn shares<R: Threads + Wait + Sync + Clock>(
+    rt: &R,
+    alloc: Global,
+    producers: u32,
+    each: u32,
+) -> Result<Round, TrialFault> {
+    let start = Instant::now(rt)?;
+    let shared = share(rt, alloc, producers, each)?;
+    ended(rt, start, shared.refused)
+}
+
+fn loads<R: Clock>(rt: &R, alloc: Global, body: Body, units: u32) -> Result<Round, TrialFault> {
+    let bytes = program_of(alloc, body, units)?;
+    timed_loads(rt, alloc, bytes.as_slice())
+}
+
+fn timed_loads<R: Clock>(rt: &R, alloc: Global, bytes: &[u8]) -> Result<Round, TrialFault> {
     let start = Instant::now(rt)?;
     let _units = load_often(alloc, bytes, LOADS)?;
     ended(rt, start, 0)
 }
 
-fn runs<R: Clock>(rt: &R, alloc: Global, bytes: &[u8]) -> Result<Round, BenchFault> {
-    let program = load(alloc, bytes, 0)?;
+fn runs<R: Clock>(rt: &R, alloc: Global, body: Body) -> Result<Round, TrialFault> {
+    let program = loaded(alloc, body, 4000)?;
+    timed_runs(rt, alloc, &program)
+}
+
+fn timed_runs<R: Clock>(rt: &R, alloc: Global, program: &Verified) -> Result<Round, TrialFault> {
     let start = Instant::now(rt)?;
-    let _sum = run_rounds(alloc, &program, RUNS)?;
+    let _sum = run_rounds(alloc, program, RUNS)?;
     ended(rt, start, 0)
 }
 
@@ -95,7 +114,7 @@ fn jobs<R: Threads + Wait + Sync + Clock>(
     alloc: Global,
     workers: u32,
     each: u32,
-) -> Result<Round, BenchFault> {
+) -> Result<Round, TrialFault> {
     let program = reserving_program(alloc)?;
     jobs_over(rt, alloc, &program, workers, each)
 }
@@ -106,7 +125,7 @@ fn jobs_over<R: Threads + Wait + Sync + Clock>(
     program: &Verified,
     workers: u32,
     each: u32,
-) -> Result<Round, BenchFault> {
+) -> Result<Round, TrialFault> {
     let jobs = jobs_of(alloc, program, workers, each)?;
     let rings = opened(rt, alloc, workers)?;
     timed_jobs(rt, alloc, rings, jobs.as_slice())
@@ -118,7 +137,7 @@ fn timed_jobs<R: Threads + Wait + Sync + Clock>(
     alloc: Global,
     rings: Vec<Opened<NullSink>>,
     jobs: &[Job<'_>],
-) -> Result<Round, BenchFault>
+) -> Result<Round, TrialFault>
     requires { AreOpened (λ s. s.position) rings.items }
 {
     let start = Instant::now(rt)?;
@@ -127,7 +146,7 @@ fn timed_jobs<R: Threads + Wait + Sync + Clock>(
 }
 
 // A round that began then and ends now.
-fn ended<R: Clock>(rt: &R, start: Instant, refused: u64) -> Result<Round, BenchFault> {
+fn ended<R: Clock>(rt: &R, start: Instant, refused: u64) -> Result<Round, TrialFault> {
     let elapsed = start.elapsed(rt)?;
     let nanos = u64::try_from(elapsed.as_nanos()).unwrap_or(u64::MAX);
     Ok(Round { nanos, refused })

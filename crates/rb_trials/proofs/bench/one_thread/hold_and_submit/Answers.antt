@@ -1,5 +1,5 @@
 use Rattle.rb_chapter_ring.proofs.Written.{written-in-hand}
-use Rattle.rb_bench.proofs.one_thread.hold_and_submit.Goals as goal
+use Rattle.rb_trials.proofs.bench.one_thread.hold_and_submit.Goals as goal
 
 -- what was granted is out in the hand that it was granted into, and stays so when it is written
 pub submit-requires : goal.submit-requires

@@ -1,0 +1,40 @@
+//! A benchmark of the rings, of verification, of the interpreter and of whole jobs. `tools/bench` runs it.
+//!
+//! Without a word it makes one small run of each workload and prints what came of it, the same each time; with the word `time`, a workload's
+//! name and its numbers it runs that workload, and prints for each of three rounds its nanoseconds and how many records or jobs were refused;
+//! and with the word `payloads` it writes the input that `rbhost feed` is measured with.
+
+mod interpreting;
+mod jobs;
+mod one_thread;
+mod payloads;
+mod programs;
+mod stored;
+mod threads;
+mod timing;
+mod workload;
+
+use crate::fault::TrialFault;
+use std::alloc::Global;
+use std::io::{Print, Write};
+use std::sync::Wait;
+use std::thread::Threads;
+use std::time::Clock;
+use workload::Workload;
+
+/// Makes the runs that the words name.
+pub(crate) fn run<R: Threads + Wait + Sync + Print + Clock, W: Write>(
+    rt: &R,
+    alloc: Global,
+    words: &[String],
+    out: &mut W,
+) -> Result<(), TrialFault> {
+    let [word, numbers @ ..] = words else {
+        return stored::run(rt, alloc);
+    };
+    match word.as_str() {
+        "time" => timing::run(rt, alloc, Workload::read(numbers)?),
+        "payloads" => payloads::write(alloc, out),
+        _ => Err(TrialFault::Usage),
+    }
+}

@@ -1,0 +1,52 @@
+//! The stored run: a small run of each workload, whose output is the same each time.
+
+use super::interpreting::{loaded, run_rounds};
+use super::jobs::{reserving_program, run_over};
+use super::one_thread::{output_and_take, reserve_and_submit};
+use super::programs::Body;
+use super::threads::share;
+use crate::fault::TrialFault;
+use std::alloc::Global;
+use std::io::Print;
+use std::sync::Wait;
+use std::thread::Threads;
+
+/// Runs each workload once, small, and prints what came of it.
+pub(crate) fn run<R: Threads + Wait + Sync + Print>(
+    rt: &R,
+    alloc: Global,
+) -> Result<(), TrialFault> {
+    let told = [
+        (
+            "output and take, sum of first bytes",
+            output_and_take(alloc, 1000, 8)?,
+        ),
+        (
+            "reserve and submit, sum of first bytes",
+            reserve_and_submit(alloc, 1000, 256)?,
+        ),
+        (
+            "records through a shared ring",
+            share(rt, alloc, 2, 500)?.consumed,
+        ),
+        ("arithmetic ends with", end_of(alloc, Body::Arithmetic)?),
+        ("loads and stores end with", end_of(alloc, Body::Memory)?),
+        ("jobs refused", jobs_refused(rt, alloc)?),
+    ];
+    for (what, value) in told {
+        println!(rt; "{what}: {value}")?;
+    }
+    Ok(())
+}
+
+// What a program of 1,000 units ends with.
+fn end_of(alloc: Global, body: Body) -> Result<u64, TrialFault> {
+    let program = loaded(alloc, body, 1000)?;
+    run_rounds(alloc, &program, 1)
+}
+
+// How many of 1,000 jobs got no record.
+fn jobs_refused<R: Threads + Wait + Sync>(rt: &R, alloc: Global) -> Result<u64, TrialFault> {
+    let program = reserving_program(alloc)?;
+    run_over(rt, alloc, &program, 2, 500)
+}

@@ -1,0 +1,81 @@
+//! What is measured, and the words that name it.
+
+use crate::fault::TrialFault;
+use crate::numbers::small;
+
+/// A workload with its numbers.
+#[derive(Clone, Copy)]
+pub(crate) enum Workload {
+    /// Records of some bytes are output and taken in one thread.
+    OutputTake { len: u32, records: u32 },
+    /// Records of some bytes are reserved, written, submitted and taken in one thread.
+    ReserveSubmitTake { len: u32, records: u32 },
+    /// Some threads output so many records of eight bytes each, while another takes them all.
+    Shared { producers: u32, each: u32 },
+    /// A program of some arithmetic units is decoded, shaped and verified.
+    Load { units: u32 },
+    /// A program of 4,096 units that keep a pointer at each place of the stack in turn is decoded, shaped and verified.
+    Spill,
+    /// A program of 4,000 arithmetic units runs.
+    Arithmetic,
+    /// A program of 4,000 loads and stores runs.
+    Memory,
+    /// Some workers run so many jobs each, each of which reserves a record of eight bytes, writes and submits it.
+    Jobs { workers: u32, each: u32 },
+}
+
+impl Workload {
+    /// The workload of a name and its numbers, 0 where one is left out or none; those that it does not take are not looked at.
+    pub(crate) fn read(words: &[String]) -> Result<Workload, TrialFault> {
+        let [name, numbers @ ..] = words else {
+            return Err(TrialFault::Usage);
+        };
+        let (first, second) = (number(numbers.first()), number(numbers.get(1)));
+        match workload_of_records(name.as_str(), first, second) {
+            Some(workload) => Ok(workload),
+            None => workload_of_programs(name.as_str(), first),
+        }
+    }
+}
+
+// The workloads that take two numbers.
+fn workload_of_records(name: &str, first: u32, second: u32) -> Option<Workload> {
+    match name {
+        "output_take" => Some(Workload::OutputTake {
+            len: first,
+            records: second,
+        }),
+        "reserve_submit_take" => Some(Workload::ReserveSubmitTake {
+            len: first,
+            records: second,
+        }),
+        "shared" => Some(Workload::Shared {
+            producers: first,
+            each: second,
+        }),
+        "jobs" => Some(Workload::Jobs {
+            workers: first,
+            each: second,
+        }),
+        _ => None,
+    }
+}
+
+// The workloads of one program, which take one number or none.
+fn workload_of_programs(name: &str, units: u32) -> Result<Workload, TrialFault> {
+    match name {
+        "load" => Ok(Workload::Load { units }),
+        "spill" => Ok(Workload::Spill),
+        "arithmetic" => Ok(Workload::Arithmetic),
+        "memory" => Ok(Workload::Memory),
+        _ => Err(TrialFault::Usage),
+    }
+}
+
+// The number that a word spells; 0 where there is none.
+fn number(word: Option<&String>) -> u32 {
+    match word {
+        Some(word) => small(word.as_str()),
+        None => 0,
+    }
+}
