@@ -2,7 +2,9 @@
 
 use crate::text::Text;
 use rb_chapter_ring::{Chapter, OpenFault, ReserveFault};
-use rb_history::{Counts, Entry, Notice, Reservation, Stray, Taken, Tally};
+use rb_history::{
+    Counts, Entry, Notice, OpenFault as SetupFault, Reservation, Stray, Taken, Tally,
+};
 use rb_ledger::BindFault;
 use rb_lend::{Lent, Sheet};
 
@@ -10,22 +12,25 @@ use rb_lend::{Lent, Sheet};
 pub(crate) fn tell_granted(out: &mut Text, record: &Reservation) {
     out.word("granted");
     tell_record(out, record);
-    out.word("bytes");
-    out.bytes(record.bytes());
+    out.contents(record.bytes());
 }
 
-/// A reservation that was handed back.
-pub(crate) fn tell_stray(out: &mut Text, record: &Reservation) {
-    out.word("stray");
-    tell_record(out, record);
+fn tell_record(out: &mut Text, record: &Reservation) {
+    tell_numbers(
+        out,
+        record.pos(),
+        record.worker(),
+        record.serial(),
+        record.len(),
+    );
 }
 
-/// The four numbers of a reservation.
-pub(crate) fn tell_record(out: &mut Text, record: &Reservation) {
-    out.field("pos", record.pos());
-    out.field("worker", u64::from(record.worker()));
-    out.field("serial", record.serial());
-    out.field("len", u64::from(record.len()));
+/// The four numbers of a record.
+pub(crate) fn tell_numbers(out: &mut Text, pos: u64, worker: u32, serial: u64, len: u32) {
+    out.field("pos", pos);
+    out.field("worker", u64::from(worker));
+    out.field("serial", serial);
+    out.field("len", u64::from(len));
 }
 
 /// Why no record was granted, and the sheet that was handed back.
@@ -40,10 +45,7 @@ pub(crate) fn tell_refusal(out: &mut Text, fault: &str, back: &Sheet) {
 pub(crate) fn tell_notice(out: &mut Text, notice: Notice) {
     match notice {
         Notice::Due => out.word("due"),
-        Notice::NotDue => {
-            out.word("not");
-            out.word("due");
-        }
+        Notice::NotDue => out.word("not due"),
     }
 }
 
@@ -52,21 +54,20 @@ pub(crate) fn tell_taken(out: &mut Text, taken: &Taken) {
     match taken {
         Taken::Event(pos, worker, serial, sheet) => {
             out.word("event");
-            out.field("pos", *pos);
-            out.field("worker", u64::from(*worker));
-            out.field("serial", *serial);
-            out.field("len", u64::from(sheet.len()));
-            out.word("bytes");
-            out.bytes(sheet.bytes());
+            tell_numbers(out, *pos, *worker, *serial, sheet.len());
+            out.contents(sheet.bytes());
         }
-        Taken::Skipped(pos, len) => {
-            out.word("skipped");
-            out.field("pos", *pos);
-            out.field("len", u64::from(*len));
-        }
+        Taken::Skipped(pos, len) => tell_skipped(out, *pos, *len),
         Taken::BusyFront => out.word("busy"),
         Taken::Empty => out.word("empty"),
     }
+}
+
+/// A record that was given up.
+pub(crate) fn tell_skipped(out: &mut Text, pos: u64, len: u32) {
+    out.word("skipped");
+    out.field("pos", pos);
+    out.field("len", u64::from(len));
 }
 
 /// How many records were taken, and each of them.
@@ -107,12 +108,7 @@ pub(crate) fn tell_entries(out: &mut Text, entries: &[Entry]) {
 
 fn tell_entry(out: &mut Text, entry: Entry) {
     match entry {
-        Entry::Res(worker, serial, len, pos) => {
-            out.field("res", u64::from(worker));
-            out.number(serial);
-            out.number(u64::from(len));
-            out.number(pos);
-        }
+        Entry::Res(worker, serial, len, pos) => tell_reserve(out, worker, serial, len, pos),
         Entry::Full(worker, len) => {
             out.field("full", u64::from(worker));
             out.number(u64::from(len));
@@ -123,6 +119,13 @@ fn tell_entry(out: &mut Text, entry: Entry) {
     }
 }
 
+fn tell_reserve(out: &mut Text, worker: u32, serial: u64, len: u32, pos: u64) {
+    out.field("res", u64::from(worker));
+    out.number(serial);
+    out.number(u64::from(len));
+    out.number(pos);
+}
+
 /// What a submit or a discard answered; the reservation that was handed back, where it was stray.
 pub(crate) fn tell_end(answer: Result<Notice, Stray>, out: &mut Text) -> Option<Reservation> {
     match answer {
@@ -131,7 +134,8 @@ pub(crate) fn tell_end(answer: Result<Notice, Stray>, out: &mut Text) -> Option<
             None
         }
         Err(Stray { reservation }) => {
-            tell_stray(out, &reservation);
+            out.word("stray");
+            tell_record(out, &reservation);
             Some(reservation)
         }
     }
@@ -141,6 +145,16 @@ pub(crate) fn tell_end(answer: Result<Notice, Stray>, out: &mut Text) -> Option<
 pub(crate) fn tell_handed_out(out: &mut Text, chapter: &Chapter) {
     out.field("chapter", chapter.number());
     out.field("used", u64::from(chapter.used()));
+}
+
+/// Why a ring of these numbers is not opened.
+pub(crate) fn setup_word(fault: SetupFault) -> &'static str {
+    match fault {
+        SetupFault::Size => "refused size",
+        SetupFault::Start => "refused start",
+        SetupFault::Workers => "refused workers",
+        SetupFault::Memory => "refused memory",
+    }
 }
 
 /// Why a ring over chapters is not opened.

@@ -1,40 +1,47 @@
 //! Rows on chapters, which a ring keeps or a script has by name.
 
-use crate::answers::{tell_entries, tell_handed_out, tell_tally};
+use crate::answers::{tell_entries, tell_handed_out, tell_numbers, tell_tally};
 use crate::row::Row;
 use crate::script::{Script, WRONG_WORDS, keep, narrow};
 use crate::text::Text;
 use rb_chapter_ring::{Chapter, Opening, UntakenRecord, UntakenStatus};
 use rb_consumer::Keeper;
 
+/// The verbs of rows on chapters.
+pub(crate) const VERBS: [&str; 10] = [
+    "chapter", "keeper", "kept", "clear", "after", "meets", "show", "opening", "closing", "entries",
+];
+
 /// What a row on chapters answers.
 pub(crate) fn answer(script: &mut Script, row: &Row<'_>, out: &mut Text) {
-    match (row.verb, row.names.as_slice(), row.numbers.as_slice()) {
-        ("chapter", [name], [room, workers]) => {
-            make(script, name, narrow(*room), narrow(*workers), out)
-        }
-        ("keeper", [name, chapter], [margin]) => {
-            make_keeper(script, name, chapter, narrow(*margin), out)
-        }
-        ("kept", [name, chapter], []) => end_keeper(script, name, chapter, out),
-        ("clear", [name], []) => match script.chapters.get_mut(*name) {
-            Some(chapter) => {
-                chapter.clear();
-                out.word("cleared");
-            }
-            None => out.word("fault: no such chapter"),
-        },
-        ("after", [name, earlier], []) => open_after(script, name, earlier, out),
-        ("meets", [name, next], []) => {
-            match (script.chapters.get(*name), script.chapters.get(*next)) {
-                (Some(chapter), Some(next)) => out.word(yes_or_no(chapter.meets(next))),
-                _ => out.word("fault: no such chapter"),
-            }
-        }
-        ("show" | "opening" | "closing" | "entries", [name], []) => {
-            show(script, row.verb, name, out)
-        }
+    let (first, second) = (row.name(0), row.name(1));
+    match row.form() {
+        "chapter x 0 0" => make(script, row, out),
+        "keeper x x 0" => make_keeper(script, row, out),
+        "kept x x" => end_keeper(script, first, second, out),
+        "clear x" => clear(script, first, out),
+        "after x x" => open_after(script, first, second, out),
+        "meets x x" => compare(script, first, second, out),
+        "show x" | "opening x" | "closing x" | "entries x" => show(script, row.verb, first, out),
         _ => out.word(WRONG_WORDS),
+    }
+}
+
+fn clear(script: &mut Script, name: &str, out: &mut Text) {
+    match script.chapters.get_mut(name) {
+        Some(chapter) => {
+            chapter.clear();
+            out.word("cleared");
+        }
+        None => out.word("fault: no such chapter"),
+    }
+}
+
+// Whether a chapter meets the next one.
+fn compare(script: &Script, name: &str, next: &str, out: &mut Text) {
+    match (script.chapters.get(name), script.chapters.get(next)) {
+        (Some(chapter), Some(next)) => out.word(yes_or_no(chapter.meets(next))),
+        _ => out.word("fault: no such chapter"),
     }
 }
 
@@ -43,26 +50,33 @@ fn yes_or_no(answer: bool) -> &'static str {
 }
 
 // Makes an empty chapter.
-fn make(script: &mut Script, name: &str, room: u32, workers: u32, out: &mut Text) {
+fn make(script: &mut Script, row: &Row<'_>, out: &mut Text) {
+    let (room, workers) = (narrow(row.number(0)), narrow(row.number(1)));
     if room < 8 || room > 1_048_576 || workers == 0 || workers > 256 {
         return out.word("fault: out of bounds");
     }
     match Chapter::new(script.alloc, room, workers) {
         Ok(chapter) => {
             out.word("made");
-            keep(script.alloc, &mut script.chapters, name, chapter, out);
+            keep(
+                script.alloc,
+                &mut script.chapters,
+                row.name(0),
+                chapter,
+                out,
+            );
         }
         Err(_) => out.word("fault: no memory"),
     }
 }
 
 // Makes a keeper of a chapter, which has no name then.
-fn make_keeper(script: &mut Script, name: &str, chapter: &str, margin: u32, out: &mut Text) {
-    match script.chapters.remove(chapter) {
+fn make_keeper(script: &mut Script, row: &Row<'_>, out: &mut Text) {
+    match script.chapters.remove(row.name(1)) {
         Some(chapter) => {
             out.word("made");
-            let keeper = Keeper::with_margin(chapter, margin);
-            keep(script.alloc, &mut script.keepers, name, keeper, out);
+            let keeper = Keeper::with_margin(chapter, narrow(row.number(0)));
+            keep(script.alloc, &mut script.keepers, row.name(0), keeper, out);
         }
         None => out.word("fault: no such chapter"),
     }
@@ -86,21 +100,23 @@ fn open_after(script: &mut Script, name: &str, earlier: &str, out: &mut Text) {
         return out.word("fault: no such chapter");
     };
     match script.chapters.get(earlier) {
-        Some(earlier) => {
-            if chapter.entries().is_empty()
-                && chapter.room() == earlier.room()
-                && chapter.opening().workers() == earlier.opening().workers()
-                && earlier.number() < 1 << 62
-            {
-                chapter.open_after(earlier);
-                out.field("chapter", chapter.number());
-            } else {
-                out.word("fault: unfit");
-            }
-        }
+        Some(earlier) => open_behind(&mut chapter, earlier, out),
         None => out.word("fault: no such chapter"),
     }
     keep(script.alloc, &mut script.chapters, name, chapter, out);
+}
+
+fn open_behind(chapter: &mut Chapter, earlier: &Chapter, out: &mut Text) {
+    if chapter.entries().is_empty()
+        && chapter.room() == earlier.room()
+        && chapter.opening().workers() == earlier.opening().workers()
+        && earlier.number() < 1 << 62
+    {
+        chapter.open_after(earlier);
+        out.field("chapter", chapter.number());
+    } else {
+        out.word("fault: unfit");
+    }
 }
 
 // Tells of the chapter that a ring keeps, or of that which has the name.
@@ -116,7 +132,7 @@ fn show(script: &Script, verb: &str, name: &str, out: &mut Text) {
 
 fn tell(verb: &str, chapter: &Chapter, out: &mut Text) {
     match verb {
-        "show" => tell_numbers(chapter, out),
+        "show" => tell_state(chapter, out),
         "opening" => tell_opening(chapter.opening(), out),
         "closing" => tell_opening(chapter.closing(), out),
         "entries" => tell_entries(out, chapter.entries()),
@@ -124,7 +140,7 @@ fn tell(verb: &str, chapter: &Chapter, out: &mut Text) {
     }
 }
 
-fn tell_numbers(chapter: &Chapter, out: &mut Text) {
+fn tell_state(chapter: &Chapter, out: &mut Text) {
     out.field("number", chapter.number());
     out.field("room", u64::from(chapter.room()));
     out.field("used", u64::from(chapter.used()));
@@ -157,8 +173,5 @@ fn tell_untaken(record: &UntakenRecord, out: &mut Text) {
         UntakenStatus::Discarded => "discarded",
     };
     out.word(status);
-    out.field("pos", record.pos);
-    out.field("worker", u64::from(record.worker));
-    out.field("serial", record.serial);
-    out.field("len", u64::from(record.len));
+    tell_numbers(out, record.pos, record.worker, record.serial, record.len);
 }

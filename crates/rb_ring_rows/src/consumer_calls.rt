@@ -3,22 +3,27 @@
 ghost use Rattle.std.specs.Prelude.{◌≡◌};
 ghost use Rattle.rb_shared_ring.specs.SharedSeats.{IsSameChapterConsumer};
 
-use crate::answers::{tell_all_taken, tell_handed_out, tell_taken};
+use crate::answers::{tell_all_taken, tell_handed_out, tell_skipped, tell_taken};
 use crate::text::Text;
 use rb_chapter_ring::Chapter;
 use rb_consumer::{Batch, Keeper};
+use rb_history::Taken;
 use rb_shared_ring::{ConsumerSeat, Foreign, HandFault, SharedRing};
 use rb_tape::Item;
 use std::alloc::Global;
 use std::sync::Wait;
 
 /// A call of the consumer.
-#[derive(Clone, Copy)]
-pub(crate) enum ConsumerCall {
+#[derive(Drop)]
+pub(crate) enum ConsumerCall<'a> {
     Take,
     TakeMany(usize),
     Fill(usize),
     Used,
+    /// Has the ring go on in an empty chapter, in whose place that is put which was handed out.
+    HandOut(&'a mut Option<Chapter>),
+    /// Has a keeper look at the ring's chapter.
+    Turn(&'a mut Keeper),
 }
 
 /// A call at a ring, by a consumer's seat.
@@ -27,26 +32,40 @@ pub(crate) fn consume<R: Wait>(
     alloc: Global,
     ring: &SharedRing,
     seat: &mut ConsumerSeat,
-    call: ConsumerCall,
+    call: ConsumerCall<'_>,
     out: &mut Text,
 )
     requires ring { seat.old.tag ≡ ring.now.tag → seat.old.ring ≡ ring.now.ring }
     ensures seat { IsSameChapterConsumer seat.old seat.new }
 {
     match call {
-        ConsumerCall::Take => match ring.take(rt, seat) {
-            Ok(taken) => tell_taken(out, &taken),
-            Err(Foreign) => out.word("foreign"),
-        },
+        ConsumerCall::Take => tell_take(ring.take(rt, seat), out),
         ConsumerCall::TakeMany(n) => take_many(rt, alloc, ring, seat, n, out),
         ConsumerCall::Fill(n) => fill(rt, alloc, ring, seat, n, out),
-        ConsumerCall::Used => match ring.used(rt, seat) {
-            Ok((used, owed)) => {
-                out.field("used", u64::from(used));
-                out.field("owed", u64::from(owed));
+        ConsumerCall::Used => tell_used(ring.used(rt, seat), out),
+        ConsumerCall::HandOut(chapter) => {
+            if let Some(empty) = chapter.take() {
+                *chapter = Some(hand_out(rt, ring, seat, empty, out));
             }
-            Err(Foreign) => out.word("foreign"),
-        },
+        }
+        ConsumerCall::Turn(keeper) => turn(rt, ring, seat, keeper, out),
+    }
+}
+
+fn tell_take(answer: Result<Taken, Foreign>, out: &mut Text) {
+    match answer {
+        Ok(taken) => tell_taken(out, &taken),
+        Err(Foreign) => out.word("foreign"),
+    }
+}
+
+fn tell_used(answer: Result<(u32, u32), Foreign>, out: &mut Text) {
+    match answer {
+        Ok((used, owed)) => {
+            out.field("used", u64::from(used));
+            out.field("owed", u64::from(owed));
+        }
+        Err(Foreign) => out.word("foreign"),
     }
 }
 
@@ -70,8 +89,8 @@ fn take_many<R: Wait>(
     }
 }
 
-/// Has a ring go on in an empty chapter, by a consumer's seat; the one that comes back is the chapter that was handed out, or the empty one.
-pub(crate) fn hand_out<R: Wait>(
+// Has a ring go on in an empty chapter, by a consumer's seat; the one that comes back is the chapter that was handed out, or the empty one.
+fn hand_out<R: Wait>(
     rt: &R,
     ring: &SharedRing,
     seat: &mut ConsumerSeat,
@@ -115,31 +134,39 @@ fn fill<R: Wait>(
     match batch.fill(rt, ring, seat) {
         Ok(count) => {
             out.field("filled", count as u64);
-            tell_batch(batch, count, out);
+            tell_batch(&mut batch, count, out);
         }
         Err(Foreign) => out.word("foreign"),
     }
 }
 
-fn tell_batch(batch: Batch, count: usize, out: &mut Text) {
-    let mut batch = batch;
+fn tell_batch(batch: &mut Batch, count: usize, out: &mut Text) {
     for item in batch.items() {
         out.push(";");
         tell_item(&item, out);
     }
+    out.push(";");
+    out.field("events", count_events(batch));
+    out.field("sheets", count_sheets(batch, count));
+}
+
+fn count_events(batch: &Batch) -> u64 {
     let mut events = 0u64;
     for _ in batch.events() {
         events = events.wrapping_add(1);
     }
-    out.push(";");
-    out.field("events", events);
+    events
+}
+
+// How many of so many sheets a batch gives back.
+fn count_sheets(batch: &mut Batch, count: usize) -> u64 {
     let mut sheets = 0u64;
     for _ in 0..count {
         if batch.recycle().is_some() {
             sheets = sheets.wrapping_add(1);
         }
     }
-    out.field("sheets", sheets);
+    sheets
 }
 
 fn tell_item(item: &Item<'_>, out: &mut Text) {
@@ -149,19 +176,14 @@ fn tell_item(item: &Item<'_>, out: &mut Text) {
             out.field("pos", event.pos);
             out.field("worker", u64::from(event.worker));
             out.field("serial", event.serial);
-            out.word("bytes");
-            out.bytes(event.bytes);
+            out.contents(event.bytes);
         }
-        Item::Skip(pos, len) => {
-            out.word("skipped");
-            out.field("pos", *pos);
-            out.field("len", u64::from(*len));
-        }
+        Item::Skip(pos, len) => tell_skipped(out, *pos, *len),
     }
 }
 
-/// Has a keeper look at a ring's chapter, by a consumer's seat.
-pub(crate) fn turn<R: Wait>(
+// Has a keeper look at a ring's chapter, by a consumer's seat.
+fn turn<R: Wait>(
     rt: &R,
     ring: &SharedRing,
     seat: &mut ConsumerSeat,

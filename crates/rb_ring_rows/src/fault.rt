@@ -1,11 +1,10 @@
 //! Why the rows were not answered.
 
-use std::alloc::AllocError;
 use std::io;
 use thiserror::Error;
 
 /// Why the rows were not answered.
-#[derive(Clone, Copy, Debug, PartialEq, Eq, Error)]
+#[derive(Clone, Copy, Debug, Error)]
 pub(crate) enum RowsFault {
     /// There was no memory.
     #[error("no memory")]
@@ -13,12 +12,6 @@ pub(crate) enum RowsFault {
     /// The input or the output failed.
     #[error("the input or the output failed")]
     Device,
-}
-
-impl From<AllocError> for RowsFault {
-    fn from(_: AllocError) -> RowsFault {
-        RowsFault::Memory
-    }
 }
 
 impl From<io::Error> for RowsFault {

@@ -40,13 +40,14 @@ mod sheet_rows;
 mod sheets;
 mod tape_rows;
 mod text;
+mod twin_calls;
 mod twin_rings;
 mod value_rows;
 
 use fault::RowsFault;
 use script::Script;
 use std::alloc::Global;
-use std::io::{BufWriter, Read, Write};
+use std::io::{self, Read, Write};
 use std::process::ExitCode;
 use std::sync::Wait;
 use text::Text;
@@ -68,39 +69,43 @@ fn run<T: Wait, R: Read, W: Write>(
     input: &mut R,
     out: &mut W,
 ) -> Result<(), RowsFault> {
-    let mut bytes = Vec::new(alloc);
-    input.read_to_end(&mut bytes)?;
-    let mut out = BufWriter::new(alloc, out)?;
-    answer_lines(rt, alloc, bytes.as_slice(), &mut out)?;
+    let bytes = read(alloc, input)?;
+    let answers = answers_of(rt, alloc, bytes.as_slice());
+    out.write_all(answers.as_str().as_bytes())?;
     out.flush()?;
-    Ok(())
-}
-
-fn answer_lines<T: Wait, W: Write>(
-    rt: &T,
-    alloc: Global,
-    bytes: &[u8],
-    out: &mut W,
-) -> Result<(), RowsFault> {
-    let mut script = Script::new(alloc);
-    let mut text = Text::new(alloc);
-    let lines = bytes.strip_suffix(b"\n").unwrap_or(bytes);
-    for line in lines.split(|byte| *byte == b'\n') {
-        if line.is_empty() {
-            script = Script::new(alloc);
-        }
-        text.clear();
-        let line = str::from_utf8(line).unwrap_or("fault: no text");
-        if !line.is_empty() && !line.starts_with('#') {
-            script.answer(rt, line, &mut text);
-            writeln!(out, "{line} ->{}", text.as_str())?;
-        } else {
-            writeln!(out, "{line}")?;
-        }
-    }
-    if text.is_complete() {
+    if answers.is_complete() {
         Ok(())
     } else {
         Err(RowsFault::Memory)
     }
+}
+
+fn read<R: Read>(alloc: Global, input: &mut R) -> io::Result<Vec<u8>> {
+    let mut bytes = Vec::new(alloc);
+    input.read_to_end(&mut bytes)?;
+    Ok(bytes)
+}
+
+fn answers_of<T: Wait>(rt: &T, alloc: Global, bytes: &[u8]) -> Text {
+    let mut answers = Text::new(alloc);
+    let mut script = Script::new(alloc);
+    let lines = bytes.strip_suffix(b"\n").unwrap_or(bytes);
+    for line in lines.split(|byte| *byte == b'\n') {
+        answer_line(rt, &mut script, line, &mut answers);
+    }
+    answers
+}
+
+// Repeats a line, with its answer behind it where it is a row.
+fn answer_line<T: Wait>(rt: &T, script: &mut Script, line: &[u8], answers: &mut Text) {
+    let line = str::from_utf8(line).unwrap_or("fault: no text");
+    answers.push(line);
+    if line.is_empty() {
+        script.clear();
+    } else if !line.starts_with('#') {
+        answers.push(" ->");
+        let answer = script.answer(rt, line);
+        answers.add(&answer);
+    }
+    answers.push("\n");
 }

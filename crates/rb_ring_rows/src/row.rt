@@ -1,33 +1,21 @@
 //! A row in its parts.
 
-use std::alloc::{AllocError, AllocFailed, Global};
-use thiserror::Error;
+use std::alloc::{AllocError, Global};
 
 // How many bytes a row may spell.
 const MOST_BYTES: usize = 1 << 20;
 
-/// Why a line is no row.
-#[derive(Clone, Copy, Debug, Error, PartialEq, Eq)]
-pub(crate) enum RowFault {
-    /// A word is none: no name, no number below 2^64, or behind the colon no run of bytes, or there are more than 1,048,576 bytes.
-    #[error("no word")]
-    Word,
-    /// There was no memory.
-    #[error("no memory")]
-    Memory,
-}
+// How a form spells so many names, and so many numbers. More are in no form.
+const NAMES: [&str; 4] = ["", " x", " x x", " x x x"];
 
-impl From<AllocError> for RowFault {
-    fn from(_: AllocError) -> RowFault {
-        RowFault::Memory
-    }
-}
+const NUMBERS: [&str; 5] = ["", " 0", " 0 0", " 0 0 0", " 0 0 0 0"];
 
-impl<T: Drop> From<AllocFailed<T>> for RowFault {
-    fn from(_: AllocFailed<T>) -> RowFault {
-        RowFault::Memory
-    }
-}
+// What a line is answered that has a word which is none: no name, no number below 2^64, or behind the colon no run of bytes; or has more than
+// 1,048,576 bytes.
+const NO_WORD: &str = "fault: no word";
+
+// What a line is answered for which there is no memory.
+const NO_MEMORY: &str = "fault: no memory";
 
 /// A line in its parts: its first word, the names and the numbers behind it, each in their order, and the bytes behind a colon. A name begins with
 /// a letter, a number with a digit. Bytes are runs: `2a` or `2a*8`.
@@ -37,67 +25,120 @@ pub(crate) struct Row<'a> {
     pub(crate) names: Vec<&'a str>,
     pub(crate) numbers: Vec<u64>,
     pub(crate) bytes: Vec<u8>,
+    form: String,
+    // Why the line is no row.
+    fault: Option<&'static str>,
 }
 
 impl<'a> Row<'a> {
-    /// The row that a line spells.
-    pub(crate) fn read(alloc: Global, line: &'a str) -> Result<Row<'a>, RowFault> {
-        let (words, runs) = match line.split_once(':') {
-            Some((words, runs)) => (words, runs),
-            None => (line, ""),
-        };
+    /// The row that a line spells, or what is said of a line that is none.
+    pub(crate) fn read(alloc: Global, line: &'a str) -> Result<Row<'a>, &'static str> {
         let mut row = Row {
             verb: "",
             names: Vec::new(alloc),
             numbers: Vec::new(alloc),
             bytes: Vec::new(alloc),
+            form: String::new(alloc),
+            fault: None,
         };
+        row.add_line(line);
+        match row.fault {
+            Some(fault) => Err(fault),
+            None => Ok(row),
+        }
+    }
+
+    /// The verb, an `x` for each name and a `0` for each number, with spaces between them: of `reserve a r 1 16` it is `reserve x x 0 0`.
+    pub(crate) fn form(&self) -> &str {
+        self.form.as_str()
+    }
+
+    /// The name at a place; an empty one where there are not so many.
+    pub(crate) fn name(&self, place: usize) -> &'a str {
+        match self.names.get(place) {
+            Some(name) => *name,
+            None => "",
+        }
+    }
+
+    /// The number at a place; 0 where there are not so many.
+    pub(crate) fn number(&self, place: usize) -> u64 {
+        match self.numbers.get(place) {
+            Some(number) => *number,
+            None => 0,
+        }
+    }
+
+    fn add_line(&mut self, line: &'a str) {
+        let (words, runs) = line.split_once(':').unwrap_or((line, ""));
         for word in words.split_ascii_whitespace() {
-            row.add_word(word)?;
+            self.add_word(word);
         }
         for run in runs.split_ascii_whitespace() {
-            row.add_run(run)?;
+            self.add_run(run);
         }
-        Ok(row)
+        if self.add_form().is_err() {
+            self.fault = Some(NO_MEMORY);
+        }
     }
 
-    fn add_word(&mut self, word: &'a str) -> Result<(), RowFault> {
+    fn add_form(&mut self) -> Result<(), AllocError> {
+        let names = NAMES.get(self.names.len()).copied().unwrap_or(" more");
+        let numbers = NUMBERS.get(self.numbers.len()).copied().unwrap_or(" more");
+        write!(self.form, "{}{names}{numbers}", self.verb)
+    }
+
+    fn add_word(&mut self, word: &'a str) {
         let first = word.as_bytes().first().copied().unwrap_or(0);
         if first.is_ascii_digit() {
-            let Ok(number) = word.parse::<u64>() else {
-                return Err(RowFault::Word);
-            };
-            self.numbers.push(number)?;
+            self.add_number(word);
         } else if !first.is_ascii_alphabetic() {
-            return Err(RowFault::Word);
+            self.fault = Some(NO_WORD);
         } else if self.verb.is_empty() {
             self.verb = word;
-        } else {
-            self.names.push(word)?;
+        } else if self.names.push(word).is_err() {
+            self.fault = Some(NO_MEMORY);
         }
-        Ok(())
     }
 
-    fn add_run(&mut self, run: &str) -> Result<(), RowFault> {
-        let (digits, times) = match run.split_once('*') {
-            Some((digits, times)) => (digits, decimal(times)),
-            None => (run, Some(1)),
+    fn add_number(&mut self, word: &str) {
+        let Ok(number) = word.parse::<u64>() else {
+            self.fault = Some(NO_WORD);
+            return;
         };
-        let (Some(byte), Some(times)) = (hex_byte(digits), times) else {
-            return Err(RowFault::Word);
-        };
+        if self.numbers.push(number).is_err() {
+            self.fault = Some(NO_MEMORY);
+        }
+    }
+
+    fn add_run(&mut self, run: &str) {
+        match run_of(run) {
+            Some((byte, times)) => self.add_bytes(byte, times),
+            None => self.fault = Some(NO_WORD),
+        }
+    }
+
+    fn add_bytes(&mut self, byte: u8, times: usize) {
         let length = self.bytes.len();
         if length > MOST_BYTES || times > MOST_BYTES - length {
-            return Err(RowFault::Word);
+            self.fault = Some(NO_WORD);
+        } else if self.bytes.resize(length + times, byte).is_err() {
+            self.fault = Some(NO_MEMORY);
         }
-        self.bytes.resize(length + times, byte)?;
-        Ok(())
+    }
+}
+
+// The byte of a run, and how many of it there are.
+fn run_of(run: &str) -> Option<(u8, usize)> {
+    match run.split_once('*') {
+        Some((digits, times)) => Some((hex_byte(digits)?, decimal(times)?)),
+        None => Some((hex_byte(run)?, 1)),
     }
 }
 
 // The number that decimal digits spell. `parse` alone would take a plus in front.
 fn decimal(digits: &str) -> Option<usize> {
-    if !digits.bytes().all(|byte| byte.is_ascii_digit()) {
+    if digits.starts_with('+') {
         return None;
     }
     digits.parse().ok()
@@ -105,7 +146,7 @@ fn decimal(digits: &str) -> Option<usize> {
 
 // The byte that two hex digits spell.
 fn hex_byte(digits: &str) -> Option<u8> {
-    if digits.len() != 2 || !digits.bytes().all(|byte| byte.is_ascii_hexdigit()) {
+    if digits.len() != 2 || digits.starts_with('+') {
         return None;
     }
     u8::from_str_radix(digits, 16).ok()

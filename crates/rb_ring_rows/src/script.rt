@@ -2,12 +2,13 @@
 
 ghost use Rattle.std.specs.Prelude.{◌≡◌, ◌<◌, IfSome};
 
-use crate::row::{Row, RowFault};
+use crate::row::Row;
 use crate::shared_answers::write_record;
 use crate::shared_rings::SharedPlace;
 use crate::sheet_rows::write_sheet;
 use crate::text::Text;
-use crate::twin_rings::{Ending, TwinRecord, TwinRings};
+use crate::twin_calls::Ending;
+use crate::twin_rings::{TwinRecord, TwinRings};
 use crate::{chapter_rows, shared_rows, sheet_rows, value_rows};
 use rb_chapter_ring::Chapter;
 use rb_consumer::Keeper;
@@ -20,11 +21,28 @@ use std::sync::Wait;
 /// The longest record that is asked for: what the greatest ring has.
 pub(crate) const LONGEST: u64 = 1 << 26;
 
+// The verbs of calls on a ring and its records.
+const RING_VERBS: [&str; 7] = [
+    "open", "reserve", "write", "submit", "discard", "output", "handout",
+];
+
+// The verbs that take records of a ring, or ask it for numbers.
+const ASKING_VERBS: [&str; 4] = ["take", "query", "counts", "written"];
+
 /// How many records one call takes at most.
 pub(crate) const MOST_TAKEN: u64 = 1 << 16;
 
 /// What a row answers that has not the words of its command, or whose numbers are too great for it.
 pub(crate) const WRONG_WORDS: &str = "fault: wrong words";
+
+/// The numbers with which a ring is opened: its size, its start, how many workers it has, and the room of its chapters.
+#[derive(Clone, Copy)]
+pub(crate) struct RingNumbers {
+    pub(crate) size: u64,
+    pub(crate) start: u64,
+    pub(crate) workers: u32,
+    pub(crate) room: u32,
+}
 
 /// What has a name in a script.
 #[derive(Drop)]
@@ -59,159 +77,141 @@ impl Script {
         }
     }
 
+    /// Forgets all names.
+    pub(crate) fn clear(&mut self) {
+        *self = Script::new(self.alloc);
+    }
+
     /// What a row answers.
-    pub(crate) fn answer<R: Wait>(&mut self, rt: &R, line: &str, out: &mut Text) {
+    pub(crate) fn answer<R: Wait>(&mut self, rt: &R, line: &str) -> Text {
+        let mut out = Text::new(self.alloc);
         match Row::read(self.alloc, line) {
-            Ok(row) => self.answer_row(rt, &row, out),
-            Err(RowFault::Word) => out.word("fault: no word"),
-            Err(RowFault::Memory) => out.word("fault: no memory"),
+            Ok(row) => self.answer_row(rt, &row, &mut out),
+            Err(fault) => out.word(fault),
         }
+        out
     }
 
     // A name of a shared ring stands for that ring, and of a closed one for it, before it stands for anything else.
     fn answer_row<R: Wait>(&mut self, rt: &R, row: &Row<'_>, out: &mut Text) {
-        let first = row.names.first().copied().unwrap_or("");
+        let first = row.name(0);
         if row.verb == "share" {
             shared_rows::share(rt, self, row, out);
         } else if self.shared.contains_key(first) {
             shared_rows::answer(rt, self, row, out);
-        } else if row.verb == "bind" && self.closings.contains_key(first) {
+        } else if row.verb != "bind" {
+            self.answer_other(row, out);
+        } else if self.closings.contains_key(first) {
             shared_rows::bind(self, row, out);
         } else {
-            self.answer_other(row, out);
+            self.bind(row, out);
         }
     }
 
     fn answer_other(&mut self, row: &Row<'_>, out: &mut Text) {
-        match row.verb {
-            "open" => self.open(row, out),
-            "reserve" => self.reserve(row, out),
-            "write" => self.write(row, out),
-            "submit" => self.end(Ending::Submit, row, out),
-            "discard" => self.end(Ending::Discard, row, out),
-            "output" => self.output(row, out),
-            "take" | "query" | "counts" | "written" => self.ask(row, out),
-            "handout" => self.hand_out(row, out),
-            "bind" => self.bind(row, out),
-            "keeper"
-            | "kept"
-            | "chapter"
-            | "clear"
-            | "after"
-            | "meets"
-            | "show"
-            | "opening"
-            | "closing"
-            | "entries" => chapter_rows::answer(self, row, out),
-            "sheet" | "renew" | "wipe" => sheet_rows::answer(self, row, out),
-            _ => value_rows::answer(self.alloc, row, out),
+        if RING_VERBS.contains(&row.verb) {
+            self.call(row, out);
+        } else if ASKING_VERBS.contains(&row.verb) {
+            self.ask(row, out);
+        } else if chapter_rows::VERBS.contains(&row.verb) {
+            chapter_rows::answer(self, row, out);
+        } else if sheet_rows::VERBS.contains(&row.verb) {
+            sheet_rows::answer(self, row, out);
+        } else {
+            value_rows::answer(self.alloc, row, out);
+        }
+    }
+
+    fn call(&mut self, row: &Row<'_>, out: &mut Text) {
+        match row.form() {
+            "open x 0 0 0 0" => self.open(row, out),
+            "reserve x x 0 0" => self.reserve(row, out),
+            "write x 0" => self.write(row, out),
+            "submit x x 0" => self.end(Ending::Submit, row, out),
+            "discard x x 0" => self.end(Ending::Discard, row, out),
+            "output x 0 0" => self.output(row, out),
+            "handout x x" => self.hand_out(row, out),
+            _ => out.word(WRONG_WORDS),
         }
     }
 
     fn open(&mut self, row: &Row<'_>, out: &mut Text) {
-        let ([ring], [size, start, workers, room]) = (row.names.as_slice(), row.numbers.as_slice())
-        else {
-            return out.word(WRONG_WORDS);
-        };
-        let (workers, room) = (narrow(*workers), narrow(*room));
-        if let Some(twins) = TwinRings::open(self.alloc, *size, *start, workers, room, out) {
-            keep(self.alloc, &mut self.rings, ring, twins, out);
+        let setup = ring_numbers(row);
+        if let Some(twins) = TwinRings::open(self.alloc, setup, out) {
+            keep(self.alloc, &mut self.rings, row.name(0), twins, out);
         }
     }
 
     fn reserve(&mut self, row: &Row<'_>, out: &mut Text) {
-        let ([ring, record], [worker, n]) = (row.names.as_slice(), row.numbers.as_slice()) else {
+        let (worker, n) = (narrow(row.number(0)), row.number(1));
+        if n > LONGEST {
             return out.word(WRONG_WORDS);
-        };
-        let Some(n) = within(*n, LONGEST) else {
-            return out.word(WRONG_WORDS);
-        };
-        let Some(twins) = self.rings.get_mut(*ring) else {
+        }
+        let Some(twins) = self.rings.get_mut(row.name(0)) else {
             return out.word("fault: no such ring");
         };
-        if let Some(granted) = twins.reserve(self.alloc, narrow(*worker), n, out) {
-            keep(self.alloc, &mut self.records, record, granted, out);
+        if let Some(granted) = twins.reserve(self.alloc, worker, n as u32, out) {
+            keep(self.alloc, &mut self.records, row.name(1), granted, out);
         }
     }
 
     fn write(&mut self, row: &Row<'_>, out: &mut Text) {
-        let ([record], [at]) = (row.names.as_slice(), row.numbers.as_slice()) else {
-            return out.word(WRONG_WORDS);
-        };
-        if let Some(held) = self.records.get_mut(*record) {
-            held.write(*at, row.bytes.as_slice(), out);
-        } else if let Some(held) = self.shared_records.get_mut(*record) {
-            write_record(held, *at, row.bytes.as_slice(), out);
-        } else if let Some(sheet) = self.sheets.get_mut(*record) {
-            write_sheet(sheet, *at, row.bytes.as_slice(), out);
+        let (name, at, bytes) = (row.name(0), row.number(0), row.bytes.as_slice());
+        if let Some(held) = self.records.get_mut(name) {
+            held.write(at, bytes, out);
+        } else if let Some(held) = self.shared_records.get_mut(name) {
+            write_record(held, at, bytes, out);
+        } else if let Some(sheet) = self.sheets.get_mut(name) {
+            write_sheet(sheet, at, bytes, out);
         } else {
             out.word("fault: no such record");
         }
     }
 
     fn end(&mut self, ending: Ending, row: &Row<'_>, out: &mut Text) {
-        let ([ring, record], [flags]) = (row.names.as_slice(), row.numbers.as_slice()) else {
-            return out.word(WRONG_WORDS);
-        };
-        let Some(twins) = self.rings.get_mut(*ring) else {
+        let (name, flags) = (row.name(1), row.number(0));
+        let Some(twins) = self.rings.get_mut(row.name(0)) else {
             return out.word("fault: no such ring");
         };
-        let Some(held) = self.records.remove(*record) else {
+        let Some(held) = self.records.remove(name) else {
             return out.word("fault: no such record");
         };
-        if let Some(stray) = twins.end(self.alloc, held, ending, *flags, out) {
-            keep(self.alloc, &mut self.records, record, stray, out);
+        if let Some(stray) = twins.end(self.alloc, held, ending, flags, out) {
+            keep(self.alloc, &mut self.records, name, stray, out);
         }
     }
 
     fn output(&mut self, row: &Row<'_>, out: &mut Text) {
-        let ([ring], [worker, flags]) = (row.names.as_slice(), row.numbers.as_slice()) else {
-            return out.word(WRONG_WORDS);
-        };
-        match self.rings.get_mut(*ring) {
-            Some(twins) => {
-                twins.output(
-                    self.alloc,
-                    narrow(*worker),
-                    row.bytes.as_slice(),
-                    *flags,
-                    out,
-                )
-            }
+        let (worker, flags) = (narrow(row.number(0)), row.number(1));
+        match self.rings.get_mut(row.name(0)) {
+            Some(twins) => twins.output(self.alloc, worker, row.bytes.as_slice(), flags, out),
             None => out.word("fault: no such ring"),
         }
     }
 
     // Takes records, or asks for numbers.
     fn ask(&mut self, row: &Row<'_>, out: &mut Text) {
-        let [ring] = row.names.as_slice() else {
+        if row.names.len() != 1 {
             return out.word(WRONG_WORDS);
-        };
-        let Some(twins) = self.rings.get_mut(*ring) else {
-            return out.word("fault: no such ring");
-        };
-        match (row.verb, row.numbers.as_slice()) {
-            ("take", []) => twins.take(self.alloc, out),
-            ("take", [n]) if *n <= MOST_TAKEN => twins.take_many(self.alloc, *n as usize, out),
-            ("query", [what]) => twins.query(*what, out),
-            ("counts", []) => twins.counts(out),
-            ("written", []) => twins.written(self.alloc, out),
-            _ => out.word(WRONG_WORDS),
+        }
+        match self.rings.get_mut(row.name(0)) {
+            Some(twins) => ask(self.alloc, twins, row, out),
+            None => out.word("fault: no such ring"),
         }
     }
 
     fn hand_out(&mut self, row: &Row<'_>, out: &mut Text) {
-        let ([ring, name], []) = (row.names.as_slice(), row.numbers.as_slice()) else {
-            return out.word(WRONG_WORDS);
-        };
-        let Some(twins) = self.rings.get_mut(*ring) else {
+        let name = row.name(1);
+        let Some(twins) = self.rings.get_mut(row.name(0)) else {
             return out.word("fault: no such ring");
         };
-        let Some(empty) = self.chapters.remove(*name) else {
-            return out.word("fault: no such chapter");
-        };
-        let chapter = twins.hand_out(empty, out);
-        keep(self.alloc, &mut self.chapters, name, chapter, out);
+        match self.chapters.remove(name) {
+            Some(empty) => {
+                let chapter = twins.hand_out(empty, out);
+                keep(self.alloc, &mut self.chapters, name, chapter, out);
+            }
+            None => out.word("fault: no such chapter"),
+        }
     }
 
     fn bind(&mut self, row: &Row<'_>, out: &mut Text) {
@@ -227,9 +227,30 @@ impl Script {
         } else {
             out.word("fault: no such chapter");
         }
-        for (name, chapter) in names.iter().zip(chapters) {
-            keep(self.alloc, &mut self.chapters, name, chapter, out);
-        }
+        keep_chapters(self, names, chapters, out);
+    }
+}
+
+// Takes records of a ring, or asks it for numbers.
+fn ask(alloc: Global, twins: &mut TwinRings, row: &Row<'_>, out: &mut Text) {
+    let number = row.number(0);
+    match row.form() {
+        "take x" => twins.take(alloc, out),
+        "take x 0" if number <= MOST_TAKEN => twins.take_many(alloc, number as usize, out),
+        "query x 0" => twins.query(number, out),
+        "counts x" => twins.counts(out),
+        "written x" => twins.written(alloc, out),
+        _ => out.word(WRONG_WORDS),
+    }
+}
+
+/// The numbers of a row that opens a ring.
+pub(crate) fn ring_numbers(row: &Row<'_>) -> RingNumbers {
+    RingNumbers {
+        size: row.number(0),
+        start: row.number(1),
+        workers: narrow(row.number(2)),
+        room: narrow(row.number(3)),
     }
 }
 
@@ -249,6 +270,18 @@ pub(crate) fn collect(
         }
     }
     chapters
+}
+
+/// Gives chapters their names again.
+pub(crate) fn keep_chapters(
+    script: &mut Script,
+    names: &[&str],
+    chapters: Vec<Chapter>,
+    out: &mut Text,
+) {
+    for (name, chapter) in names.iter().zip(chapters) {
+        keep(script.alloc, &mut script.chapters, name, chapter, out);
+    }
 }
 
 /// Gives a value a name. What had the name before is dropped.
@@ -271,12 +304,4 @@ pub(crate) fn keep<T: Drop>(
 /// The number, or 2^32 - 1 where it is greater.
 pub(crate) fn narrow(number: u64) -> u32 {
     u32::try_from(number).unwrap_or(u32::MAX)
-}
-
-/// The number where it is at most this.
-pub(crate) fn within(number: u64, most: u64) -> Option<u32> {
-    if number > most {
-        return None;
-    }
-    u32::try_from(number).ok()
 }

@@ -1,6 +1,6 @@
 //! What rings with hands answer of reservations, as text.
 
-use crate::answers::{reserve_word, tell_notice, tell_refusal};
+use crate::answers::{reserve_word, tell_notice, tell_numbers, tell_refusal};
 use crate::sheets::write_at;
 use crate::text::Text;
 use rb_history::Notice;
@@ -15,9 +15,7 @@ pub(crate) fn tell_reserved(
     match answer {
         Ok(record) => {
             out.word("granted");
-            tell_record(&record, out);
-            out.word("bytes");
-            out.bytes(record.bytes());
+            tell_contents(&record, out);
             Some(record)
         }
         Err((fault, back)) => {
@@ -48,9 +46,7 @@ pub(crate) fn tell_given_back(
 /// Writes bytes of a reserved record from byte `at` on, where they fit.
 pub(crate) fn write_record(record: &mut Reservation, at: u64, bytes: &[u8], out: &mut Text) {
     if write_at(record, at, bytes) {
-        tell_record(record, out);
-        out.word("bytes");
-        out.bytes(record.bytes());
+        tell_contents(record, out);
     } else {
         out.word("fault: outside");
     }
@@ -69,8 +65,17 @@ pub(crate) fn tell_hands(seat: &Seat, out: &mut Text) {
 
 /// The four numbers of a reservation.
 pub(crate) fn tell_record(record: &Reservation, out: &mut Text) {
-    out.field("pos", record.pos());
-    out.field("worker", u64::from(record.worker()));
-    out.field("serial", record.serial());
-    out.field("len", u64::from(record.len()));
+    tell_numbers(
+        out,
+        record.pos(),
+        record.worker(),
+        record.serial(),
+        record.len(),
+    );
+}
+
+/// The four numbers of a reservation, and its bytes.
+pub(crate) fn tell_contents(record: &Reservation, out: &mut Text) {
+    tell_record(record, out);
+    out.contents(record.bytes());
 }

@@ -5,11 +5,11 @@ ghost use Rattle.rb_ledger.specs.Seats.{IsSameSeat};
 ghost use Rattle.rb_ring_rows.specs.SharedPlaces.{AreOwnSeats, IsOwnSeat};
 
 use crate::answers::{open_word, reserve_word, tell_counts, tell_notice, tell_refusal, tell_tally};
-use crate::consumer_calls::{ConsumerCall, consume, hand_out, turn};
+use crate::consumer_calls::{ConsumerCall, consume};
+use crate::script::RingNumbers;
 use crate::shared_answers::{tell_given_back, tell_hands, tell_reserved};
 use crate::text::Text;
 use rb_chapter_ring::Chapter;
-use rb_consumer::Keeper;
 use rb_history::Notice;
 use rb_lend::Sheet;
 use rb_shared_ring::{
@@ -29,24 +29,26 @@ pub(crate) struct SharedPlace {
     ghost own_consumer: { (consumer.tag ≡ ring.tag) × (consumer.ring ≡ ring.ring) },
 }
 
-/// The numbers with which a ring is opened: its size, its start, how many workers it has, and the room of its chapters.
+/// A call of a worker.
 #[derive(Clone, Copy)]
-pub(crate) struct RingNumbers {
-    pub(crate) size: u64,
-    pub(crate) start: u64,
-    pub(crate) workers: u32,
-    pub(crate) room: u32,
-}
-
-/// A call of a worker. A record is reserved that is as long as its sheet.
-#[derive(Drop)]
 pub(crate) enum WorkerCall {
-    Reserve(Sheet),
-    Submit(Reservation, u64),
-    Discard(Reservation, u64),
-    Output(Sheet, u64),
+    /// Reserves a record that is as long as the sheet.
+    Reserve,
+    /// Submits the record.
+    Submit(u64),
+    /// Discards the record.
+    Discard(u64),
+    /// Outputs the sheet.
+    Output(u64),
     Query(u64),
     Audit,
+}
+
+/// What a worker's call is made with: a sheet, or a record. A record that the call grants or hands back is here afterwards.
+#[derive(Drop)]
+pub(crate) struct Load {
+    pub(crate) sheet: Option<Sheet>,
+    pub(crate) record: Option<Reservation>,
 }
 
 impl SharedPlace {
@@ -86,98 +88,47 @@ impl SharedPlace {
         worker < self.seats.len() as u64
     }
 
-    /// A call of a worker at this ring, by the worker's own seat. The reservation that the call grants or hands back is returned.
+    /// A call of a worker, by its seat of this ring, at another ring or at this one.
     pub(crate) fn work<R: Wait>(
         &mut self,
         rt: &R,
+        other: Option<&SharedPlace>,
         worker: u64,
         call: WorkerCall,
+        load: &mut Load,
         out: &mut Text,
-    ) -> Option<Reservation> {
+    ) {
         if worker >= self.seats.len() as u64 {
-            return None;
-        }
-        work(rt, &self.ring, &mut self.seats[worker as usize], call, out)
-    }
-
-    /// The same at another ring.
-    pub(crate) fn work_at<R: Wait>(
-        &mut self,
-        rt: &R,
-        other: &SharedPlace,
-        worker: u64,
-        call: WorkerCall,
-        out: &mut Text,
-    ) -> Option<Reservation> {
-        if worker >= self.seats.len() as u64 {
-            return None;
+            return;
         }
         let seat = &mut self.seats[worker as usize];
-        if seat.tag() == other.ring.tag() {
-            return None;
+        match other {
+            None => work(rt, &self.ring, seat, call, load, out),
+            Some(other) => {
+                if seat.tag() != other.ring.tag() {
+                    work(rt, &other.ring, seat, call, load, out);
+                }
+            }
         }
-        work(rt, &other.ring, seat, call, out)
     }
 
-    /// A call of the consumer at this ring, by its own seat.
+    /// A call of the consumer, by this ring's seat, at another ring or at this one.
     pub(crate) fn consume<R: Wait>(
         &mut self,
         rt: &R,
         alloc: Global,
-        call: ConsumerCall,
+        other: Option<&SharedPlace>,
+        call: ConsumerCall<'_>,
         out: &mut Text,
     ) {
-        consume(rt, alloc, &self.ring, &mut self.consumer, call, out);
-    }
-
-    /// The same at another ring.
-    pub(crate) fn consume_at<R: Wait>(
-        &mut self,
-        rt: &R,
-        alloc: Global,
-        other: &SharedPlace,
-        call: ConsumerCall,
-        out: &mut Text,
-    ) {
-        if self.consumer.tag() != other.ring.tag() {
-            consume(rt, alloc, &other.ring, &mut self.consumer, call, out);
-        }
-    }
-
-    /// Has this ring go on in an empty chapter; the one that comes back is the chapter that was handed out, or the empty one.
-    pub(crate) fn hand_out<R: Wait>(&mut self, rt: &R, empty: Chapter, out: &mut Text) -> Chapter {
-        hand_out(rt, &self.ring, &mut self.consumer, empty, out)
-    }
-
-    /// The same by this ring's consumer at another ring.
-    pub(crate) fn hand_out_at<R: Wait>(
-        &mut self,
-        rt: &R,
-        other: &SharedPlace,
-        empty: Chapter,
-        out: &mut Text,
-    ) -> Chapter {
-        if self.consumer.tag() == other.ring.tag() {
-            return empty;
-        }
-        hand_out(rt, &other.ring, &mut self.consumer, empty, out)
-    }
-
-    /// Has a keeper look at this ring's chapter.
-    pub(crate) fn turn<R: Wait>(&mut self, rt: &R, keeper: &mut Keeper, out: &mut Text) {
-        turn(rt, &self.ring, &mut self.consumer, keeper, out);
-    }
-
-    /// The same by this ring's consumer at another ring.
-    pub(crate) fn turn_at<R: Wait>(
-        &mut self,
-        rt: &R,
-        other: &SharedPlace,
-        keeper: &mut Keeper,
-        out: &mut Text,
-    ) {
-        if self.consumer.tag() != other.ring.tag() {
-            turn(rt, &other.ring, &mut self.consumer, keeper, out);
+        let seat = &mut self.consumer;
+        match other {
+            None => consume(rt, alloc, &self.ring, seat, call, out),
+            Some(other) => {
+                if seat.tag() != other.ring.tag() {
+                    consume(rt, alloc, &other.ring, seat, call, out);
+                }
+            }
         }
     }
 
@@ -308,39 +259,35 @@ fn work<R: Wait>(
     ring: &SharedRing,
     seat: &mut Seat,
     call: WorkerCall,
+    load: &mut Load,
     out: &mut Text,
-) -> Option<Reservation>
+)
     requires ring { seat.old.tag ≡ ring.now.tag → seat.old.ring ≡ ring.now.ring }
     ensures seat { IsSameSeat seat.old seat.new }
 {
     match call {
-        WorkerCall::Reserve(sheet) => tell_reserved(
-            ring.reserve(rt, seat, sheet.len(), sheet),
-            out,
-        ),
-        WorkerCall::Submit(record, flags) => tell_given_back(
-            ring.submit(rt, seat, record, flags),
-            out,
-        ),
-        WorkerCall::Discard(record, flags) => tell_given_back(
-            ring.discard(rt, seat, record, flags),
-            out,
-        ),
-        WorkerCall::Output(sheet, flags) => {
-            tell_output(ring.output(rt, seat, sheet, flags), out);
-            None
-        }
-        WorkerCall::Query(what) => {
-            match ring.query(rt, seat, what) {
-                Ok(number) => out.number(number),
-                Err(Foreign) => out.word("foreign"),
+        WorkerCall::Reserve => {
+            if let Some(sheet) = load.sheet.take() {
+                load.record = tell_reserved(ring.reserve(rt, seat, sheet.len(), sheet), out);
             }
-            None
         }
-        WorkerCall::Audit => {
-            tell_audit(ring.audit(rt, seat), out);
-            None
+        WorkerCall::Submit(flags) => {
+            if let Some(record) = load.record.take() {
+                load.record = tell_given_back(ring.submit(rt, seat, record, flags), out);
+            }
         }
+        WorkerCall::Discard(flags) => {
+            if let Some(record) = load.record.take() {
+                load.record = tell_given_back(ring.discard(rt, seat, record, flags), out);
+            }
+        }
+        WorkerCall::Output(flags) => {
+            if let Some(sheet) = load.sheet.take() {
+                tell_output(ring.output(rt, seat, sheet, flags), out);
+            }
+        }
+        WorkerCall::Query(what) => tell_query(ring.query(rt, seat, what), out),
+        WorkerCall::Audit => tell_audit(ring.audit(rt, seat), out),
     }
 }
 
@@ -348,6 +295,13 @@ fn tell_output(answer: Result<Notice, (ReserveFault, Sheet)>, out: &mut Text) {
     match answer {
         Ok(notice) => tell_notice(out, notice),
         Err((fault, back)) => tell_refusal(out, reserve_word(fault), &back),
+    }
+}
+
+fn tell_query(answer: Result<u64, Foreign>, out: &mut Text) {
+    match answer {
+        Ok(number) => out.number(number),
+        Err(Foreign) => out.word("foreign"),
     }
 }
 

@@ -3,21 +3,42 @@
 use crate::answers::{bind_word, tell_counts, tell_entries};
 use crate::consumer_calls::ConsumerCall;
 use crate::row::Row;
-use crate::script::{LONGEST, MOST_TAKEN, Script, WRONG_WORDS, collect, keep, narrow, within};
-use crate::shared_rings::{RingNumbers, SharedPlace, WorkerCall};
+use crate::script::{
+    LONGEST, MOST_TAKEN, Script, WRONG_WORDS, collect, keep, keep_chapters, ring_numbers,
+};
+use crate::shared_rings::{Load, SharedPlace, WorkerCall};
 use crate::sheets::{copied, filled};
 use crate::text::Text;
+use rb_lend::Sheet;
 use rb_shared_ring::{Closing, Reservation};
 use std::alloc::Global;
+use std::collections::BTreeMap;
 use std::sync::Wait;
+
+// The verbs of a worker's calls that name a record behind the ring.
+const RECORD_VERBS: [&str; 3] = ["reserve", "submit", "discard"];
+
+// The verbs of a worker's other calls.
+const SEAT_VERBS: [&str; 3] = ["output", "query", "audit"];
+
+// The verbs of a consumer's calls that name nothing behind the ring.
+const CONSUMER_VERBS: [&str; 3] = ["take", "used", "fill"];
 
 /// What a row answers whose first name is that of a shared ring.
 pub(crate) fn answer<R: Wait>(rt: &R, script: &mut Script, row: &Row<'_>, out: &mut Text) {
+    if RECORD_VERBS.contains(&row.verb) {
+        work(rt, script, row, 2, out);
+    } else if SEAT_VERBS.contains(&row.verb) {
+        work(rt, script, row, 1, out);
+    } else if CONSUMER_VERBS.contains(&row.verb) {
+        consume(rt, script, row, out);
+    } else {
+        answer_other(rt, script, row, out);
+    }
+}
+
+fn answer_other<R: Wait>(rt: &R, script: &mut Script, row: &Row<'_>, out: &mut Text) {
     match row.verb {
-        "reserve" | "submit" | "discard" | "output" | "query" | "audit" => {
-            work(rt, script, row, out)
-        }
-        "take" | "used" | "fill" => consume(rt, script, row, out),
         "handout" => hand_out(rt, script, row, out),
         "turn" => turn(rt, script, row, out),
         "seat" | "consumer" => tell_seats(script, row, out),
@@ -28,238 +49,249 @@ pub(crate) fn answer<R: Wait>(rt: &R, script: &mut Script, row: &Row<'_>, out: &
 
 /// Opens a shared ring.
 pub(crate) fn share<R: Wait>(rt: &R, script: &mut Script, row: &Row<'_>, out: &mut Text) {
-    let ([ring], [size, start, workers, room]) = (row.names.as_slice(), row.numbers.as_slice())
-    else {
+    if row.form() != "share x 0 0 0 0" {
         return out.word(WRONG_WORDS);
-    };
-    let setup = RingNumbers {
-        size: *size,
-        start: *start,
-        workers: narrow(*workers),
-        room: narrow(*room),
-    };
+    }
     script.tags = script.tags.wrapping_add(1);
+    let setup = ring_numbers(row);
     if let Some(place) = SharedPlace::open(rt, script.alloc, script.tags, setup, out) {
-        keep(script.alloc, &mut script.shared, ring, place, out);
+        keep(script.alloc, &mut script.shared, row.name(0), place, out);
     }
 }
 
-// The words of a worker's row behind its verb and its ring.
-#[derive(Clone, Copy)]
-struct WorkerWords<'a> {
-    record: Option<&'a str>,
-    home: Option<&'a str>,
-    worker: u64,
-    number: u64,
+// The ring by whose seat a row's call is made: it has the name at this place, or where there is none the first.
+fn home_of<'a>(row: &Row<'a>, place: usize) -> &'a str {
+    if row.names.len() > place {
+        row.name(place)
+    } else {
+        row.name(0)
+    }
 }
 
-// The words of a worker's row, where it has those of its call.
-fn worker_words<'a>(row: &Row<'a>) -> Option<WorkerWords<'a>> {
-    let (record, home) = match (row.verb, row.names.as_slice()) {
-        ("reserve" | "submit" | "discard", [_, record]) => (Some(*record), None),
-        ("reserve" | "submit" | "discard", [_, record, home]) => (Some(*record), Some(*home)),
-        ("output" | "query" | "audit", [_]) => (None, None),
-        ("output" | "query" | "audit", [_, home]) => (None, Some(*home)),
-        _ => return None,
-    };
-    let (worker, number) = match (row.verb, row.numbers.as_slice()) {
-        ("audit", [worker]) => (*worker, 0),
-        ("audit", _) => return None,
-        (_, [worker, number]) => (*worker, *number),
-        _ => return None,
-    };
-    Some(WorkerWords {
-        record,
-        home,
-        worker,
-        number,
-    })
+// Whether a row of a worker's call has its words, where the name of a home is at this place.
+fn has_words(row: &Row<'_>, place: usize) -> bool {
+    let numbers = if row.verb == "audit" { 1 } else { 2 };
+    let names = row.names.len();
+    names >= place && names - place <= 1 && row.numbers.len() == numbers
 }
 
 // A call of a worker.
-fn work<R: Wait>(rt: &R, script: &mut Script, row: &Row<'_>, out: &mut Text) {
-    let (Some(words), Some(ring)) = (worker_words(row), row.names.first()) else {
+fn work<R: Wait>(rt: &R, script: &mut Script, row: &Row<'_>, place: usize, out: &mut Text) {
+    if !has_words(row, place) {
         return out.word(WRONG_WORDS);
-    };
-    let home = words.home.unwrap_or(ring);
-    match script.shared.get(home) {
-        Some(place) if place.has_worker(words.worker) => (),
-        Some(_) => return out.word("fault: no such worker"),
-        None => return out.word("fault: no such ring"),
     }
-    let call = match worker_call(script, row, &words) {
-        Ok(call) => call,
-        Err(fault) => return out.word(fault),
+    let home = home_of(row, place);
+    let fault = match script.shared.get(home) {
+        Some(shared) if shared.has_worker(row.number(0)) => "",
+        Some(_) => "fault: no such worker",
+        None => "fault: no such ring",
     };
-    let back = work_by(rt, script, ring, home, words.worker, call, out);
-    if let (Some(record), Some(name)) = (back, words.record) {
-        keep(script.alloc, &mut script.shared_records, name, record, out);
+    if !fault.is_empty() {
+        return out.word(fault);
+    }
+    match loaded(script, row) {
+        Ok(load) => work_by(rt, script, row, home, load, out),
+        Err(fault) => out.word(fault),
     }
 }
 
-// The call that a row's words ask for, or what is wrong with them.
-fn worker_call(
-    script: &mut Script,
-    row: &Row<'_>,
-    words: &WorkerWords<'_>,
-) -> Result<WorkerCall, &'static str> {
+// The call that a row's words ask for.
+fn worker_call(row: &Row<'_>) -> WorkerCall {
+    let number = row.number(1);
     match row.verb {
-        "reserve" => reserve_of(script.alloc, words.number),
-        "output" => match copied(script.alloc, row.bytes.as_slice()) {
-            Some(sheet) => Ok(WorkerCall::Output(sheet, words.number)),
-            None => Err("fault: no memory"),
-        },
-        "query" => Ok(WorkerCall::Query(words.number)),
-        "audit" => Ok(WorkerCall::Audit),
-        verb => match script.shared_records.remove(words.record.unwrap_or("")) {
-            Some(record) if verb == "submit" => Ok(WorkerCall::Submit(record, words.number)),
-            Some(record) => Ok(WorkerCall::Discard(record, words.number)),
-            None => Err("fault: no such record"),
-        },
+        "reserve" => WorkerCall::Reserve,
+        "submit" => WorkerCall::Submit(number),
+        "discard" => WorkerCall::Discard(number),
+        "output" => WorkerCall::Output(number),
+        "query" => WorkerCall::Query(number),
+        _ => WorkerCall::Audit,
     }
 }
 
-// The call that reserves a record of so many bytes.
-fn reserve_of(alloc: Global, n: u64) -> Result<WorkerCall, &'static str> {
-    let Some(n) = within(n, LONGEST) else {
-        return Err(WRONG_WORDS);
-    };
-    match filled(alloc, n) {
-        Some(sheet) => Ok(WorkerCall::Reserve(sheet)),
-        None => Err("fault: no memory"),
+// What a row's call is made with, or what is wrong with its words.
+fn loaded(script: &mut Script, row: &Row<'_>) -> Result<Load, &'static str> {
+    match row.verb {
+        "reserve" => sheet_of(script.alloc, row.number(1)),
+        "output" => with_sheet(copied(script.alloc, row.bytes.as_slice())),
+        "submit" | "discard" => with_record(script.shared_records.remove(row.name(1))),
+        _ => Ok(Load {
+            sheet: None,
+            record: None,
+        }),
     }
 }
 
-// Makes a worker's call at a ring, by its seat at another one or at this.
+// A sheet for a record of so many bytes.
+fn sheet_of(alloc: Global, n: u64) -> Result<Load, &'static str> {
+    if n > LONGEST {
+        Err(WRONG_WORDS)
+    } else {
+        with_sheet(filled(alloc, n as u32))
+    }
+}
+
+fn with_sheet(sheet: Option<Sheet>) -> Result<Load, &'static str> {
+    if sheet.is_none() {
+        return Err("fault: no memory");
+    }
+    Ok(Load {
+        sheet,
+        record: None,
+    })
+}
+
+fn with_record(record: Option<Reservation>) -> Result<Load, &'static str> {
+    if record.is_none() {
+        return Err("fault: no such record");
+    }
+    Ok(Load {
+        sheet: None,
+        record,
+    })
+}
+
+// Makes a worker's call at a row's ring, by its seat of the home, and keeps the record that is there then.
 fn work_by<R: Wait>(
     rt: &R,
     script: &mut Script,
-    ring: &str,
+    row: &Row<'_>,
     home: &str,
-    worker: u64,
-    call: WorkerCall,
+    load: Load,
     out: &mut Text,
-) -> Option<Reservation> {
-    let Some(mut place) = script.shared.remove(home) else {
-        return None;
-    };
-    let back = if ring == home {
-        place.work(rt, worker, call, out)
-    } else {
-        match script.shared.get(ring) {
-            Some(other) => place.work_at(rt, other, worker, call, out),
-            None => None,
-        }
-    };
-    keep(script.alloc, &mut script.shared, home, place, out);
-    back
+) {
+    let mut load = load;
+    call_by(rt, script, row, home, &mut load, out);
+    if let Some(record) = load.record.take() {
+        let records = &mut script.shared_records;
+        keep(script.alloc, records, row.name(1), record, out);
+    }
 }
 
-// The consumer's seat of which ring makes a row's call: that of the second name, or of the first.
-fn consumer_of<'a>(script: &Script, row: &Row<'a>) -> Option<(&'a str, &'a str)> {
-    let (ring, home) = match row.names.as_slice() {
-        [ring] => (*ring, *ring),
-        [ring, home] => (*ring, *home),
-        _ => return None,
-    };
-    if script.shared.contains_key(home) {
-        Some((ring, home))
-    } else {
-        None
+// The home is out of the map meanwhile, so that another ring alone is found there.
+fn call_by<R: Wait>(
+    rt: &R,
+    script: &mut Script,
+    row: &Row<'_>,
+    home: &str,
+    load: &mut Load,
+    out: &mut Text,
+) {
+    if let Some(mut place) = script.shared.remove(home) {
+        let other = script.shared.get(row.name(0));
+        place.work(rt, other, row.number(0), worker_call(row), load, out);
+        keep(script.alloc, &mut script.shared, home, place, out);
     }
 }
 
 // A call of the consumer.
 fn consume<R: Wait>(rt: &R, script: &mut Script, row: &Row<'_>, out: &mut Text) {
-    let call = match (row.verb, row.numbers.as_slice()) {
-        ("take", []) => ConsumerCall::Take,
-        ("take", [n]) if *n <= MOST_TAKEN => ConsumerCall::TakeMany(*n as usize),
-        ("fill", [n]) if *n <= MOST_TAKEN => ConsumerCall::Fill(*n as usize),
-        ("used", []) => ConsumerCall::Used,
-        _ => return out.word(WRONG_WORDS),
+    let Some(call) = consumer_call(row) else {
+        return out.word(WRONG_WORDS);
     };
-    let Some((ring, home)) = consumer_of(script, row) else {
+    let home = home_of(row, 1);
+    if row.names.len() > 2 || !script.shared.contains_key(home) {
         return out.word("fault: no such ring");
-    };
-    let Some(mut place) = script.shared.remove(home) else {
-        return out.word("fault: no such ring");
-    };
-    if ring == home {
-        place.consume(rt, script.alloc, call, out);
-    } else if let Some(other) = script.shared.get(ring) {
-        place.consume_at(rt, script.alloc, other, call, out);
     }
-    keep(script.alloc, &mut script.shared, home, place, out);
+    consume_by(
+        rt,
+        script.alloc,
+        &mut script.shared,
+        row.name(0),
+        home,
+        call,
+        out,
+    );
+}
+
+// The call that a row's words ask for, where they are those of one.
+fn consumer_call(row: &Row<'_>) -> Option<ConsumerCall<'static>> {
+    let n = row.number(0);
+    match (row.verb, row.numbers.len()) {
+        ("take", 0) => Some(ConsumerCall::Take),
+        ("used", 0) => Some(ConsumerCall::Used),
+        ("take", 1) if n <= MOST_TAKEN => Some(ConsumerCall::TakeMany(n as usize)),
+        ("fill", 1) if n <= MOST_TAKEN => Some(ConsumerCall::Fill(n as usize)),
+        _ => None,
+    }
+}
+
+// Makes a consumer's call at a ring, by the seat of the home. The home is out of the map meanwhile, so that another ring alone is found there.
+fn consume_by<R: Wait>(
+    rt: &R,
+    alloc: Global,
+    shared: &mut BTreeMap<String, SharedPlace>,
+    ring: &str,
+    home: &str,
+    call: ConsumerCall<'_>,
+    out: &mut Text,
+) {
+    if let Some(mut place) = shared.remove(home) {
+        place.consume(rt, alloc, shared.get(ring), call, out);
+        keep(alloc, shared, home, place, out);
+    }
+}
+
+// What is wrong with the words of a row that names a chapter or a keeper behind the ring, and maybe a home behind that; nothing where they are right.
+fn wrong_words(script: &Script, row: &Row<'_>) -> Option<&'static str> {
+    let names = row.names.len();
+    if names < 2 || names > 3 || !row.numbers.is_empty() {
+        return Some(WRONG_WORDS);
+    }
+    if script.shared.contains_key(home_of(row, 2)) {
+        None
+    } else {
+        Some("fault: no such ring")
+    }
 }
 
 // The consumer hands the ring's chapter out, by its own seat or by that of another ring.
 fn hand_out<R: Wait>(rt: &R, script: &mut Script, row: &Row<'_>, out: &mut Text) {
-    let (ring, name, home) = match (row.names.as_slice(), row.numbers.as_slice()) {
-        ([ring, name], []) => (*ring, *name, *ring),
-        ([ring, name, home], []) => (*ring, *name, *home),
-        _ => return out.word(WRONG_WORDS),
-    };
-    let Some(mut place) = script.shared.remove(home) else {
-        return out.word("fault: no such ring");
-    };
-    match script.chapters.remove(name) {
-        Some(empty) => {
-            let chapter = if ring == home {
-                place.hand_out(rt, empty, out)
-            } else {
-                match script.shared.get(ring) {
-                    Some(other) => place.hand_out_at(rt, other, empty, out),
-                    None => empty,
-                }
-            };
-            keep(script.alloc, &mut script.chapters, name, chapter, out);
-        }
-        None => out.word("fault: no such chapter"),
+    if let Some(fault) = wrong_words(script, row) {
+        return out.word(fault);
     }
-    keep(script.alloc, &mut script.shared, home, place, out);
+    let (ring, name, home) = (row.name(0), row.name(1), home_of(row, 2));
+    let mut chapter = script.chapters.remove(name);
+    if chapter.is_none() {
+        return out.word("fault: no such chapter");
+    }
+    let call = ConsumerCall::HandOut(&mut chapter);
+    consume_by(rt, script.alloc, &mut script.shared, ring, home, call, out);
+    if let Some(chapter) = chapter {
+        keep(script.alloc, &mut script.chapters, name, chapter, out);
+    }
 }
 
 // A keeper looks at the ring's chapter, by the ring's own consumer or by that of another ring.
 fn turn<R: Wait>(rt: &R, script: &mut Script, row: &Row<'_>, out: &mut Text) {
-    let (ring, name, home) = match (row.names.as_slice(), row.numbers.as_slice()) {
-        ([ring, name], []) => (*ring, *name, *ring),
-        ([ring, name, home], []) => (*ring, *name, *home),
-        _ => return out.word(WRONG_WORDS),
-    };
-    let Some(mut place) = script.shared.remove(home) else {
-        return out.word("fault: no such ring");
-    };
-    match script.keepers.get_mut(name) {
-        Some(keeper) => {
-            if ring == home {
-                place.turn(rt, keeper, out);
-            } else if let Some(other) = script.shared.get(ring) {
-                place.turn_at(rt, other, keeper, out);
-            }
-        }
-        None => out.word("fault: no such keeper"),
+    if let Some(fault) = wrong_words(script, row) {
+        return out.word(fault);
     }
-    keep(script.alloc, &mut script.shared, home, place, out);
+    let (ring, home) = (row.name(0), home_of(row, 2));
+    let Some(keeper) = script.keepers.get_mut(row.name(1)) else {
+        return out.word("fault: no such keeper");
+    };
+    let call = ConsumerCall::Turn(keeper);
+    consume_by(rt, script.alloc, &mut script.shared, ring, home, call, out);
 }
 
 // What a seat counted.
 fn tell_seats(script: &Script, row: &Row<'_>, out: &mut Text) {
-    match (row.names.as_slice(), row.numbers.as_slice()) {
-        ([ring], numbers) => match (script.shared.get(*ring), row.verb, numbers) {
-            (Some(place), "seat", [worker]) => place.tell_seat(*worker, out),
-            (Some(place), "consumer", []) => place.tell_consumer(out),
-            _ => out.word(WRONG_WORDS),
-        },
+    let Some(place) = script.shared.get(row.name(0)) else {
+        return out.word(WRONG_WORDS);
+    };
+    match row.form() {
+        "seat x 0" => place.tell_seat(row.number(0), out),
+        "consumer x" => place.tell_consumer(out),
         _ => out.word(WRONG_WORDS),
     }
 }
 
 // Closes a ring with all its seats; where there is a number, with all but the last; where there is another ring, with that one's.
 fn close<R: Wait>(rt: &R, script: &mut Script, row: &Row<'_>, out: &mut Text) {
-    match (row.names.as_slice(), row.numbers.as_slice()) {
-        ([ring], []) => close_own(rt, script, ring, true, out),
-        ([ring], [_]) => close_own(rt, script, ring, false, out),
-        ([ring, other], []) => close_with(rt, script, ring, other, out),
+    match row.form() {
+        "close x" => close_own(rt, script, row.name(0), true, out),
+        "close x 0" => close_own(rt, script, row.name(0), false, out),
+        "close x x" => close_with(rt, script, row.name(0), row.name(1), out),
         _ => out.word(WRONG_WORDS),
     }
 }
@@ -285,10 +317,7 @@ fn close_with<R: Wait>(rt: &R, script: &mut Script, ring: &str, other: &str, out
     if ring == other || !script.shared.contains_key(other) {
         return out.word("fault: no such ring");
     }
-    let (Some(place), Some(home)) = (script.shared.remove(ring), script.shared.remove(other)) else {
-        return out.word("fault: no such ring");
-    };
-    match place.close_with(rt, home) {
+    match closed_with(rt, &mut script.shared, ring, other) {
         Some((place, home)) => {
             out.word("not all");
             keep(script.alloc, &mut script.shared, ring, place, out);
@@ -296,6 +325,17 @@ fn close_with<R: Wait>(rt: &R, script: &mut Script, ring: &str, other: &str, out
         }
         None => out.word("closed"),
     }
+}
+
+// Tries to close a ring with the seats of another one. Both are out of the map then, and come back where the ring is not closed.
+fn closed_with<R: Wait>(
+    rt: &R,
+    shared: &mut BTreeMap<String, SharedPlace>,
+    ring: &str,
+    other: &str,
+) -> Option<(SharedPlace, SharedPlace)> {
+    let home = shared.remove(other)?;
+    shared.remove(ring)?.close_with(rt, home)
 }
 
 fn tell_closing(closing: &Closing, out: &mut Text) {
@@ -325,7 +365,5 @@ pub(crate) fn bind(script: &mut Script, row: &Row<'_>, out: &mut Text) {
     };
     out.word(fault);
     keep(script.alloc, &mut script.closings, ring, closing, out);
-    for (name, chapter) in names.iter().zip(chapters) {
-        keep(script.alloc, &mut script.chapters, name, chapter, out);
-    }
+    keep_chapters(script, names, chapters, out);
 }

@@ -1,33 +1,40 @@
 //! Rows on sheets, the bytes of records.
 
 use crate::row::Row;
-use crate::script::{LONGEST, Script, WRONG_WORDS, keep, within};
+use crate::script::{LONGEST, Script, WRONG_WORDS, keep};
 use crate::sheets::write_at;
 use crate::text::Text;
 use rb_lend::{Lent, Sheet};
 
+/// The verbs of rows on sheets.
+pub(crate) const VERBS: [&str; 3] = ["sheet", "renew", "wipe"];
+
 /// What a row on sheets answers.
 pub(crate) fn answer(script: &mut Script, row: &Row<'_>, out: &mut Text) {
-    match (row.verb, row.names.as_slice(), row.numbers.as_slice()) {
-        ("sheet", [name], [n]) => make(script, name, *n, out),
-        ("renew", [name], [n]) => renew(script, name, *n, out),
-        ("wipe", [name], []) => match script.sheets.get_mut(*name) {
-            Some(sheet) => {
-                sheet.clear();
-                tell_sheet(out, sheet);
-            }
-            None => out.word("fault: no such sheet"),
-        },
+    match row.form() {
+        "sheet x 0" => make(script, row.name(0), row.number(0), out),
+        "renew x 0" => renew(script, row.name(0), row.number(0), out),
+        "wipe x" => wipe(script, row.name(0), out),
         _ => out.word(WRONG_WORDS),
+    }
+}
+
+fn wipe(script: &mut Script, name: &str, out: &mut Text) {
+    match script.sheets.get_mut(name) {
+        Some(sheet) => {
+            sheet.clear();
+            tell_sheet(out, sheet);
+        }
+        None => out.word("fault: no such sheet"),
     }
 }
 
 // Makes a sheet.
 fn make(script: &mut Script, name: &str, n: u64, out: &mut Text) {
-    let Some(n) = within(n, LONGEST) else {
+    if n > LONGEST {
         return out.word(WRONG_WORDS);
-    };
-    match Sheet::new(script.alloc, n) {
+    }
+    match Sheet::new(script.alloc, n as u32) {
         Ok(sheet) => {
             tell_sheet(out, &sheet);
             keep(script.alloc, &mut script.sheets, name, sheet, out);
@@ -38,18 +45,24 @@ fn make(script: &mut Script, name: &str, n: u64, out: &mut Text) {
 
 // Renews a sheet for another length.
 fn renew(script: &mut Script, name: &str, n: u64, out: &mut Text) {
-    let Some(n) = within(n, LONGEST) else {
+    if n > LONGEST {
         return out.word(WRONG_WORDS);
-    };
-    let Some(sheet) = script.sheets.remove(name) else {
-        return out.word("fault: no such sheet");
-    };
-    let sheet = match sheet.renew(n) {
+    }
+    match script.sheets.remove(name) {
+        Some(sheet) => {
+            let sheet = renewed(sheet, n as u32);
+            tell_sheet(out, &sheet);
+            keep(script.alloc, &mut script.sheets, name, sheet, out);
+        }
+        None => out.word("fault: no such sheet"),
+    }
+}
+
+fn renewed(sheet: Sheet, n: u32) -> Sheet {
+    match sheet.renew(n) {
         Ok(sheet) => sheet,
         Err((_, back)) => back,
-    };
-    tell_sheet(out, &sheet);
-    keep(script.alloc, &mut script.sheets, name, sheet, out);
+    }
 }
 
 /// Writes bytes of a sheet from byte `at` on, where they fit.
@@ -63,6 +76,5 @@ pub(crate) fn write_sheet(sheet: &mut Sheet, at: u64, bytes: &[u8], out: &mut Te
 
 fn tell_sheet(out: &mut Text, sheet: &Sheet) {
     out.field("len", u64::from(sheet.len()));
-    out.word("bytes");
-    out.bytes(sheet.bytes());
+    out.contents(sheet.bytes());
 }

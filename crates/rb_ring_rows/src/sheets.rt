@@ -31,6 +31,19 @@ pub(crate) fn filled(alloc: Global, n: u32) -> Option<Sheet>
     Some(sheet)
 }
 
+/// Two sheets of `n` bytes, all of which are 255.
+pub(crate) fn filled_twice(alloc: Global, n: u32) -> Option<(Sheet, Sheet)>
+    ensures first { IfSome result (λ sheets. length sheets.0 ≡ n) }
+    ensures second { IfSome result (λ sheets. length sheets.1 ≡ n) }
+{
+    Some((filled(alloc, n)?, filled(alloc, n)?))
+}
+
+/// Two sheets of these bytes.
+pub(crate) fn copied_twice(alloc: Global, bytes: &[u8]) -> Option<(Sheet, Sheet)> {
+    Some((copied(alloc, bytes)?, copied(alloc, bytes)?))
+}
+
 /// Writes bytes from byte `at` on, unless they do not fit.
 pub(crate) fn write_at<T: Lent>(target: &mut T, at: u64, bytes: &[u8]) -> bool {
     let length = target.bytes().len();

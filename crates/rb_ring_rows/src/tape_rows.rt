@@ -5,8 +5,9 @@ ghost use Rattle.rb_history.specs.Span.{span};
 ghost use Rattle.rb_history.specs.TapeBytes.{IsItemAt};
 ghost use Rattle.rb_tape.specs.Items.{item_of as item_in};
 
+use crate::answers::setup_word;
 use crate::text::Text;
-use rb_history::{OpenFault, Taken, is_size, is_start, span};
+use rb_history::{Taken, is_size, is_start, span};
 use rb_lend::Lent;
 use rb_tape::{Event, Feed, Item, Record, Tape, TapeFault, TapeKind, TapeWriter, count_records};
 use std::alloc::Global;
@@ -19,17 +20,13 @@ const PIECES: [usize; 5] = [1, 3, 7, 64, 4096];
 pub(crate) fn tell_tape(alloc: Global, bytes: &[u8], size: u64, start: u64, out: &mut Text) {
     match Tape::new(bytes, size, start) {
         Ok(tape) => tell_whole(tape, out),
-        Err(fault) => tell_refused(fault, out),
+        Err(fault) => out.word(setup_word(fault)),
     }
     if let Ok((records, _)) = count_records(bytes, size, start) {
         out.field("records", records as u64);
     }
     for length in PIECES {
-        let mut told = Text::new(alloc);
-        match Feed::new(alloc, size, start) {
-            Ok(feed) => tell_pieces(feed, bytes, length, &mut told),
-            Err(fault) => tell_refused(fault, &mut told),
-        }
+        let told = told_in_pieces(alloc, bytes, length, size, start);
         if told.as_str() != out.as_str() {
             out.field("differs in pieces of", length as u64);
             return out.push(told.as_str());
@@ -37,13 +34,16 @@ pub(crate) fn tell_tape(alloc: Global, bytes: &[u8], size: u64, start: u64, out:
     }
 }
 
-fn tell_refused(fault: OpenFault, out: &mut Text) {
-    match fault {
-        OpenFault::Size => out.word("refused size"),
-        OpenFault::Start => out.word("refused start"),
-        OpenFault::Workers => out.word("refused workers"),
-        OpenFault::Memory => out.word("refused memory"),
+// What a tape gives in pieces of this length.
+fn told_in_pieces(alloc: Global, bytes: &[u8], length: usize, size: u64, start: u64) -> Text
+    requires { 0 < length }
+{
+    let mut told = Text::new(alloc);
+    match Feed::new(alloc, size, start) {
+        Ok(feed) => tell_pieces(feed, bytes, length, &mut told),
+        Err(fault) => told.word(setup_word(fault)),
     }
+    told
 }
 
 fn tell_whole(tape: Tape<'_>, out: &mut Text) {
@@ -79,8 +79,7 @@ fn tell_read(feed: &mut Feed, most: usize, out: &mut Text) -> u64 {
     for count in 0..most {
         match feed.next() {
             Some(Ok(record)) => tell_record(record, out),
-            Some(Err(_)) => return count as u64,
-            None => return count as u64,
+            Some(Err(_)) | None => return count as u64,
         }
     }
     most as u64
@@ -95,8 +94,7 @@ fn tell_record(record: Record<'_>, out: &mut Text) {
     out.field("pos", record.pos);
     out.field("len", u64::from(record.len));
     if !record.discarded {
-        out.word("bytes");
-        out.bytes(record.bytes);
+        out.contents(record.bytes);
     }
     out.push(";");
 }

@@ -1,7 +1,5 @@
 //! Text that is gathered piece by piece.
 
-ghost use Rattle.std.specs.Prelude.{◌<◌};
-
 use std::alloc::Global;
 
 /// Text that is gathered without an early exit. A piece for which there is no memory is left out, and the text is incomplete from then on.
@@ -30,9 +28,10 @@ impl Text {
         self.complete
     }
 
-    /// Forgets the text, and keeps its memory.
-    pub(crate) fn clear(&mut self) {
-        self.text.clear();
+    /// Adds what another text gathered; the text is incomplete where that one is.
+    pub(crate) fn add(&mut self, other: &Text) {
+        self.push(other.as_str());
+        self.complete = self.complete && other.complete;
     }
 
     /// Adds a piece.
@@ -70,28 +69,21 @@ impl Text {
         }
     }
 
+    /// Adds the word `bytes`, and bytes in hex.
+    pub(crate) fn contents(&mut self, bytes: &[u8]) {
+        self.word("bytes");
+        self.bytes(bytes);
+    }
+
     // Adds a run of equal bytes.
     fn run(&mut self, run: &[u8]) {
         let byte = run.first().copied().unwrap_or(0);
-        self.push(" ");
-        self.hex_digit(byte / 16);
-        self.hex_digit(byte % 16);
+        if write!(self.text, " {byte:02x}").is_err() {
+            self.complete = false;
+        }
         if run.len() != 1 {
             self.push("*");
             self.digits(run.len() as u64);
-        }
-    }
-
-    fn hex_digit(&mut self, digit: u8)
-        requires { digit < 16 }
-    {
-        let digit = if digit < 10 {
-            b'0' + digit
-        } else {
-            b'a' - 10 + digit
-        };
-        if self.text.push(char::from(digit)).is_err() {
-            self.complete = false;
         }
     }
 

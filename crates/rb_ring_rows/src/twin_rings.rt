@@ -1,22 +1,24 @@
 //! A ring that keeps a chapter of its history, and beside it the twin that keeps all of it in a list. Each call is made on both.
 
-ghost use Rattle.std.specs.Prelude.{◌≡◌, ◌<◌, IfSome, IsTrue, length};
+ghost use Rattle.std.specs.Prelude.{◌≡◌, ◌+◌, ◌<◌, ◌≤◌, IfSome, IsTrue, vec_capacity, vec_len};
 
 use crate::answers::{
-    bind_word, open_word, reserve_word, tell_all_taken, tell_counts, tell_end, tell_entries,
-    tell_granted, tell_handed_out, tell_notice, tell_refusal, tell_taken,
+    bind_word, tell_all_taken, tell_counts, tell_entries, tell_handed_out, tell_taken,
 };
-use crate::shared_answers::{tell_record, tell_reserved};
-use crate::sheets::{copied, filled, write_at};
+use crate::script::RingNumbers;
+use crate::shared_answers::tell_contents;
+use crate::sheets::{copied_twice, filled_twice, write_at};
 use crate::tape_rows::tell_written;
 use crate::text::Text;
-use rb_chapter_ring::{Chapter, Reservation, ReserveFault, RingState, UntakenStatus};
-use rb_for_tests::RingState as ListState;
-use rb_history::{
-    OpenFault as ListOpenFault, Reservation as ListReservation, ReserveFault as ListFault, Taken,
+use crate::twin_calls::{
+    Asked, Ending, end_in_chapter, end_in_list, opened_list, opened_ring, output_in_chapter,
+    output_in_list, reserve_in_chapter, reserve_in_list, tell_opened,
 };
+use rb_chapter_ring::{Chapter, Reservation, RingState, UntakenStatus};
+use rb_for_tests::RingState as ListState;
+use rb_history::{Reservation as ListReservation, Taken};
 use rb_ledger::bind_chapters;
-use rb_lend::{Lent, Sheet};
+use rb_lend::Lent;
 use std::alloc::Global;
 
 /// A ring over chapters and its twin over a list, for the same workers.
@@ -45,59 +47,37 @@ impl TwinRecord {
     /// Writes bytes from byte `at` on, where they fit.
     pub(crate) fn write(&mut self, at: u64, bytes: &[u8], out: &mut Text) {
         if write_at(&mut self.ring, at, bytes) && write_at(&mut self.list, at, bytes) {
-            tell_record(&self.ring, out);
-            out.word("bytes");
-            out.bytes(self.ring.bytes());
+            tell_contents(&self.ring, out);
         } else {
             out.word("fault: outside");
         }
     }
 }
 
-/// How a record is ended.
-#[derive(Clone, Copy)]
-pub(crate) enum Ending {
-    Submit,
-    Discard,
-}
-
-// What a ring over chapters answered to a reservation.
-enum Asked {
-    Granted(Reservation),
-    Refused,
-    // The chapter has no room, or the worker no free hand: the list knows neither.
-    Unknown,
-}
-
 impl TwinRings {
     /// Opens both rings, unless they are refused. The list has no chapters, so it is not asked where the chapters' room is refused.
-    pub(crate) fn open(
-        alloc: Global,
-        size: u64,
-        start: u64,
-        workers: u32,
-        room: u32,
-        out: &mut Text,
-    ) -> Option<TwinRings> {
+    pub(crate) fn open(alloc: Global, setup: RingNumbers, out: &mut Text) -> Option<TwinRings> {
+        let RingNumbers {
+            size,
+            start,
+            workers,
+            room,
+        } = setup;
         let (ring, word) = opened_ring(alloc, size, start, workers, room);
         let (list, list_word) = opened_list(alloc, size, start, workers);
-        out.word(word);
-        if word != list_word && word != "refused chapter" {
-            out.word("differs");
-            out.word(list_word);
-        }
-        match (ring, list) {
-            (Some(ring), Some(list)) => Some(TwinRings {
-                size,
-                start,
-                workers,
-                ring,
-                list,
-                handed_out: 0,
-                taken: Vec::new(alloc),
-            }),
-            _ => None,
-        }
+        tell_opened(word, list_word, out);
+        let (Some(ring), Some(list)) = (ring, list) else {
+            return None;
+        };
+        Some(TwinRings {
+            size,
+            start,
+            workers,
+            ring,
+            list,
+            handed_out: 0,
+            taken: Vec::new(alloc),
+        })
     }
 
     /// Reserves a record of `n` bytes into the worker's lowest free hand, in a sheet full of 255. The list is not asked where the chapter has
@@ -113,26 +93,19 @@ impl TwinRings {
             out.word("fault: no such worker");
             return None;
         }
-        let (Some(sheet), Some(other)) = (filled(alloc, n), filled(alloc, n)) else {
+        let Some((sheet, other)) = filled_twice(alloc, n) else {
             out.word("fault: no memory");
             return None;
         };
-        let mut told = Text::new(alloc);
-        let record = match reserve_in_chapter(&mut self.ring, worker, n, sheet, out) {
-            Asked::Unknown => return None,
-            Asked::Granted(ring) => {
-                match reserve_in_list(&mut self.list, worker, n, other, &mut told) {
-                    Some(list) => Some(TwinRecord { ring, list }),
-                    None => None,
-                }
+        match reserve_in_chapter(&mut self.ring, worker, n, sheet, out) {
+            Asked::Answered(ring) => {
+                let mut told = Text::new(alloc);
+                let list = reserve_in_list(&mut self.list, worker, n, other, &mut told);
+                self.compare(out, &told);
+                twin_record(ring, list)
             }
-            Asked::Refused => {
-                let _ = reserve_in_list(&mut self.list, worker, n, other, &mut told);
-                None
-            }
-        };
-        self.compare(out, &told);
-        record
+            Asked::Unknown => None,
+        }
     }
 
     /// Submits a record to both rings, or gives it up. The reservations come back where they are stray: out in no hand of the ring, which is not
@@ -146,21 +119,14 @@ impl TwinRings {
         out: &mut Text,
     ) -> Option<TwinRecord> {
         let TwinRecord { ring, list } = record;
-        let mut told = Text::new(alloc);
         let ring = end_in_chapter(&mut self.ring, ring, ending, flags, out);
         if ring.is_some() && self.has_busy(&list) {
-            return ring.map(|ring| TwinRecord { ring, list });
+            return twin_record(ring, Some(list));
         }
-        let other = match ending {
-            Ending::Submit => self.list.submit(list, flags),
-            Ending::Discard => self.list.discard(list, flags),
-        };
-        let list = tell_end(other, &mut told);
+        let mut told = Text::new(alloc);
+        let list = end_in_list(&mut self.list, list, ending, flags, &mut told);
         self.compare(out, &told);
-        match (ring, list) {
-            (Some(ring), Some(list)) => Some(TwinRecord { ring, list }),
-            _ => None,
-        }
+        twin_record(ring, list)
     }
 
     /// Outputs these bytes. The list is not asked where the chapter has no room.
@@ -175,58 +141,42 @@ impl TwinRings {
         if !self.has_worker(worker) {
             return out.word("fault: no such worker");
         }
-        let (Some(sheet), Some(other)) = (copied(alloc, bytes), copied(alloc, bytes)) else {
+        let Some((sheet, other)) = copied_twice(alloc, bytes) else {
             return out.word("fault: no memory");
         };
-        let is_asked = match self.ring.output(worker, sheet, flags) {
-            Ok(notice) => {
-                tell_notice(out, notice);
-                true
-            }
-            Err((fault, back)) => {
-                tell_refusal(out, reserve_word(fault), &back);
-                fault != ReserveFault::ChapterFull
-            }
-        };
-        if is_asked {
+        if output_in_chapter(&mut self.ring, worker, sheet, flags, out) {
             let mut told = Text::new(alloc);
-            match self.list.output(worker, other, flags) {
-                Ok(notice) => tell_notice(&mut told, notice),
-                Err((fault, back)) => tell_refusal(&mut told, list_word(fault), &back),
-            }
+            output_in_list(&mut self.list, worker, other, flags, &mut told);
             self.compare(out, &told);
         }
     }
 
     /// Takes one record.
     pub(crate) fn take(&mut self, alloc: Global, out: &mut Text) {
-        let mut told = Text::new(alloc);
         let taken = self.ring.take();
         tell_taken(out, &taken);
         if self.taken.push(taken).is_err() {
             out.word("fault: no memory");
         }
+        let mut told = Text::new(alloc);
         tell_taken(&mut told, &self.list.take());
         self.compare(out, &told);
     }
 
     /// Takes up to `n` records in one call.
     pub(crate) fn take_many(&mut self, alloc: Global, n: usize, out: &mut Text) {
-        let mut told = Text::new(alloc);
-        let (Ok(mut taken), Ok(mut other)) = (
-            Vec::with_capacity(alloc, n),
-            Vec::with_capacity(alloc, n),
-        ) else {
+        let Some((mut taken, mut other)) = two_rooms(alloc, n) else {
             return out.word("fault: no memory");
         };
         let many = self.ring.take_many(n, &mut taken);
         tell_all_taken(out, many, taken.as_slice());
-        let many = self.list.take_many(n, &mut other);
-        tell_all_taken(&mut told, many, other.as_slice());
-        self.compare(out, &told);
         if self.taken.append(&mut taken).is_err() {
             out.word("fault: no memory");
         }
+        let mut told = Text::new(alloc);
+        let many = self.list.take_many(n, &mut other);
+        tell_all_taken(&mut told, many, other.as_slice());
+        self.compare(out, &told);
     }
 
     /// Has the ring over chapters go on in an empty chapter; the one that comes back is the chapter that was handed out, or the empty one.
@@ -317,6 +267,10 @@ impl TwinRings {
                 out.field("differs in query", what);
             }
         }
+        self.compare_histories(out);
+    }
+
+    fn compare_histories(&self, out: &mut Text) {
         let entries = self.ring.chapter().entries();
         let history = self.list.history();
         let all = self.handed_out.wrapping_add(entries.len() as u64);
@@ -327,110 +281,20 @@ impl TwinRings {
     }
 }
 
-fn reserve_in_chapter(
-    ring: &mut RingState,
-    worker: u32,
-    n: u32,
-    sheet: Sheet,
-    out: &mut Text,
-) -> Asked
-    requires worker { worker < ring.old.state.ring.chapter.opening.setup.workers }
-    requires sized { length sheet ≡ n }
+// The reservations of a record, where both rings have it.
+fn twin_record(ring: Option<Reservation>, list: Option<ListReservation>) -> Option<TwinRecord> {
+    Some(TwinRecord {
+        ring: ring?,
+        list: list?,
+    })
+}
+
+// Room for `n` records, twice.
+fn two_rooms(alloc: Global, n: usize) -> Option<(Vec<Taken>, Vec<Taken>)>
+    ensures first { IfSome result (λ rooms. vec_len rooms.0 + n ≤ vec_capacity rooms.0) }
+    ensures second { IfSome result (λ rooms. vec_len rooms.1 + n ≤ vec_capacity rooms.1) }
 {
-    let Some(hand) = ring.free_hand(worker) else {
-        out.word("fault: no free hand");
-        return Asked::Unknown;
-    };
-    let answer = ring.reserve(worker, hand, n, sheet);
-    let is_chapter_full = matches!(&answer, Err((ReserveFault::ChapterFull, _)));
-    match tell_reserved(answer, out) {
-        Some(record) => Asked::Granted(record),
-        None if is_chapter_full => Asked::Unknown,
-        None => Asked::Refused,
-    }
-}
-
-// Submits a record or gives it up; the reservation comes back where it is not out at the ring, which is not asked then.
-fn end_in_chapter(
-    ring: &mut RingState,
-    record: Reservation,
-    ending: Ending,
-    flags: u64,
-    out: &mut Text,
-) -> Option<Reservation> {
-    if !ring.is_out(&record) {
-        out.word("stray");
-        tell_record(&record, out);
-        return Some(record);
-    }
-    let notice = match ending {
-        Ending::Submit => ring.submit(record, flags),
-        Ending::Discard => ring.discard(record, flags),
-    };
-    tell_notice(out, notice);
-    None
-}
-
-fn reserve_in_list(
-    list: &mut ListState,
-    worker: u32,
-    n: u32,
-    sheet: Sheet,
-    out: &mut Text,
-) -> Option<ListReservation>
-    requires worker { worker < list.old.setup.workers }
-    requires sized { length sheet ≡ n }
-    ensures { list.new.setup ≡ list.old.setup }
-{
-    match list.reserve(worker, n, sheet) {
-        Ok(record) => {
-            tell_granted(out, &record);
-            Some(record)
-        }
-        Err((fault, back)) => {
-            tell_refusal(out, list_word(fault), &back);
-            None
-        }
-    }
-}
-
-// A ring over chapters, or why it is refused.
-fn opened_ring(
-    alloc: Global,
-    size: u64,
-    start: u64,
-    workers: u32,
-    room: u32,
-) -> (Option<RingState>, &'static str) {
-    match RingState::new(alloc, 0, size, start, workers, room) {
-        Ok(ring) => (Some(ring), "opened"),
-        Err(fault) => (None, open_word(fault)),
-    }
-}
-
-// A ring over a list, or why it is refused.
-fn opened_list(
-    alloc: Global,
-    size: u64,
-    start: u64,
-    workers: u32,
-) -> (Option<ListState>, &'static str)
-    ensures { IfSome result.0 (λ list. list.setup.workers ≡ workers) }
-{
-    match ListState::new(alloc, size, start, workers) {
-        Ok(list) => (Some(list), "opened"),
-        Err(ListOpenFault::Size) => (None, "refused size"),
-        Err(ListOpenFault::Start) => (None, "refused start"),
-        Err(ListOpenFault::Workers) => (None, "refused workers"),
-        Err(ListOpenFault::Memory) => (None, "refused memory"),
-    }
-}
-
-fn list_word(fault: ListFault) -> &'static str {
-    match fault {
-        ListFault::Full => "full",
-        ListFault::Flags => "flags",
-        ListFault::Memory => "memory",
-        ListFault::Foreign => "foreign",
-    }
+    let first = Vec::with_capacity(alloc, n).ok()?;
+    let second = Vec::with_capacity(alloc, n).ok()?;
+    Some((first, second))
 }

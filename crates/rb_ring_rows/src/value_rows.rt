@@ -1,56 +1,53 @@
 //! Rows that need no ring.
 
-use crate::answers::tell_notice;
+use crate::answers::{setup_word, tell_notice};
 use crate::row::Row;
 use crate::script::{WRONG_WORDS, narrow};
 use crate::tape_rows::tell_tape;
 use crate::text::Text;
-use rb_history::{
-    Header, OpenFault, check_setup, is_size, is_start, is_worker_count, notice_for, span,
-};
+use rb_history::{Header, check_setup, is_size, is_start, is_worker_count, notice_for, span};
 use std::alloc::Global;
 
 /// What a row answers that needs no ring.
 pub(crate) fn answer(alloc: Global, row: &Row<'_>, out: &mut Text) {
-    match (row.verb, row.numbers.as_slice()) {
-        ("span", [len]) => out.number(span(narrow(*len))),
-        ("setup", [size, start, workers]) => tell_setup(*size, *start, narrow(*workers), out),
-        ("notice", [consumer, pos, flags]) => tell_notice(out, notice_for(*consumer, *pos, *flags)),
-        ("encode", [len, busy, discard, page]) => {
-            let header = Header {
-                len: narrow(*len),
-                busy: *busy != 0,
-                discard: *discard != 0,
-                page: narrow(*page),
-            };
-            encode(header, out);
-        }
-        ("decode", []) => decode(row.bytes.as_slice(), out),
-        ("tape", [size, start]) => tell_tape(alloc, row.bytes.as_slice(), *size, *start, out),
+    let (first, second, third) = (row.number(0), row.number(1), row.number(2));
+    match (row.verb, row.numbers.len()) {
+        ("span", 1) => out.number(span(narrow(first))),
+        ("setup", 3) => tell_setup(first, second, narrow(third), out),
+        ("notice", 3) => tell_notice(out, notice_for(first, second, third)),
+        ("encode", 4) => encode(row, out),
+        ("decode", 0) => decode(row.bytes.as_slice(), out),
+        ("tape", 2) => tell_tape(alloc, row.bytes.as_slice(), first, second, out),
         _ => out.word("fault: no such command"),
     }
 }
 
 // Whether each number may be a ring's, and whether they may together.
 fn tell_setup(size: u64, start: u64, workers: u32, out: &mut Text) {
-    out.word(if is_size(size) { "size" } else { "no size" });
-    out.word(if is_start(start) { "start" } else { "no start" });
-    out.word(if is_worker_count(workers) {
-        "workers"
-    } else {
-        "no workers"
+    tell_whether(is_size(size), "size", out);
+    tell_whether(is_start(start), "start", out);
+    tell_whether(is_worker_count(workers), "workers", out);
+    out.word(match check_setup(size, start, workers) {
+        Ok(()) => "allowed",
+        Err(fault) => setup_word(fault),
     });
-    match check_setup(size, start, workers) {
-        Ok(()) => out.word("allowed"),
-        Err(OpenFault::Size) => out.word("refused size"),
-        Err(OpenFault::Start) => out.word("refused start"),
-        Err(OpenFault::Workers) => out.word("refused workers"),
-        Err(OpenFault::Memory) => out.word("refused memory"),
+}
+
+fn tell_whether(is_right: bool, word: &str, out: &mut Text) {
+    if !is_right {
+        out.word("no");
     }
+    out.word(word);
 }
 
 // The bytes of a header.
-fn encode(header: Header, out: &mut Text) {
+fn encode(row: &Row<'_>, out: &mut Text) {
+    let header = Header {
+        len: narrow(row.number(0)),
+        busy: row.number(1) != 0,
+        discard: row.number(2) != 0,
+        page: narrow(row.number(3)),
+    };
     if header.len >= 1 << 30 || (header.busy && header.discard) {
         return out.word(WRONG_WORDS);
     }

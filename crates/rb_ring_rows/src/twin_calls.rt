@@ -1,0 +1,202 @@
+//! The calls of a ring that keeps a chapter of its history, and of one that keeps all of it in a list.
+
+ghost use Rattle.std.specs.Prelude.{◌≡◌, ◌<◌, IfSome, length};
+
+use crate::answers::{
+    open_word, reserve_word, setup_word, tell_end, tell_granted, tell_notice, tell_refusal,
+};
+use crate::shared_answers::{tell_record, tell_reserved};
+use crate::text::Text;
+use rb_chapter_ring::{Reservation, ReserveFault, RingState};
+use rb_for_tests::RingState as ListState;
+use rb_history::{Reservation as ListReservation, ReserveFault as ListFault};
+use rb_lend::Sheet;
+use std::alloc::Global;
+
+/// How a record is ended.
+#[derive(Clone, Copy)]
+pub(crate) enum Ending {
+    Submit,
+    Discard,
+}
+
+/// What a ring over chapters answered to a reservation.
+pub(crate) enum Asked {
+    /// The record that it granted, or none.
+    Answered(Option<Reservation>),
+    /// The chapter has no room, or the worker no free hand: the list knows neither.
+    Unknown,
+}
+
+/// Reserves a record of `n` bytes in this sheet, into the worker's lowest free hand.
+pub(crate) fn reserve_in_chapter(
+    ring: &mut RingState,
+    worker: u32,
+    n: u32,
+    sheet: Sheet,
+    out: &mut Text,
+) -> Asked
+    requires worker { worker < ring.old.state.ring.chapter.opening.setup.workers }
+    requires sized { length sheet ≡ n }
+{
+    let Some(hand) = ring.free_hand(worker) else {
+        out.word("fault: no free hand");
+        return Asked::Unknown;
+    };
+    let answer = ring.reserve(worker, hand, n, sheet);
+    let is_chapter_full = matches!(&answer, Err((ReserveFault::ChapterFull, _)));
+    let record = tell_reserved(answer, out);
+    if is_chapter_full {
+        Asked::Unknown
+    } else {
+        Asked::Answered(record)
+    }
+}
+
+/// Submits a record or gives it up; the reservation comes back where it is not out at the ring, which is not asked then.
+pub(crate) fn end_in_chapter(
+    ring: &mut RingState,
+    record: Reservation,
+    ending: Ending,
+    flags: u64,
+    out: &mut Text,
+) -> Option<Reservation> {
+    if !ring.is_out(&record) {
+        out.word("stray");
+        tell_record(&record, out);
+        return Some(record);
+    }
+    let notice = match ending {
+        Ending::Submit => ring.submit(record, flags),
+        Ending::Discard => ring.discard(record, flags),
+    };
+    tell_notice(out, notice);
+    None
+}
+
+/// Submits a record to the list or gives it up, which is asked whether or not it has the record.
+pub(crate) fn end_in_list(
+    list: &mut ListState,
+    record: ListReservation,
+    ending: Ending,
+    flags: u64,
+    out: &mut Text,
+) -> Option<ListReservation>
+    ensures { list.new.setup ≡ list.old.setup }
+{
+    let answer = match ending {
+        Ending::Submit => list.submit(record, flags),
+        Ending::Discard => list.discard(record, flags),
+    };
+    tell_end(answer, out)
+}
+
+/// Outputs a sheet. Whether the list is asked too: not where the chapter has no room.
+pub(crate) fn output_in_chapter(
+    ring: &mut RingState,
+    worker: u32,
+    sheet: Sheet,
+    flags: u64,
+    out: &mut Text,
+) -> bool
+    requires worker { worker < ring.old.state.ring.chapter.opening.setup.workers }
+{
+    match ring.output(worker, sheet, flags) {
+        Ok(notice) => {
+            tell_notice(out, notice);
+            true
+        }
+        Err((fault, back)) => {
+            tell_refusal(out, reserve_word(fault), &back);
+            fault != ReserveFault::ChapterFull
+        }
+    }
+}
+
+/// Outputs a sheet.
+pub(crate) fn output_in_list(
+    list: &mut ListState,
+    worker: u32,
+    sheet: Sheet,
+    flags: u64,
+    out: &mut Text,
+)
+    requires worker { worker < list.old.setup.workers }
+    ensures { list.new.setup ≡ list.old.setup }
+{
+    match list.output(worker, sheet, flags) {
+        Ok(notice) => tell_notice(out, notice),
+        Err((fault, back)) => tell_refusal(out, list_word(fault), &back),
+    }
+}
+
+/// Reserves a record of `n` bytes in this sheet.
+pub(crate) fn reserve_in_list(
+    list: &mut ListState,
+    worker: u32,
+    n: u32,
+    sheet: Sheet,
+    out: &mut Text,
+) -> Option<ListReservation>
+    requires worker { worker < list.old.setup.workers }
+    requires sized { length sheet ≡ n }
+    ensures { list.new.setup ≡ list.old.setup }
+{
+    match list.reserve(worker, n, sheet) {
+        Ok(record) => {
+            tell_granted(out, &record);
+            Some(record)
+        }
+        Err((fault, back)) => {
+            tell_refusal(out, list_word(fault), &back);
+            None
+        }
+    }
+}
+
+/// Tells what both rings answered to their opening.
+pub(crate) fn tell_opened(word: &str, list_word: &str, out: &mut Text) {
+    out.word(word);
+    if word != list_word && word != "refused chapter" {
+        out.word("differs");
+        out.word(list_word);
+    }
+}
+
+/// A ring over chapters, or why it is refused.
+pub(crate) fn opened_ring(
+    alloc: Global,
+    size: u64,
+    start: u64,
+    workers: u32,
+    room: u32,
+) -> (Option<RingState>, &'static str) {
+    match RingState::new(alloc, 0, size, start, workers, room) {
+        Ok(ring) => (Some(ring), "opened"),
+        Err(fault) => (None, open_word(fault)),
+    }
+}
+
+/// A ring over a list, or why it is refused.
+pub(crate) fn opened_list(
+    alloc: Global,
+    size: u64,
+    start: u64,
+    workers: u32,
+) -> (Option<ListState>, &'static str)
+    ensures { IfSome result.0 (λ list. list.setup.workers ≡ workers) }
+{
+    match ListState::new(alloc, size, start, workers) {
+        Ok(list) => (Some(list), "opened"),
+        Err(fault) => (None, setup_word(fault)),
+    }
+}
+
+fn list_word(fault: ListFault) -> &'static str {
+    match fault {
+        ListFault::Full => "full",
+        ListFault::Flags => "flags",
+        ListFault::Memory => "memory",
+        ListFault::Foreign => "foreign",
+    }
+}
