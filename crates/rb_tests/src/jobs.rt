@@ -1,13 +1,14 @@
 //! Worked jobs at one ring of 4,096 bytes, whose chapters have room for 8 entries, one after another.
 
 ghost use Rattle.std.specs.Prelude.{◌≡◌, ◌≤◌, length};
-ghost use Rattle.rb_jobs.specs.SeatHelpers.{AtRings};
+ghost use Rattle.rb_jobs.specs.SeatHelpers.{AtRings, IsAt};
 
-use super::shared::{SUBMIT_42, counts, opened, taken, verified};
+use super::expected::same;
+use super::shared::{SUBMIT_42, counts, is_next, opened, verified};
 use rb_history::Taken;
 use rb_interp::RunFault;
 use rb_jobs::{Gate, Job, JobAnswer, NoStock, jobs_give_back, run_job};
-use rb_lend::{Lent, Sheet};
+use rb_lend::Sheet;
 use rb_shared_ring::{ConsumerSeat, Seat, SharedRing};
 use rb_verifier::Verified;
 use std::alloc::{AllocError, Global};
@@ -54,26 +55,43 @@ fn is_empty<R: Wait>(rt: &R, ring: &SharedRing, consumer: &mut ConsumerSeat) -> 
     matches!(ring.take(rt, consumer), Ok(Taken::Empty))
 }
 
-// What worker 7 answers to a job with the program, and its seats after it.
+// A job of worker 7.
+fn job<'j>(program: &'j Verified, context: &'j [u8]) -> Job<'j>
+    ensures { result.program.now.rings ≡ program.now.rings }
+{
+    Job {
+        worker: 7,
+        program,
+        ctx: context,
+    }
+}
+
+type Counts = Option<(u64, u64, u64, u64)>;
+
+// What worker 7 answers to a job with the program, and its seats after it with the counts of the first.
 fn ran<R: Wait>(
     rt: &R,
     alloc: Global,
     rings: &[SharedRing],
     seats: Vec<Seat>,
-    program: &Verified,
+    job: &Job<'_>,
     gate: &CallOrder,
     calls: &mut u64,
-) -> (Result<JobAnswer, AllocError>, Vec<Seat>)
-    requires rings { program.now.rings ≤ length rings.now }
+) -> ((Result<JobAnswer, AllocError>, Counts), Vec<Seat>)
+    requires rings { job.now.program.now.rings ≤ length rings.now }
     requires seats { AtRings rings.now seats.items }
     ensures seats { AtRings rings.now result.1.items }
 {
-    let job = Job {
-        worker: 7,
-        program,
-        ctx: CONTEXT.as_slice(),
-    };
-    run_job(rt, alloc, rings, seats, &job, gate, &NoStock, calls)
+    let (answer, seats) = run_job(rt, alloc, rings, seats, job, gate, &NoStock, calls);
+    ((answer, seats.first().map(counts)), seats)
+}
+
+// The answer of a job that ends with 0, with so many unlogged failures.
+fn ended_with_0(unlogged: u64) -> Result<JobAnswer, AllocError> {
+    Ok(JobAnswer {
+        result: Ok(0),
+        unlogged,
+    })
 }
 
 #[test]
@@ -85,151 +103,131 @@ fn jobs_submit_42_and_come_to_the_gate_at_each_call(rt: HostRuntime) {
     let rings = [ring];
     let gate = CallOrder::new();
     let mut calls = 0;
-    let done = JobAnswer {
-        result: Ok(0),
-        unlogged: 0,
-    };
+    let job = job(&program, &CONTEXT);
     let seats = vec![in alloc; seat].expect(&rt, "memory");
-    let (answer, seats) = ran(
+    let (told, seats) = ran(&rt, alloc, &rings, seats, &job, &gate, &mut calls);
+    same(
         &rt,
-        alloc,
-        rings.as_slice(),
-        seats,
-        &program,
-        &gate,
-        &mut calls,
+        &(told, calls),
+        &((ended_with_0(0), Some((1, 0, 1, 0))), 2),
     );
-    assert_eq!(rt; answer, Ok(done));
-    assert_eq!(rt; seats.first().map(counts), Some((1, 0, 1, 0)));
-    assert_eq!(rt; calls, 2);
-    let (answer, seats) = ran(
+    let (told, _seats) = ran(&rt, alloc, &rings, seats, &job, &gate, &mut calls);
+    same(&rt, &told, &(ended_with_0(0), Some((2, 0, 2, 0))));
+    let bytes = [42, 0, 0, 0, 0, 0, 0, 0];
+    is_next(&rt, &rings[0], &mut consumer, (0, 0, 0, &bytes));
+    is_next(&rt, &rings[0], &mut consumer, (16, 0, 1, &bytes));
+    let is_empty = is_empty(&rt, &rings[0], &mut consumer);
+    same(
         &rt,
-        alloc,
-        rings.as_slice(),
-        seats,
-        &program,
-        &gate,
-        &mut calls,
+        &(is_empty, calls, gate.next.get(), gate.other.get()),
+        &(true, 4, 4, false),
     );
-    assert_eq!(rt; answer, Ok(done));
-    assert_eq!(rt; seats.first().map(counts), Some((2, 0, 2, 0)));
-    let (_, worker, serial, sheet) = taken(&rt, &rings[0], &mut consumer);
-    assert_eq!(rt; (worker, serial), (0, 0));
-    assert_eq!(rt; sheet.bytes(), [42, 0, 0, 0, 0, 0, 0, 0].as_slice());
-    let (_, worker, serial, sheet) = taken(&rt, &rings[0], &mut consumer);
-    assert_eq!(rt; (worker, serial), (0, 1));
-    assert_eq!(rt; sheet.bytes(), [42, 0, 0, 0, 0, 0, 0, 0].as_slice());
-    assert!(rt; is_empty(&rt, &rings[0], &mut consumer));
-    assert_eq!(rt; (calls, gate.next.get(), gate.other.get()), (4, 4, false));
+}
+
+// What a job at a ring tells: its answer, the seat's counts, the number of the next call, and what its gate tells: how often it was come to,
+// and whether by another call than its next.
+type Told = ((Result<JobAnswer, AllocError>, Counts), (u64, u64, bool));
+
+// What a job of worker 7 with the program and this context tells, whose first call has this number.
+fn told_by_job<R: Wait + Abort>(
+    rt: &R,
+    alloc: Global,
+    rings: &[SharedRing],
+    seats: Vec<Seat>,
+    text: &str,
+    context: &[u8],
+    first_call: u64,
+) -> Told
+    requires rings { 1 ≤ length rings.now }
+    requires seats { AtRings rings.now seats.items }
+{
+    let program = verified(rt, alloc, text, 16, 1);
+    let gate = CallOrder::new();
+    let mut calls = first_call;
+    let job = job(&program, context);
+    let (told, _seats) = ran(rt, alloc, rings, seats, &job, &gate, &mut calls);
+    (told, (calls, gate.next.get(), gate.other.get()))
 }
 
 #[test]
 fn a_job_outputs_bytes_of_its_context(rt: HostRuntime) {
     let alloc = rt.alloc();
-    let program = verified(&rt, alloc, OUTPUT_CONTEXT, 16, 1);
     let (ring, seat, mut consumer) = opened(&rt, alloc, 3, 8);
     let rings = [ring];
-    let gate = CallOrder::new();
-    let mut calls = u64::MAX;
     let seats = vec![in alloc; seat].expect(&rt, "memory");
-    let (answer, seats) = ran(
+    let told = told_by_job(
         &rt,
         alloc,
-        rings.as_slice(),
+        &rings,
         seats,
-        &program,
-        &gate,
-        &mut calls,
+        OUTPUT_CONTEXT,
+        &CONTEXT,
+        u64::MAX,
     );
-    assert!(rt; answer.is_ok_and(|a: JobAnswer| a.result == Ok(0) && a.unlogged == 0));
-    assert_eq!(rt; seats.first().map(counts), Some((1, 0, 1, 0)));
-    let (_, worker, serial, sheet) = taken(&rt, &rings[0], &mut consumer);
-    assert_eq!(rt; (worker, serial), (0, 0));
-    assert_eq!(rt; sheet.bytes(), [1, 2, 3, 4, 5, 6, 7, 8].as_slice());
-    assert_eq!(rt; (calls, gate.other.get()), (u64::MAX, true));
+    same(
+        &rt,
+        &told,
+        &((ended_with_0(0), Some((1, 0, 1, 0))), (u64::MAX, 1, true)),
+    );
+    is_next(&rt, &rings[0], &mut consumer, (0, 0, 0, &CONTEXT[..8]));
 }
 
 #[test]
 fn a_context_of_another_length_makes_no_call(rt: HostRuntime) {
-    let program = verified(&rt, rt.alloc(), SUBMIT_42, 16, 1);
-    let (ring, seat, mut consumer) = opened(&rt, rt.alloc(), 3, 8);
+    let alloc = rt.alloc();
+    let (ring, seat, mut consumer) = opened(&rt, alloc, 3, 8);
     let rings = [ring];
-    let gate = CallOrder::new();
-    let mut calls = 0;
-    let job = Job {
-        worker: 7,
-        program: &program,
-        ctx: [1, 2, 3].as_slice(),
-    };
-    let seats = vec![in rt.alloc(); seat].expect(&rt, "memory");
-    let (answer, seats) = run_job(
-        &rt,
-        rt.alloc(),
-        rings.as_slice(),
-        seats,
-        &job,
-        &gate,
-        &NoStock,
-        &mut calls,
-    );
+    let seats = vec![in alloc; seat].expect(&rt, "memory");
+    let told = told_by_job(&rt, alloc, &rings, seats, SUBMIT_42, &CONTEXT[..3], 0);
     let refused = JobAnswer {
         result: Err(RunFault::ContextLength),
         unlogged: 0,
     };
-    assert_eq!(rt; answer, Ok(refused));
-    assert_eq!(rt; seats.first().map(counts), Some((0, 0, 0, 0)));
-    assert_eq!(rt; (calls, gate.next.get()), (0, 0));
-    assert!(rt; is_empty(&rt, &rings[0], &mut consumer));
+    same(
+        &rt,
+        &told,
+        &((Ok(refused), Some((0, 0, 0, 0))), (0, 0, false)),
+    );
+    same(&rt, &is_empty(&rt, &rings[0], &mut consumer), &true);
+}
+
+// Reserves a record of so many bytes.
+fn reserved<R: Wait + Abort>(rt: &R, alloc: Global, ring: &SharedRing, seat: &mut Seat, n: u32)
+    requires { IsAt ring.now seat.old }
+    ensures { IsAt ring.now seat.new }
+{
+    let sheet = Sheet::new(alloc, n).expect(rt, "memory");
+    let is_granted = ring.reserve(rt, seat, n, sheet).is_ok();
+    same(rt, &is_granted, &true);
 }
 
 #[test]
 fn a_full_ring_gives_null_and_is_logged(rt: HostRuntime) {
     let alloc = rt.alloc();
-    let program = verified(&rt, alloc, SUBMIT_42, 16, 1);
     let (ring, mut seat, _consumer) = opened(&rt, alloc, 3, 8);
-    let sheet = Sheet::new(alloc, 4080).expect(&rt, "memory");
-    assert!(rt; ring.reserve(&rt, &mut seat, 4080, sheet).is_ok());
+    reserved(&rt, alloc, &ring, &mut seat, 4080);
     let rings = [ring];
-    let gate = CallOrder::new();
-    let mut calls = 0;
     let seats = vec![in alloc; seat].expect(&rt, "memory");
-    let (answer, seats) = ran(
+    let told = told_by_job(&rt, alloc, &rings, seats, SUBMIT_42, &CONTEXT, 0);
+    same(
         &rt,
-        alloc,
-        rings.as_slice(),
-        seats,
-        &program,
-        &gate,
-        &mut calls,
+        &told,
+        &((ended_with_0(0), Some((1, 1, 0, 0))), (1, 1, false)),
     );
-    assert!(rt; answer.is_ok_and(|a: JobAnswer| a.result.is_ok() && a.unlogged == 0));
-    assert_eq!(rt; seats.first().map(counts), Some((1, 1, 0, 0)));
-    assert_eq!(rt; (calls, gate.next.get(), gate.other.get()), (1, 1, false));
 }
 
 #[test]
 fn a_full_chapter_gives_null_and_is_unlogged(rt: HostRuntime) {
     let alloc = rt.alloc();
-    let program = verified(&rt, alloc, SUBMIT_42, 16, 1);
     let (ring, mut seat, _consumer) = opened(&rt, alloc, 3, 8);
-    let first = Sheet::new(alloc, 8).expect(&rt, "memory");
-    assert!(rt; ring.reserve(&rt, &mut seat, 8, first).is_ok());
-    let second = Sheet::new(alloc, 8).expect(&rt, "memory");
-    assert!(rt; ring.reserve(&rt, &mut seat, 8, second).is_ok());
+    reserved(&rt, alloc, &ring, &mut seat, 8);
+    reserved(&rt, alloc, &ring, &mut seat, 8);
     let rings = [ring];
-    let gate = CallOrder::new();
-    let mut calls = 0;
     let seats = vec![in alloc; seat].expect(&rt, "memory");
-    let (answer, seats) = ran(
+    let told = told_by_job(&rt, alloc, &rings, seats, SUBMIT_42, &CONTEXT, 0);
+    same(
         &rt,
-        alloc,
-        rings.as_slice(),
-        seats,
-        &program,
-        &gate,
-        &mut calls,
+        &told,
+        &((ended_with_0(1), Some((2, 0, 0, 0))), (1, 1, false)),
     );
-    assert!(rt; answer.is_ok_and(|a: JobAnswer| a.result.is_ok() && a.unlogged == 1));
-    assert_eq!(rt; seats.first().map(counts), Some((2, 0, 0, 0)));
-    assert_eq!(rt; (calls, gate.next.get(), gate.other.get()), (1, 1, false));
 }

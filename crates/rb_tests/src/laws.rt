@@ -1,5 +1,6 @@
 //! The shared types, and the laws called once.
 
+use super::expected::same;
 use rb_insn::spelling_laws;
 use rb_program::decoding_laws;
 use rb_semantics::{
@@ -13,21 +14,27 @@ use rb_verifier::{step_keeps_form, step_keeps_order};
 #[test]
 fn pointers_differ_by_part_and_offset(rt: HostRuntime) {
     let start = Value::Pointer(MemoryRegion::Record(4), 0);
-    assert!(rt; start == Value::Pointer(MemoryRegion::Record(4), 0));
-    assert!(rt; start != Value::Pointer(MemoryRegion::Record(5), 0));
-    assert!(rt; start != Value::Pointer(MemoryRegion::Record(4), 8));
-    assert!(rt; start != Value::Pointer(MemoryRegion::Context, 0));
-    assert!(rt; start != Value::Ring(4));
-    assert!(rt; start != Value::Number(0));
-    assert!(rt; Value::Nothing != Value::Number(0));
+    let told = [
+        start == Value::Pointer(MemoryRegion::Record(4), 0),
+        start != Value::Pointer(MemoryRegion::Record(5), 0),
+        start != Value::Pointer(MemoryRegion::Record(4), 8),
+        start != Value::Pointer(MemoryRegion::Context, 0),
+        start != Value::Ring(4),
+        start != Value::Number(0),
+        Value::Nothing != Value::Number(0),
+    ];
+    same(&rt, &told, &[true; 7]);
 }
 
 #[test]
 fn calls_wait_for_different_answers(rt: HostRuntime) {
-    assert!(rt; PendingCall::Reserve(8) == PendingCall::Reserve(8));
-    assert!(rt; PendingCall::Reserve(8) != PendingCall::Reserve(16));
-    assert!(rt; PendingCall::Output != PendingCall::Query);
-    assert!(rt; PendingCall::GiveBack != PendingCall::Output);
+    let told = [
+        PendingCall::Reserve(8) == PendingCall::Reserve(8),
+        PendingCall::Reserve(8) != PendingCall::Reserve(16),
+        PendingCall::Output != PendingCall::Query,
+        PendingCall::GiveBack != PendingCall::Output,
+    ];
+    same(&rt, &told, &[true; 4]);
 }
 
 #[test]

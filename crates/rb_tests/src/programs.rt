@@ -1,9 +1,10 @@
 //! Programs that call helpers, one instruction at a time.
 
-ghost use Rattle.std.specs.Prelude.{◌≡◌, IfSome, replicate};
+ghost use Rattle.std.specs.Prelude.{◌≡◌, IfSome, false, replicate};
 ghost use Rattle.rb_semantics.specs.declared.pending_call.PendingCall.TheVariants.{Reserve, GiveBack};
 ghost use Rattle.rb_interp.specs.declared.step.Phase.TheVariants.{Ready, Waiting};
 
+use super::expected::same;
 use super::shared::{SUBMIT_42, verified};
 use rb_interp::{Answer, Machine, Request, Step};
 use rb_lend::{Lent, Sheet};
@@ -41,54 +42,76 @@ fn answer_submit(machine: &mut RunningMachine<'_>)
     machine.answer(Answer::Taken);
 }
 
-// How many instructions a program executes to its end, and the bytes that it submits, where reservations are granted or not.
-fn executed(rt: &impl Abort, alloc: Global, program: &Verified, grants: bool) -> (u32, Vec<u8>) {
+// The record that a reservation is answered with, if it is granted.
+fn record_of(rt: &impl Abort, alloc: Global, len: u32, grants: bool) -> Option<Sheet>
+    ensures zeros { IfSome result (λ r. r ≡ replicate len 0) }
+{
+    if grants {
+        Some(Sheet::new(alloc, len).expect(rt, "memory"))
+    } else {
+        None
+    }
+}
+
+// Executes one instruction, and keeps the bytes that it submits. Whether it ended the program.
+fn has_ended(
+    rt: &impl Abort,
+    alloc: Global,
+    machine: &mut RunningMachine<'_>,
+    grants: bool,
+    submitted: &mut Vec<u8>,
+) -> bool
+    requires ready { machine.old.phase ≡ Ready }
+    ensures goes_on { result ≡ false → machine.new.phase ≡ Ready }
+{
+    match machine.step() {
+        Step::Went => {}
+        Step::Exit(_) => return true,
+        Step::Call(Request::Reserve { len, .. }) => {
+            answer_reserve(machine, len, record_of(rt, alloc, len, grants));
+        }
+        Step::Call(Request::Submit { owned, .. }) => {
+            let copied = submitted.extend_from_slice(owned.bytes());
+            copied.expect(rt, "memory");
+            answer_submit(machine);
+        }
+        Step::Call(_) => rt.panic("another call"),
+    }
+    false
+}
+
+// Ends the test where the program does not execute so many instructions to its end and submit these bytes, where reservations are granted
+// or not.
+fn executes(
+    rt: &impl Abort,
+    alloc: Global,
+    program: &Verified,
+    grants: bool,
+    wanted: (u32, &[u8]),
+) {
     let mut submitted = Vec::new(alloc);
-    let Ok(mut machine) = Machine::new(program, CONTEXT.as_slice()) else {
-        rt.panic("no machine")
-    };
+    let mut machine = Machine::new(program, CONTEXT.as_slice()).expect(rt, "a machine");
     for count in 1..=16 {
-        match machine.step() {
-            Step::Went => {}
-            Step::Exit(_) => return (count, submitted),
-            Step::Call(Request::Reserve { len, .. }) => {
-                let record = if grants {
-                    Some(Sheet::new(alloc, len).expect(rt, "memory"))
-                } else {
-                    None
-                };
-                answer_reserve(&mut machine, len, record);
-            }
-            Step::Call(Request::Submit { owned, .. }) => {
-                submitted
-                    .extend_from_slice(owned.bytes())
-                    .expect(rt, "memory");
-                answer_submit(&mut machine);
-            }
-            Step::Call(_) => rt.panic("another call"),
+        if has_ended(rt, alloc, &mut machine, grants, &mut submitted) {
+            same(rt, &(count, submitted.as_slice()), &wanted);
+            return;
         }
     }
     rt.panic("no end")
 }
 
+const FORTY_TWO: [u8; 8] = [42, 0, 0, 0, 0, 0, 0, 0];
+
 #[test]
 fn submit_42_executes_each_instruction_once(rt: HostRuntime) {
     let program = verified(&rt, rt.alloc(), SUBMIT_42, 16, 1);
-    let (count, submitted) = executed(&rt, rt.alloc(), &program, true);
-    assert_eq!(rt; count, 11);
-    assert_eq!(rt; submitted.as_slice(), [42, 0, 0, 0, 0, 0, 0, 0].as_slice());
-    let (count, submitted) = executed(&rt, rt.alloc(), &program, false);
-    assert_eq!(rt; count, 7);
-    assert!(rt; submitted.is_empty());
+    executes(&rt, rt.alloc(), &program, true, (11, &FORTY_TWO));
+    executes(&rt, rt.alloc(), &program, false, (7, &[]));
 }
 
 #[test]
 fn a_kept_answer_executes_each_instruction_once(rt: HostRuntime) {
     let program = verified(&rt, rt.alloc(), KEEP_AND_SUBMIT_42, 16, 1);
-    let (count, submitted) = executed(&rt, rt.alloc(), &program, true);
-    assert_eq!(rt; count, 13);
-    assert_eq!(rt; submitted.as_slice(), [42, 0, 0, 0, 0, 0, 0, 0].as_slice());
-    let (count, submitted) = executed(&rt, rt.alloc(), &program, false);
-    assert_eq!(rt; count, 9);
-    assert!(rt; submitted.is_empty());
+    executes(&rt, rt.alloc(), &program, true, (13, &FORTY_TWO));
+    executes(&rt, rt.alloc(), &program, false, (9, &[]));
 }

@@ -2,7 +2,9 @@
 
 ghost use Rattle.std.specs.Prelude.{◌≡◌, ◌<◌};
 
+use super::expected::same;
 use rb_verifier::{Held, Reference};
+use std::alloc::Global;
 
 /// A reference to a record of 8 bytes.
 fn reference(id: u32, sure: bool) -> Reference
@@ -16,24 +18,26 @@ fn reference(id: u32, sure: bool) -> Reference
     }
 }
 
+// References to three records, the first two of which are sure.
+fn three(alloc: Global, is_third_sure: bool) -> Held {
+    Held::new(alloc)
+        .added(reference(1, true))
+        .added(reference(2, true))
+        .added(reference(3, is_third_sure))
+}
+
 #[test]
 fn references_are_held(rt: HostRuntime) {
     let none = Held::new(rt.alloc());
-    assert!(rt; none.is_empty());
-    assert!(rt; !none.is_full());
-    let held = Held::new(rt.alloc())
-        .added(reference(1, true))
-        .added(reference(2, true))
-        .added(reference(3, false));
-    assert!(rt; !held.is_empty());
-    assert!(rt; held.copy().is_same(&held));
-    assert!(rt; !held.is_same(&none));
-    let all_tested = Held::new(rt.alloc())
-        .added(reference(1, true))
-        .added(reference(2, true))
-        .added(reference(3, true));
-    assert!(rt; !held.is_same(&all_tested));
-    assert_eq!(rt; held.get(2), Some(reference(2, true)));
-    assert_eq!(rt; held.get(4), None);
-    assert_eq!(rt; held.as_slice().len(), 3);
+    let held = three(rt.alloc(), false);
+    let counts = (none.as_slice().len(), held.as_slice().len());
+    same(&rt, &counts, &(0, 3));
+    let likenesses = [
+        held.as_slice() == three(rt.alloc(), false).as_slice(),
+        held.as_slice() == none.as_slice(),
+        held.as_slice() == three(rt.alloc(), true).as_slice(),
+    ];
+    same(&rt, &likenesses, &[true, false, false]);
+    let found = (held.get(2), held.get(4));
+    same(&rt, &found, &(Some(reference(2, true)), None));
 }

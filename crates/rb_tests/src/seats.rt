@@ -1,27 +1,16 @@
 //! Worked calls of helpers over the seats of two rings of 4,096 bytes, whose chapters have room for 8 entries.
 
-ghost use Rattle.std.specs.Prelude.{◌≡◌, ◌≤◌, true};
+ghost use Rattle.std.specs.Prelude.{◌≡◌, ◌+◌, ◌≤◌, ◌<◌, true};
 
-use super::shared::{counts, opened, taken};
+use super::expected::same;
+use super::shared::{counts, is_next, len_of, opened, submit_filled};
 use rb_interp::{Done, EAGAIN, EINVAL, Helpers};
 use rb_jobs::{NoStock, SeatHelpers, SeatRecord, Stock};
 use rb_lend::{Lent, Sheet};
+use rb_shared_ring::Seat;
 use std::alloc::Global;
 use std::cell::Cell;
 use std::process::Abort;
-use std::sync::Wait;
-
-/// Reserves a record, fills it and submits it, over any helpers.
-fn submit_filled<H: Helpers>(helpers: &mut H, ring: u32, n: u32, value: u8) -> bool
-    requires room { 2 ≤ H.room_of helpers.old }
-    requires ring { H.has_ring helpers.old ring ≡ true }
-{
-    let Some(mut owned) = helpers.reserve(ring, n, 0) else {
-        return false;
-    };
-    owned.bytes_mut().fill(value);
-    helpers.submit(owned, 0).is_ok()
-}
 
 /// A stock that keeps one sheet.
 #[derive(Drop)]
@@ -48,53 +37,50 @@ impl Stock for OneSheet {
     }
 }
 
+// The counts of the first seat, and those of the last.
+fn counts_of(seats: Vec<Seat>) -> (Option<(u64, u64, u64, u64)>, Option<(u64, u64, u64, u64)>) {
+    (seats.first().map(counts), seats.last().map(counts))
+}
+
 #[test]
 fn a_submitted_record_reaches_its_ring_alone(rt: HostRuntime) {
     let (first, one, _consumer) = opened(&rt, rt.alloc(), 0, 8);
     let (second, two, mut consumer) = opened(&rt, rt.alloc(), 1, 8);
     let rings = [first, second];
     let seats = vec![in rt.alloc(); one, two].expect(&rt, "memory");
-    let Ok(mut helpers) = SeatHelpers::new(&rt, rt.alloc(), rings.as_slice(), seats, 2, &NoStock)
-    else {
-        rt.panic("no memory")
-    };
-    assert_eq!(rt; helpers.room(), 2);
-    assert!(rt; submit_filled(&mut helpers, 1, 8, 42));
-    assert_eq!(rt; (helpers.room(), helpers.unlogged()), (0, 0));
-    assert!(rt;
-        matches!(
-            helpers.trace(),
-            [
-                Done::Reserve {
-                    ring: 1,
-                    len: 8,
-                    flags: 0,
-                    granted: true
-                },
-                Done::Submit {
-                    flags: 0,
-                    taken: true
-                }
-            ]
-        )
+    let opened = SeatHelpers::new(&rt, rt.alloc(), rings.as_slice(), seats, 2, &NoStock);
+    let mut helpers = opened.ok().expect(&rt, "memory");
+    let before = helpers.room();
+    let is_submitted = submit_filled(&mut helpers, 1, 8, 42);
+    let after = (helpers.room(), helpers.unlogged());
+    same(&rt, &(before, is_submitted, after), &(2, true, (0, 0)));
+    same(&rt, &helpers.trace(), &SUBMITTED_TO_SECOND.as_slice());
+    same(
+        &rt,
+        &counts_of(helpers.into_seats()),
+        &(Some((0, 0, 0, 0)), Some((1, 0, 1, 0))),
     );
-    let seats = helpers.into_seats();
-    assert_eq!(rt; seats.first().map(counts), Some((0, 0, 0, 0)));
-    assert_eq!(rt; seats.last().map(counts), Some((1, 0, 1, 0)));
-    let (pos, worker, serial, sheet) = taken(&rt, &rings[1], &mut consumer);
-    assert_eq!(rt; (pos, worker, serial), (0, 0, 0));
-    assert_eq!(rt; sheet.bytes(), [42, 42, 42, 42, 42, 42, 42, 42].as_slice());
+    is_next(&rt, &rings[1], &mut consumer, (0, 0, 0, &[42; 8]));
 }
 
-#[test]
-fn outputs_and_queries_are_answered(rt: HostRuntime) {
-    let (ring, seat, mut consumer) = opened(&rt, rt.alloc(), 0, 8);
-    let rings = [ring];
-    let seats = vec![in rt.alloc(); seat].expect(&rt, "memory");
-    let Ok(mut helpers) = SeatHelpers::new(&rt, rt.alloc(), rings.as_slice(), seats, 5, &NoStock)
-    else {
-        rt.panic("no memory")
-    };
+const SUBMITTED_TO_SECOND: [Done; 2] = [
+    Done::Reserve {
+        ring: 1,
+        len: 8,
+        flags: 0,
+        granted: true,
+    },
+    Done::Submit {
+        flags: 0,
+        taken: true,
+    },
+];
+
+// What an output and four queries answer.
+fn output_and_queries<H: Helpers>(helpers: &mut H) -> (i64, [u64; 4])
+    requires room { 5 ≤ H.room_of helpers.old }
+    requires ring { H.has_ring helpers.old 0 ≡ true }
+{
     let output = helpers.output(0, [5, 6].as_slice(), 0);
     let told = [
         helpers.query(0, 0),
@@ -102,15 +88,37 @@ fn outputs_and_queries_are_answered(rt: HostRuntime) {
         helpers.query(0, 2),
         helpers.query(0, 9),
     ];
-    assert_eq!(rt;
-        (output, told, helpers.unlogged()),
-        (0, [16, 4096, 0, 0], 0)
+    (output, told)
+}
+
+#[test]
+fn outputs_and_queries_are_answered(rt: HostRuntime) {
+    let (ring, seat, mut consumer) = opened(&rt, rt.alloc(), 0, 8);
+    let rings = [ring];
+    let seats = vec![in rt.alloc(); seat].expect(&rt, "memory");
+    let opened = SeatHelpers::new(&rt, rt.alloc(), rings.as_slice(), seats, 5, &NoStock);
+    let mut helpers = opened.ok().expect(&rt, "memory");
+    let answers = output_and_queries(&mut helpers);
+    same(
+        &rt,
+        &(answers, helpers.unlogged()),
+        &((0, [16, 4096, 0, 0]), 0),
     );
-    let seats = helpers.into_seats();
-    assert_eq!(rt; seats.first().map(counts), Some((1, 0, 1, 0)));
-    let (pos, worker, serial, sheet) = taken(&rt, &rings[0], &mut consumer);
-    assert_eq!(rt; (pos, worker, serial), (0, 0, 0));
-    assert_eq!(rt; sheet.bytes(), [5, 6].as_slice());
+    let counts = counts_of(helpers.into_seats()).0;
+    same(&rt, &counts, &Some((1, 0, 1, 0)));
+    is_next(&rt, &rings[0], &mut consumer, (0, 0, 0, &[5, 6]));
+}
+
+// What calls with bad flags answer, and the ring's producer behind them; and the same of an output with good ones.
+fn bad_and_good_flags<H: Helpers>(helpers: &mut H) -> ((i64, bool, u64), (i64, u64))
+    requires room { 5 ≤ H.room_of helpers.old }
+    requires ring { H.has_ring helpers.old 0 ≡ true }
+{
+    let output = helpers.output(0, [5, 6].as_slice(), 4);
+    let is_null = helpers.reserve(0, 8, 1).is_none();
+    let before = helpers.query(0, 3);
+    let good = helpers.output(0, [5, 6].as_slice(), 3);
+    ((output, is_null, before), (good, helpers.query(0, 3)))
 }
 
 #[test]
@@ -118,18 +126,26 @@ fn bad_flags_make_no_step_of_the_ring(rt: HostRuntime) {
     let (ring, seat, _consumer) = opened(&rt, rt.alloc(), 0, 8);
     let rings = [ring];
     let seats = vec![in rt.alloc(); seat].expect(&rt, "memory");
-    let Ok(mut helpers) = SeatHelpers::new(&rt, rt.alloc(), rings.as_slice(), seats, 5, &NoStock)
-    else {
-        rt.panic("no memory")
-    };
-    assert_eq!(rt; helpers.output(0, [5, 6].as_slice(), 4), -EINVAL);
-    assert!(rt; helpers.reserve(0, 8, 1).is_none());
-    assert_eq!(rt; helpers.query(0, 3), 0);
-    assert_eq!(rt; helpers.output(0, [5, 6].as_slice(), 3), 0);
-    assert_eq!(rt; helpers.query(0, 3), 16);
-    assert_eq!(rt; helpers.unlogged(), 0);
-    let seats = helpers.into_seats();
-    assert_eq!(rt; seats.first().map(counts), Some((1, 0, 1, 0)));
+    let opened = SeatHelpers::new(&rt, rt.alloc(), rings.as_slice(), seats, 5, &NoStock);
+    let mut helpers = opened.ok().expect(&rt, "memory");
+    let answers = bad_and_good_flags(&mut helpers);
+    same(
+        &rt,
+        &(answers, helpers.unlogged()),
+        &(((-EINVAL, true, 0), (0, 16)), 0),
+    );
+    let counts = counts_of(helpers.into_seats()).0;
+    same(&rt, &counts, &Some((1, 0, 1, 0)));
+}
+
+// Whether a record of so many bytes is granted.
+fn is_granted<H: Helpers>(helpers: &mut H, n: u32) -> bool
+    requires room { 0 < H.room_of helpers.old }
+    requires ring { H.has_ring helpers.old 0 ≡ true }
+    ensures room { H.room_of helpers.new + 1 ≡ H.room_of helpers.old }
+    ensures ring { H.has_ring helpers.new 0 ≡ true }
+{
+    helpers.reserve(0, n, 0).is_some()
 }
 
 #[test]
@@ -137,17 +153,21 @@ fn a_full_ring_is_refused_in_the_history(rt: HostRuntime) {
     let (ring, seat, _consumer) = opened(&rt, rt.alloc(), 0, 8);
     let rings = [ring];
     let seats = vec![in rt.alloc(); seat].expect(&rt, "memory");
-    let Ok(mut helpers) = SeatHelpers::new(&rt, rt.alloc(), rings.as_slice(), seats, 3, &NoStock)
-    else {
-        rt.panic("no memory")
-    };
+    let opened = SeatHelpers::new(&rt, rt.alloc(), rings.as_slice(), seats, 3, &NoStock);
+    let mut helpers = opened.ok().expect(&rt, "memory");
     let bytes = vec![in rt.alloc(); 7; 4081].expect(&rt, "memory");
-    assert_eq!(rt; helpers.output(0, bytes.as_slice(), 0), -EAGAIN);
-    assert!(rt; helpers.reserve(0, 4081, 0).is_none());
-    assert!(rt; helpers.reserve(0, 4080, 0).is_some());
-    assert_eq!(rt; helpers.unlogged(), 0);
-    let seats = helpers.into_seats();
-    assert_eq!(rt; seats.first().map(counts), Some((1, 2, 0, 0)));
+    let output = helpers.output(0, bytes.as_slice(), 0);
+    let granted = [
+        is_granted(&mut helpers, 4081),
+        is_granted(&mut helpers, 4080),
+    ];
+    same(
+        &rt,
+        &(output, granted, helpers.unlogged()),
+        &(-EAGAIN, [false, true], 0),
+    );
+    let counts = counts_of(helpers.into_seats()).0;
+    same(&rt, &counts, &Some((1, 2, 0, 0)));
 }
 
 #[test]
@@ -155,22 +175,32 @@ fn a_full_chapter_is_unlogged(rt: HostRuntime) {
     let (ring, seat, mut consumer) = opened(&rt, rt.alloc(), 0, 8);
     let rings = [ring];
     let seats = vec![in rt.alloc(); seat].expect(&rt, "memory");
-    let Ok(mut helpers) = SeatHelpers::new(&rt, rt.alloc(), rings.as_slice(), seats, 5, &NoStock)
-    else {
-        rt.panic("no memory")
-    };
-    assert!(rt; helpers.reserve(0, 8, 0).is_some());
-    assert!(rt; helpers.reserve(0, 8, 0).is_some());
-    assert_eq!(rt; rings[0].used(&rt, &mut consumer), Ok((2, 4)));
-    assert!(rt; helpers.reserve(0, 8, 0).is_none());
-    assert_eq!(rt; helpers.unlogged(), 1);
-    assert!(rt; helpers.reserve(0, 5000, 0).is_none());
-    assert_eq!(rt; helpers.unlogged(), 1);
-    assert_eq!(rt; rings[0].used(&rt, &mut consumer), Ok((3, 4)));
-    assert_eq!(rt; helpers.output(0, [5, 6].as_slice(), 0), -EAGAIN);
-    assert_eq!(rt; helpers.unlogged(), 2);
-    let seats = helpers.into_seats();
-    assert_eq!(rt; seats.first().map(counts), Some((2, 1, 0, 0)));
+    let opened = SeatHelpers::new(&rt, rt.alloc(), rings.as_slice(), seats, 5, &NoStock);
+    let mut helpers = opened.ok().expect(&rt, "memory");
+    let granted = [is_granted(&mut helpers, 8), is_granted(&mut helpers, 8)];
+    let used = rings[0].used(&rt, &mut consumer);
+    same(&rt, &(granted, used), &([true, true], Ok((2, 4))));
+    let third = (is_granted(&mut helpers, 8), helpers.unlogged());
+    let wide = (is_granted(&mut helpers, 5000), helpers.unlogged());
+    let used = rings[0].used(&rt, &mut consumer);
+    same(
+        &rt,
+        &(third, wide, used),
+        &((false, 1), (false, 1), Ok((3, 4))),
+    );
+    let output = helpers.output(0, [5, 6].as_slice(), 0);
+    same(&rt, &(output, helpers.unlogged()), &(-EAGAIN, 2));
+    let counts = counts_of(helpers.into_seats()).0;
+    same(&rt, &counts, &Some((2, 1, 0, 0)));
+}
+
+// The record, under the number of another ring.
+fn renumbered(record: SeatRecord, ring: u32) -> SeatRecord {
+    let SeatRecord {
+        ring: _,
+        reservation,
+    } = record;
+    SeatRecord { ring, reservation }
 }
 
 #[test]
@@ -179,58 +209,44 @@ fn a_record_of_no_ring_or_of_another_is_handed_back(rt: HostRuntime) {
     let (second, two, _other_consumer) = opened(&rt, rt.alloc(), 1, 8);
     let rings = [first, second];
     let seats = vec![in rt.alloc(); one, two].expect(&rt, "memory");
-    let Ok(mut helpers) = SeatHelpers::new(&rt, rt.alloc(), rings.as_slice(), seats, 5, &NoStock)
-    else {
-        rt.panic("no memory")
-    };
-    let Some(SeatRecord { ring, reservation }) = helpers.reserve(1, 8, 0) else {
-        rt.panic("null")
-    };
-    assert_eq!(rt; ring, 1);
-    let Err(back) = helpers.submit(
-        SeatRecord {
-            ring: 2,
-            reservation,
-        },
-        0,
-    ) else {
-        rt.panic("submitted to no ring")
-    };
-    assert_eq!(rt; back.ring, 2);
-    let Err(back) = helpers.discard(back, 0) else {
-        rt.panic("discarded at no ring")
-    };
-    let SeatRecord {
-        ring: _,
-        reservation,
-    } = back;
-    let Err(back) = helpers.submit(
-        SeatRecord {
-            ring: 0,
-            reservation,
-        },
-        0,
-    ) else {
-        rt.panic("submitted to another ring")
-    };
-    let SeatRecord {
-        ring: _,
-        reservation,
-    } = back;
-    assert!(rt;
-        helpers
-            .discard(
-                SeatRecord {
-                    ring: 1,
-                    reservation
-                },
-                0
-            )
-            .is_ok()
+    let opened = SeatHelpers::new(&rt, rt.alloc(), rings.as_slice(), seats, 5, &NoStock);
+    let mut helpers = opened.ok().expect(&rt, "memory");
+    let record = helpers.reserve(1, 8, 0).expect(&rt, "a record");
+    let own = record.ring;
+    let at_none = helpers.submit(renumbered(record, 2), 0);
+    let back = at_none.expect_err(&rt, "submitted to no ring");
+    let none = back.ring;
+    let at_none = helpers.discard(back, 0);
+    let back = at_none.expect_err(&rt, "discarded at no ring");
+    let at_another = helpers.submit(renumbered(back, 0), 0);
+    let back = at_another.expect_err(&rt, "submitted to another ring");
+    let is_discarded = helpers.discard(renumbered(back, 1), 0).is_ok();
+    same(&rt, &(own, none, is_discarded), &(1, 2, true));
+    same(
+        &rt,
+        &counts_of(helpers.into_seats()),
+        &(Some((0, 0, 0, 0)), Some((1, 0, 0, 1))),
     );
-    let seats = helpers.into_seats();
-    assert_eq!(rt; seats.first().map(counts), Some((0, 0, 0, 0)));
-    assert_eq!(rt; seats.last().map(counts), Some((1, 0, 0, 1)));
+}
+
+// A stock with a sheet of 24 bytes that was written to.
+fn one_sheet(rt: &impl Abort, alloc: Global) -> OneSheet {
+    let mut used = Sheet::new(alloc, 24).expect(rt, "memory");
+    used.bytes_mut().fill(9);
+    OneSheet {
+        kept: Cell::new(Some(used)),
+    }
+}
+
+// Ends the test where no record of 17 zero bytes is granted.
+fn grants_zeros<H: Helpers>(rt: &impl Abort, helpers: &mut H)
+    requires room { 0 < H.room_of helpers.old }
+    requires ring { H.has_ring helpers.old 0 ≡ true }
+    ensures room { H.room_of helpers.new + 1 ≡ H.room_of helpers.old }
+    ensures ring { H.has_ring helpers.new 0 ≡ true }
+{
+    let owned = helpers.reserve(0, 17, 0).expect(rt, "null");
+    same(rt, &owned.bytes(), &[0; 17].as_slice());
 }
 
 #[test]
@@ -238,24 +254,22 @@ fn a_sheet_of_the_stock_is_used_again(rt: HostRuntime) {
     let (ring, seat, _consumer) = opened(&rt, rt.alloc(), 0, 8);
     let rings = [ring];
     let seats = vec![in rt.alloc(); seat].expect(&rt, "memory");
-    let mut used = Sheet::new(rt.alloc(), 24).expect(&rt, "memory");
-    used.bytes_mut().fill(9);
-    let stock = OneSheet {
-        kept: Cell::new(Some(used)),
-    };
-    let Ok(mut helpers) = SeatHelpers::new(&rt, rt.alloc(), rings.as_slice(), seats, 3, &stock)
-    else {
-        rt.panic("no memory")
-    };
-    match helpers.reserve(0, 17, 0) {
-        Some(owned) => assert_eq!(rt; owned.bytes(), [0; 17].as_slice()),
-        None => rt.panic("null"),
-    }
-    assert!(rt; stock.kept.take().is_none());
-    assert!(rt; helpers.reserve(0, 4081, 0).is_none());
-    let kept = stock.kept.take();
-    assert_eq!(rt; kept.map(|sheet| sheet.len()), Some(4081));
-    assert!(rt; NoStock.used().is_none());
-    let back = NoStock.put(Sheet::new(rt.alloc(), 3).expect(&rt, "memory"));
-    assert_eq!(rt; back.map(|sheet| sheet.len()), Some(3));
+    let stock = one_sheet(&rt, rt.alloc());
+    let opened = SeatHelpers::new(&rt, rt.alloc(), rings.as_slice(), seats, 3, &stock);
+    let mut helpers = opened.ok().expect(&rt, "memory");
+    grants_zeros(&rt, &mut helpers);
+    let used = len_of(stock.kept.take());
+    let is_wide_granted = is_granted(&mut helpers, 4081);
+    same(
+        &rt,
+        &(used, is_wide_granted, len_of(stock.kept.take())),
+        &(None, false, Some(4081)),
+    );
+}
+
+#[test]
+fn no_stock_keeps_no_sheet(rt: HostRuntime) {
+    let used = len_of(NoStock.used());
+    let sheet = Sheet::new(rt.alloc(), 3).expect(&rt, "memory");
+    same(&rt, &(used, len_of(NoStock.put(sheet))), &(None, Some(3)));
 }

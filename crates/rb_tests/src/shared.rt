@@ -1,11 +1,13 @@
 //! What the tests share: verified programs, and rings of 4,096 bytes with one seat.
 
-ghost use Rattle.std.specs.Prelude.{◌≡◌, ◌≤◌};
+ghost use Rattle.std.specs.Prelude.{◌≡◌, ◌+◌, ◌≤◌, true};
 ghost use Rattle.rb_shared_ring.specs.SharedSeats.{IsSameChapterConsumer};
 ghost use Rattle.rb_jobs.specs.SeatHelpers.{IsAt};
 
+use super::expected::same;
 use rb_history::Taken;
-use rb_lend::Sheet;
+use rb_interp::Helpers;
+use rb_lend::{Lent, Sheet};
 use rb_program::{from_text, shape};
 use rb_shared_ring::{ConsumerSeat, Seat, SharedRing, open};
 use rb_verifier::{Verified, verify};
@@ -14,13 +16,13 @@ use std::process::Abort;
 use std::sync::Wait;
 
 /// Reserves a record of eight bytes, and submits 42 where it was granted.
-pub(super) const SUBMIT_42: &str =
+pub(crate) const SUBMIT_42: &str =
     "1851000000000000 0000000000000000 b702000008000000 b703000000000000
     8500000083000000 1500040000000000 7a0000002a000000 bf01000000000000
     b702000000000000 8500000084000000 b700000000000000 9500000000000000";
 
 /// A program, verified for a context of so many bytes and so many rings.
-pub(super) fn verified(
+pub(crate) fn verified(
     rt: &impl Abort,
     alloc: Global,
     text: &str,
@@ -37,7 +39,7 @@ pub(super) fn verified(
 }
 
 /// A ring with one seat, whose chapters have room for so many entries.
-pub(super) fn opened<R: Wait + Abort>(
+pub(crate) fn opened<R: Wait + Abort>(
     rt: &R,
     alloc: Global,
     tag: u64,
@@ -55,23 +57,47 @@ pub(super) fn opened<R: Wait + Abort>(
     }
 }
 
-/// The position, worker and serial of the next event, and its bytes.
-pub(super) fn taken<R: Wait + Abort>(
+/// Ends the test where the next event is not of this position, worker and serial, with these bytes.
+pub(crate) fn is_next<R: Wait + Abort>(
     rt: &R,
     ring: &SharedRing,
     consumer: &mut ConsumerSeat,
-) -> (u64, u32, u64, Sheet)
+    event: (u64, u32, u64, &[u8]),
+)
     requires { consumer.old.ring ≡ ring.now.ring }
     ensures { IsSameChapterConsumer consumer.old consumer.new }
 {
     match ring.take(rt, consumer) {
-        Ok(Taken::Event(pos, worker, serial, sheet)) => (pos, worker, serial, sheet),
+        Ok(Taken::Event(pos, worker, serial, sheet)) => {
+            same(rt, &(pos, worker, serial, sheet.bytes()), &event);
+        }
         _ => rt.panic("no event"),
     }
 }
 
+/// Reserves a record, fills it and submits it, over any helpers.
+pub(crate) fn submit_filled<H: Helpers>(helpers: &mut H, ring: u32, n: u32, value: u8) -> bool
+    requires room { 2 ≤ H.room_of helpers.old }
+    requires ring { H.has_ring helpers.old ring ≡ true }
+    ensures room { H.room_of helpers.old ≤ H.room_of helpers.new + 2 }
+{
+    let Some(mut owned) = helpers.reserve(ring, n, 0) else {
+        return false;
+    };
+    owned.bytes_mut().fill(value);
+    helpers.submit(owned, 0).is_ok()
+}
+
+/// The length of a sheet, if there is one.
+pub(crate) fn len_of(sheet: Option<Sheet>) -> Option<u32> {
+    match sheet {
+        Some(sheet) => Some(sheet.len()),
+        None => None,
+    }
+}
+
 /// How many records a seat made, was refused, submitted and discarded.
-pub(super) fn counts(seat: &Seat) -> (u64, u64, u64, u64) {
+pub(crate) fn counts(seat: &Seat) -> (u64, u64, u64, u64) {
     (
         seat.made(),
         seat.refused(),

@@ -7,18 +7,12 @@ mod scripts;
 
 use rb_history::{Counts, Taken};
 use rb_lend::Lent;
-use rb_program::{from_text, shape};
-use rb_verifier::{Verified, verify};
+use rb_verifier::Verified;
 use rb_world::{Actor, RingSetup, TurnDone, WorkerSetup, World};
 use std::alloc::Global;
 use std::process::Abort;
 
-/// Reserves a record of eight bytes, and submits 42 where it was granted.
-pub const SUBMIT_42: &str = "1851000000000000 0000000000000000 b702000008000000 b703000000000000
-    8500000083000000 1500040000000000 7a0000002a000000 bf01000000000000
-    b702000000000000 8500000084000000 b700000000000000 9500000000000000";
-
-/// The same with a record of 4,000 bytes, of which a ring of 4,096 bytes has room for one.
+/// Reserves a record of 4,000 bytes, of which a ring of 4,096 bytes has room for one, and submits 42 where it was granted.
 pub const SUBMIT_WIDE_42: &str =
     "1851000000000000 0000000000000000 b7020000a00f0000 b703000000000000
     8500000083000000 1500040000000000 7a0000002a000000 bf01000000000000
@@ -29,14 +23,12 @@ pub const DISCARD_42: &str = "1851000000000000 0000000000000000 b702000008000000
     8500000083000000 1500040000000000 7a0000002a000000 bf01000000000000
     b702000000000000 8500000085000000 b700000000000000 9500000000000000";
 
-/// A program, verified for a context of so many bytes and so many rings.
-pub fn verified(rt: &impl Abort, alloc: Global, text: &str, context: u32, rings: u32) -> Verified {
-    if context > 65_536 || rings > 16 {
-        rt.panic("out of bounds")
+/// A worker that runs the program with no context.
+pub fn worker(program: &Verified) -> WorkerSetup<'_> {
+    WorkerSetup {
+        program,
+        context: &[],
     }
-    let program = from_text(alloc, text).expect(rt, "a program");
-    let shape = shape(alloc, program).expect(rt, "a shape");
-    verify(alloc, shape, context, rings).expect(rt, "a verified program")
 }
 
 /// A world with one ring of 4,096 bytes from 0, whose chapters have room for 65,536 entries.

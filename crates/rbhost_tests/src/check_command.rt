@@ -1,5 +1,7 @@
 //! The command `check` over devices that fail.
 
+use crate::endings::ending;
+use crate::expected::same_of;
 use crate::fakes::{Sink, Source, Trouble};
 use rb_command_line::command;
 use std::alloc::Global;
@@ -25,9 +27,7 @@ fn told_of_trouble<T: Abort + Threads + Wait + Sync + Files<File = File>>(
     writer.flush_fails = flush_fails;
     let mut told = Vec::new(alloc);
     let status = command(rt, alloc, &["check"], &mut reader, &mut writer, &mut told);
-    let taken = str::from_utf8(writer.taken.as_slice()).expect(rt, "text");
-    let told = str::from_utf8(told.as_slice()).expect(rt, "text");
-    format!(in alloc; "{status} {told}{taken}").expect(rt, "memory")
+    ending(rt, alloc, status, &told, &writer.taken)
 }
 
 // A beginning of the text was printed where a write fails, and nothing where a read does.
@@ -46,12 +46,10 @@ fn check_with_devices_that_fail(rt: HostRuntime) {
         (None, 100, true, "1 refused device\naccepted\nresult 0\n"),
         (None, 100, false, "0 accepted\nresult 0\n"),
     ];
-    for (fault, room, flush_fails, wanted) in rows {
+    for (fault, room, flush_fails, wanted) in &rows {
         let mut reader = Source::new(EXIT_ZERO.as_bytes(), 100);
-        reader.fault = fault;
-        assert_eq!(rt;
-            told_of_trouble(&rt, rt.alloc(), reader, room, flush_fails).as_str(),
-            wanted
-        );
+        reader.fault = *fault;
+        let told = told_of_trouble(&rt, rt.alloc(), reader, *room, *flush_fails);
+        same_of(&rt, &told.as_str(), wanted, room);
     }
 }

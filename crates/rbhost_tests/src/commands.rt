@@ -1,5 +1,7 @@
 //! Commands, with all that they print.
 
+use crate::endings::ending;
+use crate::expected::{same, same_of};
 use crate::fakes::{Sink, Source, Trouble};
 use rb_command_line::command;
 use std::alloc::Global;
@@ -35,8 +37,8 @@ fn help(rt: HostRuntime) {
         &["feed", "--help"],
         &["tape", "--help"],
     ];
-    for words in helps {
-        assert!(rt; is_help(&rt, rt.alloc(), words), "of {words:?}");
+    for words in &helps {
+        same_of(&rt, &is_help(&rt, rt.alloc(), words), &true, words);
     }
 }
 
@@ -50,58 +52,48 @@ fn fed_with<T: Abort + Threads + Wait + Sync + Files<File = File>>(
 ) -> (String, usize) {
     let words = ["feed", "--size", "4096"];
     let status = command(rt, alloc, &words, &mut reader, &mut tape, &mut told);
-    let told = str::from_utf8(told.taken.as_slice()).expect(rt, "text");
-    let ending = format!(in alloc; "{status} {told}").expect(rt, "memory");
-    (ending, tape.taken.len())
+    (
+        ending(rt, alloc, status, &told.taken, &[]),
+        tape.taken.len(),
+    )
 }
 
 #[test]
 fn readers_that_fail_are_told(rt: HostRuntime) {
-    for kind in [ErrorKind::BrokenPipe, ErrorKind::Interrupted] {
-        let reader = Source::failing(&TWO, kind);
-        let (ending, written) = fed_with(
+    let alloc = rt.alloc();
+    for kind in &[ErrorKind::BrokenPipe, ErrorKind::Interrupted] {
+        let reader = Source::failing(&TWO, *kind);
+        let (ending, written) = fed_with(&rt, alloc, reader, Sink::open(alloc), Sink::open(alloc));
+        same(
             &rt,
-            rt.alloc(),
-            reader,
-            Sink::open(rt.alloc()),
-            Sink::open(rt.alloc()),
+            &(ending.as_str(), written),
+            &("1 refused device\n", 24),
         );
-        assert_eq!(rt; (ending.as_str(), written), ("1 refused device\n", 24));
     }
 }
 
 #[test]
 fn writers_that_fail_are_told(rt: HostRuntime) {
-    let rows = [
-        (Trouble::TakesNothing, 0),
-        (Trouble::TakesNothing, 1),
-        (Trouble::TakesNothing, 23),
-        (Trouble::Fails(ErrorKind::BrokenPipe), 0),
-        (Trouble::Fails(ErrorKind::BrokenPipe), 1),
-        (Trouble::Fails(ErrorKind::BrokenPipe), 23),
-    ];
-    for (trouble, room) in rows {
-        let tape = Sink::new(rt.alloc(), room, 100, trouble);
-        let (ending, written) = fed_with(
-            &rt,
-            rt.alloc(),
-            Source::new(&TWO, 100),
-            tape,
-            Sink::open(rt.alloc()),
-        );
-        assert_eq!(rt; (ending.as_str(), written), ("1 refused device\n", room));
+    let alloc = rt.alloc();
+    for trouble in &[Trouble::TakesNothing, Trouble::Fails(ErrorKind::BrokenPipe)] {
+        for room in &[0, 1, 23] {
+            let tape = Sink::new(alloc, *room, 100, *trouble);
+            let reader = Source::new(&TWO, 100);
+            let (ending, written) = fed_with(&rt, alloc, reader, tape, Sink::open(alloc));
+            same(
+                &rt,
+                &(ending.as_str(), written),
+                &("1 refused device\n", *room),
+            );
+        }
     }
 }
 
 #[test]
 fn positions_that_cannot_be_told(rt: HostRuntime) {
-    let told = Sink::new(rt.alloc(), 3, 100, Trouble::TakesNothing);
-    let (ending, written) = fed_with(
-        &rt,
-        rt.alloc(),
-        Source::new(&TWO, 100),
-        Sink::open(rt.alloc()),
-        told,
-    );
-    assert_eq!(rt; (ending.as_str(), written), ("1 pro", 24));
+    let alloc = rt.alloc();
+    let told = Sink::new(alloc, 3, 100, Trouble::TakesNothing);
+    let reader = Source::new(&TWO, 100);
+    let (ending, written) = fed_with(&rt, alloc, reader, Sink::open(alloc), told);
+    same(&rt, &(ending.as_str(), written), &("1 pro", 24));
 }

@@ -29,8 +29,19 @@ pub(crate) fn ended_over<T: Abort + Threads + Wait + Sync + Files<File = File>>(
     let mut printed = Vec::new(alloc);
     let mut told = Vec::new(alloc);
     let status = command(rt, alloc, words, &mut reader, &mut printed, &mut told);
-    let printed = str::from_utf8(printed.as_slice()).expect(rt, "text");
-    let told = str::from_utf8(told.as_slice()).expect(rt, "text");
+    ending(rt, alloc, status, &told, &printed)
+}
+
+/// The status, what was told, and what was printed, as one text.
+pub(crate) fn ending(
+    rt: &impl Abort,
+    alloc: Global,
+    status: u8,
+    told: &[u8],
+    printed: &[u8],
+) -> String {
+    let told = str::from_utf8(told).expect(rt, "text");
+    let printed = str::from_utf8(printed).expect(rt, "text");
     format!(in alloc; "{status} {told}{printed}").expect(rt, "memory")
 }
 

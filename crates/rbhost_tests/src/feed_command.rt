@@ -1,9 +1,13 @@
 //! Payloads in, their tape out, over devices that fail.
 
+ghost use Rattle.std.specs.Prelude.{◌≤◌};
+
+use crate::expected::same_of;
 use crate::fakes::{Sink, Source, Trouble};
 use rb_tape_commands::{FeedFault, feed};
 use std::alloc::Global;
 use std::io::ErrorKind;
+use std::process::Abort;
 
 // One byte and none, and their tape.
 const TWO: [u8; 9] = [1, 0, 0, 0, 0xff, 0, 0, 0, 0];
@@ -13,75 +17,93 @@ const TWO_TAPE: [u8; 24] = [
     0, 0, 0, 0, 0, 0, 0, 0, // none
 ];
 
+// What is answered of a feed of these payloads, what was written, and how much of it was flushed.
+type Fed = (Result<(u64, u64), FeedFault>, Vec<u8>, usize);
+
+fn feed_to(alloc: Global, mut reader: Source<'_>, sink: Sink) -> Fed {
+    let (answer, writer) = feed(alloc, &mut reader, sink, 4096, 0, 0);
+    (answer, writer.taken, writer.flushed)
+}
+
 // Wherever a read fails, the tape of the payloads that were read was written and flushed.
 #[test]
 fn readers_that_fail(rt: HostRuntime) {
-    for kind in [ErrorKind::BrokenPipe, ErrorKind::Interrupted] {
+    for kind in &[ErrorKind::BrokenPipe, ErrorKind::Interrupted] {
         for end in 0..10usize {
-            let mut reader = Source::failing(&TWO[..end], kind);
-            let sink = Sink::open(rt.alloc());
-            let (fed, writer) = feed(rt.alloc(), &mut reader, sink, 4096, 0, 0);
+            let reader = Source::failing(&TWO[..end], *kind);
+            let (answer, taken, flushed) = feed_to(rt.alloc(), reader, Sink::open(rt.alloc()));
             let tape = match end {
                 0..5 => 0,
                 5..9 => 16,
                 _ => 24,
             };
-            assert_eq!(rt;
-                (fed, writer.taken.as_slice(), writer.flushed),
-                (Err(FeedFault::Device), &TWO_TAPE[..tape], tape),
-                "after {end}"
+            same_of(
+                &rt,
+                &(answer, taken.as_slice(), flushed),
+                &(Err(FeedFault::Device), &TWO_TAPE[..tape], tape),
+                &end,
             );
         }
     }
 }
 
+// Ends the test where what went out to a writer with so much room, which takes so many bytes at most, is no beginning of the tape.
+fn stops(rt: &impl Abort, alloc: Global, room: usize, most: usize, trouble: Trouble)
+    requires { room ≤ 24 }
+{
+    let sink = Sink::new(alloc, room, most, trouble);
+    let (answer, taken, _) = feed_to(alloc, Source::new(&TWO, 100), sink);
+    let wanted = if room < 24 {
+        Err(FeedFault::Device)
+    } else {
+        Ok((24, 24))
+    };
+    same_of(
+        rt,
+        &(answer, taken.as_slice()),
+        &(wanted, &TWO_TAPE[..room]),
+        &(room, most),
+    );
+}
+
 // Wherever a write fails or takes nothing, what went out is a beginning of the tape.
 #[test]
 fn writers_that_stop(rt: HostRuntime) {
-    for trouble in [
+    for trouble in &[
         Trouble::TakesNothing,
         Trouble::Fails(ErrorKind::StorageFull),
         Trouble::Fails(ErrorKind::Interrupted),
     ] {
         for room in 0..25usize {
-            for most in [1usize, 5, 100] {
-                let mut reader = Source::new(&TWO, 100);
-                let sink = Sink::new(rt.alloc(), room, most, trouble);
-                let (fed, writer) = feed(rt.alloc(), &mut reader, sink, 4096, 0, 0);
-                let wanted = if room < 24 {
-                    Err(FeedFault::Device)
-                } else {
-                    Ok((24, 24))
-                };
-                assert_eq!(rt;
-                    (fed, writer.taken.as_slice()),
-                    (wanted, &TWO_TAPE[..room]),
-                    "after {room} by {most}"
-                );
+            for most in &[1usize, 5, 100] {
+                stops(&rt, rt.alloc(), room, *most, *trouble);
             }
         }
     }
 }
 
-// How many bytes were flushed, and what is answered and written where the flush fails.
-fn flushed(alloc: Global, input: &[u8]) -> (usize, Result<(u64, u64), FeedFault>, usize) {
-    let mut reader = Source::new(input, 100);
-    let (_, writer) = feed(alloc, &mut reader, Sink::open(alloc), 4096, 0, 0);
-    let mut again = Source::new(input, 100);
+// How many bytes of the input's tape are flushed.
+fn flushed(alloc: Global, input: &[u8]) -> usize {
+    feed_to(alloc, Source::new(input, 100), Sink::open(alloc)).2
+}
+
+// What is answered where the flush fails, and how much was written.
+fn unflushed(alloc: Global, input: &[u8]) -> (Result<(u64, u64), FeedFault>, usize) {
     let mut failing = Sink::open(alloc);
     failing.flush_fails = true;
-    let (fed, failing) = feed(alloc, &mut again, failing, 4096, 0, 0);
-    (writer.flushed, fed, failing.taken.len())
+    let (answer, taken, _) = feed_to(alloc, Source::new(input, 100), failing);
+    (answer, taken.len())
 }
 
 #[test]
 fn flushes(rt: HostRuntime) {
     let rows: [(&[u8], usize); 3] = [(&TWO, 24), (&[1, 0, 0, 0, 0xff, 9], 16), (&[], 0)];
-    for (input, tape) in rows {
-        assert_eq!(rt;
-            flushed(rt.alloc(), input),
-            (tape, Err(FeedFault::Device), tape),
-            "of {input:?}"
+    for (input, tape) in &rows {
+        same_of(
+            &rt,
+            &(flushed(rt.alloc(), input), unflushed(rt.alloc(), input)),
+            &(*tape, (Err(FeedFault::Device), *tape)),
+            input,
         );
     }
 }

@@ -1,5 +1,7 @@
 //! Writing that goes on after a write that failed.
 
+use crate::endings::ending;
+use crate::expected::same_of;
 use crate::fakes::{OneFailure, Sink, Source, Trouble};
 use rb_command_line::command;
 use rb_tape_commands::{FeedFault, feed};
@@ -29,24 +31,40 @@ fn fed(
     (answer, writer.taken)
 }
 
-// At each write, without a retry the bytes before went out, and with one all of them.
+const TROUBLES: [Trouble; 3] = [
+    Trouble::TakesNothing,
+    Trouble::Fails(ErrorKind::StorageFull),
+    Trouble::Fails(ErrorKind::Interrupted),
+];
+
+// At each write, without a retry the bytes before went out.
 #[test]
 fn one_write_fails(rt: HostRuntime) {
-    for trouble in [
-        Trouble::TakesNothing,
-        Trouble::Fails(ErrorKind::StorageFull),
-        Trouble::Fails(ErrorKind::Interrupted),
-    ] {
+    for trouble in &TROUBLES {
         for k in 1..17usize {
-            for retries in [0, 1] {
-                let (answer, taken) = fed(rt.alloc(), k, trouble, retries);
-                let wanted = if retries == 0 {
-                    (Err(FeedFault::Device), &ONE_TAPE[..k - 1])
-                } else {
-                    (Ok((16, 16)), ONE_TAPE.as_slice())
-                };
-                assert_eq!(rt; (answer, taken.as_slice()), wanted, "at {k} with {retries}");
-            }
+            let (answer, taken) = fed(rt.alloc(), k, *trouble, 0);
+            same_of(
+                &rt,
+                &(answer, taken.as_slice()),
+                &(Err(FeedFault::Device), &ONE_TAPE[..k - 1]),
+                &k,
+            );
+        }
+    }
+}
+
+// At each write, with a retry all bytes went out.
+#[test]
+fn one_write_is_tried_again(rt: HostRuntime) {
+    for trouble in &TROUBLES {
+        for k in 1..17usize {
+            let (answer, taken) = fed(rt.alloc(), k, *trouble, 1);
+            same_of(
+                &rt,
+                &(answer, taken.as_slice()),
+                &(Ok((16, 16)), ONE_TAPE.as_slice()),
+                &k,
+            );
         }
     }
 }
@@ -62,48 +80,63 @@ fn told<T: Abort + Threads + Wait + Sync + Files<File = File>>(
     let words = ["feed", "--size", "4096", "--retry", retries];
     let mut reader = Source::new(&ONE, 5);
     let mut writer = OneFailure::new(alloc, fails_at, trouble);
-    let mut told = Sink::open(alloc);
+    let mut told = Vec::new(alloc);
     let status = command(rt, alloc, &words, &mut reader, &mut writer, &mut told);
-    let told = str::from_utf8(told.taken.as_slice()).expect(rt, "text");
-    let ending = format!(in alloc; "{status} {told}").expect(rt, "memory");
-    (ending, writer.taken)
+    (ending(rt, alloc, status, &told, &[]), writer.taken)
 }
+
+const TOLD_TROUBLES: [Trouble; 2] = [
+    Trouble::TakesNothing,
+    Trouble::Fails(ErrorKind::Interrupted),
+];
 
 #[test]
 fn one_write_of_the_command_fails(rt: HostRuntime) {
-    for trouble in [
-        Trouble::TakesNothing,
-        Trouble::Fails(ErrorKind::Interrupted),
-    ] {
+    for trouble in &TOLD_TROUBLES {
         for k in 1..17usize {
-            for retries in ["0", "1"] {
-                let (ending, taken) = told(&rt, rt.alloc(), k, trouble, retries);
-                let wanted = if retries == "0" {
-                    ("1 refused device\n", &ONE_TAPE[..k - 1])
-                } else {
-                    ("0 producer 16 consumer 16\n", ONE_TAPE.as_slice())
-                };
-                assert_eq!(rt;
-                    (ending.as_str(), taken.as_slice()),
-                    wanted,
-                    "at {k} with {retries}"
-                );
-            }
+            let (ending, taken) = told(&rt, rt.alloc(), k, *trouble, "0");
+            same_of(
+                &rt,
+                &(ending.as_str(), taken.as_slice()),
+                &("1 refused device\n", &ONE_TAPE[..k - 1]),
+                &k,
+            );
         }
     }
 }
 
-// A writer that has room for so many bytes and then fails again and again.
+#[test]
+fn one_write_of_the_command_is_tried_again(rt: HostRuntime) {
+    for trouble in &TOLD_TROUBLES {
+        for k in 1..17usize {
+            let (ending, taken) = told(&rt, rt.alloc(), k, *trouble, "1");
+            same_of(
+                &rt,
+                &(ending.as_str(), taken.as_slice()),
+                &("0 producer 16 consumer 16\n", ONE_TAPE.as_slice()),
+                &k,
+            );
+        }
+    }
+}
+
+// What is answered of a hundred retries of a writer that has room for so many bytes and then fails again and again, and what went out.
+fn retried(alloc: Global, room: usize) -> (Result<(u64, u64), FeedFault>, Vec<u8>) {
+    let mut reader = Source::new(&ONE, 5);
+    let sink = Sink::new(alloc, room, 3, Trouble::TakesNothing);
+    let (answer, sink) = feed(alloc, &mut reader, sink, 4096, 0, 100);
+    (answer, sink.taken)
+}
+
 #[test]
 fn retries_end(rt: HostRuntime) {
     for room in 0..16usize {
-        let mut reader = Source::new(&ONE, 5);
-        let sink = Sink::new(rt.alloc(), room, 3, Trouble::TakesNothing);
-        let (answer, sink) = feed(rt.alloc(), &mut reader, sink, 4096, 0, 100);
-        assert_eq!(rt;
-            (answer, sink.taken.as_slice()),
-            (Err(FeedFault::Device), &ONE_TAPE[..room]),
-            "after {room}"
+        let (answer, taken) = retried(rt.alloc(), room);
+        same_of(
+            &rt,
+            &(answer, taken.as_slice()),
+            &(Err(FeedFault::Device), &ONE_TAPE[..room]),
+            &room,
         );
     }
 }

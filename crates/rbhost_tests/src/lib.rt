@@ -9,6 +9,8 @@ mod commands;
 #[cfg(test)]
 mod endings;
 #[cfg(test)]
+mod expected;
+#[cfg(test)]
 mod fakes;
 #[cfg(test)]
 mod feed_command;

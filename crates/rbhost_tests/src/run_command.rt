@@ -1,6 +1,9 @@
 //! The command `run` with more than one outcome.
 
 use crate::endings::{ended, number};
+use crate::expected::{same, same_of};
+use std::alloc::Global;
+use std::process::Abort;
 
 // Reserves a record of eight bytes, and submits 42 where it was granted.
 const SUBMIT_42: &str = "1851000000000000 0000000000000000
@@ -22,20 +25,32 @@ fn made_by(line: &str, worker: u64) -> u64 {
     }
 }
 
-#[test]
-fn four_workers_submit_what_they_were_granted(rt: HostRuntime) {
-    let alloc = rt.alloc();
-    let words = ["run", "--workers", "4", "--jobs", "100", "--size", "4096"];
-    let text = ended(&rt, alloc, &words, SUBMIT_42.as_bytes());
+// What the first four lines say was made in all, and how many lines these are.
+fn made_by_all(text: &str) -> (u64, u64) {
     let mut all = 0u64;
     let mut workers = 0u64;
-    for line in text.as_str().lines().take(4) {
+    for line in text.lines().take(4) {
         all = all.saturating_add(made_by(line.trim_start_matches("0 "), workers));
         workers = workers.saturating_add(1);
     }
-    let end = format!(in alloc;
+    (all, workers)
+}
+
+// The last lines of a run that consumed all that was made.
+fn end_of(rt: &impl Abort, alloc: Global, all: u64) -> String {
+    let text = format!(in alloc;
         "ring made {all} consumed {all} discarded 0 waiting 0 busy 0\nstrays 0\n"
-    ).expect(&rt, "memory");
-    assert_eq!(rt; (workers, text.as_str().lines().count()), (4, 6));
-    assert!(rt; text.as_str().ends_with(end.as_str()), "of {text}");
+    );
+    text.expect(rt, "memory")
+}
+
+#[test]
+fn four_workers_submit_what_they_were_granted(rt: HostRuntime) {
+    let words = ["run", "--workers", "4", "--jobs", "100", "--size", "4096"];
+    let text = ended(&rt, rt.alloc(), &words, SUBMIT_42.as_bytes());
+    let (all, workers) = made_by_all(text.as_str());
+    same(&rt, &(workers, text.as_str().lines().count()), &(4, 6));
+    let end = end_of(&rt, rt.alloc(), all);
+    let ends_so = text.as_str().ends_with(end.as_str());
+    same_of(&rt, &ends_so, &true, &text.as_str());
 }

@@ -1,6 +1,7 @@
 //! The command `tape` over devices that fail.
 
 use crate::endings::ended_over;
+use crate::expected::{same, same_of};
 use crate::fakes::{Sink, Source, Trouble};
 use rb_json::LineForm;
 use rb_tape::TapeKind;
@@ -16,16 +17,16 @@ const WORDS: [&str; 3] = ["tape", "--size", "4096"];
 // Wherever a read fails, the lines of the records before were printed.
 #[test]
 fn reads_that_fail(rt: HostRuntime) {
-    for kind in [ErrorKind::BrokenPipe, ErrorKind::Interrupted] {
-        for end in [0usize, 5, 15, 16] {
-            let reader = Source::failing(&ONE_RECORD[..end], kind);
-            let wanted = if end < 16 {
+    for kind in &[ErrorKind::BrokenPipe, ErrorKind::Interrupted] {
+        for end in &[0usize, 5, 15, 16] {
+            let reader = Source::failing(&ONE_RECORD[..*end], *kind);
+            let wanted = if *end < 16 {
                 "1 refused device\n"
             } else {
                 "1 refused device\npos 0 len 8 2a00000000000000\n"
             };
             let ending = ended_over(&rt, rt.alloc(), &WORDS, reader);
-            assert_eq!(rt; ending.as_str(), wanted, "after {end}");
+            same_of(&rt, &ending.as_str(), &wanted, end);
         }
     }
 }
@@ -43,15 +44,24 @@ fn writes_that_fail(rt: HostRuntime) {
     let line = b"pos 0 len 8 2a00000000000000\n";
     for room in 0..29usize {
         let (answer, taken) = printed(rt.alloc(), &ONE_RECORD, room);
-        assert_eq!(rt;
-            (answer, taken.as_slice()),
-            (Err(TapeRefusal::Device), &line[..room]),
-            "after {room}"
+        same_of(
+            &rt,
+            &(answer, taken.as_slice()),
+            &(Err(TapeRefusal::Device), &line[..room]),
+            &room,
         );
     }
+}
+
+#[test]
+fn a_record_that_is_cut_off(rt: HostRuntime) {
     let refused = Err(TapeRefusal::Record {
         kind: TapeKind::Truncated,
         offset: 0,
     });
-    assert_eq!(rt; printed(rt.alloc(), &ONE_RECORD[..12], 100).0, refused);
+    same(
+        &rt,
+        &printed(rt.alloc(), &ONE_RECORD[..12], 100).0,
+        &refused,
+    );
 }

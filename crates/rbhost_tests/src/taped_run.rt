@@ -3,6 +3,7 @@
 ghost use Rattle.std.specs.Prelude.{◌≡◌};
 
 use crate::endings::{ended, number};
+use crate::expected::{same, same_of};
 use crate::fakes::{Sink, Trouble};
 use rb_json::LineForm;
 use rb_loader::read_program;
@@ -53,9 +54,7 @@ fn run_over<T: Abort + AllocGlobal + Threads + Wait + Sync + Files<File = File>>
     let Ok(written) = run_taped(rt, rt.alloc(), &program, &mut out, tape, request) else {
         rt.panic("refused");
     };
-    let Ok(printed) = String::from_utf8(out) else {
-        rt.panic("no text");
-    };
+    let printed = String::from_utf8(out).ok().expect(rt, "text");
     (printed, written)
 }
 
@@ -71,23 +70,26 @@ fn records_of(rt: &(impl Abort + AllocGlobal), lines: &str, worker: u64) -> u64 
     count
 }
 
+// How many records of four workers are on the tape, each as often as its worker's line says.
+fn counted_on_tape(rt: &(impl Abort + AllocGlobal), printed: &str, lines: &str) -> u64 {
+    let mut counted = 0u64;
+    for (worker, line) in printed.lines().take(4).enumerate() {
+        let records = records_of(rt, lines, worker as u64);
+        same_of(rt, &records, &number(line, 7), &worker);
+        counted = counted.saturating_add(records);
+    }
+    counted
+}
+
 #[test]
 fn each_record_that_was_taken_is_on_the_tape(rt: HostRuntime) {
     let (printed, written) = run_over(&rt, 4, 1000, 65_536, Sink::open(rt.alloc()));
     let words = ["tape", "--size", "65536", "--start", "8"];
     let lines = ended(&rt, rt.alloc(), &words, written.writer.taken.as_slice());
-    let mut counted = 0u64;
-    for (worker, line) in printed.as_str().lines().take(4).enumerate() {
-        let records = records_of(&rt, lines.as_str(), worker as u64);
-        assert_eq!(rt; records, number(line, 7), "of {worker}");
-        counted = counted.saturating_add(records);
-    }
-    let ring = printed.as_str().lines().nth(4).unwrap_or("");
+    let counted = counted_on_tape(&rt, printed.as_str(), lines.as_str());
+    let ring = number(printed.as_str().lines().nth(4).unwrap_or(""), 4);
     let all = lines.as_str().lines().count() as u64;
-    assert_eq!(rt;
-        (written.is_whole, counted, all),
-        (true, number(ring, 4), number(ring, 4))
-    );
+    same(&rt, &(written.is_whole, counted, all), &(true, ring, ring));
 }
 
 // The tape of three records of worker 0.
@@ -105,21 +107,22 @@ strays 0
 // Wherever a write fails, the tape ends there, and the run goes on.
 #[test]
 fn writes_that_fail(rt: HostRuntime) {
-    for trouble in [
+    for trouble in &[
         Trouble::TakesNothing,
         Trouble::Fails(ErrorKind::StorageFull),
     ] {
         for room in 0..49usize {
-            let tape = Sink::new(rt.alloc(), room, 3, trouble);
+            let tape = Sink::new(rt.alloc(), room, 3, *trouble);
             let (printed, written) = run_over(&rt, 1, 3, 4096, tape);
-            assert_eq!(rt;
-                (
+            same_of(
+                &rt,
+                &(
                     printed.as_str(),
                     written.is_whole,
-                    written.writer.taken.as_slice()
+                    written.writer.taken.as_slice(),
                 ),
-                (THREE_PRINTED, room == 48, &THREE[..room]),
-                "after {room}"
+                &(THREE_PRINTED, room == 48, &THREE[..room]),
+                &room,
             );
         }
     }
@@ -130,9 +133,10 @@ fn a_flush_that_fails(rt: HostRuntime) {
     let mut tape = Sink::open(rt.alloc());
     tape.flush_fails = true;
     let (printed, written) = run_over(&rt, 1, 3, 4096, tape);
-    assert_eq!(rt;
-        (printed.as_str(), written.is_whole),
-        (THREE_PRINTED, false)
+    same(
+        &rt,
+        &(printed.as_str(), written.is_whole),
+        &(THREE_PRINTED, false),
     );
 }
 
@@ -157,14 +161,17 @@ fn taped<T: Abort + AllocGlobal + Threads + Wait + Sync + Files<File = File>>(
     ended(rt, rt.alloc(), &words, program.as_bytes())
 }
 
+// What the run of three records prints, behind this.
+fn before_three(rt: &(impl Abort + AllocGlobal), head: &str) -> String {
+    format!(in rt.alloc(); "{head}{THREE_PRINTED}").expect(rt, "memory")
+}
+
 // A file that can't be made is told behind the refusals of the program and the ring, and before anything is printed; one that can't be written
 // behind what is printed.
 #[test]
 fn files_of_tapes(rt: HostRuntime) {
-    let whole = format!(in rt.alloc(); "0 {THREE_PRINTED}").expect(&rt, "memory");
-    let not_whole = format!(in rt.alloc(); "1 refused device\n{THREE_PRINTED}").expect(
-        &rt, "memory",
-    );
+    let whole = before_three(&rt, "0 ");
+    let not_whole = before_three(&rt, "1 refused device\n");
     let rows = [
         ("/dev/null", "1", OUTPUT_CONTEXT, whole.as_str()),
         ("/dev/full", "1", OUTPUT_CONTEXT, not_whole.as_str()),
@@ -172,11 +179,8 @@ fn files_of_tapes(rt: HostRuntime) {
         ("", "0", OUTPUT_CONTEXT, "1 refused workers\n"),
         ("", "0", "95", "1 refused decode Length unit 0\n"),
     ];
-    for (path, workers, program, wanted) in rows {
-        assert_eq!(rt;
-            taped(&rt, path, workers, program).as_str(),
-            wanted,
-            "of {path}"
-        );
+    for (path, workers, program, wanted) in &rows {
+        let ending = taped(&rt, path, workers, program);
+        same_of(&rt, &ending.as_str(), wanted, &(path, workers));
     }
 }

@@ -4,6 +4,7 @@ ghost use Rattle.std.specs.Prelude.{◌≡◌, ◌<◌};
 ghost use Rattle.rb_workers.specs.Opened.{AreOpened, IsOpened};
 
 use super::given::{Free, OUTPUT_CONTEXT, ROOM, job, verified};
+use crate::expected::{same, same_of};
 use rb_history::span;
 use rb_interp::RunFault;
 use rb_shared_ring::Closing;
@@ -214,7 +215,7 @@ fn count_refused(ended: &Ended<Binder>) -> u64 {
     refused
 }
 
-// Whether the chapters and the last one bind to a history of so many entries.
+// Ends the test where the chapters and the last one bind to no history of so many entries.
 fn is_bound<A: Abort>(
     rt: &A,
     alloc: Global,
@@ -222,14 +223,43 @@ fn is_bound<A: Abort>(
     chapters: Vec<Chapter>,
     entries: u64,
 ) {
-    assert_eq!(rt; closing.chapter().number(), chapters.len() as u64);
+    same(rt, &closing.chapter().number(), &(chapters.len() as u64));
     match closing.bind(alloc, chapters) {
-        Ok(whole) => assert_eq!(rt; whole.history().len() as u64, entries),
+        Ok(whole) => same(rt, &(whole.history().len() as u64), &entries),
         Err(_) => rt.panic("not bound"),
     }
 }
 
-// Runs all jobs, and looks at what the ring's sink was given.
+// Ends the test where the ring's sink was not given each record that was sent, or the ring counts others.
+fn has_all<A: Abort>(rt: &A, ended: &Ended<Binder>, sent: u64, refused: u64) {
+    let counts = ended.closing.counts();
+    same(
+        rt,
+        &[
+            ended.sink.wrong,
+            ended.sink.records,
+            counts.made,
+            counts.consumed,
+            counts.refused,
+            counts.discarded,
+            counts.waiting,
+            counts.busy,
+        ],
+        &[0, sent, sent, sent, refused, 0, 0, 0],
+    );
+}
+
+// Looks at what the ring's sink was given: how many chapters were handed out, and how many records refused.
+fn each_came_once<A: Abort>(rt: &A, alloc: Global, ended: Ended<Binder>, sent: u64) -> (u64, u64) {
+    let refused = count_refused(&ended);
+    has_all(rt, &ended, sent, refused);
+    let chapters = ended.closing.chapter().number();
+    let entries = sent.saturating_mul(3).saturating_add(refused);
+    is_bound(rt, alloc, ended.closing, ended.sink.chapters, entries);
+    (chapters, refused)
+}
+
+// Runs all jobs, and looks at what the ring's sink was given: how many chapters were handed out, and how many failures are unlogged.
 fn each_record_comes_once<R: Threads + Wait + Sync + Abort>(
     rt: &R,
     alloc: Global,
@@ -241,44 +271,27 @@ fn each_record_comes_once<R: Threads + Wait + Sync + Abort>(
     let mut report = run(rt, alloc, room, workers);
     let sent = count_sent(&report.answers);
     let unlogged = report.unlogged;
-    let Some(ended) = report.rings.pop() else {
-        rt.panic("no ring")
-    };
-    let refused = count_refused(&ended);
-    let counts = ended.closing.counts();
-    assert_eq!(rt; (ended.sink.wrong, ended.sink.records), (0, sent));
-    assert_eq!(rt;
-        (counts.made, counts.consumed, counts.refused),
-        (sent, sent, refused)
-    );
-    assert_eq!(rt; (counts.discarded, counts.waiting, counts.busy), (0, 0, 0));
+    let ended = report.rings.pop().expect(rt, "a ring");
+    let (chapters, refused) = each_came_once(rt, alloc, ended, sent);
     let jobs = u128::from(sent.saturating_add(refused)).saturating_add(unlogged);
-    assert_eq!(rt; jobs, u128::from(JOBS));
-    let chapters = ended.closing.chapter().number();
-    is_bound(
-        rt,
-        alloc,
-        ended.closing,
-        ended.sink.chapters,
-        sent.saturating_mul(3).saturating_add(refused),
-    );
+    same(rt, &jobs, &u128::from(JOBS));
     (chapters, unlogged)
 }
 
 #[test]
 fn records_and_chapters_come_at_each_room(rt: HostRuntime) {
-    for room in [8, 64] {
-        for workers in [1, 4, 16] {
-            let (chapters, _) = each_record_comes_once(&rt, rt.alloc(), room, workers);
-            assert!(rt; chapters > 0, "room {room}, {workers} workers");
+    for room in &[8, 64] {
+        for workers in &[1, 4, 16] {
+            let (chapters, _) = each_record_comes_once(&rt, rt.alloc(), *room, *workers);
+            same_of(&rt, &(chapters > 0), &true, &(room, workers));
         }
     }
 }
 
 #[test]
 fn a_wide_chapter_is_never_full(rt: HostRuntime) {
-    for workers in [1, 4, 16] {
-        let (_, unlogged) = each_record_comes_once(&rt, rt.alloc(), ROOM, workers);
-        assert_eq!(rt; unlogged, 0, "{workers} workers");
+    for workers in &[1, 4, 16] {
+        let (_, unlogged) = each_record_comes_once(&rt, rt.alloc(), ROOM, *workers);
+        same_of(&rt, &unlogged, &0, workers);
     }
 }

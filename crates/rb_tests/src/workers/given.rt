@@ -3,9 +3,9 @@
 ghost use Rattle.std.specs.Prelude.{◌≡◌, ◌≤◌, ℕ, length};
 ghost use Rattle.rb_workers.specs.Opened.{AreOpened, IsOpened};
 
+use crate::shared;
 use rb_history::span;
-use rb_program::{from_text, shape};
-use rb_verifier::{Verified, verify};
+use rb_verifier::Verified;
 use rb_workers::{Chapter, Gate, Job, Opened, Report, Sink, run_jobs};
 use std::alloc::Global;
 use std::process::Abort;
@@ -13,12 +13,6 @@ use std::sync::Wait;
 use std::sync::atomic::{AtomicU64, Ordering};
 use std::thread;
 use std::thread::Threads;
-
-/// Reserves a record of eight bytes, and submits 42 where it was granted.
-pub(crate) const SUBMIT_42: &str =
-    "1851000000000000 0000000000000000 b702000008000000 b703000000000000
-    8500000083000000 1500040000000000 7a0000002a000000 bf01000000000000
-    b702000000000000 8500000084000000 b700000000000000 9500000000000000";
 
 /// Outputs the first eight bytes of the context, and ends with the answer.
 pub(crate) const OUTPUT_CONTEXT: &str = "bf12000000000000 1851000000000000 0000000000000000
@@ -177,12 +171,10 @@ pub(crate) const OUTPUT_TO_SECOND: &str = "bf12000000000000 1851000001000000 000
     b703000008000000 b704000000000000 8500000082000000 9500000000000000";
 
 /// A program, verified for a context of 16 bytes and so many rings.
-pub(crate) fn verified<A: Abort>(rt: &A, alloc: Global, text: &str, rings: u32) -> Verified
+pub(crate) fn verified(rt: &impl Abort, alloc: Global, text: &str, rings: u32) -> Verified
     requires { rings ≤ 16 }
 {
-    let program = from_text(alloc, text).expect(rt, "a program");
-    let shape = shape(alloc, program).expect(rt, "a shape");
-    verify(alloc, shape, 16, rings).expect(rt, "verified")
+    shared::verified(rt, alloc, text, 16, rings)
 }
 
 /// A job of this worker.

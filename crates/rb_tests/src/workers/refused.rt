@@ -3,7 +3,9 @@
 ghost use Rattle.std.specs.Prelude.{◌≡◌};
 ghost use Rattle.rb_workers.specs.Opened.{AreOpened};
 
-use super::given::{Counter, Free, ROOM, SUBMIT_42, job, one_ring, verified};
+use super::given::{Counter, Free, ROOM, job, one_ring, verified};
+use crate::expected::{same, same_of};
+use crate::shared::SUBMIT_42;
 use rb_shared_ring::OpenFault;
 use rb_workers::{Gate, Job, JobFault, Opened, run_jobs};
 use std::alloc::Global;
@@ -30,40 +32,51 @@ fn refused<R: Threads + Wait + Sync + Abort, G: Gate + Sync>(
     }
 }
 
-// Whether this is one ring with so many seats that have made nothing.
+// Ends the test where this is another than one ring with so many seats that have made nothing.
 fn is_untouched<A: Abort>(rt: &A, rings: &[Opened<Counter>], seats: usize) {
-    assert_eq!(rt; rings.len(), 1);
+    same(rt, &rings.len(), &1);
     for one in rings {
-        assert_eq!(rt; one.seats.len(), seats);
-        assert_eq!(rt; (one.consumer.position(), one.sink.position), (0, 0));
+        same(
+            rt,
+            &(one.seats.len(), one.consumer.position(), one.sink.position),
+            &(seats, 0, 0),
+        );
         for seat in &one.seats {
-            assert_eq!(rt; (seat.made(), seat.refused()), (0, 0));
+            same(rt, &(seat.made(), seat.refused()), &(0, 0));
         }
     }
 }
 
+// How often worker 0 and the others came to the gate of a run that is refused, and its fault; its ring comes back untouched.
+fn refusal<R: Threads + Wait + Sync + Abort>(
+    rt: &R,
+    alloc: Global,
+    jobs: &[Job<'_>],
+) -> (JobFault, u64, u64) {
+    let gate = Free::new();
+    let (fault, back) = refused(rt, alloc, one_ring(rt, alloc, 2, ROOM), jobs, &gate);
+    is_untouched(rt, &back, 2);
+    (
+        fault,
+        gate.first.load(Ordering::SeqCst),
+        gate.others.load(Ordering::SeqCst),
+    )
+}
+
 #[test]
 fn an_unknown_ring_is_told_before_an_unknown_worker(rt: HostRuntime) {
-    let alloc = rt.alloc();
-    let program = verified(&rt, alloc, SUBMIT_42, 2);
+    let program = verified(&rt, rt.alloc(), SUBMIT_42, 2);
     let jobs = [job(5, &program, &CONTEXT)];
-    let gate = Free::new();
-    let (fault, back) = refused(&rt, alloc, one_ring(&rt, alloc, 2, ROOM), &jobs, &gate);
-    assert_eq!(rt; fault, JobFault::UnknownRing);
-    is_untouched(&rt, &back, 2);
-    assert_eq!(rt; gate.others.load(Ordering::SeqCst), 0);
+    let told = refusal(&rt, rt.alloc(), &jobs);
+    same(&rt, &told, &(JobFault::UnknownRing, 0, 0));
 }
 
 #[test]
 fn an_unknown_worker_is_told(rt: HostRuntime) {
-    let alloc = rt.alloc();
-    let program = verified(&rt, alloc, SUBMIT_42, 1);
+    let program = verified(&rt, rt.alloc(), SUBMIT_42, 1);
     let jobs = [job(1, &program, &CONTEXT), job(2, &program, &CONTEXT)];
-    let gate = Free::new();
-    let (fault, back) = refused(&rt, alloc, one_ring(&rt, alloc, 2, ROOM), &jobs, &gate);
-    assert_eq!(rt; fault, JobFault::UnknownWorker);
-    is_untouched(&rt, &back, 2);
-    assert_eq!(rt; gate.first.load(Ordering::SeqCst), 0);
+    let told = refusal(&rt, rt.alloc(), &jobs);
+    same(&rt, &told, &(JobFault::UnknownWorker, 0, 0));
 }
 
 // Runs the jobs until there was memory, thrice at most.
@@ -81,7 +94,7 @@ fn run_again<R: Threads + Wait + Sync + Abort>(
         match run_jobs(rt, alloc, rings, jobs, &gate) {
             Ok(report) => return (report.strays, report.rings.len()),
             Err((fault, back)) => {
-                assert_eq!(rt; fault, JobFault::Memory);
+                same(rt, &fault, &JobFault::Memory);
                 rings = back;
             }
         }
@@ -95,7 +108,7 @@ fn what_comes_back_without_memory_runs_again(rt: HostRuntime) {
     let program = verified(&rt, alloc, SUBMIT_42, 1);
     let jobs = [job(0, &program, &CONTEXT), job(1, &program, &CONTEXT)];
     let ended = run_again(&rt, alloc, one_ring(&rt, alloc, 2, ROOM), &jobs);
-    assert_eq!(rt; ended, (0, 1));
+    same(&rt, &ended, &(0, 1));
 }
 
 // Why no such ring is opened.
@@ -112,36 +125,41 @@ fn open_fault<R: Wait + Abort>(
     }
 }
 
+// Sizes, numbers of workers and rooms of rings that are not opened, and why.
+const NOT_OPENED: [(u64, u32, u32, OpenFault); 5] = [
+    (4095, 1, 8, OpenFault::Size),
+    (4096, 0, 8, OpenFault::Workers),
+    (4096, 257, 7, OpenFault::Workers),
+    (4096, 1, 7, OpenFault::Chapter),
+    (4096, 1, 1_048_577, OpenFault::Chapter),
+];
+
 #[test]
 fn a_ring_opens_within_bounds_alone(rt: HostRuntime) {
-    let rows = [
-        (4095, 1, 8, OpenFault::Size),
-        (4096, 0, 8, OpenFault::Workers),
-        (4096, 257, 7, OpenFault::Workers),
-        (4096, 1, 7, OpenFault::Chapter),
-        (4096, 1, 1_048_577, OpenFault::Chapter),
-    ];
-    for (size, workers, room, want) in rows {
-        assert_eq!(rt;
-            open_fault(&rt, rt.alloc(), size, workers, room),
-            want,
-            "at {size} {workers} {room}"
-        );
+    for row in &NOT_OPENED {
+        let (size, workers, room, wanted) = *row;
+        let found = open_fault(&rt, rt.alloc(), size, workers, room);
+        same_of(&rt, &found, &wanted, row);
     }
 }
 
+// What the fault is called.
+fn name_of(rt: &impl Abort, alloc: Global, fault: JobFault) -> String {
+    format!(in alloc; "{fault}").expect(rt, "memory")
+}
+
+const NAMES: [(JobFault, &str); 3] = [
+    (
+        JobFault::UnknownRing,
+        "a program knows more rings than there are",
+    ),
+    (JobFault::UnknownWorker, "a job is of an unknown worker"),
+    (JobFault::Memory, "out of memory"),
+];
+
 #[test]
 fn faults_have_names(rt: HostRuntime) {
-    let rows = [
-        (
-            JobFault::UnknownRing,
-            "a program knows more rings than there are",
-        ),
-        (JobFault::UnknownWorker, "a job is of an unknown worker"),
-        (JobFault::Memory, "out of memory"),
-    ];
-    for (fault, want) in rows {
-        let text = format!(in rt.alloc(); "{fault}").expect(&rt, "memory");
-        assert_eq!(rt; text.as_str(), want);
+    for (fault, name) in &NAMES {
+        same(&rt, &name_of(&rt, rt.alloc(), *fault).as_str(), name);
     }
 }

@@ -1,15 +1,17 @@
 //! Runs that come to a report.
 
 ghost use Rattle.std.specs.Prelude.{◌<◌};
+ghost use Rattle.rb_workers.specs.Opened.{AreOpened};
 
 use super::given::{
-    Counter, Free, Holding, OUTPUT_CONTEXT, OUTPUT_TO_SECOND, ROOM, SUBMIT_42, job, one_ring,
-    report, two_rings, verified,
+    Counter, Free, Holding, OUTPUT_CONTEXT, OUTPUT_TO_SECOND, ROOM, job, one_ring, report,
+    two_rings, verified,
 };
-use rb_history::Tally;
+use crate::expected::{same, same_of};
+use crate::shared::SUBMIT_42;
 use rb_interp::RunFault;
 use rb_verifier::Verified;
-use rb_workers::{Ended, Job, Opened, Report};
+use rb_workers::{Ended, Gate, Job, Opened, Report};
 use std::alloc::Global;
 use std::process::Abort;
 use std::sync::Wait;
@@ -31,13 +33,29 @@ fn added(ended: &Ended<Counter>) -> (u64, u64, u64, u64) {
     sums
 }
 
-// Whether the ring has taken all that was made, and its sink has had so many events that begin with 42.
+// Ends the test where the ring has not taken all that was made, or its sink has not had so many events that begin with 42 and no others.
 fn is_taken<A: Abort>(rt: &A, ended: &Ended<Counter>, made: u64, events: u64) {
     let counts = ended.closing.counts();
-    assert_eq!(rt; (counts.made, counts.consumed), (made, made));
-    assert_eq!(rt; (counts.discarded, counts.waiting, counts.busy), (0, 0, 0));
-    assert_eq!(rt; (ended.sink.events[42], ended.sink.others), (events, 0));
-    assert_eq!(rt; ended.closing.consumer(), ended.sink.position);
+    same(
+        rt,
+        &[
+            counts.made,
+            counts.consumed,
+            counts.discarded,
+            counts.waiting,
+            counts.busy,
+        ],
+        &[made, made, 0, 0, 0],
+    );
+    same(
+        rt,
+        &[
+            ended.sink.events[42],
+            ended.sink.others,
+            ended.closing.consumer(),
+        ],
+        &[events, 0, ended.sink.position],
+    );
 }
 
 // The first ring of a report.
@@ -66,49 +84,76 @@ fn jobs_in_turn<'j, A: Abort>(
     jobs
 }
 
-// Whether the worker made or was refused so often, and submitted what it made.
-fn submitted_all<A: Abort>(rt: &A, tally: Tally, often: u64) {
-    assert_eq!(rt; tally.made.checked_add(tally.refused), Some(often));
-    assert_eq!(rt; (tally.submitted, tally.discarded), (tally.made, 0));
+// The report of so many jobs of this program, which so many workers run in turn.
+fn report_of<R: Threads + Wait + Sync + Abort, G: Gate + Sync>(
+    rt: &R,
+    alloc: Global,
+    rings: Vec<Opened<Counter>>,
+    count: u32,
+    workers: u32,
+    gate: &G,
+) -> Report<Counter>
+    requires rings { AreOpened (λ c. c.position) rings.items }
+    requires workers { 0 < workers }
+{
+    let program = verified(rt, alloc, SUBMIT_42, 1);
+    let jobs = jobs_in_turn(rt, alloc, &program, count, workers);
+    report(rt, alloc, rings, &jobs, gate)
+}
+
+// Ends the test where an answer is not 0, or a worker was not granted or refused a record a hundred times, and submitted each that it made.
+fn all_submitted<A: Abort>(rt: &A, report: &Report<Counter>) {
+    for answer in &report.answers {
+        same(rt, answer, &Ok(0));
+    }
+    for tally in &first_ring(rt, report).tallies {
+        let often = tally.made.checked_add(tally.refused);
+        same(
+            rt,
+            &(often, tally.submitted, tally.discarded),
+            &(Some(100), tally.made, 0),
+        );
+    }
 }
 
 #[test]
 fn four_workers_submit_a_hundred_times_each(rt: HostRuntime) {
-    let alloc = rt.alloc();
-    let program = verified(&rt, alloc, SUBMIT_42, 1);
-    let jobs = jobs_in_turn(&rt, alloc, &program, 400, 4);
-    let rings = one_ring(&rt, alloc, 4, ROOM);
-    let report = report(&rt, alloc, rings, &jobs, &Free::new());
-    assert_eq!(rt; (report.strays, report.unlogged), (0, 0));
-    assert_eq!(rt; report.answers.len(), 400);
-    for answer in &report.answers {
-        assert_eq!(rt; *answer, Ok(0));
-    }
+    let rings = one_ring(&rt, rt.alloc(), 4, ROOM);
+    let report = report_of(&rt, rt.alloc(), rings, 400, 4, &Free::new());
+    same(
+        &rt,
+        &(report.strays, report.unlogged, report.answers.len()),
+        &(0, 0, 400),
+    );
+    all_submitted(&rt, &report);
     let ended = first_ring(&rt, &report);
-    for tally in &ended.tallies {
-        submitted_all(&rt, *tally, 100);
-    }
     let made = added(ended).0;
     is_taken(&rt, ended, made, made);
 }
 
 // Two workers of which one holds its record while the other submits one, over chapters of this room.
 fn hold_a_reservation<R: Threads + Wait + Sync + Abort>(rt: &R, alloc: Global, room: u32) {
-    let program = verified(rt, alloc, SUBMIT_42, 1);
-    let jobs = jobs_in_turn(rt, alloc, &program, 2, 2);
     let gate = Holding::new();
-    let report = report(rt, alloc, one_ring(rt, alloc, 2, room), &jobs, &gate);
-    assert_eq!(rt; gate.late.load(Ordering::SeqCst), 0);
-    assert_eq!(rt; (report.strays, report.unlogged), (0, 0));
+    let rings = one_ring(rt, alloc, 2, room);
+    let report = report_of(rt, alloc, rings, 2, 2, &gate);
+    same(
+        rt,
+        &(
+            gate.late.load(Ordering::SeqCst),
+            report.strays,
+            report.unlogged,
+        ),
+        &(0, 0, 0),
+    );
     let ended = first_ring(rt, &report);
-    assert_eq!(rt; added(ended), (2, 0, 2, 0));
+    same(rt, &added(ended), &(2, 0, 2, 0));
     is_taken(rt, ended, 2, 2);
 }
 
 #[test]
 fn held_reservation(rt: HostRuntime) {
-    for room in [64, ROOM] {
-        hold_a_reservation(&rt, rt.alloc(), room);
+    for room in &[64, ROOM] {
+        hold_a_reservation(&rt, rt.alloc(), *room);
     }
 }
 
@@ -130,35 +175,45 @@ fn jobs_with_short_ones<'j, A: Abort>(
     jobs
 }
 
+// The report of those jobs.
+fn report_with_short_ones<R: Threads + Wait + Sync + Abort>(
+    rt: &R,
+    alloc: Global,
+) -> Report<Counter> {
+    let program = verified(rt, alloc, SUBMIT_42, 1);
+    let jobs = jobs_with_short_ones(rt, alloc, &program);
+    report(rt, alloc, one_ring(rt, alloc, 3, ROOM), &jobs, &Free::new())
+}
+
 #[test]
 fn answers_stand_in_the_order_of_the_jobs(rt: HostRuntime) {
-    let alloc = rt.alloc();
-    let program = verified(&rt, alloc, SUBMIT_42, 1);
-    let jobs = jobs_with_short_ones(&rt, alloc, &program);
-    let rings = one_ring(&rt, alloc, 3, ROOM);
-    let report = report(&rt, alloc, rings, &jobs, &Free::new());
+    let report = report_with_short_ones(&rt, rt.alloc());
     for n in 0..30 {
-        let want = if n % 5 == 0 {
+        let wanted = if n % 5 == 0 {
             Err(RunFault::ContextLength)
         } else {
             Ok(0)
         };
-        assert_eq!(rt; report.answers.get(n).copied(), Some(want), "job {n}");
+        same_of(&rt, &report.answers.get(n).copied(), &Some(wanted), &n);
     }
-    assert_eq!(rt; (report.strays, report.answers.len()), (0, 30));
+    same(&rt, &(report.strays, report.answers.len()), &(0, 30));
+}
+
+// How often worker 0 and the others came to the gate, and the sum of what the others had finished.
+fn told_by(gate: &Free) -> (u64, u64, u64) {
+    (
+        gate.first.load(Ordering::SeqCst),
+        gate.others.load(Ordering::SeqCst),
+        gate.finished.load(Ordering::SeqCst),
+    )
 }
 
 #[test]
 fn a_worker_without_jobs_comes_to_the_gate_once(rt: HostRuntime) {
-    let alloc = rt.alloc();
-    let program = verified(&rt, alloc, SUBMIT_42, 1);
-    let jobs = jobs_in_turn(&rt, alloc, &program, 2, 1);
     let gate = Free::new();
-    let report = report(&rt, alloc, one_ring(&rt, alloc, 4, ROOM), &jobs, &gate);
-    assert_eq!(rt; report.strays, 0);
-    assert_eq!(rt; gate.first.load(Ordering::SeqCst), 5);
-    assert_eq!(rt; gate.others.load(Ordering::SeqCst), 3);
-    assert_eq!(rt; gate.finished.load(Ordering::SeqCst), 0);
+    let rings = one_ring(&rt, rt.alloc(), 4, ROOM);
+    let strays = report_of(&rt, rt.alloc(), rings, 2, 1, &gate).strays;
+    same(&rt, &(strays, told_by(&gate)), &(0, (5, 3, 0)));
 }
 
 // A hundred contexts, which begin with their numbers.
@@ -189,25 +244,32 @@ fn jobs_of_two<'j, A: Abort>(
     jobs
 }
 
-// Whether the ring's sink has had each context of its own once, and no other.
+// Ends the test where the ring's sink has not had each context of its own once, and no other.
 fn has_each_once<A: Abort>(rt: &A, ended: &Ended<Counter>, at: usize) {
     for n in 0..100 {
-        let want = u64::from((n % 3 == 0) == (at == 0));
-        assert_eq!(rt; ended.sink.events[n], want, "ring {at} context {n}");
+        let wanted = u64::from((n % 3 == 0) == (at == 0));
+        same_of(rt, &ended.sink.events[n], &wanted, &(at, n));
     }
-    assert_eq!(rt; ended.sink.others, 0);
+    same(rt, &ended.sink.others, &0);
+}
+
+// The report of a job of each context, over two rings.
+fn report_of_two<R: Threads + Wait + Sync + Abort>(rt: &R, alloc: Global) -> Report<Counter> {
+    let first = verified(rt, alloc, OUTPUT_CONTEXT, 2);
+    let second = verified(rt, alloc, OUTPUT_TO_SECOND, 2);
+    let contexts = contexts(rt, alloc);
+    let jobs = jobs_of_two(rt, alloc, &first, &second, &contexts);
+    report(rt, alloc, two_rings(rt, alloc, 4), &jobs, &Free::new())
 }
 
 #[test]
 fn two_rings_have_each_context_once(rt: HostRuntime) {
-    let alloc = rt.alloc();
-    let first = verified(&rt, alloc, OUTPUT_CONTEXT, 2);
-    let second = verified(&rt, alloc, OUTPUT_TO_SECOND, 2);
-    let contexts = contexts(&rt, alloc);
-    let jobs = jobs_of_two(&rt, alloc, &first, &second, &contexts);
-    let report = report(&rt, alloc, two_rings(&rt, alloc, 4), &jobs, &Free::new());
-    assert_eq!(rt; (report.strays, report.unlogged), (0, 0));
-    assert_eq!(rt; report.rings.len(), 2);
+    let report = report_of_two(&rt, rt.alloc());
+    same(
+        &rt,
+        &(report.strays, report.unlogged, report.rings.len()),
+        &(0, 0, 2),
+    );
     for (at, ended) in report.rings.iter().enumerate() {
         has_each_once(&rt, ended, at);
     }
@@ -215,11 +277,11 @@ fn two_rings_have_each_context_once(rt: HostRuntime) {
 
 #[test]
 fn no_ring_and_no_job_give_an_empty_report(rt: HostRuntime) {
-    let alloc = rt.alloc();
     let gate = Free::new();
-    let none: Vec<Opened<Counter>> = Vec::new(alloc);
-    let report = report(&rt, alloc, none, &[], &gate);
-    assert_eq!(rt; (report.strays, report.unlogged), (0, 0));
-    assert_eq!(rt; (report.rings.len(), report.answers.len()), (0, 0));
-    assert_eq!(rt; gate.first.load(Ordering::SeqCst), 0);
+    let none: Vec<Opened<Counter>> = Vec::new(rt.alloc());
+    let report = report(&rt, rt.alloc(), none, &[], &gate);
+    let numbers = (report.strays, report.unlogged);
+    let lengths = (report.rings.len(), report.answers.len());
+    let came = gate.first.load(Ordering::SeqCst);
+    same(&rt, &(numbers, lengths, came), &((0, 0), (0, 0), 0));
 }

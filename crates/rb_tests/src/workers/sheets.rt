@@ -1,20 +1,48 @@
 //! Sheets that are used again.
 
-use super::given::{Free, ROOM, SUBMIT_42_LONG, SUBMIT_FULL, job, one_ring, report, verified};
+use super::given::{
+    Counter, Free, ROOM, SUBMIT_42_LONG, SUBMIT_FULL, job, one_ring, report, verified,
+};
+use crate::expected::same;
+use crate::shared::len_of;
 use crossbeam_queue::ArrayQueue;
 use rb_jobs::Stock;
 use rb_lend::Sheet;
 use rb_verifier::Verified;
-use rb_workers::Job;
 use rb_workers::used_sheets::{PLACES, UsedSheets};
+use rb_workers::{Ended, Job, Report};
 use std::alloc::Global;
 use std::process::Abort;
+use std::sync::Wait;
+use std::thread::Threads;
 
 const CONTEXT: [u8; 16] = [0; 16];
 
 // A sheet of so many bytes.
 fn sheet<A: Abort>(rt: &A, alloc: Global, n: u32) -> Sheet {
     Sheet::new(alloc, n).expect(rt, "memory")
+}
+
+// How many of 65 sheets of 24 bytes a stock keeps.
+fn count_kept(rt: &impl Abort, alloc: Global, stock: &impl Stock) -> u32 {
+    let mut kept = 0u32;
+    for _ in 0..65 {
+        if stock.put(sheet(rt, alloc, 24)).is_none() {
+            kept = kept.saturating_add(1);
+        }
+    }
+    kept
+}
+
+// How often of 65 times a stock has a sheet.
+fn count_had(stock: &impl Stock) -> u32 {
+    let mut had = 0u32;
+    for _ in 0..65 {
+        if stock.used().is_some() {
+            had = had.saturating_add(1);
+        }
+    }
+    had
 }
 
 #[test]
@@ -24,21 +52,9 @@ fn as_many_sheets_wait_as_there_are_places(rt: HostRuntime) {
         rt: &rt,
         sheets: &sheets,
     };
-    let short = stock.put(sheet(&rt, rt.alloc(), 16));
-    assert_eq!(rt; short.map(|back| back.len()), Some(16));
-    let mut kept = 0u32;
-    for _ in 0..65 {
-        if stock.put(sheet(&rt, rt.alloc(), 24)).is_none() {
-            kept = kept.saturating_add(1);
-        }
-    }
-    let mut had = 0u32;
-    for _ in 0..65 {
-        if stock.used().is_some() {
-            had = had.saturating_add(1);
-        }
-    }
-    assert_eq!(rt; (kept, had), (64, 64));
+    let short = len_of(stock.put(sheet(&rt, rt.alloc(), 16)));
+    let kept = count_kept(&rt, rt.alloc(), &stock);
+    same(&rt, &(short, kept, count_had(&stock)), &(Some(16), 64, 64));
 }
 
 // Two hundred jobs of one worker, which run the one program and the other in turn.
@@ -56,19 +72,28 @@ fn jobs_in_turn<'j, A: Abort>(
     jobs
 }
 
+// What the runs of the jobs in turn come to.
+fn report_in_turn<R: Threads + Wait + Sync + Abort>(rt: &R, alloc: Global) -> Report<Counter> {
+    let full = verified(rt, alloc, SUBMIT_FULL, 1);
+    let long = verified(rt, alloc, SUBMIT_42_LONG, 1);
+    let jobs = jobs_in_turn(rt, alloc, &full, &long);
+    report(rt, alloc, one_ring(rt, alloc, 1, ROOM), &jobs, &Free::new())
+}
+
+// Ends the test where an event of the ring is of neither program, or there are more of one than its jobs.
+fn has_both<A: Abort>(rt: &A, ended: &Ended<Counter>) {
+    let counts = ended.closing.counts();
+    let events = (ended.sink.events[42], ended.sink.others);
+    let seen = events.0.saturating_add(events.1);
+    same(rt, &(counts.made, counts.consumed), &(seen, seen));
+    same(rt, &(events.0 <= 100, events.1 <= 100), &(true, true));
+}
+
 #[test]
 fn nothing_of_a_used_sheet_is_seen(rt: HostRuntime) {
-    let alloc = rt.alloc();
-    let full = verified(&rt, alloc, SUBMIT_FULL, 1);
-    let long = verified(&rt, alloc, SUBMIT_42_LONG, 1);
-    let jobs = jobs_in_turn(&rt, alloc, &full, &long);
-    let rings = one_ring(&rt, alloc, 1, ROOM);
-    let report = report(&rt, alloc, rings, &jobs, &Free::new());
-    assert_eq!(rt; (report.strays, report.unlogged), (0, 0));
+    let report = report_in_turn(&rt, rt.alloc());
+    same(&rt, &(report.strays, report.unlogged), &(0, 0));
     for ended in &report.rings {
-        let counts = ended.closing.counts();
-        let seen = ended.sink.events[42].saturating_add(ended.sink.others);
-        assert_eq!(rt; (counts.made, counts.consumed), (seen, seen));
-        assert!(rt; ended.sink.others <= 100 && ended.sink.events[42] <= 100);
+        has_both(&rt, ended);
     }
 }

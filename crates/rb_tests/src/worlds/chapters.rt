@@ -1,9 +1,11 @@
 //! Worlds whose keepers hand chapters out.
 
-use crate::worlds::{SUBMIT_42, is_event, opened_with, ring_0, turn, turns, verified};
+use crate::expected::same;
+use crate::shared::{SUBMIT_42, verified};
+use crate::worlds::{is_event, opened_with, ring_0, turn, turns, worker};
 use rb_history::{Counts, Entry};
 use rb_ledger::bind_chapters;
-use rb_world::{Actor, TurnDone, WorkerSetup, World};
+use rb_world::{Actor, TurnDone, World};
 use std::alloc::Global;
 use std::process::Abort;
 
@@ -40,59 +42,76 @@ fn state(rt: &impl Abort, world: &World<'_>) -> (Option<u32>, Option<u64>) {
     (world.at(0), world.result(0))
 }
 
-// The record is reserved in the first chapter and submitted and taken in the second; a chapter of room 8 takes no third record.
+// What the turns and states of a worker and a keeper are, where the record is reserved in the first chapter and submitted and taken in the
+// second.
+fn over_two_chapters(
+    rt: &impl Abort,
+    world: &mut World<'_>,
+) -> ([TurnDone; 3], [(Option<u32>, Option<u64>); 2]) {
+    turns(rt, world, Actor::Worker(0), 4);
+    let reserved = state(rt, world);
+    let handed_out = turn(rt, world, Actor::Keeper(0));
+    let finished = turns(rt, world, Actor::Worker(0), 7);
+    let ended = state(rt, world);
+    let took = turn(rt, world, Actor::Consumer(0));
+    ([handed_out, finished, took], [reserved, ended])
+}
+
+const ONE_CONSUMED: Counts = Counts {
+    made: 1,
+    refused: 0,
+    consumed: 1,
+    discarded: 0,
+    waiting: 0,
+    busy: 0,
+};
+
 #[test]
 fn a_record_outlives_its_chapter(rt: HostRuntime) {
     let program = verified(&rt, rt.alloc(), SUBMIT_42, 0, 1);
-    let worker = WorkerSetup {
-        program: &program,
-        context: &[],
-    };
-    let mut world = opened_with(&rt, rt.alloc(), [worker].as_slice(), 8);
-    turns(&rt, &mut world, Actor::Worker(0), 4);
-    assert!(rt; state(&rt, &world) == (Some(5), None));
-    assert!(rt; turn(&rt, &mut world, Actor::Keeper(0)) == TurnDone::Chapter(0));
-    assert!(rt; turns(&rt, &mut world, Actor::Worker(0), 7) == TurnDone::Finished(0));
-    assert!(rt; state(&rt, &world) == (None, Some(0)));
-    assert!(rt; turn(&rt, &mut world, Actor::Consumer(0)) == TurnDone::Took);
-    let counts = Counts {
-        made: 1,
-        refused: 0,
-        consumed: 1,
-        discarded: 0,
-        waiting: 0,
-        busy: 0,
-    };
-    let holds = is_event(&rt, &world, 0, (0, 0, 0, &FORTY_TWO))
-        && ring_0(&rt, &world) == (16, 16, counts)
-        && chapters(&rt, &world) == [(0, 1), (1, 2)];
-    assert!(rt; holds);
-    let history = history(&rt, rt.alloc(), &world);
-    assert!(rt;
-        history.as_slice() == [Entry::Res(0, 0, 8, 0), Entry::Sub(0), Entry::Take(0)].as_slice()
+    let mut world = opened_with(&rt, rt.alloc(), &[worker(&program)], 8);
+    same(
+        &rt,
+        &over_two_chapters(&rt, &mut world),
+        &(
+            [TurnDone::Chapter(0), TurnDone::Finished(0), TurnDone::Took],
+            [(Some(5), None), (None, Some(0))],
+        ),
+    );
+    same(
+        &rt,
+        &(
+            is_event(&rt, &world, 0, (0, 0, 0, &FORTY_TWO)),
+            ring_0(&rt, &world),
+            chapters(&rt, &world),
+        ),
+        &(true, (16, 16, ONE_CONSUMED), [(0, 1), (1, 2)]),
+    );
+    same(
+        &rt,
+        &history(&rt, rt.alloc(), &world).as_slice(),
+        &[Entry::Res(0, 0, 8, 0), Entry::Sub(0), Entry::Take(0)].as_slice(),
     );
 }
+
+const TWO_BUSY: Counts = Counts {
+    made: 2,
+    refused: 0,
+    consumed: 0,
+    discarded: 0,
+    waiting: 0,
+    busy: 2,
+};
 
 // With two busy records a chapter of room 8 is full: the third worker gets null, which is not logged.
 #[test]
 fn a_full_chapter_gives_no_record(rt: HostRuntime) {
     let program = verified(&rt, rt.alloc(), SUBMIT_42, 0, 1);
-    let worker = WorkerSetup {
-        program: &program,
-        context: &[],
-    };
-    let mut world = opened_with(&rt, rt.alloc(), [worker, worker, worker].as_slice(), 8);
+    let mut world = opened_with(&rt, rt.alloc(), &[worker(&program); 3], 8);
     for w in 0..3 {
         turns(&rt, &mut world, Actor::Worker(w), 4);
     }
-    let counts = Counts {
-        made: 2,
-        refused: 0,
-        consumed: 0,
-        discarded: 0,
-        waiting: 0,
-        busy: 2,
-    };
-    assert!(rt; ring_0(&rt, &world) == (32, 0, counts));
-    assert!(rt; turns(&rt, &mut world, Actor::Worker(2), 3) == TurnDone::Finished(0));
+    same(&rt, &ring_0(&rt, &world), &(32, 0, TWO_BUSY));
+    let done = turns(&rt, &mut world, Actor::Worker(2), 3);
+    same(&rt, &done, &TurnDone::Finished(0));
 }

@@ -1,7 +1,9 @@
 //! Every order of the calls of some workers and of the takes of a consumer, each end compared with a plain program of the ring's
 //! rules. What a worker does between its calls touches no ring.
 
-use crate::worlds::{DISCARD_42, SUBMIT_WIDE_42, opened, ring_0, turns, verified};
+use crate::expected::{same, same_of};
+use crate::shared::verified;
+use crate::worlds::{DISCARD_42, SUBMIT_WIDE_42, opened, ring_0, turns, worker};
 use rb_history::{Counts, Taken};
 use rb_lend::Lent;
 use rb_world::{Actor, WorkerSetup, World};
@@ -136,15 +138,45 @@ fn takers(rt: &impl Abort, alloc: Global, world: &World<'_>) -> Vec<u32> {
     }
     for taken in world.taken(0) {
         if let Taken::Event(_, worker, _, sheet) = taken {
-            assert!(rt; sheet.bytes().first() == Some(&42));
+            same(rt, &sheet.bytes().first().copied(), &Some(42));
             takers.push(*worker).expect(rt, "memory");
         }
     }
     takers
 }
 
-/// Goes through the order of a code, whose digits of base 4 are the workers 0 to 2 and, as 3, the consumer. A worker comes to
-/// its first call by four turns, and behind its second by five more.
+// One place of an order, at the world and at the plain ring. A worker comes to its first call by four turns, and behind its second by five more.
+fn go_on(
+    rt: &impl Abort,
+    world: &mut World<'_>,
+    plain: &mut PlainRing,
+    reserved: &mut [bool; 4],
+    digit: u32,
+    ends: Status,
+) {
+    let at = (digit % 4) as usize;
+    if digit == 3 {
+        turns(rt, world, Actor::Consumer(0), 1);
+        plain.take(rt);
+    } else if !reserved[at] {
+        reserved[at] = true;
+        turns(rt, world, Actor::Worker(digit), 4);
+        plain.reserve(rt, digit);
+    } else {
+        turns(rt, world, Actor::Worker(digit), 5);
+        plain.give_back(digit, ends);
+    }
+}
+
+// Whether the world's ring stands as the plain one.
+fn is_alike(rt: &impl Abort, alloc: Global, world: &World<'_>, plain: &PlainRing) -> bool {
+    let found = ring_0(rt, world);
+    let taken = takers(rt, alloc, world);
+    found == (plain.producer, plain.consumer, plain.counts())
+        && taken.as_slice() == plain.taken.as_slice()
+}
+
+/// Goes through the order of a code, whose digits of base 4 are the workers 0 to 2 and, as 3, the consumer.
 fn runs_as_planned(
     rt: &impl Abort,
     alloc: Global,
@@ -158,24 +190,36 @@ fn runs_as_planned(
     let mut reserved = [false; 4];
     let mut rest = code;
     for _ in 0..8 {
-        let digit = rest % 4;
+        go_on(rt, &mut world, &mut plain, &mut reserved, rest % 4, ends);
         rest = rest / 4;
-        if digit == 3 {
-            turns(rt, &mut world, Actor::Consumer(0), 1);
-            plain.take(rt);
-        } else if !reserved[digit as usize] {
-            reserved[digit as usize] = true;
-            turns(rt, &mut world, Actor::Worker(digit), 4);
-            plain.reserve(rt, digit);
-        } else {
-            turns(rt, &mut world, Actor::Worker(digit), 5);
-            plain.give_back(digit, ends);
+    }
+    is_alike(rt, alloc, &world, &plain)
+}
+
+/// Goes through each order in which each digit comes so often; how many there are.
+fn orders_that_run(
+    rt: &impl Abort,
+    alloc: Global,
+    workers: &[WorkerSetup<'_>],
+    often: [u32; 4],
+    span: u64,
+    ends: Status,
+) -> u32 {
+    let mut orders: u32 = 0;
+    for code in 0..65_536 {
+        let digits = [
+            times(code, 0),
+            times(code, 1),
+            times(code, 2),
+            times(code, 3),
+        ];
+        if digits == often {
+            let is_planned = runs_as_planned(rt, alloc, code, workers, span, ends);
+            same_of(rt, &is_planned, &true, &code);
+            orders = orders.wrapping_add(1);
         }
     }
-    let found = ring_0(rt, &world);
-    let taken = takers(rt, alloc, &world);
-    found == (plain.producer, plain.consumer, plain.counts())
-        && taken.as_slice() == plain.taken.as_slice()
+    orders
 }
 
 // Two workers over a ring with room for one record: each comes to both its calls twice at most, and the consumer takes the rest
@@ -183,55 +227,17 @@ fn runs_as_planned(
 #[test]
 fn every_order_of_two_workers_over_room_for_one_record(rt: HostRuntime) {
     let program = verified(&rt, rt.alloc(), SUBMIT_WIDE_42, 0, 1);
-    let worker = WorkerSetup {
-        program: &program,
-        context: &[],
-    };
-    let mut orders: u32 = 0;
-    for code in 0..65_536 {
-        if times(code, 0) == 2 && times(code, 1) == 2 && times(code, 3) == 4 {
-            let workers = [worker, worker];
-            assert!(rt;
-                runs_as_planned(
-                    &rt,
-                    rt.alloc(),
-                    code,
-                    workers.as_slice(),
-                    4008,
-                    Status::Waiting
-                ),
-                "{code}"
-            );
-            orders = orders.wrapping_add(1);
-        }
-    }
-    assert_eq!(rt; orders, 420);
+    let workers = [worker(&program); 2];
+    let often = [2, 2, 0, 4];
+    let orders = orders_that_run(&rt, rt.alloc(), &workers, often, 4008, Status::Waiting);
+    same(&rt, &orders, &420);
 }
 
 #[test]
 fn every_order_of_three_workers_that_discard(rt: HostRuntime) {
     let program = verified(&rt, rt.alloc(), DISCARD_42, 0, 1);
-    let worker = WorkerSetup {
-        program: &program,
-        context: &[],
-    };
-    let mut orders: u32 = 0;
-    for code in 0..65_536 {
-        if times(code, 0) == 2 && times(code, 1) == 2 && times(code, 2) == 2 {
-            let workers = [worker, worker, worker];
-            assert!(rt;
-                runs_as_planned(
-                    &rt,
-                    rt.alloc(),
-                    code,
-                    workers.as_slice(),
-                    16,
-                    Status::Discarded
-                ),
-                "{code}"
-            );
-            orders = orders.wrapping_add(1);
-        }
-    }
-    assert_eq!(rt; orders, 2520);
+    let workers = [worker(&program); 3];
+    let often = [2, 2, 2, 2];
+    let orders = orders_that_run(&rt, rt.alloc(), &workers, often, 16, Status::Discarded);
+    same(&rt, &orders, &2520);
 }

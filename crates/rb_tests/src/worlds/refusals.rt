@@ -1,6 +1,8 @@
 //! Why worlds are not opened and lists of actors not run.
 
-use crate::worlds::{SUBMIT_42, opened, verified};
+use crate::expected::same_of;
+use crate::shared::{SUBMIT_42, verified};
+use crate::worlds::{opened, worker};
 use rb_verifier::Verified;
 use rb_world::{Actor, RingSetup, WorkerSetup, World, WorldFault, WorldOpenFault};
 use std::alloc::Global;
@@ -27,16 +29,20 @@ fn fault(
     }
 }
 
+// A ring of this size, whose chapters have this room.
+fn ring(size: u64, room: u32) -> RingSetup {
+    RingSetup {
+        size,
+        start: 0,
+        room,
+    }
+}
+
 // The first refusal that applies is told, and that of a chapter's room after all others but memory.
 #[test]
 fn the_first_refusal_is_told(rt: HostRuntime) {
     let one = verified(&rt, rt.alloc(), SUBMIT_42, 0, 1);
     let two = verified(&rt, rt.alloc(), SUBMIT_42, 0, 2);
-    let ring = |size, room| RingSetup {
-        size,
-        start: 0,
-        room,
-    };
     let rows = [
         (&one, ring(4095, 7), 1, 0, WorldOpenFault::Ring),
         (&two, ring(4096, 7), 1, 1, WorldOpenFault::ContextLength),
@@ -46,25 +52,27 @@ fn the_first_refusal_is_told(rt: HostRuntime) {
         (&one, ring(4096, 7), 0, 1, WorldOpenFault::Chapter),
         (&one, ring(4096, 1_048_577), 0, 256, WorldOpenFault::Chapter),
     ];
-    let bytes = [0];
-    for (program, ring, context, workers, wanted) in rows {
-        let context = &bytes[..context];
-        assert!(rt; fault(&rt, rt.alloc(), program, ring, context, workers) == wanted);
+    for (program, ring, context, workers, wanted) in &rows {
+        let context = &[0][..*context];
+        let found = fault(&rt, rt.alloc(), program, *ring, context, *workers);
+        same_of(&rt, &found, wanted, &(ring, context, workers));
+    }
+}
+
+// Why the actors are not run.
+fn run_fault(rt: &impl Abort, world: &mut World<'_>, actors: &[Actor]) -> WorldFault {
+    match world.run(actors) {
+        Ok(_) => rt.panic("a run"),
+        Err(fault) => fault,
     }
 }
 
 #[test]
 fn an_unknown_actor_is_told_by_its_place(rt: HostRuntime) {
     let program = verified(&rt, rt.alloc(), SUBMIT_42, 0, 1);
-    let worker = WorkerSetup {
-        program: &program,
-        context: &[],
-    };
-    let mut world = opened(&rt, rt.alloc(), [worker].as_slice());
-    for unknown in [Actor::Worker(1), Actor::Consumer(1), Actor::Keeper(1)] {
-        match world.run([Actor::Worker(0), unknown].as_slice()) {
-            Ok(_) => rt.panic("a run"),
-            Err(fault) => assert!(rt; fault == WorldFault::UnknownActor(1)),
-        }
+    let mut world = opened(&rt, rt.alloc(), &[worker(&program)]);
+    for unknown in &[Actor::Worker(1), Actor::Consumer(1), Actor::Keeper(1)] {
+        let found = run_fault(&rt, &mut world, &[Actor::Worker(0), *unknown]);
+        same_of(&rt, &found, &WorldFault::UnknownActor(1), unknown);
     }
 }

@@ -1,14 +1,17 @@
 //! A worked script, with the answers that were worked out by hand.
 
-use crate::worlds::{SUBMIT_42, is_event, opened, ring_0, turn, verified};
+use crate::expected::same;
+use crate::shared::{SUBMIT_42, verified};
+use crate::worlds::{is_event, opened, ring_0, turn, worker};
 use rb_history::Counts;
-use rb_world::{Actor, TurnDone, WorkerSetup};
+use rb_world::{Actor, TurnDone, World};
+use std::process::Abort;
 
 const FORTY_TWO: [u8; 8] = [42, 0, 0, 0, 0, 0, 0, 0];
 
 // Worker 0 comes to its reservation; worker 1 runs to its end and has submitted behind it; the consumer finds the front busy;
 // worker 0 runs to its end; and the consumer takes both records and then finds none.
-fn script(n: u32) -> (Actor, TurnDone) {
+fn script(n: usize) -> (Actor, TurnDone) {
     match n {
         0..4 => (Actor::Worker(0), TurnDone::Went),
         4..14 => (Actor::Worker(1), TurnDone::Went),
@@ -21,56 +24,69 @@ fn script(n: u32) -> (Actor, TurnDone) {
     }
 }
 
+// The actors of the script.
+fn actors() -> [Actor; 26] {
+    let mut actors = [Actor::Consumer(0); 26];
+    for n in 0..26 {
+        actors[n] = script(n).0;
+    }
+    actors
+}
+
+// What each of its turns does.
+fn answers() -> [TurnDone; 26] {
+    let mut answers = [TurnDone::Idle; 26];
+    for n in 0..26 {
+        answers[n] = script(n).1;
+    }
+    answers
+}
+
+const TWO_CONSUMED: Counts = Counts {
+    made: 2,
+    refused: 0,
+    consumed: 2,
+    discarded: 0,
+    waiting: 0,
+    busy: 0,
+};
+
 #[test]
 fn a_busy_record_stops_the_consumer(rt: HostRuntime) {
     let program = verified(&rt, rt.alloc(), SUBMIT_42, 0, 1);
-    let worker = WorkerSetup {
-        program: &program,
-        context: &[],
-    };
-    let mut world = opened(&rt, rt.alloc(), [worker, worker].as_slice());
-    let mut actors = Vec::new(rt.alloc());
-    let mut answers = Vec::new(rt.alloc());
+    let mut world = opened(&rt, rt.alloc(), &[worker(&program); 2]);
+    let report = world.run(&actors()).expect(&rt, "a run");
+    same(&rt, &report.turns.as_slice(), &answers().as_slice());
+    let events = [
+        is_event(&rt, &world, 0, (0, 0, 0, &FORTY_TWO)),
+        is_event(&rt, &world, 1, (16, 1, 0, &FORTY_TWO)),
+    ];
+    same(
+        &rt,
+        &(events, ring_0(&rt, &world)),
+        &([true, true], (32, 32, TWO_CONSUMED)),
+    );
+}
+
+// What the turns of the script answer, one by one.
+fn turned(rt: &impl Abort, world: &mut World<'_>) -> [TurnDone; 26] {
+    let mut answers = [TurnDone::Idle; 26];
     for n in 0..26 {
-        let (actor, done) = script(n);
-        actors.push(actor).expect(&rt, "memory");
-        answers.push(done).expect(&rt, "memory");
+        answers[n] = turn(rt, world, script(n).0);
     }
-    let report = world.run(&actors).expect(&rt, "a run");
-    let counts = Counts {
-        made: 2,
-        refused: 0,
-        consumed: 2,
-        discarded: 0,
-        waiting: 0,
-        busy: 0,
-    };
-    let holds = report.turns.as_slice() == answers.as_slice()
-        && is_event(&rt, &world, 0, (0, 0, 0, &FORTY_TWO))
-        && is_event(&rt, &world, 1, (16, 1, 0, &FORTY_TWO))
-        && ring_0(&rt, &world) == (32, 32, counts);
-    assert!(rt; holds);
+    answers
 }
 
 // A run answers what the turns of its actors answer, one by one.
 #[test]
 fn a_run_answers_as_its_turns_do(rt: HostRuntime) {
     let program = verified(&rt, rt.alloc(), SUBMIT_42, 0, 1);
-    let worker = WorkerSetup {
-        program: &program,
-        context: &[],
-    };
-    let mut world = opened(&rt, rt.alloc(), [worker, worker].as_slice());
-    let mut other = opened(&rt, rt.alloc(), [worker, worker].as_slice());
-    let mut actors = Vec::new(rt.alloc());
-    let mut answers = Vec::new(rt.alloc());
-    for n in 0..26 {
-        let (actor, _) = script(n);
-        actors.push(actor).expect(&rt, "memory");
-        answers
-            .push(turn(&rt, &mut other, actor))
-            .expect(&rt, "memory");
-    }
-    let report = world.run(&actors).expect(&rt, "a run");
-    assert!(rt; report.turns.as_slice() == answers.as_slice());
+    let mut world = opened(&rt, rt.alloc(), &[worker(&program); 2]);
+    let report = world.run(&actors()).expect(&rt, "a run");
+    let mut other = opened(&rt, rt.alloc(), &[worker(&program); 2]);
+    same(
+        &rt,
+        &report.turns.as_slice(),
+        &turned(&rt, &mut other).as_slice(),
+    );
 }
