@@ -268,17 +268,20 @@ fn work<R: Wait>(
     match call {
         WorkerCall::Reserve => {
             if let Some(sheet) = load.sheet.take() {
-                load.record = tell_reserved(ring.reserve(rt, seat, sheet.len(), sheet), out);
+                let answer = ring.reserve(rt, seat, sheet.len(), sheet);
+                put(&mut load.record, tell_reserved(answer, out));
             }
         }
         WorkerCall::Submit(flags) => {
             if let Some(record) = load.record.take() {
-                load.record = tell_given_back(ring.submit(rt, seat, record, flags), out);
+                let answer = ring.submit(rt, seat, record, flags);
+                put(&mut load.record, tell_given_back(answer, out));
             }
         }
         WorkerCall::Discard(flags) => {
             if let Some(record) = load.record.take() {
-                load.record = tell_given_back(ring.discard(rt, seat, record, flags), out);
+                let answer = ring.discard(rt, seat, record, flags);
+                put(&mut load.record, tell_given_back(answer, out));
             }
         }
         WorkerCall::Output(flags) => {
@@ -289,6 +292,11 @@ fn work<R: Wait>(
         WorkerCall::Query(what) => tell_query(ring.query(rt, seat, what), out),
         WorkerCall::Audit => tell_audit(ring.audit(rt, seat), out),
     }
+}
+
+// Puts what a call gave back in the place of the record that it was made with.
+fn put(place: &mut Option<Reservation>, record: Option<Reservation>) {
+    *place = record;
 }
 
 fn tell_output(answer: Result<Notice, (ReserveFault, Sheet)>, out: &mut Text) {
