@@ -36,26 +36,26 @@ pub fn is_grant_of(worker: u32, entry: &Entry) -> bool
 }
 
 /// Whether the record is busy.
-pub fn is_reserved(record: &StoredRecord) -> bool
-    ensures test { result ≡ is_reserved_state record.now.state }
+pub fn is_reserved(kept: &StoredRecord) -> bool
+    ensures test { result ≡ is_reserved_state kept.now.state }
 {
-    matches!(record.state, RecordState::Reserved)
+    matches!(kept.state, RecordState::Reserved)
 }
 
 /// Whether the record was submitted and waits for the consumer.
-pub fn is_submitted(record: &StoredRecord) -> bool
-    ensures test { result ≡ is_submitted_state record.now.state }
+pub fn is_submitted(kept: &StoredRecord) -> bool
+    ensures test { result ≡ is_submitted_state kept.now.state }
 {
-    matches!(record.state, RecordState::Submitted(_))
+    matches!(kept.state, RecordState::Submitted(_))
 }
 
 /// Whether the record is busy and has the reservation's position, worker, serial and length.
-pub fn is_reserved_by(reservation: &Reservation, record: &StoredRecord) -> bool
-    ensures test { result ≡ is_reserved_by reservation.now record.now }
+pub fn is_reserved_by(reservation: &Reservation, kept: &StoredRecord) -> bool
+    ensures test { result ≡ is_reserved_by reservation.now kept.now }
 {
-    is_reserved(record)
-        && record.pos == reservation.pos()
-        && record.worker == reservation.worker()
-        && record.serial == reservation.serial()
-        && record.len == reservation.len()
+    is_reserved(kept)
+        && kept.pos == reservation.pos()
+        && kept.worker == reservation.worker()
+        && kept.serial == reservation.serial()
+        && kept.len == reservation.len()
 }

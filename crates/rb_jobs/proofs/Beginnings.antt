@@ -51,10 +51,10 @@ refused_begins n unlogged b a (inr (inl full)) =
 refused_begins n unlogged b a (inr (inr none)) = subst (λ (s : WorkerSeat). SeatBegins b s) (sym none.0) (begins_itself b)
 
 ring_submits : (r : Granted) (flags : ℕ) (notice : Notice) (old new : Ring) → SubmitsAt r flags (Ok notice) old new → BeginsWith (book_of new) (book_of old)
-ring_submits r flags notice old new called = logged_begins old new _ called.0.logged
+ring_submits r flags told old new called = logged_begins old new _ called.0.logged
 
 ring_discards : (r : Granted) (flags : ℕ) (notice : Notice) (old new : Ring) → DiscardsAt r flags (Ok notice) old new → BeginsWith (book_of new) (book_of old)
-ring_discards r flags notice old new called = logged_begins old new _ called.0.logged
+ring_discards r flags told old new called = logged_begins old new _ called.0.logged
 
 same_begun : (b a : WorkerSeat) → a ≡ b → SeatBegins b a
 same_begun b a same = subst (λ (s : WorkerSeat). SeatBegins b s) (sym same) (begins_itself b)
