@@ -148,6 +148,11 @@ fn is_granted<H: Helpers>(helpers: &mut H, n: u32) -> bool
     helpers.reserve(0, n, 0).is_some()
 }
 
+// More bytes than a ring has room for.
+fn too_many_bytes(rt: &impl Abort, alloc: Global) -> Vec<u8> {
+    vec![in alloc; 7; 4081].expect(rt, "memory")
+}
+
 #[test]
 fn a_full_ring_is_refused_in_the_history(rt: HostRuntime) {
     let (ring, seat, _consumer) = opened(&rt, rt.alloc(), 0, 8);
@@ -155,7 +160,7 @@ fn a_full_ring_is_refused_in_the_history(rt: HostRuntime) {
     let seats = vec![in rt.alloc(); seat].expect(&rt, "memory");
     let opened = SeatHelpers::new(&rt, rt.alloc(), rings.as_slice(), seats, 3, &NoStock);
     let mut helpers = opened.ok().expect(&rt, "memory");
-    let bytes = vec![in rt.alloc(); 7; 4081].expect(&rt, "memory");
+    let bytes = too_many_bytes(&rt, rt.alloc());
     let output = helpers.output(0, bytes.as_slice(), 0);
     let granted = [
         is_granted(&mut helpers, 4081),
