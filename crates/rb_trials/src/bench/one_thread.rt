@@ -11,8 +11,11 @@ use std::alloc::Global;
 /// The size of the rings that are measured, in bytes.
 pub(crate) const SIZE: u64 = 65_536;
 
-/// How many entries each chapter of their histories has room for.
+/// How many entries each chapter of a shared ring's history has room for.
 pub(crate) const ROOM: u32 = 65_536;
+
+// How many entries each chapter of the ring of one thread has room for: 256 kilobytes of entries, which stay in the second cache level.
+const COURSE_ROOM: u32 = 8_192;
 
 // The byte that fills each record.
 const FILL: u8 = 42;
@@ -106,10 +109,10 @@ fn opened(alloc: Global, len: u32) -> Result<(Course, Sheet), TrialFault>
 fn empty_course(alloc: Global) -> Result<Course, TrialFault>
     ensures { IfOk result (λ course. course.ring.state.ring.chapter.opening.setup.workers ≡ 1) }
 {
-    let Ok(ring) = RingState::new(alloc, 0, SIZE, 0, 1, ROOM) else {
+    let Ok(ring) = RingState::new(alloc, 0, SIZE, 0, 1, COURSE_ROOM) else {
         return Err(TrialFault::Memory);
     };
-    let spare = Chapter::new(alloc, ROOM, 1)?;
+    let spare = Chapter::new(alloc, COURSE_ROOM, 1)?;
     Ok(Course {
         ring,
         spare: Some(spare),
