@@ -229,8 +229,8 @@ impl Chapter {
     pub(crate) fn has_room(&self, len: u32) -> bool
         ensures exact { IsTrue result ↔ HasRoomFrom self.now.opening self.now.entries len }
     {
-        let closing = &self.closing;
-        fits(closing.producer(), closing.consumer(), closing.size(), len)
+        let numbers = self.closing.numbers();
+        fits(numbers.producer, numbers.consumer, numbers.size, len)
     }
 
     /// Whether there is room in the chapter for a grant, and for the end and the take of its record. In constant time.

@@ -122,12 +122,12 @@ impl ChapterState {
     pub(crate) fn query(&self, what: u64) -> u64
         ensures answer { result ≡ query_answer_from self.now.chapter.opening self.now.chapter.entries what }
     {
-        let closing = self.chapter.closing();
+        let numbers = self.chapter.closing().numbers();
         match what {
-            AVAIL_DATA => closing.producer() - closing.consumer(),
-            RING_SIZE => closing.size(),
-            CONS_POS => closing.consumer(),
-            PROD_POS => closing.producer(),
+            AVAIL_DATA => numbers.producer - numbers.consumer,
+            RING_SIZE => numbers.size,
+            CONS_POS => numbers.consumer,
+            PROD_POS => numbers.producer,
             _ => 0,
         }
     }
@@ -137,17 +137,16 @@ impl ChapterState {
     pub(crate) fn counts(&self) -> Counts
         ensures counts { result ≡ told_counts self.now }
     {
-        let closing = self.chapter.closing();
+        let numbers = self.chapter.closing().numbers();
         let there = self.many() as u64;
-        let consumed = closing.consumed();
-        let made = consumed + closing.skipped() + there;
+        let made = numbers.consumed + numbers.skipped + there;
         let busy = u64::from(self.chapter.owed()) - there;
         Counts {
             made,
             refused: self.refused,
-            consumed,
+            consumed: numbers.consumed,
             discarded: self.discarded,
-            waiting: made - busy - consumed - self.discarded,
+            waiting: made - busy - numbers.consumed - self.discarded,
             busy,
         }
     }
@@ -264,15 +263,13 @@ impl ChapterState {
         ensures empty { (result ≡ Taken.Empty) ↔ AllTaken self.old }
         ensures numbers { KeepsNumbers self.old.chapter self.new.chapter }
     {
-        let closing = self.chapter.closing();
-        let Some(front) = front_of(closing.records()) else {
+        let Some(front) = front_of(self.chapter.closing().records()) else {
             return Taken::Empty;
         };
         match front.status {
             UntakenStatus::Busy => Taken::BusyFront,
             UntakenStatus::Waiting => {
-                let ordinal = closing.consumed() + closing.skipped();
-                let slot = slot_in(self.sheets.len(), ordinal);
+                let slot = slot_in(self.sheets.len(), self.taken());
                 let empty = Sheet::empty(self.alloc);
                 let sheet = mem::replace(&mut self.sheets[slot], empty);
                 self.chapter.log_take();
@@ -323,7 +320,7 @@ impl ChapterState {
             return Err(ReserveFault::ChapterFull);
         }
         let closing = self.chapter.closing();
-        let pos = closing.producer();
+        let pos = closing.numbers().producer;
         let serial = made_by(closing.tallies(), worker);
         self.chapter.log_grant(worker, n);
         Ok((pos, serial))
@@ -337,8 +334,7 @@ impl ChapterState {
         ensures contents { self.new.contents ≡ insert self.old.contents pos sheet }
         ensures numbers { KeepsNumbers self.old.chapter self.new.chapter }
     {
-        let closing = self.chapter.closing();
-        let ordinal = closing.consumed() + closing.skipped() + index as u64;
+        let ordinal = self.taken() + index as u64;
         let slot = slot_in(self.sheets.len(), ordinal);
         self.sheets[slot] = sheet;
         self.chapter.log_submit(index);
@@ -361,8 +357,8 @@ impl ChapterState {
     pub(crate) fn taken(&self) -> u64
         ensures taken { result ≡ taken_before (closing_of self.now.chapter) }
     {
-        let closing = self.chapter.closing();
-        closing.consumed() + closing.skipped()
+        let numbers = self.chapter.closing().numbers();
+        numbers.consumed + numbers.skipped
     }
 
     #[inline(always)]
@@ -370,8 +366,8 @@ impl ChapterState {
     pub(crate) fn next_ordinal(&self) -> u64
         ensures ordinal { result ≡ taken_before (closing_of self.now.chapter) + length (closing_of self.now.chapter).records }
     {
-        let closing = self.chapter.closing();
-        closing.consumed() + closing.skipped() + self.many() as u64
+        let numbers = self.chapter.closing().numbers();
+        numbers.consumed + numbers.skipped + self.many() as u64
     }
 
     #[inline(always)]
@@ -387,13 +383,13 @@ impl ChapterState {
     fn notice(&self, pos: u64, flags: u64) -> Notice
         ensures due { (result ≡ Notice.Due) ↔ IsDue (consumer_now self.now) pos flags }
     {
-        notice_for(self.chapter.closing().consumer(), pos, flags)
+        notice_for(self.chapter.closing().numbers().consumer, pos, flags)
     }
 
     #[inline(always)]
     fn producer(&self) -> u64
         ensures value { result ≡ producer_now self.now }
     {
-        self.chapter.closing().producer()
+        self.chapter.closing().numbers().producer
     }
 }

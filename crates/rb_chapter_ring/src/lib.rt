@@ -84,7 +84,7 @@ pub use faults::{OpenFault, ReserveFault};
 pub use hand_laws::{book_goes_on, each_call_keeps_hands, one_hand_changes};
 pub use hand_state::HandState;
 pub use hands::lowest_free;
-pub use opening::{Opening, UntakenRecord, UntakenStatus};
+pub use opening::{Opening, OpeningNumbers, UntakenRecord, UntakenStatus};
 pub use out_record::OutRecord;
 pub use reservation::Reservation;
 pub use ring::RingState;

@@ -132,7 +132,7 @@ impl Keeper {
             Some(chapter) => {
                 (self.is_lent || chapter.used() == 0)
                     && chapter.room() == me.room()
-                    && chapter.opening().workers() == me.workers()
+                    && chapter.opening().numbers().workers == me.workers()
                     && me.chapters() < 1 << 62
             }
             None => unreachable!(),

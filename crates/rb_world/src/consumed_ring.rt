@@ -193,5 +193,5 @@ impl ConsumedRing {
 fn next_chapter(alloc: Global, ring: &RingState) -> Result<Chapter, AllocError> {
     ring.facts();
     let chapter = ring.chapter();
-    Chapter::new(alloc, chapter.room(), chapter.opening().workers())
+    Chapter::new(alloc, chapter.room(), chapter.opening().numbers().workers)
 }

@@ -30,23 +30,13 @@ pub overflow_add-ordinal : goal.overflow_add-ordinal
 overflow_add-ordinal c =
     let a = c.self.inside in
     let i = c.self.invariant in
-    let k = c.consumed.ensures.total ∙ ap (λ (x : Opening). x.consumed) c.closing-closing.ensures.closing in
-    let l = c.skipped.ensures.total ∙ ap (λ (x : Opening). x.skipped) c.closing-closing.ensures.closing in
-    let t = together i.earlier a.chapter (stored_of a.chapter a.sheets.items) i.counts i.ring in
-    omega (arith, k, l, t.made_is, t.low)
-
-pub overflow_add-ordinal-2 : goal.overflow_add-ordinal-2
-overflow_add-ordinal-2 c =
-    let a = c.self.inside in
-    let i = c.self.invariant in
     let at = subst (λ (v : ChapterRing). IsBusyAt v.shown c.args.index c.args.pos (length c.args.sheet)) (sym c.self.view_is) c.requires.busy in
     let there = busy-there i.earlier a.chapter a.sheets.items i.counts i.ring c.args.index c.args.pos (length c.args.sheet) at in
     let t = busy_now i.earlier a.chapter a.sheets.items i.counts i.ring c.args.index c.args.pos (length c.args.sheet) at in
-    let k = c.consumed.ensures.total ∙ ap (λ (x : Opening). x.consumed) c.closing-closing.ensures.closing in
-    let l = c.skipped.ensures.total ∙ ap (λ (x : Opening). x.skipped) c.closing-closing.ensures.closing in
+    let taken : c.taken.result ≡ taken_before (closing_of a.chapter) = c.taken.ensures.taken ∙ ap (λ (v : ChapterRing). taken_before (closing_of v.chapter)) (sym c.self.view_is) in
     let m = together i.earlier a.chapter (stored_of a.chapter a.sheets.items) i.counts i.ring in
     let within = within-now i.earlier a.chapter (stored_of a.chapter a.sheets.items) i.counts i.ring c.args.index c.args.pos (length c.args.sheet) at in
-    omega (arith, k, l, m.made_is, m.low, within)
+    omega (arith, taken, m.made_is, m.low, within)
 
 pub slot_in-slot-requires : goal.slot_in-slot-requires
 slot_in-slot-requires c = record { slots = subst IsPowerOfTwo (sym (c.len.ensures ∙ c.self.inside.sheets.ok.0)) c.self.invariant.power }
@@ -58,11 +48,10 @@ invariant_of-self c =
     let at = subst (λ (v : ChapterRing). IsBusyAt v.shown c.args.index c.args.pos (length c.args.sheet)) (sym c.self.view_is) c.requires.busy in
     let there = busy-there i.earlier a.chapter a.sheets.items i.counts i.ring c.args.index c.args.pos (length c.args.sheet) at in
     let t = busy_now i.earlier a.chapter a.sheets.items i.counts i.ring c.args.index c.args.pos (length c.args.sheet) at in
-    let k = c.consumed.ensures.total ∙ ap (λ (x : Opening). x.consumed) c.closing-closing.ensures.closing in
-    let l = c.skipped.ensures.total ∙ ap (λ (x : Opening). x.skipped) c.closing-closing.ensures.closing in
+    let taken : c.taken.result ≡ taken_before (closing_of a.chapter) = c.taken.ensures.taken ∙ ap (λ (v : ChapterRing). taken_before (closing_of v.chapter)) (sym c.self.view_is) in
     let few = slots-enough i.earlier a.chapter a.sheets.items i.counts i.ring i.slots in
     let many = c.len.ensures ∙ a.sheets.ok.0 in
-    let slot : c.slot_in-slot.result ≡ (taken_before (closing_of a.chapter) + c.args.index) % length a.sheets.items = c.slot_in-slot.ensures.value ∙ (λ j. (k j + l j + c.args.index) % many j) in
+    let slot : c.slot_in-slot.result ≡ (taken_before (closing_of a.chapter) + c.args.index) % length a.sheets.items = c.slot_in-slot.ensures.value ∙ (λ j. (taken j + c.args.index) % many j) in
     let low : c.slot_in-slot.result < length a.sheets.items = omega (arith, c.slot_in-slot.ensures.within, many) in
     let stored = submit-stored i.earlier a.chapter a.sheets.items i.counts i.ring c.args.index c.args.pos (length c.args.sheet) at c.args.sheet c.slot_in-slot.result slot low few in
     let kept = submit-keeps i.earlier a.chapter (stored_of a.chapter a.sheets.items) i.counts i.ring c.args.index c.args.pos (length c.args.sheet) at t there c.args.sheet refl in
@@ -96,11 +85,10 @@ returns-clause-contents c =
     let at = subst (λ (v : ChapterRing). IsBusyAt v.shown c.args.index c.args.pos (length c.args.sheet)) (sym c.self.view_is) c.requires.busy in
     let there = busy-there i.earlier a.chapter a.sheets.items i.counts i.ring c.args.index c.args.pos (length c.args.sheet) at in
     let t = busy_now i.earlier a.chapter a.sheets.items i.counts i.ring c.args.index c.args.pos (length c.args.sheet) at in
-    let k = c.consumed.ensures.total ∙ ap (λ (x : Opening). x.consumed) c.closing-closing.ensures.closing in
-    let l = c.skipped.ensures.total ∙ ap (λ (x : Opening). x.skipped) c.closing-closing.ensures.closing in
+    let taken : c.taken.result ≡ taken_before (closing_of a.chapter) = c.taken.ensures.taken ∙ ap (λ (v : ChapterRing). taken_before (closing_of v.chapter)) (sym c.self.view_is) in
     let few = slots-enough i.earlier a.chapter a.sheets.items i.counts i.ring i.slots in
     let many = c.len.ensures ∙ a.sheets.ok.0 in
-    let slot : c.slot_in-slot.result ≡ (taken_before (closing_of a.chapter) + c.args.index) % length a.sheets.items = c.slot_in-slot.ensures.value ∙ (λ j. (k j + l j + c.args.index) % many j) in
+    let slot : c.slot_in-slot.result ≡ (taken_before (closing_of a.chapter) + c.args.index) % length a.sheets.items = c.slot_in-slot.ensures.value ∙ (λ j. (taken j + c.args.index) % many j) in
     let low : c.slot_in-slot.result < length a.sheets.items = omega (arith, c.slot_in-slot.ensures.within, many) in
     let stored = submit-stored i.earlier a.chapter a.sheets.items i.counts i.ring c.args.index c.args.pos (length c.args.sheet) at c.args.sheet c.slot_in-slot.result slot low few in
     ap (λ d. contents_of (stored_of d (set a.sheets.items c.slot_in-slot.result c.args.sheet))) c.log_submit.ensures.logged ∙ ap contents_of (sym stored)
