@@ -173,7 +173,7 @@ impl SharedRing {
     {
         if consumer.tag() != self.tag
             || !are_all_tagged(&seats, self.tag)
-            || !has_all(&seats, consumer.workers())
+            || !has_all(&seats, consumer.ring().workers)
         {
             return Err(NotAll {
                 ring: self,
