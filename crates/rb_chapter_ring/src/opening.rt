@@ -6,14 +6,15 @@ ghost use Rattle.rb_chapter_ring.specs.Opening.{no_record, no_tally, record_in, 
 ghost use Rattle.rb_chapter_ring.specs.OpeningValue.{OpeningValue};
 ghost use Rattle.rb_chapter_ring.specs.Chapters.{empty_ring};
 ghost use Rattle.rb_chapter_ring.specs.UntakenRecords.{untaken_shown};
-ghost use Rattle.rb_chapter_ring.specs.inner.OpeningSteps.{with_refusal, with_grant, next_record, with_submit, with_discard, with_take};
+ghost use Rattle.rb_chapter_ring.specs.inner.OpeningSteps.{with_refusal, with_grant, next_record, with_end, with_take};
 
 mod numbers;
 
 use crate::opening_lists::{
-    are_same_records, are_same_tallies, copy, count_discarded, count_made, count_refused,
-    count_submitted, forget, front_of, settle, tally_of,
+    are_same_records, are_same_tallies, copy, count_end, count_made, count_refused, forget,
+    front_of, settle, tally_of,
 };
+use crate::record_end::RecordEnd;
 pub use numbers::OpeningNumbers;
 use rb_history::{Tally, span};
 use std::alloc::{AllocError, Global};
@@ -166,43 +167,19 @@ impl Opening {
         record
     }
 
-    // The record at an index, from the front on, was submitted. Returns its position.
-    pub(crate) fn add_submit(&mut self, index: usize) -> u64
+    #[inline(always)]
+    // The record at an index, from the front on, came to this end. Returns its position.
+    pub(crate) fn add_end(&mut self, index: usize, end: RecordEnd) -> u64
         requires within { index < length self.old.opening.records }
         requires worker { (record_in self.old.opening index).worker < self.old.opening.setup.workers }
-        requires total { (tally_at self.old.opening (record_in self.old.opening index).worker).submitted < 2 ^ 62 }
-        ensures added { self.new.opening ≡ with_submit index self.old.opening }
+        requires total { (tally_at self.old.opening (record_in self.old.opening index).worker).submitted + (tally_at self.old.opening (record_in self.old.opening index).worker).discarded < 2 ^ 62 }
+        ensures added { self.new.opening ≡ with_end end index self.old.opening }
         ensures room { self.new.room ≡ self.old.room }
         ensures passed { self.new.passed ≡ self.old.passed }
         ensures position { result ≡ (record_in self.old.opening index).pos }
     {
-        let record = settle(
-            self.records.as_mut_slice(),
-            self.first,
-            index,
-            UntakenStatus::Waiting,
-        );
-        count_submitted(self.tallies.as_mut_slice(), record.worker);
-        record.pos
-    }
-
-    // The record at an index, from the front on, was discarded. Returns its position.
-    pub(crate) fn add_discard(&mut self, index: usize) -> u64
-        requires within { index < length self.old.opening.records }
-        requires worker { (record_in self.old.opening index).worker < self.old.opening.setup.workers }
-        requires total { (tally_at self.old.opening (record_in self.old.opening index).worker).discarded < 2 ^ 62 }
-        ensures added { self.new.opening ≡ with_discard index self.old.opening }
-        ensures room { self.new.room ≡ self.old.room }
-        ensures passed { self.new.passed ≡ self.old.passed }
-        ensures position { result ≡ (record_in self.old.opening index).pos }
-    {
-        let record = settle(
-            self.records.as_mut_slice(),
-            self.first,
-            index,
-            UntakenStatus::Discarded,
-        );
-        count_discarded(self.tallies.as_mut_slice(), record.worker);
+        let record = settle(self.records.as_mut_slice(), self.first, index, end);
+        count_end(self.tallies.as_mut_slice(), record.worker, end);
         record.pos
     }
 
