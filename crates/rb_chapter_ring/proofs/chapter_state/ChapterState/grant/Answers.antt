@@ -1,12 +1,10 @@
-use Rattle.std.proofs.Common.{◌≡◌, ◌+◌, ◌/◌, ◌<◌, ◌≤◌, ◌^◌, ℕ, [], ◌∷◌, ◌++◌, length, map, get_or, set, refl, sym, ap, ◌∙◌, subst, arith}
+use Rattle.std.proofs.Common.{◌≡◌, ◌+◌, ◌/◌, ◌<◌, ◌≤◌, ℕ, [], ◌∷◌, ◌++◌, length, map, get_or, refl, sym, ap, ◌∙◌, subst, arith}
 use Rattle.std.proofs.lemmas.Bool.{false≢true}
 use Rattle.std.proofs.lemmas.List.{map-append}
 use Rattle.rb_history.specs.declared.entries.Entry.TheVariants.{Res}
 use Rattle.rb_history.specs.History.{Shown}
 use Rattle.rb_history.specs.History.Status.{Busy}
 use Rattle.rb_history.specs.StoredRecords.{shown_record, contents_of}
-use Rattle.rb_history.proofs.Contents.{length-map}
-use Rattle.rb_history.proofs.Row.{InRow-le}
 use Rattle.rb_chapter_ring.specs.Opening.{Opening, no_tally}
 use Rattle.rb_chapter_ring.specs.Chapters.{Chapter, closing_of}
 use Rattle.rb_chapter_ring.specs.ChapterRing.{ChapterRing}
@@ -18,7 +16,6 @@ use Rattle.rb_chapter_ring.proofs.CountSteps.{counting_grant}
 use Rattle.rb_chapter_ring.proofs.Grants.{newest, grant-closing, grant-keeps, serial-of, tallies-long, contents-grant}
 use Rattle.rb_chapter_ring.proofs.Numbers.{ordinal-of-grant, ordinals-grant, ordinals-same}
 use Rattle.rb_chapter_ring.proofs.Keeps.{transport-ring}
-use Rattle.rb_chapter_ring.proofs.Rows.{rows}
 use Rattle.rb_chapter_ring.proofs.Slotted.{grant-stored}
 use Rattle.rb_chapter_ring.proofs.chapter_state.ChapterState.grant.Goals as goal
 

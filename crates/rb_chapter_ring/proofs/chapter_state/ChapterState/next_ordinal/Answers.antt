@@ -1,8 +1,7 @@
-use Rattle.std.proofs.Common.{◌≡◌, ◌+◌, ◌/◌, ◌<◌, ◌^◌, length, sym, ap, ◌∙◌, arith}
+use Rattle.std.proofs.Common.{◌≡◌, ◌+◌, ◌<◌, ◌^◌, length, sym, ap, ◌∙◌, arith}
 use Rattle.rb_history.specs.StoredRecords.{shown_record}
 use Rattle.rb_history.proofs.Contents.{length-map}
 use Rattle.rb_history.proofs.Row.{InRow-le}
-use Rattle.rb_history.specs.History.{Shown}
 use Rattle.rb_chapter_ring.specs.Chapters.{closing_of}
 use Rattle.rb_chapter_ring.specs.ChapterRing.{ChapterRing}
 use Rattle.rb_chapter_ring.specs.Opening.{Opening}

@@ -1,4 +1,4 @@
-use Rattle.std.proofs.Common.{◌≡◌, ◌+◌, ◌<◌, ◌^◌, sym, ap, ◌∙◌, arith}
+use Rattle.std.proofs.Common.{◌+◌, ◌<◌, ◌^◌, ap, ◌∙◌, arith}
 use Rattle.rb_history.proofs.Row.{InRow-le}
 use Rattle.rb_chapter_ring.specs.Chapters.{closing_of}
 use Rattle.rb_chapter_ring.specs.ChapterRing.{ChapterRing}
