@@ -14,11 +14,20 @@ use Rattle.rb_history.proofs.Counting.{waiting-shown, busy-shown, made-split}
 use Rattle.rb_history.proofs.Laws.{kept-from-legal, legal-front, legal-next}
 use Rattle.rb_history.proofs.Lists.{sum_by-cons, sum_by-snoc}
 use Rattle.rb_chapter_ring.proofs.Limits.{spans-low}
-use Rattle.rb_chapter_ring.proofs.Weights.{weigh-full, weigh-res, weigh-sub, weigh-dis, weigh-take}
+use Rattle.rb_chapter_ring.proofs.Weights.{weigh-full, weigh-res, weigh-end, weigh-take}
 use Rattle.rb_chapter_ring.specs.OpenedRing.{capped, capped_counts}
+use Rattle.rb_chapter_ring.specs.declared.record_end.RecordEnd.{RecordEnd}
+use Rattle.rb_chapter_ring.specs.declared.record_end.RecordEnd.TheVariants.{Submit, Discard}
+use Rattle.rb_chapter_ring.specs.inner.EndSteps.{discards_by_end, entry_of_end, status_of_end}
 
 abbrev pub zero_counts : Counts
 zero_counts = record { made = 0; refused = 0; consumed = 0; discarded = 0; waiting = 0; busy = 0 }
+
+abbrev pub bit : Bool → ℕ
+bit b = cond b 1 0
+
+abbrev as_bit : Status → Status → ℕ
+as_bit st x = bit (is_same st x)
 
 abbrev pub counting_grant : Counts → Counts
 counting_grant c = record c { made = c.made + 1; busy = c.busy + 1 }
@@ -26,11 +35,8 @@ counting_grant c = record c { made = c.made + 1; busy = c.busy + 1 }
 abbrev pub counting_refusal : Counts → Counts
 counting_refusal c = record c { refused = capped (c.refused + 1) }
 
-abbrev pub counting_submit : Counts → Counts
-counting_submit c = record c { waiting = c.waiting + 1; busy = c.busy - 1 }
-
-abbrev pub counting_discard : Counts → Counts
-counting_discard c = record c { discarded = c.discarded + 1; busy = c.busy - 1 }
+abbrev pub counting_end : RecordEnd → Counts → Counts
+counting_end end c = record c { discarded = c.discarded + discards_by_end end; waiting = c.waiting + as_bit Waiting (status_of_end end); busy = c.busy - 1 }
 
 -- a take hands the record out, or passes it over
 abbrev pub counting_take : Bool → Counts → Counts
@@ -56,12 +62,6 @@ pub record IsCountable (c : Counts) : Type 0 where
   pub discarded : c.discarded < 2 ^ 62
   pub waiting : c.waiting < 2 ^ 62
   pub busy : c.busy < 2 ^ 62
-
-abbrev pub bit : Bool → ℕ
-bit b = cond b 1 0
-
-abbrev as_bit : Status → Status → ℕ
-as_bit st x = bit (is_same st x)
 
 -- ---- how many there are
 
@@ -121,44 +121,28 @@ module _ (r : Setup) (h : List Entry) where
       let consumed : c.consumed ≡ status_count Consumed (h ++ e ∷ []) = omega (arith, ap (λ (x : Counts). x.consumed) is, ap (λ (x : Counts). x.made) is, ap (λ (x : Counts). x.discarded) is, ap (λ (x : Counts). x.waiting) is, ap (λ (x : Counts). x.busy) is, made-split h, made-split (h ++ e ∷ []), made, discarded, waiting, busy) in
       λ i. record { made = made i; refused = refused i; consumed = consumed i; discarded = discarded i; waiting = waiting i; busy = busy i }
 
-  busy-some : (p : ℕ) (c : Counts) → IsLegal r (h ++ Sub p ∷ []) → c ≡ capped_counts (counts_of h) → 0 < c.busy
-  busy-some p c l is =
-      let k = kept-from-legal r h (legal-before (Sub p) l) in
-      omega (arith, ap (λ (x : Counts). x.busy) is, busy-shown h k.closed, weigh-sub (as_bit Busy) r h k p (legal-next r h (Sub p) [] l))
+  -- what an end adds
+  of-end : (end : RecordEnd) (p : ℕ) → (bit (is_grant_entry (entry_of_end end p)) ≡ 0) × (bit (is_refusal_entry (entry_of_end end p)) ≡ 0) × (bit (is_discard_entry (entry_of_end end p)) ≡ discards_by_end end)
+      × (as_bit Busy (status_of_end end) ≡ 0) × (discards_by_end end + as_bit Waiting (status_of_end end) ≡ 1)
+  of-end Submit p = (refl, refl, refl, refl, refl)
+  of-end Discard p = (refl, refl, refl, refl, refl)
 
-  pub counts-submit : (p : ℕ) (c : Counts) → IsLegal r (h ++ Sub p ∷ []) → c ≡ capped_counts (counts_of h) → counting_submit c ≡ capped_counts (counts_of (h ++ Sub p ∷ []))
-  counts-submit p c l is =
-      let e = Sub p in
+  pub counts-end : (end : RecordEnd) (p : ℕ) (c : Counts) → IsLegal r (h ++ entry_of_end end p ∷ []) → c ≡ capped_counts (counts_of h) → counting_end end c ≡ capped_counts (counts_of (h ++ entry_of_end end p ∷ []))
+  counts-end end p c l is =
+      let e = entry_of_end end p in
+      let adds = of-end end p in
       let k = kept-from-legal r h (legal-before e l) in
       let m = legal-next r h e [] l in
       let j = kept-from-legal r (h ++ e ∷ []) l in
-      let made : c.made ≡ count_by is_grant_entry (h ++ e ∷ []) = omega (arith, ap (λ (x : Counts). x.made) is, sum_by-snoc (λ y. bit (is_grant_entry y)) h e) in
-      let refused : c.refused ≡ capped (count_by is_refusal_entry (h ++ e ∷ [])) = omega (arith, ap (λ (x : Counts). x.refused) is, sum_by-snoc (λ y. bit (is_refusal_entry y)) h e) in
+      let less = weigh-end (as_bit Busy) r h k end p m in
+      let some : 0 < c.busy = omega (arith, ap (λ (x : Counts). x.busy) is, busy-shown h k.closed, less, adds.3) in
+      let made : c.made ≡ count_by is_grant_entry (h ++ e ∷ []) = omega (arith, ap (λ (x : Counts). x.made) is, sum_by-snoc (λ y. bit (is_grant_entry y)) h e, adds.0) in
+      let refused : c.refused ≡ capped (count_by is_refusal_entry (h ++ e ∷ [])) = omega (arith, ap (λ (x : Counts). x.refused) is, sum_by-snoc (λ y. bit (is_refusal_entry y)) h e, adds.1) in
       let discards = sum_by-snoc (λ y. bit (is_discard_entry y)) h e in
-      let discarded : c.discarded ≡ status_count Discarded (h ++ e ∷ []) = omega (arith, ap (λ (x : Counts). x.discarded) is, discards, k.given_up, j.given_up) in
-      let waiting : c.waiting + 1 ≡ status_count Waiting (h ++ e ∷ []) = omega (arith, ap (λ (x : Counts). x.waiting) is, waiting-shown h, waiting-shown (h ++ e ∷ []), weigh-sub (as_bit Waiting) r h k p m) in
-      let busy : c.busy - 1 ≡ status_count Busy (h ++ e ∷ []) = omega (arith, ap (λ (x : Counts). x.busy) is, busy-shown h k.closed, busy-shown (h ++ e ∷ []) j.closed, weigh-sub (as_bit Busy) r h k p m) in
-      let consumed : c.consumed ≡ status_count Consumed (h ++ e ∷ []) = omega (arith, ap (λ (x : Counts). x.consumed) is, ap (λ (x : Counts). x.made) is, ap (λ (x : Counts). x.discarded) is, ap (λ (x : Counts). x.waiting) is, ap (λ (x : Counts). x.busy) is, made-split h, made-split (h ++ e ∷ []), made, discarded, waiting, busy, busy-some p c l is) in
-      λ i. record { made = made i; refused = refused i; consumed = consumed i; discarded = discarded i; waiting = waiting i; busy = busy i }
-
-  busy-left : (p : ℕ) (c : Counts) → IsLegal r (h ++ Dis p ∷ []) → c ≡ capped_counts (counts_of h) → 0 < c.busy
-  busy-left p c l is =
-      let k = kept-from-legal r h (legal-before (Dis p) l) in
-      omega (arith, ap (λ (x : Counts). x.busy) is, busy-shown h k.closed, weigh-dis (as_bit Busy) r h k p (legal-next r h (Dis p) [] l))
-
-  pub counts-discard : (p : ℕ) (c : Counts) → IsLegal r (h ++ Dis p ∷ []) → c ≡ capped_counts (counts_of h) → counting_discard c ≡ capped_counts (counts_of (h ++ Dis p ∷ []))
-  counts-discard p c l is =
-      let e = Dis p in
-      let k = kept-from-legal r h (legal-before e l) in
-      let m = legal-next r h e [] l in
-      let j = kept-from-legal r (h ++ e ∷ []) l in
-      let made : c.made ≡ count_by is_grant_entry (h ++ e ∷ []) = omega (arith, ap (λ (x : Counts). x.made) is, sum_by-snoc (λ y. bit (is_grant_entry y)) h e) in
-      let refused : c.refused ≡ capped (count_by is_refusal_entry (h ++ e ∷ [])) = omega (arith, ap (λ (x : Counts). x.refused) is, sum_by-snoc (λ y. bit (is_refusal_entry y)) h e) in
-      let discards = sum_by-snoc (λ y. bit (is_discard_entry y)) h e in
-      let discarded : c.discarded + 1 ≡ status_count Discarded (h ++ e ∷ []) = omega (arith, ap (λ (x : Counts). x.discarded) is, discards, k.given_up, j.given_up) in
-      let waiting : c.waiting ≡ status_count Waiting (h ++ e ∷ []) = omega (arith, ap (λ (x : Counts). x.waiting) is, waiting-shown h, waiting-shown (h ++ e ∷ []), weigh-dis (as_bit Waiting) r h k p m) in
-      let busy : c.busy - 1 ≡ status_count Busy (h ++ e ∷ []) = omega (arith, ap (λ (x : Counts). x.busy) is, busy-shown h k.closed, busy-shown (h ++ e ∷ []) j.closed, weigh-dis (as_bit Busy) r h k p m) in
-      let consumed : c.consumed ≡ status_count Consumed (h ++ e ∷ []) = omega (arith, ap (λ (x : Counts). x.consumed) is, ap (λ (x : Counts). x.made) is, ap (λ (x : Counts). x.discarded) is, ap (λ (x : Counts). x.waiting) is, ap (λ (x : Counts). x.busy) is, made-split h, made-split (h ++ e ∷ []), made, discarded, waiting, busy, busy-left p c l is) in
+      let discarded : c.discarded + discards_by_end end ≡ status_count Discarded (h ++ e ∷ []) = omega (arith, ap (λ (x : Counts). x.discarded) is, discards, k.given_up, j.given_up, adds.2) in
+      let waiting : c.waiting + as_bit Waiting (status_of_end end) ≡ status_count Waiting (h ++ e ∷ []) = omega (arith, ap (λ (x : Counts). x.waiting) is, waiting-shown h, waiting-shown (h ++ e ∷ []), weigh-end (as_bit Waiting) r h k end p m) in
+      let busy : c.busy - 1 ≡ status_count Busy (h ++ e ∷ []) = omega (arith, ap (λ (x : Counts). x.busy) is, busy-shown h k.closed, busy-shown (h ++ e ∷ []) j.closed, less, adds.3) in
+      let consumed : c.consumed ≡ status_count Consumed (h ++ e ∷ []) = omega (arith, ap (λ (x : Counts). x.consumed) is, ap (λ (x : Counts). x.made) is, ap (λ (x : Counts). x.discarded) is, ap (λ (x : Counts). x.waiting) is, ap (λ (x : Counts). x.busy) is, made-split h, made-split (h ++ e ∷ []), made, discarded, waiting, busy, some, adds.4) in
       λ i. record { made = made i; refused = refused i; consumed = consumed i; discarded = discarded i; waiting = waiting i; busy = busy i }
 
   -- the record at the position waits, or was discarded

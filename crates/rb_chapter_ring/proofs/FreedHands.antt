@@ -2,7 +2,7 @@
 use Rattle.std.proofs.Common.{◌≡◌, ℕ, ◌<◌, Option, Some, None, sym, ◌∙◌, inl, inr}
 use Rattle.std.proofs.lemmas.Bool.{cases_eq}
 use Rattle.rb_chapter_ring.specs.declared.out_record.OutRecord.{OutRecord}
-use Rattle.rb_chapter_ring.specs.Hands.{HandBook, IsShaped, hand_at, hands_of, with_hand}
+use Rattle.rb_chapter_ring.specs.Hands.{HandBook, IsShaped, hand_at, with_hand}
 use Rattle.rb_chapter_ring.proofs.ChangedHands.{hand-here, hand-there}
 
 module _ (workers : ℕ) (book : HandBook) (shaped : IsShaped workers book) (w h : ℕ) (low : w < workers) (four : h < 4) where

@@ -111,21 +111,11 @@ module _ (earlier : List Entry) (old new : HandRing) (kept : IsKept earlier old.
         let whole = ((calls-alike earlier old.ring new.ring kept.continues).outputs w bytes low).0 o in
         has-then old.hands _ kept' whole.2.logged same has.shaped (steps.outputs w _ (length bytes) _ (longer _ kept' whole.2.logged));
     submits = λ hand g s.
-        let kept' = keeping.submits g s.submits in
         let whole = ((calls-alike earlier old.ring new.ring kept.continues).submits g).0 s.submits in
-        let o = out_record g.pos g.serial (length g.bytes) in
-        let low = low-worker g hand s.was_out in
-        has-then (with_hand old.hands g.worker hand None) (Sub g.pos ∷ []) kept' whole.1.logged s.freed
-        (still-shaped old.ring.chapter.opening.setup.workers old.hands has.shaped g.worker hand low (low-hand g hand low s.was_out) None)
-        (steps.submits g.worker hand o s.was_out);
+        given-back g hand (Sub g.pos ∷ []) s.was_out (keeping.submits g s.submits) whole.1.logged s.freed (steps.submits g.worker hand (out_record g.pos g.serial (length g.bytes)) s.was_out);
     discards = λ hand g s.
-        let kept' = keeping.discards g s.discards in
         let whole = ((calls-alike earlier old.ring new.ring kept.continues).discards g).0 s.discards in
-        let o = out_record g.pos g.serial (length g.bytes) in
-        let low = low-worker g hand s.was_out in
-        has-then (with_hand old.hands g.worker hand None) (Dis g.pos ∷ []) kept' whole.1.logged s.freed
-        (still-shaped old.ring.chapter.opening.setup.workers old.hands has.shaped g.worker hand low (low-hand g hand low s.was_out) None)
-        (steps.discards g.worker hand o s.was_out);
+        given-back g hand (Dis g.pos ∷ []) s.was_out (keeping.discards g s.discards) whole.1.logged s.freed (steps.discards g.worker hand (out_record g.pos g.serial (length g.bytes)) s.was_out);
     takes = takes-keep;
     hands_out = λ out x same.
         let kept' = keeping.hands_out out x in
@@ -147,6 +137,12 @@ module _ (earlier : List Entry) (old new : HandRing) (kept : IsKept earlier old.
       low-hand : (g : Granted) (hand : ℕ) → g.worker < old.ring.chapter.opening.setup.workers → HasInHand old hand g → hand < 4
       low-hand g hand low at =
           below-four old.ring.chapter.opening.setup (earlier ++ old.ring.chapter.entries) old.hands (whole-legal earlier old.ring.chapter kept.continues) has.shaped (to-whole earlier old.ring.chapter kept.continues old.hands has.holds) g.worker hand (out_record g.pos g.serial (length g.bytes)) low at
+
+      given-back : (g : Granted) (hand : ℕ) (added : List Entry) → HasInHand old hand g → IsKept earlier new.ring.chapter → WholeLogs (whole_ring earlier old.ring) (whole_ring earlier new.ring) added → new.hands ≡ with_hand old.hands g.worker hand None
+          → IsBookOf (with_hand old.hands g.worker hand None) ((earlier ++ old.ring.chapter.entries) ++ added) → HasHands new
+      given-back g hand added out kept' logged freed is =
+          let low = low-worker g hand out in
+          has-then (with_hand old.hands g.worker hand None) added kept' logged freed (still-shaped old.ring.chapter.opening.setup.workers old.hands has.shaped g.worker hand low (low-hand g hand low out) None) is
 
 pub each-call-keeps-hands : EachCallKeepsHands
 each-call-keeps-hands earlier old new kept has = keep-hands earlier old new kept has

@@ -1,13 +1,13 @@
 -- What a call leaves of the ordinals of a ring's records.
-use Rattle.std.proofs.Common.{◌≡◌, ℕ, zero, suc, ◌+◌, ◌<◌, ◌≤◌, List, [], ◌∷◌, ◌++◌, drop, length, length-append, length-set, get_or, set, refl, sym, ap, subst, ◌∙◌, inl, inr, arith}
+use Rattle.std.proofs.Common.{◌≡◌, ℕ, zero, suc, ◌+◌, ◌<◌, List, [], ◌∷◌, ◌++◌, drop, length, length-append, length-set, get_or, set, refl, sym, ap, ◌∙◌, inl, inr, arith}
 use Rattle.std.proofs.lemmas.Bool.{cases_lt}
 use Rattle.std.proofs.lemmas.List.{get_or_append_left, get_or_push}
-use Rattle.rb_history.specs.Span.{span}
 use Rattle.rb_history.specs.History.{Shown, Status}
-use Rattle.rb_history.specs.History.Status.{Waiting, Discarded}
 use Rattle.rb_chapter_ring.specs.Opening.{Opening, no_record, record_in}
-use Rattle.rb_chapter_ring.specs.inner.OpeningSteps.{with_refusal, next_record, with_grant, with_submit, with_discard, with_take, events_by, skips_by}
+use Rattle.rb_chapter_ring.specs.inner.OpeningSteps.{with_refusal, next_record, with_grant, with_end, with_take, events_by, skips_by}
 use Rattle.rb_chapter_ring.specs.inner.Ordinals.{IsNumbered, KeepsOrdinals, taken_before}
+use Rattle.rb_chapter_ring.specs.declared.record_end.RecordEnd.{RecordEnd}
+use Rattle.rb_chapter_ring.specs.inner.EndSteps.{status_of_end}
 
 -- one call after the other
 pub ordinals-on : (old mid new : Opening) → KeepsOrdinals old mid → KeepsOrdinals mid new → KeepsOrdinals old new
@@ -72,11 +72,8 @@ settled o now i st records taken producer = record {
       record { index = num.index; within = within; here = sym same ∙ num.here; ordinal = num.ordinal ∙ ap (λ t. t + num.index) taken };
 }
 
-pub ordinals-submit : (i : ℕ) (o : Opening) → KeepsOrdinals o (with_submit i o)
-ordinals-submit i o = settled o (with_submit i o) i Waiting refl refl refl
-
-pub ordinals-discard : (i : ℕ) (o : Opening) → KeepsOrdinals o (with_discard i o)
-ordinals-discard i o = settled o (with_discard i o) i Discarded refl refl refl
+pub ordinals-end : (end : RecordEnd) (i : ℕ) (o : Opening) → KeepsOrdinals o (with_end end i o)
+ordinals-end end i o = settled o (with_end end i o) i (status_of_end end) refl refl refl
 
 -- ---- the record in front was taken
 

@@ -1,12 +1,10 @@
 -- The ordinals that stand for the hands which are out.
-use Rattle.std.proofs.Common.{◌≡◌, ◌≢◌, Bool, true, false, ℕ, zero, suc, ◌+◌, ◌-◌, ◌<◌, ◌≤◌, List, [], ◌∷◌, ◌++◌, Some, None, length, map, replicate, get_or, set, length-set, refl, sym, ap, subst, ◌∙◌, inl, inr, get_or-set_same, get_or-set_other, arith}
-use Rattle.std.specs.List.{Contains}
+use Rattle.std.proofs.Common.{◌≡◌, ◌≢◌, Bool, true, false, ℕ, zero, suc, ◌+◌, ◌-◌, ◌<◌, ◌≤◌, List, [], ◌∷◌, ◌++◌, Some, length, map, replicate, get_or, set, length-set, refl, sym, ap, subst, ◌∙◌, inl, inr, get_or-set_same, get_or-set_other, arith}
 use Rattle.std.proofs.lemmas.Bool.{cases_eq, cases_lt}
 use Rattle.std.proofs.lemmas.List.{get_or-replicate, length-replicate}
 use Rattle.rb_history.specs.Span.{span}
 use Rattle.rb_history.specs.declared.entries.Entry.{Entry}
 use Rattle.rb_history.specs.declared.stored_records.StoredRecord.{StoredRecord}
-use Rattle.rb_history.specs.Calls.{IsBusy}
 use Rattle.rb_history.specs.History.{Shown, Status, is_discarded_at, is_submitted_at, status_by}
 use Rattle.rb_history.specs.History.Status.{Busy, Consumed, Discarded, Waiting}
 use Rattle.rb_history.specs.ReservationModel.{Granted}
@@ -25,8 +23,8 @@ use Rattle.rb_chapter_ring.proofs.Settling.{whole-legal}
 use Rattle.rb_chapter_ring.specs.inner.ChapterRingBody.{stored_at}
 use Rattle.rb_chapter_ring.specs.inner.Ordinals.{HasOrdinals, IsNumbered, KeepsNumbers, ordinal_at, taken_before}
 use Rattle.rb_chapter_ring.specs.declared.out_record.OutRecord.{OutRecord}
-use Rattle.rb_chapter_ring.specs.Hands.{HandBook, hand_at, hands_of, out_record, with_hand, IsShaped}
-use Rattle.rb_chapter_ring.specs.HandRing.{HandRing, HasHands, HasInHand, hand_ring}
+use Rattle.rb_chapter_ring.specs.Hands.{hand_at, with_hand, IsShaped}
+use Rattle.rb_chapter_ring.specs.HandRing.{HandRing, HasHands}
 use Rattle.rb_chapter_ring.proofs.BusyEntries.{some-out}
 use Rattle.rb_chapter_ring.proofs.ChangedHands.{hand-here, hand-there}
 use Rattle.rb_chapter_ring.proofs.HandCalls.{busy-alike}

@@ -1,5 +1,5 @@
 -- What holds of a ring's parts.
-use Rattle.std.proofs.Common.{ℕ, List, ◌++◌, map, refl, sym, subst}
+use Rattle.std.proofs.Common.{List, ◌++◌, map, refl, sym, subst}
 use Rattle.rb_history.specs.declared.entries.Entry.{Entry}
 use Rattle.rb_history.specs.declared.answers.Counts.{Counts}
 use Rattle.rb_history.specs.declared.stored_records.StoredRecord.{StoredRecord}

@@ -1,29 +1,40 @@
--- A busy record is submitted or discarded.
-use Rattle.std.proofs.Common.{◌≡◌, ℕ, zero, suc, ◌+◌, ◌-◌, ◌%◌, ◌<◌, List, [], ◌∷◌, ◌++◌, length, map, get_or, set, length-set, refl, sym, ap, ◌∙◌, subst, arith}
+-- A busy record comes to its end.
+use Rattle.std.proofs.Common.{◌≡◌, ℕ, zero, suc, ◌-◌, ◌%◌, ◌<◌, List, [], ◌∷◌, ◌++◌, length, map, get_or, set, length-set, refl, sym, ap, ◌∙◌, subst, arith}
 use Rattle.std.specs.FinMap.{insert}
 use Rattle.std.proofs.lemmas.List.Elements.{All-set}
 use Rattle.rb_history.specs.declared.entries.Entry.{Entry}
 use Rattle.rb_history.specs.declared.entries.Entry.TheVariants.{Sub, Dis}
 use Rattle.rb_history.specs.declared.answers.Counts.{Counts}
 use Rattle.rb_history.specs.declared.stored_records.StoredRecord.{StoredRecord}
+use Rattle.rb_history.specs.declared.stored_records.RecordState.{RecordState}
 use Rattle.rb_history.specs.declared.stored_records.RecordState.TheVariants.{Submitted, Discarded as DiscardedState}
 use Rattle.rb_history.specs.History.{Shown, Status}
-use Rattle.rb_history.specs.History.Status.{Waiting, Discarded}
 use Rattle.rb_history.specs.StoredRecords.{shown_record, state_status, IsSized, contents_of}
+use Rattle.rb_history.specs.ReservationModel.{Granted}
 use Rattle.rb_history.specs.inner.RecordRows.{IsBusyAt}
 use Rattle.rb_history.proofs.Row.{get_or-default}
 use Rattle.rb_history.proofs.Contents.{length-map}
 use Rattle.rb_history.proofs.Settling.{BusyRecord, busy-record, contents-send, contents-drop}
 use Rattle.rb_chapter_ring.specs.Opening.{Opening, no_record, record_in}
 use Rattle.rb_chapter_ring.specs.Chapters.{Chapter, closing_of}
+use Rattle.rb_chapter_ring.specs.ChapterRing.{ChapterRing}
+use Rattle.rb_chapter_ring.specs.ChapterCalls.{HoldsReservationFrom, Logs}
+use Rattle.rb_chapter_ring.specs.inner.RecordEnds.{Ends}
 use Rattle.rb_chapter_ring.specs.ChapterRoom.{owed, record_now, IsBusyNow, with_entry}
-use Rattle.rb_chapter_ring.specs.inner.OpeningSteps.{with_submit, with_discard}
-use Rattle.rb_chapter_ring.proofs.Settling.{submitted, discarded}
-use Rattle.rb_chapter_ring.proofs.CountSteps.{counting_submit, counting_discard}
+use Rattle.rb_chapter_ring.specs.declared.record_end.RecordEnd.{RecordEnd}
+use Rattle.rb_chapter_ring.specs.declared.record_end.RecordEnd.TheVariants.{Submit, Discard}
+use Rattle.rb_chapter_ring.specs.inner.EndSteps.{contents_with_end, entry_of_end, status_of_end}
+use Rattle.rb_chapter_ring.specs.inner.OpeningSteps.{with_end}
+use Rattle.rb_chapter_ring.proofs.Settling.{ended}
 use Rattle.rb_chapter_ring.specs.inner.ChapterRingBody.{ring_of, IsStored, IsRingOf}
-use Rattle.rb_chapter_ring.proofs.CountSteps.{counts-submit, counts-discard}
+use Rattle.rb_chapter_ring.proofs.CountSteps.{counting_end, counts-end}
 use Rattle.rb_chapter_ring.proofs.Keeps.{longer-legal, keeps}
 use Rattle.rb_chapter_ring.proofs.Rows.{rows}
+
+-- its state then
+abbrev pub state_of_end : RecordEnd → List ℕ → RecordState
+state_of_end Submit bytes = Submitted bytes
+state_of_end Discard bytes = DiscardedState
 
 map-set : (ss : List StoredRecord) (i : ℕ) (y : StoredRecord) → map shown_record (set ss i y) ≡ set (map shown_record ss) i (shown_record y)
 map-set [] i y = refl
@@ -68,34 +79,32 @@ module _ (earlier : List Entry) (c : Chapter) (stored : List StoredRecord) (coun
         shown = map-set stored i y ∙ (λ j. set (s.shown j) i (shows j)) ∙ ap (λ (x : Shown). set (closing_of c).records i (record x { status = st })) (sym same-record) ∙ sym rs;
       }
 
-  pub submit-closing : with_submit i (closing_of c) ≡ closing_of (with_entry c (Sub (record_now c i).pos))
-  submit-closing = (submitted earlier c g.kept (closing_of c) refl i is-busy (with_submit i (closing_of c)) (owed c) (with_entry c (Sub (record_now c i).pos)) refl refl refl).closing_is
+  pub end-closing : (end : RecordEnd) → with_end end i (closing_of c) ≡ closing_of (with_entry c (entry_of_end end (record_now c i).pos))
+  end-closing end = (ended earlier c g.kept (closing_of c) refl i is-busy end (with_end end i (closing_of c)) (owed c) (with_entry c (entry_of_end end (record_now c i).pos)) refl refl refl).closing_is
 
-  pub submit-keeps : (bytes : List ℕ) → length bytes ≡ n → IsRingOf earlier (with_entry c (Sub (record_now c i).pos)) (set stored i (record t { state = Submitted bytes })) (counting_submit counts)
-  submit-keeps bytes long =
-      let e = Sub (record_now c i).pos in
-      let y : StoredRecord = record t { state = Submitted bytes } in
-      let now = with_submit i (closing_of c) in
-      let runs = submitted earlier c g.kept (closing_of c) refl i is-busy now (owed c) (with_entry c e) refl refl refl in
-      let stands = settled-stands now y Waiting refl refl refl refl refl refl in
-      let counted = counts-submit c.opening.setup (earlier ++ c.entries) (record_now c i).pos counts (longer-legal earlier c stored counts g e runs.kept) g.counted in
-      keeps earlier c stored counts g e now (owed c - 1) (set stored i y) (counting_submit counts) runs stands (All-set IsSized stored i y (long ∙ sym busy.sized) g.sized) counted (omega (arith, g.granted, length-set stored i y))
+  shown-ended : (end : RecordEnd) (bytes : List ℕ) → shown_record (record t { state = state_of_end end bytes }) ≡ record (shown_record t) { status = status_of_end end }
+  shown-ended Submit bytes = refl
+  shown-ended Discard bytes = refl
 
-  pub discard-closing : with_discard i (closing_of c) ≡ closing_of (with_entry c (Dis (record_now c i).pos))
-  discard-closing = (discarded earlier c g.kept (closing_of c) refl i is-busy (with_discard i (closing_of c)) (owed c) (with_entry c (Dis (record_now c i).pos)) refl refl refl).closing_is
+  sized-ended : (end : RecordEnd) (bytes : List ℕ) → length bytes ≡ n → IsSized (record t { state = state_of_end end bytes })
+  sized-ended Submit bytes long = long ∙ sym busy.sized
+  sized-ended Discard bytes long = tt
 
-  pub discard-keeps : IsRingOf earlier (with_entry c (Dis (record_now c i).pos)) (set stored i (record t { state = DiscardedState })) (counting_discard counts)
-  discard-keeps =
-      let e = Dis (record_now c i).pos in
-      let y : StoredRecord = record t { state = DiscardedState } in
-      let now = with_discard i (closing_of c) in
-      let runs = discarded earlier c g.kept (closing_of c) refl i is-busy now (owed c) (with_entry c e) refl refl refl in
-      let stands = settled-stands now y Discarded refl refl refl refl refl refl in
-      let counted = counts-discard c.opening.setup (earlier ++ c.entries) (record_now c i).pos counts (longer-legal earlier c stored counts g e runs.kept) g.counted in
-      keeps earlier c stored counts g e now (owed c - 1) (set stored i y) (counting_discard counts) runs stands (All-set IsSized stored i y tt g.sized) counted (omega (arith, g.granted, length-set stored i y))
+  pub end-keeps : (end : RecordEnd) (bytes : List ℕ) → length bytes ≡ n → IsRingOf earlier (with_entry c (entry_of_end end (record_now c i).pos)) (set stored i (record t { state = state_of_end end bytes })) (counting_end end counts)
+  end-keeps end bytes long =
+      let e = entry_of_end end (record_now c i).pos in
+      let y : StoredRecord = record t { state = state_of_end end bytes } in
+      let now = with_end end i (closing_of c) in
+      let runs = ended earlier c g.kept (closing_of c) refl i is-busy end now (owed c) (with_entry c e) refl refl refl in
+      let stands = settled-stands now y (status_of_end end) (shown-ended end bytes) refl refl refl refl refl in
+      let counted = counts-end c.opening.setup (earlier ++ c.entries) end (record_now c i).pos counts (longer-legal earlier c stored counts g e runs.kept) g.counted in
+      keeps earlier c stored counts g e now (owed c - 1) (set stored i y) (counting_end end counts) runs stands (All-set IsSized stored i y (sized-ended end bytes long) g.sized) counted (omega (arith, g.granted, length-set stored i y))
 
-  pub contents-submit : (bytes : List ℕ) → contents_of (set stored i (record t { state = Submitted bytes })) ≡ insert (contents_of stored) pos bytes
-  contents-submit bytes = contents-send c.opening.setup (earlier ++ c.entries) stored i t pos n (closing_of c).producer (closing_of c).consumer busy (rows earlier c stored counts g) bytes
+  pub contents-end : (end : RecordEnd) (bytes : List ℕ) → contents_of (set stored i (record t { state = state_of_end end bytes })) ≡ contents_with_end end pos bytes (contents_of stored)
+  contents-end Submit bytes = contents-send c.opening.setup (earlier ++ c.entries) stored i t pos n (closing_of c).producer (closing_of c).consumer busy (rows earlier c stored counts g) bytes
+  contents-end Discard bytes = contents-drop c.opening.setup (earlier ++ c.entries) stored i t pos n (closing_of c).producer (closing_of c).consumer busy (rows earlier c stored counts g)
 
-  pub contents-discard : contents_of (set stored i (record t { state = DiscardedState })) ≡ contents_of stored
-  contents-discard = contents-drop c.opening.setup (earlier ++ c.entries) stored i t pos n (closing_of c).producer (closing_of c).consumer busy (rows earlier c stored counts g)
+-- the call, by the entry that was logged and the bytes that were kept
+pub ends-by : (end : RecordEnd) (old new : ChapterRing) (r : Granted) (pos : ℕ) (bytes : List ℕ) → pos ≡ r.pos → bytes ≡ r.bytes → HoldsReservationFrom old r → Logs old new (entry_of_end end pos ∷ []) → new.contents ≡ contents_with_end end pos bytes old.contents → Ends end r old new
+ends-by Submit old new r pos bytes at is busy logged contents = record { was_busy = busy; logged = subst (λ p. Logs old new (Sub p ∷ [])) at logged; contents_are = contents ∙ (λ i. insert old.contents (at i) (is i)) }
+ends-by Discard old new r pos bytes at is busy logged contents = record { was_busy = busy; logged = subst (λ p. Logs old new (Dis p ∷ [])) at logged; contents_same = contents }

@@ -1,11 +1,11 @@
--- What a submit, a discard and a take change of what a chapter stands for at its end.
+-- What the end of a record, and its take, change of what a chapter stands for at its end.
 use Rattle.std.proofs.Common.{◌≡◌, ◌≢◌, ℕ, ◌+◌, ◌-◌, ◌<◌, ◌≤◌, ◌^◌, Bool, true, false, ◌||◌, cond, List, [], ◌∷◌, ◌++◌, length, get_or, set, drop, refl, sym, ap, ◌∙◌, subst, append_assoc, add-zero, arith}
 use Rattle.std.proofs.lemmas.Bool.{false_from_ne_true, true≢false}
 use Rattle.rb_history.specs.Span.{span}
 use Rattle.rb_history.specs.declared.entries.Entry.{Entry}
 use Rattle.rb_history.specs.declared.entries.Entry.TheVariants.{Sub, Dis, Take}
 use Rattle.rb_history.specs.declared.tally.Tally.{Tally}
-use Rattle.rb_history.specs.History.{Shown, Status, status_by, is_submitted_at, is_discarded_at, producer_of, consumer_of, records, grants}
+use Rattle.rb_history.specs.History.{Shown, Status, status_by, is_granted_at, is_submitted_at, is_discarded_at, producer_of, consumer_of, records, grants}
 use Rattle.rb_history.specs.History.Status.{Busy, Waiting, Consumed, Discarded}
 use Rattle.rb_history.specs.WorkerCounts.{tally_of, is_record_of, events_of, skips_of}
 use Rattle.rb_history.specs.RoomRule.{Setup}
@@ -29,13 +29,16 @@ use Rattle.rb_chapter_ring.specs.CountedFrom.{records_from, consumer_from, IsLeg
 use Rattle.rb_chapter_ring.specs.ChapterRoom.{owed_for, owed, with_entry, record_now, IsBusyNow, HasSettledFront, HasEntryRoom}
 use Rattle.rb_chapter_ring.specs.WholeHistory.{IsKept}
 use Rattle.rb_chapter_ring.specs.inner.ChapterBody.{IsBehindTakes}
-use Rattle.rb_chapter_ring.specs.inner.OpeningSteps.{with_submit, with_discard, with_take, events_by, skips_by}
+use Rattle.rb_chapter_ring.specs.declared.record_end.RecordEnd.{RecordEnd}
+use Rattle.rb_chapter_ring.specs.declared.record_end.RecordEnd.TheVariants.{Submit, Discard}
+use Rattle.rb_chapter_ring.specs.inner.EndSteps.{entry_of_end, status_of_end, tally_with_end}
+use Rattle.rb_chapter_ring.specs.inner.OpeningSteps.{with_end, with_take, events_by, skips_by}
 use Rattle.rb_chapter_ring.proofs.ChapterNumbers.{map-below, tally-at}
 use Rattle.rb_chapter_ring.proofs.Keeping.{one-kept}
 use Rattle.rb_chapter_ring.proofs.Limits.{limited, spans-low}
 use Rattle.rb_chapter_ring.proofs.Logging.{ends, tallies-next, runs-behind, KeepsRunning}
 use Rattle.rb_chapter_ring.proofs.Stands.{goes-on}
-use Rattle.rb_chapter_ring.proofs.Weights.{weigh-sub, weigh-dis, weigh-take}
+use Rattle.rb_chapter_ring.proofs.Weights.{weigh-end, weigh-take}
 
 -- ---- over a whole history
 
@@ -59,57 +62,54 @@ module _ (r : Setup) (h : List Entry) (l : IsLegal r h) (i : ℕ) (within : i < 
   theirs : (v : ℕ) → v ≢ at_index.worker → is_record_of v h at_index.pos ≡ false
   theirs v other = false_from_ne_true (is_record_of v h at_index.pos) (λ is. other (record-unique r v at_index.worker at_index.pos h l is mine))
 
-  pub submit-legal : IsLegal r (h ++ Sub at_index.pos ∷ [])
-  submit-legal = legal-push r h (Sub at_index.pos) l (busy-settles r h (records h) (producer_of r.start h) (consumer_of r.start h) i no_record kept within busy)
+  may-end : (is_granted_at h at_index.pos ≡ true) × (is_submitted_at h at_index.pos ≡ false) × (is_discarded_at h at_index.pos ≡ false)
+  may-end = busy-settles r h (records h) (producer_of r.start h) (consumer_of r.start h) i no_record kept within busy
 
-  pub discard-legal : IsLegal r (h ++ Dis at_index.pos ∷ [])
-  discard-legal = legal-push r h (Dis at_index.pos) l (busy-settles r h (records h) (producer_of r.start h) (consumer_of r.start h) i no_record kept within busy)
+  pub end-legal : (end : RecordEnd) → IsLegal r (h ++ entry_of_end end at_index.pos ∷ [])
+  end-legal Submit = legal-push r h (Sub at_index.pos) l may-end
+  end-legal Discard = legal-push r h (Dis at_index.pos) l may-end
 
-  pub submit-next : opening_of r (h ++ Sub at_index.pos ∷ []) ≡ with_submit i (opening_of r h)
-  submit-next =
-      let e = Sub at_index.pos in
+  -- the records and both positions
+  end-facts : (end : RecordEnd) → HistoryFacts r (h ++ entry_of_end end at_index.pos ∷ []) (set (records h) i (record at_index { status = status_of_end end })) (producer_of r.start h) (consumer_of r.start h)
+  end-facts Submit = kept-sub r h (records h) (producer_of r.start h) (consumer_of r.start h) i no_record kept within busy
+  end-facts Discard = kept-dis r h (records h) (producer_of r.start h) (consumer_of r.start h) i no_record kept within busy
+
+  -- the totals of its worker, and of all others
+  own-tally : (end : RecordEnd) → tally_of at_index.worker (h ++ entry_of_end end at_index.pos ∷ []) ≡ tally_with_end end (tally_of at_index.worker h)
+  own-tally Submit = tally-sub r at_index.worker at_index.pos h (end-legal Submit) mine
+  own-tally Discard = tally-dis r at_index.worker at_index.pos h (end-legal Discard) mine
+
+  other-tally : (end : RecordEnd) (v : ℕ) → v ≢ at_index.worker → tally_with v h (entry_of_end end at_index.pos) (tally_of v h) ≡ tally_of v h
+  other-tally Submit v other j = record {
+    made = add-zero (grants v h) j;
+    refused = add-zero (tally_of v h).refused j;
+    submitted = (ap (λ b. (tally_of v h).submitted + cond b 1 0) (theirs v other) ∙ add-zero (tally_of v h).submitted) j;
+    discarded = add-zero (tally_of v h).discarded j;
+  }
+  other-tally Discard v other j = record {
+    made = add-zero (grants v h) j;
+    refused = add-zero (tally_of v h).refused j;
+    submitted = add-zero (tally_of v h).submitted j;
+    discarded = (ap (λ b. (tally_of v h).discarded + cond b 1 0) (theirs v other) ∙ add-zero (tally_of v h).discarded) j;
+  }
+
+  -- nothing is taken
+  end-takes : (end : RecordEnd) → (events_of (h ++ entry_of_end end at_index.pos ∷ []) ≡ events_of h) × (skips_of (h ++ entry_of_end end at_index.pos ∷ []) ≡ skips_of h)
+  end-takes Submit = (events-next r h (Sub at_index.pos) (end-legal Submit) ∙ add-zero (events_of h), skips-next r h (Sub at_index.pos) (end-legal Submit) ∙ add-zero (skips_of h))
+  end-takes Discard = (events-next r h (Dis at_index.pos) (end-legal Discard) ∙ add-zero (events_of h), skips-next r h (Dis at_index.pos) (end-legal Discard) ∙ add-zero (skips_of h))
+
+  pub end-next : (end : RecordEnd) → opening_of r (h ++ entry_of_end end at_index.pos ∷ []) ≡ with_end end i (opening_of r h)
+  end-next end =
       let o = opening_of r h in
       let w = at_index.worker in
-      let facts = kept-sub r h (records h) (producer_of r.start h) (consumer_of r.start h) i no_record kept within busy in
-      let others : (v : ℕ) → v ≢ w → tally_with v h e (tally_of v h) ≡ tally_of v h =
-      λ v other i. record {
-        made = add-zero (grants v h) i;
-        refused = add-zero (tally_of v h).refused i;
-        submitted = (ap (λ b. (tally_of v h).submitted + cond b 1 0) (theirs v other) ∙ add-zero (tally_of v h).submitted) i;
-        discarded = add-zero (tally_of v h).discarded i;
-      } in
-      let own : tally_of w (h ++ e ∷ []) ≡ record (tally_at o w) { submitted = (tally_at o w).submitted + 1 } =
-      tally-sub r w at_index.pos h submit-legal mine ∙ ap (λ (t : Tally). record t { submitted = t.submitted + 1 }) (sym (tally-at r h w worker-low)) in
-      let tallies = tallies-next r h e w submit-legal worker-low others ∙ ap (λ t. set o.tallies w t) own in
+      let facts = end-facts end in
+      let own = own-tally end ∙ ap (tally_with_end end) (sym (tally-at r h w worker-low)) in
+      let tallies = tallies-next r h (entry_of_end end at_index.pos) w (end-legal end) worker-low (other-tally end) ∙ ap (λ t. set o.tallies w t) own in
       let producer = sym facts.producer_is in
       let consumer = sym facts.consumer_is in
       let rows = sym facts.shown in
-      let consumed = events-next r h e submit-legal ∙ add-zero (events_of h) in
-      let skipped = skips-next r h e submit-legal ∙ add-zero (skips_of h) in
-      λ j. record { setup = r; producer = producer j; consumer = consumer j; records = rows j; tallies = tallies j; consumed = consumed j; skipped = skipped j }
-
-  pub discard-next : opening_of r (h ++ Dis at_index.pos ∷ []) ≡ with_discard i (opening_of r h)
-  discard-next =
-      let e = Dis at_index.pos in
-      let o = opening_of r h in
-      let w = at_index.worker in
-      let facts = kept-dis r h (records h) (producer_of r.start h) (consumer_of r.start h) i no_record kept within busy in
-      let others : (v : ℕ) → v ≢ w → tally_with v h e (tally_of v h) ≡ tally_of v h =
-      λ v other i. record {
-        made = add-zero (grants v h) i;
-        refused = add-zero (tally_of v h).refused i;
-        submitted = add-zero (tally_of v h).submitted i;
-        discarded = (ap (λ b. (tally_of v h).discarded + cond b 1 0) (theirs v other) ∙ add-zero (tally_of v h).discarded) i;
-      } in
-      let own : tally_of w (h ++ e ∷ []) ≡ record (tally_at o w) { discarded = (tally_at o w).discarded + 1 } =
-      tally-dis r w at_index.pos h discard-legal mine ∙ ap (λ (t : Tally). record t { discarded = t.discarded + 1 }) (sym (tally-at r h w worker-low)) in
-      let tallies = tallies-next r h e w discard-legal worker-low others ∙ ap (λ t. set o.tallies w t) own in
-      let producer = sym facts.producer_is in
-      let consumer = sym facts.consumer_is in
-      let rows = sym facts.shown in
-      let consumed = events-next r h e discard-legal ∙ add-zero (events_of h) in
-      let skipped = skips-next r h e discard-legal ∙ add-zero (skips_of h) in
-      λ j. record { setup = r; producer = producer j; consumer = consumer j; records = rows j; tallies = tallies j; consumed = consumed j; skipped = skipped j }
+      let takes = end-takes end in
+      λ j. record { setup = r; producer = producer j; consumer = consumer j; records = rows j; tallies = tallies j; consumed = takes.0 j; skipped = takes.1 j }
 
 -- what a status says of the take of its record
 take-bits : (s d : Bool) → (s ≡ true → d ≡ false) → (status_by s d false ≡ Busy → ⊥) → (cond s 1 0 ≡ events_by (status_by s d false)) × (cond d 1 0 ≡ skips_by (status_by s d false))
@@ -231,7 +231,7 @@ module _ (earlier : List Entry) (c : Chapter) (kept : IsKept earlier c) (closing
     worker-fits = subst (λ (o : Opening). (record_in o i).worker < o.setup.workers) (sym at-end) (worker-low c.opening.setup whole whole-legal i within held)
 
     -- the worker settled no more than it was granted, and so few that the totals fit
-    pub few : ((tally_at closing (record_in closing i).worker).submitted < 2 ^ 62) × ((tally_at closing (record_in closing i).worker).discarded < 2 ^ 62)
+    pub few : (tally_at closing (record_in closing i).worker).submitted + (tally_at closing (record_in closing i).worker).discarded < 2 ^ 62
     few =
         let r = c.opening.setup in
         let w = (record_in closing i).worker in
@@ -242,25 +242,25 @@ module _ (earlier : List Entry) (c : Chapter) (kept : IsKept earlier c) (closing
         let most = settled-most r whole whole-legal w in
         let granted = grants-low w whole in
         let low = spans-low r whole whole-legal in
-        (omega (arith, submitted, most, granted, low), omega (arith, discarded, most, granted, low))
+        omega (arith, submitted, discarded, most, granted, low)
 
-    pub submitted : (now : Opening) (owing : ℕ) (d : Chapter) → owing ≡ owed c → now ≡ with_submit i closing → d ≡ with_entry c (Sub (record_now c i).pos) → KeepsRunning earlier d now (owing - 1)
-    submitted now owing d owes made logged =
-        let r = c.opening.setup in
-        let l = submit-legal r whole whole-legal i within held in
-        let p = (get_or (records whole) i no_record).pos in
-        let less = weigh-sub entries_owed r whole (kept-from-legal r whole whole-legal) p (l.each whole (Sub p) [] refl) in
-        let here : (record_now c i).pos ≡ p = ap (λ (s : Shown). s.pos) (sym same-now ∙ same-at) in
-        settles (Sub p) (with_submit i) now owing d l kept.room (submit-next r whole whole-legal i within held) owes made (omega (arith, less)) (logged ∙ ap (λ q. with_entry c (Sub q)) here)
+    -- its take is still owed, and for its end there is room
+    owes-one : (end : RecordEnd) → entries_owed (status_of_end end) ≡ 1
+    owes-one Submit = refl
+    owes-one Discard = refl
 
-    pub discarded : (now : Opening) (owing : ℕ) (d : Chapter) → owing ≡ owed c → now ≡ with_discard i closing → d ≡ with_entry c (Dis (record_now c i).pos) → KeepsRunning earlier d now (owing - 1)
-    discarded now owing d owes made logged =
+    room-for : (end : RecordEnd) (p : ℕ) → HasEntryRoom c (entry_of_end end p)
+    room-for Submit p = kept.room
+    room-for Discard p = kept.room
+
+    pub ended : (end : RecordEnd) (now : Opening) (owing : ℕ) (d : Chapter) → owing ≡ owed c → now ≡ with_end end i closing → d ≡ with_entry c (entry_of_end end (record_now c i).pos) → KeepsRunning earlier d now (owing - 1)
+    ended end now owing d owes made logged =
         let r = c.opening.setup in
-        let l = discard-legal r whole whole-legal i within held in
+        let l = end-legal r whole whole-legal i within held end in
         let p = (get_or (records whole) i no_record).pos in
-        let less = weigh-dis entries_owed r whole (kept-from-legal r whole whole-legal) p (l.each whole (Dis p) [] refl) in
+        let less = weigh-end entries_owed r whole (kept-from-legal r whole whole-legal) end p (l.each whole (entry_of_end end p) [] refl) in
         let here : (record_now c i).pos ≡ p = ap (λ (s : Shown). s.pos) (sym same-now ∙ same-at) in
-        settles (Dis p) (with_discard i) now owing d l kept.room (discard-next r whole whole-legal i within held) owes made (omega (arith, less)) (logged ∙ ap (λ q. with_entry c (Dis q)) here)
+        settles (entry_of_end end p) (with_end end i) now owing d l (room-for end p) (end-next r whole whole-legal i within held end) owes made (omega (arith, less, owes-one end)) (logged ∙ ap (λ q. with_entry c (entry_of_end end q)) here)
 
   module _ (front : HasSettledFront c) where
     front-takes : TakesFront c.opening.setup whole (records whole)

@@ -1,10 +1,10 @@
 -- The records of a ring with their bytes, after each of its steps.
 use Rattle.std.proofs.Common.{◌≡◌, ◌≢◌, ℕ, ◌+◌, ◌/◌, ◌%◌, ◌<◌, ◌≤◌, List, [], ◌∷◌, ◌++◌, length, length-set, drop, get_or, set, refl, sym, ap, ◌∙◌, arith}
 use Rattle.rb_history.specs.declared.entries.Entry.{Entry}
-use Rattle.rb_history.specs.declared.entries.Entry.TheVariants.{Full, Sub, Dis}
+use Rattle.rb_history.specs.declared.entries.Entry.TheVariants.{Full}
 use Rattle.rb_history.specs.declared.answers.Counts.{Counts}
 use Rattle.rb_history.specs.declared.stored_records.StoredRecord.{StoredRecord}
-use Rattle.rb_history.specs.declared.stored_records.RecordState.TheVariants.{Reserved, Submitted, Discarded as DiscardedState}
+use Rattle.rb_history.specs.declared.stored_records.RecordState.TheVariants.{Reserved}
 use Rattle.rb_history.specs.History.{Shown}
 use Rattle.rb_history.specs.StoredRecords.{shown_record}
 use Rattle.rb_history.specs.inner.RecordRows.{IsBusyAt}
@@ -13,14 +13,22 @@ use Rattle.rb_chapter_ring.specs.Opening.{no_record, record_in}
 use Rattle.rb_chapter_ring.specs.Chapters.{Chapter, closing_of}
 use Rattle.rb_chapter_ring.specs.CountedFrom.{HasRoomFrom}
 use Rattle.rb_chapter_ring.specs.ChapterRoom.{MayGrant, MayRefuse, record_now, with_entry}
-use Rattle.rb_chapter_ring.specs.inner.OpeningSteps.{next_record, with_submit}
+use Rattle.rb_chapter_ring.specs.inner.OpeningSteps.{next_record, with_end}
+use Rattle.rb_chapter_ring.specs.declared.record_end.RecordEnd.{RecordEnd}
+use Rattle.rb_chapter_ring.specs.declared.record_end.RecordEnd.TheVariants.{Submit, Discard}
+use Rattle.rb_chapter_ring.specs.inner.EndSteps.{entry_of_end, slots_with_end}
 use Rattle.rb_chapter_ring.proofs.Running.{closing-fits}
 use Rattle.rb_chapter_ring.specs.inner.Ordinals.{taken_before}
 use Rattle.rb_chapter_ring.specs.inner.ChapterRingBody.{stored_at, stored_from, stored_in, stored_of, ring_of, IsRingOf}
 use Rattle.rb_chapter_ring.proofs.Slots.{stored-here, stored-push, stored-behind, stored-submit, stored-discard}
 use Rattle.rb_chapter_ring.proofs.Grants.{newest, grant, few, refusal-closing, grant-closing}
-use Rattle.rb_chapter_ring.proofs.Settles.{within-now, submit-closing, discard-closing}
+use Rattle.rb_chapter_ring.proofs.Settles.{state_of_end, within-now, end-closing}
 use Rattle.rb_chapter_ring.proofs.TakesOne.{next, take-closing, one-more}
+
+-- there are as many slots as before
+pub slots-long : (end : RecordEnd) (k : ℕ) (bytes : List ℕ) (sheets : List (List ℕ)) → length (slots_with_end end k bytes sheets) ≡ length sheets
+slots-long Submit k bytes sheets = length-set sheets k bytes
+slots-long Discard k bytes sheets = refl
 
 -- a record in front of the others
 pub in-front : (ss : List Shown) → 0 < length ss → ss ≡ get_or ss 0 no_record ∷ drop 1 ss
@@ -50,19 +58,17 @@ module _ (earlier : List Entry) (c : Chapter) (sheets : List (List ℕ)) (counts
     pub busy-there : busy_now ≡ get_or (stored_of c sheets) i busy_now
     busy-there = sym (stored-here (length sheets) sheets (taken_before (closing_of c)) (closing_of c).records i busy_now index-low)
 
-    pub submit-stored : (bytes : List ℕ) (k : ℕ) → k ≡ (taken_before (closing_of c) + i) % length sheets → k < length sheets → length (stored_of c sheets) ≤ length sheets
-        → set (stored_of c sheets) i (record busy_now { state = Submitted bytes }) ≡ stored_of (with_entry c (Sub (record_now c i).pos)) (set sheets k bytes)
-    submit-stored bytes k slot low few =
+    pub end-stored : (end : RecordEnd) (bytes : List ℕ) (k : ℕ) → k ≡ (taken_before (closing_of c) + i) % length sheets → k < length sheets → length (stored_of c sheets) ≤ length sheets
+        → set (stored_of c sheets) i (record busy_now { state = state_of_end end bytes }) ≡ stored_of (with_entry c (entry_of_end end (record_now c i).pos)) (slots_with_end end k bytes sheets)
+    end-stored Submit bytes k slot low few =
         let o = closing_of c in
         let here = stored-submit (length sheets) sheets bytes (taken_before o) o.records i k slot low index-low (omega (arith, few, many-now)) in
         let long : length sheets ≡ length (set sheets k bytes) = sym (length-set sheets k bytes) in
-        sym here ∙ ap (λ m. stored_from m (set sheets k bytes) (taken_before o) (with_submit i o).records) long ∙ ap (λ o. stored_in o (set sheets k bytes)) (submit-closing earlier c (stored_of c sheets) counts g i pos n at busy_now busy-there)
-
-    pub discard-stored : set (stored_of c sheets) i (record busy_now { state = DiscardedState }) ≡ stored_of (with_entry c (Dis (record_now c i).pos)) sheets
-    discard-stored =
+        sym here ∙ ap (λ m. stored_from m (set sheets k bytes) (taken_before o) (with_end Submit i o).records) long ∙ ap (λ o. stored_in o (set sheets k bytes)) (end-closing earlier c (stored_of c sheets) counts g i pos n at busy_now busy-there Submit)
+    end-stored Discard bytes k slot low few =
         let o = closing_of c in
         sym (stored-discard (length sheets) sheets (get_or sheets ((taken_before o + i) % length sheets) []) (taken_before o) o.records i index-low)
-        ∙ ap (λ o. stored_in o sheets) (discard-closing earlier c (stored_of c sheets) counts g i pos n at busy_now busy-there)
+        ∙ ap (λ o. stored_in o sheets) (end-closing earlier c (stored_of c sheets) counts g i pos n at busy_now busy-there Discard)
 
   module _ (some : 0 < length (closing_of c).records) where
     -- the record at the front, and those behind it

@@ -23,7 +23,10 @@ use Rattle.rb_chapter_ring.proofs.FreedHands.{freed-stays}
 use Rattle.rb_chapter_ring.proofs.Ordinals.{busy-at-ordinal, opened-ordinals, ordinals-granted, ordinals-stay}
 use Rattle.rb_chapter_ring.specs.declared.out_record.OutRecord.{OutRecord}
 use Rattle.rb_chapter_ring.specs.Hands.{HandBook, free_book, hand_at, hands_of, out_record, with_hand}
-use Rattle.rb_chapter_ring.specs.HandRing.{HandRing, hand_ring, HasHands, HasInHand, GrantsToHand, SubmitsFromHand, DiscardsFromHand}
+use Rattle.rb_chapter_ring.specs.HandRing.{HandRing, hand_ring, HasHands, HasInHand, GrantsToHand}
+use Rattle.rb_chapter_ring.specs.inner.RecordEnds.{Ends, EndsFromHand}
+use Rattle.rb_chapter_ring.specs.declared.record_end.RecordEnd.{RecordEnd}
+use Rattle.rb_chapter_ring.specs.declared.record_end.RecordEnd.TheVariants.{Submit, Discard}
 use Rattle.rb_chapter_ring.proofs.BusyEntries.{in-ring, below-four}
 use Rattle.rb_chapter_ring.proofs.FourHands.{book-begins-free}
 use Rattle.rb_chapter_ring.proofs.HandCalls.{in-hand-is-busy, whole-legal, to-whole, keep-hands}
@@ -55,6 +58,11 @@ found-by-ordinal earlier v ordinals kept stands state hand r out w row taken min
           (subst (λ n. IsBusyAt (closing_of v.ring.chapter).records n r.pos (length r.bytes)) (sym (λ i. number i - taken_is i)) there.1),
     )
 
+-- the end of a record that was in a hand
+pub ends-from : (end : RecordEnd) (old new : HandRing) (hand : ℕ) (r : Granted) → HasInHand old hand r → Ends end r old.ring new.ring → new.hands ≡ with_hand old.hands r.worker hand None → EndsFromHand end hand r old new
+ends-from Submit old new hand r out ends freed = record { was_out = out; submits = ends; freed = freed }
+ends-from Discard old new hand r out ends freed = record { was_out = out; discards = ends; freed = freed }
+
 module _ (earlier : List Entry) (old new : HandRing) (kept : IsKept earlier old.ring.chapter) (has : HasHands old) where
   refused-keeps : (w n : ℕ) → w < old.ring.chapter.opening.setup.workers → (f : ReserveFault) → RefusesInChapter old.ring new.ring w n f → new.hands ≡ old.hands → HasHands new
   refused-keeps w n low Full a same = (keep-hands earlier old new kept has).finds_full w n low a same
@@ -65,12 +73,6 @@ module _ (earlier : List Entry) (old new : HandRing) (kept : IsKept earlier old.
 
   granted-keeps : (w hand n p k : ℕ) → w < old.ring.chapter.opening.setup.workers → GrantsToHand old new w hand n p k → HasHands new
   granted-keeps = (keep-hands earlier old new kept has).grants
-
-  submitted-keeps : (hand : ℕ) (r : Granted) → SubmitsFromHand old new hand r → HasHands new
-  submitted-keeps = (keep-hands earlier old new kept has).submits
-
-  discarded-keeps : (hand : ℕ) (r : Granted) → DiscardsFromHand old new hand r → HasHands new
-  discarded-keeps = (keep-hands earlier old new kept has).discards
 
   output-keeps : (w : ℕ) (bytes : List ℕ) → w < old.ring.chapter.opening.setup.workers → Outputs old.ring new.ring w bytes → new.hands ≡ old.hands → HasHands new
   output-keeps = (keep-hands earlier old new kept has).outputs
@@ -142,11 +144,9 @@ module _ (earlier : List Entry) (old new : HandRing) (ordinals : List (List ℕ)
         counted = ordinals-granted earlier old new ordinals kept state.counted earlier kept_on has keeps w hand m (out_record p k n) low g.was_free.below (as-many has (ap length g.marked ∙ length-set old.hands w (set (hands_of old.hands w) hand (Some (out_record p k n))))) state.has.shaped g.marked number;
       }
 
-  pub submitted-holds : (hand : ℕ) (r : Granted) → SubmitsFromHand old new hand r → IsHandState new ordinals
-  submitted-holds hand r h = frees ((calls-keep earlier old.ring new.ring kept).submits r h.submits) (submitted-keeps earlier old new kept state.has hand r h) hand r h.was_out h.freed
-
-  pub discarded-holds : (hand : ℕ) (r : Granted) → DiscardsFromHand old new hand r → IsHandState new ordinals
-  discarded-holds hand r h = frees ((calls-keep earlier old.ring new.ring kept).discards r h.discards) (discarded-keeps earlier old new kept state.has hand r h) hand r h.was_out h.freed
+  pub ended-holds : (end : RecordEnd) (hand : ℕ) (r : Granted) → EndsFromHand end hand r old new → IsHandState new ordinals
+  ended-holds Submit hand r h = frees ((calls-keep earlier old.ring new.ring kept).submits r h.submits) ((keep-hands earlier old new kept state.has).submits hand r h) hand r h.was_out h.freed
+  ended-holds Discard hand r h = frees ((calls-keep earlier old.ring new.ring kept).discards r h.discards) ((keep-hands earlier old new kept state.has).discards hand r h) hand r h.was_out h.freed
 
   pub output-holds : (w : ℕ) (bytes : List ℕ) → w < old.ring.chapter.opening.setup.workers → (answer : Result Notice (ReserveFault × List ℕ)) → OnOk answer (Outputs old.ring new.ring w bytes) → IfErr answer (λ e. RefusesInChapter old.ring new.ring w (length bytes) e.0) → new.hands ≡ old.hands → IsHandState new ordinals
   output-holds w bytes low (Ok n) made refused same = stays earlier ((calls-keep earlier old.ring new.ring kept).outputs w bytes low made) (output-keeps earlier old new kept state.has w bytes low made same) same

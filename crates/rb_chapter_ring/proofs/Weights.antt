@@ -15,6 +15,9 @@ use Rattle.rb_history.proofs.Lists.{sum_by-cons, sum_by-snoc}
 use Rattle.rb_history.proofs.Steps.{Named, shown-contains, records-full}
 use Rattle.rb_history.proofs.Kept.{kept-res, kept-sub, kept-dis, kept-take, named-at}
 use Rattle.rb_history.proofs.Standing.{grant-stands}
+use Rattle.rb_chapter_ring.specs.declared.record_end.RecordEnd.{RecordEnd}
+use Rattle.rb_chapter_ring.specs.declared.record_end.RecordEnd.TheVariants.{Submit, Discard}
+use Rattle.rb_chapter_ring.specs.inner.EndSteps.{entry_of_end, status_of_end}
 
 -- each record counted by its status
 abbrev pub weight : (Status → ℕ) → List Shown → ℕ
@@ -76,6 +79,10 @@ module _ (f : Status → ℕ) (r : Setup) (h : List Entry) (k : KeptAs r h) wher
       let a = busy-at x m.0 m.1 m.2 in
       let now = (kept-dis r h (records h) (producer_of r.start h) (consumer_of r.start h) a.index a.default k a.within a.busy).shown in
       ap (λ q. weight f (records (h ++ Dis q ∷ [])) + f Busy) (sym a.at) ∙ ap (λ ss. weight f ss + f Busy) (sym now) ∙ changed a.index a.default Discarded a.within a.busy
+
+  pub weigh-end : (end : RecordEnd) (x : ℕ) → MayFollow r h (entry_of_end end x) → weight f (records (h ++ entry_of_end end x ∷ [])) + f Busy ≡ weight f (records h) + f (status_of_end end)
+  weigh-end Submit x m = weigh-sub x m
+  weigh-end Discard x m = weigh-dis x m
 
   front : (c : ℕ) (ss : List Shown) → ss ≡ records h → c ≡ consumer_of r.start h → HistoryFacts r h ss (producer_of r.start h) c → (is_submitted_at h c || is_discarded_at h c) ≡ true → 0 < length ss →
       weight f (records (h ++ Take c ∷ [])) + f (status_by (is_submitted_at h c) (is_discarded_at h c) false) ≡ weight f ss

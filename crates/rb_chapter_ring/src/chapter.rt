@@ -3,14 +3,16 @@
 ghost use Rattle.std.specs.Prelude.{◌≡◌, ◌+◌, ◌-◌, ◌<◌, ◌≤◌, ◌^◌, ◌↔◌, ◌++◌, ◌∷◌, [], IfOk, IsTrue, List, vec_len, vec_capacity};
 ghost use Rattle.rb_history.specs.Span.{span};
 ghost use Rattle.rb_history.specs.declared.entries.Entry.{Entry};
-ghost use Rattle.rb_history.specs.declared.entries.Entry.TheVariants.{Res, Full, Sub, Dis, Take};
+ghost use Rattle.rb_history.specs.declared.entries.Entry.TheVariants.{Res, Full, Take};
 ghost use Rattle.rb_history.specs.RingModel.{IsWorkerCount};
 ghost use Rattle.rb_chapter_ring.specs.Chapters.{IsChapterRoom, empty_chapter, first_chapter, closing_of, Meets};
 ghost use Rattle.rb_chapter_ring.specs.ChapterRoom.{used, owed, MayGrant, MayRefuse, record_now, IsBusyNow, HasSettledFront, with_entry};
 ghost use Rattle.rb_chapter_ring.specs.CountedFrom.{HasRoomFrom, grants_from, producer_from, consumer_from};
 ghost use Rattle.rb_chapter_ring.specs.WholeHistory.{IsKept};
+ghost use Rattle.rb_chapter_ring.specs.inner.EndSteps.{entry_of_end};
 
 use crate::opening::Opening;
+use crate::record_end::RecordEnd;
 use rb_history::{Entry, span};
 use std::alloc::{AllocError, Global};
 use std::marker::Model;
@@ -146,22 +148,14 @@ impl Chapter {
         );
     }
 
-    /// Adds a submit of the record at an index of those that are there, from the front on. In constant time, and without memory.
-    pub(crate) fn log_submit(&mut self, index: usize)
+    #[inline(always)]
+    /// Adds the end of the record at an index of those that are there, from the front on. In constant time, and without memory.
+    pub(crate) fn log_end(&mut self, index: usize, end: RecordEnd)
         requires busy { IsBusyNow self.old index }
-        ensures logged { self.new ≡ with_entry self.old (Sub (record_now self.old index).pos) }
+        ensures logged { self.new ≡ with_entry self.old (entry_of_end end (record_now self.old index).pos) }
     {
-        let pos = self.closing.add_submit(index);
-        log_owed(&mut self.entries, &mut self.owed, Entry::Sub(pos));
-    }
-
-    /// Adds a discard of the record at an index of those that are there, from the front on. In constant time, and without memory.
-    pub(crate) fn log_discard(&mut self, index: usize)
-        requires busy { IsBusyNow self.old index }
-        ensures logged { self.new ≡ with_entry self.old (Dis (record_now self.old index).pos) }
-    {
-        let pos = self.closing.add_discard(index);
-        log_owed(&mut self.entries, &mut self.owed, Entry::Dis(pos));
+        let pos = self.closing.add_end(index, end);
+        log_owed(&mut self.entries, &mut self.owed, end.entry(pos));
     }
 
     /// Adds a take of the record at the front, which was submitted or discarded. In constant time, and without memory.
@@ -229,8 +223,8 @@ impl Chapter {
     pub(crate) fn has_room(&self, len: u32) -> bool
         ensures exact { IsTrue result ↔ HasRoomFrom self.now.opening self.now.entries len }
     {
-        let closing = &self.closing;
-        fits(closing.producer(), closing.consumer(), closing.size(), len)
+        let numbers = self.closing.numbers();
+        fits(numbers.producer, numbers.consumer, numbers.size, len)
     }
 
     /// Whether there is room in the chapter for a grant, and for the end and the take of its record. In constant time.

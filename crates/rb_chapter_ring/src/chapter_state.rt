@@ -1,7 +1,6 @@
 //! A ring with one chapter of its history, without hands: a record that is given back is busy, which its caller knows by the hand that it is in.
 
 ghost use Rattle.std.specs.Prelude.{◌≡◌, ◌≢◌, ◌+◌, ◌<◌, ◌≤◌, ◌^◌, ◌↔◌, ◌∷◌, [], ◌++◌, List, IsErrOf, IfOk, OnOk, OnErr, IfErr, length, replicate};
-ghost use Rattle.std.specs.FinMap.{insert};
 ghost use Rattle.rb_history.specs.declared.entries.Entry.{Entry};
 ghost use Rattle.rb_history.specs.History.Status.{Busy};
 ghost use Rattle.rb_history.specs.RingModel.{IsRingSize, IsStartPosition, IsWorkerCount};
@@ -10,17 +9,20 @@ ghost use Rattle.rb_history.specs.inner.RecordRows.{IsBusyAt};
 ghost use Rattle.rb_chapter_ring.specs.Chapters.{IsChapterRoom, closing_of};
 ghost use Rattle.rb_chapter_ring.specs.CountedFrom.{query_answer_from};
 ghost use Rattle.rb_chapter_ring.specs.ChapterRing.{StandsForChapter};
-ghost use Rattle.rb_chapter_ring.specs.ChapterCalls.{producer_now, consumer_now, ChapterRingHasRoom, IsSameChapter, Logs, HoldsReservationFrom, HasBusyFront, AllTaken, Grants, Outputs, Submits, Discards, Takes};
+ghost use Rattle.rb_chapter_ring.specs.ChapterCalls.{producer_now, consumer_now, ChapterRingHasRoom, IsSameChapter, Logs, HoldsReservationFrom, HasBusyFront, AllTaken, Grants, Outputs, Takes};
 ghost use Rattle.rb_chapter_ring.specs.WholeHistory.{IsKept};
 ghost use Rattle.rb_chapter_ring.specs.OpenedRing.{opened_ring, told_counts, IsChapterRingWithin};
+ghost use Rattle.rb_chapter_ring.specs.inner.RecordEnds.{Ends};
 ghost use Rattle.rb_chapter_ring.specs.RingFaults.{RefusesInChapter};
 ghost use Rattle.rb_chapter_ring.specs.inner.Ordinals.{IsNumbered, KeepsNumbers, taken_before};
+ghost use Rattle.rb_chapter_ring.specs.inner.EndSteps.{contents_with_end, entry_of_end};
 
 mod handing_out;
 
-use crate::counting::count_refusal;
+use crate::counting::{count_discard, count_refusal};
 use crate::faults::{OpenFault, ReserveFault};
-use crate::finding::{front_of, slot_in};
+use crate::finding::{front_of, keep_bytes, slot_in};
+use crate::record_end::RecordEnd;
 use crate::setup::{check_setup, empty_sheets, made_by, slots_for};
 use crate::{Chapter, UntakenStatus};
 use rb_history::{
@@ -122,12 +124,12 @@ impl ChapterState {
     pub(crate) fn query(&self, what: u64) -> u64
         ensures answer { result ≡ query_answer_from self.now.chapter.opening self.now.chapter.entries what }
     {
-        let closing = self.chapter.closing();
+        let numbers = self.chapter.closing().numbers();
         match what {
-            AVAIL_DATA => closing.producer() - closing.consumer(),
-            RING_SIZE => closing.size(),
-            CONS_POS => closing.consumer(),
-            PROD_POS => closing.producer(),
+            AVAIL_DATA => numbers.producer - numbers.consumer,
+            RING_SIZE => numbers.size,
+            CONS_POS => numbers.consumer,
+            PROD_POS => numbers.producer,
             _ => 0,
         }
     }
@@ -137,17 +139,16 @@ impl ChapterState {
     pub(crate) fn counts(&self) -> Counts
         ensures counts { result ≡ told_counts self.now }
     {
-        let closing = self.chapter.closing();
+        let numbers = self.chapter.closing().numbers();
         let there = self.many() as u64;
-        let consumed = closing.consumed();
-        let made = consumed + closing.skipped() + there;
+        let made = numbers.consumed + numbers.skipped + there;
         let busy = u64::from(self.chapter.owed()) - there;
         Counts {
             made,
             refused: self.refused,
-            consumed,
+            consumed: numbers.consumed,
             discarded: self.discarded,
-            waiting: made - busy - consumed - self.discarded,
+            waiting: made - busy - numbers.consumed - self.discarded,
             busy,
         }
     }
@@ -186,36 +187,26 @@ impl ChapterState {
     }
 
     #[inline(always)]
-    /// Hands the bytes of the reservation, whose record stands at the index, to the consumer. It is busy, so there is no refusal. Of the flags only bits 0 and 1 are
-    /// looked at. In constant time, and without memory. (bpf-helpers(7), bpf_ringbuf_submit.)
-    pub(crate) fn submit(&mut self, index: usize, reservation: Reservation, flags: u64) -> Notice
+    /// The reservation's record, which stands at the index, comes to this end: its bytes are handed to the consumer, or the consumer passes over it.
+    /// It is busy, so there is no refusal. Of the flags only bits 0 and 1 are looked at. In constant time, and without memory. (bpf-helpers(7),
+    /// bpf_ringbuf_submit and bpf_ringbuf_discard.)
+    pub(crate) fn settle(
+        &mut self,
+        index: usize,
+        reservation: Reservation,
+        end: RecordEnd,
+        flags: u64,
+    ) -> Notice
         requires busy { HoldsReservationFrom self.old reservation }
         requires here { IsBusyAt self.old.shown index reservation.pos (length reservation.bytes) }
         ensures same_chapter { IsSameChapter self.old self.new }
-        ensures submitted { Submits self.old self.new reservation }
+        ensures ended { Ends end reservation self.old self.new }
         ensures notice { (result ≡ Notice.Due) ↔ IsDue (consumer_now self.old) reservation.pos flags }
         ensures numbers { KeepsNumbers self.old.chapter self.new.chapter }
     {
         let pos = reservation.pos();
         let notice = self.notice(pos, flags);
-        self.send(index, pos, reservation.into_sheet());
-        notice
-    }
-
-    #[inline(always)]
-    /// Gives the reservation's record, which stands at the index, up, so that the consumer passes over it. It is busy, so there is no refusal. Of the flags
-    /// only bits 0 and 1 are looked at. In constant time, and without memory. (bpf-helpers(7), bpf_ringbuf_discard.)
-    pub(crate) fn discard(&mut self, index: usize, reservation: Reservation, flags: u64) -> Notice
-        requires busy { HoldsReservationFrom self.old reservation }
-        requires here { IsBusyAt self.old.shown index reservation.pos (length reservation.bytes) }
-        ensures same_chapter { IsSameChapter self.old self.new }
-        ensures discarded { Discards self.old self.new reservation }
-        ensures notice { (result ≡ Notice.Due) ↔ IsDue (consumer_now self.old) reservation.pos flags }
-        ensures numbers { KeepsNumbers self.old.chapter self.new.chapter }
-    {
-        let pos = reservation.pos();
-        let notice = self.notice(pos, flags);
-        self.give_up(index, pos, reservation.len());
+        self.log_end(index, pos, reservation.into_sheet(), end);
         notice
     }
 
@@ -247,7 +238,7 @@ impl ChapterState {
         match self.grant(worker, sheet.len()) {
             Err(fault) => Err((fault, sheet)),
             Ok((pos, _)) => {
-                self.send(index, pos, sheet);
+                self.log_end(index, pos, sheet, RecordEnd::Submit);
                 Ok(notice)
             }
         }
@@ -264,15 +255,13 @@ impl ChapterState {
         ensures empty { (result ≡ Taken.Empty) ↔ AllTaken self.old }
         ensures numbers { KeepsNumbers self.old.chapter self.new.chapter }
     {
-        let closing = self.chapter.closing();
-        let Some(front) = front_of(closing.records()) else {
+        let Some(front) = front_of(self.chapter.closing().records()) else {
             return Taken::Empty;
         };
         match front.status {
             UntakenStatus::Busy => Taken::BusyFront,
             UntakenStatus::Waiting => {
-                let ordinal = closing.consumed() + closing.skipped();
-                let slot = slot_in(self.sheets.len(), ordinal);
+                let slot = slot_in(self.sheets.len(), self.taken());
                 let empty = Sheet::empty(self.alloc);
                 let sheet = mem::replace(&mut self.sheets[slot], empty);
                 self.chapter.log_take();
@@ -323,37 +312,25 @@ impl ChapterState {
             return Err(ReserveFault::ChapterFull);
         }
         let closing = self.chapter.closing();
-        let pos = closing.producer();
+        let pos = closing.numbers().producer;
         let serial = made_by(closing.tallies(), worker);
         self.chapter.log_grant(worker, n);
         Ok((pos, serial))
     }
 
     #[inline(always)]
-    // The busy record at an index is given its bytes.
-    fn send(&mut self, index: usize, pos: u64, sheet: Sheet)
+    // The busy record at an index comes to this end; the sheet has its bytes.
+    fn log_end(&mut self, index: usize, pos: u64, sheet: Sheet, end: RecordEnd)
         requires busy { IsBusyAt self.old.shown index pos (length sheet) }
-        ensures logged { Logs self.old self.new (Entry.Sub pos ∷ []) }
-        ensures contents { self.new.contents ≡ insert self.old.contents pos sheet }
+        ensures logged { Logs self.old self.new (entry_of_end end pos ∷ []) }
+        ensures contents { self.new.contents ≡ contents_with_end end pos sheet self.old.contents }
         ensures numbers { KeepsNumbers self.old.chapter self.new.chapter }
     {
-        let closing = self.chapter.closing();
-        let ordinal = closing.consumed() + closing.skipped() + index as u64;
+        let ordinal = self.taken() + index as u64;
         let slot = slot_in(self.sheets.len(), ordinal);
-        self.sheets[slot] = sheet;
-        self.chapter.log_submit(index);
-    }
-
-    #[inline(always)]
-    // The busy record at an index is given up.
-    fn give_up(&mut self, index: usize, pos: u64, len: u32)
-        requires busy { IsBusyAt self.old.shown index pos len }
-        ensures logged { Logs self.old self.new (Entry.Dis pos ∷ []) }
-        ensures contents { self.new.contents ≡ self.old.contents }
-        ensures numbers { KeepsNumbers self.old.chapter self.new.chapter }
-    {
-        self.chapter.log_discard(index);
-        self.discarded += 1;
+        keep_bytes(&mut self.sheets, slot, sheet, end);
+        count_discard(&mut self.discarded, end);
+        self.chapter.log_end(index, end);
     }
 
     #[inline(always)]
@@ -361,8 +338,8 @@ impl ChapterState {
     pub(crate) fn taken(&self) -> u64
         ensures taken { result ≡ taken_before (closing_of self.now.chapter) }
     {
-        let closing = self.chapter.closing();
-        closing.consumed() + closing.skipped()
+        let numbers = self.chapter.closing().numbers();
+        numbers.consumed + numbers.skipped
     }
 
     #[inline(always)]
@@ -370,8 +347,8 @@ impl ChapterState {
     pub(crate) fn next_ordinal(&self) -> u64
         ensures ordinal { result ≡ taken_before (closing_of self.now.chapter) + length (closing_of self.now.chapter).records }
     {
-        let closing = self.chapter.closing();
-        closing.consumed() + closing.skipped() + self.many() as u64
+        let numbers = self.chapter.closing().numbers();
+        numbers.consumed + numbers.skipped + self.many() as u64
     }
 
     #[inline(always)]
@@ -387,13 +364,13 @@ impl ChapterState {
     fn notice(&self, pos: u64, flags: u64) -> Notice
         ensures due { (result ≡ Notice.Due) ↔ IsDue (consumer_now self.now) pos flags }
     {
-        notice_for(self.chapter.closing().consumer(), pos, flags)
+        notice_for(self.chapter.closing().numbers().consumer, pos, flags)
     }
 
     #[inline(always)]
     fn producer(&self) -> u64
         ensures value { result ≡ producer_now self.now }
     {
-        self.chapter.closing().producer()
+        self.chapter.closing().numbers().producer
     }
 }

@@ -1,11 +1,14 @@
-//! Where a record is found.
+//! Where a record is found, and where its bytes are kept.
 
 ghost use Rattle.std.specs.Prelude.{◌≡◌, ◌<◌, ◌%◌, IfSome, IfNone, length, map, slice_index_or};
 ghost use Rattle.std.specs.Int.{IsPowerOfTwo};
 ghost use Rattle.rb_chapter_ring.specs.Opening.{no_record};
 ghost use Rattle.rb_chapter_ring.specs.UntakenRecords.{untaken_shown};
+ghost use Rattle.rb_chapter_ring.specs.inner.EndSteps.{slots_with_end};
 
 use crate::UntakenRecord;
+use crate::record_end::RecordEnd;
+use rb_lend::Sheet;
 
 #[inline(always)]
 /// The slot of a record that so many were granted before.
@@ -27,4 +30,16 @@ pub(crate) fn front_of(records: &[UntakenRecord]) -> Option<UntakenRecord>
         return None;
     }
     Some(records[0])
+}
+
+#[inline(always)]
+/// Keeps the bytes of a record in its slot, where it is submitted.
+pub(crate) fn keep_bytes(sheets: &mut Vec<Sheet>, slot: usize, sheet: Sheet, end: RecordEnd)
+    requires slot { slot < length sheets.old.items }
+    ensures kept { sheets.new.items ≡ slots_with_end end slot sheet sheets.old.items }
+{
+    match end {
+        RecordEnd::Submit => sheets[slot] = sheet,
+        RecordEnd::Discard => {}
+    }
 }

@@ -19,10 +19,12 @@ ghost use Rattle.rb_chapter_ring.specs.OpenedRing.{IsChapterRingWithin, MayGoOnI
 ghost use Rattle.rb_chapter_ring.specs.ManyTakes.{TakesManyInChapter};
 ghost use Rattle.rb_chapter_ring.specs.Hands.{AreAllOut, IsFree, IsLowestFree, free_book, hands_of};
 ghost use Rattle.rb_chapter_ring.specs.HandRing.{hand_ring, HasHands, HasInHand, GrantsToHand, SubmitsFromHand, DiscardsFromHand};
+ghost use Rattle.rb_chapter_ring.specs.inner.RecordEnds.{EndsFromHand};
 
 use crate::chapter_state::ChapterState;
 use crate::faults::{OpenFault, ReserveFault};
 use crate::hand_table::{free_table, no_ordinals, set_hand, set_ordinal};
+use crate::record_end::RecordEnd;
 use crate::reservation::Reservation;
 use crate::{Chapter, OutRecord, lowest_free};
 use rb_history::{Counts, Notice, Reservation as Record, Taken};
@@ -245,7 +247,7 @@ impl HandState {
         ensures notice { (result ≡ Due) ↔ IsDue (consumer_now self.old.ring) reservation.granted.pos flags }
     {
         let Reservation { hand, grant, .. } = reservation;
-        self.send(hand, grant, flags)
+        self.settle(hand, grant, RecordEnd::Submit, flags)
     }
 
     #[inline(always)]
@@ -258,7 +260,7 @@ impl HandState {
         ensures notice { (result ≡ Due) ↔ IsDue (consumer_now self.old.ring) reservation.granted.pos flags }
     {
         let Reservation { hand, grant, .. } = reservation;
-        self.give_up(hand, grant, flags)
+        self.settle(hand, grant, RecordEnd::Discard, flags)
     }
 
     #[inline(always)]
@@ -274,35 +276,18 @@ impl HandState {
     }
 
     #[inline(always)]
-    // Submits the record that is out in a hand of its worker.
-    fn send(&mut self, hand: u32, grant: Record, flags: u64) -> Notice
+    // The record that is out in a hand of its worker comes to this end, and the hand is free.
+    fn settle(&mut self, hand: u32, grant: Record, end: RecordEnd, flags: u64) -> Notice
         requires out { HasInHand self.old hand grant }
         ensures same_chapter { IsSameChapter self.old.ring self.new.ring }
-        ensures submitted { SubmitsFromHand self.old self.new hand grant }
+        ensures ended { EndsFromHand end hand grant self.old self.new }
         ensures notice { (result ≡ Due) ↔ IsDue (consumer_now self.old.ring) grant.pos flags }
     {
         let ring = &self.ring;
         ring.facts();
         let worker = grant.worker();
         let index = self.index_in(hand, &grant);
-        let notice = self.ring.submit(index, grant, flags);
-        set_hand(&mut self.hands, worker, hand, None);
-        notice
-    }
-
-    #[inline(always)]
-    // Discards the record that is out in a hand of its worker.
-    fn give_up(&mut self, hand: u32, grant: Record, flags: u64) -> Notice
-        requires out { HasInHand self.old hand grant }
-        ensures same_chapter { IsSameChapter self.old.ring self.new.ring }
-        ensures discarded { DiscardsFromHand self.old self.new hand grant }
-        ensures notice { (result ≡ Due) ↔ IsDue (consumer_now self.old.ring) grant.pos flags }
-    {
-        let ring = &self.ring;
-        ring.facts();
-        let worker = grant.worker();
-        let index = self.index_in(hand, &grant);
-        let notice = self.ring.discard(index, grant, flags);
+        let notice = self.ring.settle(index, grant, end, flags);
         set_hand(&mut self.hands, worker, hand, None);
         notice
     }

@@ -5,14 +5,17 @@ ghost use Rattle.rb_history.specs.Span.{span};
 ghost use Rattle.rb_chapter_ring.specs.Opening.{no_record, no_tally, record_in, tally_at};
 ghost use Rattle.rb_chapter_ring.specs.OpeningValue.{OpeningValue};
 ghost use Rattle.rb_chapter_ring.specs.Chapters.{empty_ring};
-ghost use Rattle.rb_chapter_ring.specs.UntakenRecords.{status_shown, untaken_shown};
-ghost use Rattle.rb_chapter_ring.specs.inner.OpeningNumbers.{first_numbers};
-ghost use Rattle.rb_chapter_ring.specs.inner.OpeningSteps.{with_refusal, with_grant, next_record, with_submit, with_discard, with_take, events_by, skips_by};
+ghost use Rattle.rb_chapter_ring.specs.UntakenRecords.{untaken_shown};
+ghost use Rattle.rb_chapter_ring.specs.inner.OpeningSteps.{with_refusal, with_grant, next_record, with_end, with_take};
+
+mod numbers;
 
 use crate::opening_lists::{
-    are_same_records, are_same_tallies, copy, count_discarded, count_made, count_refused,
-    count_submitted, forget, front_of, settle, tally_of,
+    are_same_records, are_same_tallies, copy, count_end, count_made, count_refused, forget,
+    front_of, settle, tally_of,
 };
+use crate::record_end::RecordEnd;
+pub use numbers::OpeningNumbers;
 use rb_history::{Tally, span};
 use std::alloc::{AllocError, Global};
 use std::marker::Model;
@@ -43,60 +46,11 @@ pub struct UntakenRecord {
     pub status: UntakenStatus,
 }
 
-// The numbers of an opening, each as its teller below says.
-#[derive(Clone, Copy, PartialEq, Eq)]
-struct Numbers {
-    size: u64,
-    start: u64,
-    workers: u32,
-    producer: u64,
-    consumer: u64,
-    consumed: u64,
-    skipped: u64,
-}
-
-impl Numbers {
-    // Those of a ring where nothing was done.
-    fn of_ring(size: u64, start: u64, workers: u32) -> Numbers
-        ensures first { result ≡ first_numbers size start workers }
-    {
-        Numbers {
-            size,
-            start,
-            workers,
-            producer: start,
-            consumer: start,
-            consumed: 0,
-            skipped: 0,
-        }
-    }
-
-    #[inline(always)]
-    // Counts a record that was taken, by what had become of it.
-    fn count_take(&mut self, status: UntakenStatus)
-        requires totals { self.old.consumed + self.old.skipped < 2 ^ 62 }
-        ensures counted { self.new ≡ record self.old { consumed = self.old.consumed + events_by (status_shown status); skipped = self.old.skipped + skips_by (status_shown status) } }
-    {
-        match status {
-            UntakenStatus::Busy => {}
-            UntakenStatus::Waiting => self.consumed += 1,
-            UntakenStatus::Discarded => self.skipped += 1,
-        }
-    }
-
-    // Whether each number is the same.
-    fn is_same(&self, other: &Numbers) -> bool
-        ensures exact { IsTrue result ↔ (self.now ≡ other.now) }
-    {
-        *self == *other
-    }
-}
-
 /// What a ring's history stands for where a chapter begins: the ring's numbers, both positions, the records that were not taken,
 /// and the totals of all entries before. It is made and changed by its chapter alone.
 #[derive(Drop)]
 pub struct Opening {
-    numbers: Numbers,
+    numbers: OpeningNumbers,
     records: Vec<UntakenRecord>,
     // Where the records that are there begin: before them stand those that were taken.
     first: usize,
@@ -127,7 +81,7 @@ impl Opening {
         ensures passed { IfOk result (λ o. o.passed ≡ 0) }
     {
         Ok(Opening {
-            numbers: Numbers::of_ring(0, 0, workers),
+            numbers: OpeningNumbers::of_ring(0, 0, workers),
             records: Vec::with_capacity(alloc, room as usize)?,
             first: 0,
             tallies: vec![in alloc; Tally::none(); workers as usize]?,
@@ -140,7 +94,7 @@ impl Opening {
         ensures room { self.new.room ≡ self.old.room }
         ensures passed { self.new.passed ≡ 0 }
     {
-        self.numbers = Numbers::of_ring(size, start, self.numbers.workers);
+        self.numbers = OpeningNumbers::of_ring(size, start, self.numbers.workers);
         self.records.clear();
         self.first = 0;
         forget(self.tallies.as_mut_slice());
@@ -213,43 +167,19 @@ impl Opening {
         record
     }
 
-    // The record at an index, from the front on, was submitted. Returns its position.
-    pub(crate) fn add_submit(&mut self, index: usize) -> u64
+    #[inline(always)]
+    // The record at an index, from the front on, came to this end. Returns its position.
+    pub(crate) fn add_end(&mut self, index: usize, end: RecordEnd) -> u64
         requires within { index < length self.old.opening.records }
         requires worker { (record_in self.old.opening index).worker < self.old.opening.setup.workers }
-        requires total { (tally_at self.old.opening (record_in self.old.opening index).worker).submitted < 2 ^ 62 }
-        ensures added { self.new.opening ≡ with_submit index self.old.opening }
+        requires total { (tally_at self.old.opening (record_in self.old.opening index).worker).submitted + (tally_at self.old.opening (record_in self.old.opening index).worker).discarded < 2 ^ 62 }
+        ensures added { self.new.opening ≡ with_end end index self.old.opening }
         ensures room { self.new.room ≡ self.old.room }
         ensures passed { self.new.passed ≡ self.old.passed }
         ensures position { result ≡ (record_in self.old.opening index).pos }
     {
-        let record = settle(
-            self.records.as_mut_slice(),
-            self.first,
-            index,
-            UntakenStatus::Waiting,
-        );
-        count_submitted(self.tallies.as_mut_slice(), record.worker);
-        record.pos
-    }
-
-    // The record at an index, from the front on, was discarded. Returns its position.
-    pub(crate) fn add_discard(&mut self, index: usize) -> u64
-        requires within { index < length self.old.opening.records }
-        requires worker { (record_in self.old.opening index).worker < self.old.opening.setup.workers }
-        requires total { (tally_at self.old.opening (record_in self.old.opening index).worker).discarded < 2 ^ 62 }
-        ensures added { self.new.opening ≡ with_discard index self.old.opening }
-        ensures room { self.new.room ≡ self.old.room }
-        ensures passed { self.new.passed ≡ self.old.passed }
-        ensures position { result ≡ (record_in self.old.opening index).pos }
-    {
-        let record = settle(
-            self.records.as_mut_slice(),
-            self.first,
-            index,
-            UntakenStatus::Discarded,
-        );
-        count_discarded(self.tallies.as_mut_slice(), record.worker);
+        let record = settle(self.records.as_mut_slice(), self.first, index, end);
+        count_end(self.tallies.as_mut_slice(), record.worker, end);
         record.pos
     }
 
@@ -292,42 +222,7 @@ impl Opening {
         are_same_tallies(self.tallies.as_slice(), other.tallies.as_slice())
     }
 
-    /// The ring's size in bytes; 0 where no ring keeps the chapter. In constant time, as the calls below.
-    pub fn size(&self) -> u64
-        ensures size { result ≡ self.now.opening.setup.size }
-    {
-        self.numbers.size
-    }
-
-    /// The ring's first position, in bytes.
-    pub fn start(&self) -> u64
-        ensures start { result ≡ self.now.opening.setup.start }
-    {
-        self.numbers.start
-    }
-
-    /// The ring's number of workers.
-    pub fn workers(&self) -> u32
-        ensures workers { result ≡ self.now.opening.setup.workers }
-    {
-        self.numbers.workers
-    }
-
-    /// The position of the next record that is granted.
-    pub fn producer(&self) -> u64
-        ensures position { result ≡ self.now.opening.producer }
-    {
-        self.numbers.producer
-    }
-
-    /// The position of the next record that is taken.
-    pub fn consumer(&self) -> u64
-        ensures position { result ≡ self.now.opening.consumer }
-    {
-        self.numbers.consumer
-    }
-
-    /// The records that were granted and not taken, in the order of their grants.
+    /// The records that were granted and not taken, in the order of their grants. In constant time, as the call below.
     pub fn records(&self) -> &[UntakenRecord]
         ensures records { map untaken_shown result.now ≡ self.now.opening.records }
     {
@@ -339,19 +234,5 @@ impl Opening {
         ensures tallies { result.now ≡ self.now.opening.tallies }
     {
         self.tallies.as_slice()
-    }
-
-    /// How many submitted records were taken before the chapter.
-    pub fn consumed(&self) -> u64
-        ensures total { result ≡ self.now.opening.consumed }
-    {
-        self.numbers.consumed
-    }
-
-    /// How many discarded records were passed over before the chapter.
-    pub fn skipped(&self) -> u64
-        ensures total { result ≡ self.now.opening.skipped }
-    {
-        self.numbers.skipped
     }
 }

@@ -2,9 +2,11 @@
 
 ghost use Rattle.std.specs.Prelude.{◌≡◌, ◌+◌, ◌<◌, ◌^◌, ◌↔◌, IsTrue, drop, length, map, replicate, slice_index_or, slice_set};
 ghost use Rattle.rb_chapter_ring.specs.Opening.{no_record, no_tally};
-ghost use Rattle.rb_chapter_ring.specs.UntakenRecords.{status_shown, untaken_shown};
+ghost use Rattle.rb_chapter_ring.specs.UntakenRecords.{untaken_shown};
+ghost use Rattle.rb_chapter_ring.specs.inner.EndSteps.{status_of_end, tally_with_end};
 
-use crate::opening::{UntakenRecord, UntakenStatus};
+use crate::opening::UntakenRecord;
+use crate::record_end::RecordEnd;
 use rb_history::Tally;
 
 /// Makes all totals those of a worker without entries.
@@ -68,40 +70,36 @@ pub(crate) fn count_refused(tallies: &mut [Tally], worker: u32)
     tallies[worker as usize].refused += 1;
 }
 
-/// Counts a record of the worker that was submitted.
+/// Counts the end of a record of the worker.
 #[inline(always)]
-pub(crate) fn count_submitted(tallies: &mut [Tally], worker: u32)
+pub(crate) fn count_end(tallies: &mut [Tally], worker: u32, end: RecordEnd)
     requires worker { worker < length tallies.old }
-    requires total { (slice_index_or tallies.old worker no_tally).submitted < 2 ^ 62 }
-    ensures counted { tallies.new ≡ slice_set tallies.old worker (record (slice_index_or tallies.old worker no_tally) { submitted = (slice_index_or tallies.old worker no_tally).submitted + 1 }) }
+    requires total { (slice_index_or tallies.old worker no_tally).submitted + (slice_index_or tallies.old worker no_tally).discarded < 2 ^ 62 }
+    ensures counted { tallies.new ≡ slice_set tallies.old worker (tally_with_end end (slice_index_or tallies.old worker no_tally)) }
 {
-    tallies[worker as usize].submitted += 1;
+    let tally = &mut tallies[worker as usize];
+    match end {
+        RecordEnd::Submit => tally.submitted += 1,
+        RecordEnd::Discard => tally.discarded += 1,
+    }
 }
 
-/// Counts a record of the worker that was discarded.
 #[inline(always)]
-pub(crate) fn count_discarded(tallies: &mut [Tally], worker: u32)
-    requires worker { worker < length tallies.old }
-    requires total { (slice_index_or tallies.old worker no_tally).discarded < 2 ^ 62 }
-    ensures counted { tallies.new ≡ slice_set tallies.old worker (record (slice_index_or tallies.old worker no_tally) { discarded = (slice_index_or tallies.old worker no_tally).discarded + 1 }) }
-{
-    tallies[worker as usize].discarded += 1;
-}
-
-/// Gives the record at an index, from the first on, another status, and returns it as it was.
+/// The record at an index, from the first on, comes to this end. Returns it as it was.
 pub(crate) fn settle(
     records: &mut [UntakenRecord],
     first: usize,
     index: usize,
-    status: UntakenStatus,
+    end: RecordEnd,
 ) -> UntakenRecord
     requires within { first + index < length records.old }
-    ensures settled { map untaken_shown (drop first records.new) ≡ slice_set (map untaken_shown (drop first records.old)) index (record (slice_index_or (map untaken_shown (drop first records.old)) index no_record) { status = status_shown status }) }
+    ensures settled { map untaken_shown (drop first records.new) ≡ slice_set (map untaken_shown (drop first records.old)) index (record (slice_index_or (map untaken_shown (drop first records.old)) index no_record) { status = status_of_end end }) }
     ensures long { length records.new ≡ length records.old }
     ensures record { untaken_shown result ≡ slice_index_or (map untaken_shown (drop first records.old)) index no_record }
 {
     let place = first + index;
     let record = records[place];
+    let status = end.status();
     records[place] = UntakenRecord { status, ..record };
     record
 }

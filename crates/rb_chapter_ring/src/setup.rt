@@ -68,7 +68,7 @@ pub(crate) fn is_fit(chapter: &Chapter, empty: &Chapter) -> bool
 {
     empty.used() == 0
         && empty.room() == chapter.room()
-        && empty.opening().workers() == chapter.opening().workers()
+        && empty.opening().numbers().workers == chapter.opening().numbers().workers
         && chapter.number() < 1 << 62
 }
 

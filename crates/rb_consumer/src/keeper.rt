@@ -130,9 +130,10 @@ impl Keeper {
     {
         match &self.kept {
             Some(chapter) => {
+                let ring = me.ring();
                 (self.is_lent || chapter.used() == 0)
-                    && chapter.room() == me.room()
-                    && chapter.opening().workers() == me.workers()
+                    && chapter.room() == ring.room
+                    && chapter.opening().numbers().workers == ring.workers
                     && me.chapters() < 1 << 62
             }
             None => unreachable!(),
@@ -168,7 +169,7 @@ fn hand_out_due<R: Wait>(
         Ok(told) => told,
         Err(_) => unreachable!(),
     };
-    if !is_due(margin, me.room(), entries, more) {
+    if !is_due(margin, me.ring().room, entries, more) {
         return Err(kept);
     }
     let mut empty = kept;

@@ -103,16 +103,17 @@ fn opens_empty_ring(chapter: &Chapter) -> bool
 {
     chapter.facts();
     let opening = chapter.opening();
-    if opening.producer() != opening.start() {
+    let numbers = opening.numbers();
+    if numbers.producer != numbers.start {
         return false;
     }
-    if opening.consumer() != opening.start() {
+    if numbers.consumer != numbers.start {
         return false;
     }
-    if opening.consumed() != 0 {
+    if numbers.consumed != 0 {
         return false;
     }
-    if opening.skipped() != 0 {
+    if numbers.skipped != 0 {
         return false;
     }
     if !opening.records().is_empty() {

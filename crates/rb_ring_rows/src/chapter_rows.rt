@@ -109,7 +109,7 @@ fn open_after(script: &mut Script, name: &str, earlier: &str, out: &mut Text) {
 fn open_behind(chapter: &mut Chapter, earlier: &Chapter, out: &mut Text) {
     if chapter.entries().is_empty()
         && chapter.room() == earlier.room()
-        && chapter.opening().workers() == earlier.opening().workers()
+        && chapter.opening().numbers().workers == earlier.opening().numbers().workers
         && earlier.number() < 1 << 62
     {
         chapter.open_after(earlier);
@@ -149,13 +149,14 @@ fn tell_state(chapter: &Chapter, out: &mut Text) {
 
 // What a chapter begins with, or stands for at its end.
 fn tell_opening(opening: &Opening, out: &mut Text) {
-    out.field("size", opening.size());
-    out.field("start", opening.start());
-    out.field("workers", u64::from(opening.workers()));
-    out.field("producer", opening.producer());
-    out.field("consumer", opening.consumer());
-    out.field("consumed", opening.consumed());
-    out.field("skipped", opening.skipped());
+    let numbers = opening.numbers();
+    out.field("size", numbers.size);
+    out.field("start", numbers.start);
+    out.field("workers", u64::from(numbers.workers));
+    out.field("producer", numbers.producer);
+    out.field("consumer", numbers.consumer);
+    out.field("consumed", numbers.consumed);
+    out.field("skipped", numbers.skipped);
     for record in opening.records() {
         out.push(";");
         tell_untaken(record, out);

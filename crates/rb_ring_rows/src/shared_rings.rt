@@ -152,8 +152,9 @@ impl SharedPlace {
     pub(crate) fn tell_consumer(&self, out: &mut Text) {
         let seat = &self.consumer;
         out.field("tag", seat.tag());
-        out.field("workers", u64::from(seat.workers()));
-        out.field("room", u64::from(seat.room()));
+        let ring = seat.ring();
+        out.field("workers", u64::from(ring.workers));
+        out.field("room", u64::from(ring.room));
         out.field("position", seat.position());
         out.field("consumed", seat.consumed());
         out.field("skipped", seat.skipped());

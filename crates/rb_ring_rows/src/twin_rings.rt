@@ -249,7 +249,7 @@ impl TwinRings {
     fn has_worker(&self, worker: u32) -> bool
         ensures { IsTrue result → (worker < self.now.workers) × (worker < self.now.ring.state.ring.chapter.opening.setup.workers) }
     {
-        worker < self.workers && worker < self.ring.chapter().opening().workers()
+        worker < self.workers && worker < self.ring.chapter().opening().numbers().workers
     }
 
     // Tells what the list answered where it is something else, and where both rings do not stand alike after the call.

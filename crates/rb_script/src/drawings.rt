@@ -18,9 +18,10 @@ pub(crate) fn push_drawing(
 ) -> Result<(), AllocError>
     ensures line { OnOk result (text.new.items ≡ text.old.items ++ drawing_line ring closing.now.opening.setup.size closing.now.opening.consumer closing.now.opening.producer closing.now.opening.records) }
 {
-    push_front(text, ring, closing.consumer())?;
+    let numbers = closing.numbers();
+    push_front(text, ring, numbers.consumer)?;
     push_boxes(text, closing.records())?;
-    push_end(text, closing.size(), closing.consumer(), closing.producer())?;
+    push_end(text, numbers.size, numbers.consumer, numbers.producer)?;
     text.extend_from_slice(b"\n")
 }
 

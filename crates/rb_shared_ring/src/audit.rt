@@ -38,9 +38,10 @@ fn audit_of(state: &HandState, worker: u32) -> Audit
     ensures audit { AuditsInChapter worker result state.now.ring state.now.ring }
 {
     let closing = state.chapter().closing();
+    let numbers = closing.numbers();
     Audit {
-        producer: closing.producer(),
-        consumer: closing.consumer(),
+        producer: numbers.producer,
+        consumer: numbers.consumer,
         counts: state.counts(),
         own: tally_in(closing.tallies(), worker),
     }

@@ -100,7 +100,7 @@ impl ConsumerSeat {
     {
         empty.used() == 0
             && empty.room() == self.room
-            && empty.opening().workers() == self.workers
+            && empty.opening().numbers().workers == self.workers
             && self.chapters < 1 << 62
     }
 }

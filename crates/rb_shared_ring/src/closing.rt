@@ -70,14 +70,14 @@ impl Closing {
     pub fn producer(&self) -> u64
         ensures position { result ≡ producer_now self.now.at_end }
     {
-        self.chapter().closing().producer()
+        self.chapter().closing().numbers().producer
     }
 
     /// The consumer position.
     pub fn consumer(&self) -> u64
         ensures position { result ≡ consumer_now self.now.at_end }
     {
-        self.chapter().closing().consumer()
+        self.chapter().closing().numbers().consumer
     }
 }
 
@@ -173,7 +173,7 @@ impl SharedRing {
     {
         if consumer.tag() != self.tag
             || !are_all_tagged(&seats, self.tag)
-            || !has_all(&seats, consumer.workers())
+            || !has_all(&seats, consumer.ring().workers)
         {
             return Err(NotAll {
                 ring: self,

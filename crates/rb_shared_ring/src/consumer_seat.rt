@@ -13,6 +13,7 @@ ghost use Rattle.rb_ledger.specs.ChapterSeats.{fresh_chapter_consumer};
 ghost use Rattle.rb_shared_ring.specs.inner.HandPasses.{seen_with, room_with};
 
 use crate::lock::{Lock, RingPass, SplitFirstRole};
+use crate::ring_numbers::RingNumbers;
 use std::marker::Model;
 
 /// The consumer's seat at a shared ring: the right to take records and to hand chapters out, and the consumer's numbers. It can't be cloned, so
@@ -83,25 +84,18 @@ impl ConsumerSeat {
         self.tag
     }
 
-    /// How many entries each chapter of the ring has room for.
-    pub fn room(&self) -> u32
-        ensures room { result ≡ self.now.room }
+    #[inline(always)]
+    /// What its ring was opened with.
+    pub fn ring(&self) -> RingNumbers
+        ensures size { result.size ≡ self.now.seen.setup.size }
+        ensures workers { result.workers ≡ self.now.seen.setup.workers }
+        ensures room { result.room ≡ self.now.room }
     {
-        self.room
-    }
-
-    /// How many bytes the ring has.
-    pub fn size(&self) -> u64
-        ensures size { result ≡ self.now.seen.setup.size }
-    {
-        self.size
-    }
-
-    /// How many workers the ring has.
-    pub fn workers(&self) -> u32
-        ensures workers { result ≡ self.now.seen.setup.workers }
-    {
-        self.workers
+        RingNumbers {
+            size: self.size,
+            workers: self.workers,
+            room: self.room,
+        }
     }
 
     /// How many chapters were handed out, which is the number of the ring's own.

@@ -123,10 +123,11 @@ pub(crate) fn consume<R: Wait, S: Sink, K: Stock>(
     requires ready { IsConsumerTaskOf S.position_of ring.now task.old }
     ensures returned { Consumed S.position_of S.takes task.old task.new }
 {
-    let mut pace = Pace::new(task.consumer.size());
+    let numbers = task.consumer.ring();
+    let mut pace = Pace::new(numbers.size);
     for _ in rt.forever() {
         let over = ended.load(Ordering::SeqCst);
-        let looks = pace.is_look_due(task.consumer.room());
+        let looks = pace.is_look_due(numbers.room);
         let start = task.consumer.position();
         let count = task.take_batch(rt, ring, looks);
         let bytes = task.consumer.position().saturating_sub(start);

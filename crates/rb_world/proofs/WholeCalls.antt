@@ -23,11 +23,12 @@ use Rattle.rb_chapter_ring.specs.declared.faults.ReserveFault.TheVariants.{Full,
 use Rattle.rb_semantics.specs.HelperCalls.{Taken as TakenAnswer}
 use Rattle.rb_world.specs.Worlds.{WorldRing}
 use Rattle.rb_world.specs.CallsInWorld.{RingSteps, BadFlags, Unlogged, NoRoom, Made}
-use Rattle.rb_world.specs.declared.record_end.RecordEnd.{RecordEnd}
-use Rattle.rb_world.specs.declared.record_end.RecordEnd.TheVariants.{Submit, Discard}
+use Rattle.rb_chapter_ring.specs.declared.record_end.RecordEnd.{RecordEnd}
+use Rattle.rb_chapter_ring.specs.declared.record_end.RecordEnd.TheVariants.{Submit, Discard}
 use Rattle.rb_world.specs.WorldValue.{KeptRing, world_ring}
 use Rattle.rb_world.specs.TurnsDone.{TurnsChapter, chapters_of}
-use Rattle.rb_world.specs.inner.RecordEnds.{EndsFromHand, WorkerEnds}
+use Rattle.rb_chapter_ring.specs.inner.RecordEnds.{EndsFromHand}
+use Rattle.rb_world.specs.inner.RecordEnds.{WorkerEnds}
 use Rattle.rb_world.specs.inner.RingAnswers.{untaken_ring, IsReserved, IsOutput, IsWholeAnswer}
 
 moved : (P : Ring → Ring → Type 0) (old new : Ring) → P old new → StandsFor new → RingSteps P [] (untaken_ring old) (untaken_ring new)

@@ -1,10 +1,10 @@
 //! A ring of a world, the chapters that it handed out, and what its consumer took of it.
 
-use crate::record_end::RecordEnd;
+use crate::record_end::give_back;
 use crate::ring_answers;
 use crate::turn_done::TurnDone;
 use crate::world_record::WorldRecord;
-use rb_chapter_ring::{Chapter, RingState};
+use rb_chapter_ring::{Chapter, RecordEnd, RingState};
 use rb_history::Taken;
 use rb_interp::{Answer, Machine};
 use std::alloc::{AllocError, Global};
@@ -125,7 +125,7 @@ impl ConsumedRing {
         ensures chapters { chapters_of self.new ≡ chapters_of self.old }
     {
         self.ring.facts();
-        ending.give_back(&mut self.ring, owned.reservation, flags);
+        give_back(ending, &mut self.ring, owned.reservation, flags);
         self.ring.facts();
         machine.answer(Answer::Taken);
     }
@@ -193,5 +193,5 @@ impl ConsumedRing {
 fn next_chapter(alloc: Global, ring: &RingState) -> Result<Chapter, AllocError> {
     ring.facts();
     let chapter = ring.chapter();
-    Chapter::new(alloc, chapter.room(), chapter.opening().workers())
+    Chapter::new(alloc, chapter.room(), chapter.opening().numbers().workers)
 }

@@ -8,9 +8,9 @@ ghost use Rattle.rb_world.specs.TurnsDone.{chapters_of};
 ghost use Rattle.rb_world.specs.WorldValue.{world_ring};
 
 use crate::consumed_ring::ConsumedRing;
-use crate::record_end::RecordEnd;
 use crate::turn_done::TurnDone;
 use crate::world_record::WorldRecord;
+use rb_chapter_ring::RecordEnd;
 use rb_interp::{Machine, Phase, Request, Step};
 use std::alloc::Global;
 

@@ -6,6 +6,8 @@ use Rattle.rb_history.specs.declared.tally.Tally.{Tally}
 use Rattle.rb_history.specs.History.{Shown, Status}
 use Rattle.rb_history.specs.History.Status.{Busy, Waiting, Discarded}
 use Rattle.rb_chapter_ring.specs.Opening.{Opening, tally_at, record_in}
+use Rattle.rb_chapter_ring.specs.declared.record_end.RecordEnd.{RecordEnd}
+use Rattle.rb_chapter_ring.specs.inner.EndSteps.{status_of_end, tally_with_end}
 
 -- the worker has these totals now
 abbrev pub with_tally : ℕ → Tally → Opening → Opening
@@ -28,15 +30,9 @@ with_grant w n o =
 abbrev pub with_status : ℕ → Status → Opening → Opening
 with_status i st o = record o { records = set o.records i (record (record_in o i) { status = st }) }
 
--- the record at an index was submitted
-abbrev pub with_submit : ℕ → Opening → Opening
-with_submit i o =
-    with_tally (record_in o i).worker (record (tally_at o (record_in o i).worker) { submitted = (tally_at o (record_in o i).worker).submitted + 1 }) (with_status i Waiting o)
-
--- the record at an index was discarded
-abbrev pub with_discard : ℕ → Opening → Opening
-with_discard i o =
-    with_tally (record_in o i).worker (record (tally_at o (record_in o i).worker) { discarded = (tally_at o (record_in o i).worker).discarded + 1 }) (with_status i Discarded o)
+-- the record at an index came to this end
+abbrev pub with_end : RecordEnd → ℕ → Opening → Opening
+with_end end i o = with_tally (record_in o i).worker (tally_with_end end (tally_at o (record_in o i).worker)) (with_status i (status_of_end end) o)
 
 -- one where the record was handed out, and one where it was passed over
 abbrev pub events_by : Status → ℕ

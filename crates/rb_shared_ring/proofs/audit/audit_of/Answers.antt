@@ -18,8 +18,8 @@ returns c =
     let same : c.closing-closing.result.now.opening ≡ closing_of v = c.closing-closing.ensures.closing ∙ ap closing_of c.chapter.ensures.chapter in
     record {
       audit = record {
-        producer_is = c.producer.ensures.position ∙ ap (λ (o : Opening). o.producer) same;
-        consumer_is = c.consumer.ensures.position ∙ ap (λ (o : Opening). o.consumer) same;
+        producer_is = c.numbers-numbers.ensures.producer ∙ ap (λ (o : Opening). o.producer) same;
+        consumer_is = c.numbers-numbers.ensures.consumer ∙ ap (λ (o : Opening). o.consumer) same;
         counts_are = c.counts.ensures.counts;
         own_is = c.tally_in.ensures.tally ∙ ap (λ ts. slice_index_or ts c.args.worker no_tally) c.tallies.ensures.tallies ∙ ap (λ (o : Opening). tally_at o c.args.worker) same ∙ tally-after v.opening v.entries c.args.worker c.requires.worker;
         same = refl;

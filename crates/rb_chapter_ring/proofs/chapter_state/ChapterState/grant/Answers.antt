@@ -1,12 +1,10 @@
-use Rattle.std.proofs.Common.{◌≡◌, ◌+◌, ◌/◌, ◌<◌, ◌≤◌, ◌^◌, ℕ, [], ◌∷◌, ◌++◌, length, map, get_or, set, refl, sym, ap, ◌∙◌, subst, arith}
+use Rattle.std.proofs.Common.{◌≡◌, ◌+◌, ◌/◌, ◌<◌, ◌≤◌, ℕ, [], ◌∷◌, ◌++◌, length, map, get_or, refl, sym, ap, ◌∙◌, subst, arith}
 use Rattle.std.proofs.lemmas.Bool.{false≢true}
 use Rattle.std.proofs.lemmas.List.{map-append}
 use Rattle.rb_history.specs.declared.entries.Entry.TheVariants.{Res}
 use Rattle.rb_history.specs.History.{Shown}
 use Rattle.rb_history.specs.History.Status.{Busy}
 use Rattle.rb_history.specs.StoredRecords.{shown_record, contents_of}
-use Rattle.rb_history.proofs.Contents.{length-map}
-use Rattle.rb_history.proofs.Row.{InRow-le}
 use Rattle.rb_chapter_ring.specs.Opening.{Opening, no_tally}
 use Rattle.rb_chapter_ring.specs.Chapters.{Chapter, closing_of}
 use Rattle.rb_chapter_ring.specs.ChapterRing.{ChapterRing}
@@ -18,7 +16,6 @@ use Rattle.rb_chapter_ring.proofs.CountSteps.{counting_grant}
 use Rattle.rb_chapter_ring.proofs.Grants.{newest, grant-closing, grant-keeps, serial-of, tallies-long, contents-grant}
 use Rattle.rb_chapter_ring.proofs.Numbers.{ordinal-of-grant, ordinals-grant, ordinals-same}
 use Rattle.rb_chapter_ring.proofs.Keeps.{transport-ring}
-use Rattle.rb_chapter_ring.proofs.Rows.{rows}
 use Rattle.rb_chapter_ring.proofs.Slotted.{grant-stored}
 use Rattle.rb_chapter_ring.proofs.chapter_state.ChapterState.grant.Goals as goal
 
@@ -68,12 +65,12 @@ returns-clause-granted c =
     let fits = c.has_room.ensures.exact.0 c.if-not-has_room.false in
     let may = c.may_grant.ensures.exact.0 c.if-not-may_grant.false in
     let o = c.closing-closing.ensures.closing in
-    let pos = c.producer-pos.ensures.position ∙ ap (λ (x : Opening). x.producer) o in
+    let pos = c.numbers-pos.ensures.producer ∙ ap (λ (x : Opening). x.producer) o in
     let tallies = c.tallies.ensures.tallies ∙ ap (λ (x : Opening). x.tallies) o in
     let serial = c.made_by-serial.ensures.made ∙ ap (λ ts. (get_or ts w no_tally).made) tallies in
     let own = serial ∙ serial-of i.earlier a.chapter (stored_of a.chapter a.sheets.items) i.counts i.ring w below in
     let stored = ap (λ d. stored_of d a.sheets.items) c.log_grant.ensures.logged ∙ sym (grant-stored i.earlier a.chapter a.sheets.items i.counts i.ring w n below fits may) in
-    subst (λ v. Grants v (ring_of c.log_grant.new.self (stored_of c.log_grant.new.self a.sheets.items)) w n c.producer-pos.result c.made_by-serial.result) c.self.view_is
+    subst (λ v. Grants v (ring_of c.log_grant.new.self (stored_of c.log_grant.new.self a.sheets.items)) w n c.numbers-pos.result.producer c.made_by-serial.result) c.self.view_is
     (record {
       room = fits;
       chapter_room = may;
@@ -93,11 +90,11 @@ returns-clause-shown c =
     let fits = c.has_room.ensures.exact.0 c.if-not-has_room.false in
     let may = c.may_grant.ensures.exact.0 c.if-not-may_grant.false in
     let o = c.closing-closing.ensures.closing in
-    let pos = c.producer-pos.ensures.position ∙ ap (λ (x : Opening). x.producer) o in
+    let pos = c.numbers-pos.ensures.producer ∙ ap (λ (x : Opening). x.producer) o in
     let tallies = c.tallies.ensures.tallies ∙ ap (λ (x : Opening). x.tallies) o in
     let serial = c.made_by-serial.ensures.made ∙ ap (λ ts. (get_or ts w no_tally).made) tallies in
     let stored = ap (λ d. stored_of d a.sheets.items) c.log_grant.ensures.logged ∙ sym (grant-stored i.earlier a.chapter a.sheets.items i.counts i.ring w n below fits may) in
-    let last : Shown = record { pos = c.producer-pos.result; len = n; worker = w; serial = c.made_by-serial.result; status = Busy } in
+    let last : Shown = record { pos = c.numbers-pos.result.producer; len = n; worker = w; serial = c.made_by-serial.result; status = Busy } in
     let same : last ≡ shown_record (newest i.earlier a.chapter (stored_of a.chapter a.sheets.items) i.counts i.ring w n) = λ j. record { pos = pos j; len = n; worker = w; serial = serial j; status = Busy } in
     ap (map shown_record) stored
     ∙ map-append shown_record (stored_of a.chapter a.sheets.items) (newest i.earlier a.chapter (stored_of a.chapter a.sheets.items) i.counts i.ring w n ∷ [])
@@ -122,8 +119,8 @@ returns-clause-number c =
     let i = c.self.invariant in
     let below = subst (λ (v : ChapterRing). c.args.worker < v.chapter.opening.setup.workers) (sym c.self.view_is) c.requires.worker in
     let closing = grant-closing i.earlier a.chapter (stored_of a.chapter a.sheets.items) i.counts i.ring c.args.worker c.args.n below (c.has_room.ensures.exact.0 c.if-not-has_room.false) (c.may_grant.ensures.exact.0 c.if-not-may_grant.false) in
-    let pos = c.producer-pos.ensures.position ∙ ap (λ (x : Opening). x.producer) c.closing-closing.ensures.closing in
+    let pos = c.numbers-pos.ensures.producer ∙ ap (λ (x : Opening). x.producer) c.closing-closing.ensures.closing in
     let o = closing_of a.chapter in
     let new = closing_of c.log_grant.new.self in
     let there : IsNumbered new o.producer (taken_before o + length o.records) = subst (λ d. IsNumbered (closing_of d) o.producer (taken_before o + length o.records)) (sym c.log_grant.ensures.logged) (subst (λ x. IsNumbered x o.producer (taken_before o + length o.records)) closing (ordinal-of-grant c.args.worker c.args.n o)) in
-    subst (λ (v : ChapterRing). IsNumbered new c.producer-pos.result (taken_before (closing_of v.chapter) + length (closing_of v.chapter).records)) c.self.view_is (subst (λ p. IsNumbered new p (taken_before o + length o.records)) (sym pos) there)
+    subst (λ (v : ChapterRing). IsNumbered new c.numbers-pos.result.producer (taken_before (closing_of v.chapter) + length (closing_of v.chapter).records)) c.self.view_is (subst (λ p. IsNumbered new p (taken_before o + length o.records)) (sym pos) there)

@@ -1,8 +1,7 @@
-use Rattle.std.proofs.Common.{◌≡◌, ◌+◌, ◌/◌, ◌<◌, ◌^◌, length, sym, ap, ◌∙◌, arith}
+use Rattle.std.proofs.Common.{◌≡◌, ◌+◌, ◌<◌, ◌^◌, length, sym, ap, ◌∙◌, arith}
 use Rattle.rb_history.specs.StoredRecords.{shown_record}
 use Rattle.rb_history.proofs.Contents.{length-map}
 use Rattle.rb_history.proofs.Row.{InRow-le}
-use Rattle.rb_history.specs.History.{Shown}
 use Rattle.rb_chapter_ring.specs.Chapters.{closing_of}
 use Rattle.rb_chapter_ring.specs.ChapterRing.{ChapterRing}
 use Rattle.rb_chapter_ring.specs.Opening.{Opening}
@@ -16,26 +15,26 @@ pub overflow_add-result : goal.overflow_add-result
 overflow_add-result c =
     let a = c.self.inside in
     let i = c.self.invariant in
-    let k = c.consumed.ensures.total ∙ ap (λ (o : Opening). o.consumed) c.closing-closing.ensures.closing in
-    let l = c.skipped.ensures.total ∙ ap (λ (o : Opening). o.skipped) c.closing-closing.ensures.closing in
-    let small : c.consumed.result + c.skipped.result < 2 ^ 64 = omega (arith, k, l, i.ring.stands.behind, i.ring.stands.limit, InRow-le _ _ _ (rows i.earlier a.chapter (stored_of a.chapter a.sheets.items) i.counts i.ring).in_row) in
+    let k = c.numbers-numbers.ensures.consumed ∙ ap (λ (o : Opening). o.consumed) c.closing.ensures.closing in
+    let l = c.numbers-numbers.ensures.skipped ∙ ap (λ (o : Opening). o.skipped) c.closing.ensures.closing in
+    let small : c.numbers-numbers.result.consumed + c.numbers-numbers.result.skipped < 2 ^ 64 = omega (arith, k, l, i.ring.stands.behind, i.ring.stands.limit, InRow-le _ _ _ (rows i.earlier a.chapter (stored_of a.chapter a.sheets.items) i.counts i.ring).in_row) in
     omega arith
 
 pub overflow_add-result-2 : goal.overflow_add-result-2
 overflow_add-result-2 c =
     let a = c.self.inside in
     let i = c.self.invariant in
-    let k = c.consumed.ensures.total ∙ ap (λ (o : Opening). o.consumed) c.closing-closing.ensures.closing in
-    let l = c.skipped.ensures.total ∙ ap (λ (o : Opening). o.skipped) c.closing-closing.ensures.closing in
+    let k = c.numbers-numbers.ensures.consumed ∙ ap (λ (o : Opening). o.consumed) c.closing.ensures.closing in
+    let l = c.numbers-numbers.ensures.skipped ∙ ap (λ (o : Opening). o.skipped) c.closing.ensures.closing in
     let many = c.many.ensures.many ∙ ap (λ (v : ChapterRing). length v.shown) (sym c.self.view_is) ∙ length-map shown_record (stored_of a.chapter a.sheets.items) in
-    let small : c.consumed.result + c.skipped.result + c.many.result < 2 ^ 64 = omega (arith, k, l, i.ring.stands.behind, i.ring.stands.limit, InRow-le _ _ _ (rows i.earlier a.chapter (stored_of a.chapter a.sheets.items) i.counts i.ring).in_row, (few i.earlier a.chapter (stored_of a.chapter a.sheets.items) i.counts i.ring).1, i.ring.size.2, many) in
+    let small : c.numbers-numbers.result.consumed + c.numbers-numbers.result.skipped + c.many.result < 2 ^ 64 = omega (arith, k, l, i.ring.stands.behind, i.ring.stands.limit, InRow-le _ _ _ (rows i.earlier a.chapter (stored_of a.chapter a.sheets.items) i.counts i.ring).in_row, (few i.earlier a.chapter (stored_of a.chapter a.sheets.items) i.counts i.ring).1, i.ring.size.2, many) in
     omega arith
 
 pub returns : goal.returns
 returns c =
     let a = c.self.inside in
     let i = c.self.invariant in
-    let k = c.consumed.ensures.total ∙ ap (λ (o : Opening). o.consumed) c.closing-closing.ensures.closing in
-    let l = c.skipped.ensures.total ∙ ap (λ (o : Opening). o.skipped) c.closing-closing.ensures.closing in
+    let k = c.numbers-numbers.ensures.consumed ∙ ap (λ (o : Opening). o.consumed) c.closing.ensures.closing in
+    let l = c.numbers-numbers.ensures.skipped ∙ ap (λ (o : Opening). o.skipped) c.closing.ensures.closing in
     let many : c.many.result ≡ length (closing_of a.chapter).records = c.many.ensures.many ∙ ap (λ (v : ChapterRing). length v.shown) (sym c.self.view_is) ∙ ap length i.ring.stands.shown in
     record { ordinal = (λ j. k j + l j + many j) ∙ ap (λ (v : ChapterRing). taken_before (closing_of v.chapter) + length (closing_of v.chapter).records) c.self.view_is }

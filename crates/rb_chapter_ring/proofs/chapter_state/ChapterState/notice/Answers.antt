@@ -7,5 +7,5 @@ use Rattle.rb_chapter_ring.proofs.chapter_state.ChapterState.notice.Goals as goa
 
 pub returns : goal.returns
 returns c =
-    let q = c.consumer.ensures.position ∙ ap (λ (o : Opening). o.consumer) c.closing.ensures.closing ∙ ap consumer_now c.self.view_is in
+    let q = c.numbers.ensures.consumer ∙ ap (λ (o : Opening). o.consumer) c.closing.ensures.closing ∙ ap consumer_now c.self.view_is in
     record { due = subst (λ x. (c.notice_for.result ≡ Due) ↔ IsDue x c.args.pos c.args.flags) q c.notice_for.ensures.due }

@@ -1,4 +1,4 @@
-use Rattle.std.proofs.Common.{◌≡◌, ◌+◌, ◌/◌, ◌%◌, ◌<◌, ◌≤◌, ℕ, [], true, false, length, length-set, get_or, set, sym, ap, ◌∙◌, subst, arith}
+use Rattle.std.proofs.Common.{◌≡◌, ◌/◌, ◌%◌, ◌<◌, ◌≤◌, ℕ, [], true, false, length, length-set, get_or, set, sym, ap, ◌∙◌, subst, arith}
 use Rattle.std.specs.Int.{IsPowerOfTwo}
 use Rattle.std.proofs.lemmas.List.{length-map}
 use Rattle.rb_history.specs.declared.answers.Taken.TheVariants.{Event, Skipped, BusyFront, Empty}
@@ -14,14 +14,13 @@ use Rattle.rb_chapter_ring.proofs.CountSteps.{counting_take}
 use Rattle.rb_chapter_ring.proofs.Fronts.{took, none-front, busy-front, waiting-keeps, waiting-takes, discarded-keeps, discarded-takes, discarded-numbers, waiting-numbers}
 use Rattle.rb_chapter_ring.proofs.Slotted.{slots-enough}
 use Rattle.rb_chapter_ring.proofs.TakesOne.{TakesAs}
-use Rattle.rb_chapter_ring.proofs.Told.{together}
 use Rattle.rb_chapter_ring.proofs.chapter_state.ChapterState.take.Goals as goal
 
 pub returns-in_default-clause-takes : goal.returns-in_default-clause-takes
 returns-in_default-clause-takes c =
     let a = c.self.inside in
     let i = c.self.invariant in
-    let recs = c.records.ensures.records ∙ ap (λ (o : Opening). o.records) c.closing-closing.ensures.closing in
+    let recs = c.records.ensures.records ∙ ap (λ (o : Opening). o.records) c.closing.ensures.closing in
     let none : length (closing_of a.chapter).records ≡ 0 = omega (arith, c.in_default.ensures.none, ap length recs, length-map c.records.result.now untaken_shown) in
     (subst (λ v. TakesAs v v Empty) c.self.view_is (none-front i.earlier a.chapter a.sheets.items i.counts i.ring none)).takes
 
@@ -29,7 +28,7 @@ pub returns-in_default-clause-busy_front : goal.returns-in_default-clause-busy_f
 returns-in_default-clause-busy_front c =
     let a = c.self.inside in
     let i = c.self.invariant in
-    let recs = c.records.ensures.records ∙ ap (λ (o : Opening). o.records) c.closing-closing.ensures.closing in
+    let recs = c.records.ensures.records ∙ ap (λ (o : Opening). o.records) c.closing.ensures.closing in
     let none : length (closing_of a.chapter).records ≡ 0 = omega (arith, c.in_default.ensures.none, ap length recs, length-map c.records.result.now untaken_shown) in
     (subst (λ v. TakesAs v v Empty) c.self.view_is (none-front i.earlier a.chapter a.sheets.items i.counts i.ring none)).busy_front
 
@@ -37,18 +36,9 @@ pub returns-in_default-clause-empty : goal.returns-in_default-clause-empty
 returns-in_default-clause-empty c =
     let a = c.self.inside in
     let i = c.self.invariant in
-    let recs = c.records.ensures.records ∙ ap (λ (o : Opening). o.records) c.closing-closing.ensures.closing in
+    let recs = c.records.ensures.records ∙ ap (λ (o : Opening). o.records) c.closing.ensures.closing in
     let none : length (closing_of a.chapter).records ≡ 0 = omega (arith, c.in_default.ensures.none, ap length recs, length-map c.records.result.now untaken_shown) in
     (subst (λ v. TakesAs v v Empty) c.self.view_is (none-front i.earlier a.chapter a.sheets.items i.counts i.ring none)).empty
-
-pub overflow_add-ordinal : goal.overflow_add-ordinal
-overflow_add-ordinal c =
-    let a = c.self.inside in
-    let i = c.self.invariant in
-    let k = c.consumed.ensures.total ∙ ap (λ (x : Opening). x.consumed) c.closing-closing.ensures.closing in
-    let l = c.skipped.ensures.total ∙ ap (λ (x : Opening). x.skipped) c.closing-closing.ensures.closing in
-    let t = together i.earlier a.chapter (stored_of a.chapter a.sheets.items) i.counts i.ring in
-    omega (arith, k, l, t.made_is, t.low)
 
 pub slot_in-slot-requires : goal.slot_in-slot-requires
 slot_in-slot-requires c = record { slots = subst IsPowerOfTwo (sym (c.len.ensures ∙ c.self.inside.sheets.ok.0)) c.self.invariant.power }
@@ -57,7 +47,7 @@ pub returns-in-Busy-clause-takes : goal.returns-in-Busy-clause-takes
 returns-in-Busy-clause-takes c =
     let a = c.self.inside in
     let i = c.self.invariant in
-    let recs = c.records.ensures.records ∙ ap (λ (o : Opening). o.records) c.closing-closing.ensures.closing in
+    let recs = c.records.ensures.records ∙ ap (λ (o : Opening). o.records) c.closing.ensures.closing in
     let found = c.in-Some.ensures.front in
     let some : 0 < length (closing_of a.chapter).records = omega (arith, found.0, ap length recs, length-map c.records.result.now untaken_shown) in
     let shown : untaken_shown c.in-Some.front ≡ record_in (closing_of a.chapter) 0 = found.1 ∙ ap (λ ss. get_or ss 0 no_record) recs in
@@ -68,7 +58,7 @@ pub returns-in-Busy-clause-busy_front : goal.returns-in-Busy-clause-busy_front
 returns-in-Busy-clause-busy_front c =
     let a = c.self.inside in
     let i = c.self.invariant in
-    let recs = c.records.ensures.records ∙ ap (λ (o : Opening). o.records) c.closing-closing.ensures.closing in
+    let recs = c.records.ensures.records ∙ ap (λ (o : Opening). o.records) c.closing.ensures.closing in
     let found = c.in-Some.ensures.front in
     let some : 0 < length (closing_of a.chapter).records = omega (arith, found.0, ap length recs, length-map c.records.result.now untaken_shown) in
     let shown : untaken_shown c.in-Some.front ≡ record_in (closing_of a.chapter) 0 = found.1 ∙ ap (λ ss. get_or ss 0 no_record) recs in
@@ -79,7 +69,7 @@ pub returns-in-Busy-clause-empty : goal.returns-in-Busy-clause-empty
 returns-in-Busy-clause-empty c =
     let a = c.self.inside in
     let i = c.self.invariant in
-    let recs = c.records.ensures.records ∙ ap (λ (o : Opening). o.records) c.closing-closing.ensures.closing in
+    let recs = c.records.ensures.records ∙ ap (λ (o : Opening). o.records) c.closing.ensures.closing in
     let found = c.in-Some.ensures.front in
     let some : 0 < length (closing_of a.chapter).records = omega (arith, found.0, ap length recs, length-map c.records.result.now untaken_shown) in
     let shown : untaken_shown c.in-Some.front ≡ record_in (closing_of a.chapter) 0 = found.1 ∙ ap (λ ss. get_or ss 0 no_record) recs in
@@ -90,16 +80,15 @@ pub invariant_of-self : goal.invariant_of-self
 invariant_of-self c =
     let a = c.self.inside in
     let i = c.self.invariant in
-    let recs = c.records.ensures.records ∙ ap (λ (o : Opening). o.records) c.closing-closing.ensures.closing in
+    let recs = c.records.ensures.records ∙ ap (λ (o : Opening). o.records) c.closing.ensures.closing in
     let found = c.in-Some.ensures.front in
     let some : 0 < length (closing_of a.chapter).records = omega (arith, found.0, ap length recs, length-map c.records.result.now untaken_shown) in
     let shown : untaken_shown c.in-Some.front ≡ record_in (closing_of a.chapter) 0 = found.1 ∙ ap (λ ss. get_or ss 0 no_record) recs in
     let status = ap (λ (s : Shown). s.status) (sym shown) ∙ ap status_shown c.in-Waiting.is in
-    let k = c.consumed.ensures.total ∙ ap (λ (x : Opening). x.consumed) c.closing-closing.ensures.closing in
-    let l = c.skipped.ensures.total ∙ ap (λ (x : Opening). x.skipped) c.closing-closing.ensures.closing in
+    let taken : c.taken.result ≡ taken_before (closing_of a.chapter) = c.taken.ensures.taken ∙ ap (λ (v : ChapterRing). taken_before (closing_of v.chapter)) (sym c.self.view_is) in
     let many = c.len.ensures ∙ a.sheets.ok.0 in
     let few = slots-enough i.earlier a.chapter a.sheets.items i.counts i.ring i.slots in
-    let slot : c.slot_in-slot.result ≡ taken_before (closing_of a.chapter) % length a.sheets.items = c.slot_in-slot.ensures.value ∙ (λ j. (k j + l j) % many j) in
+    let slot : c.slot_in-slot.result ≡ taken_before (closing_of a.chapter) % length a.sheets.items = c.slot_in-slot.ensures.value ∙ (λ j. taken j % many j) in
     let empty = c.replace-sheet.ensures.after ∙ c.empty-empty.ensures.empty in
     let logged = c.log_take.ensures.logged in
     let after = set a.sheets.items c.slot_in-slot.result c.replace-sheet.new.dest in
@@ -120,16 +109,15 @@ pub returns-in-Waiting-clause-takes : goal.returns-in-Waiting-clause-takes
 returns-in-Waiting-clause-takes c =
     let a = c.self.inside in
     let i = c.self.invariant in
-    let recs = c.records.ensures.records ∙ ap (λ (o : Opening). o.records) c.closing-closing.ensures.closing in
+    let recs = c.records.ensures.records ∙ ap (λ (o : Opening). o.records) c.closing.ensures.closing in
     let found = c.in-Some.ensures.front in
     let some : 0 < length (closing_of a.chapter).records = omega (arith, found.0, ap length recs, length-map c.records.result.now untaken_shown) in
     let shown : untaken_shown c.in-Some.front ≡ record_in (closing_of a.chapter) 0 = found.1 ∙ ap (λ ss. get_or ss 0 no_record) recs in
     let status = ap (λ (s : Shown). s.status) (sym shown) ∙ ap status_shown c.in-Waiting.is in
-    let k = c.consumed.ensures.total ∙ ap (λ (x : Opening). x.consumed) c.closing-closing.ensures.closing in
-    let l = c.skipped.ensures.total ∙ ap (λ (x : Opening). x.skipped) c.closing-closing.ensures.closing in
+    let taken : c.taken.result ≡ taken_before (closing_of a.chapter) = c.taken.ensures.taken ∙ ap (λ (v : ChapterRing). taken_before (closing_of v.chapter)) (sym c.self.view_is) in
     let many = c.len.ensures ∙ a.sheets.ok.0 in
     let few = slots-enough i.earlier a.chapter a.sheets.items i.counts i.ring i.slots in
-    let slot : c.slot_in-slot.result ≡ taken_before (closing_of a.chapter) % length a.sheets.items = c.slot_in-slot.ensures.value ∙ (λ j. (k j + l j) % many j) in
+    let slot : c.slot_in-slot.result ≡ taken_before (closing_of a.chapter) % length a.sheets.items = c.slot_in-slot.ensures.value ∙ (λ j. taken j % many j) in
     let empty = c.replace-sheet.ensures.after ∙ c.empty-empty.ensures.empty in
     let logged = c.log_take.ensures.logged in
     let low : c.slot_in-slot.result < length a.sheets.items = omega (arith, c.slot_in-slot.ensures.within, many) in
@@ -146,16 +134,15 @@ pub returns-in-Waiting-clause-busy_front : goal.returns-in-Waiting-clause-busy_f
 returns-in-Waiting-clause-busy_front c =
     let a = c.self.inside in
     let i = c.self.invariant in
-    let recs = c.records.ensures.records ∙ ap (λ (o : Opening). o.records) c.closing-closing.ensures.closing in
+    let recs = c.records.ensures.records ∙ ap (λ (o : Opening). o.records) c.closing.ensures.closing in
     let found = c.in-Some.ensures.front in
     let some : 0 < length (closing_of a.chapter).records = omega (arith, found.0, ap length recs, length-map c.records.result.now untaken_shown) in
     let shown : untaken_shown c.in-Some.front ≡ record_in (closing_of a.chapter) 0 = found.1 ∙ ap (λ ss. get_or ss 0 no_record) recs in
     let status = ap (λ (s : Shown). s.status) (sym shown) ∙ ap status_shown c.in-Waiting.is in
-    let k = c.consumed.ensures.total ∙ ap (λ (x : Opening). x.consumed) c.closing-closing.ensures.closing in
-    let l = c.skipped.ensures.total ∙ ap (λ (x : Opening). x.skipped) c.closing-closing.ensures.closing in
+    let taken : c.taken.result ≡ taken_before (closing_of a.chapter) = c.taken.ensures.taken ∙ ap (λ (v : ChapterRing). taken_before (closing_of v.chapter)) (sym c.self.view_is) in
     let many = c.len.ensures ∙ a.sheets.ok.0 in
     let few = slots-enough i.earlier a.chapter a.sheets.items i.counts i.ring i.slots in
-    let slot : c.slot_in-slot.result ≡ taken_before (closing_of a.chapter) % length a.sheets.items = c.slot_in-slot.ensures.value ∙ (λ j. (k j + l j) % many j) in
+    let slot : c.slot_in-slot.result ≡ taken_before (closing_of a.chapter) % length a.sheets.items = c.slot_in-slot.ensures.value ∙ (λ j. taken j % many j) in
     let empty = c.replace-sheet.ensures.after ∙ c.empty-empty.ensures.empty in
     let logged = c.log_take.ensures.logged in
     let low : c.slot_in-slot.result < length a.sheets.items = omega (arith, c.slot_in-slot.ensures.within, many) in
@@ -172,16 +159,15 @@ pub returns-in-Waiting-clause-empty : goal.returns-in-Waiting-clause-empty
 returns-in-Waiting-clause-empty c =
     let a = c.self.inside in
     let i = c.self.invariant in
-    let recs = c.records.ensures.records ∙ ap (λ (o : Opening). o.records) c.closing-closing.ensures.closing in
+    let recs = c.records.ensures.records ∙ ap (λ (o : Opening). o.records) c.closing.ensures.closing in
     let found = c.in-Some.ensures.front in
     let some : 0 < length (closing_of a.chapter).records = omega (arith, found.0, ap length recs, length-map c.records.result.now untaken_shown) in
     let shown : untaken_shown c.in-Some.front ≡ record_in (closing_of a.chapter) 0 = found.1 ∙ ap (λ ss. get_or ss 0 no_record) recs in
     let status = ap (λ (s : Shown). s.status) (sym shown) ∙ ap status_shown c.in-Waiting.is in
-    let k = c.consumed.ensures.total ∙ ap (λ (x : Opening). x.consumed) c.closing-closing.ensures.closing in
-    let l = c.skipped.ensures.total ∙ ap (λ (x : Opening). x.skipped) c.closing-closing.ensures.closing in
+    let taken : c.taken.result ≡ taken_before (closing_of a.chapter) = c.taken.ensures.taken ∙ ap (λ (v : ChapterRing). taken_before (closing_of v.chapter)) (sym c.self.view_is) in
     let many = c.len.ensures ∙ a.sheets.ok.0 in
     let few = slots-enough i.earlier a.chapter a.sheets.items i.counts i.ring i.slots in
-    let slot : c.slot_in-slot.result ≡ taken_before (closing_of a.chapter) % length a.sheets.items = c.slot_in-slot.ensures.value ∙ (λ j. (k j + l j) % many j) in
+    let slot : c.slot_in-slot.result ≡ taken_before (closing_of a.chapter) % length a.sheets.items = c.slot_in-slot.ensures.value ∙ (λ j. taken j % many j) in
     let empty = c.replace-sheet.ensures.after ∙ c.empty-empty.ensures.empty in
     let logged = c.log_take.ensures.logged in
     let low : c.slot_in-slot.result < length a.sheets.items = omega (arith, c.slot_in-slot.ensures.within, many) in
@@ -198,7 +184,7 @@ pub invariant_of-self-in-Discarded : goal.invariant_of-self-in-Discarded
 invariant_of-self-in-Discarded c =
     let a = c.self.inside in
     let i = c.self.invariant in
-    let recs = c.records.ensures.records ∙ ap (λ (o : Opening). o.records) c.closing-closing.ensures.closing in
+    let recs = c.records.ensures.records ∙ ap (λ (o : Opening). o.records) c.closing.ensures.closing in
     let found = c.in-Some.ensures.front in
     let some : 0 < length (closing_of a.chapter).records = omega (arith, found.0, ap length recs, length-map c.records.result.now untaken_shown) in
     let shown : untaken_shown c.in-Some.front ≡ record_in (closing_of a.chapter) 0 = found.1 ∙ ap (λ ss. get_or ss 0 no_record) recs in
@@ -218,7 +204,7 @@ pub returns-in-Discarded-clause-takes : goal.returns-in-Discarded-clause-takes
 returns-in-Discarded-clause-takes c =
     let a = c.self.inside in
     let i = c.self.invariant in
-    let recs = c.records.ensures.records ∙ ap (λ (o : Opening). o.records) c.closing-closing.ensures.closing in
+    let recs = c.records.ensures.records ∙ ap (λ (o : Opening). o.records) c.closing.ensures.closing in
     let found = c.in-Some.ensures.front in
     let some : 0 < length (closing_of a.chapter).records = omega (arith, found.0, ap length recs, length-map c.records.result.now untaken_shown) in
     let shown : untaken_shown c.in-Some.front ≡ record_in (closing_of a.chapter) 0 = found.1 ∙ ap (λ ss. get_or ss 0 no_record) recs in
@@ -234,7 +220,7 @@ pub returns-in-Discarded-clause-busy_front : goal.returns-in-Discarded-clause-bu
 returns-in-Discarded-clause-busy_front c =
     let a = c.self.inside in
     let i = c.self.invariant in
-    let recs = c.records.ensures.records ∙ ap (λ (o : Opening). o.records) c.closing-closing.ensures.closing in
+    let recs = c.records.ensures.records ∙ ap (λ (o : Opening). o.records) c.closing.ensures.closing in
     let found = c.in-Some.ensures.front in
     let some : 0 < length (closing_of a.chapter).records = omega (arith, found.0, ap length recs, length-map c.records.result.now untaken_shown) in
     let shown : untaken_shown c.in-Some.front ≡ record_in (closing_of a.chapter) 0 = found.1 ∙ ap (λ ss. get_or ss 0 no_record) recs in
@@ -250,7 +236,7 @@ pub returns-in-Discarded-clause-empty : goal.returns-in-Discarded-clause-empty
 returns-in-Discarded-clause-empty c =
     let a = c.self.inside in
     let i = c.self.invariant in
-    let recs = c.records.ensures.records ∙ ap (λ (o : Opening). o.records) c.closing-closing.ensures.closing in
+    let recs = c.records.ensures.records ∙ ap (λ (o : Opening). o.records) c.closing.ensures.closing in
     let found = c.in-Some.ensures.front in
     let some : 0 < length (closing_of a.chapter).records = omega (arith, found.0, ap length recs, length-map c.records.result.now untaken_shown) in
     let shown : untaken_shown c.in-Some.front ≡ record_in (closing_of a.chapter) 0 = found.1 ∙ ap (λ ss. get_or ss 0 no_record) recs in
@@ -266,7 +252,7 @@ pub returns-in-Waiting-clause-numbers : goal.returns-in-Waiting-clause-numbers
 returns-in-Waiting-clause-numbers c =
     let a = c.self.inside in
     let i = c.self.invariant in
-    let recs = c.records.ensures.records ∙ ap (λ (o : Opening). o.records) c.closing-closing.ensures.closing in
+    let recs = c.records.ensures.records ∙ ap (λ (o : Opening). o.records) c.closing.ensures.closing in
     let found = c.in-Some.ensures.front in
     let some : 0 < length (closing_of a.chapter).records = omega (arith, found.0, ap length recs, length-map c.records.result.now untaken_shown) in
     let shown : untaken_shown c.in-Some.front ≡ record_in (closing_of a.chapter) 0 = found.1 ∙ ap (λ ss. get_or ss 0 no_record) recs in
@@ -277,7 +263,7 @@ pub returns-in-Discarded-clause-numbers : goal.returns-in-Discarded-clause-numbe
 returns-in-Discarded-clause-numbers c =
     let a = c.self.inside in
     let i = c.self.invariant in
-    let recs = c.records.ensures.records ∙ ap (λ (o : Opening). o.records) c.closing-closing.ensures.closing in
+    let recs = c.records.ensures.records ∙ ap (λ (o : Opening). o.records) c.closing.ensures.closing in
     let found = c.in-Some.ensures.front in
     let some : 0 < length (closing_of a.chapter).records = omega (arith, found.0, ap length recs, length-map c.records.result.now untaken_shown) in
     let shown : untaken_shown c.in-Some.front ≡ record_in (closing_of a.chapter) 0 = found.1 ∙ ap (λ ss. get_or ss 0 no_record) recs in

@@ -5,7 +5,7 @@ use Rattle.rb_chapter_ring.specs.ChapterCalls.{Takes}
 use Rattle.rb_chapter_ring.specs.Chapters.{closing_of}
 use Rattle.rb_chapter_ring.specs.ManyTakes.{TakesEachInChapter}
 use Rattle.rb_chapter_ring.proofs.ManyTakes.{each-more, stops-busy, stops-empty, takes-all, same-chapter}
-use Rattle.rb_chapter_ring.proofs.Numbers.{ordinals-on, ordinals-same}
+use Rattle.rb_chapter_ring.proofs.Numbers.{ordinals-on}
 use Rattle.rb_chapter_ring.proofs.chapter_state.ChapterState.take_many.Goals as goal
 
 pub returns-in-BusyFront-clause-same_chapter : goal.returns-in-BusyFront-clause-same_chapter

@@ -1,32 +1,31 @@
 use Rattle.std.proofs.Common.{◌≡◌, [], ◌∷◌, length, length-append, length-set, sym, ap, ◌∙◌, subst, arith}
-use Rattle.rb_history.specs.declared.entries.Entry.TheVariants.{Sub}
 use Rattle.rb_history.specs.History.{Shown}
-use Rattle.rb_history.specs.History.Status.{Waiting}
 use Rattle.rb_chapter_ring.specs.Opening.{Opening, record_in}
 use Rattle.rb_chapter_ring.specs.Chapters.{Chapter, closing_of}
 use Rattle.rb_chapter_ring.specs.ChapterRoom.{IsBusyNow, record_now, with_entry}
 use Rattle.rb_chapter_ring.specs.inner.ChapterBody.{chapter_shown, IsBehindTakes}
+use Rattle.rb_chapter_ring.specs.inner.EndSteps.{entry_of_end, status_of_end}
 use Rattle.rb_chapter_ring.proofs.Running.{records-owe}
-use Rattle.rb_chapter_ring.proofs.Settling.{index-fits, worker-fits, few, same-now, submitted}
-use Rattle.rb_chapter_ring.proofs.chapter.Chapter.log_submit.Goals as goal
+use Rattle.rb_chapter_ring.proofs.Settling.{index-fits, worker-fits, few, same-now, ended}
+use Rattle.rb_chapter_ring.proofs.chapter.Chapter.log_end.Goals as goal
 
-pub add_submit-pos-requires-clause-within : goal.add_submit-pos-requires-clause-within
-add_submit-pos-requires-clause-within c =
+pub add_end-pos-requires-clause-within : goal.add_end-pos-requires-clause-within
+add_end-pos-requires-clause-within c =
     let was = c.self.invariant in
     let busy = subst (λ x. IsBusyNow x c.args.index) (sym c.self.view_is) c.requires.busy in
     index-fits was.earlier (chapter_shown c.self.inside) was.kept c.self.inside.closing.opening was.closing_is c.args.index busy
 
-pub add_submit-pos-requires-clause-worker : goal.add_submit-pos-requires-clause-worker
-add_submit-pos-requires-clause-worker c =
+pub add_end-pos-requires-clause-worker : goal.add_end-pos-requires-clause-worker
+add_end-pos-requires-clause-worker c =
     let was = c.self.invariant in
     let busy = subst (λ x. IsBusyNow x c.args.index) (sym c.self.view_is) c.requires.busy in
     worker-fits was.earlier (chapter_shown c.self.inside) was.kept c.self.inside.closing.opening was.closing_is c.args.index busy
 
-pub add_submit-pos-requires-clause-total : goal.add_submit-pos-requires-clause-total
-add_submit-pos-requires-clause-total c =
+pub add_end-pos-requires-clause-total : goal.add_end-pos-requires-clause-total
+add_end-pos-requires-clause-total c =
     let was = c.self.invariant in
     let busy = subst (λ x. IsBusyNow x c.args.index) (sym c.self.view_is) c.requires.busy in
-    (few was.earlier (chapter_shown c.self.inside) was.kept c.self.inside.closing.opening was.closing_is c.args.index busy).0
+    few was.earlier (chapter_shown c.self.inside) was.kept c.self.inside.closing.opening was.closing_is c.args.index busy
 
 pub log_owed-requires : goal.log_owed-requires
 log_owed-requires c =
@@ -40,29 +39,29 @@ invariant_of-self c =
     let old = chapter_shown c.self.inside in
     let closing = c.self.inside.closing.opening in
     let busy = subst (λ x. IsBusyNow x c.args.index) (sym c.self.view_is) c.requires.busy in
-    let pos = c.add_submit-pos.ensures.position ∙ ap (λ (s : Shown). s.pos) (same-now was.earlier old was.kept closing was.closing_is c.args.index busy) in
+    let pos = c.add_end-pos.ensures.position ∙ ap (λ (s : Shown). s.pos) (same-now was.earlier old was.kept closing was.closing_is c.args.index busy) in
     let new : Chapter = record { number = c.self.inside.number; room = c.self.inside.room; opening = c.self.inside.opening.opening; entries = c.log_owed.new.entries.items } in
-    let logged : new ≡ with_entry old (Sub (record_now old c.args.index).pos) = ap (λ es. record old { entries = es }) c.log_owed.ensures.logged ∙ ap (λ q. with_entry old (Sub q)) pos in
-    let runs = submitted was.earlier old was.kept closing was.closing_is c.args.index busy c.add_submit-pos.new.self.opening c.self.inside.owed new was.owed_is c.add_submit-pos.ensures.added logged in
+    let logged : new ≡ with_entry old (entry_of_end c.args.end (record_now old c.args.index).pos) = ap (λ es. record old { entries = es }) c.log_owed.ensures.logged ∙ ap (λ e. with_entry old e) c.entry.ensures.entry ∙ ap (λ q. with_entry old (entry_of_end c.args.end q)) pos in
+    let runs = ended was.earlier old was.kept closing was.closing_is c.args.index busy c.args.end c.add_end-pos.new.self.opening c.self.inside.owed new was.owed_is c.add_end-pos.ensures.added logged in
     record {
       room = was.room;
       workers = was.workers;
       space = omega (arith, was.space, c.log_owed.ensures.space);
       opening_space = was.opening_space;
-      closing_space = omega (arith, was.closing_space, c.add_submit-pos.ensures.room);
+      closing_space = omega (arith, was.closing_space, c.add_end-pos.ensures.room);
       passed = omega (
         arith,
         was.passed,
         was.owed_is,
         records-owe (closing_of old).records,
         busy.0,
-        c.add_submit-pos.ensures.passed,
-        ap (λ (o : Opening). length o.records) c.add_submit-pos.ensures.added,
-        length-set closing.records c.args.index (record (record_in closing c.args.index) { status = Waiting }),
+        c.add_end-pos.ensures.passed,
+        ap (λ (o : Opening). length o.records) c.add_end-pos.ensures.added,
+        length-set closing.records c.args.index (record (record_in closing c.args.index) { status = status_of_end c.args.end }),
         ap length c.log_owed.ensures.logged,
-        length-append old.entries (Sub c.add_submit-pos.result ∷ []),
+        length-append old.entries (c.entry.result ∷ []),
       );
-      takes = subst IsBehindTakes (sym c.add_submit-pos.ensures.added) was.takes;
+      takes = subst IsBehindTakes (sym c.add_end-pos.ensures.added) was.takes;
       closing_is = runs.closing_is;
       owed_is = c.log_owed.ensures.owing ∙ runs.owed_is;
       earlier = was.earlier;
@@ -75,6 +74,6 @@ returns c =
     let old = chapter_shown c.self.inside in
     let closing = c.self.inside.closing.opening in
     let busy = subst (λ x. IsBusyNow x c.args.index) (sym c.self.view_is) c.requires.busy in
-    let pos = c.add_submit-pos.ensures.position ∙ ap (λ (s : Shown). s.pos) (same-now was.earlier old was.kept closing was.closing_is c.args.index busy) in
-    let logged = ap (λ es. record old { entries = es }) c.log_owed.ensures.logged ∙ ap (λ q. with_entry old (Sub q)) pos in
-    record { logged = logged ∙ ap (λ (x : Chapter). with_entry x (Sub (record_now x c.args.index).pos)) c.self.view_is }
+    let pos = c.add_end-pos.ensures.position ∙ ap (λ (s : Shown). s.pos) (same-now was.earlier old was.kept closing was.closing_is c.args.index busy) in
+    let logged = ap (λ es. record old { entries = es }) c.log_owed.ensures.logged ∙ ap (λ e. with_entry old e) c.entry.ensures.entry ∙ ap (λ q. with_entry old (entry_of_end c.args.end q)) pos in
+    record { logged = logged ∙ ap (λ (x : Chapter). with_entry x (entry_of_end c.args.end (record_now x c.args.index).pos)) c.self.view_is }
