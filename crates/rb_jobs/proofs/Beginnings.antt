@@ -6,20 +6,20 @@ use Rattle.rb_history.specs.declared.answers.Notice.{Notice}
 use Rattle.rb_history.specs.ReservationModel.{Granted}
 use Rattle.rb_chapter_ring.specs.HandGranted.{HandGranted}
 use Rattle.rb_history.specs.RingModel.{Ring}
-use Rattle.rb_history.specs.Calls.{FindsFull, producer_now}
-use Rattle.rb_chapter_ring.specs.ChapterRing.{ChapterRing}
+use Rattle.rb_history.specs.Calls.{producer_now}
+use Rattle.rb_chapter_ring.specs.declared.faults.ReserveFault.TheVariants.{Full, ChapterFull}
 use Rattle.rb_ledger.specs.Roles.{BeginsWith, book_of}
 use Rattle.rb_ledger.specs.Roles.Role.{Worker}
 use Rattle.rb_ledger.specs.Seats.{WorkerSeat}
-use Rattle.rb_ledger.specs.LockedCalls.{Reserves, SubmitsAt, DiscardsAt, OutputsAt, Queries, output_by, sent_by_output}
+use Rattle.rb_ledger.specs.LockedCalls.{SubmitsAt, DiscardsAt, Queries, output_by, sent_by_output}
 use Rattle.rb_ledger.proofs.Beginnings.{begins_with_all, begins_through, logged_begins, same_begins, call_begins}
-use Rattle.rb_shared_ring.specs.SharedCalls.{OutputsInChapter}
+use Rattle.rb_shared_ring.specs.SharedCalls.{RefusesInRoom, ReservesInRoom, OutputsInRoom}
 use Rattle.rb_interp.specs.AnsweredCalls.{AnsweredCall, Reserved, Submitted, Discarded, SentOut, Queried}
 use Rattle.rb_jobs.specs.declared.seat_record.SeatRecord.{SeatRecord}
 use Rattle.rb_jobs.specs.SeatCalls.{AtSeat, CallsSeats, OutputAnswered, RecordAnswered, SeatCallsRing, SeatDiscards, SeatIsRefused, SeatOutputs, SeatSubmits, ReserveAnswered, notice_of}
 use Rattle.rb_jobs.specs.SeatLaws.{SeatsGoOn, SeatBegins}
 use Rattle.rb_jobs.proofs.Lists.{zip_self, zip_through, zip_one}
-use Rattle.rb_jobs.proofs.RingCalls.{called_over_all}
+use Rattle.rb_ledger.proofs.EntryRoom.{without-room}
 
 pub begins_itself : (s : WorkerSeat) → SeatBegins s s
 begins_itself s = begins_with_all s.seen
@@ -30,24 +30,26 @@ begins_on x y z first second = begins_through x.seen y.seen z.seen first second
 -- ---- one seat
 
 -- it made a call of the ring, whose history goes on
-seat_begins : (b a : WorkerSeat) (ByChapter : ChapterRing → ChapterRing → Type 0) (OverAll : Ring → Ring → Type 0) → SeatCallsRing ByChapter OverAll b a
-    → ((old new : Ring) → OverAll old new → BeginsWith (book_of new) (book_of old)) → SeatBegins b a
-seat_begins b a ByChapter OverAll call goes_on = call_begins (Worker b.worker) b.seen a.seen OverAll goes_on (called_over_all b a ByChapter OverAll call)
+seat_begins : (b a : WorkerSeat) (Call : Ring → Ring → Type 0) → SeatCallsRing Call b a → ((old new : Ring) → Call old new → BeginsWith (book_of new) (book_of old)) → SeatBegins b a
+seat_begins b a Call call goes_on = call_begins (Worker b.worker) b.seen a.seen Call goes_on (without-room (Worker b.worker) b.seen a.seen b.room a.cut Call Call (λ old new called. called) call)
 
-ring_full : (w n : ℕ) (old new : Ring) → FindsFull old new w n → BeginsWith (book_of new) (book_of old)
-ring_full w n old new called = logged_begins old new _ called.logged
+ring_full : (room cut w n : ℕ) (old new : Ring) → RefusesInRoom room cut old new w n Full → BeginsWith (book_of new) (book_of old)
+ring_full room cut w n old new called = logged_begins old new _ called.0.logged
 
-ring_grants : (w n : ℕ) (r : Granted) (old new : Ring) → Reserves w n (Ok r) old new → BeginsWith (book_of new) (book_of old)
-ring_grants w n r old new called = logged_begins old new _ called.0.logged
+ring_chapter_full : (room cut w n : ℕ) (old new : Ring) → RefusesInRoom room cut old new w n ChapterFull → BeginsWith (book_of new) (book_of old)
+ring_chapter_full room cut w n old new called = same_begins old new called.same
+
+ring_grants : (room cut w n : ℕ) (r : Granted) (old new : Ring) → ReservesInRoom room cut w n (Ok r) old new → BeginsWith (book_of new) (book_of old)
+ring_grants room cut w n r old new called = logged_begins old new _ called.0.logged
 
 ring_queries : (what answer : ℕ) (old new : Ring) → Queries what answer old new → BeginsWith (book_of new) (book_of old)
 ring_queries what answer old new called = same_begins old new called.0
 
 refused_begins : (n unlogged : ℕ) (b a : WorkerSeat) → SeatIsRefused n unlogged b a → SeatBegins b a
 refused_begins n unlogged b a (inl full) =
-    seat_begins b a _ _ full.0.0 (ring_full b.worker n)
+    seat_begins b a _ full.0.0 (ring_full b.room a.cut b.worker n)
 refused_begins n unlogged b a (inr (inl full)) =
-    seat_begins b a _ _ full.0.0 same_begins
+    seat_begins b a _ full.0.0 (ring_chapter_full b.room a.cut b.worker n)
 refused_begins n unlogged b a (inr (inr none)) = subst (λ (s : WorkerSeat). SeatBegins b s) (sym none.0) (begins_itself b)
 
 ring_submits : (r : Granted) (flags : ℕ) (notice : Notice) (old new : Ring) → SubmitsAt r flags (Ok notice) old new → BeginsWith (book_of new) (book_of old)
@@ -60,17 +62,17 @@ same_begun : (b a : WorkerSeat) → a ≡ b → SeatBegins b a
 same_begun b a same = subst (λ (s : WorkerSeat). SeatBegins b s) (sym same) (begins_itself b)
 
 submit_begins : (r : HandGranted) (flags : ℕ) (taken due : Bool) (b a : WorkerSeat) → SeatSubmits r flags taken due b a → SeatBegins b a
-submit_begins r flags true due b a did = seat_begins b a _ _ (did.takes refl).0 (ring_submits r.granted flags (notice_of due))
+submit_begins r flags true due b a did = seat_begins b a _ (did.takes refl).0 (ring_submits r.granted flags (notice_of due))
 submit_begins r flags false due b a did = same_begun b a (did.hands_back refl).1
 
 discard_begins : (r : HandGranted) (flags : ℕ) (taken due : Bool) (b a : WorkerSeat) → SeatDiscards r flags taken due b a → SeatBegins b a
-discard_begins r flags true due b a did = seat_begins b a _ _ (did.takes refl).0 (ring_discards r.granted flags (notice_of due))
+discard_begins r flags true due b a did = seat_begins b a _ (did.takes refl).0 (ring_discards r.granted flags (notice_of due))
 discard_begins r flags false due b a did = same_begun b a (did.hands_back refl).1
 
 sent_begins : (bytes : List ℕ) (flags : ℕ) (due : Bool) (b a : WorkerSeat) → SeatOutputs bytes flags due b a → SeatBegins b a
 sent_begins bytes flags due b a did =
-    seat_begins b a (OutputsInChapter b.worker bytes flags (Ok (notice_of due))) (λ old new.
-    OutputsAt b.worker bytes flags (Ok (notice_of due)) old new
+    seat_begins b a (λ old new.
+    OutputsInRoom b.room a.cut b.worker bytes flags (Ok (notice_of due)) old new
     × (a ≡ record b { seen = a.seen; cut = a.cut; tally = output_by b.tally (Ok (notice_of due)); sent = sent_by_output b.sent (producer_now old) bytes (Ok (notice_of due)) })) did
     (λ old new called. logged_begins old new _ called.0.0.logged)
 
@@ -91,7 +93,7 @@ record_begins ring taken due Did old new begins answered (inr beyond) = begins_n
 reserve_begins : (ring n flags : ℕ) (answer : Option SeatRecord) (unlogged : ℕ) (old new : List WorkerSeat) → ReserveAnswered ring n flags answer unlogged old new → (0 < flags) ⊎ (flags ≤ 0) → AllZip SeatBegins old new
 reserve_begins ring n flags (Some r) unlogged old new led flagged =
     begins_at ring _ old new
-    (λ b a did. seat_begins b a _ _ did.0 (ring_grants b.worker n r.reservation.granted)) led.3
+    (λ b a did. seat_begins b a _ did.0 (ring_grants b.room a.cut b.worker n r.reservation.granted)) led.3
 reserve_begins ring n flags None unlogged old new led (inl above) = begins_nowhere old new (led.1 (λ e. absurd (omega (arith, above, e)))).0
 reserve_begins ring n flags None unlogged old new led (inr zero) = begins_at ring _ old new (refused_begins n unlogged) (led.0 (omega (arith, zero)))
 
@@ -114,7 +116,7 @@ call_goes_on (Discarded owned flags taken) due unlogged old new led =
     led.0 (cases_lt owned.ring (length old))
 call_goes_on (SentOut ring bytes flags answer) due unlogged old new led = output_begins ring bytes flags answer due unlogged old new led led.answer_is.1
 call_goes_on (Queried ring what answer) due unlogged old new led =
-    begins_at ring _ old new (λ b a did. seat_begins b a _ _ did.0 (ring_queries what answer)) led.0
+    begins_at ring _ old new (λ b a did. seat_begins b a _ did.0 (ring_queries what answer)) led.0
 
 -- ---- the law
 

@@ -74,7 +74,7 @@ refused n unlogged b a (inr (inr none)) = nothing-done Anywhere b a none.0
 
 sent : (bytes : List ℕ) (flags : ℕ) (due : Bool) (b a : WorkerSeat) → SeatOutputs bytes flags due b a → StaysOut Anywhere b a
 sent bytes flags due b a did =
-    let is = did.called.1.1 in same-hands Anywhere b a (ap (λ (s : WorkerSeat). s.tag) is) (ap (λ (s : WorkerSeat). s.worker) is) (ap (λ (s : WorkerSeat). s.hands) is)
+    let is = did.called.called.1 in same-hands Anywhere b a (ap (λ (s : WorkerSeat). s.tag) is) (ap (λ (s : WorkerSeat). s.worker) is) (ap (λ (s : WorkerSeat). s.hands) is)
 
 -- a change of one hand leaves the others
 one-changed : (b a : WorkerSeat) (hand : ℕ) (x : Option OutRecord) → a.tag ≡ b.tag → a.worker ≡ b.worker → a.hands ≡ set b.hands hand x → StaysOut (ButAt hand) b a

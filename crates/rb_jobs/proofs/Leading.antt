@@ -6,7 +6,6 @@ use Rattle.rb_history.specs.History.{producer_of, consumer_of}
 use Rattle.rb_history.specs.RoomRule.{Setup}
 use Rattle.rb_history.specs.declared.entries.Entry.{Entry}
 use Rattle.rb_ledger.specs.Seats.{WorkerSeat}
-use Rattle.rb_ledger.specs.ChapteredRing.{whole_of}
 use Rattle.rb_interp.specs.AnsweredCalls.{AnsweredCall, Reserved, Submitted, Discarded, SentOut, Queried, note_of, notes_of, MayAnswer}
 use Rattle.rb_jobs.specs.declared.seat_record.SeatRecord.{SeatRecord}
 use Rattle.rb_jobs.specs.SeatCalls.{CallsSeats}
@@ -36,7 +35,7 @@ may_answer (Reserved ring n flags None) due unlogged old new led = λ granted. a
 may_answer (Submitted owned flags taken) due unlogged old new led = tt
 may_answer (Discarded owned flags taken) due unlogged old new led = tt
 may_answer (SentOut ring bytes flags answer) due unlogged old new led = led.answer_is
-may_answer (Queried ring what answer) due unlogged old new led = λ many. let moment = whole_of led.0.did.0.point in led.0.did.0.called.1.1 ∙ no_number moment.setup moment.history what many
+may_answer (Queried ring what answer) due unlogged old new led = λ many. let moment = led.0.did.0.point in led.0.did.0.called.called.1 ∙ no_number moment.setup moment.history what many
 
 pub all_may_answer : SeatsMayAnswer
 all_may_answer old new [] unlogged led = tt

@@ -8,25 +8,21 @@ use Rattle.rb_history.specs.declared.answers.Notice.{Notice}
 use Rattle.rb_history.specs.declared.answers.Notice.TheVariants.{Due, NotDue}
 use Rattle.rb_history.specs.declared.tally.Tally.{Tally}
 use Rattle.rb_history.specs.RingModel.{Contents}
-use Rattle.rb_history.specs.Calls.{producer_now as whole_producer_now}
-use Rattle.rb_chapter_ring.specs.ChapterCalls.{producer_now}
+use Rattle.rb_history.specs.Calls.{producer_now}
 use Rattle.rb_chapter_ring.specs.declared.faults.ReserveFault.{ReserveFault}
 use Rattle.rb_chapter_ring.specs.declared.faults.ReserveFault.TheVariants.{Full, Flags, ChapterFull, Foreign, HandsFull}
-use Rattle.rb_chapter_ring.specs.RingFaults.{RefusesInChapter}
-use Rattle.rb_ledger.specs.Seats.{Shared, WorkerSeat, IsSameSeat, Ties}
+use Rattle.rb_ledger.specs.Seats.{Shared, WorkerSeat, IsSameSeat}
 use Rattle.rb_chapter_ring.specs.Hands.{Hands, out_record, in_hand, IsLowestFree, AreAllOut}
 use Rattle.rb_chapter_ring.specs.HandGranted.{HandGranted}
-use Rattle.rb_ledger.specs.LockedCalls.{OutputsAt, output_by, sent_by_output}
-use Rattle.rb_ledger.specs.LockedChapterCalls.{SubmitsInChapter, DiscardsInChapter, QueriesInChapter}
-use Rattle.rb_shared_ring.specs.SharedCalls.{ReservesInChapter, OutputsInChapter, IsInSeatsHand, refused_in_chapter_by, output_in_chapter_by, sent_by_chapter_output}
-use Rattle.rb_shared_ring.proofs.WholeAnswers.{outputs-whole, producer-same}
+use Rattle.rb_ledger.specs.LockedCalls.{SubmitsAt, DiscardsAt, Queries, output_by, sent_by_output}
+use Rattle.rb_shared_ring.specs.SharedCalls.{RefusesInRoom, ReservesInRoom, OutputsInRoom, IsInSeatsHand, refused_in_chapter_by, output_in_chapter_by, sent_by_chapter_output}
 use Rattle.rb_jobs.specs.declared.no_record.NoRecord.{NoRecord}
 use Rattle.rb_jobs.specs.declared.no_record.NoRecord.TheVariants.{Refused}
 use Rattle.rb_jobs.specs.SeatCalls.{AtSeat, IsOutAtSeat, RecordAnswered, SeatCallsRing, SeatIsGranted, SeatSubmits, SeatDiscards, SeatQueries}
 use Rattle.rb_jobs.specs.SeatHelpers.{AtSeats, AtRings, IsAt}
 use Rattle.rb_jobs.specs.inner.CallAnswers.{SeatFails, SeatReserves, SeatSends, due_in}
 use Rattle.rb_jobs.proofs.Lists.{zip_at, zip_length, zip_set}
-use Rattle.rb_jobs.proofs.RingCalls.{CallsChapter, ring_called, called_as, is_worker, grants_told, full_told, chapter_full_told, submits_told, discards_told, queries_told}
+use Rattle.rb_jobs.proofs.RingCalls.{called_as}
 
 -- ---- the seat itself
 
@@ -45,31 +41,31 @@ seat_is b a tally hands sent same released tally_is hands_are sent_is =
 
 -- ---- reserve
 
-pub granted_at : (n : ℕ) (r : HandGranted) (b a : WorkerSeat) → b.worker < b.seen.setup.workers → length b.hands ≡ 4 → IsSameSeat b a → (b.out ≡ None) × (a.out ≡ None) → a.tally ≡ record b.tally { made = b.tally.made + 1 }
+pub granted_at : (n : ℕ) (r : HandGranted) (b a : WorkerSeat) → length b.hands ≡ 4 → IsSameSeat b a → (b.out ≡ None) × (a.out ≡ None) → a.tally ≡ record b.tally { made = b.tally.made + 1 }
     → a.hands ≡ set b.hands r.hand (Some (out_record r.granted.pos r.granted.serial n)) → a.sent ≡ b.sent → r.granted.serial ≡ b.tally.made → r.tag ≡ b.tag → IsLowestFree b.hands r.hand
-    → CallsChapter (ReservesInChapter b.worker n (Ok r.granted)) b a → SeatIsGranted n r b a
-granted_at n r b a low four same released tally hands sent serial tag lowest call =
-    let long : n ≡ length r.granted.bytes = sym (ap length call.called.call.1.2 ∙ length-replicate n 0) in
+    → SeatCallsRing (ReservesInRoom b.room a.cut b.worker n (Ok r.granted)) b a → SeatIsGranted n r b a
+granted_at n r b a four same released tally hands sent serial tag lowest call =
+    let long : n ≡ length r.granted.bytes = sym (ap length call.called.called.3 ∙ length-replicate n 0) in
     let there : r.hand < length b.hands = subst (λ m. r.hand < m) (sym four) lowest.is_free.below in
     let out : IsOutAtSeat a r = record {
       tag_is = tag ∙ sym same.tag_same;
-      worker_is = call.called.call.1.1 ∙ sym same.worker_same;
+      worker_is = call.called.called.2 ∙ sym same.worker_same;
       out = ap (λ hs. in_hand hs r.hand) hands ∙ get_or-set_same b.hands r.hand (Some (out_record r.granted.pos r.granted.serial n)) None there ∙ ap (λ m. Some (out_record r.granted.pos r.granted.serial m)) long;
     } in
-    (grants_told n r.granted b a low call, serial, lowest, out, seat_is b a _ _ b.sent same released tally hands sent)
+    (call, serial, lowest, out, seat_is b a _ _ b.sent same released tally hands sent)
 
 abbrev Refuses : ℕ → ℕ → ReserveFault → WorkerSeat → WorkerSeat → Type 0
-Refuses w n fault b a = CallsChapter (λ old new. RefusesInChapter old new w n fault × (fault ≢ Flags)) b a
+Refuses w n fault b a = SeatCallsRing (λ old new. RefusesInRoom b.room a.cut old new w n fault × (fault ≢ Flags)) b a
 
 pub fails_at : (n : ℕ) (fault : ReserveFault) (b a : WorkerSeat) → IsSameSeat b a → (b.out ≡ None) × (a.out ≡ None) → a.tally ≡ refused_in_chapter_by b.tally fault → a.hands ≡ b.hands → a.sent ≡ b.sent
     → Refuses b.worker n fault b a → SeatFails n (Refused fault) b a
 fails_at n Full b a same released tally hands sent call =
-    (full_told n b a (called_as b a _ _ (λ old new called. called.0) call), seat_is b a _ b.hands b.sent same released tally hands sent)
+    (called_as b a _ _ (λ old new called. called.0) call, seat_is b a _ b.hands b.sent same released tally hands sent)
 fails_at n ChapterFull b a same released tally hands sent call =
-    (chapter_full_told n b a (called_as b a _ _ (λ old new called. called.0) call), seat_is b a b.tally b.hands b.sent same released tally hands sent)
-fails_at n Flags b a same released tally hands sent call = absurd (call.called.call.1.1 refl)
-fails_at n Foreign b a same released tally hands sent call = absurd call.called.call.1.0
-fails_at n HandsFull b a same released tally hands sent call = absurd call.called.call.1.0
+    (called_as b a _ _ (λ old new called. called.0) call, seat_is b a b.tally b.hands b.sent same released tally hands sent)
+fails_at n Flags b a same released tally hands sent call = absurd (call.called.called.1 refl)
+fails_at n Foreign b a same released tally hands sent call = absurd call.called.called.0
+fails_at n HandsFull b a same released tally hands sent call = absurd call.called.called.0
 
 -- of a reservation: where no hand is free the ring is not called
 pub refused_at : (n : ℕ) (fault : ReserveFault) (b a : WorkerSeat) → IsSameSeat b a → (b.out ≡ None) × (a.out ≡ None) → a.tally ≡ refused_in_chapter_by b.tally fault → a.hands ≡ b.hands → a.sent ≡ b.sent
@@ -100,16 +96,16 @@ out_at ring seat r tag = (
 )
 
 pub submitted_at : {E : Type 0} (ring : Shared) (r : HandGranted) (flags : ℕ) (answer : Result Notice E) (b a : WorkerSeat) → b.tag ≡ ring.tag → IsSameSeat b a → (b.out ≡ None) × (a.out ≡ None) → IsOk answer ↔ IsInSeatsHand ring b r
-    → IfErr answer (λ _. a ≡ b) → IfOk answer (λ notice. CallsChapter (SubmitsInChapter r.granted flags (Ok notice)) b a) → OnOk answer (a.tally ≡ record b.tally { submitted = b.tally.submitted + 1 })
+    → IfErr answer (λ _. a ≡ b) → IfOk answer (λ notice. SeatCallsRing (SubmitsAt r.granted flags (Ok notice)) b a) → OnOk answer (a.tally ≡ record b.tally { submitted = b.tally.submitted + 1 })
     → OnOk answer (a.hands ≡ set b.hands r.hand None) → OnOk answer (a.sent ≡ insert b.sent r.granted.pos r.granted.bytes) → SeatSubmits r flags (is_ok answer) (due_in answer) b a
 submitted_at ring r flags (Ok Due) b a tag same released exact back call tally hands sent = record {
   exact = ((λ e. (out_at ring b r tag).0 (exact.0 refl)), λ out. refl);
-  takes = λ e. (submits_told r.granted flags Due b a call, seat_is b a _ _ _ same released tally hands sent);
+  takes = λ e. (call, seat_is b a _ _ _ same released tally hands sent);
   hands_back = λ e. absurd (cc);
 }
 submitted_at ring r flags (Ok NotDue) b a tag same released exact back call tally hands sent = record {
   exact = ((λ e. (out_at ring b r tag).0 (exact.0 refl)), λ out. refl);
-  takes = λ e. (submits_told r.granted flags NotDue b a call, seat_is b a _ _ _ same released tally hands sent);
+  takes = λ e. (call, seat_is b a _ _ _ same released tally hands sent);
   hands_back = λ e. absurd (cc);
 }
 submitted_at ring r flags (Err x) b a tag same released exact back call tally hands sent = record {
@@ -119,16 +115,16 @@ submitted_at ring r flags (Err x) b a tag same released exact back call tally ha
 }
 
 pub discarded_at : {E : Type 0} (ring : Shared) (r : HandGranted) (flags : ℕ) (answer : Result Notice E) (b a : WorkerSeat) → b.tag ≡ ring.tag → IsSameSeat b a → (b.out ≡ None) × (a.out ≡ None) → IsOk answer ↔ IsInSeatsHand ring b r
-    → IfErr answer (λ _. a ≡ b) → IfOk answer (λ notice. CallsChapter (DiscardsInChapter r.granted flags (Ok notice)) b a) → OnOk answer (a.tally ≡ record b.tally { discarded = b.tally.discarded + 1 })
+    → IfErr answer (λ _. a ≡ b) → IfOk answer (λ notice. SeatCallsRing (DiscardsAt r.granted flags (Ok notice)) b a) → OnOk answer (a.tally ≡ record b.tally { discarded = b.tally.discarded + 1 })
     → OnOk answer (a.hands ≡ set b.hands r.hand None) → a.sent ≡ b.sent → SeatDiscards r flags (is_ok answer) (due_in answer) b a
 discarded_at ring r flags (Ok Due) b a tag same released exact back call tally hands sent = record {
   exact = ((λ e. (out_at ring b r tag).0 (exact.0 refl)), λ out. refl);
-  takes = λ e. (discards_told r.granted flags Due b a call, seat_is b a _ _ _ same released tally hands sent);
+  takes = λ e. (call, seat_is b a _ _ _ same released tally hands sent);
   hands_back = λ e. absurd (cc);
 }
 discarded_at ring r flags (Ok NotDue) b a tag same released exact back call tally hands sent = record {
   exact = ((λ e. (out_at ring b r tag).0 (exact.0 refl)), λ out. refl);
-  takes = λ e. (discards_told r.granted flags NotDue b a call, seat_is b a _ _ _ same released tally hands sent);
+  takes = λ e. (call, seat_is b a _ _ _ same released tally hands sent);
   hands_back = λ e. absurd (cc);
 }
 discarded_at ring r flags (Err x) b a tag same released exact back call tally hands sent = record {
@@ -139,42 +135,37 @@ discarded_at ring r flags (Err x) b a tag same released exact back call tally ha
 
 -- ---- output
 
--- the bytes stand where the producer was, by the chapter and over the whole history
-sends_told : (bytes : List ℕ) (flags : ℕ) (notice : Notice) (b a : WorkerSeat) → b.worker < b.seen.setup.workers → IsSameSeat b a → (b.out ≡ None) × (a.out ≡ None) → a.tally ≡ output_in_chapter_by b.tally (Ok notice) → a.hands ≡ b.hands
-    → CallsChapter (λ old new. OutputsInChapter b.worker bytes flags (Ok notice) old new × (a.sent ≡ sent_by_chapter_output b.sent (producer_now old) bytes (Ok notice))) b a
-    → SeatCallsRing (OutputsInChapter b.worker bytes flags (Ok notice)) (λ old new.
-    OutputsAt b.worker bytes flags (Ok notice) old new
-    × (a ≡ record b { seen = a.seen; cut = a.cut; tally = output_by b.tally (Ok notice); sent = sent_by_output b.sent (whole_producer_now old) bytes (Ok notice) })) b a
-sends_told bytes flags notice b a low same released tally hands call =
-    ring_called b a _ (OutputsInChapter b.worker bytes flags (Ok notice)) (λ old new. OutputsAt b.worker bytes flags (Ok notice) old new × (a ≡ record b { seen = a.seen; cut = a.cut; tally = output_by b.tally (Ok notice); sent = sent_by_output b.sent (whole_producer_now old) bytes (Ok notice) }))
-    (λ earlier old new is setup x. (
-      x.0,
-      (
-        outputs-whole earlier old new is b.worker bytes flags (Ok notice) (is_worker b.worker _ _ setup low) x.0,
-        seat_is b a _ b.hands _ same released tally hands (x.1 ∙ ap (λ p. insert b.sent p bytes) (sym (producer-same earlier old new is))),
-      ),
-    )) call
+-- the bytes stand where the producer was
+sends_told : (bytes : List ℕ) (flags : ℕ) (notice : Notice) (b a : WorkerSeat) → IsSameSeat b a → (b.out ≡ None) × (a.out ≡ None) → a.tally ≡ output_in_chapter_by b.tally (Ok notice) → a.hands ≡ b.hands
+    → SeatCallsRing (λ old new. OutputsInRoom b.room a.cut b.worker bytes flags (Ok notice) old new × (a.sent ≡ sent_by_chapter_output b.sent (producer_now old) bytes (Ok notice))) b a
+    → SeatCallsRing (λ old new.
+    OutputsInRoom b.room a.cut b.worker bytes flags (Ok notice) old new
+    × (a ≡ record b { seen = a.seen; cut = a.cut; tally = output_by b.tally (Ok notice); sent = sent_by_output b.sent (producer_now old) bytes (Ok notice) })) b a
+sends_told bytes flags notice b a same released tally hands call =
+    called_as b a (λ old new. OutputsInRoom b.room a.cut b.worker bytes flags (Ok notice) old new × (a.sent ≡ sent_by_chapter_output b.sent (producer_now old) bytes (Ok notice)))
+    (λ old new. OutputsInRoom b.room a.cut b.worker bytes flags (Ok notice) old new × (a ≡ record b { seen = a.seen; cut = a.cut; tally = output_by b.tally (Ok notice); sent = sent_by_output b.sent (producer_now old) bytes (Ok notice) }))
+    (λ old new x. (x.0, seat_is b a _ b.hands _ same released tally hands x.1)) call
 
-pub sent_at : (bytes : List ℕ) (flags : ℕ) (notice : Notice) (b a : WorkerSeat) → b.worker < b.seen.setup.workers → IsSameSeat b a → (b.out ≡ None) × (a.out ≡ None) → a.tally ≡ output_in_chapter_by b.tally (Ok notice) → a.hands ≡ b.hands
-    → CallsChapter (λ old new. OutputsInChapter b.worker bytes flags (Ok notice) old new × (a.sent ≡ sent_by_chapter_output b.sent (producer_now old) bytes (Ok notice))) b a
+pub sent_at : (bytes : List ℕ) (flags : ℕ) (notice : Notice) (b a : WorkerSeat) → IsSameSeat b a → (b.out ≡ None) × (a.out ≡ None) → a.tally ≡ output_in_chapter_by b.tally (Ok notice) → a.hands ≡ b.hands
+    → SeatCallsRing (λ old new. OutputsInRoom b.room a.cut b.worker bytes flags (Ok notice) old new × (a.sent ≡ sent_by_chapter_output b.sent (producer_now old) bytes (Ok notice))) b a
     → SeatSends bytes flags (Ok notice) b a
-sent_at bytes flags Due b a low same released tally hands call = sends_told bytes flags Due b a low same released tally hands call
-sent_at bytes flags NotDue b a low same released tally hands call = sends_told bytes flags NotDue b a low same released tally hands call
+sent_at bytes flags Due b a same released tally hands call = sends_told bytes flags Due b a same released tally hands call
+sent_at bytes flags NotDue b a same released tally hands call = sends_told bytes flags NotDue b a same released tally hands call
 
 not_bad_flags : (fault : ReserveFault) (flags : ℕ) → flags ≤ 3 → (fault ≡ Flags → 3 < flags) → fault ≢ Flags
 not_bad_flags fault flags few only is = absurd (let many : 3 < flags = only is in omega (arith, few, many))
 
 pub not_sent_at : (bytes : List ℕ) (flags : ℕ) (refused : ReserveFault × List ℕ) (b a : WorkerSeat) → flags ≤ 3 → IsSameSeat b a → (b.out ≡ None) × (a.out ≡ None) → a.tally ≡ refused_in_chapter_by b.tally refused.0 → a.hands ≡ b.hands
-    → CallsChapter (λ old new. OutputsInChapter b.worker bytes flags (Err refused) old new × (a.sent ≡ b.sent)) b a → SeatFails (length bytes) (Refused refused.0) b a
+    → SeatCallsRing (λ old new. OutputsInRoom b.room a.cut b.worker bytes flags (Err refused) old new × (a.sent ≡ b.sent)) b a → SeatFails (length bytes) (Refused refused.0) b a
 not_sent_at bytes flags refused b a few same released tally hands call =
-    fails_at (length bytes) refused.0 b a same released tally hands call.called.call.1.1
+    fails_at (length bytes) refused.0 b a same released tally hands call.called.called.1
     (called_as b a _ _ (λ old new called. (called.0.0, not_bad_flags refused.0 flags few (λ is. called.0.1.0 is))) call)
 
 -- ---- query
 
 pub queried_at : (what answer : ℕ) (b a : WorkerSeat) → IsSameSeat b a → (b.out ≡ None) × (a.out ≡ None) → a.tally ≡ b.tally → a.hands ≡ b.hands → a.sent ≡ b.sent
-    → CallsChapter (QueriesInChapter what answer) b a → SeatQueries what answer b a
-queried_at what answer b a same released tally hands sent call = (queries_told what answer b a call, seat_is b a b.tally b.hands b.sent same released tally hands sent)
+    → SeatCallsRing (Queries what answer) b a → SeatQueries what answer b a
+queried_at what answer b a same released tally hands sent call = (call, seat_is b a b.tally b.hands b.sent same released tally hands sent)
 
 -- ---- the seat among the others
 
@@ -182,14 +173,7 @@ queried_at what answer b a same released tally hands sent call = (queries_told w
 pub is_seat : (rings : List Shared) (seats : List WorkerSeat) (i : ℕ) → AtRings rings seats → i < length rings → i < length seats
 is_seat rings seats i all below = omega (arith, zip_length IsAt rings seats all, below)
 
--- its worker is one of the ring's, as a seat's numbers tie
-pub is_low : (seats : List WorkerSeat) (i : ℕ) (read before : WorkerSeat) → i < length seats → read ≡ get_or seats i read → before ≡ get_or seats i before
-    → Ties read.worker read.tally read.seen → before.worker < before.seen.setup.workers
-is_low [] i read before below there here ties = absurd (omega arith)
-is_low (s ∷ seats) zero read before below there here ties = subst (λ (x : WorkerSeat). x.worker < x.seen.setup.workers) (there ∙ sym here) ties.in_ring
-is_low (s ∷ seats) (suc i) read before below there here ties = is_low seats i read before (omega arith) there here ties
-
--- and has four hands
+-- it has four hands
 pub is_four : (seats : List WorkerSeat) (i : ℕ) (read before : WorkerSeat) → i < length seats → read ≡ get_or seats i read → before ≡ get_or seats i before → length read.hands ≡ 4 → length before.hands ≡ 4
 is_four [] i read before below there here four = absurd (omega arith)
 is_four (s ∷ seats) zero read before below there here four = subst (λ (x : WorkerSeat). length x.hands ≡ 4) (there ∙ sym here) four

@@ -141,7 +141,7 @@ output_rises ring bytes flags answer due unlogged old new led (inl is) =
     let sent = led.sent is in
     subst (λ x. CallRises (Output ring (length bytes) flags x) unlogged old new) (sym is)
     (rises_at (Output ring (length bytes) flags (pos 0)) unlogged 1 0 1 0 ring _ old new sent.0
-    (adds_as 1 0 1 0 sent.0.before sent.0.after _ sent.0.did.called.1.1 (record { tag_same = refl; ring_same = refl; room_same = refl; worker_same = refl }, refl, add_zero _, refl, add_zero _)) refl (none_added unlogged sent.1) refl refl)
+    (adds_as 1 0 1 0 sent.0.before sent.0.after _ sent.0.did.called.called.1 (record { tag_same = refl; ring_same = refl; room_same = refl; worker_same = refl }, refl, add_zero _, refl, add_zero _)) refl (none_added unlogged sent.1) refl refl)
 output_rises ring bytes flags answer due unlogged old new led (inr (inl is)) =
     subst (λ x. CallRises (Output ring (length bytes) flags x) unlogged old new) (sym is)
     (refused_rises (Output ring (length bytes) flags (negsuc 10)) ring (length bytes) unlogged old new (led.refused is).0 refl refl refl refl)

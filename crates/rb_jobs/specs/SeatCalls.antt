@@ -1,33 +1,28 @@
--- What each call of a helper does to the one seat that it uses, before and after it, as the shared ring answers it, by its chapter and over
--- its whole history (own).
+-- What each call of a helper does to the one seat that it uses, before and after it, as the shared ring answers it over its whole history (own).
 use Rattle.std.specs.FinMap.{insert}
 use Rattle.std.specs.Prelude.{◌≡◌, ◌≢◌, ℕ, ◌+◌, ◌<◌, ◌≤◌, ◌⊎◌, ℤ, ◌↔◌, pos, neg_ℤ, Bool, true, false, List, length, slice_get, slice_set, Option, Some, None, Ok}
 use Rattle.rb_history.specs.declared.answers.Notice.{Notice}
 use Rattle.rb_history.specs.declared.answers.Notice.TheVariants.{Due, NotDue}
 use Rattle.rb_history.specs.RingModel.{Ring}
-use Rattle.rb_history.specs.Calls.{FindsFull as FindsAllFull, producer_now}
-use Rattle.rb_chapter_ring.specs.ChapterRing.{ChapterRing}
-use Rattle.rb_chapter_ring.specs.ChapterCalls.{FindsFull, FindsChapterFull}
+use Rattle.rb_history.specs.Calls.{producer_now}
+use Rattle.rb_chapter_ring.specs.declared.faults.ReserveFault.TheVariants.{Full, ChapterFull}
 use Rattle.rb_ledger.specs.Roles.Role.{Worker}
 use Rattle.rb_ledger.specs.Seats.{WorkerSeat}
-use Rattle.rb_ledger.specs.LockedCalls.{Reserves, SubmitsAt, DiscardsAt, OutputsAt, Queries, output_by, sent_by_output}
-use Rattle.rb_ledger.specs.ChapteredRing.{whole_of}
-use Rattle.rb_ledger.specs.LockedChapterCalls.{LockedChapterCall, InRoomAt, SubmitsInChapter, DiscardsInChapter, QueriesInChapter}
+use Rattle.rb_ledger.specs.LockedCalls.{LockedCall, SubmitsAt, DiscardsAt, Queries, output_by, sent_by_output}
+use Rattle.rb_ledger.specs.EntryRoom.{InRoom}
 use Rattle.rb_chapter_ring.specs.Hands.{out_record, in_hand, IsLowestFree}
 use Rattle.rb_chapter_ring.specs.HandGranted.{HandGranted}
-use Rattle.rb_shared_ring.specs.SharedCalls.{ReservesInChapter, OutputsInChapter}
+use Rattle.rb_shared_ring.specs.SharedCalls.{RefusesInRoom, ReservesInRoom, OutputsInRoom}
 use Rattle.rb_interp.specs.ErrorNumbers.{EAGAIN, EINVAL}
 use Rattle.rb_interp.specs.AnsweredCalls.{AnsweredCall, Reserved, Submitted, Discarded, SentOut, Queried, MayAnswerOutput}
 use Rattle.rb_jobs.specs.declared.seat_record.SeatRecord.{SeatRecord}
 
 -- ---- one seat
 
--- The seat made one call of the ring, at one moment under its lock: there the ring did the one by its chapter, and so the other over its whole
--- history, which begins with what the seat had seen. What others had added since has no entry of the seat's worker. The chapter had the seat's room,
--- and so many entries had been handed out before it as the seat then knows.
-abbrev pub SeatCallsRing : (ByChapter : ChapterRing → ChapterRing → Type 0) (OverAll : Ring → Ring → Type 0) → WorkerSeat → WorkerSeat → Type 0
-SeatCallsRing ByChapter OverAll b a =
-    LockedChapterCall (Worker b.worker) b.seen a.seen (λ old new. InRoomAt b.room a.cut ByChapter old new × OverAll (whole_of old) (whole_of new))
+-- The seat made one call of the ring, at one moment under its lock. The ring's whole history begins with what the seat had seen, and what others had
+-- added since has no entry of the seat's worker. The ring has the seat's room for entries, and as many were handed out as the seat then knows.
+abbrev pub SeatCallsRing : (Ring → Ring → Type 0) → WorkerSeat → WorkerSeat → Type 0
+SeatCallsRing Call b a = LockedCall (Worker b.worker) b.seen a.seen (InRoom b.room a.cut Call)
 
 -- the reservation is out at the seat: it has the seat's tag and worker, and the hand that it names is out with its position, serial and length
 pub record IsOutAtSeat (seat : WorkerSeat) (r : HandGranted) : Type 0 where
@@ -37,27 +32,27 @@ pub record IsOutAtSeat (seat : WorkerSeat) (r : HandGranted) : Type 0 where
 
 -- at one call of the ring it answered this number; of the seat only what it has seen is another
 abbrev pub SeatQueries : ℕ → ℕ → WorkerSeat → WorkerSeat → Type 0
-SeatQueries what answer b a = SeatCallsRing (QueriesInChapter what answer) (Queries what answer) b a × (a ≡ record b { seen = a.seen; cut = a.cut })
+SeatQueries what answer b a = SeatCallsRing (Queries what answer) b a × (a ≡ record b { seen = a.seen; cut = a.cut })
 
 -- at one call the ring granted this very reservation of n bytes to the seat's worker, into the seat's lowest free hand
 abbrev pub SeatIsGranted : ℕ → HandGranted → WorkerSeat → WorkerSeat → Type 0
 SeatIsGranted n r b a =
-    SeatCallsRing (ReservesInChapter b.worker n (Ok r.granted)) (Reserves b.worker n (Ok r.granted)) b a × (r.granted.serial ≡ b.tally.made)
+    SeatCallsRing (ReservesInRoom b.room a.cut b.worker n (Ok r.granted)) b a × (r.granted.serial ≡ b.tally.made)
     × IsLowestFree b.hands r.hand × IsOutAtSeat a r
     × (a ≡ record b { seen = a.seen; cut = a.cut; tally = record b.tally { made = b.tally.made + 1 }; hands = slice_set b.hands r.hand (Some (out_record r.granted.pos r.granted.serial n)) })
 
 -- at one call the ring had no room for n bytes, which its history says
 abbrev pub SeatFindsFull : ℕ → WorkerSeat → WorkerSeat → Type 0
 SeatFindsFull n b a =
-    SeatCallsRing (λ old new. FindsFull old new b.worker n) (λ old new. FindsAllFull old new b.worker n) b a
+    SeatCallsRing (λ old new. RefusesInRoom b.room a.cut old new b.worker n Full) b a
     × (a ≡ record b { seen = a.seen; cut = a.cut; tally = record b.tally { refused = b.tally.refused + 1 } })
 
--- at one call the chapter had no room: for all that a record would log where the ring had room for n bytes, else for their refusal.
+-- at one call the ring had no room for entries: for all that a record would log where it had room for n bytes, else for their refusal.
 -- Nothing was added to the history
 abbrev pub SeatFindsChapterFull : ℕ → WorkerSeat → WorkerSeat → Type 0
-SeatFindsChapterFull n b a = SeatCallsRing (λ old new. FindsChapterFull old new b.worker n) (λ old new. new ≡ old) b a × (a ≡ record b { seen = a.seen; cut = a.cut })
+SeatFindsChapterFull n b a = SeatCallsRing (λ old new. RefusesInRoom b.room a.cut old new b.worker n ChapterFull) b a × (a ≡ record b { seen = a.seen; cut = a.cut })
 
--- no record of n bytes was made: the ring had no room; or its chapter had none; or no hand was free for a reservation, or no sheet could be had,
+-- no record of n bytes was made: the ring had no room; or it had none for entries; or no hand was free for a reservation, or no sheet could be had,
 -- which make no call of the ring. All but the first are unlogged
 abbrev pub SeatIsRefused : ℕ → ℕ → WorkerSeat → WorkerSeat → Type 0
 SeatIsRefused n unlogged b a =
@@ -72,7 +67,7 @@ notice_of false = NotDue
 pub record SeatSubmits (r : HandGranted) (flags : ℕ) (taken due : Bool) (b a : WorkerSeat) : Type 0 where
   pub exact : (taken ≡ true) ↔ IsOutAtSeat b r
   pub takes : taken ≡ true
-      → SeatCallsRing (SubmitsInChapter r.granted flags (Ok (notice_of due))) (SubmitsAt r.granted flags (Ok (notice_of due))) b a
+      → SeatCallsRing (SubmitsAt r.granted flags (Ok (notice_of due))) b a
       × (a ≡ record b { seen = a.seen; cut = a.cut; tally = record b.tally { submitted = b.tally.submitted + 1 }; hands = slice_set b.hands r.hand None; sent = insert b.sent r.granted.pos r.granted.bytes })
   pub hands_back : taken ≡ false → (due ≡ false) × (a ≡ b)
 
@@ -80,14 +75,14 @@ pub record SeatSubmits (r : HandGranted) (flags : ℕ) (taken due : Bool) (b a :
 pub record SeatDiscards (r : HandGranted) (flags : ℕ) (taken due : Bool) (b a : WorkerSeat) : Type 0 where
   pub exact : (taken ≡ true) ↔ IsOutAtSeat b r
   pub takes : taken ≡ true
-      → SeatCallsRing (DiscardsInChapter r.granted flags (Ok (notice_of due))) (DiscardsAt r.granted flags (Ok (notice_of due))) b a
+      → SeatCallsRing (DiscardsAt r.granted flags (Ok (notice_of due))) b a
       × (a ≡ record b { seen = a.seen; cut = a.cut; tally = record b.tally { discarded = b.tally.discarded + 1 }; hands = slice_set b.hands r.hand None })
   pub hands_back : taken ≡ false → (due ≡ false) × (a ≡ b)
 
 -- at one call the ring took these bytes with these flags, as the record that stands where the producer was
 abbrev pub SeatOutputs : List ℕ → ℕ → Bool → WorkerSeat → WorkerSeat → Type 0
-SeatOutputs bytes flags due b a = SeatCallsRing (OutputsInChapter b.worker bytes flags (Ok (notice_of due))) (λ old new.
-    OutputsAt b.worker bytes flags (Ok (notice_of due)) old new
+SeatOutputs bytes flags due b a = SeatCallsRing (λ old new.
+    OutputsInRoom b.room a.cut b.worker bytes flags (Ok (notice_of due)) old new
     × (a ≡ record b { seen = a.seen; cut = a.cut; tally = output_by b.tally (Ok (notice_of due)); sent = sent_by_output b.sent (producer_now old) bytes (Ok (notice_of due)) })) b a
 
 -- ---- all seats of the helpers

@@ -13,9 +13,9 @@
 //! over the same rings: each worker has helpers of its own.
 //!
 //! What is promised: each call is one call of the shared ring that it names, on the very record, bytes and flags that it was given,
-//! and is answered as that ring answers, by its chapter and over its whole history; a call changes no seat but its ring's, and one with
+//! and is answered as that ring answers over its whole history; a call changes no seat but its ring's, and one with
 //! bad flags none; the trace has each call with its answer; each null for flags 0 and each -EAGAIN is either refused in a ring's history
-//! or counted as unlogged, where the ring's chapter had no room or memory ran out; a record that was granted is taken back, whatever other
+//! or counted as unlogged, where the ring had no room for entries or memory ran out; a record that was granted is taken back, whatever other
 //! threads did meanwhile (`specs/KeptRecords.antt`); and a notice that is due is told (`due`). What follows
 //! for the seats' numbers is stated as laws (`seats_rise`).
 #![tactic(auto)]

@@ -225,8 +225,6 @@ impl<'h, R: Wait, S: Stock> SeatHelpers<'h, R, S> {
         }
         let sheet = copied_sheet(self.alloc, self.stock, bytes).ok_or(NoRecord::NoSheet)?;
         let at = ring as usize;
-        let seat = &self.seats[at];
-        seat.facts();
         match self.rings[at].output(self.rt, &mut self.seats[at], sheet, flags) {
             Ok(notice) => Ok(notice),
             Err(refused) => {

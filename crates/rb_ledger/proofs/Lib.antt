@@ -4,6 +4,7 @@ pub mod HeldRecords
 pub mod ChapterLock
 pub mod ChapterSteps
 pub mod WholeCalls
+pub mod EntryRoom
 pub mod BoundChapters
 pub mod BindingSteps
 pub mod ChapterGathers

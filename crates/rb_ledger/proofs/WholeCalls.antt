@@ -20,7 +20,8 @@ use Rattle.rb_ledger.specs.Roles.{Role, Book}
 use Rattle.rb_ledger.specs.Roles.Role.{Consumer, Worker}
 use Rattle.rb_ledger.specs.LockedCalls.{LockedCall, SubmitsAt, DiscardsAt, TakesAt, Queries}
 use Rattle.rb_ledger.specs.ChapteredRing.{chaptered_ring, whole_of}
-use Rattle.rb_ledger.specs.LockedChapterCalls.{LockedChapterCall, InOneChapter, InRoomAt, InKnownChapter, SubmitsInChapter, DiscardsInChapter, TakesInChapter, QueriesInChapter, HandsOutNext, EachCallIsWhole}
+use Rattle.rb_ledger.specs.LockedChapterCalls.{LockedChapterCall, InOneChapter, InKnownChapter, SubmitsInChapter, DiscardsInChapter, TakesInChapter, QueriesInChapter, HandsOutNext, EachCallIsWhole}
+use Rattle.rb_ledger.specs.inner.ChapterRooms.{InRoomAt}
 use Rattle.rb_chapter_ring.proofs.Chain.{binds-continue, binds-number}
 use Rattle.rb_ledger.proofs.ChapterSteps.{handed-out-whole}
 

@@ -9,6 +9,7 @@ pub mod ChapterLockRule
 pub mod ChapterLockSteps
 pub mod ChapterLockLaws
 pub mod ChapterSeats
+pub mod EntryRoom
 pub mod LockedChapterCalls
 pub mod ChapterClosing
 pub mod ChapterHeadline

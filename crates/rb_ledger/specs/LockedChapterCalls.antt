@@ -10,7 +10,7 @@ use Rattle.rb_history.specs.ReservationModel.{Granted}
 use Rattle.rb_history.specs.NoticesAndQueries.{IsDue}
 use Rattle.rb_history.specs.Calls.{Grants as WholeGrants, FindsFull as WholeFindsFull, Outputs as WholeOutputs, RingHasRoom}
 use Rattle.rb_chapter_ring.specs.CountedFrom.{query_answer_from}
-use Rattle.rb_chapter_ring.specs.Chapters.{Chapter, joined}
+use Rattle.rb_chapter_ring.specs.Chapters.{Chapter}
 use Rattle.rb_chapter_ring.specs.ChapterRoom.{used, owed, MayGrant, MayRefuse}
 use Rattle.rb_chapter_ring.specs.ChapterRing.{ChapterRing}
 use Rattle.rb_chapter_ring.specs.ChapterCalls.{Grants, FindsFull, FindsChapterFull, Outputs, Submits, Discards, Strays, Takes, HasBusyFront, AllTaken, HandsOut, consumer_now}
@@ -34,13 +34,6 @@ pub record LockedChapterCall (role : Role) (before after : Book) (call : Chapter
 -- the call left the ring in the same chapter
 abbrev pub InOneChapter : (ChapterRing → ChapterRing → Type 0) → ChapteredRing → ChapteredRing → Type 0
 InOneChapter Call old new = (new.handed_out ≡ old.handed_out) × Call old.ring new.ring
-
--- the same in a chapter with this room, before which so many entries had been handed out: so which entries of the whole history the chapter has, and
--- whether it has room for more, is determined
-pub record InRoomAt (room cut : ℕ) (Call : ChapterRing → ChapterRing → Type 0) (old new : ChapteredRing) : Type 0 where
-  pub room_is : old.ring.chapter.room ≡ room
-  pub cut_is : length (joined old.handed_out) ≡ cut
-  pub call : InOneChapter Call old new
 
 -- the same by the consumer, which knows the chapters that were handed out
 abbrev pub InKnownChapter : List Chapter → (ChapterRing → ChapterRing → Type 0) → ChapteredRing → ChapteredRing → Type 0

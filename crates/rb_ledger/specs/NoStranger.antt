@@ -8,13 +8,13 @@ use lib.ListN.{get_elem?}
 use Rattle.rb_history.specs.declared.entries.Entry.{Entry}
 use Rattle.rb_history.specs.declared.answers.Notice.{Notice}
 use Rattle.rb_history.specs.declared.answers.Stray.{Stray}
-use Rattle.rb_history.specs.Calls.{IsBusy}
+use Rattle.rb_history.specs.Calls.{IsBusy, Grants, FindsFull, Outputs}
 use Rattle.rb_history.specs.ReservationModel.{Granted}
-use Rattle.rb_chapter_ring.specs.ChapterRing.{ChapterRing}
-use Rattle.rb_chapter_ring.specs.ChapterCalls.{IsBusyFrom, HoldsReservationFrom, Grants, FindsFull, FindsChapterFull, Outputs}
+use Rattle.rb_history.specs.RingModel.{Ring}
+use Rattle.rb_chapter_ring.specs.ChapterCalls.{IsBusyFrom, HoldsReservationFrom}
 use Rattle.rb_ledger.specs.Roles.{Book, ExtendsSeen}
 use Rattle.rb_ledger.specs.Roles.Role.{Worker}
-use Rattle.rb_ledger.specs.LockedChapterCalls.{LockedChapterCall, InOneChapter, SubmitsInChapter, DiscardsInChapter, QueriesInChapter}
+use Rattle.rb_ledger.specs.LockedCalls.{LockedCall, SubmitsAt, DiscardsAt}
 use Rattle.rb_chapter_ring.specs.declared.out_record.OutRecord.{OutRecord}
 use Rattle.rb_chapter_ring.specs.Hands.{out_record, Hands, HandBook, in_hand, hands_of, hand_at, IsBookOf}
 use Rattle.rb_chapter_ring.specs.HandRing.{HandRing, HasInHand}
@@ -30,8 +30,8 @@ pub record IsHeld (w : ℕ) (seen : Book) (r : Granted) : Type 0 where
   pub busy : IsBusy seen.history r.pos r.worker r.serial (length r.bytes)
 
 -- one call of the ring at a worker's seat, which had seen the one book and then has seen the other
-abbrev pub SeatCall : ℕ → Book → Book → (ChapterRing → ChapterRing → Type 0) → Type 0
-SeatCall w before after Call = LockedChapterCall (Worker w) before after (InOneChapter Call)
+abbrev pub SeatCall : ℕ → Book → Book → (Ring → Ring → Type 0) → Type 0
+SeatCall w before after Call = LockedCall (Worker w) before after Call
 
 -- what the worker held before the call it holds after it
 abbrev pub LeavesHeld : ℕ → Book → Book → Type 0
@@ -49,12 +49,11 @@ pub record CallsKeepHeld (w : ℕ) (before after : Book) : Type 0 where
   pub grants : (n p k : ℕ) → SeatCall w before after (λ old new. Grants old new w n p k) → LeavesHeld w before after
   pub finds_full : (n : ℕ) → SeatCall w before after (λ old new. FindsFull old new w n) → LeavesHeld w before after
   pub outputs : (bytes : List ℕ) → SeatCall w before after (λ old new. Outputs old new w bytes) → LeavesHeld w before after
-  pub finds_chapter_full : (n : ℕ) → SeatCall w before after (λ old new. FindsChapterFull old new w n) → LeavesHeld w before after
-  pub queries : (what answer : ℕ) → SeatCall w before after (QueriesInChapter what answer) → LeavesHeld w before after
-  pub submit_taken : (r : Granted) (flags : ℕ) (answer : Result Notice Stray) → SeatCall w before after (SubmitsInChapter r flags answer) → IsHeld w before r → is_ok answer ≡ true
-  pub submits : (r : Granted) (flags : ℕ) (answer : Result Notice Stray) → SeatCall w before after (SubmitsInChapter r flags answer) → LeavesHeldElsewhere w before after r.pos
-  pub discard_taken : (r : Granted) (flags : ℕ) (answer : Result Notice Stray) → SeatCall w before after (DiscardsInChapter r flags answer) → IsHeld w before r → is_ok answer ≡ true
-  pub discards : (r : Granted) (flags : ℕ) (answer : Result Notice Stray) → SeatCall w before after (DiscardsInChapter r flags answer) → LeavesHeldElsewhere w before after r.pos
+  pub no_change : SeatCall w before after (λ old new. new ≡ old) → LeavesHeld w before after
+  pub submit_taken : (r : Granted) (flags : ℕ) (answer : Result Notice Stray) → SeatCall w before after (SubmitsAt r flags answer) → IsHeld w before r → is_ok answer ≡ true
+  pub submits : (r : Granted) (flags : ℕ) (answer : Result Notice Stray) → SeatCall w before after (SubmitsAt r flags answer) → LeavesHeldElsewhere w before after r.pos
+  pub discard_taken : (r : Granted) (flags : ℕ) (answer : Result Notice Stray) → SeatCall w before after (DiscardsAt r flags answer) → IsHeld w before r → is_ok answer ≡ true
+  pub discards : (r : Granted) (flags : ℕ) (answer : Result Notice Stray) → SeatCall w before after (DiscardsAt r flags answer) → LeavesHeldElsewhere w before after r.pos
 
 abbrev pub HeldUntilGivenBack : Type 0
 HeldUntilGivenBack = (w : ℕ) (before after : Book) → CallsKeepHeld w before after

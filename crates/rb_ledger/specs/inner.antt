@@ -1,3 +1,4 @@
 pub mod BindingLoops
 pub mod OpenedLock
 pub mod SeatPasses
+pub mod ChapterRooms

@@ -5,18 +5,19 @@ use Rattle.rb_history.specs.Calls.{producer_now}
 use Rattle.rb_history.specs.declared.answers.Taken.{Taken}
 use Rattle.rb_chapter_ring.specs.Chapters.{Chapter, joined}
 use Rattle.rb_chapter_ring.specs.ChapterRing.{whole_ring}
-use Rattle.rb_ledger.specs.LockedCalls.{TakesAt}
+use Rattle.rb_ledger.specs.LockedCalls.{LockedCall, TakesAt}
 use Rattle.rb_shared_ring.specs.declared.audit.Audit.{Audit}
 use Rattle.rb_ledger.specs.Roles.{Book, BeginsWith}
 use Rattle.rb_ledger.specs.Roles.Role.{Consumer, Worker}
 use Rattle.rb_ledger.specs.Seats.{WorkerSeat}
-use Rattle.rb_ledger.specs.ChapteredRing.{chaptered_ring, whole_of}
+use Rattle.rb_ledger.specs.ChapteredRing.{whole_of}
 use Rattle.rb_ledger.specs.ChapterSeats.{ChapterConsumerSeat}
-use Rattle.rb_ledger.specs.LockedChapterCalls.{LockedChapterCall, InOneChapter, InKnownChapter, TakesInChapter}
+use Rattle.rb_ledger.specs.EntryRoom.{InRoom}
+use Rattle.rb_ledger.specs.LockedChapterCalls.{LockedChapterCall, InKnownChapter, TakesInChapter}
 use Rattle.rb_chapter_ring.proofs.Chain.{binds-continue}
 use Rattle.rb_ledger.proofs.WholeCalls.{takes-whole}
-use Rattle.rb_shared_ring.specs.SharedCalls.{AuditsInChapter}
-use Rattle.rb_shared_ring.proofs.WholeAnswers.{producer-same}
+use Rattle.rb_ledger.proofs.EntryRoom.{called-as}
+use Rattle.rb_shared_ring.specs.SharedCalls.{Audits}
 use Rattle.rb_run_commands.specs.DrainedRings.{TakesNone, TakesRecord, TakesEach, DrainsRing, DrainsRings}
 
 -- ---- records
@@ -68,22 +69,10 @@ each_then_one start (first ∷ more) now next taken each one = (each.0, each.1, 
 -- ---- rings
 
 -- an audit told where the producer stands
-pub told_end : (worker : ℕ) (seen now : Book) (audit : Audit) (position : ℕ) → position ≡ audit.producer → LockedChapterCall (Worker worker) seen now (InOneChapter (AuditsInChapter worker audit))
-    → LockedChapterCall (Worker worker) seen now (λ old new. (new ≡ old) × (producer_now (whole_of old) ≡ position))
-told_end worker seen now audit position is call =
-    let continues = binds-continue call.point.handed_out call.point.ring.chapter call.was_ring.has_chapters.binds in
-    record {
-      point = call.point;
-      left = call.left;
-      goes_on = call.goes_on;
-      was_ring = call.was_ring;
-      called = (
-        ap (λ hs. chaptered_ring hs call.left.ring) call.called.0 ∙ ap (chaptered_ring call.point.handed_out) call.called.1.same,
-        producer-same (joined call.point.handed_out) call.point.ring call.left.ring continues ∙ sym call.called.1.producer_is ∙ sym is,
-      );
-      is_ring = call.is_ring;
-      seen = call.seen;
-    }
+pub told_end : (worker : ℕ) (seen now : Book) (room cut : ℕ) (audit : Audit) (position : ℕ) → position ≡ audit.producer → LockedCall (Worker worker) seen now (InRoom room cut (Audits worker audit))
+    → LockedCall (Worker worker) seen now (InRoom room cut (λ old new. (new ≡ old) × (producer_now old ≡ position)))
+told_end worker seen now room cut audit position is =
+    called-as (Worker worker) seen now room cut (Audits worker audit) (λ old new. (new ≡ old) × (producer_now old ≡ position)) (λ old new audits. (audits.same, sym audits.producer_is ∙ sym is))
 
 -- lists that are the same from some place on
 pub left_at : {X : Type 0} (xs ys : List X) (n : ℕ) (d : X) → n < length xs → n < length ys → drop n xs ≡ drop n ys → get_or xs n d ≡ get_or ys n d

@@ -1,16 +1,17 @@
 -- What is taken of rings, each up to where its producer stands. Each call is told by the ring's chapter and over its whole history: the entries
 -- of the chapters that were handed out, then those of its own (own).
-use Rattle.std.specs.Prelude.{◌≡◌, ◌+◌, List, [], ◌∷◌}
+use Rattle.std.specs.Prelude.{◌≡◌, ℕ, ◌+◌, List, [], ◌∷◌}
 use Rattle.std.specs.List.{AllZip}
 use Rattle.rb_history.specs.Calls.{producer_now}
 use Rattle.rb_history.specs.declared.answers.Taken.{Taken}
 use Rattle.rb_history.specs.declared.answers.Taken.TheVariants.{Event, Skipped, BusyFront, Empty}
-use Rattle.rb_ledger.specs.LockedCalls.{TakesAt, IsTakenAt, span_in, got_by}
+use Rattle.rb_ledger.specs.LockedCalls.{LockedCall, TakesAt, IsTakenAt, span_in, got_by}
 use Rattle.rb_ledger.specs.Roles.{Book, BeginsWith}
 use Rattle.rb_ledger.specs.Roles.Role.{Consumer, Worker}
 use Rattle.rb_ledger.specs.Seats.{Shared, WorkerSeat}
 use Rattle.rb_ledger.specs.ChapteredRing.{whole_of}
 use Rattle.rb_ledger.specs.ChapterSeats.{ChapterConsumerSeat}
+use Rattle.rb_ledger.specs.EntryRoom.{InRoom}
 use Rattle.rb_ledger.specs.LockedChapterCalls.{LockedChapterCall, InKnownChapter, TakesInChapter}
 
 -- ---- one ring
@@ -51,9 +52,10 @@ TakesEach before (taken ∷ more) after =
 -- the consumer took these records, up to the producer position that the worker's seat was told: none is left that the worker knows of
 pub record DrainsRing (seat : WorkerSeat) (consumer : ChapterConsumerSeat) (records : List Taken) : Type 0 where
   pub seen : Book
+  pub cut : ℕ
   pub after : ChapterConsumerSeat
   pub each : TakesEach consumer records after
-  pub none_left : LockedChapterCall (Worker seat.worker) seat.seen seen (λ old new. (new ≡ old) × (producer_now (whole_of old) ≡ after.position))
+  pub none_left : LockedCall (Worker seat.worker) seat.seen seen (InRoom seat.room cut (λ old new. (new ≡ old) × (producer_now old ≡ after.position)))
 
 -- ---- all rings
 

@@ -11,7 +11,7 @@ use Rattle.rb_chapter_ring.specs.declared.faults.ReserveFault.TheVariants.{Flags
 use Rattle.rb_chapter_ring.specs.RingFaults.{RefusesInChapter}
 use Rattle.rb_chapter_ring.specs.HandRing.{HandRing, GrantsToHand}
 use Rattle.rb_chapter_ring.specs.HandGranted.{HandGranted}
-use Rattle.rb_shared_ring.specs.SharedCalls.{OutputsInChapter}
+use Rattle.rb_shared_ring.specs.inner.ChapterAnswers.{OutputsInChapter}
 use Rattle.rb_shared_ring.specs.inner.HandCalls.{ReservesToHand}
 
 pub meets-reserve : (old new : HandRing) (w hand n : ℕ) (a : Result HandGranted (ReserveFault × List ℕ)) → IfOk a (λ r. GrantsToHand old new w hand n r.granted.pos r.granted.serial) → IfOk a (λ r. r.granted.worker ≡ w)

@@ -13,7 +13,8 @@ use Rattle.rb_ledger.specs.Roles.Role.{Worker}
 use Rattle.rb_ledger.proofs.Histories.{all-seen}
 use Rattle.rb_ledger.specs.ChapteredRing.{ChapteredRing, chaptered_ring, whole_of}
 use Rattle.rb_ledger.specs.ChapterLockSteps.{MayPutChapter, PutsChapterState, chapter_view_after_put, chaptered_after}
-use Rattle.rb_ledger.specs.LockedChapterCalls.{LockedChapterCall, InRoomAt}
+use Rattle.rb_ledger.specs.LockedChapterCalls.{LockedChapterCall}
+use Rattle.rb_ledger.specs.inner.ChapterRooms.{InRoomAt}
 use Rattle.rb_ledger.proofs.ChapterSteps.{has-same, handed-out-same}
 use Rattle.rb_chapter_ring.specs.declared.out_record.OutRecord.{OutRecord}
 use Rattle.rb_chapter_ring.specs.Hands.{out_record, Hands, HandBook, in_hand, hands_of, hand_at, with_hand, IsFree}

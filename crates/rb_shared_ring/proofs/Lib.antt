@@ -1,6 +1,7 @@
 mod LockedSteps
 mod ChapterPassing
 pub mod WholeAnswers
+mod RoomCalls
 mod WorkerPassing
 mod HandPassing
 mod SeatPassing

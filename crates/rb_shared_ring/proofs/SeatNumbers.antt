@@ -5,17 +5,15 @@ use Rattle.rb_history.specs.declared.answers.Notice.{Notice}
 use Rattle.rb_history.specs.declared.answers.Stray.{Stray}
 use Rattle.rb_history.specs.declared.tally.Tally.{Tally}
 use Rattle.rb_history.specs.ReservationModel.{Granted}
-use Rattle.rb_history.specs.WorkerCounts.{tally_of, numbers_below}
+use Rattle.rb_history.specs.WorkerCounts.{numbers_below}
 use Rattle.rb_history.proofs.Settled.{settled-most}
 use Rattle.rb_history.proofs.Tallies.{grants-low}
-use Rattle.rb_chapter_ring.specs.Opening.{tally_at}
 use Rattle.rb_chapter_ring.specs.CountedFrom.{tally_from}
 use Rattle.std.proofs.lemmas.List.{length-map}
 use Rattle.rb_chapter_ring.specs.Chapters.{Chapter, joined, closing_of}
 use Rattle.rb_chapter_ring.specs.ChapterRing.{ChapterRing}
-use Rattle.rb_chapter_ring.specs.WholeHistory.{ContinuesHistory}
 use Rattle.rb_chapter_ring.proofs.Limits.{spans-low}
-use Rattle.rb_chapter_ring.proofs.ChapterNumbers.{length-below, tally-after, tally-at}
+use Rattle.rb_chapter_ring.proofs.ChapterNumbers.{length-below}
 use Rattle.rb_chapter_ring.specs.declared.faults.ReserveFault.{ReserveFault}
 use Rattle.rb_chapter_ring.specs.declared.faults.ReserveFault.TheVariants.{Full, Flags, ChapterFull, Foreign, HandsFull}
 use Rattle.rb_chapter_ring.specs.RingFaults.{RefusesInChapter}
@@ -28,8 +26,10 @@ use Rattle.rb_ledger.proofs.Seated.{ring-book, ties-goes, reserve-ties, submit-t
 use Rattle.rb_ledger.specs.ChapteredRing.{ChapteredRing, chaptered_ring, whole_of}
 use Rattle.rb_ledger.specs.LockedChapterCalls.{LockedChapterCall, InOneChapter, SubmitsInChapter, DiscardsInChapter, QueriesInChapter}
 use Rattle.rb_chapter_ring.proofs.Chain.{binds-continue}
-use Rattle.rb_ledger.proofs.WholeCalls.{said, call-whole, with-worker, each-call-is-whole}
-use Rattle.rb_shared_ring.specs.SharedCalls.{ReservesInChapter, OutputsInChapter, AuditsInChapter, IsRefusedInChapterAs, reserved_in_chapter_by, output_in_chapter_by}
+use Rattle.rb_ledger.proofs.WholeCalls.{call-whole, with-worker, each-call-is-whole}
+use Rattle.rb_ledger.proofs.EntryRoom.{totals-are}
+use Rattle.rb_shared_ring.specs.SharedCalls.{IsRefusedInChapterAs, reserved_in_chapter_by, output_in_chapter_by}
+use Rattle.rb_shared_ring.specs.inner.ChapterAnswers.{ReservesInChapter, OutputsInChapter, AuditsInChapter}
 use Rattle.rb_chapter_ring.specs.Hands.{Hands}
 use Rattle.rb_ledger.specs.HandKnowledge.{HandPassView}
 use Rattle.rb_ledger.specs.NoStranger.{HoldsOwnBusy}
@@ -61,13 +61,6 @@ tied-low w t b book ties =
 -- a seat's hands after a call are those that its pass shows then
 pub keeps-hands : (before after : HandPassView) (w : ℕ) (old new : Hands) → KeepsHands before w old → hands_by after ≡ new → length new ≡ 4 → HoldsOwnBusy (hands_by after) w (seen_with after).history → KeepsHands after w new
 keeps-hands before after w old new keeps shows four holds = record { shows = shows; four = four; holds = subst (λ hs. HoldsOwnBusy hs w (seen_with after).history) shows holds }
-
--- a worker's totals by the chapter are those of the whole history
-pub totals-are : (earlier : List Entry) (old new : ChapterRing) (w : ℕ) → ContinuesHistory earlier old.chapter → w < old.chapter.opening.setup.workers → tally_from old.chapter.opening w old.chapter.entries ≡ tally_of w (earlier ++ old.chapter.entries)
-totals-are earlier old new w is low =
-    sym (tally-after old.chapter.opening old.chapter.entries w low)
-    ∙ ap (λ o. tally_at o w) (said earlier old new is).stands
-    ∙ tally-at old.chapter.opening.setup (earlier ++ old.chapter.entries) w low
 
 -- ---- for a seat, from what it had seen to what it has seen
 

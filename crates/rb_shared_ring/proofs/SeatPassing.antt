@@ -14,7 +14,8 @@ use Rattle.rb_chapter_ring.specs.HandGranted.{HandGranted}
 use Rattle.rb_ledger.specs.HandKnowledge.{HandPassView, without_hands}
 use Rattle.rb_ledger.specs.HandLockSteps.{TakesHandState, MayPutHands, PutsHandState}
 use Rattle.rb_shared_ring.specs.declared.audit.Audit.{Audit}
-use Rattle.rb_shared_ring.specs.SharedCalls.{IsRefusedInChapterAs, ReservesInChapter, OutputsInChapter, AuditsInChapter, granted_in, hands_reserved, sent_by_chapter_output}
+use Rattle.rb_shared_ring.specs.SharedCalls.{IsRefusedInChapterAs, granted_in, hands_reserved, sent_by_chapter_output}
+use Rattle.rb_shared_ring.specs.inner.ChapterAnswers.{ReservesInChapter, OutputsInChapter, AuditsInChapter}
 use Rattle.rb_shared_ring.specs.inner.HandCalls.{ReservesToHand, SubmitsOut, DiscardsOut, LeavesHands}
 use Rattle.rb_shared_ring.specs.inner.HandPasses.{bytes_with, hands_by, IsIdleWith}
 use Rattle.rb_shared_ring.specs.inner.LentState.{IsKeptHandRing}

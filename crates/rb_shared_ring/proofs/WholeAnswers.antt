@@ -25,7 +25,8 @@ use Rattle.rb_ledger.specs.LockedCalls.{Reserves, OutputsAt, reserved_by, output
 use Rattle.rb_ledger.specs.LockedChapterCalls.{SubmitsInChapter, DiscardsInChapter}
 use Rattle.rb_ledger.proofs.WholeCalls.{said, due-same}
 use Rattle.rb_shared_ring.specs.AnswersOverAll.{whole_fault, whole_answer}
-use Rattle.rb_shared_ring.specs.SharedCalls.{ReservesInChapter, OutputsInChapter, reserved_in_chapter_by, output_in_chapter_by, sent_by_chapter_output}
+use Rattle.rb_shared_ring.specs.SharedCalls.{reserved_in_chapter_by, output_in_chapter_by, sent_by_chapter_output}
+use Rattle.rb_shared_ring.specs.inner.ChapterAnswers.{ReservesInChapter, OutputsInChapter}
 
 -- ---- answers
 
@@ -48,14 +49,14 @@ pub sent-output : (m : Contents) (p q : ℕ) (b : List ℕ) (a : Result Notice (
 sent-output m p q b (Ok n) same = ap (λ x. sent_by_chapter_output m x b (Ok n)) same
 sent-output m p q b (Err e) same = refl
 
-flags-not : (f : ReserveFault) → f ≢ Flags → whole_fault f ≢ WholeFlags
+pub flags-not : (f : ReserveFault) → f ≢ Flags → whole_fault f ≢ WholeFlags
 flags-not Full off e = let no_way : WholeFull ≡ WholeFlags = e in cc
 flags-not Flags off e = absurd (off refl)
 flags-not ChapterFull off e = let no_way : Memory ≡ WholeFlags = e in cc
 flags-not Foreign off e = let no_way : WholeForeign ≡ WholeFlags = e in cc
 flags-not HandsFull off e = let no_way : WholeForeign ≡ WholeFlags = e in cc
 
-flags-exact : (f : ReserveFault) (X : Type 0) → (f ≡ Flags) ↔ X → (whole_fault f ≡ WholeFlags) ↔ X
+pub flags-exact : (f : ReserveFault) (X : Type 0) → (f ≡ Flags) ↔ X → (whole_fault f ≡ WholeFlags) ↔ X
 flags-exact Full X is = ((λ e. let no_way : WholeFull ≡ WholeFlags = e in cc), (λ x. let no_way : Full ≡ Flags = is.1 x in cc))
 flags-exact Flags X is = ((λ e. is.0 refl), (λ x. refl))
 flags-exact ChapterFull X is = ((λ e. let no_way : Memory ≡ WholeFlags = e in cc), (λ x. let no_way : ChapterFull ≡ Flags = is.1 x in cc))

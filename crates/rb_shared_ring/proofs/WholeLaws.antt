@@ -1,35 +1,38 @@
--- Each call by the ring's chapter, with its answer, is a call over the whole history.
-use Rattle.std.proofs.Common.{ℕ, ◌<◌, List, ap, ◌∙◌}
-use Rattle.rb_history.specs.declared.entries.Entry.{Entry}
-use Rattle.rb_chapter_ring.specs.Opening.{Opening}
-use Rattle.rb_chapter_ring.specs.ChapterRing.{ChapterRing, whole_ring}
-use Rattle.rb_chapter_ring.specs.WholeHistory.{ContinuesHistory}
-use Rattle.rb_chapter_ring.specs.OpenedRing.{capped_counts}
-use Rattle.rb_shared_ring.specs.declared.audit.Audit.{Audit}
+-- Each call with room for entries, by its answer, is a call over the whole history.
+use Rattle.std.proofs.Common.{◌≡◌, ◌≢◌, ◌↔◌, ℕ, List, length, Result, Ok, Err}
+use Rattle.rb_history.specs.declared.answers.Notice.{Notice}
+use Rattle.rb_history.specs.ReservationModel.{Granted}
+use Rattle.rb_history.specs.RingModel.{Ring}
+use Rattle.rb_history.specs.Calls.{Refuses}
+use Rattle.rb_chapter_ring.specs.declared.faults.ReserveFault.{ReserveFault}
+use Rattle.rb_chapter_ring.specs.declared.faults.ReserveFault.TheVariants.{Full, Flags, ChapterFull, Foreign, HandsFull}
 use Rattle.rb_ledger.specs.Roles.Role.{Worker}
 use Rattle.rb_ledger.specs.LockedCalls.{Reserves, OutputsAt}
-use Rattle.rb_ledger.proofs.WholeCalls.{said, call-whole, with-worker}
-use Rattle.rb_shared_ring.specs.SharedCalls.{ReservesInChapter, OutputsInChapter, AuditsInChapter}
-use Rattle.rb_shared_ring.specs.AnswersOverAll.{whole_answer, TellsWhole, EachAnswerIsWhole}
-use Rattle.rb_shared_ring.proofs.WholeAnswers.{reserves-whole, outputs-whole}
-use Rattle.rb_shared_ring.proofs.SeatNumbers.{totals-are}
+use Rattle.rb_ledger.proofs.EntryRoom.{without-room}
+use Rattle.rb_shared_ring.specs.SharedCalls.{RefusesInRoom, ReservesInRoom, OutputsInRoom}
+use Rattle.rb_shared_ring.specs.AnswersOverAll.{whole_fault, whole_answer, EachAnswerIsWhole}
+use Rattle.rb_shared_ring.proofs.WholeAnswers.{flags-not, flags-exact}
 use Rattle.rb_shared_ring.proofs.TakenNumbers.{many-turn}
 
-audits-whole : (earlier : List Entry) (old new : ChapterRing) → ContinuesHistory earlier old.chapter → (w : ℕ) (a : Audit) → w < old.chapter.opening.setup.workers → AuditsInChapter w a old new → TellsWhole w a (whole_ring earlier old) (whole_ring earlier new)
-audits-whole earlier old new is w a low x =
-    let same = said earlier old new is in
-    record {
-      producer_is = x.producer_is ∙ ap (λ (o : Opening). o.producer) same.stands;
-      consumer_is = x.consumer_is ∙ ap (λ (o : Opening). o.consumer) same.stands;
-      counts_are = x.counts_are ∙ ap capped_counts same.counts;
-      own_is = x.own_is ∙ totals-are earlier old new w is low;
-      same = ap (whole_ring earlier) x.same;
-    }
+refuses-over-all : (room cut w n : ℕ) (f : ReserveFault) (old new : Ring) → RefusesInRoom room cut old new w n f → Refuses old new w n (whole_fault f)
+refuses-over-all room cut w n Full old new a = a.0
+refuses-over-all room cut w n Flags old new a = a
+refuses-over-all room cut w n ChapterFull old new a = a.same
+refuses-over-all room cut w n Foreign old new a = a
+refuses-over-all room cut w n HandsFull old new a = a
+
+reserves-over-all : (room cut w n : ℕ) (a : Result Granted (ReserveFault × List ℕ)) (old new : Ring) → ReservesInRoom room cut w n a old new → Reserves w n (whole_answer a) old new
+reserves-over-all room cut w n (Ok r) old new a = (a.0, a.2, a.3)
+reserves-over-all room cut w n (Err e) old new a = (refuses-over-all room cut w n e.0 old new a.0, flags-not e.0 a.1)
+
+outputs-over-all : (room cut w : ℕ) (b : List ℕ) (flags : ℕ) (a : Result Notice (ReserveFault × List ℕ)) (old new : Ring) → OutputsInRoom room cut w b flags a old new → OutputsAt w b flags (whole_answer a) old new
+outputs-over-all room cut w b flags (Ok n) old new a = (a.0, a.2, a.3)
+outputs-over-all room cut w b flags (Err e) old new a = (refuses-over-all room cut w (length b) e.0 old new a.0, flags-exact e.0 _ a.1)
 
 pub each-answer-is-whole : EachAnswerIsWhole
 each-answer-is-whole before after = record {
-  reserves = λ w n answer low t. call-whole (Worker w) before after _ (Reserves w n (whole_answer answer)) (λ earlier old new is x. reserves-whole earlier old new is w n answer x.0 x.1) (with-worker (Worker w) before after (ReservesInChapter w n answer) (λ old new. Unit {0}) w low t);
-  outputs = λ w bytes flags answer low t. call-whole (Worker w) before after _ (OutputsAt w bytes flags (whole_answer answer)) (λ earlier old new is x. outputs-whole earlier old new is w bytes flags answer x.0 x.1) (with-worker (Worker w) before after (OutputsInChapter w bytes flags answer) (λ old new. Unit {0}) w low t);
-  audits = λ w a low t. call-whole (Worker w) before after _ (TellsWhole w a) (λ earlier old new is x. audits-whole earlier old new is w a x.0 x.1) (with-worker (Worker w) before after (AuditsInChapter w a) (λ old new. Unit {0}) w low t);
+  reserves = λ room cut w n answer. without-room (Worker w) before after room cut (ReservesInRoom room cut w n answer) (Reserves w n (whole_answer answer)) (reserves-over-all room cut w n answer);
+  outputs = λ room cut w bytes flags answer.
+      without-room (Worker w) before after room cut (OutputsInRoom room cut w bytes flags answer) (OutputsAt w bytes flags (whole_answer answer)) (outputs-over-all room cut w bytes flags answer);
   takes_many = λ handed_out n taken t. many-turn before after handed_out n taken t;
 }

@@ -21,12 +21,14 @@ use Rattle.rb_ledger.proofs.Passing.{after-same, after-reserve, after-submit, af
 use Rattle.rb_ledger.specs.ChapteredRing.{ChapteredRing, chaptered_ring, whole_of}
 use Rattle.rb_ledger.specs.ChapterKnowledge.{ChapterPassView}
 use Rattle.rb_ledger.specs.ChapterLockSteps.{TakesChapterState, MayPutChapter, PutsChapterState}
-use Rattle.rb_ledger.specs.LockedChapterCalls.{LockedChapterCall, InRoomAt, SubmitsInChapter, DiscardsInChapter, QueriesInChapter}
+use Rattle.rb_ledger.specs.LockedChapterCalls.{LockedChapterCall, SubmitsInChapter, DiscardsInChapter, QueriesInChapter}
+use Rattle.rb_ledger.specs.inner.ChapterRooms.{InRoomAt}
 use Rattle.rb_chapter_ring.proofs.Chain.{binds-continue}
 use Rattle.rb_ledger.proofs.WholeCalls.{submits-whole, discards-whole, queries-whole}
 use Rattle.rb_shared_ring.specs.inner.SeatPasses.{seen_by, bytes_by, room_by, IsIdleIn}
 use Rattle.rb_shared_ring.specs.inner.LentState.{IsKeptRing}
-use Rattle.rb_shared_ring.specs.SharedCalls.{ReservesInChapter, OutputsInChapter, AuditsInChapter, sent_by_chapter_output}
+use Rattle.rb_shared_ring.specs.SharedCalls.{sent_by_chapter_output}
+use Rattle.rb_shared_ring.specs.inner.ChapterAnswers.{ReservesInChapter, OutputsInChapter, AuditsInChapter}
 use Rattle.rb_shared_ring.proofs.ChapterPassing.{HeldChapter, held-in, held-is-out, may-put-in, idle-in, bytes-in, room-in, is-locked-in}
 use Rattle.rb_shared_ring.specs.AnswersOverAll.{whole_answer}
 use Rattle.rb_shared_ring.proofs.WholeAnswers.{stays, same-reserved, same-output, same-submitted, same-discarded, reserves-whole, outputs-whole, producer-same, sent-output}

@@ -1,4 +1,4 @@
--- What the calls on a shared ring over chapters do and answer, beside those that rb_ledger defines; and what an answer adds to a
+-- What the calls on a shared ring do and answer at one point of its whole history, beside those that rb_ledger defines; and what an answer adds to a
 -- seat's numbers and bytes (own).
 use Rattle.std.specs.Prelude.{◌≡◌, ◌≢◌, ℕ, ◌+◌, ◌≤◌, ◌<◌, ◌↔◌, List, Option, Some, None, length, replicate, slice_set as set, Result, Ok, Err}
 use Rattle.std.specs.FinMap.{insert}
@@ -7,39 +7,47 @@ use Rattle.rb_history.specs.declared.answers.Notice.TheVariants.{Due}
 use Rattle.rb_history.specs.declared.tally.Tally.{Tally}
 use Rattle.rb_history.specs.ReservationModel.{Granted}
 use Rattle.rb_history.specs.NoticesAndQueries.{IsDue}
-use Rattle.rb_history.specs.RingModel.{Contents}
-use Rattle.rb_chapter_ring.specs.CountedFrom.{tally_from}
-use Rattle.rb_chapter_ring.specs.ChapterRing.{ChapterRing}
-use Rattle.rb_chapter_ring.specs.ChapterCalls.{Grants, Outputs, producer_now, consumer_now}
+use Rattle.rb_history.specs.Counting.{counts_of}
+use Rattle.rb_history.specs.WorkerCounts.{tally_of}
+use Rattle.rb_history.specs.RingModel.{Ring, Contents}
+use Rattle.rb_history.specs.Calls.{Grants, FindsFull, Outputs, producer_now, consumer_now}
 use Rattle.rb_chapter_ring.specs.declared.faults.ReserveFault.{ReserveFault}
 use Rattle.rb_chapter_ring.specs.declared.faults.ReserveFault.TheVariants.{Full, Flags, ChapterFull, Foreign, HandsFull}
-use Rattle.rb_chapter_ring.specs.OpenedRing.{told_counts}
-use Rattle.rb_chapter_ring.specs.RingFaults.{RefusesInChapter}
+use Rattle.rb_chapter_ring.specs.OpenedRing.{capped_counts}
 use Rattle.rb_chapter_ring.specs.declared.out_record.OutRecord.{OutRecord}
 use Rattle.rb_chapter_ring.specs.Hands.{Hands, in_hand, out_record}
 use Rattle.rb_chapter_ring.specs.HandGranted.{HandGranted}
 use Rattle.rb_ledger.specs.Seats.{Shared, WorkerSeat}
+use Rattle.rb_ledger.specs.EntryRoom.{HasGrantRoom, HasRefusalRoom, FindsNoEntryRoom}
 use Rattle.rb_shared_ring.specs.declared.audit.Audit.{Audit}
 
--- ---- the calls, as their arguments and answers say
+-- ---- the calls, as their arguments and answers say, of a ring with this room for entries, of whose history the first `cut` were handed out
 
--- a record is granted where the ring has room for it and the chapter for all that it will log. It is Full, and logged, where the ring has no
--- room and the refusal may be logged. Else it is ChapterFull, and nothing changes
-abbrev pub ReservesInChapter : ℕ → ℕ → Result Granted (ReserveFault × List ℕ) → ChapterRing → ChapterRing → Type 0
-ReservesInChapter w n (Ok r) old new = Grants old new w n r.pos r.serial × (r.worker ≡ w) × (r.bytes ≡ replicate n 0)
-ReservesInChapter w n (Err e) old new = RefusesInChapter old new w n e.0 × (e.0 ≢ Flags)
+-- why no record of n bytes was granted to the worker. It is Full, and logged, where the ring has no room for the record and the refusal may be logged;
+-- ChapterFull, and nothing changes, where there is no room for the entry that would be logged. What a seat is refused before makes no call
+abbrev pub RefusesInRoom : (room cut : ℕ) → Ring → Ring → ℕ → ℕ → ReserveFault → Type 0
+RefusesInRoom room cut old new w n Full = FindsFull old new w n × HasRefusalRoom room cut w old
+RefusesInRoom room cut old new w n ChapterFull = FindsNoEntryRoom room cut old new w n
+RefusesInRoom room cut old new w n Flags = new ≡ old
+RefusesInRoom room cut old new w n Foreign = ⊥
+RefusesInRoom room cut old new w n HandsFull = ⊥
 
-abbrev pub OutputsInChapter : ℕ → List ℕ → ℕ → Result Notice (ReserveFault × List ℕ) → ChapterRing → ChapterRing → Type 0
-OutputsInChapter w bytes flags (Ok notice) old new = Outputs old new w bytes × ((notice ≡ Due) ↔ IsDue (consumer_now old) (producer_now old) flags) × (flags ≤ 3)
-OutputsInChapter w bytes flags (Err e) old new = RefusesInChapter old new w (length bytes) e.0 × ((e.0 ≡ Flags) ↔ (3 < flags))
+-- a record is granted where the ring has room for it, and for all that it will log
+abbrev pub ReservesInRoom : (room cut : ℕ) → ℕ → ℕ → Result Granted (ReserveFault × List ℕ) → Ring → Ring → Type 0
+ReservesInRoom room cut w n (Ok r) old new = Grants old new w n r.pos r.serial × HasGrantRoom room cut old × (r.worker ≡ w) × (r.bytes ≡ replicate n 0)
+ReservesInRoom room cut w n (Err e) old new = RefusesInRoom room cut old new w n e.0 × (e.0 ≢ Flags)
 
--- the positions, the counts of the whole history, and the numbers of the worker's entries there. Of the refusals of all workers it tells
--- 2^64 - 1 at most
-pub record AuditsInChapter (w : ℕ) (a : Audit) (old new : ChapterRing) : Type 0 where
+abbrev pub OutputsInRoom : (room cut : ℕ) → ℕ → List ℕ → ℕ → Result Notice (ReserveFault × List ℕ) → Ring → Ring → Type 0
+OutputsInRoom room cut w bytes flags (Ok notice) old new =
+    Outputs old new w bytes × HasGrantRoom room cut old × ((notice ≡ Due) ↔ IsDue (consumer_now old) (producer_now old) flags) × (flags ≤ 3)
+OutputsInRoom room cut w bytes flags (Err e) old new = RefusesInRoom room cut old new w (length bytes) e.0 × ((e.0 ≡ Flags) ↔ (3 < flags))
+
+-- the positions, the counts and the numbers of the worker's entries are those of the whole history. Of the refusals of all workers it tells 2^64 - 1 at most
+pub record Audits (w : ℕ) (a : Audit) (old new : Ring) : Type 0 where
   pub producer_is : a.producer ≡ producer_now old
   pub consumer_is : a.consumer ≡ consumer_now old
-  pub counts_are : a.counts ≡ told_counts old
-  pub own_is : a.own ≡ tally_from old.chapter.opening w old.chapter.entries
+  pub counts_are : a.counts ≡ capped_counts (counts_of old.history)
+  pub own_is : a.own ≡ tally_of w old.history
   pub same : new ≡ old
 
 -- the answer is this refusal

@@ -3,3 +3,4 @@ pub mod LentState
 pub mod SeatsKeep
 pub mod HandPasses
 pub mod HandCalls
+pub mod ChapterAnswers

@@ -5,9 +5,13 @@ ghost use Rattle.crossbeam_queue.specs.Passes.{view, IsPassOf, IsSamePass, ruled
 ghost use Rattle.rb_chapter_ring.specs.Opening.{no_tally};
 ghost use Rattle.rb_ledger.specs.Roles.Role.{Worker};
 ghost use Rattle.rb_ledger.specs.Seats.{IsSameSeat};
-ghost use Rattle.rb_ledger.specs.LockedChapterCalls.{LockedChapterCall, InRoomAt};
+ghost use Rattle.rb_ledger.specs.LockedCalls.{LockedCall};
+ghost use Rattle.rb_ledger.specs.LockedChapterCalls.{LockedChapterCall};
+ghost use Rattle.rb_ledger.specs.EntryRoom.{InRoom};
+ghost use Rattle.rb_ledger.specs.inner.ChapterRooms.{InRoomAt};
 ghost use Rattle.rb_ledger.specs.NoStranger.{HoldsOwnBusy};
-ghost use Rattle.rb_shared_ring.specs.SharedCalls.{AuditsInChapter};
+ghost use Rattle.rb_shared_ring.specs.SharedCalls.{Audits};
+ghost use Rattle.rb_shared_ring.specs.inner.ChapterAnswers.{AuditsInChapter};
 ghost use Rattle.rb_shared_ring.specs.inner.HandCalls.{LeavesHands};
 ghost use Rattle.rb_shared_ring.specs.inner.HandPasses.{seen_with, bytes_with, room_with, hands_by, cut_by, IsIdleWith};
 
@@ -87,7 +91,7 @@ impl SharedRing {
         ensures unchanged { me.old.tag ≢ self.now.tag → me.new ≡ me.old }
         ensures seat { IsSameSeat me.old me.new }
         ensures released { (me.old.out ≡ None) × (me.new.out ≡ None) }
-        ensures call { IfOk result (λ a. LockedChapterCall (Worker me.old.worker) me.old.seen me.new.seen (InRoomAt me.old.room me.new.cut (AuditsInChapter me.old.worker a))) }
+        ensures call { IfOk result (λ a. LockedCall (Worker me.old.worker) me.old.seen me.new.seen (InRoom me.old.room me.new.cut (Audits me.old.worker a))) }
         ensures own { IfOk result (λ a. a.own ≡ me.old.tally) }
         ensures tally { me.new.tally ≡ me.old.tally }
         ensures hands { me.new.hands ≡ me.old.hands }

@@ -6,14 +6,16 @@ ghost use Rattle.std.specs.Fn.{FnOnceTakesAtMut, FnOnceReturnsAtMut};
 ghost use Rattle.crossbeam_queue.specs.Passes.{view, IsPassOf, IsSamePass, ruled_capacity};
 ghost use Rattle.rb_chapter_ring.specs.ChapterCalls.{producer_now};
 ghost use Rattle.rb_ledger.specs.Roles.Role.{Worker};
-ghost use Rattle.rb_ledger.specs.LockedChapterCalls.{LockedChapterCall, InRoomAt, QueriesInChapter, SubmitsInChapter, DiscardsInChapter};
+ghost use Rattle.rb_ledger.specs.LockedChapterCalls.{LockedChapterCall, QueriesInChapter, SubmitsInChapter, DiscardsInChapter};
+ghost use Rattle.rb_ledger.specs.inner.ChapterRooms.{InRoomAt};
 ghost use Rattle.rb_chapter_ring.specs.Hands.{out_record, in_hand, hands_of, IsFree};
 ghost use Rattle.rb_chapter_ring.specs.HandRing.{HasInHand};
 ghost use Rattle.rb_ledger.specs.NoStranger.{HoldsOwnBusy};
 ghost use Rattle.rb_shared_ring.specs.inner.HandPasses.{seen_with, bytes_with, room_with, hands_by, cut_by, IsIdleWith};
 ghost use Rattle.rb_shared_ring.specs.inner.HandCalls.{ReservesToHand, SubmitsOut, DiscardsOut, LeavesHands};
 ghost use Rattle.rb_shared_ring.specs.inner.LentState.{IsKeptHandRing, MayLend, MayCall, LendsState};
-ghost use Rattle.rb_shared_ring.specs.SharedCalls.{ReservesInChapter, OutputsInChapter, granted_in, hands_reserved, sent_by_chapter_output};
+ghost use Rattle.rb_shared_ring.specs.SharedCalls.{granted_in, hands_reserved, sent_by_chapter_output};
+ghost use Rattle.rb_shared_ring.specs.inner.ChapterAnswers.{ReservesInChapter, OutputsInChapter};
 
 use crate::lock::{Lock, RingPass, put_back, take_out};
 use rb_chapter_ring::{HandState, Reservation, ReserveFault};

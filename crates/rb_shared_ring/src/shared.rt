@@ -3,13 +3,13 @@
 ghost use Rattle.std.specs.Prelude.{◌≡◌, ◌≢◌, ◌↔◌, ◌⊎◌, Ok, IfOk, OnOk, IfErr, IsOk, IsErr, IsTrue, None, length, slice_set};
 ghost use Rattle.std.specs.FinMap.{insert};
 ghost use Rattle.rb_chapter_ring.specs.declared.faults.ReserveFault.TheVariants.{Foreign as FaultForeign, HandsFull};
-ghost use Rattle.rb_chapter_ring.specs.ChapterCalls.{producer_now};
+ghost use Rattle.rb_history.specs.Calls.{producer_now};
 ghost use Rattle.rb_chapter_ring.specs.Hands.{AreAllOut, IsLowestFree};
 ghost use Rattle.rb_ledger.specs.Roles.Role.{Worker};
 ghost use Rattle.rb_ledger.specs.Seats.{IsSameSeat};
-ghost use Rattle.rb_ledger.specs.LockedCalls.{submitted_by, discarded_by};
-ghost use Rattle.rb_ledger.specs.LockedChapterCalls.{LockedChapterCall, InRoomAt, SubmitsInChapter, DiscardsInChapter, QueriesInChapter};
-ghost use Rattle.rb_shared_ring.specs.SharedCalls.{ReservesInChapter, OutputsInChapter, IsInSeatsHand, IsRefusedInChapterAs, granted_in, hands_after_reserve, reserved_in_chapter_by, output_in_chapter_by, sent_by_chapter_output};
+ghost use Rattle.rb_ledger.specs.LockedCalls.{LockedCall, SubmitsAt, DiscardsAt, Queries, submitted_by, discarded_by};
+ghost use Rattle.rb_ledger.specs.EntryRoom.{InRoom};
+ghost use Rattle.rb_shared_ring.specs.SharedCalls.{ReservesInRoom, OutputsInRoom, IsInSeatsHand, IsRefusedInChapterAs, granted_in, hands_after_reserve, reserved_in_chapter_by, output_in_chapter_by, sent_by_chapter_output};
 
 use crate::lock::Lock;
 use crate::locked_calls::{discard_with, output_with, query_with, reserve_with, submit_with};
@@ -31,12 +31,11 @@ pub struct Foreign;
 /// ring of one thread, and no longer: when a call returns, its seat has the state no more (`released`), so no record is written under
 /// the lock. No call of a seat takes memory.
 ///
-/// Each call takes the caller's seat. The ring has one history: the entries of the chapters that were handed out, then those of the chapter
-/// under the lock. Up to the moment of the call it begins with all that the seat has seen, and what was added since is other roles'; there the
-/// ring of one thread answers as this call does, by its chapter, for the seat's worker; and the seat has then seen the whole history with
-/// this call in it (`call`). Which entries the chapter had then, and its room, the seat knows (`cut`, `room`), so that `ChapterFull` is told exactly
-/// where the chapter has no room. By that history each call is the one of a ring that keeps all its entries
-/// (`rb_ledger::each_locked_call_is_whole`). A seat that was opened with another tag is `Foreign`. Rings with the same tag are not told
+/// Each call takes the caller's seat. The ring has one history. Up to the moment of the call it begins with all that the seat has seen, and what
+/// was added since is other roles'; there the ring of one thread, with its whole history, answers as this call does for the seat's worker; and
+/// the seat has then seen the whole history with this call in it (`call`). Of that history the ring keeps the entries that were not handed out, and it
+/// has room for so many. The seat knows that room and how many were handed out (`room`, `cut`), so that `ChapterFull` is told exactly where there is no
+/// room for what the call would log. A seat that was opened with another tag is `Foreign`. Rings with the same tag are not told
 /// apart: each call requires that a seat with the ring's tag was opened with this ring.
 ///
 /// Each call may wait for other threads. No proof says that a call returns, that threads get their turns in any order, or how long
@@ -88,7 +87,7 @@ impl SharedRing {
         ensures unchanged { (me.old.tag ≢ self.now.tag) ⊎ AreAllOut me.old.hands → me.new ≡ me.old }
         ensures seat { IsSameSeat me.old me.new }
         ensures released { (me.old.out ≡ None) × (me.new.out ≡ None) }
-        ensures call { me.old.tag ≡ self.now.tag → ¬ AreAllOut me.old.hands → LockedChapterCall (Worker me.old.worker) me.old.seen me.new.seen (InRoomAt me.old.room me.new.cut (ReservesInChapter me.old.worker n (granted_in result))) }
+        ensures call { me.old.tag ≡ self.now.tag → ¬ AreAllOut me.old.hands → LockedCall (Worker me.old.worker) me.old.seen me.new.seen (InRoom me.old.room me.new.cut (ReservesInRoom me.old.room me.new.cut me.old.worker n (granted_in result))) }
         ensures tally { me.new.tally ≡ reserved_in_chapter_by me.old.tally (granted_in result) }
         ensures serial { IfOk result (λ r. r.granted.serial ≡ me.old.tally.made) }
         ensures tag { IfOk result (λ r. r.tag ≡ me.old.tag) }
@@ -142,7 +141,7 @@ impl SharedRing {
         ensures handed_back { IfErr result (λ back. (back ≡ reservation) × (me.new ≡ me.old)) }
         ensures seat { IsSameSeat me.old me.new }
         ensures released { (me.old.out ≡ None) × (me.new.out ≡ None) }
-        ensures call { IfOk result (λ notice. LockedChapterCall (Worker me.old.worker) me.old.seen me.new.seen (InRoomAt me.old.room me.new.cut (SubmitsInChapter reservation.granted flags (Ok notice)))) }
+        ensures call { IfOk result (λ notice. LockedCall (Worker me.old.worker) me.old.seen me.new.seen (InRoom me.old.room me.new.cut (SubmitsAt reservation.granted flags (Ok notice)))) }
         ensures tally { IfOk result (λ notice. me.new.tally ≡ submitted_by me.old.tally (Ok notice)) }
         ensures hands { OnOk result (me.new.hands ≡ slice_set me.old.hands reservation.hand None) }
         ensures sent { OnOk result (me.new.sent ≡ insert me.old.sent reservation.granted.pos reservation.granted.bytes) }
@@ -170,7 +169,7 @@ impl SharedRing {
         ensures handed_back { IfErr result (λ back. (back ≡ reservation) × (me.new ≡ me.old)) }
         ensures seat { IsSameSeat me.old me.new }
         ensures released { (me.old.out ≡ None) × (me.new.out ≡ None) }
-        ensures call { IfOk result (λ notice. LockedChapterCall (Worker me.old.worker) me.old.seen me.new.seen (InRoomAt me.old.room me.new.cut (DiscardsInChapter reservation.granted flags (Ok notice)))) }
+        ensures call { IfOk result (λ notice. LockedCall (Worker me.old.worker) me.old.seen me.new.seen (InRoom me.old.room me.new.cut (DiscardsAt reservation.granted flags (Ok notice)))) }
         ensures tally { IfOk result (λ notice. me.new.tally ≡ discarded_by me.old.tally (Ok notice)) }
         ensures hands { OnOk result (me.new.hands ≡ slice_set me.old.hands reservation.hand None) }
         ensures sent { me.new.sent ≡ me.old.sent }
@@ -199,7 +198,7 @@ impl SharedRing {
         ensures unchanged { me.old.tag ≢ self.now.tag → me.new ≡ me.old }
         ensures seat { IsSameSeat me.old me.new }
         ensures released { (me.old.out ≡ None) × (me.new.out ≡ None) }
-        ensures call { me.old.tag ≡ self.now.tag → LockedChapterCall (Worker me.old.worker) me.old.seen me.new.seen (InRoomAt me.old.room me.new.cut (λ old new. OutputsInChapter me.old.worker sheet flags result old new × (me.new.sent ≡ sent_by_chapter_output me.old.sent (producer_now old) sheet result))) }
+        ensures call { me.old.tag ≡ self.now.tag → LockedCall (Worker me.old.worker) me.old.seen me.new.seen (InRoom me.old.room me.new.cut (λ old new. OutputsInRoom me.old.room me.new.cut me.old.worker sheet flags result old new × (me.new.sent ≡ sent_by_chapter_output me.old.sent (producer_now old) sheet result))) }
         ensures tally { me.new.tally ≡ output_in_chapter_by me.old.tally result }
         ensures hands { me.new.hands ≡ me.old.hands }
         ensures handed_back { IfErr result (λ e. e.1 ≡ sheet) }
@@ -221,7 +220,7 @@ impl SharedRing {
         ensures unchanged { me.old.tag ≢ self.now.tag → me.new ≡ me.old }
         ensures seat { IsSameSeat me.old me.new }
         ensures released { (me.old.out ≡ None) × (me.new.out ≡ None) }
-        ensures call { IfOk result (λ n. LockedChapterCall (Worker me.old.worker) me.old.seen me.new.seen (InRoomAt me.old.room me.new.cut (QueriesInChapter what n))) }
+        ensures call { IfOk result (λ n. LockedCall (Worker me.old.worker) me.old.seen me.new.seen (InRoom me.old.room me.new.cut (Queries what n))) }
         ensures tally { me.new.tally ≡ me.old.tally }
         ensures hands { me.new.hands ≡ me.old.hands }
         ensures sent { me.new.sent ≡ me.old.sent }

@@ -1,6 +1,5 @@
 use Rattle.std.proofs.Common.{◌∙◌, refl, sym, subst}
 use Rattle.std.specs.Prelude.{IsNone}
-use Rattle.rb_ledger.proofs.WholeCalls.{in-one-chapter}
 use Rattle.rb_run_commands.specs.DrainedRings.{TakesEach}
 use Rattle.rb_run_commands.proofs.Draining.{each_then_none, each_then_one, told_end}
 use Rattle.rb_run_commands.proofs.drain.drain_ring.Goals as goal
@@ -9,9 +8,10 @@ pub returns-then-position-end : goal.returns-then-position-end
 returns-then-position-end g c = record {
   drained = record {
     seen = c.audit.new.me.seen;
+    cut = c.audit.new.me.cut;
     after = c.loop.consumer;
     each = c.loop.invariant.each;
-    none_left = told_end _ _ _ c.in-Ok.audit _ (sym c.position.ensures.position ∙ c.if-position-end.true) (in-one-chapter _ _ _ _ _ _ c.in-Ok.ensures.call);
+    none_left = told_end _ _ _ _ _ c.in-Ok.audit _ (sym c.position.ensures.position ∙ c.if-position-end.true) c.in-Ok.ensures.call;
   };
 }
 

@@ -1,6 +1,6 @@
 use Rattle.std.proofs.Common.{◌<◌, sym, subst}
 use Rattle.rb_chapter_ring.specs.HandRing.{HandRing}
-use Rattle.rb_shared_ring.specs.SharedCalls.{OutputsInChapter}
+use Rattle.rb_shared_ring.specs.inner.ChapterAnswers.{OutputsInChapter}
 use Rattle.rb_shared_ring.specs.inner.HandCalls.{LeavesHands}
 use Rattle.rb_shared_ring.proofs.HandPassing.{called-in-hands, worker-low}
 use Rattle.rb_shared_ring.proofs.SeatPassing.{put-out, output}

@@ -1,7 +1,7 @@
 use Rattle.std.proofs.Common.{◌≡◌, ◌<◌, Err, ap, arith, rules, length, refl}
 use Rattle.rb_jobs.specs.declared.no_record.NoRecord.TheVariants.{NoSheet}
 use Rattle.rb_jobs.specs.SeatHelpers.{AtSeats}
-use Rattle.rb_jobs.proofs.OneSeat.{is_seat, is_low, seat_there, stays_at, at_seat, at_same, sent_at, not_sent_at, sends_as}
+use Rattle.rb_jobs.proofs.OneSeat.{is_seat, seat_there, stays_at, at_seat, at_same, sent_at, not_sent_at, sends_as}
 use Rattle.rb_jobs.proofs.seat_helpers.SeatHelpers.try_output.Goals as goal
 use Rattle.rb_jobs.proofs.seat_helpers.SeatHelpers.try_output.Goals.{in-Ok, in-Err}
 
@@ -10,11 +10,6 @@ returns-in_err-sheet-clause-seat g c =
     let below : c.args.ring < length c.self.inside.rings.now = search rules in
     let why : c.from_residual.result ≡ Err NoSheet = search rules in
     λ few. sends_as c.args.bytes.now c.args.bytes.now c.args.flags _ _ (Err NoSheet) _ _ refl why (at_same _ c.args.self.now _ _ _ (ap (λ (h : AtSeats). h.seats) c.self.view_is) c.self.invariant.0 below (λ s. refl))
-
-pub index-seat-requires : goal.index-seat-requires
-index-seat-requires g c =
-    let below : c.args.ring < length c.self.inside.rings.now = search rules in
-    let seat = is_seat _ _ c.args.ring c.self.invariant.0 below in omega (arith, seat, c.self.inside.seats.ok.0)
 
 pub index_mut-requires : goal.index_mut-requires
 index_mut-requires g c =
@@ -34,11 +29,10 @@ returns-clause-seat g c =
     let below : c.args.ring < length c.self.inside.rings.now = search rules in
     let are = ap (λ (h : AtSeats). h.seats) c.self.view_is in
     let copied : c.in_ok-sheet.sheet ≡ c.args.bytes.now = search rules in
-    let low = is_low c.self.inside.seats.items c.args.ring _ _ (is_seat _ _ c.args.ring c.self.invariant.0 below) c.index-seat.ensures c.index_mut.ensures.value c.facts.ensures.ties in
     let tag = (seat_there _ _ _ _ _ c.self.invariant.0 below c.index_mut.ensures.value).0 in
     λ few. elim c.match-output.branch [
       | in-Ok w ↦ sends_as c.args.bytes.now c.in_ok-sheet.sheet c.args.flags _ _ _ _ _ copied w.result-is (at_seat _ c.args.self.now _ _ _ _ _ are c.self.invariant.0 below c.index_mut.ensures.value
-          (sent_at c.in_ok-sheet.sheet c.args.flags _ _ _ low c.output.ensures.seat c.output.ensures.released w.in-Ok.ensures.tally c.output.ensures.hands (w.in-Ok.ensures.call tag)))
+          (sent_at c.in_ok-sheet.sheet c.args.flags _ _ _ c.output.ensures.seat c.output.ensures.released w.in-Ok.ensures.tally c.output.ensures.hands (w.in-Ok.ensures.call tag)))
       | in-Err w ↦ sends_as c.args.bytes.now c.in_ok-sheet.sheet c.args.flags _ _ _ _ _ copied w.result-is (at_seat _ c.args.self.now _ _ _ _ _ are c.self.invariant.0 below c.index_mut.ensures.value
           (not_sent_at c.in_ok-sheet.sheet c.args.flags w.in-Err.refused _ _ few c.output.ensures.seat c.output.ensures.released w.in-Err.ensures.tally c.output.ensures.hands (w.in-Err.ensures.call tag)))
     ]

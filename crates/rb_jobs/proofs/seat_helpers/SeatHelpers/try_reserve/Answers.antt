@@ -1,7 +1,7 @@
 use Rattle.std.proofs.Common.{◌≡◌, ◌<◌, Err, inr, ap, arith, rules, length, refl}
 use Rattle.rb_jobs.specs.declared.no_record.NoRecord.TheVariants.{NoSheet}
 use Rattle.rb_jobs.specs.SeatHelpers.{AtSeats}
-use Rattle.rb_jobs.proofs.OneSeat.{is_seat, is_low, seat_there, stays_at, at_seat, at_same, is_four, granted_at, refused_at, granted_as, fails_as}
+use Rattle.rb_jobs.proofs.OneSeat.{is_seat, seat_there, stays_at, at_seat, at_same, is_four, granted_at, refused_at, granted_as, fails_as}
 use Rattle.rb_jobs.proofs.seat_helpers.SeatHelpers.try_reserve.Goals as goal
 use Rattle.rb_jobs.proofs.seat_helpers.SeatHelpers.try_reserve.Goals.{in-Ok, in-Err}
 
@@ -33,12 +33,11 @@ pub returns-clause-seat : goal.returns-clause-seat
 returns-clause-seat g c =
     let below : c.args.ring < length c.self.inside.rings.now = search rules in
     let are = ap (λ (h : AtSeats). h.seats) c.self.view_is in
-    let low = is_low c.self.inside.seats.items c.args.ring _ _ (is_seat _ _ c.args.ring c.self.invariant.0 below) c.index-seat.ensures c.index_mut.ensures.value c.facts.ensures.ties in
     let four = is_four c.self.inside.seats.items c.args.ring _ _ (is_seat _ _ c.args.ring c.self.invariant.0 below) c.index-seat.ensures c.index_mut.ensures.value c.facts.ensures.four in
     let tag = (seat_there _ _ _ _ _ c.self.invariant.0 below c.index_mut.ensures.value).0 in
     λ none. elim c.match-reserve.branch [
       | in-Ok w ↦ granted_as _ _ _ _ _ _ w.result-is (at_seat _ c.args.self.now _ _ _ _ _ are c.self.invariant.0 below c.index_mut.ensures.value
-          (granted_at _ _ _ _ low four c.reserve.ensures.seat c.reserve.ensures.released w.in-Ok.ensures.tally w.in-Ok.ensures.hands c.reserve.ensures.sent w.in-Ok.ensures.serial w.in-Ok.ensures.tag w.in-Ok.ensures.hand
+          (granted_at _ _ _ _ four c.reserve.ensures.seat c.reserve.ensures.released w.in-Ok.ensures.tally w.in-Ok.ensures.hands c.reserve.ensures.sent w.in-Ok.ensures.serial w.in-Ok.ensures.tag w.in-Ok.ensures.hand
           (w.in-Ok.ensures.call tag (λ out. absurd (w.in-Ok.ensures.hands_full.1 (tag, out))))))
       | in-Err w ↦ fails_as _ _ _ _ _ _ w.result-is (at_seat _ c.args.self.now _ _ _ _ _ are c.self.invariant.0 below c.index_mut.ensures.value
           (refused_at _ _ _ _ c.reserve.ensures.seat c.reserve.ensures.released w.in-Err.ensures.tally w.in-Err.ensures.hands c.reserve.ensures.sent (λ full. (w.in-Err.ensures.hands_full.0 full).1) (λ out. w.in-Err.ensures.hands_full.1 (tag, out))

@@ -1,6 +1,13 @@
 use Rattle.std.proofs.Common.{◌≡◌, ◌∙◌, subst}
+use Rattle.crossbeam_queue.specs.Passes.{view}
+use Rattle.rb_ledger.specs.Roles.Role.{Worker}
 use Rattle.rb_ledger.specs.Seats.{WorkerSeat}
+use Rattle.rb_ledger.specs.LockedCalls.{LockedCall}
+use Rattle.rb_ledger.specs.EntryRoom.{InRoom}
 use Rattle.rb_ledger.proofs.WholeCalls.{in-one-chapter}
+use Rattle.rb_shared_ring.specs.inner.HandPasses.{seen_with, cut_by}
+use Rattle.rb_shared_ring.specs.SharedCalls.{Audits}
+use Rattle.rb_shared_ring.proofs.RoomCalls.{audit-called}
 use Rattle.rb_shared_ring.proofs.SeatNumbers.{book-in, audit-tied, audit-own, keeps-hands}
 use Rattle.rb_shared_ring.proofs.shared.SharedRing.audit.Goals as goal
 
@@ -15,3 +22,8 @@ invariant_of-me g c =
 
 pub returns-clause-own : goal.returns-clause-own
 returns-clause-own g c = subst (λ (s : WorkerSeat). c.audit_with.result.own ≡ s.tally) c.me.view_is (audit-own c.me.inside.worker c.me.inside.tally _ _ c.me.invariant.1.ties c.audit_with.result (in-one-chapter _ _ _ _ _ _ c.audit_with.ensures.call))
+
+pub returns-clause-call : goal.returns-clause-call
+returns-clause-call g c =
+    subst (λ (s : WorkerSeat). LockedCall (Worker s.worker) s.seen (seen_with (view c.audit_with.new.pass)) (InRoom s.room (cut_by (view c.audit_with.new.pass)) (Audits s.worker c.audit_with.result))) c.me.view_is
+    (audit-called _ _ _ c.me.invariant.1.ties.in_ring _ _ c.audit_with.result c.audit_with.ensures.call)

@@ -1,12 +1,14 @@
 use Rattle.std.proofs.Common.{◌≡◌, ◌∙◌, sym, subst}
 use Rattle.crossbeam_queue.specs.Passes.{view}
-use Rattle.rb_chapter_ring.specs.ChapterCalls.{producer_now}
+use Rattle.rb_history.specs.Calls.{producer_now}
 use Rattle.rb_ledger.specs.Roles.Role.{Worker}
 use Rattle.rb_ledger.specs.Seats.{WorkerSeat, Ties}
-use Rattle.rb_ledger.specs.LockedChapterCalls.{LockedChapterCall, InRoomAt}
+use Rattle.rb_ledger.specs.LockedCalls.{LockedCall}
+use Rattle.rb_ledger.specs.EntryRoom.{InRoom}
 use Rattle.rb_ledger.proofs.WholeCalls.{in-one-chapter}
 use Rattle.rb_shared_ring.specs.inner.HandPasses.{seen_with, bytes_with, cut_by}
-use Rattle.rb_shared_ring.specs.SharedCalls.{OutputsInChapter, sent_by_chapter_output}
+use Rattle.rb_shared_ring.specs.SharedCalls.{OutputsInRoom, sent_by_chapter_output}
+use Rattle.rb_shared_ring.proofs.RoomCalls.{output-called}
 use Rattle.rb_shared_ring.proofs.SeatNumbers.{book-in, tied-low, output-fits, output-tied, keeps-hands}
 use Rattle.rb_shared_ring.proofs.shared.SharedRing.output.Goals as goal
 
@@ -30,4 +32,6 @@ invariant_of-me g c =
     )
 
 pub returns-clause-call : goal.returns-clause-call
-returns-clause-call g c = λ _. subst (λ (s : WorkerSeat). LockedChapterCall (Worker s.worker) s.seen (seen_with (view c.output_with-answer.new.pass)) (InRoomAt s.room (cut_by (view c.output_with-answer.new.pass)) (λ old new. OutputsInChapter s.worker c.args.sheet c.args.flags c.output_with-answer.result old new × (bytes_with (view c.output_with-answer.new.pass) ≡ sent_by_chapter_output s.sent (producer_now old) c.args.sheet c.output_with-answer.result)))) c.me.view_is c.output_with-answer.ensures.call
+returns-clause-call g c = λ _.
+    subst (λ (s : WorkerSeat). LockedCall (Worker s.worker) s.seen (seen_with (view c.output_with-answer.new.pass)) (InRoom s.room (cut_by (view c.output_with-answer.new.pass)) (λ old new. OutputsInRoom s.room (cut_by (view c.output_with-answer.new.pass)) s.worker c.args.sheet c.args.flags c.output_with-answer.result old new × (bytes_with (view c.output_with-answer.new.pass) ≡ sent_by_chapter_output s.sent (producer_now old) c.args.sheet c.output_with-answer.result)))) c.me.view_is
+    (output-called _ _ _ c.me.invariant.1.ties.in_ring _ _ c.args.sheet c.args.flags c.output_with-answer.result _ _ c.output_with-answer.ensures.call)

@@ -1,9 +1,14 @@
 use Rattle.std.proofs.Common.{◌∙◌, subst}
 use Rattle.crossbeam_queue.specs.Passes.{view}
+use Rattle.rb_ledger.specs.Roles.Role.{Worker}
+use Rattle.rb_ledger.specs.Seats.{WorkerSeat}
+use Rattle.rb_ledger.specs.LockedCalls.{LockedCall, Queries}
+use Rattle.rb_ledger.specs.EntryRoom.{InRoom}
 use Rattle.rb_ledger.proofs.WholeCalls.{in-one-chapter}
 use Rattle.rb_chapter_ring.specs.Hands.{Hands}
 use Rattle.rb_ledger.specs.NoStranger.{HoldsOwnBusy}
-use Rattle.rb_shared_ring.specs.inner.HandPasses.{seen_with}
+use Rattle.rb_shared_ring.specs.inner.HandPasses.{seen_with, cut_by}
+use Rattle.rb_shared_ring.proofs.RoomCalls.{query-called}
 use Rattle.rb_shared_ring.proofs.SeatNumbers.{book-in, query-tied, keeps-hands}
 use Rattle.rb_shared_ring.proofs.shared.SharedRing.query.Goals as goal
 
@@ -15,3 +20,8 @@ invariant_of-me g c =
       record { idle = e.idle; book = book-in _ _ _ _ e.call; ties = query-tied c.me.inside.worker c.me.inside.tally _ _ i.1.ties c.args.what c.query_with.result (in-one-chapter _ _ _ _ _ _ e.call) },
       keeps-hands _ _ _ _ _ i.2 (e.hands ∙ i.2.shows) i.2.four e.holds,
     )
+
+pub returns-clause-call : goal.returns-clause-call
+returns-clause-call g c =
+    subst (λ (s : WorkerSeat). LockedCall (Worker s.worker) s.seen (seen_with (view c.query_with.new.pass)) (InRoom s.room (cut_by (view c.query_with.new.pass)) (Queries c.args.what c.query_with.result))) c.me.view_is
+    (query-called _ _ _ c.me.invariant.1.ties.in_ring _ _ c.args.what c.query_with.result c.query_with.ensures.call)

@@ -4,10 +4,12 @@ use Rattle.crossbeam_queue.specs.Passes.{view}
 use Rattle.rb_chapter_ring.specs.Hands.{out_record}
 use Rattle.rb_ledger.specs.Roles.Role.{Worker}
 use Rattle.rb_ledger.specs.Seats.{WorkerSeat, Ties}
-use Rattle.rb_ledger.specs.LockedChapterCalls.{LockedChapterCall, InRoomAt}
+use Rattle.rb_ledger.specs.LockedCalls.{LockedCall}
+use Rattle.rb_ledger.specs.EntryRoom.{InRoom}
 use Rattle.rb_ledger.proofs.WholeCalls.{in-one-chapter}
 use Rattle.rb_shared_ring.specs.inner.HandPasses.{seen_with, hands_by, cut_by}
-use Rattle.rb_shared_ring.specs.SharedCalls.{ReservesInChapter, granted_in, hands_reserved}
+use Rattle.rb_shared_ring.specs.SharedCalls.{ReservesInRoom, granted_in, hands_reserved}
+use Rattle.rb_shared_ring.proofs.RoomCalls.{reserves-called}
 use Rattle.rb_shared_ring.proofs.SeatNumbers.{book-in, tied-low, reserve-fits, reserve-tied, serial-in, keeps-hands}
 use Rattle.rb_chapter_ring.specs.declared.faults.ReserveFault.TheVariants.{Full}
 use Rattle.rb_shared_ring.proofs.SeatPassing.{refused-in, serial-in-hand, hands-kept}
@@ -46,11 +48,13 @@ invariant_of-me-in_default-answer g c =
 
 pub returns-in-Ok-clause-call : goal.returns-in-Ok-clause-call
 returns-in-Ok-clause-call g c =
-    λ _ _. subst (λ (s : WorkerSeat). LockedChapterCall (Worker s.worker) s.seen (seen_with (view c.reserve_with-answer.new.pass)) (InRoomAt s.room (cut_by (view c.reserve_with-answer.new.pass)) (ReservesInChapter s.worker c.args.n (granted_in c.reserve_with-answer.result)))) c.me.view_is c.reserve_with-answer.ensures.call
+    λ _ _. subst (λ (s : WorkerSeat). LockedCall (Worker s.worker) s.seen (seen_with (view c.reserve_with-answer.new.pass)) (InRoom s.room (cut_by (view c.reserve_with-answer.new.pass)) (ReservesInRoom s.room (cut_by (view c.reserve_with-answer.new.pass)) s.worker c.args.n (granted_in c.reserve_with-answer.result)))) c.me.view_is
+    (reserves-called _ _ _ c.me.invariant.1.ties.in_ring _ _ c.args.n (granted_in c.reserve_with-answer.result) c.reserve_with-answer.ensures.call)
 
 pub returns-in_default-answer-clause-call : goal.returns-in_default-answer-clause-call
 returns-in_default-answer-clause-call g c =
-    λ _ _. subst (λ (s : WorkerSeat). LockedChapterCall (Worker s.worker) s.seen (seen_with (view c.reserve_with-answer.new.pass)) (InRoomAt s.room (cut_by (view c.reserve_with-answer.new.pass)) (ReservesInChapter s.worker c.args.n (granted_in c.reserve_with-answer.result)))) c.me.view_is c.reserve_with-answer.ensures.call
+    λ _ _. subst (λ (s : WorkerSeat). LockedCall (Worker s.worker) s.seen (seen_with (view c.reserve_with-answer.new.pass)) (InRoom s.room (cut_by (view c.reserve_with-answer.new.pass)) (ReservesInRoom s.room (cut_by (view c.reserve_with-answer.new.pass)) s.worker c.args.n (granted_in c.reserve_with-answer.result)))) c.me.view_is
+    (reserves-called _ _ _ c.me.invariant.1.ties.in_ring _ _ c.args.n (granted_in c.reserve_with-answer.result) c.reserve_with-answer.ensures.call)
 
 pub returns-in-Ok-clause-serial : goal.returns-in-Ok-clause-serial
 returns-in-Ok-clause-serial g c =

@@ -4,10 +4,12 @@ use Rattle.crossbeam_queue.specs.Passes.{view}
 use Rattle.rb_chapter_ring.specs.Hands.{Hands}
 use Rattle.rb_ledger.specs.Roles.Role.{Worker}
 use Rattle.rb_ledger.specs.Seats.{WorkerSeat, Ties}
-use Rattle.rb_ledger.specs.LockedChapterCalls.{LockedChapterCall, InRoomAt, SubmitsInChapter}
+use Rattle.rb_ledger.specs.LockedCalls.{LockedCall, SubmitsAt}
+use Rattle.rb_ledger.specs.EntryRoom.{InRoom}
 use Rattle.rb_ledger.proofs.WholeCalls.{in-one-chapter}
 use Rattle.rb_shared_ring.specs.inner.HandPasses.{seen_with, cut_by}
 use Rattle.rb_shared_ring.proofs.SeatNumbers.{book-in, tied-low, submit-tied, keeps-hands}
+use Rattle.rb_shared_ring.proofs.RoomCalls.{submits-called}
 use Rattle.rb_shared_ring.proofs.shared.SharedRing.submit.Goals as goal
 
 pub after_submit-me-inside-requires : goal.after_submit-me-inside-requires
@@ -25,4 +27,5 @@ invariant_of-me g c =
 
 pub returns-clause-call : goal.returns-clause-call
 returns-clause-call g c =
-    subst (λ (s : WorkerSeat). LockedChapterCall (Worker s.worker) s.seen (seen_with (view c.submit_with-notice.new.pass)) (InRoomAt s.room (cut_by (view c.submit_with-notice.new.pass)) (SubmitsInChapter c.args.reservation.granted c.args.flags (Ok c.submit_with-notice.result)))) c.me.view_is c.submit_with-notice.ensures.call
+    subst (λ (s : WorkerSeat). LockedCall (Worker s.worker) s.seen (seen_with (view c.submit_with-notice.new.pass)) (InRoom s.room (cut_by (view c.submit_with-notice.new.pass)) (SubmitsAt c.args.reservation.granted c.args.flags (Ok c.submit_with-notice.result)))) c.me.view_is
+    (submits-called _ _ _ c.me.invariant.1.ties.in_ring _ _ c.args.reservation.granted c.args.flags c.submit_with-notice.result c.submit_with-notice.ensures.call)

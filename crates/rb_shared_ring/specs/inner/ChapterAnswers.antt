@@ -1,0 +1,32 @@
+-- What the calls on a shared ring do and answer by its chapter, beside those that rb_ledger defines. What is promised of them is said over the whole history.
+use Rattle.std.specs.Prelude.{◌≡◌, ◌≢◌, ℕ, ◌≤◌, ◌<◌, ◌↔◌, List, length, replicate, Result, Ok, Err}
+use Rattle.rb_history.specs.declared.answers.Notice.{Notice}
+use Rattle.rb_history.specs.declared.answers.Notice.TheVariants.{Due}
+use Rattle.rb_history.specs.ReservationModel.{Granted}
+use Rattle.rb_history.specs.NoticesAndQueries.{IsDue}
+use Rattle.rb_chapter_ring.specs.CountedFrom.{tally_from}
+use Rattle.rb_chapter_ring.specs.ChapterRing.{ChapterRing}
+use Rattle.rb_chapter_ring.specs.ChapterCalls.{Grants, Outputs, producer_now, consumer_now}
+use Rattle.rb_chapter_ring.specs.declared.faults.ReserveFault.{ReserveFault}
+use Rattle.rb_chapter_ring.specs.declared.faults.ReserveFault.TheVariants.{Flags}
+use Rattle.rb_chapter_ring.specs.OpenedRing.{told_counts}
+use Rattle.rb_chapter_ring.specs.RingFaults.{RefusesInChapter}
+use Rattle.rb_shared_ring.specs.declared.audit.Audit.{Audit}
+
+-- a record is granted where the ring has room for it and the chapter for all that it will log. It is Full, and logged, where the ring has no
+-- room and the refusal may be logged. Else it is ChapterFull, and nothing changes
+abbrev pub ReservesInChapter : ℕ → ℕ → Result Granted (ReserveFault × List ℕ) → ChapterRing → ChapterRing → Type 0
+ReservesInChapter w n (Ok r) old new = Grants old new w n r.pos r.serial × (r.worker ≡ w) × (r.bytes ≡ replicate n 0)
+ReservesInChapter w n (Err e) old new = RefusesInChapter old new w n e.0 × (e.0 ≢ Flags)
+
+abbrev pub OutputsInChapter : ℕ → List ℕ → ℕ → Result Notice (ReserveFault × List ℕ) → ChapterRing → ChapterRing → Type 0
+OutputsInChapter w bytes flags (Ok notice) old new = Outputs old new w bytes × ((notice ≡ Due) ↔ IsDue (consumer_now old) (producer_now old) flags) × (flags ≤ 3)
+OutputsInChapter w bytes flags (Err e) old new = RefusesInChapter old new w (length bytes) e.0 × ((e.0 ≡ Flags) ↔ (3 < flags))
+
+-- the positions, the counts of the whole history, and the numbers of the worker's entries there
+pub record AuditsInChapter (w : ℕ) (a : Audit) (old new : ChapterRing) : Type 0 where
+  pub producer_is : a.producer ≡ producer_now old
+  pub consumer_is : a.consumer ≡ consumer_now old
+  pub counts_are : a.counts ≡ told_counts old
+  pub own_is : a.own ≡ tally_from old.chapter.opening w old.chapter.entries
+  pub same : new ≡ old
