@@ -11,7 +11,7 @@ use std::fmt;
 ///
 /// Numbers are decimal. The numbers of a helper and of a wide load are signed, and a load or a store names the whole register, as LLVM
 /// prints them where 32-bit registers are not asked for.
-#[derive(Clone, Copy, Debug)]
+#[derive(Clone, Copy)]
 pub struct Assembly(pub Insn);
 
 impl fmt::Display for Assembly {
@@ -28,7 +28,7 @@ impl fmt::Display for Assembly {
             | Insn::Reorder { .. } => write_move(self.0, f),
             Insn::Jump { .. } | Insn::JumpFar { .. } | Insn::Branch { .. } => write_jump(self.0, f),
             Insn::Call { helper } => write!(f, "call {}", helper.cast_signed()),
-            Insn::Exit => write!(f, "exit"),
+            Insn::Exit => f.write_str("exit"),
             Insn::LoadNumber { .. }
             | Insn::LoadRing { .. }
             | Insn::Load { .. }

@@ -4,7 +4,7 @@ use rb_program::{DecodeFault, ShapeFault};
 use rb_verifier::Rule as BrokenRule;
 
 /// Why a program is refused: the first fault of the first layer that has one.
-#[derive(Clone, Copy, Debug, PartialEq, Eq)]
+#[derive(Clone, Copy)]
 pub enum Reason {
     /// The text, without its white space, is not pairs of hex digits.
     Text,
@@ -22,7 +22,7 @@ pub enum Reason {
 }
 
 /// The explanation of a program.
-#[derive(Debug, Drop)]
+#[derive(Drop)]
 pub struct Explanation {
     /// The text, in whole lines.
     pub text: String,

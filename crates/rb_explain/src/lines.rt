@@ -34,9 +34,9 @@ impl fmt::Display for CallNote {
         match self.0 {
             Insn::Call { helper } => match Helper::from_number(helper) {
                 Some(helper) => write!(f, "  # {}", helper_name(helper)),
-                None => write!(f, "  # not a helper of this host"),
+                None => f.write_str("  # not a helper of this host"),
             },
-            _ => write!(f, ""),
+            _ => f.write_str(""),
         }
     }
 }

@@ -25,9 +25,9 @@ impl fmt::Display for HelperField {
         match self.0 {
             Insn::Call { helper } => match Helper::from_number(helper) {
                 Some(helper) => write!(f, ",\"helper\":\"{}\"", helper_name(helper)),
-                None => write!(f, ",\"helper\":null"),
+                None => f.write_str(",\"helper\":null"),
             },
-            _ => write!(f, ""),
+            _ => f.write_str(""),
         }
     }
 }
@@ -122,7 +122,7 @@ impl fmt::Display for HeldValue<'_> {
         if is_readable(value) {
             write!(f, "\"{}\"", Value { held, value })
         } else {
-            write!(f, "null")
+            f.write_str("null")
         }
     }
 }

@@ -43,7 +43,7 @@ impl fmt::Display for Source {
                     width: self.width,
                     reg,
                 };
-                write!(f, "{register}")
+                register.fmt(f)
             }
         }
     }

@@ -21,7 +21,7 @@ impl fmt::Display for Size {
     fn fmt<W: fmt::Write>(&self, f: &mut fmt::Formatter<W>) -> fmt::Result {
         match self.0 {
             Some(reference) => write!(f, " of {} bytes", reference.size),
-            None => write!(f, ""),
+            None => f.write_str(""),
         }
     }
 }
@@ -38,8 +38,8 @@ impl fmt::Display for Value<'_> {
 
     fn fmt<W: fmt::Write>(&self, f: &mut fmt::Formatter<W>) -> fmt::Result {
         match self.value {
-            Abs::Unreadable => write!(f, "nothing"),
-            Abs::Number => write!(f, "number"),
+            Abs::Unreadable => f.write_str("nothing"),
+            Abs::Number => f.write_str("number"),
             Abs::Known(number) => write!(f, "{}", number.cast_signed()),
             Abs::Ctx(offset) => write!(f, "context{offset:+}"),
             Abs::Stack(offset) => write!(f, "stack{offset:+}"),
@@ -91,8 +91,8 @@ impl fmt::Display for Kept<'_> {
     fn fmt<W: fmt::Write>(&self, f: &mut fmt::Formatter<W>) -> fmt::Result {
         let Kept { held, value } = *self;
         match value {
-            Abs::Unreadable => write!(f, "mixed"),
-            _ => write!(f, "{}", Value { held, value }),
+            Abs::Unreadable => f.write_str("mixed"),
+            _ => Value { held, value }.fmt(f),
         }
     }
 }
@@ -129,11 +129,7 @@ impl fmt::Display for Tested {
     ghost output = { λ tested. Some (tested_text tested.0) };
 
     fn fmt<W: fmt::Write>(&self, f: &mut fmt::Formatter<W>) -> fmt::Result {
-        if self.0 {
-            write!(f, "")
-        } else {
-            write!(f, ", or null")
-        }
+        f.write_str(if self.0 { "" } else { ", or null" })
     }
 }
 
