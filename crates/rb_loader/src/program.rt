@@ -14,7 +14,7 @@ use std::io::Read;
 use thiserror::Error;
 
 /// What a program is verified for.
-#[derive(Clone, Copy)]
+#[derive(Clone, Copy, Debug, PartialEq, Eq)]
 pub struct Bounds {
     /// The length of the context in bytes, at most 65,536.
     pub ctx_len: u32,
@@ -25,7 +25,7 @@ pub struct Bounds {
 }
 
 /// Why a program was not accepted.
-#[derive(Clone, Copy, Debug, Error)]
+#[derive(Clone, Copy, Debug, PartialEq, Eq, Error)]
 pub enum ProgramFault {
     /// The input is no UTF-8, or without its white space no pairs of hex digits.
     #[error("text")]
