@@ -4,6 +4,7 @@ use Rattle.std.specs.Prelude.{filter, Result, Ok, Err, IsErr, OnOk}
 use Rattle.std.specs.List.{slice_index_or as get_or, remove}
 use Rattle.std.proofs.Math.Seq.{drop-cons}
 use Rattle.std.proofs.lemmas.List.{take-append-drop}
+use Rattle.rb_history.specs.declared.entries.Entry.{Entry}
 use Rattle.rb_history.specs.declared.answers.Taken.{Taken}
 use Rattle.rb_history.specs.declared.answers.Taken.TheVariants.{Event}
 use Rattle.rb_history.specs.RingModel.{Ring}
@@ -12,10 +13,8 @@ use Rattle.rb_shared_ring.specs.declared.shared.Foreign.{Foreign}
 use Rattle.rb_ledger.specs.Roles.{Book}
 use Rattle.rb_ledger.specs.Roles.Role.{Consumer}
 use Rattle.rb_ledger.specs.LockedCalls.{LockedCall}
-use Rattle.rb_chapter_ring.specs.Chapters.{Chapter}
-use Rattle.rb_chapter_ring.specs.ManyTakes.{TakesManyInChapter}
-use Rattle.rb_ledger.specs.LockedChapterCalls.{LockedChapterCall, InKnownChapter}
-use Rattle.rb_shared_ring.specs.AnswersOverAll.{EachAnswerIsWhole}
+use Rattle.rb_ledger.specs.EntryRoom.{InRoomBehind}
+use Rattle.rb_ledger.proofs.EntryRoom.{behind-over-all}
 use Rattle.rb_tape.specs.Items.{AreRecords}
 use Rattle.rb_consumer.specs.Batches.{IsBatch, is_event, GivesLastEvent}
 use Rattle.rb_consumer.specs.inner.LastEvents.{IsLastEvent}
@@ -24,12 +23,16 @@ pub records-each : (old new : Ring) (ts : List Taken) → TakesEach old ts new �
 records-each old new [] each = tt
 records-each old new (t ∷ ts) each = (each.2, records-each each.0 new ts each.3)
 
--- what came into an empty batch, by the ring's chapter, is what came on the ring with its whole history
-pub whole-fill : (r : Result ℕ Foreign) (handed_out : List Chapter) (n : ℕ) (before after : List Taken) (b a : Book) → EachAnswerIsWhole
-    → OnOk r (LockedChapterCall Consumer b a (InKnownChapter handed_out (TakesManyInChapter n (pushed before after)))) → before ≡ [] → OnOk r (LockedCall Consumer b a (TakesMany n after))
-whole-fill (Ok k) handed_out n before after b a law call none =
-    subst (λ x. LockedCall Consumer b a (TakesMany n (pushed x after))) none ((law b a).takes_many handed_out n (pushed before after) call)
-whole-fill (Err e) handed_out n before after b a law call none = tt
+-- what came into an empty batch is all that is in it
+pub fill-called : (r : Result ℕ Foreign) (room : ℕ) (handed_out : List Entry) (n : ℕ) (before after : List Taken) (b a : Book)
+    → OnOk r (LockedCall Consumer b a (InRoomBehind room handed_out (TakesMany n (pushed before after)))) → before ≡ [] → OnOk r (LockedCall Consumer b a (InRoomBehind room handed_out (TakesMany n after)))
+fill-called (Ok k) room handed_out n before after b a call none = subst (λ x. LockedCall Consumer b a (InRoomBehind room handed_out (TakesMany n (pushed x after)))) none call
+fill-called (Err e) room handed_out n before after b a call none = tt
+
+pub whole-fill : (r : Result ℕ Foreign) (room : ℕ) (handed_out : List Entry) (n : ℕ) (before after : List Taken) (b a : Book)
+    → OnOk r (LockedCall Consumer b a (InRoomBehind room handed_out (TakesMany n (pushed before after)))) → before ≡ [] → OnOk r (LockedCall Consumer b a (TakesMany n after))
+whole-fill (Ok k) room handed_out n before after b a call none = behind-over-all b a room handed_out (TakesMany n after) (fill-called (Ok k) room handed_out n before after b a call none)
+whole-fill (Err e) room handed_out n before after b a call none = tt
 
 -- a batch that was filled
 pub filled : (r : Result ℕ Foreign) (capacity n : ℕ) (taken : List Taken) (b a : Book) → (IsErr r → ⊥) → OnOk r (LockedCall Consumer b a (TakesMany n taken)) → n ≤ capacity → IsBatch (record { capacity = capacity; taken = taken })

@@ -6,8 +6,8 @@ ghost use Rattle.rb_history.specs.ManyTakes.{TakesMany};
 ghost use Rattle.rb_ledger.specs.Roles.Role.{Consumer};
 ghost use Rattle.rb_ledger.specs.LockedCalls.{LockedCall};
 ghost use Rattle.rb_ledger.specs.ManyTakes.{events_among, skips_among, span_among, AreTakenFrom, got_by_all};
-ghost use Rattle.rb_chapter_ring.specs.ManyTakes.{TakesManyInChapter};
-ghost use Rattle.rb_ledger.specs.LockedChapterCalls.{LockedChapterCall, InKnownChapter};
+ghost use Rattle.rb_ledger.specs.EntryRoom.{InRoomBehind};
+ghost use Rattle.rb_ledger.specs.ChapterSeats.{entries_out};
 ghost use Rattle.rb_shared_ring.specs.SharedSeats.{IsSameChapterConsumer};
 ghost use Rattle.rb_history.specs.TapeBytes.{AreItemsFrom, end_of};
 ghost use Rattle.rb_tape.specs.Items.{tape_items, AreRecords};
@@ -17,7 +17,7 @@ ghost use Rattle.rb_consumer.specs.inner.LastEvents.{IsLastEvent};
 use crate::batch_items::Events;
 use rb_history::Taken;
 use rb_lend::Sheet;
-use rb_shared_ring::{ConsumerSeat, Foreign, SharedRing, each_answer_is_whole};
+use rb_shared_ring::{ConsumerSeat, Foreign, SharedRing};
 use rb_tape::Items;
 use std::alloc::{AllocError, Global};
 use std::marker::Model;
@@ -51,8 +51,8 @@ impl Batch {
     }
 
     /// Gives up what is in the batch, and takes records under one holding of the ring's lock until the batch is full, the front is busy or
-    /// the ring is empty; returns how many they are. It is one `take_many` by the chapter under the lock (`call`), and so it
-    /// is on the ring with its whole history (`whole`). `Foreign` where the seat is another ring's: then nothing changed. It takes no memory.
+    /// the ring is empty; returns how many they are. It is one `take_many` of the ring with
+    /// its whole history (`call`). `Foreign` where the seat is another ring's: then nothing changed. It takes no memory.
     /// (Linux Documentation/bpf/ringbuf.rst: records are consumed in the order of their reservation.)
     pub fn fill<R: Wait>(
         &mut self,
@@ -69,8 +69,7 @@ impl Batch {
         ensures chapters { me.new.handed_out ≡ me.old.handed_out }
         ensures released { (me.old.out ≡ None) × (me.new.out ≡ None) }
         ensures count { IfOk result (λ count. count ≡ length self.new.taken) }
-        ensures call { OnOk result (LockedChapterCall Consumer me.old.seen me.new.seen (InKnownChapter me.old.handed_out (TakesManyInChapter self.old.capacity self.new.taken))) }
-        ensures whole { OnOk result (LockedCall Consumer me.old.seen me.new.seen (TakesMany self.old.capacity self.new.taken)) }
+        ensures call { OnOk result (LockedCall Consumer me.old.seen me.new.seen (InRoomBehind me.old.room (entries_out me.old) (TakesMany self.old.capacity self.new.taken))) }
         ensures setup { OnOk result (me.new.seen.setup ≡ me.old.seen.setup) }
         ensures place { OnOk result (AreTakenFrom me.old.position self.new.taken) }
         ensures stand { OnOk result (AreItemsFrom me.old.seen.setup.size me.old.position (tape_items self.new.taken)) }
@@ -81,7 +80,6 @@ impl Batch {
         ensures got { OnOk result (me.new.got ≡ got_by_all me.old.got self.new.taken) }
     {
         me.facts();
-        each_answer_is_whole();
         if me.tag() != ring.tag() {
             return Err(Foreign);
         }

@@ -12,15 +12,16 @@ use Rattle.rb_history.specs.Calls.{consumer_now as whole_consumer_now}
 use Rattle.rb_chapter_ring.specs.Opening.{Opening}
 use Rattle.rb_chapter_ring.specs.Chapters.{Chapter, joined}
 use Rattle.rb_chapter_ring.specs.ChapterRing.{ChapterRing, whole_ring}
-use Rattle.rb_chapter_ring.specs.ChapterCalls.{Grants, Outputs, consumer_now}
+use Rattle.rb_chapter_ring.specs.ChapterCalls.{consumer_now}
 use Rattle.rb_chapter_ring.specs.WholeHistory.{ContinuesHistory, IsSameFrom}
 use Rattle.rb_chapter_ring.proofs.Stands.{goes-on}
 use Rattle.rb_chapter_ring.proofs.Alike.{calls-alike}
 use Rattle.rb_ledger.specs.Roles.{Role, Book}
-use Rattle.rb_ledger.specs.Roles.Role.{Consumer, Worker}
+use Rattle.rb_ledger.specs.Roles.Role.{Consumer}
 use Rattle.rb_ledger.specs.LockedCalls.{LockedCall, SubmitsAt, DiscardsAt, TakesAt, Queries}
 use Rattle.rb_ledger.specs.ChapteredRing.{chaptered_ring, whole_of}
-use Rattle.rb_ledger.specs.LockedChapterCalls.{LockedChapterCall, InOneChapter, InKnownChapter, SubmitsInChapter, DiscardsInChapter, TakesInChapter, QueriesInChapter, HandsOutNext, EachCallIsWhole}
+use Rattle.rb_ledger.specs.LockedChapterCalls.{LockedChapterCall, InOneChapter, InKnownChapter, HandsOutNext, EachCallIsWhole}
+use Rattle.rb_ledger.specs.inner.ChapterAnswers.{SubmitsInChapter, DiscardsInChapter, TakesInChapter, QueriesInChapter}
 use Rattle.rb_ledger.specs.inner.ChapterRooms.{InRoomAt}
 use Rattle.rb_chapter_ring.proofs.Chain.{binds-continue, binds-number}
 use Rattle.rb_ledger.proofs.ChapterSteps.{handed-out-whole}
@@ -103,27 +104,6 @@ module _ (before after : Book) (handed_out : List Chapter) (c : Chapter) (t : Lo
 
 pub each-call-is-whole : EachCallIsWhole
 each-call-is-whole before after = record {
-  grants = λ w n p k low t. call-whole (Worker w) before after _ _ (λ earlier old new is a. let both = ((calls-alike earlier old new is).grants w n p k a.0).0 a.1 in both.2) (with-worker (Worker w) before after (λ old new. Grants old new w n p k) (λ old new. Unit {0}) w low t);
-  finds_full = λ w n. call-whole (Worker w) before after _ _ (λ earlier old new is a. let both = ((calls-alike earlier old new is).finds_full w n).0 a in both.2);
-  finds_chapter_full = λ w n t. (
-    call-whole (Worker w) before after _ (λ old new. new ≡ old) (λ earlier old new is a. ap (whole_ring earlier) a.same) t,
-    record {
-      point = t.point;
-      left = t.left;
-      goes_on = t.goes_on;
-      was_ring = t.was_ring;
-      called =
-          let all = ((calls-alike (joined t.point.handed_out) t.point.ring t.left.ring (binds-continue t.point.handed_out t.point.ring.chapter t.was_ring.has_chapters.binds)).finds_chapter_full w n).0 t.called.1 in
-          (record { no_grant = all.0; no_refusal = all.1 }, (λ i. chaptered_ring (t.called.0 i) (all.2 i)));
-      is_ring = t.is_ring;
-      seen = t.seen;
-    },
-  );
-  outputs = λ w bytes low t. call-whole (Worker w) before after _ _ (λ earlier old new is a. let both = ((calls-alike earlier old new is).outputs w bytes a.0).0 a.1 in both.2) (with-worker (Worker w) before after (λ old new. Outputs old new w bytes) (λ old new. Unit {0}) w low t);
-  submits = λ w r flags answer. call-whole (Worker w) before after (SubmitsInChapter r flags answer) (SubmitsAt r flags answer) (λ earlier old new is a. submits-whole earlier old new is r flags answer a);
-  discards = λ w r flags answer. call-whole (Worker w) before after (DiscardsInChapter r flags answer) (DiscardsAt r flags answer) (λ earlier old new is a. discards-whole earlier old new is r flags answer a);
-  queries = λ w what answer. call-whole (Worker w) before after (QueriesInChapter what answer) (Queries what answer) (λ earlier old new is a. queries-whole earlier old new is what answer a);
-  takes = λ handed_out t call. call-whole Consumer before after (TakesInChapter t) (TakesAt t) (λ earlier old new is a. takes-whole earlier old new is t a) (any-chapter Consumer before after (TakesInChapter t) (λ old new. Unit {0}) handed_out call);
   tells_used = λ handed_out entries more call. call-whole Consumer before after _ (λ old new. new ≡ old) (λ earlier old new is a. ap (whole_ring earlier) a.0) (any-chapter Consumer before after _ (λ old new. Unit {0}) handed_out call);
   hands_out = λ handed_out c t. (hands-out-whole before after handed_out c t, number-is before after handed_out c t);
 }

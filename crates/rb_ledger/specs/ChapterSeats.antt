@@ -2,8 +2,9 @@
 use Rattle.std.specs.Prelude.{◌≡◌, ℕ, ◌<◌, ◌^◌, List, [], Option, None, length}
 use Rattle.std.specs.FinMap.{empty}
 use Rattle.atomic_table.specs.Seated.{TableId}
+use Rattle.rb_history.specs.declared.entries.Entry.{Entry}
 use Rattle.rb_history.specs.RingModel.{Contents}
-use Rattle.rb_chapter_ring.specs.Chapters.{Chapter}
+use Rattle.rb_chapter_ring.specs.Chapters.{Chapter, joined}
 use Rattle.rb_ledger.specs.Roles.{Book}
 use Rattle.rb_ledger.specs.Seats.{ConsumerSeatValue}
 use Rattle.rb_ledger.specs.ChapteredRing.{ChapteredRing}
@@ -23,6 +24,10 @@ pub record ChapterConsumerSeat : Type 0 where
   pub got : Contents
   pub handed_out : List Chapter
   pub out : Option ChapteredRing
+
+-- the entries that were handed out, oldest first
+abbrev pub entries_out : ChapterConsumerSeat → List Entry
+entries_out s = joined s.handed_out
 
 -- the same, of the ring with its whole history
 abbrev pub whole_consumer : ChapterConsumerSeat → ConsumerSeatValue

@@ -2,3 +2,4 @@ pub mod BindingLoops
 pub mod OpenedLock
 pub mod SeatPasses
 pub mod ChapterRooms
+pub mod ChapterAnswers

@@ -22,7 +22,7 @@
 //! `bind_chapters` joins chapters that were kept to one history. The one history's older part is in the chapters that were handed out
 //! (`specs/ChapteredRing.antt` has a drawing). What each seat has seen is of that whole history, and the consumer also knows the chapters.
 //! The lock's rule says so at every moment (`specs/ChapterLockRule.antt`), and each step keeps it (`chapter_lock_rule_is_kept`,
-//! `state_may_be_put_back`). Each call by the ring's chapter is the call of a ring that keeps all entries, and handing a
+//! `state_may_be_put_back`). Each call is told of the ring that keeps all entries, with its room for them (`specs/EntryRoom.antt`), and handing a
 //! chapter out changes nothing of that ring (`each_locked_call_is_whole`). Once all seats are gathered and the chapters are bound,
 //! `chapter_headline_holds` says what `headline_holds` says.
 //!

@@ -3,19 +3,13 @@ use Rattle.std.proofs.Common.{◌≡◌, ℕ, ◌+◌, ◌<◌, ◌≤◌, List,
 use Rattle.std.proofs.lemmas.List.{drop_all, drop_more, drop-set-lt, map_push}
 use Rattle.rb_history.specs.Calls.{producer_now}
 use Rattle.rb_history.specs.declared.answers.Taken.{Taken}
-use Rattle.rb_chapter_ring.specs.Chapters.{Chapter, joined}
-use Rattle.rb_chapter_ring.specs.ChapterRing.{whole_ring}
-use Rattle.rb_ledger.specs.LockedCalls.{LockedCall, TakesAt}
+use Rattle.rb_ledger.specs.LockedCalls.{LockedCall}
 use Rattle.rb_shared_ring.specs.declared.audit.Audit.{Audit}
 use Rattle.rb_ledger.specs.Roles.{Book, BeginsWith}
-use Rattle.rb_ledger.specs.Roles.Role.{Consumer, Worker}
+use Rattle.rb_ledger.specs.Roles.Role.{Worker}
 use Rattle.rb_ledger.specs.Seats.{WorkerSeat}
-use Rattle.rb_ledger.specs.ChapteredRing.{whole_of}
 use Rattle.rb_ledger.specs.ChapterSeats.{ChapterConsumerSeat}
 use Rattle.rb_ledger.specs.EntryRoom.{InRoom}
-use Rattle.rb_ledger.specs.LockedChapterCalls.{LockedChapterCall, InKnownChapter, TakesInChapter}
-use Rattle.rb_chapter_ring.proofs.Chain.{binds-continue}
-use Rattle.rb_ledger.proofs.WholeCalls.{takes-whole}
 use Rattle.rb_ledger.proofs.EntryRoom.{called-as}
 use Rattle.rb_shared_ring.specs.SharedCalls.{Audits}
 use Rattle.rb_run_commands.specs.DrainedRings.{TakesNone, TakesRecord, TakesEach, DrainsRing, DrainsRings}
@@ -39,22 +33,6 @@ none_on a b c first second = record {
   got_same = second.got_same ∙ first.got_same;
   chapters_same = second.chapters_same ∙ first.chapters_same;
 }
-
--- what was taken by the ring's chapter was taken so of its whole history
-pub taken_over_all : (seen now : Book) (handed_out : List Chapter) (taken : Taken) → LockedChapterCall Consumer seen now (InKnownChapter handed_out (TakesInChapter taken))
-    → LockedChapterCall Consumer seen now (λ old new. InKnownChapter handed_out (TakesInChapter taken) old new × TakesAt taken (whole_of old) (whole_of new))
-taken_over_all seen now handed_out taken call =
-    let continues = binds-continue call.point.handed_out call.point.ring.chapter call.was_ring.has_chapters.binds in
-    let whole = takes-whole (joined call.point.handed_out) call.point.ring call.left.ring continues taken call.called.1.1 in
-    record {
-      point = call.point;
-      left = call.left;
-      goes_on = call.goes_on;
-      was_ring = call.was_ring;
-      called = (call.called, subst (λ hs. TakesAt taken (whole_of call.point) (whole_ring (joined hs) call.left.ring)) (sym call.called.1.0) whole);
-      is_ring = call.is_ring;
-      seen = call.seen;
-    }
 
 -- then none was taken
 pub each_then_none : (start : ChapterConsumerSeat) (records : List Taken) (now next : ChapterConsumerSeat) → TakesEach start records now → TakesNone now next → TakesEach start records next

@@ -1,5 +1,4 @@
--- What is taken of rings, each up to where its producer stands. Each call is told by the ring's chapter and over its whole history: the entries
--- of the chapters that were handed out, then those of its own (own).
+-- What is taken of rings, each up to where its producer stands. Each call is told over the ring's whole history (own).
 use Rattle.std.specs.Prelude.{◌≡◌, ℕ, ◌+◌, List, [], ◌∷◌}
 use Rattle.std.specs.List.{AllZip}
 use Rattle.rb_history.specs.Calls.{producer_now}
@@ -9,10 +8,8 @@ use Rattle.rb_ledger.specs.LockedCalls.{LockedCall, TakesAt, IsTakenAt, span_in,
 use Rattle.rb_ledger.specs.Roles.{Book, BeginsWith}
 use Rattle.rb_ledger.specs.Roles.Role.{Consumer, Worker}
 use Rattle.rb_ledger.specs.Seats.{Shared, WorkerSeat}
-use Rattle.rb_ledger.specs.ChapteredRing.{whole_of}
-use Rattle.rb_ledger.specs.ChapterSeats.{ChapterConsumerSeat}
-use Rattle.rb_ledger.specs.EntryRoom.{InRoom}
-use Rattle.rb_ledger.specs.LockedChapterCalls.{LockedChapterCall, InKnownChapter, TakesInChapter}
+use Rattle.rb_ledger.specs.ChapterSeats.{ChapterConsumerSeat, entries_out}
+use Rattle.rb_ledger.specs.EntryRoom.{InRoom, InRoomBehind}
 
 -- ---- one ring
 
@@ -30,7 +27,7 @@ IsRecord Empty = ⊥
 -- the consumer took this record, which stood at its position, at one call of the ring; it handed no chapter out
 pub record TakesRecord (before : ChapterConsumerSeat) (taken : Taken) (after : ChapterConsumerSeat) : Type 0 where
   pub is_record : IsRecord taken
-  pub call : LockedChapterCall Consumer before.seen after.seen (λ old new. InKnownChapter before.handed_out (TakesInChapter taken) old new × TakesAt taken (whole_of old) (whole_of new))
+  pub call : LockedCall Consumer before.seen after.seen (InRoomBehind before.room (entries_out before) (TakesAt taken))
   pub place : IsTakenAt before.position taken
   pub moved : after.position ≡ before.position + span_in taken
   pub got : after.got ≡ got_by before.got taken

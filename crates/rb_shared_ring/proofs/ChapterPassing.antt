@@ -11,8 +11,8 @@ use Rattle.rb_ledger.proofs.Passing.{held}
 use Rattle.rb_ledger.specs.ChapteredRing.{ChapteredRing, chaptered_ring, whole_of, IsChapteredRing}
 use Rattle.rb_ledger.specs.ChapterKnowledge.{ChapterPassView, chapter_view, whole_view, KnowsHandedOut, AllKnowHandedOut}
 use Rattle.rb_ledger.specs.ChapterLockSteps.{TakesChapterState, MayPutChapter, PutsChapterState, chapter_view_after_put, handed_out_known_by}
-use Rattle.rb_ledger.specs.LockedChapterCalls.{LockedChapterCall, InOneChapter, InKnownChapter}
-use Rattle.rb_ledger.specs.inner.ChapterRooms.{InRoomAt}
+use Rattle.rb_ledger.specs.LockedChapterCalls.{LockedChapterCall}
+use Rattle.rb_ledger.specs.inner.ChapterRooms.{InRoomAt, InKnownRoom}
 use Rattle.rb_ledger.proofs.ChapterSteps.{has-same, handed-out-same, calls-may-put, facts-make-ring}
 use Rattle.rb_shared_ring.specs.inner.SeatPasses.{seen_by, bytes_by, room_by, handed_out_by, known_in, IsIdleIn}
 use Rattle.rb_shared_ring.specs.inner.LentState.{IsKeptRing}
@@ -109,13 +109,14 @@ module _ (role : Role) (v : ChapterPassView) (r new : ChapterRing) (w : ChapterP
       seen = seen-in;
     }
 
-    pub is-known-in : h.taken.handed_out ≡ handed_out_by v → (Call : ChapterRing → ChapterRing → Type 0) → Call h.taken.ring new → LockedChapterCall role (seen_by v) (seen_by after) (InKnownChapter (handed_out_by v) Call)
-    is-known-in known Call call = record {
+    pub is-known-in : h.taken.ring.chapter.room ≡ room_by v → h.taken.handed_out ≡ handed_out_by v → (Call : ChapterRing → ChapterRing → Type 0) → Call h.taken.ring new
+        → LockedChapterCall role (seen_by v) (seen_by after) (InKnownRoom (room_by v) (handed_out_by v) Call)
+    is-known-in room_is known Call call = record {
       point = h.taken;
       left = left_by;
       goes_on = h.goes_on;
       was_ring = h.was_ring;
-      called = (known, (refl, call));
+      called = record { room_is = room_is; call = (known, (refl, call)) };
       is_ring = left-ring;
       seen = seen-in;
     }

@@ -24,7 +24,9 @@ use Rattle.rb_ledger.proofs.Passing.{after-same, after-take}
 use Rattle.rb_ledger.specs.ChapteredRing.{ChapteredRing, chaptered_ring, whole_of}
 use Rattle.rb_ledger.specs.ChapterKnowledge.{ChapterPassView, chapter_view}
 use Rattle.rb_ledger.specs.ChapterLockSteps.{TakesChapterState, MayPutChapter, PutsChapterState, chapter_view_after_put}
-use Rattle.rb_ledger.specs.LockedChapterCalls.{LockedChapterCall, InKnownChapter, TakesInChapter, TellsUsed, HandsOutNext}
+use Rattle.rb_ledger.specs.LockedChapterCalls.{LockedChapterCall, InKnownChapter, TellsUsed, HandsOutNext}
+use Rattle.rb_ledger.specs.inner.ChapterAnswers.{TakesInChapter}
+use Rattle.rb_ledger.specs.inner.ChapterRooms.{InKnownRoom}
 use Rattle.rb_chapter_ring.specs.OpenedRing.{MayGoOnIn}
 use Rattle.rb_history.specs.RoomRule.{Setup}
 use Rattle.rb_chapter_ring.proofs.Chain.{binds-continue, binds-number}
@@ -43,6 +45,14 @@ each-whole earlier old new (t ∷ ts) is each =
     let one = ((calls-alike earlier old each.0 is.continues).takes t).0 each.1 in
     let rest = each-whole earlier each.0 new ts ((calls-keep earlier old each.0 is).takes t each.1) each.3 in
     ((whole_ring earlier each.0, one.1, each.2, rest.0), rest.1)
+
+-- they leave the same chapter
+pub same-each : (old new : ChapterRing) (ts : List Taken) → TakesEachInChapter old ts new → IsSameChapter old new
+same-each old new [] same = stays old new same
+same-each old new (t ∷ ts) each =
+    let first = same-taken old each.0 t each.1 in
+    let rest = same-each each.0 new ts each.3 in
+    rest ∙ ap (λ (c : Chapter). record c { entries = new.chapter.entries }) first
 
 pub many-whole : (earlier : List Entry) (old new : ChapterRing) (n : ℕ) (ts : List Taken) → IsKept earlier old.chapter → TakesManyInChapter n ts old new → TakesMany n ts (whole_ring earlier old) (whole_ring earlier new)
 many-whole earlier old new n ts is a =
@@ -86,14 +96,14 @@ module _ (v : ChapterPassView) (r new : ChapterRing) (out : ChapterPassView) (id
     leaves : (after : ChapterPassView) → PutsChapterState out new after → (Call : ChapterRing → ChapterRing → Type 0) → Call r new → IsSameChapter r new → (got : Contents)
         → ((h : HeldChapter Consumer v r out) → IsKept (joined h.taken.handed_out) h.taken.ring.chapter → Call h.taken.ring new
         → bytes_after Consumer (whole_of h.taken) (whole_of (chaptered_ring h.taken.handed_out new)) (drop (length (whole_of h.taken).history) (whole_of (chaptered_ring h.taken.handed_out new)).history) (bytes_by v) ≡ got)
-        → LeavesConsumer v after got (handed_out_by v) (InKnownChapter (handed_out_by v) Call)
+        → LeavesConsumer v after got (handed_out_by v) (InKnownRoom (room_by v) (handed_out_by v) Call)
     leaves after put Call call same got bytes =
         let h = held-in Consumer v r out idle took in
         let is : IsKept (joined h.taken.handed_out) h.taken.ring.chapter = record { continues = binds-continue h.taken.handed_out h.taken.ring.chapter h.was_ring.has_chapters.binds; room = h.was_ring.has_chapters.room } in
         let here = subst (λ x. Call x new) (sym h.ring_is) call in
         record {
           idle = idle-in Consumer v r new out h same kept after put;
-          call = is-known-in Consumer v r new out h same kept after put (known h) Call here;
+          call = is-known-in Consumer v r new out h same kept after put (sym (h.knows refl).0) (known h) Call here;
           bytes = bytes-in Consumer v r new out h same kept after put ∙ bytes h is here;
           room = room-in Consumer v r new out h same kept after put;
           chapters = handed-out-in Consumer v r new out h same kept after put ∙ known h;
@@ -109,17 +119,25 @@ module _ (v : ChapterPassView) (r new : ChapterRing) (out : ChapterPassView) (id
     put-used entries more call = puts-back (TellsUsed entries more) call (stays r new call.0) (λ h is c ring. put-same Consumer _ _ _ _ (ap (λ x. whole_of (chaptered_ring h.taken.handed_out x)) c.0) ring)
 
     module _ (after : ChapterPassView) (put : PutsChapterState out new after) where
-      pub took-one : (t : Taken) → TakesInChapter t r new → LeavesConsumer v after (got_by (bytes_by v) t) (handed_out_by v) (InKnownChapter (handed_out_by v) (TakesInChapter t))
+      pub took-one : (t : Taken) → TakesInChapter t r new → LeavesConsumer v after (got_by (bytes_by v) t) (handed_out_by v) (InKnownRoom (room_by v) (handed_out_by v) (TakesInChapter t))
       took-one t call = leaves after put (TakesInChapter t) call (same-taken r new t call.0) (got_by (bytes_by v) t)
           (λ h is c. after-take (seen_by v) _ _ _ t h.was_ring.is_ring (takes-whole _ _ _ is.continues t c))
 
-      pub took-many : (n : ℕ) (ts : List Taken) → IsSameChapter r new → TakesManyInChapter n ts r new → LeavesConsumer v after (got_by_all (bytes_by v) ts) (handed_out_by v) (InKnownChapter (handed_out_by v) (TakesManyInChapter n ts))
+      pub took-many : (n : ℕ) (ts : List Taken) → IsSameChapter r new → TakesManyInChapter n ts r new → LeavesConsumer v after (got_by_all (bytes_by v) ts) (handed_out_by v) (InKnownRoom (room_by v) (handed_out_by v) (TakesManyInChapter n ts))
       took-many n ts same call = leaves after put (TakesManyInChapter n ts) call same (got_by_all (bytes_by v) ts)
           (λ h is c. after-many _ _ _ n ts h.was_ring.is_ring (many-whole _ _ _ n ts is c))
 
       pub told-used : (entries more : ℕ) → TellsUsed entries more r new → LeavesConsumer v after (bytes_by v) (handed_out_by v) (InKnownChapter (handed_out_by v) (TellsUsed entries more))
-      told-used entries more call = leaves after put (TellsUsed entries more) call (stays r new call.0) (bytes_by v)
-          (λ h is c. after-same (seen_by v) _ _ _ Consumer (ap (λ x. whole_of (chaptered_ring h.taken.handed_out x)) c.0))
+      told-used entries more call =
+          let e = leaves after put (TellsUsed entries more) call (stays r new call.0) (bytes_by v) (λ h is c. after-same (seen_by v) _ _ _ Consumer (ap (λ x. whole_of (chaptered_ring h.taken.handed_out x)) c.0)) in
+          let t = e.call in
+          record {
+            idle = e.idle;
+            call = record { point = t.point; left = t.left; goes_on = t.goes_on; was_ring = t.was_ring; called = t.called.call; is_ring = t.is_ring; seen = t.seen };
+            bytes = e.bytes;
+            room = e.room;
+            chapters = e.chapters;
+          }
 
   -- ---- a chapter is handed out
 

@@ -1,5 +1,5 @@
 -- A call under the lock of a ring with hands: that the state may be put back, and what the pass knows then.
-use Rattle.std.proofs.Common.{◌≡◌, ℕ, ◌<◌, ◌≤◌, inl, inr, List, [], ◌∷◌, Option, Some, None, length, set, refl, sym, ap, ◌∙◌, subst}
+use Rattle.std.proofs.Common.{◌≡◌, ℕ, ◌<◌, ◌≤◌, inl, inr, [], ◌∷◌, Option, Some, None, length, set, refl, sym, ap, ◌∙◌, subst}
 use Rattle.std.proofs.lemmas.Bool.{cases_lt}
 use Rattle.std.proofs.lemmas.List.{get_or_past}
 use Rattle.rb_history.specs.ReservationModel.{Granted}
@@ -11,13 +11,13 @@ use Rattle.rb_chapter_ring.proofs.Chain.{binds-continue}
 use Rattle.rb_ledger.specs.Roles.{Role, Book, book_of}
 use Rattle.rb_ledger.specs.Roles.Role.{Worker}
 use Rattle.rb_ledger.proofs.Histories.{all-seen}
-use Rattle.rb_ledger.specs.ChapteredRing.{ChapteredRing, chaptered_ring, whole_of}
+use Rattle.rb_ledger.specs.ChapteredRing.{chaptered_ring, whole_of}
 use Rattle.rb_ledger.specs.ChapterLockSteps.{MayPutChapter, PutsChapterState, chapter_view_after_put, chaptered_after}
 use Rattle.rb_ledger.specs.LockedChapterCalls.{LockedChapterCall}
 use Rattle.rb_ledger.specs.inner.ChapterRooms.{InRoomAt}
 use Rattle.rb_ledger.proofs.ChapterSteps.{has-same, handed-out-same}
 use Rattle.rb_chapter_ring.specs.declared.out_record.OutRecord.{OutRecord}
-use Rattle.rb_chapter_ring.specs.Hands.{out_record, Hands, HandBook, in_hand, hands_of, hand_at, with_hand, IsFree}
+use Rattle.rb_chapter_ring.specs.Hands.{out_record, Hands, in_hand, hands_of, hand_at, with_hand, IsFree}
 use Rattle.rb_chapter_ring.specs.HandRing.{HandRing, HasHands, HasInHand}
 use Rattle.rb_chapter_ring.proofs.ChangedHands.{own-hands}
 use Rattle.rb_chapter_ring.proofs.HandCalls.{to-whole}

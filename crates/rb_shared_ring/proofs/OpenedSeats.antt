@@ -15,7 +15,7 @@ use Rattle.rb_chapter_ring.proofs.Chain.{handed-out-bind}
 use Rattle.rb_ledger.proofs.ChapterSteps.{facts-make-ring}
 use Rattle.rb_history.specs.Calls.{IsBusy}
 use Rattle.rb_chapter_ring.specs.declared.out_record.OutRecord.{OutRecord}
-use Rattle.rb_chapter_ring.specs.Hands.{in_hand, free_hands, free_book}
+use Rattle.rb_chapter_ring.specs.Hands.{in_hand, free_hands}
 use Rattle.rb_chapter_ring.specs.HandRing.{HandRing, hand_ring}
 use Rattle.rb_ledger.specs.HandKnowledge.{HandPassView, hand_view}
 use Rattle.rb_ledger.specs.HandLockSteps.{OpensHandState, opening_hands, opening_worker_hands, first_hand_role, other_hand_roles}

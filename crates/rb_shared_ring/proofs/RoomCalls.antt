@@ -19,7 +19,8 @@ use Rattle.rb_chapter_ring.specs.RingFaults.{RefusesInChapter}
 use Rattle.rb_ledger.specs.Roles.{Book}
 use Rattle.rb_ledger.specs.Roles.Role.{Worker}
 use Rattle.rb_ledger.specs.LockedCalls.{LockedCall, SubmitsAt, DiscardsAt, Queries}
-use Rattle.rb_ledger.specs.LockedChapterCalls.{LockedChapterCall, SubmitsInChapter, DiscardsInChapter, QueriesInChapter}
+use Rattle.rb_ledger.specs.LockedChapterCalls.{LockedChapterCall}
+use Rattle.rb_ledger.specs.inner.ChapterAnswers.{SubmitsInChapter, DiscardsInChapter, QueriesInChapter}
 use Rattle.rb_ledger.specs.EntryRoom.{InRoom}
 use Rattle.rb_ledger.specs.inner.ChapterRooms.{InRoomAt}
 use Rattle.rb_ledger.proofs.WholeCalls.{said, due-same, submits-whole, discards-whole, queries-whole}

@@ -1,6 +1,5 @@
 -- A worker's numbers after each call on a shared ring over chapters.
-use Rattle.std.proofs.Common.{◌≡◌, ℕ, ◌<◌, ◌≤◌, ◌^◌, ◌++◌, List, length, sym, ap, ◌∙◌, subst, arith, Result, Ok, Err, IfOk}
-use Rattle.rb_history.specs.declared.entries.Entry.{Entry}
+use Rattle.std.proofs.Common.{◌≡◌, ℕ, ◌<◌, ◌≤◌, ◌^◌, List, length, sym, ap, ◌∙◌, subst, arith, Result, Ok, Err, IfOk}
 use Rattle.rb_history.specs.declared.answers.Notice.{Notice}
 use Rattle.rb_history.specs.declared.answers.Stray.{Stray}
 use Rattle.rb_history.specs.declared.tally.Tally.{Tally}
@@ -21,12 +20,13 @@ use Rattle.rb_shared_ring.specs.declared.audit.Audit.{Audit}
 use Rattle.rb_ledger.specs.Roles.{Role, Book, book_of}
 use Rattle.rb_ledger.specs.Roles.Role.{Worker}
 use Rattle.rb_ledger.specs.Seats.{IsBook, Ties}
-use Rattle.rb_ledger.specs.LockedCalls.{LockedCall, Reserves, OutputsAt, submitted_by, discarded_by}
+use Rattle.rb_ledger.specs.LockedCalls.{LockedCall, Reserves, OutputsAt, SubmitsAt, DiscardsAt, Queries, submitted_by, discarded_by}
 use Rattle.rb_ledger.proofs.Seated.{ring-book, ties-goes, reserve-ties, submit-ties, discard-ties, output-ties, query-ties, serial-is}
 use Rattle.rb_ledger.specs.ChapteredRing.{ChapteredRing, chaptered_ring, whole_of}
-use Rattle.rb_ledger.specs.LockedChapterCalls.{LockedChapterCall, InOneChapter, SubmitsInChapter, DiscardsInChapter, QueriesInChapter}
+use Rattle.rb_ledger.specs.LockedChapterCalls.{LockedChapterCall, InOneChapter}
+use Rattle.rb_ledger.specs.inner.ChapterAnswers.{SubmitsInChapter, DiscardsInChapter, QueriesInChapter}
 use Rattle.rb_chapter_ring.proofs.Chain.{binds-continue}
-use Rattle.rb_ledger.proofs.WholeCalls.{call-whole, with-worker, each-call-is-whole}
+use Rattle.rb_ledger.proofs.WholeCalls.{call-whole, with-worker, submits-whole, discards-whole, queries-whole}
 use Rattle.rb_ledger.proofs.EntryRoom.{totals-are}
 use Rattle.rb_shared_ring.specs.SharedCalls.{IsRefusedInChapterAs, reserved_in_chapter_by, output_in_chapter_by}
 use Rattle.rb_shared_ring.specs.inner.ChapterAnswers.{ReservesInChapter, OutputsInChapter, AuditsInChapter}
@@ -116,13 +116,13 @@ module _ (w : ℕ) (t : Tally) (b a : Book) (ties : Ties w t b) where
         subst (λ u. Ties w u a) (tally-output t r) (output-ties w t b a bytes flags (whole_answer r) (λ old. Unit {0}) whole ties)
 
   pub submit-tied : (g : Granted) (flags : ℕ) (r : Result Notice Stray) → g.worker ≡ w → LockedChapterCall (Worker w) b a (InOneChapter (SubmitsInChapter g flags r)) → Ties w (submitted_by t r) a
-  submit-tied g flags r mine c = submit-ties w t b a g flags r mine ((each-call-is-whole b a).submits w g flags r c) ties
+  submit-tied g flags r mine c = submit-ties w t b a g flags r mine (call-whole (Worker w) b a (SubmitsInChapter g flags r) (SubmitsAt g flags r) (λ earlier old new is x. submits-whole earlier old new is g flags r x) c) ties
 
   pub discard-tied : (g : Granted) (flags : ℕ) (r : Result Notice Stray) → g.worker ≡ w → LockedChapterCall (Worker w) b a (InOneChapter (DiscardsInChapter g flags r)) → Ties w (discarded_by t r) a
-  discard-tied g flags r mine c = discard-ties w t b a g flags r mine ((each-call-is-whole b a).discards w g flags r c) ties
+  discard-tied g flags r mine c = discard-ties w t b a g flags r mine (call-whole (Worker w) b a (DiscardsInChapter g flags r) (DiscardsAt g flags r) (λ earlier old new is x. discards-whole earlier old new is g flags r x) c) ties
 
   pub query-tied : (what n : ℕ) → LockedChapterCall (Worker w) b a (InOneChapter (QueriesInChapter what n)) → Ties w t a
-  query-tied what n c = query-ties w t b a what n ((each-call-is-whole b a).queries w what n c) ties
+  query-tied what n c = query-ties w t b a what n (call-whole (Worker w) b a (QueriesInChapter what n) (Queries what n) (λ earlier old new is x. queries-whole earlier old new is what n x) c) ties
 
   -- an audit: the ring is as it was
   module _ (x : Audit) (c : LockedChapterCall (Worker w) b a (InOneChapter (AuditsInChapter w x))) where

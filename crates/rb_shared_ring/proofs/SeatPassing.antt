@@ -1,13 +1,11 @@
 -- Each call of a worker's seat under the lock: that the state may be put back with its hands, and what the seat's pass knows then.
-use Rattle.std.proofs.Common.{◌≡◌, ℕ, ◌<◌, List, Some, None, length, set, refl, sym, ap, ◌∙◌, subst, Result, Ok, Err, IfOk}
+use Rattle.std.proofs.Common.{◌≡◌, ℕ, ◌<◌, List, Some, None, set, refl, ap, ◌∙◌, Result, Ok, Err, IfOk}
 use Rattle.std.specs.FinMap.{insert}
 use Rattle.rb_history.specs.declared.answers.Notice.{Notice}
-use Rattle.rb_history.specs.ReservationModel.{Granted}
-use Rattle.rb_chapter_ring.specs.ChapterRing.{ChapterRing}
 use Rattle.rb_chapter_ring.specs.ChapterCalls.{producer_now}
 use Rattle.rb_chapter_ring.specs.declared.faults.ReserveFault.{ReserveFault}
 use Rattle.rb_ledger.specs.Roles.Role.{Worker}
-use Rattle.rb_ledger.specs.LockedChapterCalls.{SubmitsInChapter, DiscardsInChapter, QueriesInChapter}
+use Rattle.rb_ledger.specs.inner.ChapterAnswers.{SubmitsInChapter, DiscardsInChapter, QueriesInChapter}
 use Rattle.rb_chapter_ring.specs.Hands.{out_record, Hands, hands_of, with_hand, IsFree}
 use Rattle.rb_chapter_ring.specs.HandRing.{HandRing}
 use Rattle.rb_chapter_ring.specs.HandGranted.{HandGranted}
@@ -21,7 +19,7 @@ use Rattle.rb_shared_ring.specs.inner.HandPasses.{bytes_with, hands_by, IsIdleWi
 use Rattle.rb_shared_ring.specs.inner.LentState.{IsKeptHandRing}
 use Rattle.rb_shared_ring.proofs.WholeAnswers.{stays, same-reserved, same-output, same-submitted, same-discarded}
 use Rattle.rb_shared_ring.proofs.WorkerPassing as chapter
-use Rattle.rb_shared_ring.proofs.HandPassing.{LeavesSeat, chapter-idle, chapter-out, put-chapter, may-put-same, may-put, may-put-changed, hand-changed, hands-same, leaves-seat}
+use Rattle.rb_shared_ring.proofs.HandPassing.{LeavesSeat, chapter-idle, chapter-out, put-chapter, may-put-same, may-put-changed, hand-changed, hands-same, leaves-seat}
 
 -- the same refusal, of what was granted without its hand
 pub refused-in : (fault : ReserveFault) (a : Result HandGranted (ReserveFault × List ℕ)) → IsRefusedInChapterAs fault a → IsRefusedInChapterAs fault (granted_in a)

@@ -9,23 +9,25 @@ use Rattle.rb_history.specs.RingModel.{Ring}
 use Rattle.rb_history.specs.ManyTakes.{TakesMany}
 use Rattle.rb_history.proofs.Lists.{sum_by-cons}
 use Rattle.rb_chapter_ring.specs.Chapters.{Chapter, joined}
-use Rattle.rb_chapter_ring.specs.WholeHistory.{IsKept}
 use Rattle.rb_chapter_ring.specs.ManyTakes.{TakesManyInChapter}
 use Rattle.rb_ledger.specs.Roles.{Book, book_of}
 use Rattle.rb_ledger.specs.Roles.Role.{Consumer}
 use Rattle.rb_ledger.specs.Seats.{IsBook, ConsumerTies}
-use Rattle.rb_ledger.specs.LockedCalls.{LockedCall, events_in, skips_in, span_in, IsTakenAt}
+use Rattle.rb_ledger.specs.LockedCalls.{LockedCall, TakesAt, events_in, skips_in, span_in, IsTakenAt}
 use Rattle.rb_ledger.specs.ManyTakes.{events_among, skips_among, span_among, AreTakenFrom}
 use Rattle.rb_ledger.proofs.Seated.{taker-goes-on, take-ties, take-place, take-setup}
 use Rattle.rb_ledger.proofs.ManyTakes.{many-ties, many-places, many-setup}
-use Rattle.rb_ledger.specs.ChapteredRing.{whole_of}
-use Rattle.rb_ledger.specs.LockedChapterCalls.{LockedChapterCall, InKnownChapter, TakesInChapter, TellsUsed, HandsOutNext}
-use Rattle.rb_chapter_ring.proofs.Chain.{binds-continue}
-use Rattle.rb_ledger.proofs.WholeCalls.{each-call-is-whole}
+use Rattle.rb_ledger.specs.EntryRoom.{InRoomBehind}
+use Rattle.rb_ledger.specs.LockedChapterCalls.{LockedChapterCall, InKnownChapter, TellsUsed, HandsOutNext}
+use Rattle.rb_ledger.specs.inner.ChapterAnswers.{TakesInChapter}
+use Rattle.rb_ledger.specs.inner.ChapterRooms.{InKnownRoom}
+use Rattle.rb_ledger.proofs.WholeCalls.{takes-whole, each-call-is-whole}
+use Rattle.rb_ledger.proofs.EntryRoom.{call-behind, behind-over-all}
 use Rattle.rb_ledger.specs.HandKnowledge.{HandPassView}
 use Rattle.rb_shared_ring.specs.inner.HandPasses.{seen_with, room_with, handed_out_with, IsIdleWith}
 use Rattle.rb_shared_ring.specs.inner.SeatsKeep.{KeepsConsumer, CountsTakes}
-use Rattle.rb_shared_ring.proofs.ConsumerPassing.{many-whole}
+use Rattle.rb_shared_ring.proofs.WholeAnswers.{same-taken}
+use Rattle.rb_shared_ring.proofs.ConsumerPassing.{many-whole, same-each}
 
 -- what was taken moved the position by a header at least
 span-least : (n : ℕ) → 8 ≤ span n
@@ -51,20 +53,13 @@ pub record AreTakerNumbers (c s p e k m : ℕ) (a b : Book) : Type 0 where
 consumer-low : (r : Ring) (a : Book) → a ≡ book_of r → r.consumer ≡ consumer_of r.setup.start r.history → r.consumer ≤ r.producer → r.producer ≤ 2 ^ 62 → consumer_of a.setup.start a.history ≤ 2 ^ 62
 consumer-low r a seen is low high = subst (λ (x : Book). consumer_of x.setup.start x.history ≤ 2 ^ 62) (sym seen) (omega (arith, is, low, high))
 
--- many takes over the whole history
-pub many-turn : (b a : Book) (handed_out : List Chapter) (n : ℕ) (ts : List Taken) → LockedChapterCall Consumer b a (InKnownChapter handed_out (TakesManyInChapter n ts)) → LockedCall Consumer b a (TakesMany n ts)
-many-turn b a handed_out n ts call =
-    let has = call.was_ring.has_chapters in
-    let is : IsKept (joined call.point.handed_out) call.point.ring.chapter = record { continues = binds-continue call.point.handed_out call.point.ring.chapter has.binds; room = has.room } in
-    record {
-      point = whole_of call.point;
-      left = whole_of call.left;
-      goes_on = call.goes_on;
-      was_ring = call.was_ring.is_ring;
-      called = subst (λ hs. TakesMany n ts (whole_of call.point) (whole_of (record { handed_out = hs; ring = call.left.ring }))) (sym call.called.1.0) (many-whole (joined call.point.handed_out) call.point.ring call.left.ring n ts is call.called.1.1);
-      is_ring = call.is_ring.is_ring;
-      seen = call.seen;
-    }
+-- a take, and many, over the whole history
+module _ (b a : Book) (room : ℕ) (handed_out : List Chapter) where
+  pub take-called : (t : Taken) → LockedChapterCall Consumer b a (InKnownRoom room handed_out (TakesInChapter t)) → LockedCall Consumer b a (InRoomBehind room (joined handed_out) (TakesAt t))
+  take-called t = call-behind b a room handed_out (TakesInChapter t) (TakesAt t) (λ earlier old new is kept x. (same-taken old new t x.0, takes-whole earlier old new is t x))
+
+  pub many-called : (n : ℕ) (ts : List Taken) → LockedChapterCall Consumer b a (InKnownRoom room handed_out (TakesManyInChapter n ts)) → LockedCall Consumer b a (InRoomBehind room (joined handed_out) (TakesMany n ts))
+  many-called n ts = call-behind b a room handed_out (TakesManyInChapter n ts) (TakesMany n ts) (λ earlier old new is kept x. (same-each old new ts x.each, many-whole earlier old new n ts (record { continues = is; room = kept }) x))
 
 module _ (c s p : ℕ) (b a : Book) (ties : ConsumerTies c s p b) (spaced : 8 * (c + s) ≤ p) where
   numbers : (e k m : ℕ) → ConsumerTies (c + e) (s + k) (p + m) a → 8 * (e + k) ≤ m → consumer_of a.setup.start a.history ≤ 2 ^ 62 → a.setup ≡ b.setup → AreTakerNumbers c s p e k m a b
@@ -76,26 +71,26 @@ module _ (c s p : ℕ) (b a : Book) (ties : ConsumerTies c s p b) (spaced : 8 * 
   }
 
   -- one take, as a call counts it
-  pub take-counts : (handed_out : List Chapter) (t : Taken) → LockedChapterCall Consumer b a (InKnownChapter handed_out (TakesInChapter t)) → AreTakerNumbers c s p (events_in t) (skips_in t) (span_in t) a b
-  take-counts handed_out t call =
-      let turn = (each-call-is-whole b a).takes handed_out t call in
+  pub take-counts : (room : ℕ) (handed_out : List Chapter) (t : Taken) → LockedChapterCall Consumer b a (InKnownRoom room handed_out (TakesInChapter t)) → AreTakerNumbers c s p (events_in t) (skips_in t) (span_in t) a b
+  take-counts room handed_out t call =
+      let turn = behind-over-all b a room (joined handed_out) (TakesAt t) (take-called b a room handed_out t call) in
       let left = turn.is_ring in
       numbers (events_in t) (skips_in t) (span_in t) (take-ties c s p b a t turn ties) (spaced-one t)
       (consumer-low turn.left a turn.seen left.stands.consumer_is left.bounded.consumer left.bounded.producer) (take-setup c s p b a t turn ties)
 
-  pub take-stood : (handed_out : List Chapter) (t : Taken) → LockedChapterCall Consumer b a (InKnownChapter handed_out (TakesInChapter t)) → IsTakenAt p t
-  take-stood handed_out t call = take-place c s p b a t ((each-call-is-whole b a).takes handed_out t call) ties
+  pub take-stood : (room : ℕ) (handed_out : List Chapter) (t : Taken) → LockedChapterCall Consumer b a (InKnownRoom room handed_out (TakesInChapter t)) → IsTakenAt p t
+  take-stood room handed_out t call = take-place c s p b a t (behind-over-all b a room (joined handed_out) (TakesAt t) (take-called b a room handed_out t call)) ties
 
   -- many takes
-  pub many-counts : (handed_out : List Chapter) (n : ℕ) (ts : List Taken) → LockedChapterCall Consumer b a (InKnownChapter handed_out (TakesManyInChapter n ts)) → AreTakerNumbers c s p (events_among ts) (skips_among ts) (span_among ts) a b
-  many-counts handed_out n ts call =
-      let turn = many-turn b a handed_out n ts call in
+  pub many-counts : (room : ℕ) (handed_out : List Chapter) (n : ℕ) (ts : List Taken) → LockedChapterCall Consumer b a (InKnownRoom room handed_out (TakesManyInChapter n ts)) → AreTakerNumbers c s p (events_among ts) (skips_among ts) (span_among ts) a b
+  many-counts room handed_out n ts call =
+      let turn = behind-over-all b a room (joined handed_out) (TakesMany n ts) (many-called b a room handed_out n ts call) in
       let left = turn.is_ring in
       numbers (events_among ts) (skips_among ts) (span_among ts) (many-ties c s p b a n ts turn ties) (spaced-all ts)
       (consumer-low turn.left a turn.seen left.stands.consumer_is left.bounded.consumer left.bounded.producer) (many-setup c s p b a n ts turn ties)
 
-  pub many-stood : (handed_out : List Chapter) (n : ℕ) (ts : List Taken) → LockedChapterCall Consumer b a (InKnownChapter handed_out (TakesManyInChapter n ts)) → AreTakenFrom p ts
-  many-stood handed_out n ts call = many-places c s p b a n ts (many-turn b a handed_out n ts call) ties
+  pub many-stood : (room : ℕ) (handed_out : List Chapter) (n : ℕ) (ts : List Taken) → LockedChapterCall Consumer b a (InKnownRoom room handed_out (TakesManyInChapter n ts)) → AreTakenFrom p ts
+  many-stood room handed_out n ts call = many-places c s p b a n ts (behind-over-all b a room (joined handed_out) (TakesMany n ts) (many-called b a room handed_out n ts call)) ties
 
   -- the ring is as it was
   same-counts : LockedCall Consumer b a (λ old new. new ≡ old) → ConsumerTies c s p a × (a.setup ≡ b.setup)

@@ -1,5 +1,5 @@
 -- Each call of the consumer's seat under the lock: that the state may be put back with its hands, which it leaves, and what the seat's pass knows then.
-use Rattle.std.proofs.Common.{◌≡◌, ℕ, List}
+use Rattle.std.proofs.Common.{◌≡◌, List}
 use Rattle.rb_history.specs.RingModel.{Contents}
 use Rattle.rb_chapter_ring.specs.Chapters.{Chapter}
 use Rattle.rb_ledger.specs.Roles.Role.{Consumer}

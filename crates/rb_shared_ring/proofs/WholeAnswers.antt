@@ -22,7 +22,7 @@ use Rattle.rb_chapter_ring.specs.declared.faults.ReserveFault.{ReserveFault}
 use Rattle.rb_chapter_ring.specs.declared.faults.ReserveFault.TheVariants.{Full, Flags, ChapterFull, Foreign, HandsFull}
 use Rattle.rb_chapter_ring.specs.RingFaults.{RefusesInChapter}
 use Rattle.rb_ledger.specs.LockedCalls.{Reserves, OutputsAt, reserved_by, output_by, sent_by_output}
-use Rattle.rb_ledger.specs.LockedChapterCalls.{SubmitsInChapter, DiscardsInChapter}
+use Rattle.rb_ledger.specs.inner.ChapterAnswers.{SubmitsInChapter, DiscardsInChapter}
 use Rattle.rb_ledger.proofs.WholeCalls.{said, due-same}
 use Rattle.rb_shared_ring.specs.AnswersOverAll.{whole_fault, whole_answer}
 use Rattle.rb_shared_ring.specs.SharedCalls.{reserved_in_chapter_by, output_in_chapter_by, sent_by_chapter_output}

@@ -1,5 +1,5 @@
 -- Each call with room for entries, by its answer, is a call over the whole history.
-use Rattle.std.proofs.Common.{◌≡◌, ◌≢◌, ◌↔◌, ℕ, List, length, Result, Ok, Err}
+use Rattle.std.proofs.Common.{ℕ, List, length, Result, Ok, Err}
 use Rattle.rb_history.specs.declared.answers.Notice.{Notice}
 use Rattle.rb_history.specs.ReservationModel.{Granted}
 use Rattle.rb_history.specs.RingModel.{Ring}
@@ -12,7 +12,6 @@ use Rattle.rb_ledger.proofs.EntryRoom.{without-room}
 use Rattle.rb_shared_ring.specs.SharedCalls.{RefusesInRoom, ReservesInRoom, OutputsInRoom}
 use Rattle.rb_shared_ring.specs.AnswersOverAll.{whole_fault, whole_answer, EachAnswerIsWhole}
 use Rattle.rb_shared_ring.proofs.WholeAnswers.{flags-not, flags-exact}
-use Rattle.rb_shared_ring.proofs.TakenNumbers.{many-turn}
 
 refuses-over-all : (room cut w n : ℕ) (f : ReserveFault) (old new : Ring) → RefusesInRoom room cut old new w n f → Refuses old new w n (whole_fault f)
 refuses-over-all room cut w n Full old new a = a.0
@@ -34,5 +33,4 @@ each-answer-is-whole before after = record {
   reserves = λ room cut w n answer. without-room (Worker w) before after room cut (ReservesInRoom room cut w n answer) (Reserves w n (whole_answer answer)) (reserves-over-all room cut w n answer);
   outputs = λ room cut w bytes flags answer.
       without-room (Worker w) before after room cut (OutputsInRoom room cut w bytes flags answer) (OutputsAt w bytes flags (whole_answer answer)) (outputs-over-all room cut w bytes flags answer);
-  takes_many = λ handed_out n taken t. many-turn before after handed_out n taken t;
 }

@@ -21,7 +21,8 @@ use Rattle.rb_ledger.proofs.Passing.{after-same, after-reserve, after-submit, af
 use Rattle.rb_ledger.specs.ChapteredRing.{ChapteredRing, chaptered_ring, whole_of}
 use Rattle.rb_ledger.specs.ChapterKnowledge.{ChapterPassView}
 use Rattle.rb_ledger.specs.ChapterLockSteps.{TakesChapterState, MayPutChapter, PutsChapterState}
-use Rattle.rb_ledger.specs.LockedChapterCalls.{LockedChapterCall, SubmitsInChapter, DiscardsInChapter, QueriesInChapter}
+use Rattle.rb_ledger.specs.LockedChapterCalls.{LockedChapterCall}
+use Rattle.rb_ledger.specs.inner.ChapterAnswers.{SubmitsInChapter, DiscardsInChapter, QueriesInChapter}
 use Rattle.rb_ledger.specs.inner.ChapterRooms.{InRoomAt}
 use Rattle.rb_chapter_ring.proofs.Chain.{binds-continue}
 use Rattle.rb_ledger.proofs.WholeCalls.{submits-whole, discards-whole, queries-whole}

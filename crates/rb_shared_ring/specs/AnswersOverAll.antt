@@ -3,18 +3,13 @@ use Rattle.std.specs.Prelude.{ℕ, List, Result, Ok, Err}
 use Rattle.rb_history.specs.declared.answers.Notice.{Notice}
 use Rattle.rb_history.specs.declared.answers.ReserveFault.{ReserveFault as WholeFault}
 use Rattle.rb_history.specs.declared.answers.ReserveFault.TheVariants.{Full as WholeFull, Memory, Flags as WholeFlags, Foreign as WholeForeign}
-use Rattle.rb_history.specs.declared.answers.Taken.{Taken}
 use Rattle.rb_history.specs.ReservationModel.{Granted}
-use Rattle.rb_history.specs.ManyTakes.{TakesMany}
-use Rattle.rb_chapter_ring.specs.Chapters.{Chapter}
-use Rattle.rb_chapter_ring.specs.ManyTakes.{TakesManyInChapter}
 use Rattle.rb_chapter_ring.specs.declared.faults.ReserveFault.{ReserveFault}
 use Rattle.rb_chapter_ring.specs.declared.faults.ReserveFault.TheVariants.{Full, Flags, ChapterFull, Foreign, HandsFull}
 use Rattle.rb_ledger.specs.Roles.{Book}
-use Rattle.rb_ledger.specs.Roles.Role.{Consumer, Worker}
+use Rattle.rb_ledger.specs.Roles.Role.{Worker}
 use Rattle.rb_ledger.specs.LockedCalls.{LockedCall, Reserves, OutputsAt}
 use Rattle.rb_ledger.specs.EntryRoom.{InRoom}
-use Rattle.rb_ledger.specs.LockedChapterCalls.{LockedChapterCall, InKnownChapter}
 use Rattle.rb_shared_ring.specs.SharedCalls.{ReservesInRoom, OutputsInRoom}
 
 -- to a ring that keeps its whole history want of room for entries is a refusal that is not logged and changes nothing, as want of memory is
@@ -34,8 +29,6 @@ pub record AreWholeAnswers (before after : Book) : Type 0 where
       → LockedCall (Worker w) before after (InRoom room cut (ReservesInRoom room cut w n answer)) → LockedCall (Worker w) before after (Reserves w n (whole_answer answer))
   pub outputs : (room cut w : ℕ) (bytes : List ℕ) (flags : ℕ) (answer : Result Notice (ReserveFault × List ℕ))
       → LockedCall (Worker w) before after (InRoom room cut (OutputsInRoom room cut w bytes flags answer)) → LockedCall (Worker w) before after (OutputsAt w bytes flags (whole_answer answer))
-  pub takes_many : (handed_out : List Chapter) (n : ℕ) (taken : List Taken)
-      → LockedChapterCall Consumer before after (InKnownChapter handed_out (TakesManyInChapter n taken)) → LockedCall Consumer before after (TakesMany n taken)
 
 abbrev pub EachAnswerIsWhole : Type 0
 EachAnswerIsWhole = (before after : Book) → AreWholeAnswers before after

@@ -18,7 +18,7 @@ use Rattle.rb_chapter_ring.specs.declared.out_record.OutRecord.{OutRecord}
 use Rattle.rb_chapter_ring.specs.Hands.{Hands, in_hand, out_record}
 use Rattle.rb_chapter_ring.specs.HandGranted.{HandGranted}
 use Rattle.rb_ledger.specs.Seats.{Shared, WorkerSeat}
-use Rattle.rb_ledger.specs.EntryRoom.{HasGrantRoom, HasRefusalRoom, FindsNoEntryRoom}
+use Rattle.rb_ledger.specs.EntryRoom.{MayLogGrant, MayLogRefusal, FindsNoEntryRoom}
 use Rattle.rb_shared_ring.specs.declared.audit.Audit.{Audit}
 
 -- ---- the calls, as their arguments and answers say, of a ring with this room for entries, of whose history the first `cut` were handed out
@@ -26,7 +26,7 @@ use Rattle.rb_shared_ring.specs.declared.audit.Audit.{Audit}
 -- why no record of n bytes was granted to the worker. It is Full, and logged, where the ring has no room for the record and the refusal may be logged;
 -- ChapterFull, and nothing changes, where there is no room for the entry that would be logged. What a seat is refused before makes no call
 abbrev pub RefusesInRoom : (room cut : ℕ) → Ring → Ring → ℕ → ℕ → ReserveFault → Type 0
-RefusesInRoom room cut old new w n Full = FindsFull old new w n × HasRefusalRoom room cut w old
+RefusesInRoom room cut old new w n Full = FindsFull old new w n × MayLogRefusal room cut w old
 RefusesInRoom room cut old new w n ChapterFull = FindsNoEntryRoom room cut old new w n
 RefusesInRoom room cut old new w n Flags = new ≡ old
 RefusesInRoom room cut old new w n Foreign = ⊥
@@ -34,12 +34,12 @@ RefusesInRoom room cut old new w n HandsFull = ⊥
 
 -- a record is granted where the ring has room for it, and for all that it will log
 abbrev pub ReservesInRoom : (room cut : ℕ) → ℕ → ℕ → Result Granted (ReserveFault × List ℕ) → Ring → Ring → Type 0
-ReservesInRoom room cut w n (Ok r) old new = Grants old new w n r.pos r.serial × HasGrantRoom room cut old × (r.worker ≡ w) × (r.bytes ≡ replicate n 0)
+ReservesInRoom room cut w n (Ok r) old new = Grants old new w n r.pos r.serial × MayLogGrant room cut old × (r.worker ≡ w) × (r.bytes ≡ replicate n 0)
 ReservesInRoom room cut w n (Err e) old new = RefusesInRoom room cut old new w n e.0 × (e.0 ≢ Flags)
 
 abbrev pub OutputsInRoom : (room cut : ℕ) → ℕ → List ℕ → ℕ → Result Notice (ReserveFault × List ℕ) → Ring → Ring → Type 0
 OutputsInRoom room cut w bytes flags (Ok notice) old new =
-    Outputs old new w bytes × HasGrantRoom room cut old × ((notice ≡ Due) ↔ IsDue (consumer_now old) (producer_now old) flags) × (flags ≤ 3)
+    Outputs old new w bytes × MayLogGrant room cut old × ((notice ≡ Due) ↔ IsDue (consumer_now old) (producer_now old) flags) × (flags ≤ 3)
 OutputsInRoom room cut w bytes flags (Err e) old new = RefusesInRoom room cut old new w (length bytes) e.0 × ((e.0 ≡ Flags) ↔ (3 < flags))
 
 -- the positions, the counts and the numbers of the worker's entries are those of the whole history. Of the refusals of all workers it tells 2^64 - 1 at most

@@ -71,8 +71,8 @@ impl SharedRing {
     }
 
     /// Grants the seat's worker a record of `n` bytes into the seat's lowest free hand, in a sheet of as many, which become zeros. `Foreign` comes first,
-    /// then `HandsFull`, where no hand is free; `Full` is logged, and raises the refused count; `ChapterFull`, where the chapter has no room,
-    /// changes nothing. A refusal hands the sheet back.
+    /// then `HandsFull`, where no hand is free; `Full` is logged, and raises the refused count; `ChapterFull`, where there is no room for the entries
+    /// that it would log, changes nothing. A refusal hands the sheet back.
     pub fn reserve<R: Wait>(
         &self,
         rt: &R,

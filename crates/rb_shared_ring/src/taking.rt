@@ -2,12 +2,16 @@
 
 ghost use Rattle.std.specs.Prelude.{◌≡◌, ◌≢◌, ◌+◌, ◌<◌, ◌≤◌, ◌^◌, ◌↔◌, ◌++◌, IfOk, OnOk, IsErr, None, length, vec_len, vec_capacity};
 ghost use Rattle.crossbeam_queue.specs.Passes.{view, IsPassOf, IsSamePass, ruled_capacity};
-ghost use Rattle.rb_history.specs.ManyTakes.{pushed};
+ghost use Rattle.rb_history.specs.ManyTakes.{TakesMany, pushed};
 ghost use Rattle.rb_chapter_ring.specs.ManyTakes.{TakesManyInChapter};
 ghost use Rattle.rb_ledger.specs.Roles.Role.{Consumer};
-ghost use Rattle.rb_ledger.specs.LockedCalls.{got_by, events_in, skips_in, span_in, IsTakenAt};
+ghost use Rattle.rb_ledger.specs.LockedCalls.{LockedCall, TakesAt, got_by, events_in, skips_in, span_in, IsTakenAt};
 ghost use Rattle.rb_ledger.specs.ManyTakes.{events_among, skips_among, span_among, AreTakenFrom, got_by_all};
-ghost use Rattle.rb_ledger.specs.LockedChapterCalls.{LockedChapterCall, InKnownChapter, TakesInChapter};
+ghost use Rattle.rb_ledger.specs.ChapterSeats.{entries_out};
+ghost use Rattle.rb_ledger.specs.EntryRoom.{InRoomBehind};
+ghost use Rattle.rb_ledger.specs.LockedChapterCalls.{LockedChapterCall};
+ghost use Rattle.rb_ledger.specs.inner.ChapterAnswers.{TakesInChapter};
+ghost use Rattle.rb_ledger.specs.inner.ChapterRooms.{InKnownRoom};
 ghost use Rattle.rb_shared_ring.specs.SharedSeats.{IsSameChapterConsumer};
 ghost use Rattle.rb_shared_ring.specs.inner.HandCalls.{LeavesHands};
 ghost use Rattle.rb_shared_ring.specs.inner.HandPasses.{seen_with, bytes_with, room_with, handed_out_with, IsIdleWith};
@@ -25,7 +29,7 @@ fn take_with<R: Wait>(rt: &R, lock: &Lock, pass: &mut RingPass) -> Taken
     requires idle { IsIdleWith Consumer (view pass.old) }
     ensures same { IsSamePass pass.old pass.new }
     ensures idle { IsIdleWith Consumer (view pass.new) }
-    ensures call { LockedChapterCall Consumer (seen_with (view pass.old)) (seen_with (view pass.new)) (InKnownChapter (handed_out_with (view pass.old)) (TakesInChapter result)) }
+    ensures call { LockedChapterCall Consumer (seen_with (view pass.old)) (seen_with (view pass.new)) (InKnownRoom (room_with (view pass.old)) (handed_out_with (view pass.old)) (TakesInChapter result)) }
     ensures bytes { bytes_with (view pass.new) ≡ got_by (bytes_with (view pass.old)) result }
     ensures room { room_with (view pass.new) ≡ room_with (view pass.old) }
     ensures chapters { handed_out_with (view pass.new) ≡ handed_out_with (view pass.old) }
@@ -53,7 +57,7 @@ fn take_many_with<R: Wait>(
     requires room { vec_len out.old + n ≤ vec_capacity out.old }
     ensures same { IsSamePass pass.old pass.new }
     ensures idle { IsIdleWith Consumer (view pass.new) }
-    ensures call { LockedChapterCall Consumer (seen_with (view pass.old)) (seen_with (view pass.new)) (InKnownChapter (handed_out_with (view pass.old)) (TakesManyInChapter n (pushed out.old.items out.new.items))) }
+    ensures call { LockedChapterCall Consumer (seen_with (view pass.old)) (seen_with (view pass.new)) (InKnownRoom (room_with (view pass.old)) (handed_out_with (view pass.old)) (TakesManyInChapter n (pushed out.old.items out.new.items))) }
     ensures bytes { bytes_with (view pass.new) ≡ got_by_all (bytes_with (view pass.old)) (pushed out.old.items out.new.items) }
     ensures room { room_with (view pass.new) ≡ room_with (view pass.old) }
     ensures chapters { handed_out_with (view pass.new) ≡ handed_out_with (view pass.old) }
@@ -79,7 +83,7 @@ impl SharedRing {
         ensures seat { IsSameChapterConsumer me.old me.new }
         ensures chapters { me.new.handed_out ≡ me.old.handed_out }
         ensures released { (me.old.out ≡ None) × (me.new.out ≡ None) }
-        ensures call { IfOk result (λ t. LockedChapterCall Consumer me.old.seen me.new.seen (InKnownChapter me.old.handed_out (TakesInChapter t))) }
+        ensures call { IfOk result (λ t. LockedCall Consumer me.old.seen me.new.seen (InRoomBehind me.old.room (entries_out me.old) (TakesAt t))) }
         ensures place { IfOk result (λ t. IsTakenAt me.old.position t) }
         ensures position { IfOk result (λ t. me.new.position ≡ me.old.position + span_in t) }
         ensures consumed { IfOk result (λ t. me.new.consumed ≡ me.old.consumed + events_in t) }
@@ -118,7 +122,7 @@ impl SharedRing {
         ensures kept { out.new.items ≡ out.old.items ++ pushed out.old.items out.new.items }
         ensures capacity { vec_capacity out.new ≡ vec_capacity out.old }
         ensures count { IfOk result (λ count. count ≡ length (pushed out.old.items out.new.items)) }
-        ensures call { OnOk result (LockedChapterCall Consumer me.old.seen me.new.seen (InKnownChapter me.old.handed_out (TakesManyInChapter n (pushed out.old.items out.new.items)))) }
+        ensures call { OnOk result (LockedCall Consumer me.old.seen me.new.seen (InRoomBehind me.old.room (entries_out me.old) (TakesMany n (pushed out.old.items out.new.items)))) }
         ensures place { OnOk result (AreTakenFrom me.old.position (pushed out.old.items out.new.items)) }
         ensures position { OnOk result (me.new.position ≡ me.old.position + span_among (pushed out.old.items out.new.items)) }
         ensures consumed { OnOk result (me.new.consumed ≡ me.old.consumed + events_among (pushed out.old.items out.new.items)) }

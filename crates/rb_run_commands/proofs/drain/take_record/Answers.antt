@@ -1,11 +1,10 @@
 use Rattle.std.proofs.Common.{rules}
-use Rattle.rb_run_commands.proofs.Draining.{taken_over_all}
 use Rattle.rb_run_commands.proofs.drain.take_record.Goals as goal
 
 pub returns-in-Ok-clause-taken : goal.returns-in-Ok-clause-taken
 returns-in-Ok-clause-taken g c = record {
   is_record = search rules;
-  call = taken_over_all _ _ _ _ c.in-Ok.ensures.call;
+  call = c.in-Ok.ensures.call;
   place = c.in-Ok.ensures.place;
   moved = c.in-Ok.ensures.position;
   got = c.in-Ok.ensures.got;

@@ -1,4 +1,4 @@
-use Rattle.std.proofs.Common.{◌≡◌, refl, sym, subst}
+use Rattle.std.proofs.Common.{refl, sym, subst}
 use Rattle.rb_chapter_ring.specs.ChapterCalls.{HandsOut}
 use Rattle.rb_chapter_ring.specs.OpenedRing.{MayGoOnIn}
 use Rattle.rb_ledger.specs.Roles.Role.{Consumer}

@@ -1,4 +1,4 @@
-use Rattle.rb_ledger.specs.LockedChapterCalls.{QueriesInChapter}
+use Rattle.rb_ledger.specs.inner.ChapterAnswers.{QueriesInChapter}
 use Rattle.rb_shared_ring.specs.inner.HandCalls.{LeavesHands}
 use Rattle.rb_shared_ring.proofs.HandPassing.{called-in-hands}
 use Rattle.rb_shared_ring.proofs.SeatPassing.{put-query, queried}

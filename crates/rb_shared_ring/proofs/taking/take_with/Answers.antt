@@ -1,5 +1,5 @@
 use Rattle.rb_ledger.specs.Roles.Role.{Consumer}
-use Rattle.rb_ledger.specs.LockedChapterCalls.{TakesInChapter}
+use Rattle.rb_ledger.specs.inner.ChapterAnswers.{TakesInChapter}
 use Rattle.rb_shared_ring.specs.inner.HandCalls.{LeavesHands}
 use Rattle.rb_shared_ring.proofs.HandPassing.{called-in-hands, chapter-idle}
 use Rattle.rb_shared_ring.proofs.ConsumerPassing.{put-take, took-one}

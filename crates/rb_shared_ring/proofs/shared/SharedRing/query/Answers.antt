@@ -5,8 +5,6 @@ use Rattle.rb_ledger.specs.Seats.{WorkerSeat}
 use Rattle.rb_ledger.specs.LockedCalls.{LockedCall, Queries}
 use Rattle.rb_ledger.specs.EntryRoom.{InRoom}
 use Rattle.rb_ledger.proofs.WholeCalls.{in-one-chapter}
-use Rattle.rb_chapter_ring.specs.Hands.{Hands}
-use Rattle.rb_ledger.specs.NoStranger.{HoldsOwnBusy}
 use Rattle.rb_shared_ring.specs.inner.HandPasses.{seen_with, cut_by}
 use Rattle.rb_shared_ring.proofs.RoomCalls.{query-called}
 use Rattle.rb_shared_ring.proofs.SeatNumbers.{book-in, query-tied, keeps-hands}

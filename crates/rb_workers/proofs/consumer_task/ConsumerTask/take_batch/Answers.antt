@@ -1,6 +1,8 @@
 use Rattle.std.proofs.Common.{◌≡◌, List, refl, ap, sym, ◌∙◌, subst}
 use Rattle.rb_history.specs.TapeBytes.{end_of}
 use Rattle.rb_history.specs.declared.answers.Taken.{Taken}
+use Rattle.rb_history.specs.ManyTakes.{TakesMany}
+use Rattle.rb_ledger.proofs.EntryRoom.{behind-over-all}
 use Rattle.rb_tape.specs.Items.{tape_items}
 use Rattle.rb_workers.specs.Sink.{TakesAll}
 use Rattle.rb_workers.specs.inner.ConsumerTasks.{items_among}
@@ -22,8 +24,9 @@ returns g c =
     let items : c.items.result ≡ ts = c.items.ensures.value in
     let at : pos x ≡ mid.position = t.stays.1 ∙ (c.requires.ready.2 ∙ sym t.stays.0) in
     let moved : pos y ≡ now.position = c.give_all.ensures.moved ∙ (ap (λ n. end_of n (tape_items c.items.result)) at ∙ (ap (λ (l : List Taken). end_of mid.position (tape_items l)) items ∙ sym e.end)) in
-    let same = same_by_many old.batch.capacity ts mid now e.seat e.whole in
-    let given = many_given takes old.batch.capacity ts mid now x y e.whole e.place e.position e.got c.fill.ensures.chapters
+    let whole = behind-over-all _ _ _ _ (TakesMany old.batch.capacity ts) e.call in
+    let same = same_by_many old.batch.capacity ts mid now e.seat whole in
+    let given = many_given takes old.batch.capacity ts mid now x y whole e.place e.position e.got c.fill.ensures.chapters
     (subst (λ (l : List Taken). TakesAll takes x (items_among l) y) items c.give_all.ensures.given) in
     record {
       taken = (
