@@ -17,7 +17,6 @@ use rb_shared_ring::{Closing, ConsumerSeat, SharedRing};
 use std::alloc::Global;
 use std::process::Abort;
 use std::sync::Wait;
-use std::test::Fail;
 
 #[test]
 fn example_of_the_bytes_of_a_record(rt: HostRuntime) {
@@ -41,17 +40,18 @@ fn example_of_rb_lend(rt: HostRuntime) {
 }
 
 #[test]
-fn example_of_the_parts_of_memory(rt: HostRuntime) -> Result<(), Fail> {
-    let mut sheet = Sheet::new(rt.alloc(), 4)?;
+fn example_of_the_parts_of_memory(rt: HostRuntime) {
+    let mut sheet = sheet(&rt, rt.alloc(), 4);
     sheet.range_mut(1, 2).fill(9);
     let mut parts: Parts<&[u8], Sheet> = Parts::new([5, 6, 7].as_slice());
-    assert!(rt; matches!(parts.hold(sheet), Ok(Slot::First)));
-    assert_eq!(rt;
-        parts.read(Part::Record(Slot::First), 0, 2)?,
-        [0, 9].as_slice()
+    let slot = parts.hold(sheet).ok();
+    let read = parts.read(Part::Record(Slot::First), 0, 2).ok();
+    let is_outside = parts.read(Part::Ctx, 2, 2).is_err();
+    same(
+        &rt,
+        &(slot, read, is_outside),
+        &(Some(Slot::First), Some([0, 9].as_slice()), true),
     );
-    assert!(rt; parts.read(Part::Ctx, 2, 2).is_err());
-    Ok(())
 }
 
 #[test]

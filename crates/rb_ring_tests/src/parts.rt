@@ -4,7 +4,7 @@ ghost use Rattle.std.specs.Prelude.{◌≡◌, ◌≤◌, ℕ, List, IsSome, tak
 ghost use Rattle.rb_lend.specs.Ranges.{written_at};
 ghost use Rattle.rb_interp.specs.PartsMemory.{part_with};
 
-use crate::expected::{same_bytes, sheet};
+use crate::expected::{same, same_bytes, same_of, sheet};
 use rb_interp::{Context, Part, Parts, Slot};
 use rb_lend::{Lent, Sheet};
 use std::alloc::Global;
@@ -44,16 +44,21 @@ fn with_record<'a>(
 /// Holds a record of `n` bytes, for which this slot has to be the first free one.
 fn hold(rt: &impl Abort, alloc: Global, parts: &mut Parts<&[u8], Sheet>, n: u32, free: Slot) {
     match parts.hold(sheet(rt, alloc, n)) {
-        Ok(slot) => assert_eq!(rt; slot, free),
+        Ok(slot) => same(rt, &slot, &free),
         Err(_) => rt.panic("no slot"),
     }
+}
+
+// Ends the test, as a range that begins here is outside.
+fn outside_at(rt: &impl Abort, off: usize) {
+    panic!(rt; "outside at {off}");
 }
 
 /// Ends the test where a range of a part is outside, or holds other bytes.
 fn reads(rt: &impl Abort, parts: &Parts<&[u8], Sheet>, part: Part, off: usize, bytes: &[u8]) {
     match parts.read(part, off, bytes.len()) {
         Ok(found) => same_bytes(rt, found, bytes),
-        Err(_) => panic!(rt; "outside at {off}"),
+        Err(_) => outside_at(rt, off),
     }
 }
 
@@ -68,7 +73,7 @@ fn fill<C: Context, R: Lent>(
 ) {
     match parts.write(part, off, len) {
         Ok(range) => range.into_bytes().fill(byte),
-        Err(_) => panic!(rt; "outside at {off}"),
+        Err(_) => outside_at(rt, off),
     }
 }
 
@@ -76,22 +81,22 @@ fn fill<C: Context, R: Lent>(
 fn new_parts_are_zero_bytes_a_context_and_empty_slots(rt: HostRuntime) {
     let context = [5, 6, 7];
     let mut parts: Parts<&[u8], Sheet> = Parts::new(context.as_slice());
-    assert_eq!(rt; parts.stack.bytes().len(), 512);
+    same(&rt, &parts.stack.bytes().len(), &512);
     reads(&rt, &parts, Part::Stack, 0, &[0, 0, 0, 0]);
     reads(&rt, &parts, Part::Stack, 508, &[0, 0, 0, 0]);
     reads(&rt, &parts, Part::Ctx, 0, &[5, 6, 7]);
-    assert!(rt; parts.give(Slot::First).is_none());
-    assert!(rt; parts.give(Slot::Fourth).is_none());
+    let given = [
+        given_len(&mut parts, Slot::First),
+        given_len(&mut parts, Slot::Fourth),
+    ];
+    same(&rt, &given, &[None, None]);
 }
 
 #[test]
 fn a_range_is_what_read_lends(rt: HostRuntime) {
     let context = [5, 6, 7];
     let parts: Parts<&[u8], Sheet> = Parts::new(context.as_slice());
-    match parts.read(Part::Ctx, 1, 2) {
-        Ok(bytes) => same_bytes(&rt, bytes, &[6, 7]),
-        Err(_) => panic!(rt; "outside"),
-    }
+    reads(&rt, &parts, Part::Ctx, 1, &[6, 7]);
     same_bytes(&rt, parts.range(Part::Ctx, 1, 2), &[6, 7]);
 }
 
@@ -120,8 +125,8 @@ fn reads_are_outside_at_each_edge(rt: HostRuntime) {
         (FIRST, 5, 0, true),
         (SECOND, 0, 0, true),
     ] {
-        let answer = parts.read(part, off, len);
-        assert_eq!(rt; answer.is_err(), outside, "{part:?} {off} {len}");
+        let is_outside = parts.read(part, off, len).is_err();
+        same_of(&rt, &is_outside, &outside, &(part, off, len));
     }
 }
 
@@ -142,11 +147,8 @@ fn writes_are_outside_at_each_edge(rt: HostRuntime) {
         (FIRST, 5, 0, false),
         (SECOND, 0, 0, false),
     ] {
-        assert_eq!(rt;
-            clear_if(&mut parts, part, off, len),
-            cleared,
-            "{part:?} {off} {len}"
-        );
+        let is_cleared = clear_if(&mut parts, part, off, len);
+        same_of(&rt, &is_cleared, &cleared, &(part, off, len));
     }
 }
 
@@ -173,6 +175,14 @@ fn handed_back(rt: &impl Abort, alloc: Global, parts: &mut Parts<&[u8], Sheet>, 
     }
 }
 
+// The length of the record that a slot gives away, if it has one.
+fn given_len(parts: &mut Parts<&[u8], Sheet>, slot: Slot) -> Option<u32> {
+    match parts.give(slot) {
+        Some(given) => Some(given.len()),
+        None => None,
+    }
+}
+
 #[test]
 fn a_fifth_record_is_handed_back(rt: HostRuntime) {
     let mut parts: Parts<&[u8], Sheet> = Parts::new([].as_slice());
@@ -180,12 +190,12 @@ fn a_fifth_record_is_handed_back(rt: HostRuntime) {
     hold(&rt, rt.alloc(), &mut parts, 2, Slot::Second);
     hold(&rt, rt.alloc(), &mut parts, 3, Slot::Third);
     hold(&rt, rt.alloc(), &mut parts, 4, Slot::Fourth);
-    assert_eq!(rt; handed_back(&rt, rt.alloc(), &mut parts, 5), 5);
-    match parts.give(Slot::Second) {
-        Some(given) => assert_eq!(rt; given.len(), 2),
-        None => panic!(rt; "the second slot was empty"),
-    }
-    assert!(rt; parts.give(Slot::Second).is_none());
+    let back = handed_back(&rt, rt.alloc(), &mut parts, 5);
+    let given = [
+        given_len(&mut parts, Slot::Second),
+        given_len(&mut parts, Slot::Second),
+    ];
+    same(&rt, &(back, given), &(5, [Some(2), None]));
     hold(&rt, rt.alloc(), &mut parts, 6, Slot::Second);
     reads(&rt, &parts, SECOND, 0, &[0; 6]);
 }
@@ -228,13 +238,11 @@ fn all_parts_are_lent_at_once(rt: HostRuntime) {
 fn the_whole_stack_and_a_whole_record_are_lent(rt: HostRuntime) {
     let mut parts: Parts<&[u8], Sheet> = Parts::new([].as_slice());
     parts.stack.range_mut(0, 512).fill(3);
-    let Ok(Slot::First) = parts.hold(sheet(&rt, rt.alloc(), 2)) else {
-        panic!(rt; "another slot")
-    };
+    hold(&rt, rt.alloc(), &mut parts, 2, Slot::First);
     if let Some(record) = &mut parts.records.first {
         record.bytes_mut().fill(4);
     }
     reads(&rt, &parts, Part::Stack, 510, &[3, 3]);
-    assert!(rt; parts.records.first.is_some());
+    same(&rt, &parts.records.first.is_some(), &true);
     reads(&rt, &parts, FIRST, 0, &[4, 4]);
 }
