@@ -23,3 +23,4 @@ pub mod Settled
 pub mod Sums
 pub mod Gathers
 pub mod Runs
+mod ByChapter
