@@ -41,17 +41,17 @@ module _ (earlier : List Entry) (old new : ChapterRing) (is : ContinuesHistory e
     pub room-whole : (more : ℕ) → used old.chapter + owed old.chapter + more ≤ old.chapter.room → HasEntryRoom room cut more (whole_ring earlier old)
     room-whole more fits = let long = length-append earlier old.chapter.entries in omega (arith, owed-same, long, room_is, cut_is, fits)
 
-    pub room-back : (more : ℕ) → HasEntryRoom room cut more (whole_ring earlier old) → used old.chapter + owed old.chapter + more ≤ old.chapter.room
+    room-back : (more : ℕ) → HasEntryRoom room cut more (whole_ring earlier old) → used old.chapter + owed old.chapter + more ≤ old.chapter.room
     room-back more fits = let long = length-append earlier old.chapter.entries in omega (arith, owed-same, long, room_is, cut_is, fits)
 
-    pub grant-back : MayLogGrant room cut (whole_ring earlier old) → MayGrant old.chapter
+    grant-back : MayLogGrant room cut (whole_ring earlier old) → MayGrant old.chapter
     grant-back = room-back 3
 
     module _ (w : ℕ) (low : w < old.chapter.opening.setup.workers) where
-      pub refusal-whole : MayRefuse old.chapter w → MayLogRefusal room cut w (whole_ring earlier old)
+      refusal-whole : MayRefuse old.chapter w → MayLogRefusal room cut w (whole_ring earlier old)
       refusal-whole may = (room-whole 1 may.0, subst (λ (t : Tally). t.refused < 2 ^ 62) (totals-are earlier old new w is low) may.1)
 
-      pub refusal-back : MayLogRefusal room cut w (whole_ring earlier old) → MayRefuse old.chapter w
+      refusal-back : MayLogRefusal room cut w (whole_ring earlier old) → MayRefuse old.chapter w
       refusal-back may = (room-back 1 may.0, subst (λ (t : Tally). t.refused < 2 ^ 62) (sym (totals-are earlier old new w is low)) may.1)
 
       -- ---- the calls that ask for room

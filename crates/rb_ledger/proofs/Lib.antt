@@ -23,4 +23,3 @@ pub mod Settled
 pub mod Sums
 pub mod Gathers
 pub mod Runs
-mod ByChapter
