@@ -1,7 +1,7 @@
 //! What a hand holds.
 
 /// A record that is out in a hand: it was granted, and not submitted or discarded since.
-#[derive(Clone, Copy, Debug, PartialEq, Eq)]
+#[derive(Clone, Copy)]
 pub struct OutRecord {
     /// Its position.
     pub pos: u64,

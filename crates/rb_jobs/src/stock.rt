@@ -18,7 +18,7 @@ pub trait Stock {
 }
 
 /// A stock that keeps nothing.
-#[derive(Clone, Copy, Debug)]
+#[derive(Clone, Copy)]
 pub struct NoStock;
 
 impl Stock for NoStock {

@@ -4,7 +4,7 @@ use crate::Program;
 use std::marker::Model;
 
 /// A program without a fault of shape. Contracts see the program.
-#[derive(Debug, Drop)]
+#[derive(Drop)]
 pub struct Shape {
     program: Program,
 }
