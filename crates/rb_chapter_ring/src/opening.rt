@@ -21,7 +21,7 @@ use std::alloc::{AllocError, Global};
 use std::marker::Model;
 
 /// What has become of a record that was not taken.
-#[derive(Clone, Copy, PartialEq, Eq)]
+#[derive(Clone, Copy, Debug, PartialEq, Eq)]
 pub enum UntakenStatus {
     /// It was neither submitted nor discarded.
     Busy,
@@ -32,7 +32,7 @@ pub enum UntakenStatus {
 }
 
 /// A record that was granted and not taken when a chapter was opened.
-#[derive(Clone, Copy, PartialEq, Eq)]
+#[derive(Clone, Copy, Debug, PartialEq, Eq)]
 pub struct UntakenRecord {
     /// Its position, in bytes.
     pub pos: u64,

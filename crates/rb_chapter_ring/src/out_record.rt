@@ -1,7 +1,7 @@
 //! What a hand holds.
 
 /// A record that is out in a hand: it was granted, and not submitted or discarded since.
-#[derive(Clone, Copy)]
+#[derive(Clone, Copy, Debug, PartialEq, Eq)]
 pub struct OutRecord {
     /// Its position.
     pub pos: u64,

@@ -10,7 +10,7 @@ use rb_semantics::{MemoryRegion, Value};
 use std::marker::Model;
 
 /// A pointer or a ring that is kept, under its place.
-#[derive(Clone, Copy)]
+#[derive(Clone, Copy, Debug)]
 pub struct KeptPointer {
     pub place: u8,
     pub value: Value,

@@ -7,7 +7,7 @@ use crate::Slot;
 use arrayvec::ArrayVec;
 
 /// A record that is held: its name, which is the unit of the CALL that reserved it, and its slot.
-#[derive(Clone, Copy)]
+#[derive(Clone, Copy, Debug)]
 pub struct SlotEntry {
     pub id: u32,
     pub slot: Slot,

@@ -15,7 +15,7 @@ pub enum Step<R> {
 }
 
 /// What comes next.
-#[derive(Clone, Copy)]
+#[derive(Clone, Copy, Debug, PartialEq, Eq)]
 pub enum Phase {
     /// An instruction.
     Ready,

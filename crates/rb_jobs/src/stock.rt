@@ -18,7 +18,7 @@ pub trait Stock {
 }
 
 /// A stock that keeps nothing.
-#[derive(Clone, Copy)]
+#[derive(Clone, Copy, Debug)]
 pub struct NoStock;
 
 impl Stock for NoStock {

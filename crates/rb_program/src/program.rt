@@ -12,7 +12,7 @@ pub const MAX_UNITS: u32 = 4096;
 /// A program: a list of instructions, of 1 to 4096 units of eight bytes.
 ///
 /// Contracts see the list of its instructions, in order.
-#[derive(Drop)]
+#[derive(Debug, Drop)]
 pub struct Program {
     /// The instruction that begins at each unit. The second unit of a wide one has an EXIT that is never read, so that
     /// each unit takes 16 bytes.
@@ -104,7 +104,7 @@ impl Program {
 /// The instructions of a program, for a loop that fetches one after the other.
 ///
 /// Contracts see the list of the program's instructions, in order.
-#[derive(Drop)]
+#[derive(Debug, Drop)]
 pub struct Code<'p> {
     units: &'p [Insn],
 }

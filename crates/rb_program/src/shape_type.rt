@@ -4,7 +4,7 @@ use crate::Program;
 use std::marker::Model;
 
 /// A program without a fault of shape. Contracts see the program.
-#[derive(Drop)]
+#[derive(Debug, Drop)]
 pub struct Shape {
     program: Program,
 }

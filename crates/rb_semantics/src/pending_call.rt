@@ -1,7 +1,7 @@
 //! What a call waits for.
 
 /// What a call waits for.
-#[derive(Clone, Copy, PartialEq, Eq)]
+#[derive(Clone, Copy, Debug, PartialEq, Eq)]
 pub enum PendingCall {
     /// A record of so many bytes, or null.
     Reserve(u32),

@@ -1,7 +1,7 @@
 //! What registers hold.
 
 /// A part of the memory that a program reaches.
-#[derive(Clone, Copy, PartialEq, Eq)]
+#[derive(Clone, Copy, Debug, PartialEq, Eq)]
 pub enum MemoryRegion {
     /// The stack: 512 bytes, at offsets -512 to -1.
     Stack,
@@ -12,7 +12,7 @@ pub enum MemoryRegion {
 }
 
 /// What a register holds.
-#[derive(Clone, Copy, PartialEq, Eq)]
+#[derive(Clone, Copy, Debug, PartialEq, Eq)]
 pub enum Value {
     /// Nothing; it can't be read.
     Nothing,

@@ -24,7 +24,7 @@ use rb_history::{Counts, Tally};
 use std::sync::Wait;
 
 /// A ring at one point of its history.
-#[derive(Clone, Copy)]
+#[derive(Clone, Copy, Debug, PartialEq, Eq)]
 pub struct Audit {
     /// The producer position.
     pub producer: u64,

@@ -6,7 +6,7 @@ ghost use Rattle.rb_tape.specs.Items.{item_of};
 ghost use Rattle.rb_tape.specs.inner.RecordParts.{bytes_before_zeros};
 
 /// A submitted record that was taken, with its bytes.
-#[derive(Clone, Copy)]
+#[derive(Clone, Copy, Debug, PartialEq, Eq)]
 pub struct Event<'a> {
     /// The record's position, in bytes.
     pub pos: u64,
@@ -19,7 +19,7 @@ pub struct Event<'a> {
 }
 
 /// A record that was taken (Linux Documentation/bpf/ringbuf.rst: discarded records are consumed too, and ignored).
-#[derive(Clone, Copy)]
+#[derive(Clone, Copy, Debug, PartialEq, Eq)]
 pub enum Item<'a> {
     /// A submitted record.
     Event(Event<'a>),

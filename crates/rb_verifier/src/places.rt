@@ -21,7 +21,7 @@ const LAST_PLACE: u64 = 63;
 /// with data it is never known which number they are.
 ///
 /// Contracts see what is known of each place.
-#[derive(Drop)]
+#[derive(Debug, Drop)]
 pub struct Places {
     /// The places from the last one down; those that are not listed have data.
     items: Vec<Abs>,

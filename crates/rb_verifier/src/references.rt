@@ -21,7 +21,7 @@ pub struct Reference {
 }
 
 /// The references that are held: at most four, in ascending order of their ids.
-#[derive(Drop)]
+#[derive(Debug, Drop)]
 pub struct Held {
     items: SmallVec<Reference, 4>,
 }

@@ -11,7 +11,7 @@ use rb_insn::Reg;
 use std::alloc::{AllocError, Global};
 
 /// What is known before an instruction: of each register, which references are held, and of each place of the stack.
-#[derive(Drop)]
+#[derive(Debug, Drop)]
 pub struct AbsState {
     /// What is known of r0 to r10.
     pub values: [Abs; 11],
@@ -22,7 +22,7 @@ pub struct AbsState {
 }
 
 /// What is known along each edge out of an instruction. Where it has one edge alone, both say the same.
-#[derive(Drop)]
+#[derive(Debug, Drop)]
 pub struct Effect {
     /// Along the edge to the next instruction.
     pub next: AbsState,

@@ -1,7 +1,7 @@
 //! What is known of a register's value.
 
 /// What is known of a register's value (own profile). Offsets count bytes, and ids are units.
-#[derive(Clone, Copy, PartialEq, Eq)]
+#[derive(Clone, Copy, Debug, PartialEq, Eq)]
 pub enum Abs {
     /// Nothing is known, and it may not be read.
     Unreadable,

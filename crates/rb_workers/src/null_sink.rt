@@ -5,7 +5,7 @@ use rb_chapter_ring::Chapter;
 use rb_history::span;
 
 /// Gives up all records and chapters that it is given, for whoever wants a run's counts alone.
-#[derive(Clone, Copy, Drop)]
+#[derive(Clone, Copy, Debug, Drop)]
 pub struct NullSink {
     /// The position of the next record.
     pub position: u64,
