@@ -10,4 +10,3 @@ pub mod NearOffsets
 pub mod PendingRequests
 pub mod RegisterValues
 pub mod KeptRecords
-pub mod Serving

@@ -361,7 +361,6 @@ impl<'h, R: Wait, S: Stock> Helpers for SeatHelpers<'h, R, S> {
 
     /// Takes each record that these helpers granted and that was not given back since. Hands one back where its ring is none of these, or where it
     /// is out in no hand of the seat there.
-    #[inline(never)]
     fn discard(&mut self, owned: SeatRecord, flags: u64) -> Result<(), SeatRecord>
         requires room { 0 < self.old.room }
         ensures trace { self.new.trace ≡ self.old.trace ++ Discard flags (is_ok result) ∷ [] }
@@ -419,7 +418,6 @@ impl<'h, R: Wait, S: Stock> Helpers for SeatHelpers<'h, R, S> {
     }
 
     /// The ring's answer. It changes no seat's counts.
-    #[inline(never)]
     fn query(&mut self, ring: u32, what: u64) -> u64
         requires room { 0 < self.old.room }
         requires ring { has_number self.old ring ≡ true }
