@@ -7,24 +7,24 @@ use Rattle.rb_history.specs.TapeBytes.{Item, AreItemsFrom, end_of, tape}
 use Rattle.rb_history.proofs.HeaderLaws.{AreItemsFrom-append, end_of-append, tape-append}
 use Rattle.rb_history.specs.declared.answers.Taken.{Taken}
 use Rattle.rb_world.specs.WorldValue.{WorldValue, world_of}
-use Rattle.heskavo_c.specs.Runs.{IsDrained, LeavesTapes, item_taken, items_left, lengths_below, tape_items, tape_left}
+use Rattle.heskavo_c.specs.Runs.{IsDrained, LeavesTapes, taken_item, items_left, lengths_below, taken_items, tape_left}
 
 -- the tape of these records stands behind what stood before, each begins where the one before it ends, and the next one would begin here
 pub record TapeSoFar (size : ℕ) (records : List Taken) (before now : List ℕ) (position : ℕ) : Type 0 where
-  pub follow : AreItemsFrom size 0 (tape_items records)
-  pub here : position ≡ end_of 0 (tape_items records)
-  pub bytes : now ≡ before ++ tape size (tape_items records)
+  pub follow : AreItemsFrom size 0 (taken_items records)
+  pub here : position ≡ end_of 0 (taken_items records)
+  pub bytes : now ≡ before ++ tape size (taken_items records)
 
 -- with one more record, its tape is so far
 module _ (size : ℕ) (records : List Taken) (taken : Taken) (before was now : List ℕ) (position next : ℕ) (so_far : TapeSoFar size records before was position) where
   abbrev items : List Item
-  items = tape_items records
+  items = taken_items records
 
   abbrev more : List Item
-  more = tape_items (taken ∷ [])
+  more = taken_items (taken ∷ [])
 
-  both : tape_items (records ++ taken ∷ []) ≡ items ++ more
-  both = flat_map-append item_taken records (taken ∷ [])
+  both : taken_items (records ++ taken ∷ []) ≡ items ++ more
+  both = flat_map-append taken_item records (taken ∷ [])
 
   pub tape_grows : AreItemsFrom size position more → next ≡ end_of position more → now ≡ was ++ tape size more → TapeSoFar size (records ++ taken ∷ []) before now next
   tape_grows stands ends added = record {
@@ -36,20 +36,20 @@ module _ (size : ℕ) (records : List Taken) (taken : Taken) (before was now : L
 
 -- the same at the record of a place in a list
 pub next_record : (size : ℕ) (records : List Taken) (i : ℕ) (taken : Taken) → taken ≡ get_or records i taken → i < length records → (before was now : List ℕ) (position next : ℕ)
-    → TapeSoFar size (take i records) before was position → AreItemsFrom size position (tape_items (taken ∷ [])) → next ≡ end_of position (tape_items (taken ∷ []))
-    → now ≡ was ++ tape size (tape_items (taken ∷ [])) → TapeSoFar size (take (i + 1) records) before now next
+    → TapeSoFar size (take i records) before was position → AreItemsFrom size position (taken_items (taken ∷ [])) → next ≡ end_of position (taken_items (taken ∷ []))
+    → now ≡ was ++ tape size (taken_items (taken ∷ [])) → TapeSoFar size (take (i + 1) records) before now next
 next_record size records i taken is inside before was now position next so_far stands ends added =
     let one_more : take (i + 1) records ≡ take i records ++ taken ∷ [] = take_more records i taken inside ∙ ap (λ t. take i records ++ t ∷ []) (sym is) in
     subst (λ r. TapeSoFar size r before now next) (sym one_more) (tape_grows size (take i records) taken before was now position next so_far stands ends added)
 
 module _ (world : WorldValue) (size ring : ℕ) (was bytes old new : List ℕ) (taken : List Taken) (long : ℕ) where
   -- the tape of one more ring
-  pub next_tape : LeavesTapes world size ring was old → taken ≡ ((world_of world).rings ring).taken → AreItemsFrom size 0 (tape_items taken) → bytes ≡ was ++ tape size (tape_items taken)
+  pub next_tape : LeavesTapes world size ring was old → taken ≡ ((world_of world).rings ring).taken → AreItemsFrom size 0 (taken_items taken) → bytes ≡ was ++ tape size (taken_items taken)
       → long ≡ length bytes - length was → new ≡ old ++ long ∷ [] → IsDrained world ring → LeavesTapes world size (ring + 1) bytes new
   next_tape left same stands added longer told drained =
-      let text = tape size (tape_items taken) in
+      let text = tape size (taken_items taken) in
       let up : suc ring ≡ ring + 1 = omega arith in
-      let is : text ≡ tape_left world size ring = ap (λ t. tape size (tape_items t)) same in
+      let is : text ≡ tape_left world size ring = ap (λ t. tape size (taken_items t)) same in
       let grown : length bytes ≡ length was + length text = ap length added ∙ length-append was text in
       let long_is : long ≡ length (tape_left world size ring) = let e : long ≡ length text = omega (arith, longer, grown) in e ∙ ap length is in
       let one_more : length new ≡ ring + 1 = ap length told ∙ length-append old (long ∷ []) ∙ ap (λ n. n + 1) left.length_for_each in
@@ -57,6 +57,6 @@ module _ (world : WorldValue) (size ring : ℕ) (was bytes old new : List ℕ) (
         tapes_are = added ∙ ap (λ b. b ++ text) left.tapes_are ∙ ap (λ t. joined_below (tape_left world size) ring ++ t) is ∙ ap (joined_below (tape_left world size)) up;
         lengths_are = told ∙ ap (λ ns. ns ++ long ∷ []) left.lengths_are ∙ ap (λ n. lengths_below (tape_left world size) ring ++ n ∷ []) long_is ∙ ap (lengths_below (tape_left world size)) up;
         length_for_each = one_more;
-        follow = below_more (λ r. AreItemsFrom size 0 (items_left world r)) ring left.follow (subst (λ t. AreItemsFrom size 0 (tape_items t)) same stands);
+        follow = below_more (λ r. AreItemsFrom size 0 (items_left world r)) ring left.follow (subst (λ t. AreItemsFrom size 0 (taken_items t)) same stands);
         drained = below_more (IsDrained world) ring left.drained drained;
       }

@@ -18,15 +18,15 @@ use Rattle.rb_world.specs.declared.opening.RingSetup.{RingSetup}
 use Rattle.rb_world.specs.declared.opening.WorkerSetup.{WorkerSetup}
 use Rattle.rb_world.specs.declared.turn_done.TurnDone.{TurnDone}
 use Rattle.rb_world.specs.declared.turn_done.TurnDone.TheVariants.{Memory}
-use Rattle.heskavo_c.specs.Verdicts.{AreBounds, IsAccepted}
+use Rattle.heskavo_c.specs.Verdicts.{AreBounds, BytesAreAccepted}
 use Rattle.rb_history.specs.RingModel.{IsRingSize}
 use Rattle.heskavo_c.specs.Writing.{WritesFront}
 
 -- ---- the run
 
 -- a program may run over a context of so many bytes and so many rings of this size
-abbrev pub MayRun : ℕ → ℕ → ℕ → Type 0
-MayRun context rings size = AreBounds context rings × IsRingSize size
+abbrev pub MayRunOnce : ℕ → ℕ → ℕ → Type 0
+MayRunOnce context rings size = AreBounds context rings × IsRingSize size
 
 -- an empty ring of this size from position 0; its chapters have room for all that 4,096 units can log
 abbrev pub fresh_ring : ℕ → RingSetup
@@ -52,18 +52,18 @@ pub record RunsAlone (subject : Subject) (context : List ℕ) (size : ℕ) (last
 -- ---- what it left
 
 -- what was taken, as the records of a tape
-abbrev pub item_taken : Taken → List Item
-item_taken (answers.Event position worker serial bytes) = Event position bytes ∷ []
-item_taken (answers.Skipped position len) = Skip position len ∷ []
-item_taken answers.BusyFront = []
-item_taken answers.Empty = []
+abbrev pub taken_item : Taken → List Item
+taken_item (answers.Event position worker serial bytes) = Event position bytes ∷ []
+taken_item (answers.Skipped position len) = Skip position len ∷ []
+taken_item answers.BusyFront = []
+taken_item answers.Empty = []
 
-abbrev pub tape_items : List Taken → List Item
-tape_items records = flat_map item_taken records
+abbrev pub taken_items : List Taken → List Item
+taken_items records = flat_map taken_item records
 
 -- those of the ring of this number
 abbrev pub items_left : WorldValue → ℕ → List Item
-items_left world ring = tape_items ((world_of world).rings ring).taken
+items_left world ring = taken_items ((world_of world).rings ring).taken
 
 abbrev pub tape_left : WorldValue → ℕ → ℕ → List ℕ
 tape_left world size ring = tape size (items_left world ring)
@@ -97,7 +97,7 @@ pub record LeavesOnce (subject : Subject) (context : List ℕ) (size value : ℕ
 -- the program of these bytes was accepted for the context and as many rings as there are lengths, and was run so
 pub record RanOnce (program context : List ℕ) (size value : ℕ) (bytes lengths : List ℕ) : Type 0 where
   pub subject : Subject
-  pub accepted : IsAccepted program (length context) (length lengths) subject
+  pub accepted : BytesAreAccepted program (length context) (length lengths) subject
   pub left : LeavesOnce subject context size value bytes lengths
 
 -- the same, and the tapes stand at the front of the buffer

@@ -39,14 +39,14 @@ pub record FindsFault (size position : ℕ) (bytes : List ℕ) (told : TapeRecor
   pub told_is : told ≡ record { offset = 0; span = 0; len = 0; discarded = 0; fault = fault_number kind }
 
 -- a position is one of a ring of this size
-abbrev pub IsPlace : ℕ → ℕ → Type 0
-IsPlace size position = IsRingSize size × IsStartPosition position
+abbrev pub IsTapePosition : ℕ → ℕ → Type 0
+IsTapePosition size position = IsRingSize size × IsStartPosition position
 
 -- ---- a record that is written
 
 -- a record of so many bytes has a header, and has room in the ring
 pub record HasRoomAt (size position len : ℕ) : Type 0 where
-  pub place : IsPlace size position
+  pub place : IsTapePosition size position
   pub has_header : len < 2 ^ 30
   pub has_room : span len < size
 

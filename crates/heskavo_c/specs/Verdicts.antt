@@ -24,7 +24,7 @@ abbrev pub AreBounds : ℕ → ℕ → Type 0
 AreBounds ctx_len rings = (ctx_len ≤ 65536) × (rings ≤ 16)
 
 -- the bytes are the program's, which has 1 to 4096 units, is well shaped and has a valid annotation for a context of this length and so many rings
-pub record IsAccepted (bytes : List ℕ) (ctx_len rings : ℕ) (subject : Subject) : Type 0 where
+pub record BytesAreAccepted (bytes : List ℕ) (ctx_len rings : ℕ) (subject : Subject) : Type 0 where
   pub spelled : SpellsAll subject.program bytes
   pub bounds : IsProgram subject.program
   pub context : subject.ctx_len ≡ ctx_len
@@ -33,14 +33,14 @@ pub record IsAccepted (bytes : List ℕ) (ctx_len rings : ℕ) (subject : Subjec
   pub valid : HasValid (limits_of subject) subject.program
 
 -- the bytes are a program's, and this is the first fault of its shape
-pub record HasFirstShapeFault (bytes : List ℕ) (fault : ShapeFault) : Type 0 where
+pub record BytesHaveShapeFault (bytes : List ℕ) (fault : ShapeFault) : Type 0 where
   pub program : List Insn
   pub spelled : SpellsAll program bytes
   pub bounds : IsProgram program
   pub first : IsFirstShapeFault program fault
 
 -- the bytes are a well-shaped program's, which no annotation fits for such a context and so many rings; and this rule is the first that it breaks
-pub record HasFirstBrokenRule (bytes : List ℕ) (ctx_len rings unit : ℕ) (rule : BrokenRule) : Type 0 where
+pub record BytesBreakRule (bytes : List ℕ) (ctx_len rings unit : ℕ) (rule : BrokenRule) : Type 0 where
   pub program : List Insn
   pub spelled : SpellsAll program bytes
   pub bounds : IsProgram program
@@ -49,10 +49,10 @@ pub record HasFirstBrokenRule (bytes : List ℕ) (ctx_len rings unit : ℕ) (rul
   pub first : IsFirstBrokenRule (record { ctx_len = ctx_len; rings = rings }) program unit rule
 
 -- the bytes are refused for this, for such a context and so many rings
-abbrev pub IsRightRefusal : List ℕ → ℕ → ℕ → Refused → Type 0
-IsRightRefusal bytes ctx_len rings (Bytes fault) = IsFirstDecodeFault bytes fault
-IsRightRefusal bytes ctx_len rings (Shape fault) = HasFirstShapeFault bytes fault
-IsRightRefusal bytes ctx_len rings (Rule unit rule) = HasFirstBrokenRule bytes ctx_len rings unit rule
+abbrev pub BytesAreRefused : List ℕ → ℕ → ℕ → Refused → Type 0
+BytesAreRefused bytes ctx_len rings (Bytes fault) = IsFirstDecodeFault bytes fault
+BytesAreRefused bytes ctx_len rings (Shape fault) = BytesHaveShapeFault bytes fault
+BytesAreRefused bytes ctx_len rings (Rule unit rule) = BytesBreakRule bytes ctx_len rings unit rule
 
 -- ---- in numbers
 
@@ -85,5 +85,5 @@ verdict_of (Rule unit rule) = record { layer = 3; number = rule_number rule; uni
 -- the verdict is that on the bytes
 pub record IsRightVerdict (bytes : List ℕ) (ctx_len rings : ℕ) (verdict : Verdict) : Type 0 where
   pub refused : Refused
-  pub right : IsRightRefusal bytes ctx_len rings refused
+  pub right : BytesAreRefused bytes ctx_len rings refused
   pub in_numbers : verdict ≡ verdict_of refused

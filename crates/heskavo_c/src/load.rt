@@ -1,7 +1,7 @@
 //! A verified program from its bytes.
 
 ghost use Rattle.std.specs.Prelude.{◌≡◌, ◌≢◌, ◌≤◌, ◌↔◌, IsTrue, IfErr, IfOk, IfSome};
-ghost use Rattle.heskavo_c.specs.Verdicts.{AreBounds, IsAccepted, IsRightRefusal};
+ghost use Rattle.heskavo_c.specs.Verdicts.{AreBounds, BytesAreAccepted, BytesAreRefused};
 ghost use Rattle.heskavo_c.specs.inner.Loading.{refused_bytes, refused_shape};
 
 use rb_program::{DecodeFault, DecodeKind, ShapeFault, ShapeFaultKind, decode, shape};
@@ -61,8 +61,8 @@ pub(crate) fn load(
     rings: u32,
 ) -> Result<Verified, Option<Refused>>
     requires bounds { AreBounds ctx_len rings }
-    ensures accepted { IfOk result (IsAccepted bytes.now ctx_len rings) }
-    ensures refused { IfErr result (λ found. IfSome found (IsRightRefusal bytes.now ctx_len rings)) }
+    ensures accepted { IfOk result (BytesAreAccepted bytes.now ctx_len rings) }
+    ensures refused { IfErr result (λ found. IfSome found (BytesAreRefused bytes.now ctx_len rings)) }
 {
     let program = match decode(alloc, bytes) {
         Ok(program) => program,

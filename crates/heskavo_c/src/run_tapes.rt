@@ -3,7 +3,7 @@
 ghost use Rattle.std.specs.Prelude.{◌≡◌, ◌<◌, ◌++◌, ◌∷◌, [], IfOk, OnOk, length};
 ghost use Rattle.rb_history.specs.TapeBytes.{AreItemsFrom, IsItemAt, end_of, item_bytes, tape};
 ghost use Rattle.rb_history.specs.TapeBytes.Item.{Event, Skip};
-ghost use Rattle.heskavo_c.specs.Runs.{IsDrained, LeavesTapes, tape_items};
+ghost use Rattle.heskavo_c.specs.Runs.{IsDrained, LeavesTapes, taken_items};
 
 use crate::run_alone::RunFault;
 use crate::status::DONE;
@@ -55,9 +55,9 @@ fn push_record(
     position: u64,
     taken: &Taken,
 ) -> Result<u64, RunFault>
-    ensures follow { IfOk result (λ end. AreItemsFrom size position (tape_items (taken.now ∷ []))) }
-    ensures end { IfOk result (λ end. end ≡ end_of position (tape_items (taken.now ∷ []))) }
-    ensures bytes { OnOk result (bytes.new.items ≡ bytes.old.items ++ tape size (tape_items (taken.now ∷ []))) }
+    ensures follow { IfOk result (λ end. AreItemsFrom size position (taken_items (taken.now ∷ []))) }
+    ensures end { IfOk result (λ end. end ≡ end_of position (taken_items (taken.now ∷ []))) }
+    ensures bytes { OnOk result (bytes.new.items ≡ bytes.old.items ++ tape size (taken_items (taken.now ∷ []))) }
 {
     match taken {
         Taken::Event(pos, _, _, sheet) => {
@@ -80,8 +80,8 @@ fn push_record(
 
 // Adds the tape of the records that were taken of a ring, each of which begins where the one before it ends.
 fn push_tape(bytes: &mut Vec<u8>, size: u64, records: &[Taken]) -> Result<(), RunFault>
-    ensures follow { OnOk result (AreItemsFrom size 0 (tape_items records.now)) }
-    ensures bytes { OnOk result (bytes.new.items ≡ bytes.old.items ++ tape size (tape_items records.now)) }
+    ensures follow { OnOk result (AreItemsFrom size 0 (taken_items records.now)) }
+    ensures bytes { OnOk result (bytes.new.items ≡ bytes.old.items ++ tape size (taken_items records.now)) }
 {
     let mut position = 0;
     for taken in records {

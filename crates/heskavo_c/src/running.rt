@@ -4,7 +4,7 @@ ghost use Rattle.std.specs.Prelude.{◌≡◌, ◌≢◌, ◌≤◌, ◌↔◌, 
 ghost use Rattle.rb_history.specs.RingModel.{IsRingSize};
 ghost use Rattle.rb_world.specs.WorldRuns.{result_of};
 ghost use Rattle.rb_world.specs.WorldValue.{world_of};
-ghost use Rattle.heskavo_c.specs.Runs.{LeavesOnce, MayRun, RunsInto, WantsTapes};
+ghost use Rattle.heskavo_c.specs.Runs.{LeavesOnce, MayRunOnce, RunsInto, WantsTapes};
 ghost use Rattle.heskavo_c.specs.Verdicts.{IsRightVerdict};
 
 use crate::load::{are_bounds, load};
@@ -28,7 +28,7 @@ struct Left {
 
 // Whether a program may run over a context of so many bytes and so many rings of this size.
 fn may_run(context: usize, rings: usize, size: u64) -> bool
-    ensures { IsTrue result ↔ MayRun context rings size }
+    ensures { IsTrue result ↔ MayRunOnce context rings size }
 {
     if context > 65_536 || rings > 16 {
         return false;
@@ -83,7 +83,7 @@ pub extern "C" fn heskavo_run(
     ensures ran { result ≡ DONE → RunsInto program.now context.now size value.new tapes.old tapes.new written.new }
     ensures room { result ≡ ROOM → WantsTapes program.now context.now size tapes.old written.new }
     ensures refused { result ≡ REFUSED → IsRightVerdict program.now (length context.now) (length written.old) verdict.new }
-    ensures argument { (result ≡ ARGUMENT) ↔ ¬ MayRun (length context.now) (length written.old) size }
+    ensures argument { (result ≡ ARGUMENT) ↔ ¬ MayRunOnce (length context.now) (length written.old) size }
     ensures unwritten { result ≢ DONE → (tapes.new ≡ tapes.old) × (value.new ≡ value.old) }
     ensures unchanged { result ≢ REFUSED → verdict.new ≡ verdict.old }
     ensures answers { result ≤ BROKEN }

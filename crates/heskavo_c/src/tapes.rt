@@ -7,7 +7,7 @@ ghost use Rattle.rb_history.specs.TapeBytes.{header_of, item_bytes, item_len, it
 ghost use Rattle.rb_history.specs.TapeBytes.Item.{Event, Skip};
 ghost use Rattle.rb_tape.specs.TapeFront.{IsUndecided};
 ghost use Rattle.rb_tape.specs.TapeReading.{item_read, HasItsLength};
-ghost use Rattle.heskavo_c.specs.Tapes.{FindsFault, FindsRecord, HasRoomAt, IsPlace, PutsItem, fault_number};
+ghost use Rattle.heskavo_c.specs.Tapes.{FindsFault, FindsRecord, HasRoomAt, IsTapePosition, PutsItem, fault_number};
 ghost use Rattle.heskavo_c.specs.Writing.{WritesFront};
 
 use crate::outgoing::put_parts;
@@ -71,7 +71,7 @@ pub extern "C" fn heskavo_tape_next(
     ensures found { result ≡ DONE → FindsRecord size position bytes.now told.new }
     ensures more { result ≡ MORE → IsUndecided size position bytes.now }
     ensures fault { result ≡ FAULT → FindsFault size position bytes.now told.new }
-    ensures argument { (result ≡ ARGUMENT) ↔ ¬ IsPlace size position }
+    ensures argument { (result ≡ ARGUMENT) ↔ ¬ IsTapePosition size position }
     ensures unchanged { result ≢ DONE → result ≢ FAULT → told.new ≡ told.old }
     ensures answers { (result ≡ DONE) ⊎ ((result ≡ MORE) ⊎ ((result ≡ FAULT) ⊎ (result ≡ ARGUMENT))) }
 {

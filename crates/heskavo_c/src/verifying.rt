@@ -2,7 +2,7 @@
 
 ghost use Rattle.std.specs.Prelude.{◌≡◌, ◌≢◌, ◌≤◌, ◌↔◌, ◌⊎◌};
 ghost use Rattle.rb_verifier.specs.Subject.{Subject};
-ghost use Rattle.heskavo_c.specs.Verdicts.{AreBounds, IsAccepted, IsRightVerdict, verdict_of};
+ghost use Rattle.heskavo_c.specs.Verdicts.{AreBounds, BytesAreAccepted, IsRightVerdict, verdict_of};
 
 use crate::load::{are_bounds, load};
 use crate::status::{ARGUMENT, DONE, MEMORY, REFUSED};
@@ -19,7 +19,7 @@ pub extern "C" fn heskavo_verify(
     rings: u32,
     verdict: &mut Verdict,
 ) -> u32
-    ensures accepted { result ≡ DONE → (subject : Subject) × IsAccepted program.now ctx_len rings subject }
+    ensures accepted { result ≡ DONE → (subject : Subject) × BytesAreAccepted program.now ctx_len rings subject }
     ensures refused { result ≡ REFUSED → IsRightVerdict program.now ctx_len rings verdict.new }
     ensures argument { (result ≡ ARGUMENT) ↔ ¬ AreBounds ctx_len rings }
     ensures unchanged { result ≢ REFUSED → verdict.new ≡ verdict.old }

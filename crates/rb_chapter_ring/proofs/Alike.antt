@@ -13,12 +13,12 @@ use Rattle.rb_history.specs.RingModel.{Ring, StandsFor}
 use Rattle.rb_history.specs.Calls.{RingHasRoom, Logs as WholeLogs, Grants as WholeGrants, FindsFull as WholeFindsFull, Outputs as WholeOutputs, Submits as WholeSubmits, Discards as WholeDiscards, Strays as WholeStrays, Takes as WholeTakes, HasBusyFront as WholeHasBusyFront, AllTaken as WholeAllTaken}
 use Rattle.rb_history.proofs.Laws.{kept-from-legal}
 use Rattle.rb_history.proofs.TakenRecords.{never-both}
-use Rattle.rb_chapter_ring.specs.Opening.{opening_of}
+use Rattle.rb_chapter_ring.specs.Standing.{standing_of}
 use Rattle.rb_chapter_ring.specs.CountedFrom.{producer_from, consumer_from, records_from, is_granted_from, status_from, grants_from, IsLegalFrom}
 use Rattle.rb_chapter_ring.specs.Chapters.{Chapter}
 use Rattle.rb_chapter_ring.specs.ChapterRoom.{MayGrant, MayRefuse}
 use Rattle.rb_chapter_ring.specs.ChapterRing.{ChapterRing, StandsForChapter, whole_ring}
-use Rattle.rb_chapter_ring.specs.ChapterCalls.{IsSameChapter, IsNextChapter, Logs, Grants, FindsFull, FindsChapterFull, Outputs, Submits, Discards, Strays, Takes, HasBusyFront, AllTaken, HandsOut, producer_now}
+use Rattle.rb_chapter_ring.specs.ChapterCalls.{IsSameChapter, IsNextChapter, LogsByChapter, GrantsByChapter, FindsFullByChapter, FindsChapterFull, OutputsByChapter, SubmitsByChapter, DiscardsByChapter, StraysByChapter, TakesByChapter, HasBusyFrontByChapter, AllTakenByChapter, HandsOut, producer_by_chapter}
 use Rattle.rb_chapter_ring.specs.WholeHistory.{ContinuesHistory, IsSameFrom, StandsAlike, CallsAlike}
 use Rattle.rb_chapter_ring.proofs.Same.{granted-same}
 use Rattle.rb_chapter_ring.proofs.Legal.{front-free, grants-is, from-new}
@@ -38,7 +38,7 @@ module _ (earlier : List Entry) (v : ChapterRing) (is : ContinuesHistory earlier
   records-now : records_from v.chapter.opening v.chapter.entries ≡ records (earlier ++ v.chapter.entries)
   records-now = ap (λ o. o.records) said-now.stands
 
-  legal-at : IsLegalFrom (opening_of v.chapter.opening.setup earlier) v.chapter.entries
+  legal-at : IsLegalFrom (standing_of v.chapter.opening.setup earlier) v.chapter.entries
   legal-at = subst (λ o. IsLegalFrom o v.chapter.entries) is.opened is.legal
 
   grants-now : (w : ℕ) → w < v.chapter.opening.setup.workers → grants_from v.chapter.opening w v.chapter.entries ≡ grants w (earlier ++ v.chapter.entries)
@@ -87,18 +87,18 @@ stands-alike earlier v is = (to-whole earlier v is, to-chapter earlier v is)
 -- ---- the calls
 
 module _ (earlier : List Entry) (old new : ChapterRing) (is : ContinuesHistory earlier old.chapter) where
-  logs : (es : List Entry) → Logs old new es → WholeLogs (whole_ring earlier old) (whole_ring earlier new) es
+  logs : (es : List Entry) → LogsByChapter old new es → WholeLogs (whole_ring earlier old) (whole_ring earlier new) es
   logs es l = record {
     setup_same = ap (λ c. c.opening.setup) l;
     history_is = ap (λ c. earlier ++ c.entries) l ∙ sym (append_assoc earlier old.chapter.entries es);
   }
 
   -- the same chapter with these entries more
-  logs-back : (es : List Entry) → IsSameChapter old new → WholeLogs (whole_ring earlier old) (whole_ring earlier new) es → Logs old new es
+  logs-back : (es : List Entry) → IsSameChapter old new → WholeLogs (whole_ring earlier old) (whole_ring earlier new) es → LogsByChapter old new es
   logs-back es same l =
       same ∙ ap (λ x. record old.chapter { entries = x }) (append_cancel_left earlier new.chapter.entries (old.chapter.entries ++ es) (l.history_is ∙ append_assoc earlier old.chapter.entries es))
 
-  logged-same : (es : List Entry) → Logs old new es → IsSameChapter old new
+  logged-same : (es : List Entry) → LogsByChapter old new es → IsSameChapter old new
   logged-same es l = l ∙ ap (λ x. record old.chapter { entries = x }) (sym (ap (λ (c : Chapter). c.entries) l))
 
   stays : IsSameChapter old new → whole_ring earlier new ≡ whole_ring earlier old → new ≡ old
@@ -114,7 +114,7 @@ module _ (earlier : List Entry) (old new : ChapterRing) (is : ContinuesHistory e
   stayed : new ≡ old → IsSameChapter old new
   stayed e = ap (λ (v : ChapterRing). v.chapter) e ∙ ap (λ x. record old.chapter { entries = x }) (sym (ap (λ (v : ChapterRing). v.chapter.entries) e))
 
-  busy-front : HasBusyFront old ↔ WholeHasBusyFront (whole_ring earlier old)
+  busy-front : HasBusyFrontByChapter old ↔ WholeHasBusyFront (whole_ring earlier old)
   busy-front =
       let h = earlier ++ old.chapter.entries in
       let at = consumer-now earlier old is in
@@ -130,10 +130,10 @@ module _ (earlier : List Entry) (old new : ChapterRing) (is : ContinuesHistory e
         }),
       )
 
-  all-taken : AllTaken old ↔ WholeAllTaken (whole_ring earlier old)
+  all-taken : AllTakenByChapter old ↔ WholeAllTaken (whole_ring earlier old)
   all-taken = ((λ e. sym (producer-now earlier old is) ∙ e ∙ consumer-now earlier old is), (λ e. producer-now earlier old is ∙ e ∙ sym (consumer-now earlier old is)))
 
-  takes : (t : Taken) → Takes old new t → WholeTakes (whole_ring earlier old) (whole_ring earlier new) t
+  takes : (t : Taken) → TakesByChapter old new t → WholeTakes (whole_ring earlier old) (whole_ring earlier new) t
   takes (Event p w k bytes) a =
       let s = said-now earlier old is in
       let waits = (s.waiting p).0 a.waiting in
@@ -159,13 +159,13 @@ module _ (earlier : List Entry) (old new : ChapterRing) (is : ContinuesHistory e
   takes BusyFront a = record { front = busy-front.0 a.front; same = ap (whole_ring earlier) a.same }
   takes Empty a = record { all_taken = all-taken.0 a.all_taken; same = ap (whole_ring earlier) a.same }
 
-  takes-same : (t : Taken) → Takes old new t → IsSameChapter old new
+  takes-same : (t : Taken) → TakesByChapter old new t → IsSameChapter old new
   takes-same (Event p w k bytes) a = logged-same (Take p ∷ []) a.logged
   takes-same (Skipped p n) a = logged-same (Take p ∷ []) a.logged
   takes-same BusyFront a = stayed a.same
   takes-same Empty a = stayed a.same
 
-  takes-back : (t : Taken) → IsSameChapter old new → WholeTakes (whole_ring earlier old) (whole_ring earlier new) t → Takes old new t
+  takes-back : (t : Taken) → IsSameChapter old new → WholeTakes (whole_ring earlier old) (whole_ring earlier new) t → TakesByChapter old new t
   takes-back (Event p w k bytes) same a =
       let s = said-now earlier old is in
       record {
@@ -190,7 +190,7 @@ module _ (earlier : List Entry) (old new : ChapterRing) (is : ContinuesHistory e
   takes-back Empty same a = record { all_taken = all-taken.1 a.all_taken; same = stays same a.same }
 
   outputs-back : (w : ℕ) (bytes : List ℕ) → w < old.chapter.opening.setup.workers → MayGrant old.chapter → IsSameChapter old new
-      → WholeOutputs (whole_ring earlier old) (whole_ring earlier new) w bytes → Outputs old new w bytes
+      → WholeOutputs (whole_ring earlier old) (whole_ring earlier new) w bytes → OutputsByChapter old new w bytes
   outputs-back w bytes l room same a =
       let h = earlier ++ old.chapter.entries in
       let there = producer_of old.chapter.opening.setup.start h in
@@ -204,14 +204,14 @@ module _ (earlier : List Entry) (old new : ChapterRing) (is : ContinuesHistory e
         contents_are = a.contents_are ∙ ap (λ p. insert old.contents p bytes) (sym at);
       }
 
-  outputs : (w : ℕ) (bytes : List ℕ) → w < old.chapter.opening.setup.workers → Outputs old new w bytes → WholeOutputs (whole_ring earlier old) (whole_ring earlier new) w bytes
+  outputs : (w : ℕ) (bytes : List ℕ) → w < old.chapter.opening.setup.workers → OutputsByChapter old new w bytes → WholeOutputs (whole_ring earlier old) (whole_ring earlier new) w bytes
   outputs w bytes l a =
       let at = producer-now earlier old is in
       let k = grants-now earlier old is w l in
       record {
         room = ((said-now earlier old is).fits (length bytes)).0 a.room;
         logged = subst (λ p. WholeLogs (whole_ring earlier old) (whole_ring earlier new) (Res w (grants w (earlier ++ old.chapter.entries)) (length bytes) p ∷ Sub p ∷ [])) at
-            (subst (λ x. WholeLogs (whole_ring earlier old) (whole_ring earlier new) (Res w x (length bytes) (producer_now old) ∷ Sub (producer_now old) ∷ [])) k (logs _ a.logged));
+            (subst (λ x. WholeLogs (whole_ring earlier old) (whole_ring earlier new) (Res w x (length bytes) (producer_by_chapter old) ∷ Sub (producer_by_chapter old) ∷ [])) k (logs _ a.logged));
         contents_are = a.contents_are ∙ ap (λ p. insert old.contents p bytes) at;
       }
 
@@ -236,7 +236,7 @@ module _ (earlier : List Entry) (old new : ChapterRing) (is : ContinuesHistory e
   }
 
   grants-alike : (w n p k : ℕ) → w < old.chapter.opening.setup.workers
-      → Grants old new w n p k ↔ (MayGrant old.chapter × IsSameChapter old new × WholeGrants (whole_ring earlier old) (whole_ring earlier new) w n p k)
+      → GrantsByChapter old new w n p k ↔ (MayGrant old.chapter × IsSameChapter old new × WholeGrants (whole_ring earlier old) (whole_ring earlier new) w n p k)
   grants-alike w n p k l =
       let s = said-now earlier old is in (
         (λ a. (
@@ -260,7 +260,7 @@ module _ (earlier : List Entry) (old new : ChapterRing) (is : ContinuesHistory e
         }),
       )
 
-  finds-full : (w n : ℕ) → FindsFull old new w n ↔ (MayRefuse old.chapter w × IsSameChapter old new × WholeFindsFull (whole_ring earlier old) (whole_ring earlier new) w n)
+  finds-full : (w n : ℕ) → FindsFullByChapter old new w n ↔ (MayRefuse old.chapter w × IsSameChapter old new × WholeFindsFull (whole_ring earlier old) (whole_ring earlier new) w n)
   finds-full w n =
       let s = said-now earlier old is in (
         (λ a. (
@@ -288,21 +288,21 @@ module _ (earlier : List Entry) (old new : ChapterRing) (is : ContinuesHistory e
         (λ b. record { no_grant = λ room. b.0 ((s.fits n).0 room); no_refusal = λ none. b.1 (λ f. none ((s.fits n).1 f)); same = b.2 }),
       )
 
-  submits : (r : Granted) → Submits old new r ↔ (IsSameChapter old new × WholeSubmits (whole_ring earlier old) (whole_ring earlier new) r)
+  submits : (r : Granted) → SubmitsByChapter old new r ↔ (IsSameChapter old new × WholeSubmits (whole_ring earlier old) (whole_ring earlier new) r)
   submits r =
       let busy = (said-now earlier old is).busy r.pos r.worker r.serial (length r.bytes) in (
         (λ a. (logged-same (Sub r.pos ∷ []) a.logged, record { was_busy = busy.0 a.was_busy; logged = logs (Sub r.pos ∷ []) a.logged; contents_are = a.contents_are })),
         (λ b. record { was_busy = busy.1 b.1.was_busy; logged = logs-back (Sub r.pos ∷ []) b.0 b.1.logged; contents_are = b.1.contents_are }),
       )
 
-  discards : (r : Granted) → Discards old new r ↔ (IsSameChapter old new × WholeDiscards (whole_ring earlier old) (whole_ring earlier new) r)
+  discards : (r : Granted) → DiscardsByChapter old new r ↔ (IsSameChapter old new × WholeDiscards (whole_ring earlier old) (whole_ring earlier new) r)
   discards r =
       let busy = (said-now earlier old is).busy r.pos r.worker r.serial (length r.bytes) in (
         (λ a. (logged-same (Dis r.pos ∷ []) a.logged, record { was_busy = busy.0 a.was_busy; logged = logs (Dis r.pos ∷ []) a.logged; contents_same = a.contents_same })),
         (λ b. record { was_busy = busy.1 b.1.was_busy; logged = logs-back (Dis r.pos ∷ []) b.0 b.1.logged; contents_same = b.1.contents_same }),
       )
 
-  strays : (r : Granted) → Strays old new r ↔ (IsSameChapter old new × WholeStrays (whole_ring earlier old) (whole_ring earlier new) r)
+  strays : (r : Granted) → StraysByChapter old new r ↔ (IsSameChapter old new × WholeStrays (whole_ring earlier old) (whole_ring earlier new) r)
   strays r =
       let busy = (said-now earlier old is).busy r.pos r.worker r.serial (length r.bytes) in (
         (λ a. (stayed a.same, record { not_busy = λ b. a.not_busy (busy.1 b); same = ap (whole_ring earlier) a.same })),

@@ -11,7 +11,7 @@ use Rattle.rb_history.specs.RingModel.{Ring}
 use Rattle.rb_history.specs.Calls.{IsBusy, Logs as WholeLogs}
 use Rattle.rb_chapter_ring.specs.Chapters.{Chapter}
 use Rattle.rb_chapter_ring.specs.ChapterRing.{whole_ring}
-use Rattle.rb_chapter_ring.specs.ChapterCalls.{IsBusyFrom, Takes}
+use Rattle.rb_chapter_ring.specs.ChapterCalls.{IsBusyFrom, TakesByChapter}
 use Rattle.rb_chapter_ring.specs.WholeHistory.{ContinuesHistory, IsKept, AreKeepingCalls}
 use Rattle.rb_chapter_ring.proofs.Stands.{goes-on}
 use Rattle.rb_chapter_ring.proofs.Keeping.{calls-keep}
@@ -81,7 +81,7 @@ module _ (earlier : List Entry) (old new : HandRing) (kept : IsKept earlier old.
   same-has : new.ring ≡ old.ring → new.hands ≡ old.hands → HasHands new
   same-has ring hands = subst HasHands (λ i. record { ring = sym ring i; hands = sym hands i }) has
 
-  takes-keep : (t : Taken) → Takes old.ring new.ring t → new.hands ≡ old.hands → HasHands new
+  takes-keep : (t : Taken) → TakesByChapter old.ring new.ring t → new.hands ≡ old.hands → HasHands new
   takes-keep (Event p w k b) t same =
       let kept' = keeping.takes (Event p w k b) t in
       let whole = ((calls-alike earlier old.ring new.ring kept.continues).takes (Event p w k b)).0 t in

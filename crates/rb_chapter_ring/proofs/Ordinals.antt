@@ -14,14 +14,14 @@ use Rattle.rb_history.proofs.Finding.{busy-there, found-at}
 use Rattle.rb_history.proofs.Kept.{named-at}
 use Rattle.rb_history.proofs.Laws.{kept-from-legal}
 use Rattle.rb_history.proofs.Row.{at-least, below-end}
-use Rattle.rb_chapter_ring.specs.Opening.{Opening, no_record, record_in}
+use Rattle.rb_chapter_ring.specs.Standing.{Standing, no_record, record_in}
 use Rattle.rb_chapter_ring.specs.Chapters.{Chapter, closing_of}
 use Rattle.rb_chapter_ring.specs.ChapterCalls.{IsBusyFrom}
 use Rattle.rb_chapter_ring.specs.WholeHistory.{IsKept}
 use Rattle.rb_chapter_ring.proofs.Logging.{ends}
 use Rattle.rb_chapter_ring.proofs.Settling.{whole-legal}
 use Rattle.rb_chapter_ring.specs.inner.ChapterRingBody.{stored_at}
-use Rattle.rb_chapter_ring.specs.inner.Ordinals.{HasOrdinals, IsNumbered, KeepsNumbers, ordinal_at, taken_before}
+use Rattle.rb_chapter_ring.specs.inner.Ordinals.{HasOrdinals, HasOrdinal, KeepsNumbers, ordinal_at, taken_before}
 use Rattle.rb_chapter_ring.specs.declared.out_record.OutRecord.{OutRecord}
 use Rattle.rb_chapter_ring.specs.Hands.{hand_at, with_hand, IsShaped}
 use Rattle.rb_chapter_ring.specs.HandRing.{HandRing, HasHands}
@@ -78,7 +78,7 @@ module _ (earlier : List Entry) (c : Chapter) (kept : IsKept earlier c) where
   row-facts =
       let r = c.opening.setup in
       let h = earlier ++ c.entries in
-      subst (λ (o : Opening). HistoryFacts r h o.records o.producer o.consumer) (sym (ends earlier c kept.continues)) (kept-from-legal r h (whole-legal earlier c kept (closing_of c) refl))
+      subst (λ (o : Standing). HistoryFacts r h o.records o.producer o.consumer) (sym (ends earlier c kept.continues)) (kept-from-legal r h (whole-legal earlier c kept (closing_of c) refl))
 
   -- a busy record is there
   busy-index : (g : Granted) → IsBusyFrom c.opening c.entries g.pos g.worker g.serial (length g.bytes) → (i : ℕ) × IsBusyAt (closing_of c).records i g.pos (length g.bytes)
@@ -93,18 +93,18 @@ module _ (earlier : List Entry) (c : Chapter) (kept : IsKept earlier c) where
       let there = busy-there r h stored o.producer o.consumer facts g whole in
       (there.1.0.0, subst (λ ss. IsBusyAt ss there.1.0.0 g.pos (length g.bytes)) again (found-at r h stored o.producer o.consumer facts g there.1.0.0 there.0 there.1.0.1 (sym there.1.0.2) there.1.1))
 
-  one-number : (p a b : ℕ) → IsNumbered (closing_of c) p a → IsNumbered (closing_of c) p b → a ≡ b
+  one-number : (p a b : ℕ) → HasOrdinal (closing_of c) p a → HasOrdinal (closing_of c) p b → a ≡ b
   one-number p a b x y =
       let o = closing_of c in
       let same = one-index o.consumer o.records o.producer x.index y.index no_record row-facts.in_row x.within y.within (x.here ∙ sym y.here) in
       x.ordinal ∙ ap (λ i. taken_before o + i) same ∙ sym y.ordinal
 
   -- the busy record of an ordinal stands at that less the number of those that were taken
-  pub busy-at-ordinal : (g : Granted) (n : ℕ) → IsBusyFrom c.opening c.entries g.pos g.worker g.serial (length g.bytes) → IsNumbered (closing_of c) g.pos n → (taken_before (closing_of c) ≤ n) × IsBusyAt (closing_of c).records (n - taken_before (closing_of c)) g.pos (length g.bytes)
+  pub busy-at-ordinal : (g : Granted) (n : ℕ) → IsBusyFrom c.opening c.entries g.pos g.worker g.serial (length g.bytes) → HasOrdinal (closing_of c) g.pos n → (taken_before (closing_of c) ≤ n) × IsBusyAt (closing_of c).records (n - taken_before (closing_of c)) g.pos (length g.bytes)
   busy-at-ordinal g n busy num =
       let o = closing_of c in
       let there = busy-index g busy in
-      let own : IsNumbered o g.pos (taken_before o + there.0) = record { index = there.0; within = there.1.within; here = (there.1.here no_record).0; ordinal = refl } in
+      let own : HasOrdinal o g.pos (taken_before o + there.0) = record { index = there.0; within = there.1.within; here = (there.1.here no_record).0; ordinal = refl } in
       let same : n ≡ taken_before o + there.0 = one-number g.pos n (taken_before o + there.0) num own in
       let index : there.0 ≡ n - taken_before o = omega (arith, same) in
       (omega (arith, same), subst (λ i. IsBusyAt o.records i g.pos (length g.bytes)) index there.1)
@@ -123,17 +123,17 @@ granted_as w o = record { pos = o.pos; worker = w; serial = o.serial; bytes = ze
 
 module _ (earlier : List Entry) (old new : HandRing) (ordinals : List (List ℕ)) (was_kept : IsKept earlier old.ring.chapter) (counted : HasOrdinals old ordinals) (later : List Entry) (kept : IsKept later new.ring.chapter) (has : HasHands new) (keeps : KeepsNumbers old.ring.chapter new.ring.chapter) where
   -- what was in a hand, and is in it, has its ordinal
-  still-numbered : (w h : ℕ) (o : OutRecord) → hand_at old.hands w h ≡ Some o → hand_at new.hands w h ≡ Some o → IsNumbered (closing_of new.ring.chapter) o.pos (ordinal_at ordinals w h)
+  still-numbered : (w h : ℕ) (o : OutRecord) → hand_at old.hands w h ≡ Some o → hand_at new.hands w h ≡ Some o → HasOrdinal (closing_of new.ring.chapter) o.pos (ordinal_at ordinals w h)
   still-numbered w h o was is =
       let before = closing_of old.ring.chapter in
       let now = closing_of new.ring.chapter in
       let number = counted.numbered w h o was in
       let busy : IsBusyFrom new.ring.chapter.opening new.ring.chapter.entries o.pos w o.serial (length (granted_as w o).bytes) = subst (λ n. IsBusyFrom new.ring.chapter.opening new.ring.chapter.entries o.pos w o.serial n) (sym (zeros-long o.len)) (has.holds.out_is_busy w h o is) in
       let there = busy-index later new.ring.chapter kept (granted_as w o) busy in
-      let found : IsNumbered now o.pos (taken_before now + there.0) = record { index = there.0; within = there.1.within; here = (there.1.here no_record).0; ordinal = refl } in
+      let found : HasOrdinal now o.pos (taken_before now + there.0) = record { index = there.0; within = there.1.within; here = (there.1.here no_record).0; ordinal = refl } in
       let low : o.pos < before.producer = subst (λ p. p < before.producer) number.here (below-end before.consumer before.records before.producer number.index no_record (row-facts earlier old.ring.chapter was_kept).in_row number.within) in
       let same = one-number earlier old.ring.chapter was_kept o.pos (taken_before now + there.0) (ordinal_at ordinals w h) (keeps.numbers o.pos (taken_before now + there.0) found low) number in
-      subst (IsNumbered now o.pos) same found
+      subst (HasOrdinal now o.pos) same found
 
   pub ordinals-stay : new.ring.chapter.opening.setup.workers ≡ old.ring.chapter.opening.setup.workers → ((w h : ℕ) (o : OutRecord) → hand_at new.hands w h ≡ Some o → hand_at old.hands w h ≡ Some o) → HasOrdinals new ordinals
   ordinals-stay workers out = record {
@@ -144,7 +144,7 @@ module _ (earlier : List Entry) (old new : HandRing) (ordinals : List (List ℕ)
 
   -- a record was granted into a hand, and its ordinal stands for it
   pub ordinals-granted : (w h n : ℕ) (x : OutRecord) → w < old.ring.chapter.opening.setup.workers → h < 4 → new.ring.chapter.opening.setup.workers ≡ old.ring.chapter.opening.setup.workers → IsShaped old.ring.chapter.opening.setup.workers old.hands
-      → new.hands ≡ with_hand old.hands w h (Some x) → IsNumbered (closing_of new.ring.chapter) x.pos n → HasOrdinals new (set ordinals w (set (get_or ordinals w []) h n))
+      → new.hands ≡ with_hand old.hands w h (Some x) → HasOrdinal (closing_of new.ring.chapter) x.pos n → HasOrdinals new (set ordinals w (set (get_or ordinals w []) h n))
   ordinals-granted w h n x low four workers shaped marked number = record {
     workers = length-set ordinals w row ∙ counted.workers ∙ sym workers;
     four = λ v below. elim (cases_eq v w) [
@@ -157,16 +157,16 @@ module _ (earlier : List Entry) (old new : HandRing) (ordinals : List (List ℕ)
             let there : ordinal_at table v g ≡ n = (λ i. ordinal_at table (mine i) (same i)) ∙ ap (λ r. get_or r h 0) own_row ∙ get_or-set_same (get_or ordinals w []) h n 0 in_row in
             let put : hand_at new.hands v g ≡ Some x = ap (λ b. hand_at b v g) marked ∙ (λ i. hand_at (with_hand old.hands w h (Some x)) (mine i) (same i)) ∙ hand-here old.ring.chapter.opening.setup.workers old.hands shaped w h low four (Some x) in
             let is_x : x ≡ o = some-out x o (sym put ∙ is) in
-            subst (λ (y : OutRecord). IsNumbered (closing_of new.ring.chapter) y.pos (ordinal_at table v g)) is_x (subst (IsNumbered (closing_of new.ring.chapter) x.pos) (sym there) number)
+            subst (λ (y : OutRecord). HasOrdinal (closing_of new.ring.chapter) y.pos (ordinal_at table v g)) is_x (subst (HasOrdinal (closing_of new.ring.chapter) x.pos) (sym there) number)
         | inr other ↦
             let there : ordinal_at table v g ≡ ordinal_at ordinals v g = ap (λ u. ordinal_at table u g) mine ∙ ap (λ r. get_or r g 0) own_row ∙ get_or-set_other (get_or ordinals w []) h g n 0 other ∙ ap (λ u. ordinal_at ordinals u g) (sym mine) in
             let was : hand_at old.hands v g ≡ Some o = sym (ap (λ b. hand_at b v g) marked ∙ hand-there old.ring.chapter.opening.setup.workers old.hands shaped w h low (Some x) v g (λ _ e. other e)) ∙ is in
-            subst (IsNumbered (closing_of new.ring.chapter) o.pos) (sym there) (still-numbered v g o was is)
+            subst (HasOrdinal (closing_of new.ring.chapter) o.pos) (sym there) (still-numbered v g o was is)
       ]
       | inr apart ↦
           let there : ordinal_at table v g ≡ ordinal_at ordinals v g = ap (λ r. get_or r g 0) (get_or-set_other ordinals w v row [] apart) in
           let was : hand_at old.hands v g ≡ Some o = sym (ap (λ b. hand_at b v g) marked ∙ hand-there old.ring.chapter.opening.setup.workers old.hands shaped w h low (Some x) v g (λ e _. apart e)) ∙ is in
-          subst (IsNumbered (closing_of new.ring.chapter) o.pos) (sym there) (still-numbered v g o was is)
+          subst (HasOrdinal (closing_of new.ring.chapter) o.pos) (sym there) (still-numbered v g o was is)
     ];
   }
     where

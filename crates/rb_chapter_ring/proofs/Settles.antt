@@ -15,16 +15,16 @@ use Rattle.rb_history.specs.inner.RecordRows.{IsBusyAt}
 use Rattle.rb_history.proofs.Row.{get_or-default}
 use Rattle.rb_history.proofs.Contents.{length-map}
 use Rattle.rb_history.proofs.Settling.{BusyRecord, busy-record, contents-send, contents-drop}
-use Rattle.rb_chapter_ring.specs.Opening.{Opening, no_record, record_in}
+use Rattle.rb_chapter_ring.specs.Standing.{Standing, no_record, record_in}
 use Rattle.rb_chapter_ring.specs.Chapters.{Chapter, closing_of}
 use Rattle.rb_chapter_ring.specs.ChapterRing.{ChapterRing}
-use Rattle.rb_chapter_ring.specs.ChapterCalls.{HoldsReservationFrom, Logs}
+use Rattle.rb_chapter_ring.specs.ChapterCalls.{HoldsReservationFrom, LogsByChapter}
 use Rattle.rb_chapter_ring.specs.inner.RecordEnds.{Ends}
 use Rattle.rb_chapter_ring.specs.ChapterRoom.{owed, record_now, IsBusyNow, with_entry}
 use Rattle.rb_chapter_ring.specs.declared.record_end.RecordEnd.{RecordEnd}
 use Rattle.rb_chapter_ring.specs.declared.record_end.RecordEnd.TheVariants.{Submit, Discard}
 use Rattle.rb_chapter_ring.specs.inner.EndSteps.{contents_with_end, entry_of_end, status_of_end}
-use Rattle.rb_chapter_ring.specs.inner.OpeningSteps.{with_end}
+use Rattle.rb_chapter_ring.specs.inner.StandingSteps.{with_end}
 use Rattle.rb_chapter_ring.proofs.Settling.{ended}
 use Rattle.rb_chapter_ring.specs.inner.ChapterRingBody.{ring_of, IsStored, IsRingOf}
 use Rattle.rb_chapter_ring.proofs.CountSteps.{counting_end, counts-end}
@@ -67,7 +67,7 @@ module _ (earlier : List Entry) (c : Chapter) (stored : List StoredRecord) (coun
   pub pos-now : (record_now c i).pos ≡ pos
   pos-now = ap (λ (s : Shown). s.pos) same-record ∙ busy.at
 
-  settled-stands : (now : Opening) (y : StoredRecord) (st : Status) → shown_record y ≡ record (shown_record t) { status = st } → now.producer ≡ (closing_of c).producer → now.consumer ≡ (closing_of c).consumer
+  settled-stands : (now : Standing) (y : StoredRecord) (st : Status) → shown_record y ≡ record (shown_record t) { status = st } → now.producer ≡ (closing_of c).producer → now.consumer ≡ (closing_of c).consumer
       → now.consumed ≡ (closing_of c).consumed → now.skipped ≡ (closing_of c).skipped → now.records ≡ set (closing_of c).records i (record (record_in (closing_of c) i) { status = st }) → IsStored c.opening.setup.size now (set stored i y)
   settled-stands now y st shows p q e k rs =
       let s = g.stands in
@@ -105,6 +105,6 @@ module _ (earlier : List Entry) (c : Chapter) (stored : List StoredRecord) (coun
   contents-end Discard bytes = contents-drop c.opening.setup (earlier ++ c.entries) stored i t pos n (closing_of c).producer (closing_of c).consumer busy (rows earlier c stored counts g)
 
 -- the call, by the entry that was logged and the bytes that were kept
-pub ends-by : (end : RecordEnd) (old new : ChapterRing) (r : Granted) (pos : ℕ) (bytes : List ℕ) → pos ≡ r.pos → bytes ≡ r.bytes → HoldsReservationFrom old r → Logs old new (entry_of_end end pos ∷ []) → new.contents ≡ contents_with_end end pos bytes old.contents → Ends end r old new
-ends-by Submit old new r pos bytes at is busy logged contents = record { was_busy = busy; logged = subst (λ p. Logs old new (Sub p ∷ [])) at logged; contents_are = contents ∙ (λ i. insert old.contents (at i) (is i)) }
-ends-by Discard old new r pos bytes at is busy logged contents = record { was_busy = busy; logged = subst (λ p. Logs old new (Dis p ∷ [])) at logged; contents_same = contents }
+pub ends-by : (end : RecordEnd) (old new : ChapterRing) (r : Granted) (pos : ℕ) (bytes : List ℕ) → pos ≡ r.pos → bytes ≡ r.bytes → HoldsReservationFrom old r → LogsByChapter old new (entry_of_end end pos ∷ []) → new.contents ≡ contents_with_end end pos bytes old.contents → Ends end r old new
+ends-by Submit old new r pos bytes at is busy logged contents = record { was_busy = busy; logged = subst (λ p. LogsByChapter old new (Sub p ∷ [])) at logged; contents_are = contents ∙ (λ i. insert old.contents (at i) (is i)) }
+ends-by Discard old new r pos bytes at is busy logged contents = record { was_busy = busy; logged = subst (λ p. LogsByChapter old new (Dis p ∷ [])) at logged; contents_same = contents }

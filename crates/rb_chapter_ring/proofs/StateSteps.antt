@@ -10,7 +10,7 @@ use Rattle.rb_history.specs.inner.RecordRows.{IsBusyAt}
 use Rattle.rb_history.proofs.Row.{get_or-default}
 use Rattle.rb_chapter_ring.specs.Chapters.{Chapter, closing_of, empty_ring}
 use Rattle.rb_chapter_ring.specs.ChapterRing.{ChapterRing, IsGranted, StandsForChapter}
-use Rattle.rb_chapter_ring.specs.ChapterCalls.{Outputs, Takes, HandsOut}
+use Rattle.rb_chapter_ring.specs.ChapterCalls.{OutputsByChapter, TakesByChapter, HandsOut}
 use Rattle.rb_chapter_ring.specs.WholeHistory.{IsKept}
 use Rattle.rb_chapter_ring.specs.declared.faults.ReserveFault.{ReserveFault}
 use Rattle.rb_chapter_ring.specs.declared.faults.ReserveFault.TheVariants.{Full, Flags, ChapterFull, Foreign, HandsFull}
@@ -18,13 +18,14 @@ use Rattle.rb_chapter_ring.proofs.Keeping.{calls-keep}
 use Rattle.rb_chapter_ring.specs.ManyTakes.{TakesEachInChapter}
 use Rattle.rb_chapter_ring.specs.OpenedRing.{opened_ring}
 use Rattle.rb_chapter_ring.specs.RingFaults.{RefusesInChapter}
-use Rattle.rb_chapter_ring.specs.inner.Ordinals.{IsHandState, IsNumbered, KeepsNumbers, ordinal_at, taken_before}
+use Rattle.rb_chapter_ring.specs.inner.Ordinals.{IsHandState, HasOrdinal, KeepsNumbers, ordinal_at, taken_before}
 use Rattle.rb_chapter_ring.proofs.FreedHands.{freed-stays}
 use Rattle.rb_chapter_ring.proofs.Ordinals.{busy-at-ordinal, opened-ordinals, ordinals-granted, ordinals-stay}
 use Rattle.rb_chapter_ring.specs.declared.out_record.OutRecord.{OutRecord}
 use Rattle.rb_chapter_ring.specs.Hands.{HandBook, free_book, hand_at, hands_of, out_record, with_hand}
 use Rattle.rb_chapter_ring.specs.HandRing.{HandRing, hand_ring, HasHands, HasInHand, GrantsToHand}
-use Rattle.rb_chapter_ring.specs.inner.RecordEnds.{Ends, EndsFromHand}
+use Rattle.rb_chapter_ring.specs.HandEnds.{EndsFromHand}
+use Rattle.rb_chapter_ring.specs.inner.RecordEnds.{Ends}
 use Rattle.rb_chapter_ring.specs.declared.record_end.RecordEnd.{RecordEnd}
 use Rattle.rb_chapter_ring.specs.declared.record_end.RecordEnd.TheVariants.{Submit, Discard}
 use Rattle.rb_chapter_ring.proofs.BusyEntries.{in-ring, below-four}
@@ -74,17 +75,17 @@ module _ (earlier : List Entry) (old new : HandRing) (kept : IsKept earlier old.
   granted-keeps : (w hand n p k : ℕ) → w < old.ring.chapter.opening.setup.workers → GrantsToHand old new w hand n p k → HasHands new
   granted-keeps = (keep-hands earlier old new kept has).grants
 
-  output-keeps : (w : ℕ) (bytes : List ℕ) → w < old.ring.chapter.opening.setup.workers → Outputs old.ring new.ring w bytes → new.hands ≡ old.hands → HasHands new
+  output-keeps : (w : ℕ) (bytes : List ℕ) → w < old.ring.chapter.opening.setup.workers → OutputsByChapter old.ring new.ring w bytes → new.hands ≡ old.hands → HasHands new
   output-keeps = (keep-hands earlier old new kept has).outputs
 
-  taken-keeps : (t : Taken) → Takes old.ring new.ring t → new.hands ≡ old.hands → HasHands new
+  taken-keeps : (t : Taken) → TakesByChapter old.ring new.ring t → new.hands ≡ old.hands → HasHands new
   taken-keeps = (keep-hands earlier old new kept has).takes
 
   handed-keeps : (out : Chapter) → HandsOut old.ring new.ring out → new.hands ≡ old.hands → HasHands new
   handed-keeps = (keep-hands earlier old new kept has).hands_out
 
   -- by the answer of an output, and of a chapter that is handed in
-  output-answered : (w : ℕ) (bytes : List ℕ) → w < old.ring.chapter.opening.setup.workers → (answer : Result Notice (ReserveFault × List ℕ)) → OnOk answer (Outputs old.ring new.ring w bytes)
+  output-answered : (w : ℕ) (bytes : List ℕ) → w < old.ring.chapter.opening.setup.workers → (answer : Result Notice (ReserveFault × List ℕ)) → OnOk answer (OutputsByChapter old.ring new.ring w bytes)
       → IfErr answer (λ e. RefusesInChapter old.ring new.ring w (length bytes) e.0) → new.hands ≡ old.hands → HasHands new
   output-answered w bytes low (Ok _) made refused same = output-keeps w bytes low made same
   output-answered w bytes low (Err e) made refused same = refused-keeps w (length bytes) low e.0 refused same
@@ -135,7 +136,7 @@ module _ (earlier : List Entry) (old new : HandRing) (ordinals : List (List ℕ)
   pub refused-holds : (w n : ℕ) → w < old.ring.chapter.opening.setup.workers → (f : ReserveFault) → RefusesInChapter old.ring new.ring w n f → new.hands ≡ old.hands → IsHandState new ordinals
   refused-holds w n low f a same = stays earlier (refused-kept earlier old.ring new.ring kept w n low f a) (refused-keeps earlier old new kept state.has w n low f a same) same
 
-  pub granted-holds : (w hand n p k m : ℕ) → w < old.ring.chapter.opening.setup.workers → GrantsToHand old new w hand n p k → IsNumbered (closing_of new.ring.chapter) p m → IsHandState new (set ordinals w (set (get_or ordinals w []) hand m))
+  pub granted-holds : (w hand n p k m : ℕ) → w < old.ring.chapter.opening.setup.workers → GrantsToHand old new w hand n p k → HasOrdinal (closing_of new.ring.chapter) p m → IsHandState new (set ordinals w (set (get_or ordinals w []) hand m))
   granted-holds w hand n p k m low g number =
       let kept_on = (calls-keep earlier old.ring new.ring kept).grants w n p k low g.grants in
       let has = granted-keeps earlier old new kept state.has w hand n p k low g in
@@ -148,11 +149,11 @@ module _ (earlier : List Entry) (old new : HandRing) (ordinals : List (List ℕ)
   ended-holds Submit hand r h = frees ((calls-keep earlier old.ring new.ring kept).submits r h.submits) ((keep-hands earlier old new kept state.has).submits hand r h) hand r h.was_out h.freed
   ended-holds Discard hand r h = frees ((calls-keep earlier old.ring new.ring kept).discards r h.discards) ((keep-hands earlier old new kept state.has).discards hand r h) hand r h.was_out h.freed
 
-  pub output-holds : (w : ℕ) (bytes : List ℕ) → w < old.ring.chapter.opening.setup.workers → (answer : Result Notice (ReserveFault × List ℕ)) → OnOk answer (Outputs old.ring new.ring w bytes) → IfErr answer (λ e. RefusesInChapter old.ring new.ring w (length bytes) e.0) → new.hands ≡ old.hands → IsHandState new ordinals
+  pub output-holds : (w : ℕ) (bytes : List ℕ) → w < old.ring.chapter.opening.setup.workers → (answer : Result Notice (ReserveFault × List ℕ)) → OnOk answer (OutputsByChapter old.ring new.ring w bytes) → IfErr answer (λ e. RefusesInChapter old.ring new.ring w (length bytes) e.0) → new.hands ≡ old.hands → IsHandState new ordinals
   output-holds w bytes low (Ok n) made refused same = stays earlier ((calls-keep earlier old.ring new.ring kept).outputs w bytes low made) (output-keeps earlier old new kept state.has w bytes low made same) same
   output-holds w bytes low (Err e) made refused same = refused-holds w (length bytes) low e.0 refused same
 
-  pub taken-holds : (t : Taken) → Takes old.ring new.ring t → new.hands ≡ old.hands → IsHandState new ordinals
+  pub taken-holds : (t : Taken) → TakesByChapter old.ring new.ring t → new.hands ≡ old.hands → IsHandState new ordinals
   taken-holds t takes same = stays earlier ((calls-keep earlier old.ring new.ring kept).takes t takes) (taken-keeps earlier old new kept state.has t takes same) same
 
   pub many-hold : (ts : List Taken) → TakesEachInChapter old.ring ts new.ring → new.hands ≡ old.hands → IsHandState new ordinals

@@ -21,13 +21,13 @@ use Rattle.rb_history.proofs.Exact.{exact-busy, exact-empty, none-there}
 use Rattle.rb_history.proofs.Steps.{Named}
 use Rattle.rb_history.proofs.Kept.{named-at}
 use Rattle.rb_history.proofs.Taking.{Taking, ring_with, state-held, takes-front, front-busy}
-use Rattle.rb_chapter_ring.specs.Opening.{no_record, record_in}
+use Rattle.rb_chapter_ring.specs.Standing.{no_record, record_in}
 use Rattle.rb_chapter_ring.specs.Chapters.{Chapter, closing_of}
 use Rattle.rb_chapter_ring.specs.ChapterRing.{ChapterRing, whole_ring}
 use Rattle.rb_chapter_ring.specs.ChapterRoom.{owed, HasSettledFront, with_entry}
-use Rattle.rb_chapter_ring.specs.ChapterCalls.{Takes, HasBusyFront, AllTaken, IsSameChapter}
+use Rattle.rb_chapter_ring.specs.ChapterCalls.{TakesByChapter, HasBusyFrontByChapter, AllTakenByChapter, IsSameChapter}
 use Rattle.rb_chapter_ring.specs.CountedFrom.{consumer_from}
-use Rattle.rb_chapter_ring.specs.inner.OpeningSteps.{with_take, events_by, skips_by}
+use Rattle.rb_chapter_ring.specs.inner.StandingSteps.{with_take, events_by, skips_by}
 use Rattle.rb_chapter_ring.proofs.Alike.{calls-alike}
 use Rattle.rb_chapter_ring.proofs.Settling.{taken, takes-behind}
 use Rattle.rb_chapter_ring.specs.OpenedRing.{capped_counts}
@@ -49,12 +49,12 @@ waits-by DiscardedState st e = rw e refl
 
 -- a take by the whole history is the take by the chapter
 by-chapter : (earlier : List Entry) (c : Chapter) (stored : List StoredRecord) (counts : Counts) (g : IsRingOf earlier c stored counts) (new : ChapterRing) (t : Taken) → IsSameChapter (ring_of c stored) new
-    → WholeTakes (whole_ring earlier (ring_of c stored)) (whole_ring earlier new) t → Takes (ring_of c stored) new t
+    → WholeTakes (whole_ring earlier (ring_of c stored)) (whole_ring earlier new) t → TakesByChapter (ring_of c stored) new t
 by-chapter earlier c stored counts g new t same whole = ((calls-alike earlier (ring_of c stored) new g.kept.continues).takes t).1 (same, whole)
 
 -- which answer it is
 exact-front : (earlier : List Entry) (c : Chapter) (stored : List StoredRecord) (counts : Counts) (g : IsRingOf earlier c stored counts) (new : ChapterRing) (t : Taken)
-    → WholeTakes (whole_ring earlier (ring_of c stored)) (whole_ring earlier new) t → ((t ≡ BusyFront) ↔ HasBusyFront (ring_of c stored)) × ((t ≡ Empty) ↔ AllTaken (ring_of c stored))
+    → WholeTakes (whole_ring earlier (ring_of c stored)) (whole_ring earlier new) t → ((t ≡ BusyFront) ↔ HasBusyFrontByChapter (ring_of c stored)) × ((t ≡ Empty) ↔ AllTakenByChapter (ring_of c stored))
 exact-front earlier c stored counts g new t whole =
     let r = c.opening.setup in
     let h = earlier ++ c.entries in
@@ -66,9 +66,9 @@ exact-front earlier c stored counts g new t whole =
 
 -- the answer, and which one it is
 pub record TakesAs (old new : ChapterRing) (t : Taken) : Type 0 where
-  pub takes : Takes old new t
-  pub busy_front : (t ≡ BusyFront) ↔ HasBusyFront old
-  pub empty : (t ≡ Empty) ↔ AllTaken old
+  pub takes : TakesByChapter old new t
+  pub busy_front : (t ≡ BusyFront) ↔ HasBusyFrontByChapter old
+  pub empty : (t ≡ Empty) ↔ AllTakenByChapter old
 
 module _ (earlier : List Entry) (c : Chapter) (stored : List StoredRecord) (counts : Counts) (g : IsRingOf earlier c stored counts) where
   as-taken : (new : ChapterRing) (t : Taken) → IsSameChapter (ring_of c stored) new → WholeTakes (whole_ring earlier (ring_of c stored)) (whole_ring earlier new) t → TakesAs (ring_of c stored) new t

@@ -7,7 +7,7 @@ use Rattle.rb_history.specs.declared.answers.Taken.{Taken}
 use Rattle.rb_history.specs.declared.answers.Taken.TheVariants.{Event, Skipped, BusyFront, Empty}
 use Rattle.rb_history.specs.History.Status.{Busy, Waiting, Discarded}
 use Rattle.rb_history.specs.ReservationModel.{Granted}
-use Rattle.rb_chapter_ring.specs.Opening.{Opening}
+use Rattle.rb_chapter_ring.specs.Standing.{Standing}
 use Rattle.rb_chapter_ring.specs.CountedFrom.{producer_from, consumer_from, grants_from, is_granted_from, status_from, HasRoomFrom}
 use Rattle.rb_chapter_ring.specs.Chapters.{Chapter, Meets}
 use Rattle.rb_chapter_ring.specs.ChapterRoom.{MayGrant, MayRefuse}
@@ -15,17 +15,17 @@ use Rattle.rb_chapter_ring.specs.ChapterRing.{ChapterRing, IsGranted, HasLengthF
 
 -- ---- what a ring's chapter says now
 
-abbrev pub producer_now : ChapterRing → ℕ
-producer_now v = producer_from v.chapter.opening v.chapter.entries
+abbrev pub producer_by_chapter : ChapterRing → ℕ
+producer_by_chapter v = producer_from v.chapter.opening v.chapter.entries
 
-abbrev pub consumer_now : ChapterRing → ℕ
-consumer_now v = consumer_from v.chapter.opening v.chapter.entries
+abbrev pub consumer_by_chapter : ChapterRing → ℕ
+consumer_by_chapter v = consumer_from v.chapter.opening v.chapter.entries
 
 abbrev pub ChapterRingHasRoom : ChapterRing → ℕ → Type 0
 ChapterRingHasRoom v n = HasRoomFrom v.chapter.opening v.chapter.entries n
 
 -- a record of these four numbers is busy
-pub record IsBusyFrom (o : Opening) (h : List Entry) (p w k n : ℕ) : Type 0 where
+pub record IsBusyFrom (o : Standing) (h : List Entry) (p w k n : ℕ) : Type 0 where
   pub granted_is : IsGranted o h w k n p
   pub busy : status_from o h p ≡ Busy
 
@@ -34,38 +34,38 @@ abbrev pub HoldsReservationFrom : ChapterRing → Granted → Type 0
 HoldsReservationFrom v r = IsBusyFrom v.chapter.opening v.chapter.entries r.pos r.worker r.serial (length r.bytes)
 
 -- the record at the consumer position is busy
-pub record HasBusyFront (v : ChapterRing) : Type 0 where
-  pub granted_is : is_granted_from v.chapter.opening v.chapter.entries (consumer_now v) ≡ true
-  pub busy : status_from v.chapter.opening v.chapter.entries (consumer_now v) ≡ Busy
+pub record HasBusyFrontByChapter (v : ChapterRing) : Type 0 where
+  pub granted_is : is_granted_from v.chapter.opening v.chapter.entries (consumer_by_chapter v) ≡ true
+  pub busy : status_from v.chapter.opening v.chapter.entries (consumer_by_chapter v) ≡ Busy
 
 -- every record was taken
-abbrev pub AllTaken : ChapterRing → Type 0
-AllTaken v = producer_now v ≡ consumer_now v
+abbrev pub AllTakenByChapter : ChapterRing → Type 0
+AllTakenByChapter v = producer_by_chapter v ≡ consumer_by_chapter v
 
 -- it is the same chapter, whatever its entries
 abbrev pub IsSameChapter : ChapterRing → ChapterRing → Type 0
 IsSameChapter old new = new.chapter ≡ record old.chapter { entries = new.chapter.entries }
 
 -- the entries were added to the chapter, and it is the same chapter
-abbrev pub Logs : ChapterRing → ChapterRing → List Entry → Type 0
-Logs old new entries = new.chapter ≡ record old.chapter { entries = old.chapter.entries ++ entries }
+abbrev pub LogsByChapter : ChapterRing → ChapterRing → List Entry → Type 0
+LogsByChapter old new entries = new.chapter ≡ record old.chapter { entries = old.chapter.entries ++ entries }
 
 -- ---- reserve and output
 
 -- a record of n bytes was granted to a worker
-pub record Grants (old new : ChapterRing) (w n p k : ℕ) : Type 0 where
+pub record GrantsByChapter (old new : ChapterRing) (w n p k : ℕ) : Type 0 where
   pub room : ChapterRingHasRoom old n
   pub chapter_room : MayGrant old.chapter
-  pub position : p ≡ producer_now old
+  pub position : p ≡ producer_by_chapter old
   pub serial : k ≡ grants_from old.chapter.opening w old.chapter.entries
-  pub logged : Logs old new (Res w k n p ∷ [])
+  pub logged : LogsByChapter old new (Res w k n p ∷ [])
   pub contents_same : new.contents ≡ old.contents
 
 -- the ring has no room for a record of n bytes, and that is logged
-pub record FindsFull (old new : ChapterRing) (w n : ℕ) : Type 0 where
+pub record FindsFullByChapter (old new : ChapterRing) (w n : ℕ) : Type 0 where
   pub no_room : ¬ ChapterRingHasRoom old n
   pub chapter_room : MayRefuse old.chapter w
-  pub logged : Logs old new (Full w n ∷ [])
+  pub logged : LogsByChapter old new (Full w n ∷ [])
   pub contents_same : new.contents ≡ old.contents
 
 -- the chapter has no room: for a grant where the ring has room, else for a refusal. Nothing changes
@@ -75,63 +75,63 @@ pub record FindsChapterFull (old new : ChapterRing) (w n : ℕ) : Type 0 where
   pub same : new ≡ old
 
 -- a record of these bytes was granted and submitted at once
-pub record Outputs (old new : ChapterRing) (w : ℕ) (bytes : List ℕ) : Type 0 where
+pub record OutputsByChapter (old new : ChapterRing) (w : ℕ) (bytes : List ℕ) : Type 0 where
   pub room : ChapterRingHasRoom old (length bytes)
   pub chapter_room : MayGrant old.chapter
-  pub logged : Logs old new (Res w (grants_from old.chapter.opening w old.chapter.entries) (length bytes) (producer_now old) ∷ Sub (producer_now old) ∷ [])
-  pub contents_are : new.contents ≡ insert old.contents (producer_now old) bytes
+  pub logged : LogsByChapter old new (Res w (grants_from old.chapter.opening w old.chapter.entries) (length bytes) (producer_by_chapter old) ∷ Sub (producer_by_chapter old) ∷ [])
+  pub contents_are : new.contents ≡ insert old.contents (producer_by_chapter old) bytes
 
 -- ---- submit and discard
 
 -- the record of the reservation was submitted, with its bytes
-pub record Submits (old new : ChapterRing) (r : Granted) : Type 0 where
+pub record SubmitsByChapter (old new : ChapterRing) (r : Granted) : Type 0 where
   pub was_busy : HoldsReservationFrom old r
-  pub logged : Logs old new (Sub r.pos ∷ [])
+  pub logged : LogsByChapter old new (Sub r.pos ∷ [])
   pub contents_are : new.contents ≡ insert old.contents r.pos r.bytes
 
 -- the record of the reservation was discarded
-pub record Discards (old new : ChapterRing) (r : Granted) : Type 0 where
+pub record DiscardsByChapter (old new : ChapterRing) (r : Granted) : Type 0 where
   pub was_busy : HoldsReservationFrom old r
-  pub logged : Logs old new (Dis r.pos ∷ [])
+  pub logged : LogsByChapter old new (Dis r.pos ∷ [])
   pub contents_same : new.contents ≡ old.contents
 
 -- no busy record has the four numbers of the reservation
-pub record Strays (old new : ChapterRing) (r : Granted) : Type 0 where
+pub record StraysByChapter (old new : ChapterRing) (r : Granted) : Type 0 where
   pub not_busy : ¬ HoldsReservationFrom old r
   pub same : new ≡ old
 
 -- ---- take
 
 -- the bytes of the waiting record at the consumer position are handed out
-pub record TakesEvent (old new : ChapterRing) (p w k : ℕ) (bytes : List ℕ) : Type 0 where
-  pub front : p ≡ consumer_now old
+pub record TakesEventByChapter (old new : ChapterRing) (p w k : ℕ) (bytes : List ℕ) : Type 0 where
+  pub front : p ≡ consumer_by_chapter old
   pub granted_is : IsGranted old.chapter.opening old.chapter.entries w k (length bytes) p
   pub waiting : status_from old.chapter.opening old.chapter.entries p ≡ Waiting
   pub bytes_are : get old.contents p ≡ Some bytes
-  pub logged : Logs old new (Take p ∷ [])
+  pub logged : LogsByChapter old new (Take p ∷ [])
   pub contents_are : new.contents ≡ remove old.contents p
 
 -- the discarded record at the consumer position is passed over
-pub record Skips (old new : ChapterRing) (p n : ℕ) : Type 0 where
-  pub front : p ≡ consumer_now old
+pub record SkipsByChapter (old new : ChapterRing) (p n : ℕ) : Type 0 where
+  pub front : p ≡ consumer_by_chapter old
   pub granted_is : HasLengthFrom old.chapter.opening old.chapter.entries p n
   pub discarded : status_from old.chapter.opening old.chapter.entries p ≡ Discarded
-  pub logged : Logs old new (Take p ∷ [])
+  pub logged : LogsByChapter old new (Take p ∷ [])
   pub contents_same : new.contents ≡ old.contents
 
-pub record FindsBusyFront (old new : ChapterRing) : Type 0 where
-  pub front : HasBusyFront old
+pub record FindsBusyFrontByChapter (old new : ChapterRing) : Type 0 where
+  pub front : HasBusyFrontByChapter old
   pub same : new ≡ old
 
-pub record FindsEmpty (old new : ChapterRing) : Type 0 where
-  pub all_taken : AllTaken old
+pub record FindsEmptyByChapter (old new : ChapterRing) : Type 0 where
+  pub all_taken : AllTakenByChapter old
   pub same : new ≡ old
 
-abbrev pub Takes : ChapterRing → ChapterRing → Taken → Type 0
-Takes old new (Event p w k bytes) = TakesEvent old new p w k bytes
-Takes old new (Skipped p n) = Skips old new p n
-Takes old new BusyFront = FindsBusyFront old new
-Takes old new Empty = FindsEmpty old new
+abbrev pub TakesByChapter : ChapterRing → ChapterRing → Taken → Type 0
+TakesByChapter old new (Event p w k bytes) = TakesEventByChapter old new p w k bytes
+TakesByChapter old new (Skipped p n) = SkipsByChapter old new p n
+TakesByChapter old new BusyFront = FindsBusyFrontByChapter old new
+TakesByChapter old new Empty = FindsEmptyByChapter old new
 
 -- ---- the turn of a chapter
 

@@ -8,7 +8,7 @@ use Rattle.rb_history.specs.declared.entries.Entry.TheVariants.{Res, Full}
 use Rattle.rb_history.specs.History.{Shown}
 use Rattle.rb_history.specs.History.Status.{Busy}
 use Rattle.rb_history.specs.StoredRecords.{entries_owed}
-use Rattle.rb_chapter_ring.specs.Opening.{no_record}
+use Rattle.rb_chapter_ring.specs.Standing.{no_record}
 use Rattle.rb_chapter_ring.specs.CountedFrom.{records_from, tally_from}
 use Rattle.rb_chapter_ring.specs.Chapters.{Chapter}
 
@@ -41,10 +41,10 @@ abbrev pub MayRefuse : Chapter → ℕ → Type 0
 MayRefuse c w = HasRefusalRoom c × ((tally_from c.opening w c.entries).refused < 2 ^ 62)
 
 -- the room that an entry asks for; what a submit, a discard or a take asks for was owed
-abbrev pub HasEntryRoom : Chapter → Entry → Type 0
-HasEntryRoom c (Res w k n p) = MayGrant c
-HasEntryRoom c (Full w n) = HasRefusalRoom c
-HasEntryRoom c _ = HasRoomForOwed c
+abbrev pub HasRoomForEntry : Chapter → Entry → Type 0
+HasRoomForEntry c (Res w k n p) = MayGrant c
+HasRoomForEntry c (Full w n) = HasRefusalRoom c
+HasRoomForEntry c _ = HasRoomForOwed c
 
 -- the record at an index, from the front on, of those that are there
 abbrev pub record_now : Chapter → ℕ → Shown

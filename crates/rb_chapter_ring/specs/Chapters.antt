@@ -13,14 +13,14 @@ use Rattle.std.specs.Prelude.{ℕ, ◌≡◌, ◌+◌, ◌≤◌, List, [], ◌�
 use Rattle.std.specs.List.{flat_map}
 use Rattle.rb_history.specs.declared.entries.Entry.{Entry}
 use Rattle.rb_history.specs.RoomRule.{Setup}
-use Rattle.rb_chapter_ring.specs.Opening.{Opening, no_tally}
-use Rattle.rb_chapter_ring.specs.CountedFrom.{opening_after, IsLegalFrom}
+use Rattle.rb_chapter_ring.specs.Standing.{Standing, no_tally}
+use Rattle.rb_chapter_ring.specs.CountedFrom.{standing_after, IsLegalFrom}
 
 -- its number, how many entries it has room for, what stood when it was opened, and its entries
 pub record Chapter : Type 0 where
   pub number : ℕ
   pub room : ℕ
-  pub opening : Opening
+  pub opening : Standing
   pub entries : List Entry
 
 -- how many entries a chapter may have room for
@@ -28,7 +28,7 @@ abbrev pub IsChapterRoom : ℕ → Type 0
 IsChapterRoom room = (8 ≤ room) × (room ≤ 1048576)
 
 -- an opening without records or totals, both positions at the start
-abbrev pub empty_ring : Setup → Opening
+abbrev pub empty_ring : Setup → Standing
 empty_ring r = record {
   setup = r;
   producer = r.start;
@@ -48,8 +48,8 @@ abbrev pub empty_chapter : ℕ → ℕ → Chapter
 empty_chapter room workers = record { number = 0; room = room; opening = empty_ring (record { size = 0; start = 0; workers = workers }); entries = [] }
 
 -- what a chapter stands for at its end
-abbrev pub closing_of : Chapter → Opening
-closing_of c = opening_after c.opening c.entries
+abbrev pub closing_of : Chapter → Standing
+closing_of c = standing_after c.opening c.entries
 
 -- the later begins where the earlier ends
 pub record Meets (earlier later : Chapter) : Type 0 where

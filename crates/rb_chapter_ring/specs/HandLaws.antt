@@ -9,7 +9,7 @@ use Rattle.rb_history.specs.Calls.{IsBusy}
 use Rattle.rb_history.specs.ReservationModel.{Granted}
 use Rattle.rb_chapter_ring.specs.Chapters.{Chapter}
 use Rattle.rb_chapter_ring.specs.ChapterRing.{whole_ring}
-use Rattle.rb_chapter_ring.specs.ChapterCalls.{HoldsReservationFrom, FindsFull, FindsChapterFull, Outputs, Takes, HandsOut}
+use Rattle.rb_chapter_ring.specs.ChapterCalls.{HoldsReservationFrom, FindsFullByChapter, FindsChapterFull, OutputsByChapter, TakesByChapter, HandsOut}
 use Rattle.rb_chapter_ring.specs.WholeHistory.{ContinuesHistory, IsKept}
 use Rattle.rb_chapter_ring.specs.declared.out_record.OutRecord.{OutRecord}
 use Rattle.rb_chapter_ring.specs.Hands.{out_record, HandBook, hand_at, hands_of, with_hand, free_book, IsFree, IsShaped, IsBookOf}
@@ -59,12 +59,12 @@ AtMostFourBusy =
 -- each call keeps the book, and handing a chapter out does
 pub record CallsKeepHands (old new : HandRing) : Type 0 where
   pub grants : (w hand n p k : ℕ) → w < old.ring.chapter.opening.setup.workers → GrantsToHand old new w hand n p k → HasHands new
-  pub finds_full : (w n : ℕ) → w < old.ring.chapter.opening.setup.workers → FindsFull old.ring new.ring w n → new.hands ≡ old.hands → HasHands new
+  pub finds_full : (w n : ℕ) → w < old.ring.chapter.opening.setup.workers → FindsFullByChapter old.ring new.ring w n → new.hands ≡ old.hands → HasHands new
   pub finds_chapter_full : (w n : ℕ) → FindsChapterFull old.ring new.ring w n → new.hands ≡ old.hands → HasHands new
-  pub outputs : (w : ℕ) (bytes : List ℕ) → w < old.ring.chapter.opening.setup.workers → Outputs old.ring new.ring w bytes → new.hands ≡ old.hands → HasHands new
+  pub outputs : (w : ℕ) (bytes : List ℕ) → w < old.ring.chapter.opening.setup.workers → OutputsByChapter old.ring new.ring w bytes → new.hands ≡ old.hands → HasHands new
   pub submits : (hand : ℕ) (r : Granted) → SubmitsFromHand old new hand r → HasHands new
   pub discards : (hand : ℕ) (r : Granted) → DiscardsFromHand old new hand r → HasHands new
-  pub takes : (t : Taken) → Takes old.ring new.ring t → new.hands ≡ old.hands → HasHands new
+  pub takes : (t : Taken) → TakesByChapter old.ring new.ring t → new.hands ≡ old.hands → HasHands new
   pub hands_out : (out : Chapter) → HandsOut old.ring new.ring out → new.hands ≡ old.hands → HasHands new
 
 abbrev pub EachCallKeepsHands : Type 0

@@ -2,7 +2,7 @@
 use Rattle.std.specs.Prelude.{◌≡◌, ℕ, Some, None, length}
 use Rattle.rb_history.specs.ReservationModel.{Granted}
 use Rattle.rb_chapter_ring.specs.ChapterRing.{ChapterRing}
-use Rattle.rb_chapter_ring.specs.ChapterCalls.{IsBusyFrom, Grants, Submits, Discards}
+use Rattle.rb_chapter_ring.specs.ChapterCalls.{IsBusyFrom, GrantsByChapter, SubmitsByChapter, DiscardsByChapter}
 use Rattle.rb_chapter_ring.specs.Hands.{out_record, HandBook, hand_at, hands_of, with_hand, IsFree, IsShaped, HoldsBusy}
 
 -- a ring, and its book of hands
@@ -26,18 +26,18 @@ HasInHand v hand r = hand_at v.hands r.worker hand ≡ Some (out_record r.pos r.
 
 -- a record was granted into a hand that was free
 pub record GrantsToHand (old new : HandRing) (w hand n p k : ℕ) : Type 0 where
-  pub grants : Grants old.ring new.ring w n p k
+  pub grants : GrantsByChapter old.ring new.ring w n p k
   pub was_free : IsFree (hands_of old.hands w) hand
   pub marked : new.hands ≡ with_hand old.hands w hand (Some (out_record p k n))
 
 -- the record of a hand was submitted, and the hand is free
 pub record SubmitsFromHand (old new : HandRing) (hand : ℕ) (r : Granted) : Type 0 where
   pub was_out : HasInHand old hand r
-  pub submits : Submits old.ring new.ring r
+  pub submits : SubmitsByChapter old.ring new.ring r
   pub freed : new.hands ≡ with_hand old.hands r.worker hand None
 
 -- the record of a hand was discarded, and the hand is free
 pub record DiscardsFromHand (old new : HandRing) (hand : ℕ) (r : Granted) : Type 0 where
   pub was_out : HasInHand old hand r
-  pub discards : Discards old.ring new.ring r
+  pub discards : DiscardsByChapter old.ring new.ring r
   pub freed : new.hands ≡ with_hand old.hands r.worker hand None

@@ -1,8 +1,9 @@
 pub mod Hands
 pub mod HandRing
+pub mod HandEnds
 pub mod HandLaws
-pub mod Opening
-pub mod OpeningValue
+pub mod Standing
+pub mod StandingValue
 pub mod CountedFrom
 pub mod Chapters
 pub mod ChapterRoom

@@ -3,15 +3,15 @@ use Rattle.std.specs.Prelude.{ℕ, ◌≡◌, ◌<◌, ◌≤◌, ◌⊎◌, Lis
 use Rattle.rb_history.specs.declared.answers.Taken.{Taken}
 use Rattle.rb_history.specs.ManyTakes.{HasRecord}
 use Rattle.rb_chapter_ring.specs.ChapterRing.{ChapterRing}
-use Rattle.rb_chapter_ring.specs.ChapterCalls.{Takes, HasBusyFront, AllTaken}
+use Rattle.rb_chapter_ring.specs.ChapterCalls.{TakesByChapter, HasBusyFrontByChapter, AllTakenByChapter}
 
 -- one take after the other, each on the ring as the one before left it, and each with a record
 abbrev pub TakesEachInChapter : ChapterRing → List Taken → ChapterRing → Type 0
 TakesEachInChapter old [] new = new ≡ old
-TakesEachInChapter old (t ∷ ts) new = (next : ChapterRing) × Takes old next t × HasRecord t × TakesEachInChapter next ts new
+TakesEachInChapter old (t ∷ ts) new = (next : ChapterRing) × TakesByChapter old next t × HasRecord t × TakesEachInChapter next ts new
 
 -- up to n takes, which gave these records in this order; fewer only where the front is busy then, or no record is left
 pub record TakesManyInChapter (n : ℕ) (taken : List Taken) (old new : ChapterRing) : Type 0 where
   pub each : TakesEachInChapter old taken new
   pub within : length taken ≤ n
-  pub stops : length taken < n → HasBusyFront new ⊎ AllTaken new
+  pub stops : length taken < n → HasBusyFrontByChapter new ⊎ AllTakenByChapter new

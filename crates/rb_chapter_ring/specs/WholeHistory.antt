@@ -13,18 +13,18 @@ use Rattle.rb_history.specs.RoomRule.{Setup, HasRoomFor}
 use Rattle.rb_history.specs.Legal.{IsLegal}
 use Rattle.rb_history.specs.RingModel.{StandsFor}
 use Rattle.rb_history.specs.Calls.{IsBusy, RingHasRoom, Grants as WholeGrants, FindsFull as WholeFindsFull, Outputs as WholeOutputs, Submits as WholeSubmits, Discards as WholeDiscards, Strays as WholeStrays, Takes as WholeTakes, HasBusyFront as WholeHasBusyFront, AllTaken as WholeAllTaken}
-use Rattle.rb_chapter_ring.specs.Opening.{Opening, opening_of}
-use Rattle.rb_chapter_ring.specs.CountedFrom.{opening_after, counts_from, query_answer_from, status_from, HasRoomFrom, MayFollowFrom, IsLegalFrom}
+use Rattle.rb_chapter_ring.specs.Standing.{Standing, standing_of}
+use Rattle.rb_chapter_ring.specs.CountedFrom.{standing_after, counts_from, query_answer_from, status_from, HasRoomFrom, MayFollowFrom, IsLegalFrom}
 use Rattle.rb_chapter_ring.specs.Chapters.{Chapter, closing_of, Meets, AreChaptersOf, joined, last_of}
-use Rattle.rb_chapter_ring.specs.ChapterRoom.{HasEntryRoom, HasRoomForOwed, MayGrant, MayRefuse, with_entry}
+use Rattle.rb_chapter_ring.specs.ChapterRoom.{HasRoomForEntry, HasRoomForOwed, MayGrant, MayRefuse, with_entry}
 use Rattle.rb_chapter_ring.specs.ChapterRing.{ChapterRing, IsGranted, StandsForChapter, whole_ring}
-use Rattle.rb_chapter_ring.specs.ChapterCalls.{IsBusyFrom, IsSameChapter, IsNextChapter, Grants, FindsFull, FindsChapterFull, Outputs, Submits, Discards, Strays, Takes, HasBusyFront, AllTaken, HandsOut}
+use Rattle.rb_chapter_ring.specs.ChapterCalls.{IsBusyFrom, IsSameChapter, IsNextChapter, GrantsByChapter, FindsFullByChapter, FindsChapterFull, OutputsByChapter, SubmitsByChapter, DiscardsByChapter, StraysByChapter, TakesByChapter, HasBusyFrontByChapter, AllTakenByChapter, HandsOut}
 
 -- what is counted from the opening is what the whole history says: both positions, the records, each worker's totals and the
 -- consumer's, which make up the next opening; the counts, the answers to a query and the room; and of the records that h did not take, whose they are and
 -- their status
-pub record IsSameFrom (r : Setup) (h : List Entry) (o : Opening) (t : List Entry) : Type 0 where
-  pub stands : opening_after o t ≡ opening_of r (h ++ t)
+pub record IsSameFrom (r : Setup) (h : List Entry) (o : Standing) (t : List Entry) : Type 0 where
+  pub stands : standing_after o t ≡ standing_of r (h ++ t)
   pub counts : counts_from o t ≡ counts_of (h ++ t)
   pub query : (q : ℕ) → query_answer_from o t q ≡ query_answer r (h ++ t) q
   pub fits : (n : ℕ) → HasRoomFrom o t n ↔ HasRoomFor r (h ++ t) n
@@ -36,7 +36,7 @@ pub record IsSameFrom (r : Setup) (h : List Entry) (o : Opening) (t : List Entry
 -- where o is what the legal history h stands for: entries are legal from o exactly where h and they are legal, and say the same
 abbrev pub CountedFromOpening : Type 0
 CountedFromOpening =
-    (r : Setup) (h : List Entry) (o : Opening) → IsLegal r h → o ≡ opening_of r h → (t : List Entry)
+    (r : Setup) (h : List Entry) (o : Standing) → IsLegal r h → o ≡ standing_of r h → (t : List Entry)
     → (IsLegalFrom o t ↔ IsLegal r (h ++ t)) × (IsLegalFrom o t → IsSameFrom r h o t)
 
 -- ---- chapters that meet
@@ -44,7 +44,7 @@ CountedFromOpening =
 -- the chapters join to a legal history, and the last one stands for it
 pub record Join (r : Setup) (first : Chapter) (rest : List Chapter) : Type 0 where
   pub legal : IsLegal r (joined (first ∷ rest))
-  pub stands : closing_of (last_of first rest) ≡ opening_of r (joined (first ∷ rest))
+  pub stands : closing_of (last_of first rest) ≡ standing_of r (joined (first ∷ rest))
 
 abbrev pub ChaptersJoin : Type 0
 ChaptersJoin = (r : Setup) (first : Chapter) (rest : List Chapter) → AreChaptersOf r first rest → Join r first rest
@@ -60,7 +60,7 @@ pub record Binds (chapters : List Chapter) (last : Chapter) : Type 0 where
 pub record IsBound (chapters : List Chapter) (last : Chapter) (history : List Entry) : Type 0 where
   pub entries : history ≡ joined chapters ++ last.entries
   pub legal : IsLegal last.opening.setup history
-  pub stands : closing_of last ≡ opening_of last.opening.setup history
+  pub stands : closing_of last ≡ standing_of last.opening.setup history
 
 abbrev pub OnceBound : Type 0
 OnceBound = (chapters : List Chapter) (last : Chapter) → Binds chapters last → IsBound chapters last (joined (chapters ++ last ∷ []))
@@ -70,14 +70,14 @@ OnceBound = (chapters : List Chapter) (last : Chapter) → Binds chapters last �
 -- a chapter of a ring: legal from its opening, which is what the legal history before it stands for
 pub record ContinuesHistory (earlier : List Entry) (c : Chapter) : Type 0 where
   pub earlier_legal : IsLegal c.opening.setup earlier
-  pub opened : c.opening ≡ opening_of c.opening.setup earlier
+  pub opened : c.opening ≡ standing_of c.opening.setup earlier
   pub legal : IsLegalFrom c.opening c.entries
 
 -- behind an entry that may follow there is room for all that is owed then, exactly where there was room for the entry
 abbrev pub EntriesKeepRoom : Type 0
 EntriesKeepRoom =
     (earlier : List Entry) (c : Chapter) (e : Entry) → ContinuesHistory earlier c → MayFollowFrom c.opening c.entries e
-    → HasEntryRoom c e ↔ HasRoomForOwed (with_entry c e)
+    → HasRoomForEntry c e ↔ HasRoomForOwed (with_entry c e)
 
 -- a chapter that meets the one that is handed out has room for what it owes, and continues the longer history
 abbrev pub NextHasRoom : Type 0
@@ -94,14 +94,14 @@ pub record IsKept (earlier : List Entry) (c : Chapter) : Type 0 where
 
 -- each call leaves a chapter that is kept so, and so does handing one out
 pub record AreKeepingCalls (earlier : List Entry) (old new : ChapterRing) : Type 0 where
-  pub grants : (w n p k : ℕ) → w < old.chapter.opening.setup.workers → Grants old new w n p k → IsKept earlier new.chapter
-  pub finds_full : (w n : ℕ) → w < old.chapter.opening.setup.workers → FindsFull old new w n → IsKept earlier new.chapter
+  pub grants : (w n p k : ℕ) → w < old.chapter.opening.setup.workers → GrantsByChapter old new w n p k → IsKept earlier new.chapter
+  pub finds_full : (w n : ℕ) → w < old.chapter.opening.setup.workers → FindsFullByChapter old new w n → IsKept earlier new.chapter
   pub finds_chapter_full : (w n : ℕ) → FindsChapterFull old new w n → IsKept earlier new.chapter
-  pub outputs : (w : ℕ) (bytes : List ℕ) → w < old.chapter.opening.setup.workers → Outputs old new w bytes → IsKept earlier new.chapter
-  pub submits : (r : Granted) → Submits old new r → IsKept earlier new.chapter
-  pub discards : (r : Granted) → Discards old new r → IsKept earlier new.chapter
-  pub strays : (r : Granted) → Strays old new r → IsKept earlier new.chapter
-  pub takes : (t : Taken) → Takes old new t → IsKept earlier new.chapter
+  pub outputs : (w : ℕ) (bytes : List ℕ) → w < old.chapter.opening.setup.workers → OutputsByChapter old new w bytes → IsKept earlier new.chapter
+  pub submits : (r : Granted) → SubmitsByChapter old new r → IsKept earlier new.chapter
+  pub discards : (r : Granted) → DiscardsByChapter old new r → IsKept earlier new.chapter
+  pub strays : (r : Granted) → StraysByChapter old new r → IsKept earlier new.chapter
+  pub takes : (t : Taken) → TakesByChapter old new t → IsKept earlier new.chapter
   pub hands_out : (out : Chapter) → HandsOut old new out → IsKept (earlier ++ out.entries) new.chapter
 
 abbrev pub CallsKeepChapters : Type 0
@@ -115,18 +115,18 @@ StandsAlike = (earlier : List Entry) (v : ChapterRing) → ContinuesHistory earl
 -- has the room that the call asks for. Handing a chapter out changes nothing of that ring
 pub record AreWholeCalls (earlier : List Entry) (old new : ChapterRing) : Type 0 where
   pub grants : (w n p k : ℕ) → w < old.chapter.opening.setup.workers
-      → Grants old new w n p k ↔ (MayGrant old.chapter × IsSameChapter old new × WholeGrants (whole_ring earlier old) (whole_ring earlier new) w n p k)
-  pub finds_full : (w n : ℕ) → FindsFull old new w n ↔ (MayRefuse old.chapter w × IsSameChapter old new × WholeFindsFull (whole_ring earlier old) (whole_ring earlier new) w n)
+      → GrantsByChapter old new w n p k ↔ (MayGrant old.chapter × IsSameChapter old new × WholeGrants (whole_ring earlier old) (whole_ring earlier new) w n p k)
+  pub finds_full : (w n : ℕ) → FindsFullByChapter old new w n ↔ (MayRefuse old.chapter w × IsSameChapter old new × WholeFindsFull (whole_ring earlier old) (whole_ring earlier new) w n)
   pub finds_chapter_full : (w n : ℕ) → FindsChapterFull old new w n
       ↔ ((RingHasRoom (whole_ring earlier old) n → ¬ MayGrant old.chapter) × (¬ RingHasRoom (whole_ring earlier old) n → ¬ MayRefuse old.chapter w) × (new ≡ old))
   pub outputs : (w : ℕ) (bytes : List ℕ) → w < old.chapter.opening.setup.workers
-      → Outputs old new w bytes ↔ (MayGrant old.chapter × IsSameChapter old new × WholeOutputs (whole_ring earlier old) (whole_ring earlier new) w bytes)
-  pub submits : (r : Granted) → Submits old new r ↔ (IsSameChapter old new × WholeSubmits (whole_ring earlier old) (whole_ring earlier new) r)
-  pub discards : (r : Granted) → Discards old new r ↔ (IsSameChapter old new × WholeDiscards (whole_ring earlier old) (whole_ring earlier new) r)
-  pub strays : (r : Granted) → Strays old new r ↔ (IsSameChapter old new × WholeStrays (whole_ring earlier old) (whole_ring earlier new) r)
-  pub takes : (t : Taken) → Takes old new t ↔ (IsSameChapter old new × WholeTakes (whole_ring earlier old) (whole_ring earlier new) t)
-  pub busy_front : HasBusyFront old ↔ WholeHasBusyFront (whole_ring earlier old)
-  pub all_taken : AllTaken old ↔ WholeAllTaken (whole_ring earlier old)
+      → OutputsByChapter old new w bytes ↔ (MayGrant old.chapter × IsSameChapter old new × WholeOutputs (whole_ring earlier old) (whole_ring earlier new) w bytes)
+  pub submits : (r : Granted) → SubmitsByChapter old new r ↔ (IsSameChapter old new × WholeSubmits (whole_ring earlier old) (whole_ring earlier new) r)
+  pub discards : (r : Granted) → DiscardsByChapter old new r ↔ (IsSameChapter old new × WholeDiscards (whole_ring earlier old) (whole_ring earlier new) r)
+  pub strays : (r : Granted) → StraysByChapter old new r ↔ (IsSameChapter old new × WholeStrays (whole_ring earlier old) (whole_ring earlier new) r)
+  pub takes : (t : Taken) → TakesByChapter old new t ↔ (IsSameChapter old new × WholeTakes (whole_ring earlier old) (whole_ring earlier new) t)
+  pub busy_front : HasBusyFrontByChapter old ↔ WholeHasBusyFront (whole_ring earlier old)
+  pub all_taken : AllTakenByChapter old ↔ WholeAllTaken (whole_ring earlier old)
   pub hands_out : (out : Chapter) → HandsOut old new out ↔ (IsNextChapter old new out × (whole_ring (earlier ++ out.entries) new ≡ whole_ring earlier old))
 
 abbrev pub CallsAlike : Type 0

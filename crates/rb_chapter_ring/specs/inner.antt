@@ -1,8 +1,8 @@
-pub mod OpeningNumbers
-pub mod OpeningBody
+pub mod StandingNumbers
+pub mod StandingBody
 pub mod ChapterBody
 pub mod EndSteps
 pub mod RecordEnds
-pub mod OpeningSteps
+pub mod StandingSteps
 pub mod Ordinals
 pub mod ChapterRingBody

@@ -11,8 +11,8 @@ ghost use Rattle.rb_chapter_ring.specs.CountedFrom.{HasRoomFrom, grants_from, pr
 ghost use Rattle.rb_chapter_ring.specs.WholeHistory.{IsKept};
 ghost use Rattle.rb_chapter_ring.specs.inner.EndSteps.{entry_of_end};
 
-use crate::opening::Opening;
 use crate::record_end::RecordEnd;
+use crate::standing::Standing;
 use rb_history::{Entry, span};
 use std::alloc::{AllocError, Global};
 use std::marker::Model;
@@ -25,10 +25,10 @@ const LIMIT: u64 = 1 << 62;
 pub struct Chapter {
     number: u64,
     room: u32,
-    opening: Opening,
+    opening: Standing,
     entries: Vec<Entry>,
     // What it stands for at its end, and how many entries it owes then: so that neither is counted from the entries.
-    closing: Opening,
+    closing: Standing,
     owed: u32,
 }
 
@@ -59,9 +59,9 @@ impl Chapter {
         Ok(Chapter {
             number: 0,
             room,
-            opening: Opening::of_zeros(alloc, room, workers)?,
+            opening: Standing::of_zeros(alloc, room, workers)?,
             entries: Vec::with_capacity(alloc, room as usize)?,
-            closing: Opening::of_zeros(alloc, room, workers)?,
+            closing: Standing::of_zeros(alloc, room, workers)?,
             owed: 0,
         })
     }
@@ -189,7 +189,7 @@ impl Chapter {
     }
 
     /// What it begins with. It has memory for as many untaken records as the chapter has room for entries.
-    pub fn opening(&self) -> &Opening
+    pub fn opening(&self) -> &Standing
         ensures opening { result.now.opening ≡ self.now.opening }
         ensures room { self.now.room ≤ result.now.room }
     {
@@ -197,7 +197,7 @@ impl Chapter {
     }
 
     /// What it stands for at its end: what the next chapter begins with. In constant time, since a chapter keeps it beside the entries.
-    pub fn closing(&self) -> &Opening
+    pub fn closing(&self) -> &Standing
         ensures closing { result.now.opening ≡ closing_of self.now }
         ensures room { self.now.room ≤ result.now.room }
     {

@@ -9,12 +9,12 @@ ghost use Rattle.rb_history.specs.inner.RecordRows.{IsBusyAt};
 ghost use Rattle.rb_chapter_ring.specs.Chapters.{IsChapterRoom, closing_of};
 ghost use Rattle.rb_chapter_ring.specs.CountedFrom.{query_answer_from};
 ghost use Rattle.rb_chapter_ring.specs.ChapterRing.{StandsForChapter};
-ghost use Rattle.rb_chapter_ring.specs.ChapterCalls.{producer_now, consumer_now, ChapterRingHasRoom, IsSameChapter, Logs, HoldsReservationFrom, HasBusyFront, AllTaken, Grants, Outputs, Takes};
+ghost use Rattle.rb_chapter_ring.specs.ChapterCalls.{producer_by_chapter, consumer_by_chapter, ChapterRingHasRoom, IsSameChapter, LogsByChapter, HoldsReservationFrom, HasBusyFrontByChapter, AllTakenByChapter, GrantsByChapter, OutputsByChapter, TakesByChapter};
 ghost use Rattle.rb_chapter_ring.specs.WholeHistory.{IsKept};
 ghost use Rattle.rb_chapter_ring.specs.OpenedRing.{opened_ring, told_counts, IsChapterRingWithin};
 ghost use Rattle.rb_chapter_ring.specs.inner.RecordEnds.{Ends};
 ghost use Rattle.rb_chapter_ring.specs.RingFaults.{RefusesInChapter};
-ghost use Rattle.rb_chapter_ring.specs.inner.Ordinals.{IsNumbered, KeepsNumbers, taken_before};
+ghost use Rattle.rb_chapter_ring.specs.inner.Ordinals.{HasOrdinal, KeepsNumbers, taken_before};
 ghost use Rattle.rb_chapter_ring.specs.inner.EndSteps.{contents_with_end, entry_of_end};
 
 mod handing_out;
@@ -167,10 +167,10 @@ impl ChapterState {
         requires worker { worker < self.old.chapter.opening.setup.workers }
         requires sized { length sheet ≡ n }
         ensures same_chapter { IsSameChapter self.old self.new }
-        ensures granted { IfOk result (λ r. Grants self.old self.new worker n r.pos r.serial) }
+        ensures granted { IfOk result (λ r. GrantsByChapter self.old self.new worker n r.pos r.serial) }
         ensures worker { IfOk result (λ r. r.worker ≡ worker) }
         ensures zeros { IfOk result (λ r. r.bytes ≡ replicate n 0) }
-        ensures number { IfOk result (λ r. IsNumbered (closing_of self.new.chapter) r.pos (taken_before (closing_of self.old.chapter) + length (closing_of self.old.chapter).records)) }
+        ensures number { IfOk result (λ r. HasOrdinal (closing_of self.new.chapter) r.pos (taken_before (closing_of self.old.chapter) + length (closing_of self.old.chapter).records)) }
         ensures numbers { KeepsNumbers self.old.chapter self.new.chapter }
         ensures refused { IfErr result (λ e. RefusesInChapter self.old self.new worker n e.0) }
         ensures known_flags { IfErr result (λ e. e.0 ≢ ReserveFault.Flags) }
@@ -201,7 +201,7 @@ impl ChapterState {
         requires here { IsBusyAt self.old.shown index reservation.pos (length reservation.bytes) }
         ensures same_chapter { IsSameChapter self.old self.new }
         ensures ended { Ends end reservation self.old self.new }
-        ensures notice { (result ≡ Notice.Due) ↔ IsDue (consumer_now self.old) reservation.pos flags }
+        ensures notice { (result ≡ Notice.Due) ↔ IsDue (consumer_by_chapter self.old) reservation.pos flags }
         ensures numbers { KeepsNumbers self.old.chapter self.new.chapter }
     {
         let pos = reservation.pos();
@@ -222,8 +222,8 @@ impl ChapterState {
     ) -> Result<Notice, (ReserveFault, Sheet)>
         requires worker { worker < self.old.chapter.opening.setup.workers }
         ensures same_chapter { IsSameChapter self.old self.new }
-        ensures granted { OnOk result (Outputs self.old self.new worker sheet) }
-        ensures notice { IfOk result (λ n. (n ≡ Notice.Due) ↔ IsDue (consumer_now self.old) (producer_now self.old) flags) }
+        ensures granted { OnOk result (OutputsByChapter self.old self.new worker sheet) }
+        ensures notice { IfOk result (λ n. (n ≡ Notice.Due) ↔ IsDue (consumer_by_chapter self.old) (producer_by_chapter self.old) flags) }
         ensures known_flags { OnOk result (flags ≤ KNOWN_FLAGS) }
         ensures flags { IfErr result (λ e. (e.0 ≡ ReserveFault.Flags) ↔ (KNOWN_FLAGS < flags)) }
         ensures refused { IfErr result (λ e. RefusesInChapter self.old self.new worker (length sheet) e.0) }
@@ -250,9 +250,9 @@ impl ChapterState {
     /// consumed in the order of their reservation.)
     pub(crate) fn take(&mut self) -> Taken
         ensures same_chapter { IsSameChapter self.old self.new }
-        ensures takes { Takes self.old self.new result }
-        ensures busy_front { (result ≡ Taken.BusyFront) ↔ HasBusyFront self.old }
-        ensures empty { (result ≡ Taken.Empty) ↔ AllTaken self.old }
+        ensures takes { TakesByChapter self.old self.new result }
+        ensures busy_front { (result ≡ Taken.BusyFront) ↔ HasBusyFrontByChapter self.old }
+        ensures empty { (result ≡ Taken.Empty) ↔ AllTakenByChapter self.old }
         ensures numbers { KeepsNumbers self.old.chapter self.new.chapter }
     {
         let Some(front) = front_of(self.chapter.closing().records()) else {
@@ -298,11 +298,11 @@ impl ChapterState {
     fn grant(&mut self, worker: u32, n: u32) -> Result<(u64, u64), ReserveFault>
         requires worker { worker < self.old.chapter.opening.setup.workers }
         ensures same_chapter { IsSameChapter self.old self.new }
-        ensures granted { IfOk result (λ g. Grants self.old self.new worker n g.0 g.1) }
+        ensures granted { IfOk result (λ g. GrantsByChapter self.old self.new worker n g.0 g.1) }
         ensures shown { IfOk result (λ g. self.new.shown ≡ self.old.shown ++ (record { pos = g.0; len = n; worker = worker; serial = g.1; status = Busy }) ∷ []) }
         ensures refused { IfErr result (λ e. RefusesInChapter self.old self.new worker n e) }
         ensures known_flags { IfErr result (λ e. e ≢ ReserveFault.Flags) }
-        ensures number { IfOk result (λ g. IsNumbered (closing_of self.new.chapter) g.0 (taken_before (closing_of self.old.chapter) + length (closing_of self.old.chapter).records)) }
+        ensures number { IfOk result (λ g. HasOrdinal (closing_of self.new.chapter) g.0 (taken_before (closing_of self.old.chapter) + length (closing_of self.old.chapter).records)) }
         ensures numbers { KeepsNumbers self.old.chapter self.new.chapter }
     {
         if !self.chapter.has_room(n) {
@@ -322,7 +322,7 @@ impl ChapterState {
     // The busy record at an index comes to this end; the sheet has its bytes.
     fn log_end(&mut self, index: usize, pos: u64, sheet: Sheet, end: RecordEnd)
         requires busy { IsBusyAt self.old.shown index pos (length sheet) }
-        ensures logged { Logs self.old self.new (entry_of_end end pos ∷ []) }
+        ensures logged { LogsByChapter self.old self.new (entry_of_end end pos ∷ []) }
         ensures contents { self.new.contents ≡ contents_with_end end pos sheet self.old.contents }
         ensures numbers { KeepsNumbers self.old.chapter self.new.chapter }
     {
@@ -362,14 +362,14 @@ impl ChapterState {
     #[inline(always)]
     // Whether a notice is due for the record at `pos`.
     fn notice(&self, pos: u64, flags: u64) -> Notice
-        ensures due { (result ≡ Notice.Due) ↔ IsDue (consumer_now self.now) pos flags }
+        ensures due { (result ≡ Notice.Due) ↔ IsDue (consumer_by_chapter self.now) pos flags }
     {
         notice_for(self.chapter.closing().numbers().consumer, pos, flags)
     }
 
     #[inline(always)]
     fn producer(&self) -> u64
-        ensures value { result ≡ producer_now self.now }
+        ensures value { result ≡ producer_by_chapter self.now }
     {
         self.chapter.closing().numbers().producer
     }

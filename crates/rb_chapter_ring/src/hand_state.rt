@@ -9,7 +9,7 @@ ghost use Rattle.rb_history.specs.inner.RecordRows.{IsBusyAt};
 ghost use Rattle.rb_chapter_ring.specs.CountedFrom.{query_answer_from};
 ghost use Rattle.rb_history.specs.ManyTakes.{pushed};
 ghost use Rattle.rb_history.specs.declared.answers.Taken.TheVariants.{BusyFront, Empty};
-ghost use Rattle.rb_chapter_ring.specs.ChapterCalls.{AllTaken, HandsOut, HasBusyFront, IsSameChapter, Outputs, Takes, consumer_now, producer_now};
+ghost use Rattle.rb_chapter_ring.specs.ChapterCalls.{AllTakenByChapter, HandsOut, HasBusyFrontByChapter, IsSameChapter, OutputsByChapter, TakesByChapter, consumer_by_chapter, producer_by_chapter};
 ghost use Rattle.rb_chapter_ring.specs.declared.faults.ReserveFault.TheVariants.{Flags};
 ghost use Rattle.rb_chapter_ring.specs.RingFaults.{RefusesInChapter};
 ghost use Rattle.rb_history.specs.declared.entries.Entry.{Entry};
@@ -18,8 +18,8 @@ ghost use Rattle.rb_chapter_ring.specs.WholeHistory.{IsKept};
 ghost use Rattle.rb_chapter_ring.specs.OpenedRing.{IsChapterRingWithin, MayGoOnIn, opened_ring, told_counts};
 ghost use Rattle.rb_chapter_ring.specs.ManyTakes.{TakesManyInChapter};
 ghost use Rattle.rb_chapter_ring.specs.Hands.{AreAllOut, IsFree, IsLowestFree, free_book, hands_of};
-ghost use Rattle.rb_chapter_ring.specs.HandRing.{hand_ring, HasHands, HasInHand, GrantsToHand, SubmitsFromHand, DiscardsFromHand};
-ghost use Rattle.rb_chapter_ring.specs.inner.RecordEnds.{EndsFromHand};
+ghost use Rattle.rb_chapter_ring.specs.HandRing.{hand_ring, HasHands, HasInHand, GrantsToHand};
+ghost use Rattle.rb_chapter_ring.specs.HandEnds.{EndsFromHand};
 
 use crate::chapter_state::ChapterState;
 use crate::faults::{OpenFault, ReserveFault};
@@ -106,8 +106,8 @@ impl HandState {
     ) -> Result<Notice, (ReserveFault, Sheet)>
         requires worker { worker < self.old.ring.chapter.opening.setup.workers }
         ensures same_chapter { IsSameChapter self.old.ring self.new.ring }
-        ensures granted { OnOk result (Outputs self.old.ring self.new.ring worker sheet) }
-        ensures notice { IfOk result (λ n. (n ≡ Due) ↔ IsDue (consumer_now self.old.ring) (producer_now self.old.ring) flags) }
+        ensures granted { OnOk result (OutputsByChapter self.old.ring self.new.ring worker sheet) }
+        ensures notice { IfOk result (λ n. (n ≡ Due) ↔ IsDue (consumer_by_chapter self.old.ring) (producer_by_chapter self.old.ring) flags) }
         ensures known_flags { OnOk result (flags ≤ 3) }
         ensures flags { IfErr result (λ e. (e.0 ≡ Flags) ↔ (3 < flags)) }
         ensures refused { IfErr result (λ e. RefusesInChapter self.old.ring self.new.ring worker (length sheet) e.0) }
@@ -123,9 +123,9 @@ impl HandState {
     /// Takes the record at the consumer position.
     pub fn take(&mut self) -> Taken
         ensures same_chapter { IsSameChapter self.old.ring self.new.ring }
-        ensures takes { Takes self.old.ring self.new.ring result }
-        ensures busy_front { (result ≡ BusyFront) ↔ HasBusyFront self.old.ring }
-        ensures empty { (result ≡ Empty) ↔ AllTaken self.old.ring }
+        ensures takes { TakesByChapter self.old.ring self.new.ring result }
+        ensures busy_front { (result ≡ BusyFront) ↔ HasBusyFrontByChapter self.old.ring }
+        ensures empty { (result ≡ Empty) ↔ AllTakenByChapter self.old.ring }
         ensures same_hands { self.new.hands ≡ self.old.hands }
     {
         let ring = &self.ring;
@@ -238,29 +238,23 @@ impl HandState {
     }
 
     #[inline(always)]
-    /// Hands the reservation's bytes to the consumer, and frees its hand. It is out in that hand, so it is busy: there is no refusal. Of the flags only
-    /// bits 0 and 1 are looked at. In constant time, and without memory. (bpf-helpers(7), bpf_ringbuf_submit.)
-    pub fn submit(&mut self, reservation: Reservation, flags: u64) -> Notice
+    /// The reservation's record comes to this end, so that the consumer takes its bytes or passes over it, and its hand is free. It is out in that
+    /// hand, so it is busy: there is no refusal. Of the flags only bits 0 and 1 are looked at. In constant time, and without memory.
+    /// (bpf-helpers(7), bpf_ringbuf_submit and bpf_ringbuf_discard.)
+    pub fn settle(&mut self, reservation: Reservation, end: RecordEnd, flags: u64) -> Notice
         requires out { HasInHand self.old reservation.hand reservation.granted }
         ensures same_chapter { IsSameChapter self.old.ring self.new.ring }
-        ensures submitted { SubmitsFromHand self.old self.new reservation.hand reservation.granted }
-        ensures notice { (result ≡ Due) ↔ IsDue (consumer_now self.old.ring) reservation.granted.pos flags }
+        ensures ended { EndsFromHand end reservation.hand reservation.granted self.old self.new }
+        ensures notice { (result ≡ Due) ↔ IsDue (consumer_by_chapter self.old.ring) reservation.granted.pos flags }
     {
+        let ring = &self.ring;
+        ring.facts();
         let Reservation { hand, grant, .. } = reservation;
-        self.settle(hand, grant, RecordEnd::Submit, flags)
-    }
-
-    #[inline(always)]
-    /// Gives the reservation's record up, so that the consumer passes over it, and frees its hand. It is out in that hand, so it is busy: there is no
-    /// refusal. Of the flags only bits 0 and 1 are looked at. In constant time, and without memory. (bpf-helpers(7), bpf_ringbuf_discard.)
-    pub fn discard(&mut self, reservation: Reservation, flags: u64) -> Notice
-        requires out { HasInHand self.old reservation.hand reservation.granted }
-        ensures same_chapter { IsSameChapter self.old.ring self.new.ring }
-        ensures discarded { DiscardsFromHand self.old self.new reservation.hand reservation.granted }
-        ensures notice { (result ≡ Due) ↔ IsDue (consumer_now self.old.ring) reservation.granted.pos flags }
-    {
-        let Reservation { hand, grant, .. } = reservation;
-        self.settle(hand, grant, RecordEnd::Discard, flags)
+        let worker = grant.worker();
+        let index = self.index_in(hand, &grant);
+        let notice = self.ring.settle(index, grant, end, flags);
+        set_hand(&mut self.hands, worker, hand, None);
+        notice
     }
 
     #[inline(always)]
@@ -273,23 +267,6 @@ impl HandState {
         ring.facts();
         let ordinal = self.ordinals[grant.worker() as usize][hand as usize];
         (ordinal - ring.taken()) as usize
-    }
-
-    #[inline(always)]
-    // The record that is out in a hand of its worker comes to this end, and the hand is free.
-    fn settle(&mut self, hand: u32, grant: Record, end: RecordEnd, flags: u64) -> Notice
-        requires out { HasInHand self.old hand grant }
-        ensures same_chapter { IsSameChapter self.old.ring self.new.ring }
-        ensures ended { EndsFromHand end hand grant self.old self.new }
-        ensures notice { (result ≡ Due) ↔ IsDue (consumer_now self.old.ring) grant.pos flags }
-    {
-        let ring = &self.ring;
-        ring.facts();
-        let worker = grant.worker();
-        let index = self.index_in(hand, &grant);
-        let notice = self.ring.settle(index, grant, end, flags);
-        set_hand(&mut self.hands, worker, hand, None);
-        notice
     }
 
     #[inline(always)]

@@ -25,7 +25,7 @@
 //! # Chapters
 //!
 //! A ring's history is cut into numbered chapters, and what a chapter begins with stands for all that came before it. `Chapter` is a chapter as
-//! a value: its number, its opening (`specs/Opening.antt`: both positions, the records that were not taken, and the totals so
+//! a value: its number, its opening (`specs/Standing.antt`: both positions, the records that were not taken, and the totals so
 //! far) and its entries (`specs/Chapters.antt` has a drawing). `specs/CountedFrom.antt` says what entries mean that are counted from an
 //! opening, `specs/ChapterRoom.antt` how many a chapter has room for, and `specs/ChapterCalls.antt` what each call adds. The definitions over
 //! a whole history stay those of `rb_history`, and `specs/WholeHistory.antt` ties the two: what is counted from an opening is
@@ -71,13 +71,13 @@ mod hand_state;
 mod hand_table;
 mod hands;
 mod many_takes;
-mod opening;
-mod opening_lists;
 mod out_record;
 mod record_end;
 mod reservation;
 mod ring;
 mod setup;
+mod standing;
+mod standing_lists;
 
 pub use chapter::Chapter;
 pub use chapter_laws::{calls_are_alike, chapters_join, counted_from_the_opening, room_is_kept};
@@ -85,8 +85,8 @@ pub use faults::{OpenFault, ReserveFault};
 pub use hand_laws::{book_goes_on, each_call_keeps_hands, one_hand_changes};
 pub use hand_state::HandState;
 pub use hands::lowest_free;
-pub use opening::{Opening, OpeningNumbers, UntakenRecord, UntakenStatus};
 pub use out_record::OutRecord;
 pub use record_end::RecordEnd;
 pub use reservation::Reservation;
 pub use ring::RingState;
+pub use standing::{Standing, StandingNumbers, UntakenRecord, UntakenStatus};

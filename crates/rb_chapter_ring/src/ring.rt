@@ -9,7 +9,7 @@ ghost use Rattle.rb_history.specs.declared.answers.Taken.TheVariants.{BusyFront,
 ghost use Rattle.rb_history.specs.declared.entries.Entry.{Entry};
 ghost use Rattle.rb_chapter_ring.specs.Chapters.{IsChapterRoom};
 ghost use Rattle.rb_chapter_ring.specs.CountedFrom.{query_answer_from};
-ghost use Rattle.rb_chapter_ring.specs.ChapterCalls.{AllTaken, HandsOut, HasBusyFront, IsSameChapter, Outputs, Takes, consumer_now, producer_now};
+ghost use Rattle.rb_chapter_ring.specs.ChapterCalls.{AllTakenByChapter, HandsOut, HasBusyFrontByChapter, IsSameChapter, OutputsByChapter, TakesByChapter, consumer_by_chapter, producer_by_chapter};
 ghost use Rattle.rb_chapter_ring.specs.ChapterRing.{StandsForChapter};
 ghost use Rattle.rb_chapter_ring.specs.WholeHistory.{IsKept};
 ghost use Rattle.rb_chapter_ring.specs.declared.faults.ReserveFault.TheVariants.{Flags};
@@ -22,6 +22,7 @@ ghost use Rattle.rb_chapter_ring.specs.HandRing.{hand_ring, HasHands, HasInHand,
 use crate::Chapter;
 use crate::faults::{OpenFault, ReserveFault};
 use crate::hand_state::HandState;
+use crate::record_end::RecordEnd;
 use crate::reservation::Reservation;
 use rb_history::{Counts, Notice, Taken};
 use rb_lend::Sheet;
@@ -177,9 +178,9 @@ impl RingState {
         ensures same_tag { self.new.tag ≡ self.old.tag }
         ensures same_chapter { IsSameChapter self.old.state.ring self.new.state.ring }
         ensures submitted { SubmitsFromHand self.old.state self.new.state reservation.hand reservation.granted }
-        ensures notice { (result ≡ Due) ↔ IsDue (consumer_now self.old.state.ring) reservation.granted.pos flags }
+        ensures notice { (result ≡ Due) ↔ IsDue (consumer_by_chapter self.old.state.ring) reservation.granted.pos flags }
     {
-        self.state.submit(reservation, flags)
+        self.state.settle(reservation, RecordEnd::Submit, flags)
     }
 
     #[inline(always)]
@@ -190,9 +191,9 @@ impl RingState {
         ensures same_tag { self.new.tag ≡ self.old.tag }
         ensures same_chapter { IsSameChapter self.old.state.ring self.new.state.ring }
         ensures discarded { DiscardsFromHand self.old.state self.new.state reservation.hand reservation.granted }
-        ensures notice { (result ≡ Due) ↔ IsDue (consumer_now self.old.state.ring) reservation.granted.pos flags }
+        ensures notice { (result ≡ Due) ↔ IsDue (consumer_by_chapter self.old.state.ring) reservation.granted.pos flags }
     {
-        self.state.discard(reservation, flags)
+        self.state.settle(reservation, RecordEnd::Discard, flags)
     }
 
     #[inline(always)]
@@ -208,8 +209,8 @@ impl RingState {
         requires worker { worker < self.old.state.ring.chapter.opening.setup.workers }
         ensures same_tag { self.new.tag ≡ self.old.tag }
         ensures same_chapter { IsSameChapter self.old.state.ring self.new.state.ring }
-        ensures granted { OnOk result (Outputs self.old.state.ring self.new.state.ring worker sheet) }
-        ensures notice { IfOk result (λ n. (n ≡ Due) ↔ IsDue (consumer_now self.old.state.ring) (producer_now self.old.state.ring) flags) }
+        ensures granted { OnOk result (OutputsByChapter self.old.state.ring self.new.state.ring worker sheet) }
+        ensures notice { IfOk result (λ n. (n ≡ Due) ↔ IsDue (consumer_by_chapter self.old.state.ring) (producer_by_chapter self.old.state.ring) flags) }
         ensures known_flags { OnOk result (flags ≤ 3) }
         ensures flags { IfErr result (λ e. (e.0 ≡ Flags) ↔ (3 < flags)) }
         ensures refused { IfErr result (λ e. RefusesInChapter self.old.state.ring self.new.state.ring worker (length sheet) e.0) }
@@ -225,9 +226,9 @@ impl RingState {
     pub fn take(&mut self) -> Taken
         ensures same_tag { self.new.tag ≡ self.old.tag }
         ensures same_chapter { IsSameChapter self.old.state.ring self.new.state.ring }
-        ensures takes { Takes self.old.state.ring self.new.state.ring result }
-        ensures busy_front { (result ≡ BusyFront) ↔ HasBusyFront self.old.state.ring }
-        ensures empty { (result ≡ Empty) ↔ AllTaken self.old.state.ring }
+        ensures takes { TakesByChapter self.old.state.ring self.new.state.ring result }
+        ensures busy_front { (result ≡ BusyFront) ↔ HasBusyFrontByChapter self.old.state.ring }
+        ensures empty { (result ≡ Empty) ↔ AllTakenByChapter self.old.state.ring }
         ensures same_hands { self.new.state.hands ≡ self.old.state.hands }
     {
         self.state.take()

@@ -3,7 +3,7 @@
 ghost use Rattle.std.specs.Prelude.{ℕ, ◌≡◌, ◌/◌, ◌<◌, ◌≤◌, ◌^◌, ◌↔◌, IsErrOf, IsTrue, IfOk, OnOk, length, slice_index_or};
 ghost use Rattle.std.specs.Int.{IsPowerOfTwo};
 ghost use Rattle.rb_history.specs.RingModel.{IsRingSize, IsStartPosition, IsWorkerCount};
-ghost use Rattle.rb_chapter_ring.specs.Opening.{no_tally};
+ghost use Rattle.rb_chapter_ring.specs.Standing.{no_tally};
 ghost use Rattle.rb_chapter_ring.specs.Chapters.{IsChapterRoom};
 
 use crate::Chapter;

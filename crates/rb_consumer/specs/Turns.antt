@@ -8,8 +8,8 @@ use Rattle.rb_ledger.specs.ChapterSeats.{ChapterConsumerSeat}
 use Rattle.rb_ledger.specs.LockedChapterCalls.{LockedChapterCall, InKnownChapter, TellsUsed, HandsOutNext}
 
 -- a chapter of this room has entries, and those, the ones that it owes, the three of one grant more and the margin are above the room
-abbrev pub IsDue : ℕ → ℕ → ℕ → ℕ → Type 0
-IsDue margin room entries more = (0 < entries) × (room < entries + more + 3 + margin)
+abbrev pub IsTurnDue : ℕ → ℕ → ℕ → ℕ → Type 0
+IsTurnDue margin room entries more = (0 < entries) × (room < entries + more + 3 + margin)
 
 -- the chapter has the room and the workers of the seat's ring
 pub record IsOfRing (s : ChapterConsumerSeat) (c : Chapter) : Type 0 where
@@ -34,4 +34,4 @@ pub record TurnsChapter (margin : ℕ) (old new : ChapterConsumerSeat) (lent : L
   pub more : ℕ
   pub looked : Book
   pub look : LockedChapterCall Consumer old.seen looked (InKnownChapter old.handed_out (TellsUsed entries more))
-  pub hands_out : HandsOutDue (IsDue margin old.room entries more) looked old new lent
+  pub hands_out : HandsOutDue (IsTurnDue margin old.room entries more) looked old new lent

@@ -58,34 +58,34 @@ impl Batch {
         &mut self,
         rt: &R,
         ring: &SharedRing,
-        me: &mut ConsumerSeat,
+        seat: &mut ConsumerSeat,
     ) -> Result<usize, Foreign>
-        requires ring { me.old.tag ≡ ring.now.tag → me.old.ring ≡ ring.now.ring }
-        ensures foreign { IsErr result ↔ (me.old.tag ≢ ring.now.tag) }
-        ensures unchanged { me.old.tag ≢ ring.now.tag → me.new ≡ me.old }
-        ensures batch_unchanged { me.old.tag ≢ ring.now.tag → self.new ≡ self.old }
+        requires ring { seat.old.tag ≡ ring.now.tag → seat.old.ring ≡ ring.now.ring }
+        ensures foreign { IsErr result ↔ (seat.old.tag ≢ ring.now.tag) }
+        ensures unchanged { seat.old.tag ≢ ring.now.tag → seat.new ≡ seat.old }
+        ensures batch_unchanged { seat.old.tag ≢ ring.now.tag → self.new ≡ self.old }
         ensures capacity { self.new.capacity ≡ self.old.capacity }
-        ensures seat { IsSameChapterConsumer me.old me.new }
-        ensures chapters { me.new.handed_out ≡ me.old.handed_out }
-        ensures released { (me.old.out ≡ None) × (me.new.out ≡ None) }
+        ensures seat { IsSameChapterConsumer seat.old seat.new }
+        ensures chapters { seat.new.handed_out ≡ seat.old.handed_out }
+        ensures released { (seat.old.out ≡ None) × (seat.new.out ≡ None) }
         ensures count { IfOk result (λ count. count ≡ length self.new.taken) }
-        ensures call { OnOk result (LockedCall Consumer me.old.seen me.new.seen (InRoomBehind me.old.room (entries_out me.old) (TakesMany self.old.capacity self.new.taken))) }
-        ensures setup { OnOk result (me.new.seen.setup ≡ me.old.seen.setup) }
-        ensures place { OnOk result (AreTakenFrom me.old.position self.new.taken) }
-        ensures stand { OnOk result (AreItemsFrom me.old.seen.setup.size me.old.position (tape_items self.new.taken)) }
-        ensures position { OnOk result (me.new.position ≡ me.old.position + span_among self.new.taken) }
-        ensures end { OnOk result (me.new.position ≡ end_of me.old.position (tape_items self.new.taken)) }
-        ensures consumed { OnOk result (me.new.consumed ≡ me.old.consumed + events_among self.new.taken) }
-        ensures skipped { OnOk result (me.new.skipped ≡ me.old.skipped + skips_among self.new.taken) }
-        ensures got { OnOk result (me.new.got ≡ got_by_all me.old.got self.new.taken) }
+        ensures call { OnOk result (LockedCall Consumer seat.old.seen seat.new.seen (InRoomBehind seat.old.room (entries_out seat.old) (TakesMany self.old.capacity self.new.taken))) }
+        ensures setup { OnOk result (seat.new.seen.setup ≡ seat.old.seen.setup) }
+        ensures place { OnOk result (AreTakenFrom seat.old.position self.new.taken) }
+        ensures stand { OnOk result (AreItemsFrom seat.old.seen.setup.size seat.old.position (tape_items self.new.taken)) }
+        ensures position { OnOk result (seat.new.position ≡ seat.old.position + span_among self.new.taken) }
+        ensures end { OnOk result (seat.new.position ≡ end_of seat.old.position (tape_items self.new.taken)) }
+        ensures consumed { OnOk result (seat.new.consumed ≡ seat.old.consumed + events_among self.new.taken) }
+        ensures skipped { OnOk result (seat.new.skipped ≡ seat.old.skipped + skips_among self.new.taken) }
+        ensures got { OnOk result (seat.new.got ≡ got_by_all seat.old.got self.new.taken) }
     {
-        me.facts();
-        if me.tag() != ring.tag() {
+        seat.facts();
+        if seat.tag() != ring.tag() {
             return Err(Foreign);
         }
         self.taken.clear();
         let n = self.taken.capacity();
-        ring.take_many(rt, me, n, &mut self.taken)
+        ring.take_many(rt, seat, n, &mut self.taken)
     }
 
     /// What holds of each batch: what is in it are records, at most as many as there is room for.

@@ -4,8 +4,8 @@ ghost use Rattle.std.specs.Prelude.{◌≡◌, ◌≢◌, ◌<◌, ◌^◌, ◌�
 ghost use Rattle.rb_ledger.specs.ChapterSeats.{IsFitChapter};
 ghost use Rattle.rb_shared_ring.specs.SharedSeats.{IsSameChapterConsumer, TakesNothing};
 ghost use Rattle.rb_shared_ring.specs.declared.chapters.HandFault.TheVariants as HandFault;
-ghost use Rattle.rb_consumer.specs.Turns.{IsDue, IsOfRing, TurnsChapter, chapters_lent};
-ghost use Rattle.rb_consumer.specs.inner.KeeperTurns.{chapters_out};
+ghost use Rattle.rb_consumer.specs.Turns.{IsTurnDue, IsOfRing, TurnsChapter, chapters_lent};
+ghost use Rattle.rb_consumer.specs.inner.KeeperTurns.{chapters_handed};
 
 use rb_chapter_ring::Chapter;
 use rb_shared_ring::{ConsumerSeat, HandFault, SharedRing};
@@ -74,34 +74,34 @@ impl Keeper {
         &mut self,
         rt: &R,
         ring: &SharedRing,
-        me: &mut ConsumerSeat,
+        seat: &mut ConsumerSeat,
     ) -> Result<Option<&Chapter>, HandFault>
-        requires ring { me.old.tag ≡ ring.now.tag → me.old.ring ≡ ring.now.ring }
+        requires ring { seat.old.tag ≡ ring.now.tag → seat.old.ring ≡ ring.now.ring }
         ensures* keeper { sem 𝓛 (Rests the_row self.entry (λ new. KeepsLent self.old new result)) }
-        ensures foreign { IsErrOf result HandFault.Foreign ↔ (me.old.tag ≢ ring.now.tag) }
-        ensures unfit { IsErrOf result HandFault.Unfit ↔ ((me.old.tag ≡ ring.now.tag) × ¬ IsFitChapter me.old (handed_in self.old)) }
-        ensures unchanged { OnErr result (me.new ≡ me.old) }
-        ensures seat { IsSameChapterConsumer me.old me.new }
-        ensures setup { me.new.seen.setup ≡ me.old.seen.setup }
-        ensures numbers { TakesNothing me.old me.new }
-        ensures released { (me.old.out ≡ None) × (me.new.out ≡ None) }
-        ensures turn { IfOk result (λ lent. TurnsChapter self.old.margin me.old me.new (chapters_lent lent)) }
-        ensures chapters { IfOk result (λ lent. me.new.handed_out ≡ me.old.handed_out ++ chapters_lent lent) }
-        ensures number { IfOk result (λ lent. IfSome lent (λ c. c.now.number ≡ length me.old.handed_out)) }
-        ensures fits { IfOk result (λ lent. IfSome lent (λ c. IsOfRing me.old c.now)) }
+        ensures foreign { IsErrOf result HandFault.Foreign ↔ (seat.old.tag ≢ ring.now.tag) }
+        ensures unfit { IsErrOf result HandFault.Unfit ↔ ((seat.old.tag ≡ ring.now.tag) × ¬ IsFitChapter seat.old (handed_in self.old)) }
+        ensures unchanged { OnErr result (seat.new ≡ seat.old) }
+        ensures seat { IsSameChapterConsumer seat.old seat.new }
+        ensures setup { seat.new.seen.setup ≡ seat.old.seen.setup }
+        ensures numbers { TakesNothing seat.old seat.new }
+        ensures released { (seat.old.out ≡ None) × (seat.new.out ≡ None) }
+        ensures turn { IfOk result (λ lent. TurnsChapter self.old.margin seat.old seat.new (chapters_lent lent)) }
+        ensures chapters { IfOk result (λ lent. seat.new.handed_out ≡ seat.old.handed_out ++ chapters_lent lent) }
+        ensures number { IfOk result (λ lent. IfSome lent (λ c. c.now.number ≡ length seat.old.handed_out)) }
+        ensures fits { IfOk result (λ lent. IfSome lent (λ c. IsOfRing seat.old c.now)) }
     {
-        me.facts();
-        if me.tag() != ring.tag() {
+        seat.facts();
+        if seat.tag() != ring.tag() {
             return Err(HandFault::Foreign);
         }
-        if !self.is_fit(me) {
+        if !self.is_fit(seat) {
             return Err(HandFault::Unfit);
         }
         let kept = match self.kept.take() {
             Some(kept) => kept,
             None => unreachable!(),
         };
-        match hand_out_due(rt, ring, me, self.margin, kept) {
+        match hand_out_due(rt, ring, seat, self.margin, kept) {
             Ok(chapter) => {
                 self.kept = Some(chapter);
                 self.is_lent = true;
@@ -125,16 +125,16 @@ impl Keeper {
     }
 
     // Whether the ring may go on in the chapter as the next turn hands it in.
-    fn is_fit(&self, me: &ConsumerSeat) -> bool
-        ensures exact { IsTrue result ↔ IsFitChapter me.now (handed_in self.now) }
+    fn is_fit(&self, seat: &ConsumerSeat) -> bool
+        ensures exact { IsTrue result ↔ IsFitChapter seat.now (handed_in self.now) }
     {
         match &self.kept {
             Some(chapter) => {
-                let ring = me.ring();
+                let ring = seat.ring();
                 (self.is_lent || chapter.used() == 0)
                     && chapter.room() == ring.room
                     && chapter.opening().numbers().workers == ring.workers
-                    && me.chapters() < 1 << 62
+                    && seat.chapters() < 1 << 62
             }
             None => unreachable!(),
         }
@@ -145,36 +145,36 @@ impl Keeper {
 fn hand_out_due<R: Wait>(
     rt: &R,
     ring: &SharedRing,
-    me: &mut ConsumerSeat,
+    seat: &mut ConsumerSeat,
     margin: u32,
     kept: Chapter,
 ) -> Result<Chapter, Chapter>
-    requires tag { me.old.tag ≡ ring.now.tag }
-    requires ring { me.old.ring ≡ ring.now.ring }
-    requires room { kept.room ≡ me.old.room }
-    requires workers { kept.opening.setup.workers ≡ me.old.seen.setup.workers }
-    requires next_number { length me.old.handed_out < 2 ^ 62 }
-    ensures seat { IsSameChapterConsumer me.old me.new }
-    ensures setup { me.new.seen.setup ≡ me.old.seen.setup }
-    ensures numbers { TakesNothing me.old me.new }
-    ensures released { (me.old.out ≡ None) × (me.new.out ≡ None) }
-    ensures turn { TurnsChapter margin me.old me.new (chapters_out result) }
-    ensures chapters { me.new.handed_out ≡ me.old.handed_out ++ chapters_out result }
+    requires tag { seat.old.tag ≡ ring.now.tag }
+    requires ring { seat.old.ring ≡ ring.now.ring }
+    requires room { kept.room ≡ seat.old.room }
+    requires workers { kept.opening.setup.workers ≡ seat.old.seen.setup.workers }
+    requires next_number { length seat.old.handed_out < 2 ^ 62 }
+    ensures seat { IsSameChapterConsumer seat.old seat.new }
+    ensures setup { seat.new.seen.setup ≡ seat.old.seen.setup }
+    ensures numbers { TakesNothing seat.old seat.new }
+    ensures released { (seat.old.out ≡ None) × (seat.new.out ≡ None) }
+    ensures turn { TurnsChapter margin seat.old seat.new (chapters_handed result) }
+    ensures chapters { seat.new.handed_out ≡ seat.old.handed_out ++ chapters_handed result }
     ensures same { IfErr result (λ c. c ≡ kept) }
-    ensures number { IfOk result (λ c. c.number ≡ length me.old.handed_out) }
-    ensures fits { IfOk result (λ c. IsOfRing me.old c) }
+    ensures number { IfOk result (λ c. c.number ≡ length seat.old.handed_out) }
+    ensures fits { IfOk result (λ c. IsOfRing seat.old c) }
 {
-    me.facts();
-    let (entries, more) = match ring.used(rt, me) {
+    seat.facts();
+    let (entries, more) = match ring.used(rt, seat) {
         Ok(told) => told,
         Err(_) => unreachable!(),
     };
-    if !is_due(margin, me.ring().room, entries, more) {
+    if !is_due(margin, seat.ring().room, entries, more) {
         return Err(kept);
     }
     let mut empty = kept;
     empty.clear();
-    match ring.hand_out(rt, me, empty) {
+    match ring.hand_out(rt, seat, empty) {
         Ok(chapter) => Ok(chapter),
         Err(_) => unreachable!(),
     }
@@ -182,7 +182,7 @@ fn hand_out_due<R: Wait>(
 
 // Whether a chapter of this room is due to be handed out, with so many entries and so many more that it owes.
 fn is_due(margin: u32, room: u32, entries: u32, more: u32) -> bool
-    ensures exact { IsTrue result ↔ IsDue margin room entries more }
+    ensures exact { IsTrue result ↔ IsTurnDue margin room entries more }
 {
     let wanted = u64::from(entries) + u64::from(more) + 3 + u64::from(margin);
     entries > 0 && wanted > u64::from(room)

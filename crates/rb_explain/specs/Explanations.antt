@@ -17,7 +17,7 @@ use Rattle.rb_verifier.specs.declared.rule.Rule.{Rule}
 use Rattle.rb_verifier.specs.Annotation.{Annotation, state_at, IsLeast, HasNoValid, IsFirstBrokenRule}
 use Rattle.rb_verifier.specs.declared.state.AbsState.{AbsState}
 use Rattle.rb_explain.specs.Joined.{joined_below}
-use Rattle.rb_explain.specs.Lines.{line_text, unit_text, bytes_text}
+use Rattle.rb_explain.specs.Lines.{line_text, unit_text, bytes_column}
 use Rattle.rb_explain.specs.StateTexts.{state_text}
 use Rattle.rb_explain.specs.Objects.{known_object, unit_object, bytes_object, fault_object, decode_name, shape_name, rule_name}
 use Rattle.rb_explain.specs.declared.explanation.Explanation.{Explanation}
@@ -54,8 +54,8 @@ pub record IsListing (form : LineForm) (limits : Limits) (program : List Insn) (
 abbrev pub mark : List ℕ
 mark = codes "   ^\n"
 
-abbrev pub is_near : ℕ → ℕ → Bool
-is_near at unit = nat_le unit (at + 4) && nat_le at (unit + 4)
+abbrev pub is_near_unit : ℕ → ℕ → Bool
+is_near_unit at unit = nat_le unit (at + 4) && nat_le at (unit + 4)
 
 abbrev pub mark_under : ℕ → ℕ → List ℕ
 mark_under at unit = if unit == at then mark else codes ""
@@ -67,7 +67,7 @@ near_text Json at unit insn = unit_object unit insn
 
 abbrev pub near_slot : LineForm → ℕ → ℕ → Option Insn → List ℕ
 near_slot form at unit None = []
-near_slot form at unit (Some insn) = if is_near at unit then near_text form at unit insn else []
+near_slot form at unit (Some insn) = if is_near_unit at unit then near_text form at unit insn else []
 
 abbrev pub near_line : LineForm → List Insn → ℕ → ℕ → List ℕ
 near_line form program at unit = near_slot form at unit (slot_at program unit)
@@ -84,7 +84,7 @@ said_text Json front layer name unit advice = fault_object layer name unit advic
 -- ---- bytes that are no program: the lines before the fault, and the bytes of the units from it on
 
 abbrev pub raw_text : LineForm → ℕ → ℕ → List ℕ → List ℕ
-raw_text Words at unit bytes = unit_text unit ++ codes ": " ++ bytes_text bytes ++ codes "\n" ++ mark_under at unit
+raw_text Words at unit bytes = unit_text unit ++ codes ": " ++ bytes_column bytes ++ codes "\n" ++ mark_under at unit
 raw_text Json at unit bytes = bytes_object unit bytes
 
 -- the bytes of a unit that was not read, where there is one
@@ -104,8 +104,8 @@ ShowsFront form bytes at TooLong shown = shown ≡ []
 ShowsFront form bytes at kind shown = ShowsUnits form bytes at shown
 
 -- behind what is shown stands what is said of the fault
-abbrev pub ShowsFault : LineForm → List ℕ → ℕ → DecodeKind → List ℕ → Type 0
-ShowsFault form bytes at kind text =
+abbrev pub ShowsDecodeFault : LineForm → List ℕ → ℕ → DecodeKind → List ℕ → Type 0
+ShowsDecodeFault form bytes at kind text =
     (shown : List ℕ) × (advice : List ℕ) × ShowsFront form bytes at kind shown × (text ≡ shown ++ said_text form [] (codes "decode") (decode_name kind) at advice)
 
 -- behind the lines around a unit stands what is said of the fault
@@ -136,7 +136,7 @@ pub record IsShapedProgramOf (bytes : List ℕ) (program : List Insn) : Type 0 w
 abbrev pub ExplainsBytes : LineForm → List ℕ → Limits → Option Reason → List ℕ → Type 0
 ExplainsBytes form bytes limits None text = (program : List Insn) × IsShapedProgramOf bytes program × IsListing form limits program text
 ExplainsBytes form bytes limits (Some Text) text = ⊥
-ExplainsBytes form bytes limits (Some (Decode fault)) text = IsFirstDecodeFault bytes fault × ShowsFault form bytes fault.unit fault.kind text
+ExplainsBytes form bytes limits (Some (Decode fault)) text = IsFirstDecodeFault bytes fault × ShowsDecodeFault form bytes fault.unit fault.kind text
 ExplainsBytes form bytes limits (Some (Shape fault)) text =
     (program : List Insn) × IsProgramOf bytes program × IsFirstShapeFault program fault × ShowsShape form program fault.unit fault.kind text
 ExplainsBytes form bytes limits (Some (Broken unit rule)) text =

@@ -31,9 +31,9 @@ abbrev pub unit_text : ℕ → List ℕ
 unit_text unit = styled_decimal (format_spec 32 3 0 4 (2 ^ 64 - 1)) unit
 
 -- bytes in hex, at the left of 32 columns
-abbrev pub bytes_text : List ℕ → List ℕ
-bytes_text bytes = styled_text (format_spec 32 1 0 32 (2 ^ 64 - 1)) (encode_lower bytes)
+abbrev pub bytes_column : List ℕ → List ℕ
+bytes_column bytes = styled_text (format_spec 32 1 0 32 (2 ^ 64 - 1)) (encode_lower bytes)
 
 abbrev pub line_text : ℕ → Insn → List ℕ
 line_text unit insn =
-    unit_text unit ++ codes ": " ++ bytes_text (spelling insn) ++ codes "  " ++ assembly_of insn ++ call_text insn ++ codes "\n"
+    unit_text unit ++ codes ": " ++ bytes_column (spelling insn) ++ codes "  " ++ assembly_of insn ++ call_text insn ++ codes "\n"

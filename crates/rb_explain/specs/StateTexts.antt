@@ -38,11 +38,11 @@ is_readable Unreadable = false
 is_readable value = true
 
 -- a register with what it holds: nothing for one that may not be read
-abbrev pub register_text : List Reference → ℕ → Abs → List ℕ
-register_text held register value = if is_readable value then codes "  r" ++ decimal register ++ codes " = " ++ value_text held value else codes ""
+abbrev pub held_register_text : List Reference → ℕ → Abs → List ℕ
+held_register_text held register value = if is_readable value then codes "  r" ++ decimal register ++ codes " = " ++ value_text held value else codes ""
 
 abbrev pub register_in : AbsState → ℕ → List ℕ
-register_in state register = register_text state.held register (value_in state register)
+register_in state register = held_register_text state.held register (value_in state register)
 
 -- all registers
 unfoldable pub registers_text : AbsState → List ℕ
@@ -54,11 +54,11 @@ kept_text held Unreadable = codes "mixed"
 kept_text held value = value_text held value
 
 -- a place with what it keeps, by how many places lie behind it, so that the last one begins at fp-8: nothing for one that has data
-abbrev pub place_text : List Reference → ℕ → Abs → List ℕ
-place_text held behind value = if is_data value then codes "" else codes "  fp-" ++ decimal (8 * behind + 8) ++ codes " = " ++ kept_text held value
+abbrev pub kept_place_text : List Reference → ℕ → Abs → List ℕ
+kept_place_text held behind value = if is_data value then codes "" else codes "  fp-" ++ decimal (8 * behind + 8) ++ codes " = " ++ kept_text held value
 
 abbrev pub place_in : AbsState → ℕ → List ℕ
-place_in state behind = place_text state.held behind (known_in state.places (63 - behind))
+place_in state behind = kept_place_text state.held behind (known_in state.places (63 - behind))
 
 -- all places, from the last one down
 unfoldable pub places_text : AbsState → List ℕ

@@ -5,7 +5,7 @@ ghost use Rattle.rb_insn.specs.declared.insn.Insn.{Insn};
 ghost use Rattle.rb_program.specs.FirstDecodeFault.{IsFirstDecodeFault, decode_no_memory};
 ghost use Rattle.rb_program.specs.Text.{IsHexOf, without_white_space};
 ghost use Rattle.rb_program.specs.inner.TextFaults.{IsTextFault};
-ghost use Rattle.rb_explain.specs.Explanations.{ExplainsBytes, Explains, IsNoHex, IsProgramOf, IsShapedProgramOf, ShowsFault, ShowsFront, ShowsRule, ShowsShape, no_hex_text};
+ghost use Rattle.rb_explain.specs.Explanations.{ExplainsBytes, Explains, IsNoHex, IsProgramOf, IsShapedProgramOf, ShowsDecodeFault, ShowsFront, ShowsRule, ShowsShape, no_hex_text};
 
 use crate::advice::{decode_advice, rule_advice, shape_advice};
 use crate::explanation::{Explanation, Reason};
@@ -149,7 +149,7 @@ fn explain_decode(
     requires { (fault ≡ decode_no_memory) ⊎ IsFirstDecodeFault bytes.now fault }
     ensures first { IfOk result (λ explanation. IsFirstDecodeFault bytes.now fault) }
     ensures reason { IfOk result (λ explanation. explanation.reason ≡ Some (Reason.Decode fault)) }
-    ensures shown { IfOk result (λ explanation. ShowsFault form bytes.now fault.unit fault.kind (string_bytes explanation.text)) }
+    ensures shown { IfOk result (λ explanation. ShowsDecodeFault form bytes.now fault.unit fault.kind (string_bytes explanation.text)) }
 {
     let mut text = front_of(alloc, form, bytes, fault)?;
     let advice = decode_advice(fault.kind);

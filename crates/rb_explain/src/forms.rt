@@ -4,7 +4,7 @@ ghost use Rattle.std.specs.Prelude.{◌≡◌, ◌++◌, codes};
 ghost use Rattle.std.specs.Fmt.{WritesOnOk};
 ghost use Rattle.rb_explain.specs.Assembly.{assembly_of};
 ghost use Rattle.rb_explain.specs.AssemblyParts.{register_text, operand_text};
-ghost use Rattle.rb_explain.specs.inner.InsnForms.{IsOperation, IsMove, IsLoad, IsStore, IsJump};
+ghost use Rattle.rb_explain.specs.inner.InsnForms.{IsOperation, IsMove, IsLoad, IsStore, IsJumpForm};
 
 use crate::parts::{Access, Distance, Place, Register, Ring, Source};
 use crate::symbols::{
@@ -168,7 +168,7 @@ pub(crate) fn write_store<W: fmt::Write>(insn: Insn, f: &mut fmt::Formatter<W>) 
 
 /// A jump: `goto +4`, `gotol -3`, `if w2 == 0 goto +4`.
 pub(crate) fn write_jump<W: fmt::Write>(insn: Insn, f: &mut fmt::Formatter<W>) -> fmt::Result
-    requires { IsJump insn }
+    requires { IsJumpForm insn }
     ensures writes { WritesOnOk W.write_str_gives f.old result (assembly_of insn) f.new }
 {
     match insn {

@@ -65,7 +65,7 @@ pub(crate) fn push_bytes(
     bytes: &[u8],
 ) -> Result<(), AllocError>
     ensures added { OnOk result
-        (string_bytes text.new ≡ string_bytes text.old ++ (lines.unit_text unit ++ codes ": " ++ lines.bytes_text bytes.now ++ codes "\n")) }
+        (string_bytes text.new ≡ string_bytes text.old ++ (lines.unit_text unit ++ codes ": " ++ lines.bytes_column bytes.now ++ codes "\n")) }
 {
     let bytes = hex::encode(alloc, bytes)?;
     write!(text, "{unit:>4}: {bytes:<32}\n")

@@ -5,7 +5,7 @@ ghost use Rattle.rb_insn.specs.declared.insn.Insn.{Insn};
 ghost use Rattle.rb_program.specs.Program.{IsProgram, unit_count};
 ghost use Rattle.rb_insn.specs.Spelling.{SpellsAll};
 ghost use Rattle.rb_explain.specs.Joined.{joined_below};
-ghost use Rattle.rb_explain.specs.Explanations.{is_near, mark_under, near_line, near_text, window, raw_line, raw_text, ShowsUnits};
+ghost use Rattle.rb_explain.specs.Explanations.{is_near_unit, mark_under, near_line, near_text, window, raw_line, raw_text, ShowsUnits};
 
 use crate::lines::{push_bytes, push_line};
 use crate::objects::{push_bytes_object, push_unit_object};
@@ -23,7 +23,7 @@ const RAW: u32 = 3;
 fn is_near_to(at: u32, unit: u32) -> bool
     requires at { at ≤ 4096 }
     requires unit { unit ≤ 4096 }
-    ensures { result ≡ is_near at unit }
+    ensures { result ≡ is_near_unit at unit }
 {
     unit <= at + NEAR && at <= unit + NEAR
 }

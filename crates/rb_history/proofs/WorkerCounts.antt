@@ -16,7 +16,7 @@ use Rattle.rb_history.proofs.Row.{InRow-le}
 use Rattle.rb_history.proofs.Steps.{consumer-full, consumer-sub, consumer-dis, consumer-res}
 use Rattle.rb_history.specs.declared.tally.Tally.{Tally}
 use Rattle.rb_history.specs.WorkerCounts.{is_record_of, is_refusal_of, is_submit_of, is_discard_of, tally_of, is_take_where, events_of, skips_of}
-use Rattle.rb_history.specs.inner.TallySteps.{with_entry, IsCountable}
+use Rattle.rb_history.specs.inner.TallySteps.{tally_with_entry, IsCountable}
 use Rattle.rb_history.proofs.RecordWorkers.{bit, granted-once, record-stays, submitted-from, discarded-from, taken-from}
 
 -- two tests that agree on each entry of a history count alike
@@ -63,7 +63,7 @@ module _ (r : Setup) where
   discard-here w h (Sub p) l m = refl
   discard-here w h (Take p) l m = refl
 
-  pub tally-next : (w : ℕ) (h : List Entry) (e : Entry) → IsLegal r (h ++ e ∷ []) → tally_of w (h ++ e ∷ []) ≡ with_entry w h e (tally_of w h)
+  pub tally-next : (w : ℕ) (h : List Entry) (e : Entry) → IsLegal r (h ++ e ∷ []) → tally_of w (h ++ e ∷ []) ≡ tally_with_entry w h e (tally_of w h)
   tally-next w h e l =
       let k = h ++ e ∷ [] in
       let m = legal-next r h e [] l in
@@ -190,7 +190,7 @@ module _ (r : Setup) where
   pub part-once : (h : List Entry) (i p : ℕ) → IsLegal r h → count_by (is_grant_at p) (take i h) ≤ 1
   part-once h i p l = granted-once r (take i h) p (part-legal h i l)
 
-  pub part-next : (w : ℕ) (h : List Entry) (i : ℕ) (e : Entry) → IsLegal r h → i < length h → with_entry w (take i h) (get_or h i e) (tally_of w (take i h)) ≡ tally_of w (take (i + 1) h)
+  pub part-next : (w : ℕ) (h : List Entry) (i : ℕ) (e : Entry) → IsLegal r h → i < length h → tally_with_entry w (take i h) (get_or h i e) (tally_of w (take i h)) ≡ tally_of w (take (i + 1) h)
   part-next w h i e l low =
       let more : take (i + 1) h ≡ take i h ++ get_or h i e ∷ [] = take_more h i e low in
       sym (ap (tally_of w) more ∙ tally-next w (take i h) (get_or h i e) (subst (IsLegal r) more (part-legal h (i + 1) l)))

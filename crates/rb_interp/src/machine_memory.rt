@@ -7,7 +7,7 @@ ghost use Rattle.rb_semantics.specs.ProgramMemory.{byte_of, place_at, read, writ
 ghost use Rattle.rb_interp.specs.StoredMemory.{StoredMemory, program_memory_of, held_record, others, Rewrites};
 ghost use Rattle.rb_interp.specs.inner.NearOffsets.{IsNear};
 ghost use Rattle.rb_interp.specs.inner.SlotTable.{part_named};
-ghost use Rattle.rb_interp.specs.inner.KeptPointers.{filled, IsPlace};
+ghost use Rattle.rb_interp.specs.inner.KeptPointers.{filled, IsSlotPlace};
 
 use crate::byte_numbers::put_number;
 use crate::pointer_table::PointerTable;
@@ -116,7 +116,7 @@ fn located(entries: &[SlotEntry], place: MemoryRegion, offset: i64) -> (Part, us
 /// The place of the stack that begins at an offset.
 fn place_beginning(offset: i64) -> u8
     requires near { IsNear offset }
-    requires place { IsPlace (place_at MemoryRegion.Stack offset) }
+    requires place { IsSlotPlace (place_at MemoryRegion.Stack offset) }
     ensures { place_at MemoryRegion.Stack offset ≡ Some result }
 {
     ((offset + 512) as usize / 8) as u8

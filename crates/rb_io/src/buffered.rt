@@ -10,7 +10,7 @@ use std::marker::Model;
 /// How many bytes are gathered before they are handed on: as many as a pipe holds (pipe(7)).
 const CAPACITY: usize = 65_536;
 
-/// Gathers what is written to it, and hands it on once the buffer is full, or by `hand_out` or `flush`. Unlike std's it takes an interrupted write for
+/// Gathers what is written to it, and hands it on once the buffer is full, or by `write_out` or `flush`. Unlike std's it takes an interrupted write for
 /// one that failed, and nothing goes out when it is dropped: after a write that failed, all that did not go out waits for the next one.
 /// The error of a write is `WriteZero`, whatever failed below.
 #[derive(Drop)]
@@ -120,7 +120,7 @@ impl<W: Write> Write for Buffered<W> {
     }
 
     fn flush(&mut self) -> io::Result<()> {
-        self.hand_out()
+        self.write_out()
     }
 }
 
@@ -132,11 +132,11 @@ impl<W: Write> Outgoing for Buffered<W> {
 
     ghost waiting = { λ b. b.waiting };
 
-    ghost hands_out = { HandsOn W.contents };
+    ghost writes_out = { HandsOn W.contents };
 
     ghost contents_are = { λ b. refl };
 
-    fn hand_out(&mut self) -> io::Result<()> {
+    fn write_out(&mut self) -> io::Result<()> {
         self.hand_on()?;
         self.writer.flush()
     }

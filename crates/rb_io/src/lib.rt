@@ -2,7 +2,7 @@
 //! of output are told (`specs/Lines.antt`).
 //!
 //! For whoever writes a command of the program. What is promised: which bytes were read or went out, by each answer, an interrupted call
-//! counted as one that failed; that what a buffer holds is what went and what waits; and that what it gathered was handed on where its `hand_out`
+//! counted as one that failed; that what a buffer holds is what went and what waits; and that what it gathered was handed on where its `write_out`
 //! or `flush` answers Ok.
 #![tactic(auto)]
 

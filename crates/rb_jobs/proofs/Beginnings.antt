@@ -1,5 +1,5 @@
 -- What each seat has seen begins with what it had seen before.
-use Rattle.std.proofs.Common.{◌≡◌, ◌≢◌, ℕ, ◌<◌, ◌≤◌, ◌⊎◌, inl, inr, ℤ, pos, negsuc, Bool, true, false, List, [], ◌∷◌, length, Option, Some, None, Ok, refl, sym, subst, arith}
+use Rattle.std.proofs.Common.{◌≡◌, ℕ, ◌<◌, ◌≤◌, ◌⊎◌, inl, inr, ℤ, pos, negsuc, Bool, true, false, List, [], ◌∷◌, length, Option, Some, None, Ok, refl, sym, subst, arith}
 use Rattle.std.proofs.lemmas.Bool.{cases_lt}
 use Rattle.std.specs.List.{AllZip}
 use Rattle.rb_history.specs.declared.answers.Notice.{Notice}
@@ -8,16 +8,21 @@ use Rattle.rb_chapter_ring.specs.HandGranted.{HandGranted}
 use Rattle.rb_history.specs.RingModel.{Ring}
 use Rattle.rb_history.specs.Calls.{producer_now}
 use Rattle.rb_chapter_ring.specs.declared.faults.ReserveFault.TheVariants.{Full, ChapterFull}
+use Rattle.rb_chapter_ring.specs.declared.record_end.RecordEnd.{RecordEnd}
+use Rattle.rb_chapter_ring.specs.declared.record_end.RecordEnd.TheVariants.{Submit, Discard}
 use Rattle.rb_ledger.specs.Roles.{BeginsWith, book_of}
 use Rattle.rb_ledger.specs.Roles.Role.{Worker}
 use Rattle.rb_ledger.specs.Seats.{WorkerSeat}
-use Rattle.rb_ledger.specs.LockedCalls.{SubmitsAt, DiscardsAt, Queries, output_by, sent_by_output}
+use Rattle.rb_ledger.specs.LockedCalls.{Queries, output_by, sent_by_output}
+use Rattle.rb_ledger.specs.inner.RecordEnds.{EndsAt}
 use Rattle.rb_ledger.proofs.Beginnings.{begins_with_all, begins_through, logged_begins, same_begins, call_begins}
 use Rattle.rb_shared_ring.specs.SharedCalls.{RefusesInRoom, ReservesInRoom, OutputsInRoom}
 use Rattle.rb_interp.specs.AnsweredCalls.{AnsweredCall, Reserved, Submitted, Discarded, SentOut, Queried}
 use Rattle.rb_jobs.specs.declared.seat_record.SeatRecord.{SeatRecord}
-use Rattle.rb_jobs.specs.SeatCalls.{AtSeat, CallsSeats, OutputAnswered, RecordAnswered, SeatCallsRing, SeatDiscards, SeatIsRefused, SeatOutputs, SeatSubmits, ReserveAnswered, notice_of}
+use Rattle.rb_jobs.specs.SeatCalls.{AtSeat, CallsSeats, OutputAnswered, RecordAnswered, SeatCallsRing, SeatIsRefused, SeatOutputs, ReserveAnswered, notice_of}
 use Rattle.rb_jobs.specs.SeatLaws.{SeatsGoOn, SeatBegins}
+use Rattle.rb_jobs.specs.inner.RecordEnds.{SeatEnds, ended_call}
+use Rattle.rb_jobs.proofs.Ends.{ended_of}
 use Rattle.rb_jobs.proofs.Lists.{zip_self, zip_through, zip_one}
 use Rattle.rb_ledger.proofs.EntryRoom.{without-room}
 
@@ -52,22 +57,16 @@ refused_begins n unlogged b a (inr (inl full)) =
     seat_begins b a _ full.0.0 (ring_chapter_full b.room a.cut b.worker n)
 refused_begins n unlogged b a (inr (inr none)) = subst (λ (s : WorkerSeat). SeatBegins b s) (sym none.0) (begins_itself b)
 
-ring_submits : (r : Granted) (flags : ℕ) (notice : Notice) (old new : Ring) → SubmitsAt r flags (Ok notice) old new → BeginsWith (book_of new) (book_of old)
-ring_submits r flags told old new called = logged_begins old new _ called.0.logged
-
-ring_discards : (r : Granted) (flags : ℕ) (notice : Notice) (old new : Ring) → DiscardsAt r flags (Ok notice) old new → BeginsWith (book_of new) (book_of old)
-ring_discards r flags told old new called = logged_begins old new _ called.0.logged
+ring_ends : (end : RecordEnd) (r : Granted) (flags : ℕ) (notice : Notice) (old new : Ring) → EndsAt end r flags notice old new → BeginsWith (book_of new) (book_of old)
+ring_ends Submit r flags told old new called = logged_begins old new _ called.0.logged
+ring_ends Discard r flags told old new called = logged_begins old new _ called.0.logged
 
 same_begun : (b a : WorkerSeat) → a ≡ b → SeatBegins b a
 same_begun b a same = subst (λ (s : WorkerSeat). SeatBegins b s) (sym same) (begins_itself b)
 
-submit_begins : (r : HandGranted) (flags : ℕ) (taken due : Bool) (b a : WorkerSeat) → SeatSubmits r flags taken due b a → SeatBegins b a
-submit_begins r flags true due b a did = seat_begins b a _ (did.takes refl).0 (ring_submits r.granted flags (notice_of due))
-submit_begins r flags false due b a did = same_begun b a (did.hands_back refl).1
-
-discard_begins : (r : HandGranted) (flags : ℕ) (taken due : Bool) (b a : WorkerSeat) → SeatDiscards r flags taken due b a → SeatBegins b a
-discard_begins r flags true due b a did = seat_begins b a _ (did.takes refl).0 (ring_discards r.granted flags (notice_of due))
-discard_begins r flags false due b a did = same_begun b a (did.hands_back refl).1
+end_begins : (end : RecordEnd) (r : HandGranted) (flags : ℕ) (taken due : Bool) (b a : WorkerSeat) → SeatEnds end r flags taken due b a → SeatBegins b a
+end_begins end r flags true due b a did = seat_begins b a _ (did.takes refl).0 (ring_ends end r.granted flags (notice_of due))
+end_begins end r flags false due b a did = same_begun b a (did.hands_back refl).1
 
 sent_begins : (bytes : List ℕ) (flags : ℕ) (due : Bool) (b a : WorkerSeat) → SeatOutputs bytes flags due b a → SeatBegins b a
 sent_begins bytes flags due b a did =
@@ -104,16 +103,16 @@ output_begins ring bytes flags answer due unlogged old new led (inl is) =
 output_begins ring bytes flags answer due unlogged old new led (inr (inl is)) = begins_at ring _ old new (refused_begins (length bytes) unlogged) (led.refused is).0
 output_begins ring bytes flags answer due unlogged old new led (inr (inr is)) = begins_nowhere old new (led.no_step is).0
 
+end_goes_on : (end : RecordEnd) (owned : SeatRecord) (flags : ℕ) (taken due : Bool) (unlogged : ℕ) (old new : List WorkerSeat) → CallsSeats (ended_call end owned flags taken) due unlogged old new → AllZip SeatBegins old new
+end_goes_on end owned flags taken due unlogged old new led =
+    record_begins owned.ring taken due (SeatEnds end owned.reservation flags taken due) old new
+    (end_begins end owned.reservation flags taken due)
+    (ended_of owned flags taken due unlogged old new end led).0 (cases_lt owned.ring (length old))
+
 call_goes_on : (call : AnsweredCall SeatRecord) (due : Bool) (unlogged : ℕ) (old new : List WorkerSeat) → CallsSeats call due unlogged old new → AllZip SeatBegins old new
 call_goes_on (Reserved ring n flags answer) due unlogged old new led = reserve_begins ring n flags answer unlogged old new led.0 (cases_lt 0 flags)
-call_goes_on (Submitted owned flags taken) due unlogged old new led =
-    record_begins owned.ring taken due _ old new
-    (submit_begins owned.reservation flags taken due)
-    led.0 (cases_lt owned.ring (length old))
-call_goes_on (Discarded owned flags taken) due unlogged old new led =
-    record_begins owned.ring taken due _ old new
-    (discard_begins owned.reservation flags taken due)
-    led.0 (cases_lt owned.ring (length old))
+call_goes_on (Submitted owned flags taken) due unlogged old new led = end_goes_on Submit owned flags taken due unlogged old new led
+call_goes_on (Discarded owned flags taken) due unlogged old new led = end_goes_on Discard owned flags taken due unlogged old new led
 call_goes_on (SentOut ring bytes flags answer) due unlogged old new led = output_begins ring bytes flags answer due unlogged old new led led.answer_is.1
 call_goes_on (Queried ring what answer) due unlogged old new led =
     begins_at ring _ old new (λ b a did. seat_begins b a _ did.0 (ring_queries what answer)) led.0

@@ -12,7 +12,7 @@ use Rattle.rb_ledger.specs.Seats.{Shared, WorkerSeat}
 use Rattle.rb_verifier.specs.Subject.{call_count, calls}
 use Rattle.rb_verifier.proofs.Counting.{count-units_of}
 use Rattle.rb_jobs.specs.declared.seat_record.SeatRecord.{SeatRecord}
-use Rattle.rb_jobs.specs.SeatRecords.{record_bytes, with_record_bytes}
+use Rattle.rb_jobs.specs.SeatRecords.{reserved_bytes, with_record_bytes}
 use Rattle.rb_jobs.specs.SeatHelpers.{AtSeats, Leads, SeatsLead}
 use Rattle.rb_jobs.proofs.Leading.{all_may_answer, leads_seats}
 use Rattle.rb_jobs.proofs.Totals.{totals_rise}
@@ -22,7 +22,7 @@ use Rattle.rb_jobs.specs.inner.CallCount.{CountsCalls}
 
 -- the calls led from the one state of the seats to the other
 abbrev ran_by : (task : Task) (answer : JobAnswer) (calls : List (AnsweredCall SeatRecord)) (old new : List WorkerSeat)
-    → TellsLength task.program task.context answer.result → RunMatches record_bytes with_record_bytes task.program task.context calls answer.result
+    → TellsLength task.program task.context answer.result → RunMatches reserved_bytes with_record_bytes task.program task.context calls answer.result
     → answer.result ≢ Err Stray → OnOk answer.result (TraceBalances [] (notes_of calls)) → SeatsLead old calls answer.unlogged new → JobRan task answer old new
 ran_by task answer calls old new told shows kept balanced led =
     let rise = totals_rise old new calls answer.unlogged led in
@@ -45,7 +45,7 @@ ran_by task answer calls old new told shows kept balanced led =
 pub did_counted : (task : Task) (answer : JobAnswer) (calls : List (AnsweredCall SeatRecord)) (start now : AtSeats) (rings : List Shared) (room : ℕ) (count counted : ℕ)
     (old new : List WorkerSeat) (before after : ℕ) → start ≡ record { rings = rings; seats = old; trace = []; room = room; unlogged = 0; due = false }
     → answer.unlogged ≡ now.unlogged → new ≡ now.seats → count ≡ before → after ≡ counted → before < 2 ^ 64
-    → TellsLength task.program task.context answer.result → RunMatches record_bytes with_record_bytes task.program task.context calls answer.result
+    → TellsLength task.program task.context answer.result → RunMatches reserved_bytes with_record_bytes task.program task.context calls answer.result
     → answer.result ≢ Err Stray → OnOk answer.result (TraceBalances start.trace now.trace) → Leads start calls now → CountsCalls count (length calls) counted
     → JobRanCounted task answer old new before after
 did_counted task answer calls start now rings room count counted old new before after fresh unlogged new_is before_is after_is fits told shows kept balanced leads counts =

@@ -7,11 +7,14 @@ use Rattle.rb_ledger.specs.Seats.{WorkerSeat}
 use Rattle.rb_chapter_ring.specs.declared.out_record.OutRecord.{OutRecord}
 use Rattle.rb_chapter_ring.specs.Hands.{Hands, out_record, in_hand}
 use Rattle.rb_chapter_ring.specs.HandGranted.{HandGranted}
-use Rattle.rb_interp.specs.AnsweredCalls.{Reserved, Submitted, Discarded, SentOut, Queried}
+use Rattle.rb_chapter_ring.specs.declared.record_end.RecordEnd.{RecordEnd}
+use Rattle.rb_interp.specs.AnsweredCalls.{Reserved, SentOut, Queried}
 use Rattle.rb_jobs.specs.declared.seat_record.SeatRecord.{SeatRecord}
-use Rattle.rb_jobs.specs.SeatCalls.{AtSeat, IsOutAtSeat, SeatQueries, SeatIsGranted, SeatIsRefused, SeatSubmits, SeatDiscards, SeatOutputs, ReserveAnswered, RecordAnswered, OutputAnswered}
+use Rattle.rb_jobs.specs.SeatCalls.{AtSeat, IsOutAtSeat, SeatQueries, SeatIsGranted, SeatIsRefused, SeatOutputs, ReserveAnswered, RecordAnswered, OutputAnswered}
 use Rattle.rb_jobs.specs.SeatHelpers.{AtSeats, CallsHelpers}
-use Rattle.rb_jobs.specs.KeptRecords.{IsKept, record_name}
+use Rattle.rb_jobs.specs.KeptRecords.{IsStillOut, record_name}
+use Rattle.rb_jobs.specs.inner.RecordEnds.{SeatEnds, ended_call}
+use Rattle.rb_jobs.proofs.Ends.{ended_of}
 
 -- ---- one seat of many
 
@@ -94,15 +97,10 @@ granted n r b a did =
       still = λ h o at out. left.still h o (λ e. none-some o (sym did.2.is_free.free ∙ ap (λ i. in_hand b.hands i) (sym e) ∙ out)) out;
     }
 
-submitted : (r : HandGranted) (flags : ℕ) (taken due : Bool) (b a : WorkerSeat) → SeatSubmits r flags taken due b a → StaysOut (ButAt r.hand) b a
-submitted r flags true due b a did =
+given-back : (end : RecordEnd) (r : HandGranted) (flags : ℕ) (taken due : Bool) (b a : WorkerSeat) → SeatEnds end r flags taken due b a → StaysOut (ButAt r.hand) b a
+given-back end r flags true due b a did =
     let is = (did.takes refl).1 in one-changed b a r.hand None (ap (λ (s : WorkerSeat). s.tag) is) (ap (λ (s : WorkerSeat). s.worker) is) (ap (λ (s : WorkerSeat). s.hands) is)
-submitted r flags false due b a did = nothing-done (ButAt r.hand) b a (did.hands_back refl).1
-
-discarded : (r : HandGranted) (flags : ℕ) (taken due : Bool) (b a : WorkerSeat) → SeatDiscards r flags taken due b a → StaysOut (ButAt r.hand) b a
-discarded r flags true due b a did =
-    let is = (did.takes refl).1 in one-changed b a r.hand None (ap (λ (s : WorkerSeat). s.tag) is) (ap (λ (s : WorkerSeat). s.worker) is) (ap (λ (s : WorkerSeat). s.hands) is)
-discarded r flags false due b a did = nothing-done (ButAt r.hand) b a (did.hands_back refl).1
+given-back end r flags false due b a did = nothing-done (ButAt r.hand) b a (did.hands_back refl).1
 
 still-out : (At : ℕ → Type 0) (r : HandGranted) (b a : WorkerSeat) → StaysOut At b a → At r.hand → IsOutAtSeat b r → IsOutAtSeat a r
 still-out At r b a left at out = record {
@@ -119,29 +117,25 @@ hand-freed r b a hands out = none-some (out_record r.granted.pos r.granted.seria
 true-false : true ≡ false → ⊥
 true-false e = cc
 
-submit-let-go : (r : HandGranted) (flags : ℕ) (taken due : Bool) (b a : WorkerSeat) → SeatSubmits r flags taken due b a → IsOutAtSeat a r → ⊥
-submit-let-go r flags true due b a did out = hand-freed r b a (ap (λ (s : WorkerSeat). s.hands) (did.takes refl).1) out
-submit-let-go r flags false due b a did out = true-false (sym (did.exact.1 (subst (λ (s : WorkerSeat). IsOutAtSeat s r) (did.hands_back refl).1 out)))
-
-discard-let-go : (r : HandGranted) (flags : ℕ) (taken due : Bool) (b a : WorkerSeat) → SeatDiscards r flags taken due b a → IsOutAtSeat a r → ⊥
-discard-let-go r flags true due b a did out = hand-freed r b a (ap (λ (s : WorkerSeat). s.hands) (did.takes refl).1) out
-discard-let-go r flags false due b a did out = true-false (sym (did.exact.1 (subst (λ (s : WorkerSeat). IsOutAtSeat s r) (did.hands_back refl).1 out)))
+let-go : (end : RecordEnd) (r : HandGranted) (flags : ℕ) (taken due : Bool) (b a : WorkerSeat) → SeatEnds end r flags taken due b a → IsOutAtSeat a r → ⊥
+let-go end r flags true due b a did out = hand-freed r b a (ap (λ (s : WorkerSeat). s.hands) (did.takes refl).1) out
+let-go end r flags false due b a did out = true-false (sym (did.exact.1 (subst (λ (s : WorkerSeat). IsOutAtSeat s r) (did.hands_back refl).1 out)))
 
 -- ---- all seats
 
 module _ (old new : AtSeats) where
-  same-seats : new.seats ≡ old.seats → (s : SeatRecord) → IsKept old s → IsKept new s
+  same-seats : new.seats ≡ old.seats → (s : SeatRecord) → IsStillOut old s → IsStillOut new s
   same-seats same s kept = record { seat = kept.seat; seat_is = ap (λ l. slice_get l s.ring) same ∙ kept.seat_is; out = kept.out }
 
   -- the seat of a kept record is the one at its ring
-  was : (Did : WorkerSeat → WorkerSeat → Type 0) (ring : ℕ) (at : AtSeat ring Did old.seats new.seats) (s : SeatRecord) (kept : IsKept old s) → s.ring ≡ ring → kept.seat ≡ at.before
+  was : (Did : WorkerSeat → WorkerSeat → Type 0) (ring : ℕ) (at : AtSeat ring Did old.seats new.seats) (s : SeatRecord) (kept : IsStillOut old s) → s.ring ≡ ring → kept.seat ≡ at.before
   was Did ring at s kept same = some-same kept.seat at.before (sym kept.seat_is ∙ ap (slice_get old.seats) same ∙ at.before_is)
 
-  now : (Did : WorkerSeat → WorkerSeat → Type 0) (ring : ℕ) (at : AtSeat ring Did old.seats new.seats) (s : SeatRecord) (kept : IsKept new s) → s.ring ≡ ring → kept.seat ≡ at.after
+  now : (Did : WorkerSeat → WorkerSeat → Type 0) (ring : ℕ) (at : AtSeat ring Did old.seats new.seats) (s : SeatRecord) (kept : IsStillOut new s) → s.ring ≡ ring → kept.seat ≡ at.after
   now Did ring at s kept same = some-same kept.seat at.after (sym kept.seat_is ∙ ap (slice_get new.seats) same ∙ ap (λ l. slice_get l ring) at.new_is ∙ here old.seats ring at.before at.after at.before_is)
 
   kept-at : (Did : WorkerSeat → WorkerSeat → Type 0) (At : ℕ → Type 0) (ring : ℕ) → ((b a : WorkerSeat) → Did b a → StaysOut At b a) → AtSeat ring Did old.seats new.seats
-      → (s : SeatRecord) → (s.ring ≡ ring → At s.reservation.hand) → IsKept old s → IsKept new s
+      → (s : SeatRecord) → (s.ring ≡ ring → At s.reservation.hand) → IsStillOut old s → IsStillOut new s
   kept-at Did At ring stays at s where_at kept = elim (cases_eq s.ring ring) [
     | inl same ↦ record {
       seat = at.after;
@@ -156,16 +150,16 @@ module _ (old new : AtSeats) where
   zero-or : (flags : ℕ) → (flags ≡ 0) ⊎ (flags ≢ 0)
   zero-or flags = cases_eq flags 0
 
-  reserve-keeps : (ring n flags : ℕ) (answer : Option SeatRecord) (unlogged : ℕ) → ReserveAnswered ring n flags answer unlogged old.seats new.seats → (s : SeatRecord) → IsKept old s → IsKept new s
+  reserve-keeps : (ring n flags : ℕ) (answer : Option SeatRecord) (unlogged : ℕ) → ReserveAnswered ring n flags answer unlogged old.seats new.seats → (s : SeatRecord) → IsStillOut old s → IsStillOut new s
   reserve-keeps ring n flags (Some r) unlogged led s = kept-at (SeatIsGranted n r.reservation) Anywhere ring (granted n r.reservation) led.3 s (λ e. tt)
   reserve-keeps ring n flags None unlogged led s = by_flags (zero-or flags)
     where
-      by_flags : (flags ≡ 0) ⊎ (flags ≢ 0) → IsKept old s → IsKept new s
+      by_flags : (flags ≡ 0) ⊎ (flags ≢ 0) → IsStillOut old s → IsStillOut new s
       by_flags (inl none) = kept-at (SeatIsRefused n unlogged) Anywhere ring (refused n unlogged) (led.0 none) s (λ e. tt)
       by_flags (inr some) = same-seats (led.1 some).0 s
 
   reserve-kept : (ring n flags : ℕ) (answer : Option SeatRecord) (unlogged : ℕ) → ReserveAnswered ring n flags answer unlogged old.seats new.seats
-      → IfSome answer (λ r. IsKept new r × ((s : SeatRecord) → IsKept old s → record_name s ≢ record_name r))
+      → IfSome answer (λ r. IsStillOut new r × ((s : SeatRecord) → IsStillOut old s → record_name s ≢ record_name r))
   reserve-kept ring n flags None unlogged led = tt
   reserve-kept ring n flags (Some r) unlogged led =
       let at = led.3 in (
@@ -185,98 +179,67 @@ module _ (old new : AtSeats) where
   elsewhere : (s owned : SeatRecord) → record_name s ≢ record_name owned → s.ring ≡ owned.ring → ButAt owned.reservation.hand s.reservation.hand
   elsewhere s owned apart ring place = apart (λ i. (ring i, place i))
 
-  submit-keeps : (owned : SeatRecord) (flags : ℕ) (taken due : Bool) → RecordAnswered owned.ring taken due (SeatSubmits owned.reservation flags taken due) old.seats new.seats
-      → (s : SeatRecord) → IsKept old s → record_name s ≢ record_name owned → IsKept new s
-  submit-keeps owned flags taken due led s kept apart = elim (cases_lt owned.ring (length old.seats)) [
-    | inl below ↦ kept-at (SeatSubmits owned.reservation flags taken due) (ButAt owned.reservation.hand) owned.ring
-        (submitted owned.reservation flags taken due) (led.at_ring below) s (elsewhere s owned apart) kept
+  end-keeps : (end : RecordEnd) (owned : SeatRecord) (flags : ℕ) (taken due : Bool) → RecordAnswered owned.ring taken due (SeatEnds end owned.reservation flags taken due) old.seats new.seats
+      → (s : SeatRecord) → IsStillOut old s → record_name s ≢ record_name owned → IsStillOut new s
+  end-keeps end owned flags taken due led s kept apart = elim (cases_lt owned.ring (length old.seats)) [
+    | inl below ↦ kept-at (SeatEnds end owned.reservation flags taken due) (ButAt owned.reservation.hand) owned.ring
+        (given-back end owned.reservation flags taken due) (led.at_ring below) s (elsewhere s owned apart) kept
     | inr beyond ↦ same-seats (led.no_ring beyond).2 s kept
   ]
 
-  discard-keeps : (owned : SeatRecord) (flags : ℕ) (taken due : Bool) → RecordAnswered owned.ring taken due (SeatDiscards owned.reservation flags taken due) old.seats new.seats
-      → (s : SeatRecord) → IsKept old s → record_name s ≢ record_name owned → IsKept new s
-  discard-keeps owned flags taken due led s kept apart = elim (cases_lt owned.ring (length old.seats)) [
-    | inl below ↦ kept-at (SeatDiscards owned.reservation flags taken due) (ButAt owned.reservation.hand) owned.ring
-        (discarded owned.reservation flags taken due) (led.at_ring below) s (elsewhere s owned apart) kept
-    | inr beyond ↦ same-seats (led.no_ring beyond).2 s kept
-  ]
-
-  kept-out : (Did : WorkerSeat → WorkerSeat → Type 0) (owned : SeatRecord) (kept : IsKept old owned) (at : AtSeat owned.ring Did old.seats new.seats) → IsOutAtSeat at.before owned.reservation
+  kept-out : (Did : WorkerSeat → WorkerSeat → Type 0) (owned : SeatRecord) (kept : IsStillOut old owned) (at : AtSeat owned.ring Did old.seats new.seats) → IsOutAtSeat at.before owned.reservation
   kept-out Did owned kept at = subst (λ (x : WorkerSeat). IsOutAtSeat x owned.reservation) (was Did owned.ring at owned kept refl) kept.out
 
-  submit-never-back : (owned : SeatRecord) (flags : ℕ) (taken due : Bool) → RecordAnswered owned.ring taken due (SeatSubmits owned.reservation flags taken due) old.seats new.seats → IsKept old owned → taken ≡ true
-  submit-never-back owned flags taken due led kept =
+  end-never-back : (end : RecordEnd) (owned : SeatRecord) (flags : ℕ) (taken due : Bool) → RecordAnswered owned.ring taken due (SeatEnds end owned.reservation flags taken due) old.seats new.seats → IsStillOut old owned → taken ≡ true
+  end-never-back end owned flags taken due led kept =
       let at = led.at_ring (some-below old.seats owned.ring kept.seat kept.seat_is) in
-      at.did.exact.1 (kept-out (SeatSubmits owned.reservation flags taken due) owned kept at)
-
-  discard-never-back : (owned : SeatRecord) (flags : ℕ) (taken due : Bool) → RecordAnswered owned.ring taken due (SeatDiscards owned.reservation flags taken due) old.seats new.seats → IsKept old owned → taken ≡ true
-  discard-never-back owned flags taken due led kept =
-      let at = led.at_ring (some-below old.seats owned.ring kept.seat kept.seat_is) in
-      at.did.exact.1 (kept-out (SeatDiscards owned.reservation flags taken due) owned kept at)
+      at.did.exact.1 (kept-out (SeatEnds end owned.reservation flags taken due) owned kept at)
 
   -- a seat that is there after a call was there before it
-  ring-there : (owned : SeatRecord) → new.seats ≡ old.seats → length old.seats ≤ owned.ring → IsKept new owned → ⊥
+  ring-there : (owned : SeatRecord) → new.seats ≡ old.seats → length old.seats ≤ owned.ring → IsStillOut new owned → ⊥
   ring-there owned same beyond kept = let below : owned.ring < length old.seats = subst (λ (l : List WorkerSeat). owned.ring < length l) same (some-below new.seats owned.ring kept.seat kept.seat_is) in absurd (omega (arith, below, beyond))
 
-  submit-frees : (owned : SeatRecord) (flags : ℕ) (taken due : Bool) → RecordAnswered owned.ring taken due (SeatSubmits owned.reservation flags taken due) old.seats new.seats → IsKept new owned → ⊥
-  submit-frees owned flags taken due led kept = elim (cases_lt owned.ring (length old.seats)) [
+  end-frees : (end : RecordEnd) (owned : SeatRecord) (flags : ℕ) (taken due : Bool) → RecordAnswered owned.ring taken due (SeatEnds end owned.reservation flags taken due) old.seats new.seats → IsStillOut new owned → ⊥
+  end-frees end owned flags taken due led kept = elim (cases_lt owned.ring (length old.seats)) [
     | inl below ↦
         let at = led.at_ring below in
-        submit-let-go owned.reservation flags taken due at.before at.after at.did
-        (subst (λ (x : WorkerSeat). IsOutAtSeat x owned.reservation) (now (SeatSubmits owned.reservation flags taken due) owned.ring at owned kept refl) kept.out)
-    | inr beyond ↦ ring-there owned (led.no_ring beyond).2 beyond kept
-  ]
-
-  discard-frees : (owned : SeatRecord) (flags : ℕ) (taken due : Bool) → RecordAnswered owned.ring taken due (SeatDiscards owned.reservation flags taken due) old.seats new.seats → IsKept new owned → ⊥
-  discard-frees owned flags taken due led kept = elim (cases_lt owned.ring (length old.seats)) [
-    | inl below ↦
-        let at = led.at_ring below in
-        discard-let-go owned.reservation flags taken due at.before at.after at.did
-        (subst (λ (x : WorkerSeat). IsOutAtSeat x owned.reservation) (now (SeatDiscards owned.reservation flags taken due) owned.ring at owned kept refl) kept.out)
+        let-go end owned.reservation flags taken due at.before at.after at.did
+        (subst (λ (x : WorkerSeat). IsOutAtSeat x owned.reservation) (now (SeatEnds end owned.reservation flags taken due) owned.ring at owned kept refl) kept.out)
     | inr beyond ↦ ring-there owned (led.no_ring beyond).2 beyond kept
   ]
 
   -- ---- output and query
 
   output-keeps : (ring : ℕ) (bytes : List ℕ) (flags : ℕ) (answer : ℤ) (due : Bool) (unlogged : ℕ) → OutputAnswered ring bytes flags answer due unlogged old.seats new.seats → (answer ≡ pos 0) ⊎ (answer ≡ negsuc 10) ⊎ (answer ≡ negsuc 21)
-      → (s : SeatRecord) → IsKept old s → IsKept new s
+      → (s : SeatRecord) → IsStillOut old s → IsStillOut new s
   output-keeps ring bytes flags answer due unlogged led (inl is) s = kept-at (SeatOutputs bytes flags due) Anywhere ring (sent bytes flags due) (led.sent is).0 s (λ e. tt)
   output-keeps ring bytes flags answer due unlogged led (inr (inl is)) s = kept-at (SeatIsRefused (length bytes) unlogged) Anywhere ring (refused (length bytes) unlogged) (led.refused is).0 s (λ e. tt)
   output-keeps ring bytes flags answer due unlogged led (inr (inr is)) s = same-seats (led.no_step is).0 s
 
-  query-keeps : (ring what answer : ℕ) → AtSeat ring (SeatQueries what answer) old.seats new.seats → (s : SeatRecord) → IsKept old s → IsKept new s
+  query-keeps : (ring what answer : ℕ) → AtSeat ring (SeatQueries what answer) old.seats new.seats → (s : SeatRecord) → IsStillOut old s → IsStillOut new s
   query-keeps ring what answer at s = kept-at (SeatQueries what answer) Anywhere ring (queried what answer) at s (λ e. tt)
 
 -- ---- by the helpers' calls
 
 module _ (old new : AtSeats) where
-  pub reserved-keeps : (ring n flags : ℕ) (answer : Option SeatRecord) → CallsHelpers (Reserved ring n flags answer) old new → (s : SeatRecord) → IsKept old s → IsKept new s
+  pub reserved-keeps : (ring n flags : ℕ) (answer : Option SeatRecord) → CallsHelpers (Reserved ring n flags answer) old new → (s : SeatRecord) → IsStillOut old s → IsStillOut new s
   reserved-keeps ring n flags answer call = reserve-keeps old new ring n flags answer call.unlogged call.seats.0
 
   pub reserved-kept : (ring n flags : ℕ) (answer : Option SeatRecord) → CallsHelpers (Reserved ring n flags answer) old new
-      → IfSome answer (λ r. IsKept new r × ((s : SeatRecord) → IsKept old s → record_name s ≢ record_name r))
+      → IfSome answer (λ r. IsStillOut new r × ((s : SeatRecord) → IsStillOut old s → record_name s ≢ record_name r))
   reserved-kept ring n flags answer call = reserve-kept old new ring n flags answer call.unlogged call.seats.0
 
-  pub submitted-keeps : (owned : SeatRecord) (flags : ℕ) (taken : Bool) → CallsHelpers (Submitted owned flags taken) old new → (s : SeatRecord) → IsKept old s → record_name s ≢ record_name owned → IsKept new s
-  submitted-keeps owned flags taken call = submit-keeps old new owned flags taken new.due call.seats.0
+  pub ended-keeps : (end : RecordEnd) (owned : SeatRecord) (flags : ℕ) (taken : Bool) → CallsHelpers (ended_call end owned flags taken) old new → (s : SeatRecord) → IsStillOut old s → record_name s ≢ record_name owned → IsStillOut new s
+  ended-keeps end owned flags taken call = end-keeps old new end owned flags taken new.due (ended_of owned flags taken new.due call.unlogged old.seats new.seats end call.seats).0
 
-  pub submitted-taken : (owned : SeatRecord) (flags : ℕ) (taken : Bool) → CallsHelpers (Submitted owned flags taken) old new → IsKept old owned → taken ≡ true
-  submitted-taken owned flags taken call = submit-never-back old new owned flags taken new.due call.seats.0
+  pub ended-taken : (end : RecordEnd) (owned : SeatRecord) (flags : ℕ) (taken : Bool) → CallsHelpers (ended_call end owned flags taken) old new → IsStillOut old owned → taken ≡ true
+  ended-taken end owned flags taken call = end-never-back old new end owned flags taken new.due (ended_of owned flags taken new.due call.unlogged old.seats new.seats end call.seats).0
 
-  pub submitted-frees : (owned : SeatRecord) (flags : ℕ) (taken : Bool) → CallsHelpers (Submitted owned flags taken) old new → IsKept new owned → ⊥
-  submitted-frees owned flags taken call = submit-frees old new owned flags taken new.due call.seats.0
+  pub ended-frees : (end : RecordEnd) (owned : SeatRecord) (flags : ℕ) (taken : Bool) → CallsHelpers (ended_call end owned flags taken) old new → IsStillOut new owned → ⊥
+  ended-frees end owned flags taken call = end-frees old new end owned flags taken new.due (ended_of owned flags taken new.due call.unlogged old.seats new.seats end call.seats).0
 
-  pub discarded-keeps : (owned : SeatRecord) (flags : ℕ) (taken : Bool) → CallsHelpers (Discarded owned flags taken) old new → (s : SeatRecord) → IsKept old s → record_name s ≢ record_name owned → IsKept new s
-  discarded-keeps owned flags taken call = discard-keeps old new owned flags taken new.due call.seats.0
-
-  pub discarded-taken : (owned : SeatRecord) (flags : ℕ) (taken : Bool) → CallsHelpers (Discarded owned flags taken) old new → IsKept old owned → taken ≡ true
-  discarded-taken owned flags taken call = discard-never-back old new owned flags taken new.due call.seats.0
-
-  pub discarded-frees : (owned : SeatRecord) (flags : ℕ) (taken : Bool) → CallsHelpers (Discarded owned flags taken) old new → IsKept new owned → ⊥
-  discarded-frees owned flags taken call = discard-frees old new owned flags taken new.due call.seats.0
-
-  pub sent-keeps : (ring : ℕ) (bytes : List ℕ) (flags : ℕ) (answer : ℤ) → CallsHelpers (SentOut ring bytes flags answer) old new → (s : SeatRecord) → IsKept old s → IsKept new s
+  pub sent-keeps : (ring : ℕ) (bytes : List ℕ) (flags : ℕ) (answer : ℤ) → CallsHelpers (SentOut ring bytes flags answer) old new → (s : SeatRecord) → IsStillOut old s → IsStillOut new s
   sent-keeps ring bytes flags answer call = output-keeps old new ring bytes flags answer new.due call.unlogged call.seats call.seats.answer_is.1
 
-  pub queried-keeps : (ring what answer : ℕ) → CallsHelpers (Queried ring what answer) old new → (s : SeatRecord) → IsKept old s → IsKept new s
+  pub queried-keeps : (ring what answer : ℕ) → CallsHelpers (Queried ring what answer) old new → (s : SeatRecord) → IsStillOut old s → IsStillOut new s
   queried-keeps ring what answer call = query-keeps old new ring what answer call.seats.0

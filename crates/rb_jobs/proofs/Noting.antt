@@ -3,16 +3,20 @@ use Rattle.std.proofs.Common.{◌≡◌, ◌≢◌, ◌↔◌, ℕ, zero, suc, �
 use Rattle.rb_history.specs.declared.answers.Notice.{Notice}
 use Rattle.rb_chapter_ring.specs.HandGranted.{HandGranted}
 use Rattle.rb_chapter_ring.specs.declared.faults.ReserveFault.TheVariants.{Full, Flags, ChapterFull, Foreign, HandsFull}
+use Rattle.rb_chapter_ring.specs.declared.record_end.RecordEnd.{RecordEnd}
 use Rattle.rb_ledger.specs.Seats.{WorkerSeat}
-use Rattle.rb_interp.specs.declared.done.Done.TheVariants.{Reserve, Submit, Discard, Output, Query}
-use Rattle.rb_interp.specs.AnsweredCalls.{AnsweredCall, Reserved, Submitted, Discarded, SentOut, Queried, note_of}
+use Rattle.rb_interp.specs.declared.done.Done.{Done}
+use Rattle.rb_interp.specs.declared.done.Done.TheVariants.{Reserve, Output, Query}
+use Rattle.rb_interp.specs.AnsweredCalls.{AnsweredCall, Reserved, SentOut, Queried, note_of}
 use Rattle.rb_jobs.specs.declared.no_record.NoRecord.{NoRecord}
 use Rattle.rb_jobs.specs.declared.no_record.NoRecord.TheVariants.{BadFlags, NoSheet, Refused}
 use Rattle.rb_jobs.specs.declared.seat_record.SeatRecord.{SeatRecord}
-use Rattle.rb_jobs.specs.SeatCalls.{AtSeat, CallsSeats, RecordAnswered, SeatDiscards, SeatIsRefused, SeatQueries, SeatSubmits}
+use Rattle.rb_jobs.specs.SeatCalls.{AtSeat, CallsSeats, RecordAnswered, SeatIsRefused, SeatQueries}
 use Rattle.rb_jobs.specs.SeatHelpers.{AtSeats, CallsHelpers, Leads}
 use Rattle.rb_jobs.specs.inner.CallAnswers.{SeatFails, SeatReserves, SeatSends, due_in, output_number, unlogged_in, with_call}
+use Rattle.rb_jobs.specs.inner.RecordEnds.{SeatEnds, ended_call, ended_note}
 use Rattle.rb_jobs.proofs.OneSeat.{at_seat_as}
+use Rattle.rb_jobs.proofs.Ends.{is_note, of_ended}
 
 -- one call leads on
 pub one_call : (call : AnsweredCall SeatRecord) (old new : AtSeats) → CallsHelpers call old new → Leads old (call ∷ []) new
@@ -114,27 +118,18 @@ reserved old mid next ring n flags answer given granted unlogged given_is grante
 
 -- ---- submit and discard
 
-pub submitted : {E : Type 0} (old mid next : AtSeats) (owned : SeatRecord) (flags : ℕ) (answer : Result Notice E) (taken logged due : Bool)
-    → taken ≡ is_ok answer → logged ≡ is_ok answer → due ≡ due_in answer → mid ≡ record old { seats = mid.seats }
-    → RecordAnswered owned.ring (is_ok answer) (due_in answer) (SeatSubmits owned.reservation flags (is_ok answer) (due_in answer)) old.seats mid.seats
-    → 0 < old.room → next ≡ with_call mid (Submit flags logged) false due → CallsHelpers (Submitted owned flags taken) old next
-submitted old mid next owned flags answer taken logged due taken_is logged_is due_is rest made room note =
-    noted (Submitted owned flags taken) old mid next false due rest (note ∙ ap (λ b. with_call mid (Submit flags b) false due) (logged_is ∙ sym taken_is)) room (
-      subst (λ d. RecordAnswered owned.ring taken d (SeatSubmits owned.reservation flags taken d) old.seats mid.seats) (sym due_is)
-          (subst (λ t. RecordAnswered owned.ring t (due_in answer) (SeatSubmits owned.reservation flags t (due_in answer)) old.seats mid.seats) (sym taken_is) made),
+pub ended : {E : Type 0} (end : RecordEnd) (old mid next : AtSeats) (owned : SeatRecord) (flags : ℕ) (answer : Result Notice E) (taken logged due : Bool) (note : Done)
+    → taken ≡ is_ok answer → logged ≡ is_ok answer → due ≡ due_in answer → note ≡ ended_note end flags logged → mid ≡ record old { seats = mid.seats }
+    → RecordAnswered owned.ring (is_ok answer) (due_in answer) (SeatEnds end owned.reservation flags (is_ok answer) (due_in answer)) old.seats mid.seats
+    → 0 < old.room → next ≡ with_call mid note false due → CallsHelpers (ended_call end owned flags taken) old next
+ended end old mid next owned flags answer taken logged due note taken_is logged_is due_is note_is rest made room left =
+    let told = note_is ∙ ap (λ b. ended_note end flags b) (logged_is ∙ sym taken_is) ∙ is_note end owned flags taken in
+    noted (ended_call end owned flags taken) old mid next false due rest (left ∙ ap (λ d. with_call mid d false due) told) room
+    (of_ended owned flags taken due 0 old.seats mid.seats end (
+      subst (λ d. RecordAnswered owned.ring taken d (SeatEnds end owned.reservation flags taken d) old.seats mid.seats) (sym due_is)
+          (subst (λ t. RecordAnswered owned.ring t (due_in answer) (SeatEnds end owned.reservation flags t (due_in answer)) old.seats mid.seats) (sym taken_is) made),
       refl,
-    )
-
-pub discarded : {E : Type 0} (old mid next : AtSeats) (owned : SeatRecord) (flags : ℕ) (answer : Result Notice E) (taken logged due : Bool)
-    → taken ≡ is_ok answer → logged ≡ is_ok answer → due ≡ due_in answer → mid ≡ record old { seats = mid.seats }
-    → RecordAnswered owned.ring (is_ok answer) (due_in answer) (SeatDiscards owned.reservation flags (is_ok answer) (due_in answer)) old.seats mid.seats
-    → 0 < old.room → next ≡ with_call mid (Discard flags logged) false due → CallsHelpers (Discarded owned flags taken) old next
-discarded old mid next owned flags answer taken logged due taken_is logged_is due_is rest made room note =
-    noted (Discarded owned flags taken) old mid next false due rest (note ∙ ap (λ b. with_call mid (Discard flags b) false due) (logged_is ∙ sym taken_is)) room (
-      subst (λ d. RecordAnswered owned.ring taken d (SeatDiscards owned.reservation flags taken d) old.seats mid.seats) (sym due_is)
-          (subst (λ t. RecordAnswered owned.ring t (due_in answer) (SeatDiscards owned.reservation flags t (due_in answer)) old.seats mid.seats) (sym taken_is) made),
-      refl,
-    )
+    ))
 
 -- ---- output
 

@@ -1,9 +1,8 @@
 -- What the ring's answer to one call makes of the seat that made it.
-use Rattle.std.proofs.Common.{◌≡◌, ◌≢◌, ℕ, zero, suc, ◌+◌, ◌<◌, ◌≤◌, Bool, false, List, [], ◌∷◌, length, get_or, set, Some, Result, Ok, Err, None, IfOk, IfErr, is_ok, true, ◌↔◌, refl, ap, sym, ◌∙◌, subst, arith}
+use Rattle.std.proofs.Common.{◌≡◌, ◌≢◌, ℕ, zero, suc, ◌+◌, ◌<◌, ◌≤◌, Bool, false, List, [], ◌∷◌, length, get_or, set, Some, Result, Ok, Err, None, IfOk, IfErr, is_ok, ◌↔◌, refl, ap, sym, ◌∙◌, subst, arith}
 use Rattle.std.proofs.lemmas.Option.{slice_get_read}
 use Rattle.std.proofs.lemmas.List.{length-replicate, get_or-set_same}
 use Rattle.std.specs.Prelude.{slice_get, IsOk, OnOk}
-use Rattle.std.specs.FinMap.{insert}
 use Rattle.rb_history.specs.declared.answers.Notice.{Notice}
 use Rattle.rb_history.specs.declared.answers.Notice.TheVariants.{Due, NotDue}
 use Rattle.rb_history.specs.declared.tally.Tally.{Tally}
@@ -11,16 +10,20 @@ use Rattle.rb_history.specs.RingModel.{Contents}
 use Rattle.rb_history.specs.Calls.{producer_now}
 use Rattle.rb_chapter_ring.specs.declared.faults.ReserveFault.{ReserveFault}
 use Rattle.rb_chapter_ring.specs.declared.faults.ReserveFault.TheVariants.{Full, Flags, ChapterFull, Foreign, HandsFull}
+use Rattle.rb_chapter_ring.specs.declared.record_end.RecordEnd.{RecordEnd}
+use Rattle.rb_chapter_ring.specs.inner.EndSteps.{tally_with_end}
 use Rattle.rb_ledger.specs.Seats.{Shared, WorkerSeat, IsSameSeat}
 use Rattle.rb_chapter_ring.specs.Hands.{Hands, out_record, in_hand, IsLowestFree, AreAllOut}
 use Rattle.rb_chapter_ring.specs.HandGranted.{HandGranted}
-use Rattle.rb_ledger.specs.LockedCalls.{SubmitsAt, DiscardsAt, Queries, output_by, sent_by_output}
-use Rattle.rb_shared_ring.specs.SharedCalls.{RefusesInRoom, ReservesInRoom, OutputsInRoom, IsInSeatsHand, refused_in_chapter_by, output_in_chapter_by, sent_by_chapter_output}
+use Rattle.rb_ledger.specs.LockedCalls.{Queries, output_by, sent_by_output}
+use Rattle.rb_ledger.specs.inner.RecordEnds.{EndsAt, sent_by_end}
+use Rattle.rb_shared_ring.specs.SharedCalls.{RefusesInRoom, ReservesInRoom, OutputsInRoom, IsInSeatsHand, refused_in_room_by, output_in_room_by, sent_by_output_in_room}
 use Rattle.rb_jobs.specs.declared.no_record.NoRecord.{NoRecord}
 use Rattle.rb_jobs.specs.declared.no_record.NoRecord.TheVariants.{Refused}
-use Rattle.rb_jobs.specs.SeatCalls.{AtSeat, IsOutAtSeat, RecordAnswered, SeatCallsRing, SeatIsGranted, SeatSubmits, SeatDiscards, SeatQueries}
+use Rattle.rb_jobs.specs.SeatCalls.{AtSeat, IsOutAtSeat, RecordAnswered, SeatCallsRing, SeatIsGranted, SeatQueries}
 use Rattle.rb_jobs.specs.SeatHelpers.{AtSeats, AtRings, IsAt}
 use Rattle.rb_jobs.specs.inner.CallAnswers.{SeatFails, SeatReserves, SeatSends, due_in}
+use Rattle.rb_jobs.specs.inner.RecordEnds.{SeatEnds}
 use Rattle.rb_jobs.proofs.Lists.{zip_at, zip_length, zip_set}
 use Rattle.rb_jobs.proofs.RingCalls.{called_as}
 
@@ -57,7 +60,7 @@ granted_at n r b a four same released tally hands sent serial tag lowest call =
 abbrev Refuses : ℕ → ℕ → ReserveFault → WorkerSeat → WorkerSeat → Type 0
 Refuses w n fault b a = SeatCallsRing (λ old new. RefusesInRoom b.room a.cut old new w n fault × (fault ≢ Flags)) b a
 
-pub fails_at : (n : ℕ) (fault : ReserveFault) (b a : WorkerSeat) → IsSameSeat b a → (b.out ≡ None) × (a.out ≡ None) → a.tally ≡ refused_in_chapter_by b.tally fault → a.hands ≡ b.hands → a.sent ≡ b.sent
+pub fails_at : (n : ℕ) (fault : ReserveFault) (b a : WorkerSeat) → IsSameSeat b a → (b.out ≡ None) × (a.out ≡ None) → a.tally ≡ refused_in_room_by b.tally fault → a.hands ≡ b.hands → a.sent ≡ b.sent
     → Refuses b.worker n fault b a → SeatFails n (Refused fault) b a
 fails_at n Full b a same released tally hands sent call =
     (called_as b a _ _ (λ old new called. called.0) call, seat_is b a _ b.hands b.sent same released tally hands sent)
@@ -68,7 +71,7 @@ fails_at n Foreign b a same released tally hands sent call = absurd call.called.
 fails_at n HandsFull b a same released tally hands sent call = absurd call.called.called.0
 
 -- of a reservation: where no hand is free the ring is not called
-pub refused_at : (n : ℕ) (fault : ReserveFault) (b a : WorkerSeat) → IsSameSeat b a → (b.out ≡ None) × (a.out ≡ None) → a.tally ≡ refused_in_chapter_by b.tally fault → a.hands ≡ b.hands → a.sent ≡ b.sent
+pub refused_at : (n : ℕ) (fault : ReserveFault) (b a : WorkerSeat) → IsSameSeat b a → (b.out ≡ None) × (a.out ≡ None) → a.tally ≡ refused_in_room_by b.tally fault → a.hands ≡ b.hands → a.sent ≡ b.sent
     → (fault ≡ HandsFull → AreAllOut b.hands) → (AreAllOut b.hands → fault ≡ HandsFull) → (AreAllOut b.hands → a ≡ b) → (¬ AreAllOut b.hands → Refuses b.worker n fault b a) → SeatFails n (Refused fault) b a
 refused_at n HandsFull b a same released tally hands sent full all unchanged call = unchanged (full refl)
 refused_at n Full b a same released tally hands sent full all unchanged call = fails_at n Full b a same released tally hands sent (call (λ out. let no_way : Full ≡ HandsFull = all out in cc))
@@ -95,59 +98,49 @@ out_at ring seat r tag = (
   (λ out. record { seat_is = tag; tag_is = out.tag_is; worker_is = out.worker_is; out = out.out }),
 )
 
-pub submitted_at : {E : Type 0} (ring : Shared) (r : HandGranted) (flags : ℕ) (answer : Result Notice E) (b a : WorkerSeat) → b.tag ≡ ring.tag → IsSameSeat b a → (b.out ≡ None) × (a.out ≡ None) → IsOk answer ↔ IsInSeatsHand ring b r
-    → IfErr answer (λ _. a ≡ b) → IfOk answer (λ notice. SeatCallsRing (SubmitsAt r.granted flags (Ok notice)) b a) → OnOk answer (a.tally ≡ record b.tally { submitted = b.tally.submitted + 1 })
-    → OnOk answer (a.hands ≡ set b.hands r.hand None) → OnOk answer (a.sent ≡ insert b.sent r.granted.pos r.granted.bytes) → SeatSubmits r flags (is_ok answer) (due_in answer) b a
-submitted_at ring r flags (Ok Due) b a tag same released exact back call tally hands sent = record {
+pub ended_at : {E : Type 0} (end : RecordEnd) (ring : Shared) (r : HandGranted) (flags : ℕ) (answer : Result Notice E) (b a : WorkerSeat) → b.tag ≡ ring.tag → IsSameSeat b a → (b.out ≡ None) × (a.out ≡ None)
+    → IsOk answer ↔ IsInSeatsHand ring b r → IfErr answer (λ _. a ≡ b) → IfOk answer (λ notice. SeatCallsRing (EndsAt end r.granted flags notice) b a) → OnOk answer (a.tally ≡ tally_with_end end b.tally)
+    → OnOk answer (a.hands ≡ set b.hands r.hand None) → OnOk answer (a.sent ≡ sent_by_end end r.granted b.sent) → SeatEnds end r flags (is_ok answer) (due_in answer) b a
+ended_at end ring r flags (Ok Due) b a tag same released exact back call tally hands sent = record {
   exact = ((λ e. (out_at ring b r tag).0 (exact.0 refl)), λ out. refl);
   takes = λ e. (call, seat_is b a _ _ _ same released tally hands sent);
   hands_back = λ e. absurd (cc);
 }
-submitted_at ring r flags (Ok NotDue) b a tag same released exact back call tally hands sent = record {
+ended_at end ring r flags (Ok NotDue) b a tag same released exact back call tally hands sent = record {
   exact = ((λ e. (out_at ring b r tag).0 (exact.0 refl)), λ out. refl);
   takes = λ e. (call, seat_is b a _ _ _ same released tally hands sent);
   hands_back = λ e. absurd (cc);
 }
-submitted_at ring r flags (Err x) b a tag same released exact back call tally hands sent = record {
+ended_at end ring r flags (Err x) b a tag same released exact back call tally hands sent = record {
   exact = ((λ e. (out_at ring b r tag).0 (exact.0 e)), λ out. exact.1 ((out_at ring b r tag).1 out));
   takes = λ e. absurd (cc);
   hands_back = λ e. (refl, back);
 }
 
-pub discarded_at : {E : Type 0} (ring : Shared) (r : HandGranted) (flags : ℕ) (answer : Result Notice E) (b a : WorkerSeat) → b.tag ≡ ring.tag → IsSameSeat b a → (b.out ≡ None) × (a.out ≡ None) → IsOk answer ↔ IsInSeatsHand ring b r
-    → IfErr answer (λ _. a ≡ b) → IfOk answer (λ notice. SeatCallsRing (DiscardsAt r.granted flags (Ok notice)) b a) → OnOk answer (a.tally ≡ record b.tally { discarded = b.tally.discarded + 1 })
-    → OnOk answer (a.hands ≡ set b.hands r.hand None) → a.sent ≡ b.sent → SeatDiscards r flags (is_ok answer) (due_in answer) b a
-discarded_at ring r flags (Ok Due) b a tag same released exact back call tally hands sent = record {
-  exact = ((λ e. (out_at ring b r tag).0 (exact.0 refl)), λ out. refl);
-  takes = λ e. (call, seat_is b a _ _ _ same released tally hands sent);
-  hands_back = λ e. absurd (cc);
-}
-discarded_at ring r flags (Ok NotDue) b a tag same released exact back call tally hands sent = record {
-  exact = ((λ e. (out_at ring b r tag).0 (exact.0 refl)), λ out. refl);
-  takes = λ e. (call, seat_is b a _ _ _ same released tally hands sent);
-  hands_back = λ e. absurd (cc);
-}
-discarded_at ring r flags (Err x) b a tag same released exact back call tally hands sent = record {
-  exact = ((λ e. (out_at ring b r tag).0 (exact.0 e)), λ out. exact.1 ((out_at ring b r tag).1 out));
-  takes = λ e. absurd (cc);
-  hands_back = λ e. (refl, back);
-}
+-- what holds whatever was answered
+pub on_ok : {T E P : Type 0} (answer : Result T E) → P → OnOk answer P
+on_ok (Ok x) is = is
+on_ok (Err e) is = tt
+
+-- the end was this one
+pub ends_as : (end said : RecordEnd) (r : HandGranted) (flags : ℕ) (taken due : Bool) (b a : WorkerSeat) → end ≡ said → SeatEnds said r flags taken due b a → SeatEnds end r flags taken due b a
+ends_as end said r flags taken due b a is did = subst (λ x. SeatEnds x r flags taken due b a) (sym is) did
 
 -- ---- output
 
 -- the bytes stand where the producer was
-sends_told : (bytes : List ℕ) (flags : ℕ) (notice : Notice) (b a : WorkerSeat) → IsSameSeat b a → (b.out ≡ None) × (a.out ≡ None) → a.tally ≡ output_in_chapter_by b.tally (Ok notice) → a.hands ≡ b.hands
-    → SeatCallsRing (λ old new. OutputsInRoom b.room a.cut b.worker bytes flags (Ok notice) old new × (a.sent ≡ sent_by_chapter_output b.sent (producer_now old) bytes (Ok notice))) b a
+sends_told : (bytes : List ℕ) (flags : ℕ) (notice : Notice) (b a : WorkerSeat) → IsSameSeat b a → (b.out ≡ None) × (a.out ≡ None) → a.tally ≡ output_in_room_by b.tally (Ok notice) → a.hands ≡ b.hands
+    → SeatCallsRing (λ old new. OutputsInRoom b.room a.cut b.worker bytes flags (Ok notice) old new × (a.sent ≡ sent_by_output_in_room b.sent (producer_now old) bytes (Ok notice))) b a
     → SeatCallsRing (λ old new.
     OutputsInRoom b.room a.cut b.worker bytes flags (Ok notice) old new
     × (a ≡ record b { seen = a.seen; cut = a.cut; tally = output_by b.tally (Ok notice); sent = sent_by_output b.sent (producer_now old) bytes (Ok notice) })) b a
 sends_told bytes flags notice b a same released tally hands call =
-    called_as b a (λ old new. OutputsInRoom b.room a.cut b.worker bytes flags (Ok notice) old new × (a.sent ≡ sent_by_chapter_output b.sent (producer_now old) bytes (Ok notice)))
+    called_as b a (λ old new. OutputsInRoom b.room a.cut b.worker bytes flags (Ok notice) old new × (a.sent ≡ sent_by_output_in_room b.sent (producer_now old) bytes (Ok notice)))
     (λ old new. OutputsInRoom b.room a.cut b.worker bytes flags (Ok notice) old new × (a ≡ record b { seen = a.seen; cut = a.cut; tally = output_by b.tally (Ok notice); sent = sent_by_output b.sent (producer_now old) bytes (Ok notice) }))
     (λ old new x. (x.0, seat_is b a _ b.hands _ same released tally hands x.1)) call
 
-pub sent_at : (bytes : List ℕ) (flags : ℕ) (notice : Notice) (b a : WorkerSeat) → IsSameSeat b a → (b.out ≡ None) × (a.out ≡ None) → a.tally ≡ output_in_chapter_by b.tally (Ok notice) → a.hands ≡ b.hands
-    → SeatCallsRing (λ old new. OutputsInRoom b.room a.cut b.worker bytes flags (Ok notice) old new × (a.sent ≡ sent_by_chapter_output b.sent (producer_now old) bytes (Ok notice))) b a
+pub sent_at : (bytes : List ℕ) (flags : ℕ) (notice : Notice) (b a : WorkerSeat) → IsSameSeat b a → (b.out ≡ None) × (a.out ≡ None) → a.tally ≡ output_in_room_by b.tally (Ok notice) → a.hands ≡ b.hands
+    → SeatCallsRing (λ old new. OutputsInRoom b.room a.cut b.worker bytes flags (Ok notice) old new × (a.sent ≡ sent_by_output_in_room b.sent (producer_now old) bytes (Ok notice))) b a
     → SeatSends bytes flags (Ok notice) b a
 sent_at bytes flags Due b a same released tally hands call = sends_told bytes flags Due b a same released tally hands call
 sent_at bytes flags NotDue b a same released tally hands call = sends_told bytes flags NotDue b a same released tally hands call
@@ -155,7 +148,7 @@ sent_at bytes flags NotDue b a same released tally hands call = sends_told bytes
 not_bad_flags : (fault : ReserveFault) (flags : ℕ) → flags ≤ 3 → (fault ≡ Flags → 3 < flags) → fault ≢ Flags
 not_bad_flags fault flags few only is = absurd (let many : 3 < flags = only is in omega (arith, few, many))
 
-pub not_sent_at : (bytes : List ℕ) (flags : ℕ) (refused : ReserveFault × List ℕ) (b a : WorkerSeat) → flags ≤ 3 → IsSameSeat b a → (b.out ≡ None) × (a.out ≡ None) → a.tally ≡ refused_in_chapter_by b.tally refused.0 → a.hands ≡ b.hands
+pub not_sent_at : (bytes : List ℕ) (flags : ℕ) (refused : ReserveFault × List ℕ) (b a : WorkerSeat) → flags ≤ 3 → IsSameSeat b a → (b.out ≡ None) × (a.out ≡ None) → a.tally ≡ refused_in_room_by b.tally refused.0 → a.hands ≡ b.hands
     → SeatCallsRing (λ old new. OutputsInRoom b.room a.cut b.worker bytes flags (Err refused) old new × (a.sent ≡ b.sent)) b a → SeatFails (length bytes) (Refused refused.0) b a
 not_sent_at bytes flags refused b a few same released tally hands call =
     fails_at (length bytes) refused.0 b a same released tally hands call.called.called.1

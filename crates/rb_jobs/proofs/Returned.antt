@@ -14,7 +14,7 @@ use Rattle.rb_interp.specs.declared.fault.RunFault.{RunFault}
 use Rattle.rb_interp.specs.declared.fault.RunFault.TheVariants.{ContextLength, Stray}
 use Rattle.rb_interp.specs.RunTraces.{traced_answer, held_once_made, IsMade, AreMade, RunMatches, TraceBalances, grants_record, returns_record}
 use Rattle.rb_jobs.specs.declared.seat_record.SeatRecord.{SeatRecord}
-use Rattle.rb_jobs.specs.SeatRecords.{record_bytes, with_record_bytes}
+use Rattle.rb_jobs.specs.SeatRecords.{reserved_bytes, with_record_bytes}
 use Rattle.rb_jobs.specs.SeatHelpers.{makes, submits, discards, call_total}
 use Rattle.rb_jobs.specs.Jobs.{JobsGiveBack}
 
@@ -37,10 +37,10 @@ abbrev Held : Type 0
 Held = List (ℕ × SeatRecord)
 
 abbrev Makes : Held → HelperCall → AnsweredCall SeatRecord → Type 0
-Makes held call made = IsMade record_bytes with_record_bytes held call made
+Makes held call made = IsMade reserved_bytes with_record_bytes held call made
 
 abbrev MakesAll : Held → List HelperCall → List (AnsweredCall SeatRecord) → Type 0
-MakesAll held calls made = AreMade record_bytes with_record_bytes held calls made
+MakesAll held calls made = AreMade reserved_bytes with_record_bytes held calls made
 
 taken_on : (held : Held) (call : HelperCall) (made : AnsweredCall SeatRecord) (s t : State) → Makes held call made
     → resume (pending_call_of call) (traced_answer (note_of made)) s ≡ Resumes t → IsTaken (note_of made)
@@ -122,7 +122,7 @@ given_back_in_trace (d ∷ notes) taken =
 -- ---- jobs
 
 pub calls_give_back : (subject : Subject) (context : List ℕ) (result : Result ℕ RunFault) (calls : List (AnsweredCall SeatRecord))
-    → RunMatches record_bytes with_record_bytes subject context calls result → OnOk result (TraceBalances [] (notes_of calls)) → result ≢ Err Stray
+    → RunMatches reserved_bytes with_record_bytes subject context calls result → OnOk result (TraceBalances [] (notes_of calls)) → result ≢ Err Stray
     → call_total makes (notes_of calls) ≡ call_total submits (notes_of calls) + call_total discards (notes_of calls)
 calls_give_back subject context (Ok n) calls shows balanced ends =
     let taken : AreTaken (notes_of calls) = runs_smooth subject n _ [] _ calls shows.made_so shows.ends in

@@ -7,7 +7,7 @@ use Rattle.rb_interp.specs.declared.fault.RunFault.TheVariants.{Stray}
 use Rattle.rb_interp.specs.RunTraces.{RunMatches, TellsLength, TraceBalances}
 use Rattle.rb_ledger.specs.Seats.{Shared, WorkerSeat, IsSameSeat}
 use Rattle.rb_jobs.specs.declared.seat_record.SeatRecord.{SeatRecord}
-use Rattle.rb_jobs.specs.SeatRecords.{record_bytes, with_record_bytes}
+use Rattle.rb_jobs.specs.SeatRecords.{reserved_bytes, with_record_bytes}
 use Rattle.rb_jobs.specs.SeatHelpers.{SeatsLead, makes, submits, discards, fails, call_total, made_in, refused_in, submitted_in, discarded_in}
 use Rattle.rb_jobs.specs.declared.job.Job.{Job}
 use Rattle.rb_jobs.specs.declared.job.JobAnswer.{JobAnswer}
@@ -33,7 +33,7 @@ pub record WorkerAtRings : Type 0 where
 pub record JobRan (task : Task) (answer : JobAnswer) (old new : List WorkerSeat) : Type 0 where
   pub calls : List (AnsweredCall SeatRecord)
   pub length_is : TellsLength task.program task.context answer.result
-  pub shows : RunMatches record_bytes with_record_bytes task.program task.context calls answer.result
+  pub shows : RunMatches reserved_bytes with_record_bytes task.program task.context calls answer.result
   pub never_stray : answer.result ≢ Err Stray
   pub led : SeatsLead old calls answer.unlogged new
   pub may_answer : AllMayAnswer (notes_of calls)

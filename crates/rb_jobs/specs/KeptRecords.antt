@@ -6,7 +6,7 @@ use Rattle.rb_jobs.specs.SeatCalls.{IsOutAtSeat}
 use Rattle.rb_jobs.specs.SeatHelpers.{AtSeats}
 
 -- there is a seat at the record's ring, and its reservation is out there
-pub record IsKept (h : AtSeats) (r : SeatRecord) : Type 0 where
+pub record IsStillOut (h : AtSeats) (r : SeatRecord) : Type 0 where
   pub seat : WorkerSeat
   pub seat_is : slice_get h.seats r.ring ≡ Some seat
   pub out : IsOutAtSeat seat r.reservation

@@ -3,8 +3,8 @@ use Rattle.std.specs.Prelude.{ℕ, List}
 use Rattle.rb_lend.specs.Ranges.{in_place_of}
 use Rattle.rb_jobs.specs.declared.seat_record.SeatRecord.{SeatRecord}
 
-abbrev pub record_bytes : SeatRecord → List ℕ
-record_bytes owned = owned.reservation.granted.bytes
+abbrev pub reserved_bytes : SeatRecord → List ℕ
+reserved_bytes owned = owned.reservation.granted.bytes
 
 -- with these bytes written into it
 abbrev pub with_record_bytes : SeatRecord → List ℕ → SeatRecord

@@ -26,6 +26,7 @@ mod job;
 mod job_laws;
 mod job_run;
 mod no_record;
+mod record_end;
 mod seat_helpers;
 mod seat_laws;
 mod seat_record;

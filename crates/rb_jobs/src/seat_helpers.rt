@@ -5,15 +5,18 @@ ghost use Rattle.rb_interp.specs.declared.done.Done.TheVariants.{Reserve, Submit
 ghost use Rattle.rb_interp.specs.AnsweredCalls.{Reserved, Submitted, Discarded, SentOut, Queried};
 ghost use Rattle.rb_interp.specs.ErrorNumbers.{EAGAIN, EINVAL};
 ghost use Rattle.rb_jobs.specs.declared.no_record.NoRecord.TheVariants.{BadFlags};
-ghost use Rattle.rb_jobs.specs.SeatCalls.{AtSeat, RecordAnswered, SeatDiscards, SeatQueries, SeatSubmits};
+ghost use Rattle.rb_jobs.specs.SeatCalls.{AtSeat, SeatQueries};
 ghost use Rattle.rb_jobs.specs.SeatHelpers.{AtRings, CallsHelpers, Leads, has_number};
-ghost use Rattle.rb_jobs.specs.inner.CallAnswers.{SeatReserves, SeatSends, due_in, with_call};
+ghost use Rattle.rb_jobs.specs.inner.CallAnswers.{SeatReserves, SeatSends, with_call};
+
+mod giving_back;
 
 use crate::call_answers::{answer_of, is_due, is_unlogged};
 use crate::no_record::NoRecord;
 use crate::seat_record::SeatRecord;
-use crate::sheets::{copied_sheet, give_back, zero_sheet};
+use crate::sheets::{copied_sheet, stock_sheet, zero_sheet};
 use crate::stock::Stock;
+use rb_chapter_ring::RecordEnd;
 use rb_history::Notice;
 use rb_interp::{Done, Helpers};
 use rb_shared_ring::{Foreign, Reservation, Seat, SharedRing};
@@ -170,46 +173,10 @@ impl<'h, R: Wait, S: Stock> SeatHelpers<'h, R, S> {
         match self.rings[at].reserve(self.rt, &mut self.seats[at], n, sheet) {
             Ok(reservation) => Ok(reservation),
             Err(refused) => {
-                give_back(self.stock, refused.1);
+                stock_sheet(self.stock, refused.1);
                 Err(NoRecord::Refused(refused.0))
             }
         }
-    }
-
-    // Submits a record at the ring's seat, without noting the call. One of no ring here is handed back.
-    fn try_submit(
-        &mut self,
-        ring: u32,
-        reservation: Reservation,
-        flags: u64,
-    ) -> Result<Notice, Reservation>
-        ensures rest { self.new ≡ record self.old { seats = self.new.seats } }
-        ensures seat { RecordAnswered ring (is_ok result) (due_in result) (SeatSubmits reservation flags (is_ok result) (due_in result)) self.old.seats self.new.seats }
-        ensures handed_back { IfErr result (λ back. back ≡ reservation) }
-    {
-        let at = ring as usize;
-        if at >= self.rings.len() {
-            return Err(reservation);
-        }
-        self.rings[at].submit(self.rt, &mut self.seats[at], reservation, flags)
-    }
-
-    // Discards a record at the ring's seat, without noting the call. One of no ring here is handed back.
-    fn try_discard(
-        &mut self,
-        ring: u32,
-        reservation: Reservation,
-        flags: u64,
-    ) -> Result<Notice, Reservation>
-        ensures rest { self.new ≡ record self.old { seats = self.new.seats } }
-        ensures seat { RecordAnswered ring (is_ok result) (due_in result) (SeatDiscards reservation flags (is_ok result) (due_in result)) self.old.seats self.new.seats }
-        ensures handed_back { IfErr result (λ back. back ≡ reservation) }
-    {
-        let at = ring as usize;
-        if at >= self.rings.len() {
-            return Err(reservation);
-        }
-        self.rings[at].discard(self.rt, &mut self.seats[at], reservation, flags)
     }
 
     // Outputs the bytes at the ring's seat, without noting the call. Its sheet is made before the ring is held.
@@ -228,7 +195,7 @@ impl<'h, R: Wait, S: Stock> SeatHelpers<'h, R, S> {
         match self.rings[at].output(self.rt, &mut self.seats[at], sheet, flags) {
             Ok(notice) => Ok(notice),
             Err(refused) => {
-                give_back(self.stock, refused.1);
+                stock_sheet(self.stock, refused.1);
                 Err(NoRecord::Refused(refused.0))
             }
         }
@@ -263,7 +230,7 @@ impl<'h, R: Wait, S: Stock> SeatHelpers<'h, R, S> {
 
 impl<'h, R: Wait, S: Stock> Helpers for SeatHelpers<'h, R, S> {
     ghost use Rattle.rb_jobs.specs.SeatHelpers.{Leads, has_number};
-    ghost use Rattle.rb_jobs.specs.KeptRecords.{IsKept, record_name};
+    ghost use Rattle.rb_jobs.specs.KeptRecords.{IsStillOut, record_name};
     ghost use Rattle.rb_jobs.specs.inner.Chains.{none_called, called_on};
     ghost use Rattle.rb_jobs.specs.inner.WrittenRecords.{kept_written};
 
@@ -279,7 +246,7 @@ impl<'h, R: Wait, S: Stock> Helpers for SeatHelpers<'h, R, S> {
 
     ghost keeps_records = { true };
 
-    ghost keeps = { IsKept };
+    ghost keeps = { IsStillOut };
 
     ghost name_of = { record_name };
 
@@ -340,23 +307,7 @@ impl<'h, R: Wait, S: Stock> Helpers for SeatHelpers<'h, R, S> {
         ensures called { Leads self.old (Submitted owned flags (is_ok result) ∷ []) self.new }
         ensures call { CallsHelpers (Submitted owned flags (is_ok result)) self.old self.new }
     {
-        let SeatRecord { ring, reservation } = owned;
-        let answer = self.try_submit(ring, reservation, flags);
-        let due = is_due(&answer);
-        match answer {
-            Ok(_) => {
-                self.log(Done::Submit { flags, taken: true }, false, due);
-                Ok(())
-            }
-            Err(reservation) => {
-                let done = Done::Submit {
-                    flags,
-                    taken: false,
-                };
-                self.log(done, false, due);
-                Err(SeatRecord { ring, reservation })
-            }
-        }
+        self.settle(owned, RecordEnd::Submit, flags)
     }
 
     /// Takes each record that these helpers granted and that was not given back since. Hands one back where its ring is none of these, or where it
@@ -370,23 +321,7 @@ impl<'h, R: Wait, S: Stock> Helpers for SeatHelpers<'h, R, S> {
         ensures called { Leads self.old (Discarded owned flags (is_ok result) ∷ []) self.new }
         ensures call { CallsHelpers (Discarded owned flags (is_ok result)) self.old self.new }
     {
-        let SeatRecord { ring, reservation } = owned;
-        let answer = self.try_discard(ring, reservation, flags);
-        let due = is_due(&answer);
-        match answer {
-            Ok(_) => {
-                self.log(Done::Discard { flags, taken: true }, false, due);
-                Ok(())
-            }
-            Err(reservation) => {
-                let done = Done::Discard {
-                    flags,
-                    taken: false,
-                };
-                self.log(done, false, due);
-                Err(SeatRecord { ring, reservation })
-            }
-        }
+        self.settle(owned, RecordEnd::Discard, flags)
     }
 
     /// `-EINVAL` where flags are above 3, without memory and without a step of the ring; `-EAGAIN` where the ring has no room, which its

@@ -14,9 +14,9 @@ pub struct SeatRecord {
 
 impl Lent for SeatRecord {
     ghost use Rattle.rb_lend.specs.Rewritten.{rewritten_in_place};
-    ghost use Rattle.rb_jobs.specs.SeatRecords.{record_bytes, with_record_bytes};
+    ghost use Rattle.rb_jobs.specs.SeatRecords.{reserved_bytes, with_record_bytes};
 
-    ghost bytes_of = { record_bytes };
+    ghost bytes_of = { reserved_bytes };
 
     ghost with_bytes = { with_record_bytes };
 

@@ -7,7 +7,7 @@ use rb_lend::{Lent, Sheet};
 use std::alloc::Global;
 
 // Gives a used sheet to the stock, which may drop it.
-pub(crate) fn give_back<S: Stock>(stock: &S, sheet: Sheet) {
+pub(crate) fn stock_sheet<S: Stock>(stock: &S, sheet: Sheet) {
     let _refused = stock.put(sheet);
 }
 
@@ -22,7 +22,7 @@ pub(crate) fn zero_sheet<S: Stock>(alloc: Global, stock: &S, n: u32) -> Option<S
         Some(sheet) => match sheet.renew(n) {
             Ok(sheet) => Some(sheet),
             Err(refused) => {
-                give_back(stock, refused.1);
+                stock_sheet(stock, refused.1);
                 None
             }
         },

@@ -6,7 +6,6 @@ use Rattle.std.proofs.lemmas.List.Elements.{Contains-push}
 use Rattle.rb_history.specs.declared.entries.Entry.{Entry}
 use Rattle.rb_history.specs.declared.entries.Entry.TheVariants.{Res, Full, Sub, Dis, Take}
 use Rattle.rb_history.specs.declared.answers.Notice.{Notice}
-use Rattle.rb_history.specs.declared.answers.Stray.{Stray}
 use Rattle.rb_history.specs.declared.answers.Taken.{Taken}
 use Rattle.rb_history.specs.declared.answers.Taken.TheVariants.{Event, Skipped, BusyFront, Empty}
 use Rattle.rb_history.specs.declared.answers.ReserveFault.{ReserveFault}
@@ -18,6 +17,8 @@ use Rattle.rb_history.specs.RingModel.{Ring, Contents, StandsFor}
 use Rattle.rb_history.specs.Calls.{Logs, FindsFull, Refuses, Outputs, Submits, TakesEvent, Skips, Takes, producer_now}
 use Rattle.rb_history.proofs.Laws.{kept-from-legal}
 use Rattle.rb_history.proofs.Exact.{granted-below}
+use Rattle.rb_chapter_ring.specs.declared.record_end.RecordEnd.{RecordEnd}
+use Rattle.rb_chapter_ring.specs.declared.record_end.RecordEnd.TheVariants.{Submit, Discard}
 use Rattle.rb_ledger.specs.Roles.{Role, Book}
 use Rattle.rb_history.specs.WorkerCounts.{is_record_of}
 use Rattle.rb_ledger.specs.Roles.Role.{Consumer, Worker}
@@ -26,7 +27,8 @@ use Rattle.rb_ledger.specs.AddedBytes.{bytes_after, put_at}
 use Rattle.rb_ledger.specs.RoleKnowledge.{RoleKnowledge, role_knowledge}
 use Rattle.rb_ledger.specs.Ledger.{Ledger, IsRing, FitsLedger}
 use Rattle.rb_ledger.specs.LockSteps.{RoleStep, knowledge_after}
-use Rattle.rb_ledger.specs.LockedCalls.{Reserves, SubmitsAt, DiscardsAt, OutputsAt}
+use Rattle.rb_ledger.specs.LockedCalls.{Reserves, OutputsAt}
+use Rattle.rb_ledger.specs.inner.RecordEnds.{EndsAt}
 use Rattle.rb_history.proofs.RecordWorkers.{record-from, back-any, front-any}
 use Rattle.rb_history.proofs.WorkerCounts.{submitted-granted}
 use Rattle.rb_ledger.proofs.Histories.{AllOwn}
@@ -91,13 +93,6 @@ module _ (w : ℕ) (seen : Book) (bytes : Contents) where
   put-reserved old new n (Ok r) call is_ring = put-quiet old new (Res w r.serial n r.pos) (λ h e. (eq-eqb w w refl, tt)) (λ r. refl) call.0.logged call.0.contents_same is_ring
   put-reserved old new n (Err e) call is_ring = put-refused old new n e.0 call.0 is_ring
 
-  pub put-discarded : (old new : Ring) (r : Granted) (flags : ℕ) (answer : Result Notice Stray) → r.worker ≡ w → DiscardsAt r flags answer old new → IsRing new → StepIn (role_knowledge (Worker w) seen bytes) old new (knowledge_after old new (role_knowledge (Worker w) seen bytes))
-  put-discarded old new r flags (Ok _) mine call is_ring =
-      put-quiet old new (Dis r.pos)
-      (λ h e. (subst (λ v. is_record_of v h r.pos ≡ true) mine (subst (λ x. is_record_of r.worker x r.pos ≡ true) (sym e) (record-from old.history r.worker r.serial (length r.bytes) r.pos call.0.was_busy.granted_is)), tt))
-      (λ x. refl) call.0.logged call.0.contents_same is_ring
-  put-discarded old new r flags (Err _) mine call is_ring = put-same (Worker w) seen bytes old new call.same is_ring
-
   busy-not : (s d t : Bool) → status_by s d t ≡ Busy → s ≡ false
   busy-not true true t e = absurd (cc)
   busy-not true false true e = absurd (cc)
@@ -120,9 +115,12 @@ module _ (w : ℕ) (seen : Book) (bytes : Contents) where
       (sent-once new p r.bytes (sent-there s.ring new p r.bytes call.contents_are))
       (sends-bytes s new (Sub p ∷ []) call.logged.setup_same call.logged.history_is fit.sound is_ring w p r.bytes (before, tt) call.contents_are after was_not is_now bytes fit.bytes_fit)
 
-  pub put-submitted : (old new : Ring) (r : Granted) (flags : ℕ) (answer : Result Notice Stray) → r.worker ≡ w → SubmitsAt r flags answer old new → IsRing new → StepIn (role_knowledge (Worker w) seen bytes) old new (knowledge_after old new (role_knowledge (Worker w) seen bytes))
-  put-submitted old new r flags (Ok _) mine call is_ring = step-from (role_knowledge (Worker w) seen bytes) old new (λ x. Submits x new r) call.0 (λ s c fit. submits-done s new r mine c is_ring fit)
-  put-submitted old new r flags (Err _) mine call is_ring = put-same (Worker w) seen bytes old new call.same is_ring
+  pub put-ended : (end : RecordEnd) (old new : Ring) (r : Granted) (flags : ℕ) (notice : Notice) → r.worker ≡ w → EndsAt end r flags notice old new → IsRing new → StepIn (role_knowledge (Worker w) seen bytes) old new (knowledge_after old new (role_knowledge (Worker w) seen bytes))
+  put-ended Submit old new r flags n mine call is_ring = step-from (role_knowledge (Worker w) seen bytes) old new (λ x. Submits x new r) call.0 (λ s c fit. submits-done s new r mine c is_ring fit)
+  put-ended Discard old new r flags n mine call is_ring =
+      put-quiet old new (Dis r.pos)
+      (λ h e. (subst (λ v. is_record_of v h r.pos ≡ true) mine (subst (λ x. is_record_of r.worker x r.pos ≡ true) (sym e) (record-from old.history r.worker r.serial (length r.bytes) r.pos call.0.was_busy.granted_is)), tt))
+      (λ x. refl) call.0.logged call.0.contents_same is_ring
 
   outputs-done : (s : Ledger) (new : Ring) (b : List ℕ) → Outputs s.ring new w b → IsRing new → FitsLedger s (role_knowledge (Worker w) seen bytes) → Done s new (role_knowledge (Worker w) seen bytes)
   outputs-done s new b call is_ring fit =

@@ -10,7 +10,7 @@ use Rattle.rb_ledger.specs.Roles.Role.{Consumer}
 use Rattle.rb_ledger.specs.RoleKnowledge.{PassView, role_knowledge, pass_view}
 use Rattle.rb_ledger.specs.SeatRoles.{roles_of}
 use Rattle.rb_ledger.specs.Headline.{IsRunFrom, IsClosed}
-use Rattle.rb_ledger.proofs.Runs.{whenever-free}
+use Rattle.rb_ledger.proofs.Runs.{whenever-free, once-gathered}
 use Rattle.rb_ledger.proofs.Gathers.{collected}
 use Rattle.rb_ledger.specs.ChapteredRing.{ChapteredRing, chaptered_ring, whole_of, HasChapters}
 use Rattle.rb_ledger.specs.ChapterKnowledge.{ChapterKnowledge, chapter_view, whole_knowledge, whole_view, AllKnowHandedOut}
@@ -19,6 +19,7 @@ use Rattle.rb_ledger.specs.ChapterClosing.{consumer_knowledge, ClosedWhereGather
 use Rattle.rb_ledger.specs.ChapterHeadline.{IsRunTo, WheneverFreeByChapter}
 use Rattle.rb_chapter_ring.proofs.Chain.{binds-continue}
 use Rattle.rb_ledger.proofs.ChapterLock.{get-map, map-nil}
+use Rattle.rb_ledger.proofs.BoundChapters.{handed-out-may-bind, closed-ties}
 
 -- a run is one up to any entry, and one behind it
 run-cut : (old : Ring) (earlier entries : List Entry) → IsRunFrom old (earlier ++ entries) → (p : Ring) × IsRunTo old earlier p × IsRunFrom p entries
@@ -60,7 +61,10 @@ closed-where-gathered seats c workers r after roles took tied taker has =
     let has_chapters : HasChapters (chaptered_ring c.handed_out r) = subst HasChapters ring took.has_chapters in
     let whole : IsClosed (whole_of (chaptered_ring c.handed_out r)) seats (whole_consumer c) = subst (λ (x : ChapteredRing). IsClosed (whole_of x) seats (whole_consumer c)) ring closed in
     record {
-      has_chapters = has_chapters;
-      stands_for = (stands-alike (joined c.handed_out) r (binds-continue c.handed_out r.chapter has_chapters.binds)).1 whole.is_ring.stands;
+      gathered = record {
+        may_bind = handed-out-may-bind c.handed_out r.chapter has_chapters.binds;
+        tied = closed-ties (whole_of (chaptered_ring c.handed_out r)) seats c whole;
+        gathered = once-gathered (whole_of (chaptered_ring c.handed_out r)) seats (whole_consumer c) whole;
+      };
       closed = whole;
     }

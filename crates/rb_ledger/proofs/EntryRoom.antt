@@ -5,12 +5,12 @@ use Rattle.rb_history.specs.declared.tally.Tally.{Tally}
 use Rattle.rb_history.specs.WorkerCounts.{tally_of}
 use Rattle.rb_history.specs.RingModel.{Ring}
 use Rattle.rb_history.specs.Calls.{Grants as WholeGrants, FindsFull as WholeFindsFull, Outputs as WholeOutputs}
-use Rattle.rb_chapter_ring.specs.Opening.{Opening, tally_at}
+use Rattle.rb_chapter_ring.specs.Standing.{Standing, tally_at}
 use Rattle.rb_chapter_ring.specs.CountedFrom.{tally_from}
 use Rattle.rb_chapter_ring.specs.Chapters.{Chapter, IsChapterRoom, joined}
 use Rattle.rb_chapter_ring.specs.ChapterRoom.{used, owed, owed_for, HasRoomForOwed, MayGrant, MayRefuse}
 use Rattle.rb_chapter_ring.specs.ChapterRing.{ChapterRing, whole_ring}
-use Rattle.rb_chapter_ring.specs.ChapterCalls.{IsSameChapter, Grants, FindsFull, FindsChapterFull, Outputs}
+use Rattle.rb_chapter_ring.specs.ChapterCalls.{IsSameChapter, GrantsByChapter, FindsFullByChapter, FindsChapterFull, OutputsByChapter}
 use Rattle.rb_chapter_ring.specs.WholeHistory.{ContinuesHistory}
 use Rattle.rb_chapter_ring.proofs.Alike.{calls-alike}
 use Rattle.rb_chapter_ring.proofs.Chain.{binds-continue}
@@ -33,7 +33,7 @@ totals-are earlier old new w is low =
 
 module _ (earlier : List Entry) (old new : ChapterRing) (is : ContinuesHistory earlier old.chapter) where
   owed-same : owed_by (whole_ring earlier old) ≡ owed old.chapter
-  owed-same = sym (ap (λ (o : Opening). owed_for o.records) (said earlier old new is).stands)
+  owed-same = sym (ap (λ (o : Standing). owed_for o.records) (said earlier old new is).stands)
 
   module _ (room cut : ℕ) (room_is : old.chapter.room ≡ room) (cut_is : length earlier ≡ cut) where
     -- ---- the room
@@ -56,10 +56,10 @@ module _ (earlier : List Entry) (old new : ChapterRing) (is : ContinuesHistory e
 
       -- ---- the calls that ask for room
 
-      pub grants-in-room : (n p k : ℕ) → Grants old new w n p k → WholeGrants (whole_ring earlier old) (whole_ring earlier new) w n p k × MayLogGrant room cut (whole_ring earlier old)
+      pub grants-in-room : (n p k : ℕ) → GrantsByChapter old new w n p k → WholeGrants (whole_ring earlier old) (whole_ring earlier new) w n p k × MayLogGrant room cut (whole_ring earlier old)
       grants-in-room n p k a = let whole = ((calls-alike earlier old new is).grants w n p k low).0 a in (whole.2, room-whole 3 whole.0)
 
-      pub full-in-room : (n : ℕ) → FindsFull old new w n → WholeFindsFull (whole_ring earlier old) (whole_ring earlier new) w n × MayLogRefusal room cut w (whole_ring earlier old)
+      pub full-in-room : (n : ℕ) → FindsFullByChapter old new w n → WholeFindsFull (whole_ring earlier old) (whole_ring earlier new) w n × MayLogRefusal room cut w (whole_ring earlier old)
       full-in-room n a = let whole = ((calls-alike earlier old new is).finds_full w n).0 a in (whole.2, refusal-whole whole.0)
 
       pub none-in-room : (n : ℕ) → FindsChapterFull old new w n → FindsNoEntryRoom room cut (whole_ring earlier old) (whole_ring earlier new) w n
@@ -71,7 +71,7 @@ module _ (earlier : List Entry) (old new : ChapterRing) (is : ContinuesHistory e
             same = ap (whole_ring earlier) whole.2;
           }
 
-      pub outputs-in-room : (bytes : List ℕ) → Outputs old new w bytes → WholeOutputs (whole_ring earlier old) (whole_ring earlier new) w bytes × MayLogGrant room cut (whole_ring earlier old)
+      pub outputs-in-room : (bytes : List ℕ) → OutputsByChapter old new w bytes → WholeOutputs (whole_ring earlier old) (whole_ring earlier new) w bytes × MayLogGrant room cut (whole_ring earlier old)
       outputs-in-room bytes a = let whole = ((calls-alike earlier old new is).outputs w bytes low).0 a in (whole.2, room-whole 3 whole.0)
 
 -- ---- from what a role had seen to what it has seen

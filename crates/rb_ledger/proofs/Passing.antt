@@ -4,7 +4,6 @@ use Rattle.std.proofs.lemmas.List.Prefix.{front_rest}
 use Rattle.rb_history.specs.declared.entries.Entry.{Entry}
 use Rattle.rb_history.specs.declared.entries.Entry.TheVariants.{Res, Full, Sub, Dis, Take}
 use Rattle.rb_history.specs.declared.answers.Notice.{Notice}
-use Rattle.rb_history.specs.declared.answers.Stray.{Stray}
 use Rattle.rb_history.specs.declared.answers.Taken.{Taken}
 use Rattle.rb_history.specs.declared.answers.Taken.TheVariants.{Event, Skipped, BusyFront, Empty}
 use Rattle.rb_history.specs.declared.answers.ReserveFault.{ReserveFault}
@@ -12,6 +11,8 @@ use Rattle.rb_history.specs.declared.answers.ReserveFault.TheVariants.{Full as F
 use Rattle.rb_history.specs.ReservationModel.{Granted}
 use Rattle.rb_history.specs.RingModel.{Ring, Contents}
 use Rattle.rb_history.specs.Calls.{Refuses, producer_now}
+use Rattle.rb_chapter_ring.specs.declared.record_end.RecordEnd.{RecordEnd}
+use Rattle.rb_chapter_ring.specs.declared.record_end.RecordEnd.TheVariants.{Submit, Discard}
 use Rattle.rb_ledger.specs.Roles.{Role, Book, book_of, ExtendsSeen}
 use Rattle.rb_ledger.specs.Roles.Role.{Consumer, Worker}
 use Rattle.rb_ledger.specs.AddedBytes.{bytes_after, put_at}
@@ -20,7 +21,8 @@ use Rattle.rb_ledger.specs.Ledger.{IsRing, IsRoleIn, FitsLedger}
 use Rattle.rb_ledger.specs.LockRule.{AllFit}
 use Rattle.rb_ledger.specs.LockSteps.{TakesState}
 use Rattle.rb_ledger.specs.inner.SeatPasses.{seen_in, pass_bytes, IsIdle}
-use Rattle.rb_ledger.specs.LockedCalls.{Reserves, SubmitsAt, DiscardsAt, OutputsAt, TakesAt, sent_by_submit, sent_by_output, got_by}
+use Rattle.rb_ledger.specs.LockedCalls.{Reserves, OutputsAt, TakesAt, sent_by_output, got_by}
+use Rattle.rb_ledger.specs.inner.RecordEnds.{EndsAt, sent_by_end}
 use Rattle.rb_ledger.proofs.Calls.{no-bytes, sent-there, skipped-none}
 
 -- what one role's pass knows once it has the state out
@@ -68,13 +70,9 @@ module _ (seen : Book) (m : Contents) (old new : Ring) where
     after-reserve n (Ok r) call = after-entries (Worker w) (Res w r.serial n r.pos ∷ []) call.0.logged.history_is
     after-reserve n (Err e) call = after-refused n e.0 call.0
 
-    pub after-submit : (r : Granted) (flags : ℕ) (answer : Result Notice Stray) → SubmitsAt r flags answer old new → after_of (Worker w) ≡ sent_by_submit m r answer
-    after-submit r flags (Ok _) call = after-entries (Worker w) (Sub r.pos ∷ []) call.0.logged.history_is ∙ ap (λ o. put_at r.pos o m) (sent-there old new r.pos r.bytes call.0.contents_are)
-    after-submit r flags (Err _) call = after-same (Worker w) call.same
-
-    pub after-discard : (r : Granted) (flags : ℕ) (answer : Result Notice Stray) → DiscardsAt r flags answer old new → after_of (Worker w) ≡ m
-    after-discard r flags (Ok _) call = after-entries (Worker w) (Dis r.pos ∷ []) call.0.logged.history_is
-    after-discard r flags (Err _) call = after-same (Worker w) call.same
+    pub after-end : (end : RecordEnd) (r : Granted) (flags : ℕ) (notice : Notice) → EndsAt end r flags notice old new → after_of (Worker w) ≡ sent_by_end end r m
+    after-end Submit r flags n call = after-entries (Worker w) (Sub r.pos ∷ []) call.0.logged.history_is ∙ ap (λ o. put_at r.pos o m) (sent-there old new r.pos r.bytes call.0.contents_are)
+    after-end Discard r flags n call = after-entries (Worker w) (Dis r.pos ∷ []) call.0.logged.history_is
 
     pub after-output : (b : List ℕ) (flags : ℕ) (answer : Result Notice (ReserveFault × List ℕ)) → OutputsAt w b flags answer old new → after_of (Worker w) ≡ sent_by_output m (producer_now old) b answer
     after-output b flags (Ok _) call = after-entries (Worker w) (_ ∷ Sub (producer_now old) ∷ []) call.0.logged.history_is ∙ ap (λ o. put_at (producer_now old) o m) (sent-there old new (producer_now old) b call.0.contents_are)

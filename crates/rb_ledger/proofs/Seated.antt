@@ -7,7 +7,6 @@ use Rattle.rb_history.specs.Span.{span}
 use Rattle.rb_history.specs.declared.entries.Entry.{Entry}
 use Rattle.rb_history.specs.declared.entries.Entry.TheVariants.{Res, Full, Sub, Dis, Take}
 use Rattle.rb_history.specs.declared.answers.Notice.{Notice}
-use Rattle.rb_history.specs.declared.answers.Stray.{Stray}
 use Rattle.rb_history.specs.declared.answers.Taken.{Taken}
 use Rattle.rb_history.specs.declared.answers.Taken.TheVariants.{Event, Skipped, BusyFront, Empty}
 use Rattle.rb_history.specs.declared.answers.ReserveFault.{ReserveFault}
@@ -20,12 +19,16 @@ use Rattle.rb_history.specs.RingModel.{Ring}
 use Rattle.rb_history.specs.Calls.{Refuses, Takes, producer_now}
 use Rattle.rb_history.proofs.Laws.{legal-front}
 use Rattle.rb_history.specs.declared.tally.Tally.{Tally}
+use Rattle.rb_chapter_ring.specs.declared.record_end.RecordEnd.{RecordEnd}
+use Rattle.rb_chapter_ring.specs.declared.record_end.RecordEnd.TheVariants.{Submit, Discard}
+use Rattle.rb_chapter_ring.specs.inner.EndSteps.{tally_with_end}
 use Rattle.rb_ledger.specs.Roles.{Book, book_of, ExtendsSeen}
 use Rattle.rb_history.specs.WorkerCounts.{is_record_of, tally_of, events_of, skips_of}
 use Rattle.rb_ledger.specs.Roles.Role.{Consumer, Worker}
 use Rattle.rb_ledger.specs.Ledger.{IsRing}
 use Rattle.rb_ledger.specs.Seats.{IsBook, Ties, ConsumerTies}
-use Rattle.rb_ledger.specs.LockedCalls.{LockedCall, Reserves, SubmitsAt, DiscardsAt, OutputsAt, TakesAt, Queries, refused_by, reserved_by, output_by, submitted_by, discarded_by, events_in, skips_in, span_in, IsTakenAt}
+use Rattle.rb_ledger.specs.LockedCalls.{LockedCall, Reserves, OutputsAt, TakesAt, Queries, refused_by, reserved_by, output_by, submitted_by, events_in, skips_in, span_in, IsTakenAt}
+use Rattle.rb_ledger.specs.inner.RecordEnds.{EndsAt}
 use Rattle.rb_history.proofs.RecordWorkers.{bit, granted-once, record-from}
 use Rattle.rb_history.proofs.WorkerCounts.{tally-res, tally-full, tally-sub, tally-dis, events-next, skips-next}
 use Rattle.rb_ledger.proofs.Tallies.{tally-goes, taker-goes}
@@ -67,17 +70,15 @@ module _ (w : ℕ) (t : Tally) (old new : Ring) (is_ring : IsRing new) (ties : T
   ties-reserved n (Ok r) c = ties-by (Res w r.serial n r.pos ∷ []) (reserved_by t (Ok r)) c.0.logged.setup_same c.0.logged.history_is (λ l. tally-res old.setup w r.serial n r.pos old.history l ∙ ap (λ u. reserved_by u (Ok r)) (sym ties.counted))
   ties-reserved n (Err e) c = ties-refused n e.0 c.0
 
-  ties-submitted : (r : Granted) (flags : ℕ) (a : Result Notice Stray) → r.worker ≡ w → SubmitsAt r flags a old new → Ties w (submitted_by t a) (book_of new)
-  ties-submitted r flags (Ok n) mine c =
-      let his : is_record_of w old.history r.pos ≡ true = subst (λ v. is_record_of v old.history r.pos ≡ true) mine (record-from old.history r.worker r.serial (length r.bytes) r.pos c.0.was_busy.granted_is) in
-      ties-by (Sub r.pos ∷ []) (submitted_by t (Ok n)) c.0.logged.setup_same c.0.logged.history_is (λ l. tally-sub old.setup w r.pos old.history l his ∙ ap (λ u. submitted_by u (Ok n)) (sym ties.counted))
-  ties-submitted r flags (Err s) mine c = ties-same c.same
+  -- a record that was granted to the worker is its own
+  own-record : (r : Granted) → r.worker ≡ w → Contains old.history (Res r.worker r.serial (length r.bytes) r.pos) → is_record_of w old.history r.pos ≡ true
+  own-record r mine granted = subst (λ v. is_record_of v old.history r.pos ≡ true) mine (record-from old.history r.worker r.serial (length r.bytes) r.pos granted)
 
-  ties-discarded : (r : Granted) (flags : ℕ) (a : Result Notice Stray) → r.worker ≡ w → DiscardsAt r flags a old new → Ties w (discarded_by t a) (book_of new)
-  ties-discarded r flags (Ok n) mine c =
-      let his : is_record_of w old.history r.pos ≡ true = subst (λ v. is_record_of v old.history r.pos ≡ true) mine (record-from old.history r.worker r.serial (length r.bytes) r.pos c.0.was_busy.granted_is) in
-      ties-by (Dis r.pos ∷ []) (discarded_by t (Ok n)) c.0.logged.setup_same c.0.logged.history_is (λ l. tally-dis old.setup w r.pos old.history l his ∙ ap (λ u. discarded_by u (Ok n)) (sym ties.counted))
-  ties-discarded r flags (Err s) mine c = ties-same c.same
+  ties-ended : (end : RecordEnd) (r : Granted) (flags : ℕ) (n : Notice) → r.worker ≡ w → EndsAt end r flags n old new → Ties w (tally_with_end end t) (book_of new)
+  ties-ended Submit r flags n mine c =
+      ties-by (Sub r.pos ∷ []) (tally_with_end Submit t) c.0.logged.setup_same c.0.logged.history_is (λ l. tally-sub old.setup w r.pos old.history l (own-record r mine c.0.was_busy.granted_is) ∙ ap (λ u. tally_with_end Submit u) (sym ties.counted))
+  ties-ended Discard r flags n mine c =
+      ties-by (Dis r.pos ∷ []) (tally_with_end Discard t) c.0.logged.setup_same c.0.logged.history_is (λ l. tally-dis old.setup w r.pos old.history l (own-record r mine c.0.was_busy.granted_is) ∙ ap (λ u. tally_with_end Discard u) (sym ties.counted))
 
   ties-output : (b : List ℕ) (flags : ℕ) (a : Result Notice (ReserveFault × List ℕ)) → OutputsAt w b flags a old new → Ties w (output_by t a) (book_of new)
   ties-output b flags (Ok n) c =
@@ -103,11 +104,8 @@ module _ (w : ℕ) (t : Tally) (b a : Book) where
   pub reserve-ties : (n : ℕ) (r : Result Granted (ReserveFault × List ℕ)) → LockedCall (Worker w) b a (Reserves w n r) → Ties w t b → Ties w (reserved_by t r) a
   reserve-ties n r turn ties = at-point (Reserves w n r) turn ties (reserved_by t r) (λ old new i k c. ties-reserved w t old new i k n r c)
 
-  pub submit-ties : (g : Granted) (flags : ℕ) (r : Result Notice Stray) → g.worker ≡ w → LockedCall (Worker w) b a (SubmitsAt g flags r) → Ties w t b → Ties w (submitted_by t r) a
-  submit-ties g flags r mine turn ties = at-point (SubmitsAt g flags r) turn ties (submitted_by t r) (λ old new i k c. ties-submitted w t old new i k g flags r mine c)
-
-  pub discard-ties : (g : Granted) (flags : ℕ) (r : Result Notice Stray) → g.worker ≡ w → LockedCall (Worker w) b a (DiscardsAt g flags r) → Ties w t b → Ties w (discarded_by t r) a
-  discard-ties g flags r mine turn ties = at-point (DiscardsAt g flags r) turn ties (discarded_by t r) (λ old new i k c. ties-discarded w t old new i k g flags r mine c)
+  pub end-ties : (end : RecordEnd) (g : Granted) (flags : ℕ) (n : Notice) → g.worker ≡ w → LockedCall (Worker w) b a (EndsAt end g flags n) → Ties w t b → Ties w (tally_with_end end t) a
+  end-ties end g flags n mine turn ties = at-point (EndsAt end g flags n) turn ties (tally_with_end end t) (λ old new i k c. ties-ended w t old new i k end g flags n mine c)
 
   pub output-ties : (bytes : List ℕ) (flags : ℕ) (r : Result Notice (ReserveFault × List ℕ)) (More : Ring → Type 0) → LockedCall (Worker w) b a (λ old new. OutputsAt w bytes flags r old new × More old) → Ties w t b → Ties w (output_by t r) a
   output-ties bytes flags r More turn ties = at-point (λ old new. OutputsAt w bytes flags r old new × More old) turn ties (output_by t r) (λ old new i k c. ties-output w t old new i k bytes flags r c.0)

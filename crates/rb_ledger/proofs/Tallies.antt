@@ -13,7 +13,7 @@ use Rattle.rb_history.specs.declared.tally.Tally.{Tally}
 use Rattle.rb_ledger.specs.Roles.{is_own, NoneOwn}
 use Rattle.rb_history.specs.WorkerCounts.{tally_of, is_take_where, events_of, skips_of}
 use Rattle.rb_ledger.specs.Roles.Role.{Consumer, Worker}
-use Rattle.rb_history.specs.inner.TallySteps.{with_entry}
+use Rattle.rb_history.specs.inner.TallySteps.{tally_with_entry}
 use Rattle.rb_history.proofs.WorkerCounts.{tally-next, events-next, skips-next}
 use Rattle.rb_history.proofs.RecordWorkers.{bit}
 
@@ -28,7 +28,7 @@ module _ (r : Setup) where
         discarded = (ap (λ x. t.discarded + x) ed ∙ add-zero t.discarded) i;
       }
 
-  others-entry : (w : ℕ) (h : List Entry) (e : Entry) (t : Tally) → is_own (Worker w) h e ≡ false → with_entry w h e t ≡ t
+  others-entry : (w : ℕ) (h : List Entry) (e : Entry) (t : Tally) → is_own (Worker w) h e ≡ false → tally_with_entry w h e t ≡ t
   others-entry w h (Res v k n p) t off = add-none t _ _ _ _ (ap bit off) refl refl refl
   others-entry w h (Full v n) t off = add-none t _ _ _ _ refl (ap bit off) refl refl
   others-entry w h (Sub p) t off = add-none t _ _ _ _ refl refl (ap bit off) refl

@@ -1,28 +1,30 @@
 -- Each call under the lock by the ring's chapter is the call on the ring with its whole history.
-use Rattle.std.proofs.Common.{◌≡◌, ◌↔◌, ℕ, ◌<◌, List, [], ◌∷◌, ◌++◌, length, sym, ap, ◌∙◌, subst, Result, Ok, Err}
+use Rattle.std.proofs.Common.{◌≡◌, ◌↔◌, ℕ, ◌<◌, List, [], ◌∷◌, ◌++◌, length, sym, ap, ◌∙◌, subst}
 use Rattle.rb_history.specs.declared.entries.Entry.{Entry}
 use Rattle.rb_history.specs.declared.answers.Notice.{Notice}
-use Rattle.rb_history.specs.declared.answers.Stray.{Stray}
 use Rattle.rb_history.specs.declared.answers.Taken.{Taken}
 use Rattle.rb_history.specs.ReservationModel.{Granted}
 use Rattle.rb_history.specs.NoticesAndQueries.{IsDue}
 use Rattle.rb_history.specs.RoomRule.{Setup}
 use Rattle.rb_history.specs.RingModel.{Ring}
 use Rattle.rb_history.specs.Calls.{consumer_now as whole_consumer_now}
-use Rattle.rb_chapter_ring.specs.Opening.{Opening}
+use Rattle.rb_chapter_ring.specs.Standing.{Standing}
 use Rattle.rb_chapter_ring.specs.Chapters.{Chapter, joined}
 use Rattle.rb_chapter_ring.specs.ChapterRing.{ChapterRing, whole_ring}
-use Rattle.rb_chapter_ring.specs.ChapterCalls.{consumer_now}
+use Rattle.rb_chapter_ring.specs.ChapterCalls.{consumer_by_chapter}
 use Rattle.rb_chapter_ring.specs.WholeHistory.{ContinuesHistory, IsSameFrom}
+use Rattle.rb_chapter_ring.specs.declared.record_end.RecordEnd.{RecordEnd}
+use Rattle.rb_chapter_ring.specs.declared.record_end.RecordEnd.TheVariants.{Submit, Discard}
 use Rattle.rb_chapter_ring.proofs.Stands.{goes-on}
 use Rattle.rb_chapter_ring.proofs.Alike.{calls-alike}
 use Rattle.rb_ledger.specs.Roles.{Role, Book}
 use Rattle.rb_ledger.specs.Roles.Role.{Consumer}
-use Rattle.rb_ledger.specs.LockedCalls.{LockedCall, SubmitsAt, DiscardsAt, TakesAt, Queries}
+use Rattle.rb_ledger.specs.LockedCalls.{LockedCall, TakesAt, Queries}
 use Rattle.rb_ledger.specs.ChapteredRing.{chaptered_ring, whole_of}
 use Rattle.rb_ledger.specs.LockedChapterCalls.{LockedChapterCall, InOneChapter, InKnownChapter, HandsOutNext, EachCallIsWhole}
-use Rattle.rb_ledger.specs.inner.ChapterAnswers.{SubmitsInChapter, DiscardsInChapter, TakesInChapter, QueriesInChapter}
+use Rattle.rb_ledger.specs.inner.ChapterAnswers.{TakesInChapter, QueriesInChapter}
 use Rattle.rb_ledger.specs.inner.ChapterRooms.{InRoomAt}
+use Rattle.rb_ledger.specs.inner.RecordEnds.{EndsInChapter, EndsAt}
 use Rattle.rb_chapter_ring.proofs.Chain.{binds-continue, binds-number}
 use Rattle.rb_ledger.proofs.ChapterSteps.{handed-out-whole}
 
@@ -32,19 +34,15 @@ module _ (earlier : List Entry) (old new : ChapterRing) (is : ContinuesHistory e
   pub said : IsSameFrom old.chapter.opening.setup earlier old.chapter.opening old.chapter.entries
   said = (goes-on old.chapter.opening.setup earlier old.chapter.opening is.earlier_legal is.opened old.chapter.entries).1 is.legal
 
-  pub consumer-same : consumer_now old ≡ whole_consumer_now (whole_ring earlier old)
-  consumer-same = ap (λ (o : Opening). o.consumer) said.stands
+  pub consumer-same : consumer_by_chapter old ≡ whole_consumer_now (whole_ring earlier old)
+  consumer-same = ap (λ (o : Standing). o.consumer) said.stands
 
-  pub due-same : {A : Type 0} (p flags : ℕ) → A ↔ IsDue (consumer_now old) p flags → A ↔ IsDue (whole_consumer_now (whole_ring earlier old)) p flags
+  pub due-same : {A : Type 0} (p flags : ℕ) → A ↔ IsDue (consumer_by_chapter old) p flags → A ↔ IsDue (whole_consumer_now (whole_ring earlier old)) p flags
   due-same {A} p flags is_due = subst (λ c. A ↔ IsDue c p flags) consumer-same is_due
 
-  pub submits-whole : (r : Granted) (flags : ℕ) (answer : Result Notice Stray) → SubmitsInChapter r flags answer old new → SubmitsAt r flags answer (whole_ring earlier old) (whole_ring earlier new)
-  submits-whole r flags (Ok n) a = let whole = ((calls-alike earlier old new is).submits r).0 a.0 in (whole.1, due-same r.pos flags a.1)
-  submits-whole r flags (Err s) a = let whole = ((calls-alike earlier old new is).strays r).0 a in whole.1
-
-  pub discards-whole : (r : Granted) (flags : ℕ) (answer : Result Notice Stray) → DiscardsInChapter r flags answer old new → DiscardsAt r flags answer (whole_ring earlier old) (whole_ring earlier new)
-  discards-whole r flags (Ok n) a = let whole = ((calls-alike earlier old new is).discards r).0 a.0 in (whole.1, due-same r.pos flags a.1)
-  discards-whole r flags (Err s) a = let whole = ((calls-alike earlier old new is).strays r).0 a in whole.1
+  pub ends-whole : (end : RecordEnd) (r : Granted) (flags : ℕ) (notice : Notice) → EndsInChapter end r flags notice old new → EndsAt end r flags notice (whole_ring earlier old) (whole_ring earlier new)
+  ends-whole Submit r flags n a = let whole = ((calls-alike earlier old new is).submits r).0 a.0 in (whole.1, due-same r.pos flags a.1)
+  ends-whole Discard r flags n a = let whole = ((calls-alike earlier old new is).discards r).0 a.0 in (whole.1, due-same r.pos flags a.1)
 
   pub takes-whole : (t : Taken) → TakesInChapter t old new → TakesAt t (whole_ring earlier old) (whole_ring earlier new)
   takes-whole t a =

@@ -2,20 +2,39 @@
 use Rattle.std.specs.Prelude.{◌≡◌, ℕ, ◌+◌, List, [], ◌∷◌, ◌++◌, None}
 use Rattle.std.specs.List.{All}
 use Rattle.rb_history.specs.declared.entries.Entry.{Entry}
+use Rattle.rb_history.specs.RoomRule.{Setup}
 use Rattle.rb_history.specs.Counting.{counts_of}
 use Rattle.rb_history.specs.WorkerCounts.{serials_of, numbers_below}
-use Rattle.rb_chapter_ring.specs.Chapters.{Chapter, empty_ring, closing_of}
-use Rattle.rb_chapter_ring.specs.ChapterRing.{ChapterRing, StandsForChapter}
-use Rattle.rb_ledger.specs.Roles.{Book}
+use Rattle.rb_chapter_ring.specs.Standing.{standing_of}
+use Rattle.rb_chapter_ring.specs.Chapters.{Chapter}
+use Rattle.rb_chapter_ring.specs.ChapterRing.{ChapterRing}
+use Rattle.rb_ledger.specs.Roles.{Book, book_of}
 use Rattle.rb_ledger.specs.Roles.Role.{Consumer}
 use Rattle.rb_ledger.specs.RoleKnowledge.{role_knowledge}
 use Rattle.rb_ledger.specs.Seats.{Shared, WorkerSeat, Ties, ConsumerTies, HasAll}
 use Rattle.rb_ledger.specs.SeatRoles.{roles_of, HasOwnCounts}
-use Rattle.rb_ledger.specs.Headline.{IsClosed, ReservationsBalance}
-use Rattle.rb_ledger.specs.ChapteredRing.{chaptered_ring, whole_of, HasChapters}
+use Rattle.rb_ledger.specs.Headline.{IsClosed, IsGathered, ReservationsBalance}
+use Rattle.rb_ledger.specs.ChapteredRing.{chaptered_ring, whole_of}
 use Rattle.rb_ledger.specs.ChapterKnowledge.{ChapterKnowledge, ChapterPassView, chapter_view, whole_knowledge}
 use Rattle.rb_ledger.specs.ChapterLockSteps.{TakesChapterState}
 use Rattle.rb_ledger.specs.ChapterSeats.{ChapterConsumerSeat, whole_consumer}
+
+-- ---- chapters of a ring
+
+-- numbered from n upward
+abbrev pub AreNumberedFrom : ℕ → List Chapter → Type 0
+AreNumberedFrom n [] = Unit {0}
+AreNumberedFrom n (c ∷ cs) = (c.number ≡ n) × AreNumberedFrom (n + 1) cs
+
+-- each opens with what all entries before it stand for, where `earlier` are those before the first
+abbrev pub EachGoesOn : Setup → List Entry → List Chapter → Type 0
+EachGoesOn setup earlier [] = Unit {0}
+EachGoesOn setup earlier (c ∷ cs) = (c.opening ≡ standing_of setup earlier) × EachGoesOn setup (earlier ++ c.entries) cs
+
+-- the chapters and the last one may be bound: they are numbered 0 upward, and go on from the empty history
+pub record MayBind (chapters : List Chapter) (last : Chapter) : Type 0 where
+  pub numbered : AreNumberedFrom 0 (chapters ++ last ∷ [])
+  pub opened : EachGoesOn last.opening.setup [] (chapters ++ last ∷ [])
 
 -- ---- closed
 
@@ -24,11 +43,24 @@ pub record ClosedChapterRing : Type 0 where
   pub shared : Shared
   pub at_end : ChapterRing
 
--- the ring, once all seats and the consumer are gathered: what `close` promises where it is Ok. Its last chapter goes on from those that
--- the consumer was handed, and with their entries in front it is closed as the ring with its whole history
+-- the seats' and the consumer's numbers are those of the history: so each worker's reservations are there once each, in its own order, and
+-- reservations equal records consumed, discarded, waiting and busy
+pub record AreTied (seats : List WorkerSeat) (consumer : ChapterConsumerSeat) (b : Book) : Type 0 where
+  pub seats_tie : All (λ s. Ties s.worker s.tally b) seats
+  pub in_order : All (λ s. serials_of s.worker b.history ≡ numbers_below s.tally.made) seats
+  pub consumer_ties : ConsumerTies consumer.consumed consumer.skipped consumer.position b
+  pub balanced : ReservationsBalance seats (counts_of b.history)
+
+-- all seats and the consumer are gathered at the ring with its whole history, which has the entries of the chapters that the consumer was handed
+-- in front; these may be bound with the ring's last one
+pub record IsGatheredByChapters (last : ChapterRing) (seats : List WorkerSeat) (consumer : ChapterConsumerSeat) : Type 0 where
+  pub may_bind : MayBind consumer.handed_out last.chapter
+  pub tied : AreTied seats consumer (book_of (whole_of (chaptered_ring consumer.handed_out last)))
+  pub gathered : IsGathered (whole_of (chaptered_ring consumer.handed_out last)) seats (whole_consumer consumer)
+
+-- what `close` promises where it is Ok: all are gathered, and each seat accounts for its part of the whole history
 pub record IsClosedByChapters (last : ChapterRing) (seats : List WorkerSeat) (consumer : ChapterConsumerSeat) : Type 0 where
-  pub has_chapters : HasChapters (chaptered_ring consumer.handed_out last)
-  pub stands_for : StandsForChapter last
+  pub gathered : IsGatheredByChapters last seats consumer
   pub closed : IsClosed (whole_of (chaptered_ring consumer.handed_out last)) seats (whole_consumer consumer)
 
 -- what the consumer's pass knows
@@ -45,26 +77,6 @@ ClosedWhereGathered =
 
 -- ---- bound
 
--- numbered from n upward
-abbrev pub AreNumberedFrom : ℕ → List Chapter → Type 0
-AreNumberedFrom n [] = Unit {0}
-AreNumberedFrom n (c ∷ cs) = (c.number ≡ n) × AreNumberedFrom (n + 1) cs
-
--- each of the chapters behind c begins where the one before it ends
-abbrev pub EachGoesOn : Chapter → List Chapter → Type 0
-EachGoesOn c [] = Unit {0}
-EachGoesOn c (d ∷ ds) = (d.opening ≡ closing_of c) × EachGoesOn d ds
-
--- the first opens an empty ring, and each next one begins where the one before it ends
-abbrev pub AreOpenedInTurn : List Chapter → Type 0
-AreOpenedInTurn [] = Unit {0}
-AreOpenedInTurn (c ∷ cs) = (c.opening ≡ empty_ring c.opening.setup) × EachGoesOn c cs
-
--- the chapters and the last one may be bound
-pub record MayBind (chapters : List Chapter) (last : Chapter) : Type 0 where
-  pub numbered : AreNumberedFrom 0 (chapters ++ last ∷ [])
-  pub opened : AreOpenedInTurn (chapters ++ last ∷ [])
-
 -- a closed ring that was bound to these chapters, with all entries joined
 pub record BoundRing : Type 0 where
   pub closed : ClosedChapterRing
@@ -74,11 +86,3 @@ pub record BoundRing : Type 0 where
 -- the book of the history, with the setup of the last chapter
 abbrev pub bound_book : ChapterRing → List Entry → Book
 bound_book last history = record { setup = last.chapter.opening.setup; history = history }
-
--- the seats' and the consumer's numbers are those of the history: so each worker's reservations are there once each, in its own order, and
--- reservations equal records consumed, discarded, waiting and busy
-pub record AreTied (seats : List WorkerSeat) (consumer : ChapterConsumerSeat) (b : Book) : Type 0 where
-  pub seats_tie : All (λ s. Ties s.worker s.tally b) seats
-  pub in_order : All (λ s. serials_of s.worker b.history ≡ numbers_below s.tally.made) seats
-  pub consumer_ties : ConsumerTies consumer.consumed consumer.skipped consumer.position b
-  pub balanced : ReservationsBalance seats (counts_of b.history)

@@ -9,7 +9,7 @@ use Rattle.rb_history.specs.declared.entries.Entry.{Entry}
 use Rattle.rb_history.specs.RoomRule.{Setup}
 use Rattle.rb_history.specs.OneCall.{IsOneCall}
 use Rattle.rb_history.specs.RingModel.{Ring, fresh}
-use Rattle.rb_chapter_ring.specs.Opening.{opening_of}
+use Rattle.rb_chapter_ring.specs.Standing.{standing_of}
 use Rattle.rb_chapter_ring.specs.CountedFrom.{IsLegalFrom}
 use Rattle.rb_chapter_ring.specs.Chapters.{Chapter, IsLegalChapter, joined}
 use Rattle.rb_chapter_ring.specs.ChapterRing.{ChapterRing, StandsForChapter}
@@ -20,7 +20,7 @@ use Rattle.rb_ledger.specs.ChapteredRing.{chaptered_ring, whole_of}
 use Rattle.rb_ledger.specs.ChapterKnowledge.{ChapterPassView, AllKnowHandedOut}
 use Rattle.rb_ledger.specs.ChapterLockRule.{KeepsChapterLockRule}
 use Rattle.rb_ledger.specs.ChapterSeats.{ChapterConsumerSeat, whole_consumer}
-use Rattle.rb_ledger.specs.ChapterClosing.{IsClosedByChapters, MayBind, bound_book, AreTied}
+use Rattle.rb_ledger.specs.ChapterClosing.{MayBind, IsGatheredByChapters, IsClosedByChapters, AreTied, bound_book}
 
 -- ---- whenever the lock is free
 
@@ -39,7 +39,7 @@ pub record IsRunBehind (setup : Setup) (earlier entries : List Entry) : Type 0 w
 -- there, as one thread's run behind theirs, and is what its state stands for
 pub record IsSequentialByChapter (handed_out : List Chapter) (v : ChapterRing) : Type 0 where
   pub goes_on : Binds handed_out v.chapter
-  pub opening_is : v.chapter.opening ≡ opening_of v.chapter.opening.setup (joined handed_out)
+  pub opening_is : v.chapter.opening ≡ standing_of v.chapter.opening.setup (joined handed_out)
   pub legal : IsLegalFrom v.chapter.opening v.chapter.entries
   pub one_run : IsRunBehind v.chapter.opening.setup (joined handed_out) v.chapter.entries
   pub stands_for : StandsForChapter v
@@ -60,15 +60,15 @@ AllLegal (c ∷ cs) = IsLegalChapter c × AllLegal cs
 abbrev pub BindsWhereItMay : Type 0
 BindsWhereItMay = (chapters : List Chapter) (last : Chapter) → AllLegal chapters → IsLegalChapter last → MayBind chapters last ↔ Binds chapters last
 
--- those that the ring handed out may be
-abbrev pub HandedOutMayBind : Type 0
-HandedOutMayBind = (last : ChapterRing) (seats : List WorkerSeat) (consumer : ChapterConsumerSeat) → IsClosedByChapters last seats consumer → MayBind consumer.handed_out last.chapter
+-- those that the ring handed out are
+abbrev pub HandedOutBind : Type 0
+HandedOutBind = (last : ChapterRing) (seats : List WorkerSeat) (consumer : ChapterConsumerSeat) → IsGatheredByChapters last seats consumer → Binds consumer.handed_out last.chapter
 
 -- whatever chapters were bound, all seats tie to the history
 abbrev pub TiedOnceBound : Type 0
 TiedOnceBound =
     (last : ChapterRing) (seats : List WorkerSeat) (consumer : ChapterConsumerSeat) (chapters : List Chapter) (history : List Entry)
-    → IsClosedByChapters last seats consumer → IsBound chapters last.chapter history → AreTied seats consumer (bound_book last history)
+    → IsGatheredByChapters last seats consumer → IsBound chapters last.chapter history → AreTied seats consumer (bound_book last history)
 
 -- the ring that was closed, with the history that was bound
 abbrev pub bound_ring : ChapterRing → List Entry → Ring

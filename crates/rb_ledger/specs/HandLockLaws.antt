@@ -19,28 +19,28 @@ OneHandLeavesOthers = (w h : ℕ) (x : Option OutRecord) (old new : HandBook) �
 -- ---- each step keeps the rule
 
 -- it holds of an empty queue and the one pass that puts the first state in
-abbrev pub HoldsAtFirst : Type 0
-HoldsAtFirst = KeepsHandLockRule [] (hand_view [] (Some unopened_hands) ∷ [])
+abbrev pub HandsHoldAtFirst : Type 0
+HandsHoldAtFirst = KeepsHandLockRule [] (hand_view [] (Some unopened_hands) ∷ [])
 
-abbrev pub KeptWhereOpened : Type 0
-KeptWhereOpened =
+abbrev pub HandsKeptWhereOpened : Type 0
+HandsKeptWhereOpened =
     (n pass : ℕ) (v : HandPassView) (r : HandRing) → v ≡ hand_view [] (Some unopened_hands) → IsRing (whole_of (chaptered_ring [] r.ring)) → HasChapters (chaptered_ring [] r.ring) → r.ring.contents ≡ empty
     → HasHands r → r.hands ≡ free_book r.ring.chapter.opening.setup.workers → Pushes KeepsHandLockRule n pass v r (OpensHandState v r)
 
-abbrev pub KeptWhereTakenOut : Type 0
-KeptWhereTakenOut = (pass : ℕ) (v : HandPassView) → v.out ≡ None → Pops KeepsHandLockRule pass v (TakesHandState v)
+abbrev pub HandsKeptWhereTakenOut : Type 0
+HandsKeptWhereTakenOut = (pass : ℕ) (v : HandPassView) → v.out ≡ None → Pops KeepsHandLockRule pass v (TakesHandState v)
 
-abbrev pub KeptWherePutBack : Type 0
-KeptWherePutBack = (n pass : ℕ) (v : HandPassView) (new : HandRing) → MayPutHands v new → Pushes KeepsHandLockRule n pass v new (PutsHandState v new)
+abbrev pub HandsKeptWherePutBack : Type 0
+HandsKeptWherePutBack = (n pass : ℕ) (v : HandPassView) (new : HandRing) → MayPutHands v new → Pushes KeepsHandLockRule n pass v new (PutsHandState v new)
 
 -- while a pass has the state out, the queue is empty
-abbrev pub IsAwayWhereOut : Type 0
-IsAwayWhereOut = (pass : ℕ) (v : HandPassView) (c : ChapteredHandRing) → v.out ≡ Some c → Learns KeepsHandLockRule pass v (λ items. items ≡ [])
+abbrev pub HandsAreAwayWhereOut : Type 0
+HandsAreAwayWhereOut = (pass : ℕ) (v : HandPassView) (c : ChapteredHandRing) → v.out ≡ Some c → Learns KeepsHandLockRule pass v (λ items. items ≡ [])
 
-abbrev pub KeptWhereSplit : Type 0
-KeptWhereSplit = (pass : ℕ) (v : HandPassView) → Forks KeepsHandLockRule pass v (hand_view (other_hand_roles v.knows) v.out) (hand_view (first_hand_role v.knows) None)
+abbrev pub HandsKeptWhereSplit : Type 0
+HandsKeptWhereSplit = (pass : ℕ) (v : HandPassView) → Forks KeepsHandLockRule pass v (hand_view (other_hand_roles v.knows) v.out) (hand_view (first_hand_role v.knows) None)
 
-abbrev pub KeptWhereJoined : Type 0
-KeptWhereJoined =
+abbrev pub HandsKeptWhereJoined : Type 0
+HandsKeptWhereJoined =
     (pass : ℕ) (v : HandPassView) (other : ℕ) (u : HandPassView) → u.out ≡ None
     → Merges KeepsHandLockRule pass v other u (hand_view (u.knows ++ v.knows) v.out) (hand_view [] None)

@@ -77,11 +77,6 @@ abbrev pub discarded_by : Tally → Result Notice Stray → Tally
 discarded_by t (Ok _) = record t { discarded = t.discarded + 1 }
 discarded_by t (Err s) = t
 
--- a submit adds its record's bytes to what was sent
-abbrev pub sent_by_submit : Contents → Granted → Result Notice Stray → Contents
-sent_by_submit sent r (Ok _) = insert sent r.pos r.bytes
-sent_by_submit sent r (Err s) = sent
-
 -- an output adds its bytes, at the position where its record stands
 abbrev pub sent_by_output : Contents → ℕ → List ℕ → Result Notice (ReserveFault × List ℕ) → Contents
 sent_by_output sent p bytes (Ok _) = insert sent p bytes

@@ -1,12 +1,12 @@
 //! Chapters are bound: their entries are joined to one history.
 
 ghost use Rattle.std.specs.Prelude.{◌≡◌, ◌↔◌, ◌++◌, ◌∷◌, [], IfOk, IsErrOf, IsTrue, replicate, length};
-ghost use Rattle.rb_chapter_ring.specs.Opening.{no_tally};
+ghost use Rattle.rb_chapter_ring.specs.Standing.{no_tally};
 ghost use Rattle.rb_chapter_ring.specs.Chapters.{empty_ring, joined};
 ghost use Rattle.rb_chapter_ring.specs.WholeHistory.{Binds, IsBound};
-ghost use Rattle.rb_ledger.specs.ChapterClosing.{AreNumberedFrom, AreOpenedInTurn};
+ghost use Rattle.rb_ledger.specs.ChapterClosing.{AreNumberedFrom, EachGoesOn};
 ghost use Rattle.rb_ledger.specs.ChapterHeadline.{AllLegal};
-ghost use Rattle.rb_ledger.specs.inner.BindingLoops.{numbered_from, EachMeets};
+ghost use Rattle.rb_ledger.specs.inner.BindingLoops.{numbered_from, EachMeets, AreOpenedInTurn};
 
 use rb_chapter_ring::Chapter;
 use rb_history::{Entry, Tally};
@@ -19,7 +19,8 @@ pub enum BindFault {
     /// The chapters, with the last one behind them, are not numbered 0 upward.
     #[error("the chapters are not numbered 0 upward")]
     Number,
-    /// The first does not open an empty ring, or one does not begin where the one before it ends.
+    /// The first does not open an empty ring, or one does not begin where the one before it ends: what it opens with is not what all entries
+    /// before it stand for.
     #[error("the chapters do not go on from an empty ring")]
     Opening,
     /// A growth was refused: there is no memory for the history.
@@ -35,14 +36,15 @@ pub fn bind_chapters(
     last: &Chapter,
 ) -> Result<Vec<Entry>, BindFault>
     ensures number { IsErrOf result BindFault.Number ↔ ¬ AreNumberedFrom 0 (chapters.now ++ last.now ∷ []) }
-    ensures opening { IsErrOf result BindFault.Opening ↔ (AreNumberedFrom 0 (chapters.now ++ last.now ∷ []) × ¬ AreOpenedInTurn (chapters.now ++ last.now ∷ [])) }
+    ensures opening { IsErrOf result BindFault.Opening ↔ (AreNumberedFrom 0 (chapters.now ++ last.now ∷ []) × ¬ EachGoesOn last.now.opening.setup [] (chapters.now ++ last.now ∷ [])) }
     ensures binds { IfOk result (λ history. Binds chapters.now last.now) }
     ensures bound { IfOk result (λ history. IsBound chapters.now last.now history.items) }
 {
     if !are_numbered(chapters, last) {
         return Err(BindFault::Number);
     }
-    if !are_opened(chapters, last) {
+    are_legal(chapters, last);
+    if !go_on(chapters, last) {
         return Err(BindFault::Opening);
     }
     let Ok(history) = join_entries(alloc, chapters, last) else {
@@ -70,6 +72,25 @@ fn are_numbered_upward(chapters: &[Chapter]) -> bool
         next += 1;
     }
     true
+}
+
+// Each chapter is legal. There is nothing to do.
+fn are_legal(chapters: &[Chapter], last: &Chapter)
+    ensures legal { AllLegal (chapters.now ++ last.now ∷ []) }
+{
+    for chapter in chapters {
+        chapter.facts();
+    }
+    last.facts();
+}
+
+// Whether each opens with what all entries before it stand for, from the empty history on; their numbers are so.
+fn go_on(chapters: &[Chapter], last: &Chapter) -> bool
+    requires numbered { AreNumberedFrom 0 (chapters.now ++ last.now ∷ []) }
+    requires legal { AllLegal (chapters.now ++ last.now ∷ []) }
+    ensures exact { IsTrue result ↔ EachGoesOn last.now.opening.setup [] (chapters.now ++ last.now ∷ []) }
+{
+    are_opened(chapters, last)
 }
 
 // Whether the first opens an empty ring, and each next one begins where the one before it ends; their numbers are so.
@@ -134,21 +155,18 @@ fn are_none(tallies: &[Tally]) -> bool
     true
 }
 
-// All entries, and each chapter is legal.
+// All entries.
 fn join_entries(
     alloc: Global,
     chapters: &[Chapter],
     last: &Chapter,
 ) -> Result<Vec<Entry>, AllocError>
     ensures entries { IfOk result (λ history. history.items ≡ joined chapters.now ++ last.now.entries) }
-    ensures legal { IfOk result (λ history. AllLegal (chapters.now ++ last.now ∷ [])) }
 {
     let mut history = Vec::new(alloc);
     for chapter in chapters {
-        chapter.facts();
         history.extend_from_slice(chapter.entries())?;
     }
-    last.facts();
     history.extend_from_slice(last.entries())?;
     Ok(history)
 }

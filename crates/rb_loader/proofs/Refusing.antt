@@ -12,7 +12,8 @@ use Rattle.rb_program.specs.Text.{IsHexOf, without_white_space}
 use Rattle.rb_program.specs.declared.fault.DecodeFault.{DecodeFault}
 use Rattle.rb_program.specs.declared.fault.TextFault.{TextFault}
 use Rattle.rb_program.specs.declared.fault.TextFault.TheVariants.{NotHex, Memory, Decode}
-use Rattle.rb_loader.specs.Acceptance.{HasFirstShapeFault, IsNoHex, IsRightFault, fault_of_shape, fault_of_text, shape_fault_at}
+use Rattle.rb_loader.specs.Acceptance.{HasFirstShapeFault, IsRightFault, fault_of_shape, fault_of_text, shape_fault_at}
+use Rattle.rb_explain.specs.Explanations.{IsNoHex}
 use Rattle.rb_loader.specs.declared.program.ProgramFault.{ProgramFault}
 
 module _ (text : List ℕ) (ctx_len rings : ℕ) (answer : Result (List Insn) TextFault) (no_hex : answer ≡ Err NotHex → IsNoHex text) (first : (fault : DecodeFault) → answer ≡ Err (Decode fault) → (bytes : List ℕ) × IsHexOf (without_white_space text) bytes × IsFirstDecodeFault bytes fault) where

@@ -17,6 +17,7 @@ use Rattle.rb_verifier.specs.Rules.{rule_number}
 use Rattle.rb_verifier.specs.declared.rule.Rule.{Rule}
 use Rattle.rb_verifier.specs.Annotation.{HasNoValid, HasValid, IsFirstBrokenRule}
 use Rattle.rb_verifier.specs.Subject.{Subject, limits_of}
+use Rattle.rb_explain.specs.Explanations.{IsNoHex}
 use Rattle.rb_loader.specs.declared.program.ProgramFault.{ProgramFault}
 use Rattle.rb_loader.specs.declared.program.ProgramFault.TheVariants.{Text, Decode, Shape, Verify, Memory, Device}
 
@@ -31,10 +32,6 @@ pub record IsAccepted (text : List ℕ) (ctx_len rings : ℕ) (subject : Subject
   pub context : subject.ctx_len ≡ ctx_len
   pub known : subject.rings ≡ rings
   pub valid : HasValid (limits_of subject) subject.program
-
--- the text is no bytes in hex
-abbrev pub IsNoHex : List ℕ → Type 0
-IsNoHex text = (bytes : List ℕ) → IsHexOf (without_white_space text) bytes → ⊥
 
 -- the text is bytes in hex, and this is their first fault
 pub record HasFirstDecodeFault (text : List ℕ) (kind : DecodeKind) (unit : ℕ) : Type 0 where

@@ -12,9 +12,9 @@ use Rattle.rb_insn.specs.Units.{units_taken}
 use Rattle.rb_insn.specs.Opcodes.{alu, alu64, source_x, operation_opcode, mov_code, division_offset, swap_bits}
 use Rattle.rb_insn.specs.Spelling.{unit, second_unit, bits16, bits32, spelling, FieldsFit, OffsetFits, ImmFits}
 use Rattle.rb_program.specs.declared.fields.Fields.{Fields}
-use Rattle.rb_program.specs.declared.operation.Source.TheVariants.{Immediate, Register}
-use Rattle.rb_program.specs.declared.operation.Operation.{Operation}
-use Rattle.rb_program.specs.declared.operation.Operation.TheVariants.{Binary, Division, Negate, Move, Reorder, Branch, Jump, JumpFar, Call, Exit, Wide, Load, LoadSigned, StoreImmediate, StoreRegister}
+use Rattle.rb_program.specs.declared.opcode_meaning.Source.TheVariants.{Immediate, Register}
+use Rattle.rb_program.specs.declared.opcode_meaning.OpcodeMeaning.{OpcodeMeaning}
+use Rattle.rb_program.specs.declared.opcode_meaning.OpcodeMeaning.TheVariants.{Binary, Division, Negate, Move, Reorder, Branch, Jump, JumpFar, Call, Exit, Wide, Load, LoadSigned, StoreImmediate, StoreRegister}
 use Rattle.rb_program.specs.OpcodeTable.{register, one_of, wide_number_row, wide_map_row}
 use Rattle.rb_program.specs.inner.FieldChecks.{is_named_by, row_for, registers_fit, fits_register, fits_unused, reg_at, sign_from, move32_from, move64_from, swap_width_from, insn_from}
 use Rattle.rb_program.proofs.Opcodes.{opcode_of}
@@ -75,7 +75,7 @@ abbrev pub unit_of : Fields → List ℕ
 unit_of f = unit f.opcode f.dst f.src f.offset f.imm
 
 -- and its second
-abbrev pub second_of : Operation → ℕ → List ℕ
+abbrev pub second_of : OpcodeMeaning → ℕ → List ℕ
 second_of Wide next = second_unit next
 second_of op next = []
 
@@ -91,17 +91,17 @@ ten : (n : ℕ) → fits_register register n ≡ true → n ≤ 10
 ten n h = leb-true n 10 h
 
 -- what the decoder has checked of a unit of an operation
-pub record IsChecked (op : Operation) (f : Fields) : Type 0 where
+pub record IsChecked (op : OpcodeMeaning) (f : Fields) : Type 0 where
   pub opcode : opcode_of op ≡ f.opcode
   pub named : is_named_by op f ≡ true
   pub registers : registers_fit (row_for op f.src) f ≡ true
   pub numbers : NumbersFit (row_for op f.src) f
   pub range : IsInRange f
 
-checked_dst : (op : Operation) (f : Fields) → IsChecked op f → fits_register (row_for op f.src).dst f.dst ≡ true
+checked_dst : (op : OpcodeMeaning) (f : Fields) → IsChecked op f → fits_register (row_for op f.src).dst f.dst ≡ true
 checked_dst op f c = and_first (fits_register (row_for op f.src).dst f.dst) (fits_register (row_for op f.src).src f.src) c.registers
 
-checked_src : (op : Operation) (f : Fields) → IsChecked op f → fits_register (row_for op f.src).src f.src ≡ true
+checked_src : (op : OpcodeMeaning) (f : Fields) → IsChecked op f → fits_register (row_for op f.src).src f.src ≡ true
 checked_src op f c = and_second (fits_register (row_for op f.src).dst f.dst) (fits_register (row_for op f.src).src f.src) c.registers
 
 -- the register of a destination field, and of a source field
@@ -170,7 +170,7 @@ wide_numbers imm next h = (omega arith, omega arith)
 -- ---- the spelling
 
 -- the bytes that the fields and the next immediate are
-abbrev pub IsSpelled : Operation → Fields → ℕ → Type 0
+abbrev pub IsSpelled : OpcodeMeaning → Fields → ℕ → Type 0
 IsSpelled op f next = spelling (insn_from op f next) ≡ unit_of f ++ second_of op next
 
 wide_spelled : (f : Fields) (next src : ℕ) → 0x18 ≡ f.opcode → (reg_at f.dst).number ≡ f.dst → 0 ≡ f.offset → f.imm < 2 ^ 32 → src ≡ f.src
@@ -190,7 +190,7 @@ wide_spelled f next src opcode dst offset imm at (inr ring) =
     subst P (sym ring.0 ∙ at) map
 
 -- the next immediate is zero where the row says so
-abbrev pub NextFits : Operation → Fields → ℕ → Type 0
+abbrev pub NextFits : OpcodeMeaning → Fields → ℕ → Type 0
 NextFits Wide f next = (f.src ≡ 5) → next ≡ 0
 NextFits op f next = Unit {0}
 
@@ -213,7 +213,7 @@ wide_source f next h fits =
       | inr e ↦ let five = one f.src 5 e in inr (five, fits five)
     ]
 
-pub insn_from-spelled : (op : Operation) (f : Fields) (next : ℕ) → IsChecked op f → NextFits op f next → IsSpelled op f next
+pub insn_from-spelled : (op : OpcodeMeaning) (f : Fields) (next : ℕ) → IsChecked op f → NextFits op f next → IsSpelled op f next
 insn_from-spelled (Binary w op Immediate) f next c n =
     unit_eq _ _ _ _ _ _ _ _ _ _ c.opcode (dst_is f (checked_dst (Binary w op Immediate) f c)) (zero_is f.src c.numbers.src) (zero_is f.offset c.numbers.offset) (signed32-back f.imm c.range.imm)
 insn_from-spelled (Binary w op Register) f next c n =
@@ -268,11 +268,11 @@ either_units true x y n ex ey = ex
 either_units false x y n ex ey = ey
 
 -- how many units an operation takes
-abbrev pub units_for : Operation → ℕ
+abbrev pub units_for : OpcodeMeaning → ℕ
 units_for Wide = 2
 units_for op = 1
 
-pub insn_from-units : (op : Operation) (f : Fields) (next : ℕ) → units_taken (insn_from op f next) ≡ units_for op
+pub insn_from-units : (op : OpcodeMeaning) (f : Fields) (next : ℕ) → units_taken (insn_from op f next) ≡ units_for op
 insn_from-units (Move W32 Register) f next = either_units (eqb f.offset 8) _ _ 1 refl (either_units (eqb f.offset 16) _ _ 1 refl refl)
 insn_from-units (Move W64 Register) f next = either_units (eqb f.offset 8) _ _ 1 refl (either_units (eqb f.offset 16) _ _ 1 refl (either_units (eqb f.offset 32) _ _ 1 refl refl))
 insn_from-units (Move w Immediate) f next = refl
@@ -282,7 +282,7 @@ insn_from-units op f next = refl
 fitting : (i : Insn) → OffsetFits i → ImmFits i → FieldsFit i
 fitting i o m = record { offset = o; imm = m }
 
-pub insn_from-fits : (op : Operation) (f : Fields) (next : ℕ) → IsInRange f → next < 2 ^ 32 → FieldsFit (insn_from op f next)
+pub insn_from-fits : (op : OpcodeMeaning) (f : Fields) (next : ℕ) → IsInRange f → next < 2 ^ 32 → FieldsFit (insn_from op f next)
 insn_from-fits (Binary w op Immediate) f next range n = fitting _ tt (signed32-fits f.imm range.imm)
 insn_from-fits (Binary w op Register) f next range n = fitting _ tt tt
 insn_from-fits (Division w op Immediate) f next range n = fitting _ tt (signed32-fits f.imm range.imm)

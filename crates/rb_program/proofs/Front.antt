@@ -11,9 +11,9 @@ use Rattle.rb_insn.specs.Spelling.{second_unit, spelling, FieldsFit, Spells}
 use Rattle.rb_program.specs.declared.fields.Fields.{Fields}
 use Rattle.rb_program.specs.declared.fault.DecodeKind.{DecodeKind}
 use Rattle.rb_program.specs.declared.fault.DecodeKind.TheVariants.{BadOpcode, BadRegister, UnusedField, HalfWide}
-use Rattle.rb_program.specs.declared.operation.Operation.{Operation}
-use Rattle.rb_program.specs.declared.operation.Operation.TheVariants.{Binary, Division, Move, Branch, Wide}
-use Rattle.rb_program.specs.declared.operation.Source.TheVariants.{Immediate, Register}
+use Rattle.rb_program.specs.declared.opcode_meaning.OpcodeMeaning.{OpcodeMeaning}
+use Rattle.rb_program.specs.declared.opcode_meaning.OpcodeMeaning.TheVariants.{Binary, Division, Move, Branch, Wide}
+use Rattle.rb_program.specs.declared.opcode_meaning.Source.TheVariants.{Immediate, Register}
 use Rattle.rb_insn.specs.declared.insn.Width.TheVariants.{W32, W64}
 use Rattle.rb_program.specs.UnitFields.{fields_at, next_imm_at}
 use Rattle.rb_program.specs.OpcodeTable.{Row, wide_number_row, wide_map_row}
@@ -35,37 +35,37 @@ pub no_operation : (bytes : List ℕ) → IsBytes bytes → is_left_out (fields_
 no_operation bytes fits kept none = first_bad_opcode bytes kept (row_of-unlisted (fields_at bytes) (fits 0) none)
 
 -- what the decoder has found of the unit at the front
-pub record IsFound (op : Operation) (bytes : List ℕ) : Type 0 where
+pub record IsFound (op : OpcodeMeaning) (bytes : List ℕ) : Type 0 where
   pub bytes_fit : IsBytes bytes
   pub kept : is_left_out (fields_at bytes) ≡ false
   pub operation : operation_at (fields_at bytes).opcode ≡ Some op
 
-opcode_is : (op : Operation) (bytes : List ℕ) → IsFound op bytes → opcode_of op ≡ (fields_at bytes).opcode
+opcode_is : (op : OpcodeMeaning) (bytes : List ℕ) → IsFound op bytes → opcode_of op ≡ (fields_at bytes).opcode
 opcode_is op bytes found = operation_at-some (fields_at bytes).opcode op (found.bytes_fit 0) found.operation
 
-pub unnamed : (op : Operation) (bytes : List ℕ) → IsFound op bytes → is_named_by op (fields_at bytes) ≡ false → IsFirstKind BadOpcode bytes
+pub unnamed : (op : OpcodeMeaning) (bytes : List ℕ) → IsFound op bytes → is_named_by op (fields_at bytes) ≡ false → IsFirstKind BadOpcode bytes
 unnamed op bytes found h = first_bad_opcode bytes found.kept (row_of-unnamed op (fields_at bytes) (opcode_is op bytes found) h)
 
-abbrev row_at : Operation → List ℕ → Row
+abbrev row_at : OpcodeMeaning → List ℕ → Row
 row_at op bytes = row_for op (fields_at bytes).src
 
-in_row : (op : Operation) (bytes : List ℕ) → IsFound op bytes → is_named_by op (fields_at bytes) ≡ true → InRow (row_at op bytes) bytes
+in_row : (op : OpcodeMeaning) (bytes : List ℕ) → IsFound op bytes → is_named_by op (fields_at bytes) ≡ true → InRow (row_at op bytes) bytes
 in_row op bytes found named = record { kept = found.kept; row = row_of-named op (fields_at bytes) (opcode_is op bytes found) named }
 
 -- ---- the fields of the first unit
 
-pub register_above : (op : Operation) (bytes : List ℕ) → IsFound op bytes → is_named_by op (fields_at bytes) ≡ true
+pub register_above : (op : OpcodeMeaning) (bytes : List ℕ) → IsFound op bytes → is_named_by op (fields_at bytes) ≡ true
     → registers_fit (row_at op bytes) (fields_at bytes) ≡ false → IsFirstKind BadRegister bytes
 register_above op bytes found named h =
     first_bad_register (row_at op bytes) bytes (in_row op bytes found named) (has_bad_register (row_at op bytes) (fields_at bytes) h)
 
-pub number_unused : (op : Operation) (bytes : List ℕ) → IsFound op bytes → is_named_by op (fields_at bytes) ≡ true
+pub number_unused : (op : OpcodeMeaning) (bytes : List ℕ) → IsFound op bytes → is_named_by op (fields_at bytes) ≡ true
     → registers_fit (row_at op bytes) (fields_at bytes) ≡ true → numbers_fit (row_at op bytes) (fields_at bytes) ≡ false → IsFirstKind UnusedField bytes
 number_unused op bytes found named registers h =
     first_unused (row_at op bytes) bytes (in_row op bytes found named) (has_no_bad_register (row_at op bytes) (fields_at bytes) registers) (has_unused (row_at op bytes) bytes h)
 
 -- what it has found of its fields
-pub record IsKept (op : Operation) (bytes : List ℕ) : Type 0 where
+pub record IsKept (op : OpcodeMeaning) (bytes : List ℕ) : Type 0 where
   pub found : IsFound op bytes
   pub named : is_named_by op (fields_at bytes) ≡ true
   pub registers : registers_fit (row_at op bytes) (fields_at bytes) ≡ true
@@ -80,7 +80,7 @@ not_zero false h = refl
 refused_zero : (n : ℕ) → n ≢ 0 → IsNotAllowed zero_only n
 refused_zero n h = not_zero (eqb n 0) (λ e. h (eqb-true n 0 e))
 
-only_wide : (op : Operation) (src : ℕ) → is_some (row_for op src).next ≡ true → op ≡ Wide
+only_wide : (op : OpcodeMeaning) (src : ℕ) → is_some (row_for op src).next ≡ true → op ≡ Wide
 only_wide Wide src h = refl
 only_wide (Binary w op Immediate) src h = absurd cc
 only_wide (Binary w op Register) src h = absurd cc
@@ -97,9 +97,9 @@ wide_next : (b : Bool) → is_some (cond b wide_number_row wide_map_row).next �
 wide_next true = refl
 wide_next false = refl
 
-only_narrow : (op : Operation) (src : ℕ) → is_some (row_for op src).next ≡ false → op ≡ Wide → ⊥
+only_narrow : (op : OpcodeMeaning) (src : ℕ) → is_some (row_for op src).next ≡ false → op ≡ Wide → ⊥
 only_narrow op src h e =
-    let wide : is_some (row_for Wide src).next ≡ false = ap (λ (o : Operation). is_some (row_for o src).next) (sym e) ∙ h in
+    let wide : is_some (row_for Wide src).next ≡ false = ap (λ (o : OpcodeMeaning). is_some (row_for o src).next) (sym e) ∙ h in
     let next = wide_next (eqb src 0) in
     absurd cc
 
@@ -168,11 +168,11 @@ good_second false bytes src next e second (inr bad) =
     ]
 
 -- a fault of the second unit is the first one
-pub second_fault : (op : Operation) (bytes : List ℕ) (kind : DecodeKind) → IsKept op bytes → is_some (row_at op bytes).next ≡ true
+pub second_fault : (op : OpcodeMeaning) (bytes : List ℕ) (kind : DecodeKind) → IsKept op bytes → is_some (row_at op bytes).next ≡ true
     → IsSecondFault bytes (fields_at bytes).src kind → IsFirstKind kind bytes
 second_fault op bytes UnusedField keeps wide bad =
     let src = (fields_at bytes).src in
-    let P : Operation → Type 0 = λ o. IsSomeAnd (row_for o src).next (λ next. HasBadSecondUnit next bytes) in
+    let P : OpcodeMeaning → Type 0 = λ o. IsSomeAnd (row_for o src).next (λ next. HasBadSecondUnit next bytes) in
     let second : P op = subst P (sym (only_wide op src wide)) (bad_second (eqb src 0) bytes src refl bad.1) in
     first_unused (row_at op bytes) bytes (in_row op bytes keeps.found keeps.named) (has_no_bad_register (row_at op bytes) (fields_at bytes) keeps.registers) (inr (inr (inr (inr (bad.0, second)))))
 second_fault op bytes HalfWide keeps wide short =
@@ -191,7 +191,7 @@ in_range bytes fits = record {
 next_range : (bytes : List ℕ) → IsBytes bytes → next_imm_at bytes < 2 ^ 32
 next_range bytes fits = little_from-lt 0 4 (drop 12 bytes) (λ i. rw get_or-drop (fits (12 + i)))
 
-is_checked : (op : Operation) (bytes : List ℕ) → IsKept op bytes → IsChecked op (fields_at bytes)
+is_checked : (op : OpcodeMeaning) (bytes : List ℕ) → IsKept op bytes → IsChecked op (fields_at bytes)
 is_checked op bytes keeps = record {
   opcode = opcode_is op bytes keeps.found;
   named = keeps.named;
@@ -200,15 +200,15 @@ is_checked op bytes keeps = record {
   range = in_range bytes keeps.found.bytes_fit;
 }
 
-units_for-narrow : (op : Operation) → (op ≡ Wide → ⊥) → units_for op ≡ 1
+units_for-narrow : (op : OpcodeMeaning) → (op ≡ Wide → ⊥) → units_for op ≡ 1
 units_for-narrow Wide h = absurd (h refl)
 units_for-narrow op h = refl
 
-second_of-narrow : (op : Operation) → (op ≡ Wide → ⊥) → second_of op 0 ≡ []
+second_of-narrow : (op : OpcodeMeaning) → (op ≡ Wide → ⊥) → second_of op 0 ≡ []
 second_of-narrow Wide h = absurd (h refl)
 second_of-narrow op h = refl
 
-next_fits-zero : (op : Operation) (f : Fields) → NextFits op f 0
+next_fits-zero : (op : OpcodeMeaning) (f : Fields) → NextFits op f 0
 next_fits-zero Wide f = λ e. refl
 next_fits-zero op f = tt
 
@@ -220,7 +220,7 @@ spelled insn units bytes fits taken e = record {
 }
 
 -- a narrow instruction
-pub narrow_spelled : (op : Operation) (bytes : List ℕ) → IsKept op bytes → is_some (row_at op bytes).next ≡ false → 8 ≤ length bytes
+pub narrow_spelled : (op : OpcodeMeaning) (bytes : List ℕ) → IsKept op bytes → is_some (row_at op bytes).next ≡ false → 8 ≤ length bytes
     → Spells (insn_from op (fields_at bytes) 0) (take (8 * units_taken (insn_from op (fields_at bytes) 0)) bytes)
 narrow_spelled op bytes keeps narrow len =
     let f = fields_at bytes in
@@ -267,10 +267,10 @@ spelled_wide bytes next keeps second =
     spelled (insn_from Wide f next) 2 bytes (insn_from-fits Wide f next (in_range bytes fits) (rw read range)) (insn_from-units Wide f next) bytes_are
 
 -- a wide instruction
-pub wide_spelled : (op : Operation) (bytes : List ℕ) (next : ℕ) → IsKept op bytes → is_some (row_at op bytes).next ≡ true → IsSecondUnit bytes (fields_at bytes).src next
+pub wide_spelled : (op : OpcodeMeaning) (bytes : List ℕ) (next : ℕ) → IsKept op bytes → is_some (row_at op bytes).next ≡ true → IsSecondUnit bytes (fields_at bytes).src next
     → Spells (insn_from op (fields_at bytes) next) (take (8 * units_taken (insn_from op (fields_at bytes) next)) bytes)
 wide_spelled op bytes next keeps wide second =
-    let P : Operation → Type 0 = λ o. IsKept o bytes → Spells (insn_from o (fields_at bytes) next) (take (8 * units_taken (insn_from o (fields_at bytes) next)) bytes) in
+    let P : OpcodeMeaning → Type 0 = λ o. IsKept o bytes → Spells (insn_from o (fields_at bytes) next) (take (8 * units_taken (insn_from o (fields_at bytes) next)) bytes) in
     subst P (sym (only_wide op (fields_at bytes).src wide)) (λ k. spelled_wide bytes next k second) keeps
 
 -- ---- what the calls of the step answered, at the bytes
@@ -279,7 +279,7 @@ wide_spelled op bytes next keeps wide second =
 pub told : {A : Type 0} (g : Fields → A) (f : Fields) (bytes : List ℕ) (answer value : A) → f ≡ fields_at bytes → answer ≡ g f → answer ≡ value → g (fields_at bytes) ≡ value
 told g f bytes answer value at answered is = ap g (sym at) ∙ sym answered ∙ is
 
-pub found : (op : Operation) (f : Fields) (bytes : List ℕ) (out : Bool) (answer : Option Operation) → f ≡ fields_at bytes → IsBytes bytes
+pub found : (op : OpcodeMeaning) (f : Fields) (bytes : List ℕ) (out : Bool) (answer : Option OpcodeMeaning) → f ≡ fields_at bytes → IsBytes bytes
     → out ≡ is_left_out f → out ≡ false → answer ≡ operation_at f.opcode → answer ≡ Some op → IsFound op bytes
 found op f bytes out answer at fits left kept answered is = record {
   bytes_fit = fits;
@@ -287,7 +287,7 @@ found op f bytes out answer at fits left kept answered is = record {
   operation = told (λ g. operation_at g.opcode) f bytes answer (Some op) at answered is;
 }
 
-pub keeps : (op : Operation) (f : Fields) (bytes : List ℕ) (named registers numbers : Bool) → f ≡ fields_at bytes → IsFound op bytes
+pub keeps : (op : OpcodeMeaning) (f : Fields) (bytes : List ℕ) (named registers numbers : Bool) → f ≡ fields_at bytes → IsFound op bytes
     → named ≡ is_named_by op f → named ≡ true → registers ≡ registers_fit (row_for op f.src) f → registers ≡ true → numbers ≡ numbers_fit (row_for op f.src) f → numbers ≡ true
     → IsKept op bytes
 keeps op f bytes named registers numbers at is_found n nt r rt m mt = record {

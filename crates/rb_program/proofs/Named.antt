@@ -16,10 +16,10 @@ use Rattle.rb_insn.specs.declared.insn.Size.TheVariants as sizes
 use Rattle.rb_insn.specs.declared.insn.SignedSize.{SignedSize}
 use Rattle.rb_insn.specs.declared.insn.SignedSize.TheVariants as signed_sizes
 use Rattle.rb_program.specs.declared.fields.Fields.{Fields}
-use Rattle.rb_program.specs.declared.operation.Source.{Source}
-use Rattle.rb_program.specs.declared.operation.Source.TheVariants.{Immediate, Register}
-use Rattle.rb_program.specs.declared.operation.Operation.{Operation}
-use Rattle.rb_program.specs.declared.operation.Operation.TheVariants.{Binary, Division, Negate, Move, Reorder, Branch, Jump, JumpFar, Call, Exit, Wide, Load, LoadSigned, StoreImmediate, StoreRegister}
+use Rattle.rb_program.specs.declared.opcode_meaning.Source.{Source}
+use Rattle.rb_program.specs.declared.opcode_meaning.Source.TheVariants.{Immediate, Register}
+use Rattle.rb_program.specs.declared.opcode_meaning.OpcodeMeaning.{OpcodeMeaning}
+use Rattle.rb_program.specs.declared.opcode_meaning.OpcodeMeaning.TheVariants.{Binary, Division, Negate, Move, Reorder, Branch, Jump, JumpFar, Call, Exit, Wide, Load, LoadSigned, StoreImmediate, StoreRegister}
 use Rattle.rb_program.specs.OpcodeTable.{Row, one_of, row_of, byte_swap_row, call_row, wide_number_row, wide_map_row}
 use Rattle.rb_program.specs.DecodeFaults.{is_left_out}
 use Rattle.rb_program.specs.inner.FieldChecks.{is_named_by, row_for}
@@ -30,7 +30,7 @@ fields opcode dst src offset imm = record { opcode = opcode; dst = dst; src = sr
 
 -- ---- the row, by the opcode alone
 
-abbrev HasRow : Operation → Type 0
+abbrev HasRow : OpcodeMeaning → Type 0
 HasRow op = (d s o i : ℕ) → row_of (fields (opcode_of op) d s o i) ≡ Some (row_for op s)
 
 binary : (w : Width) (op : BinaryOp) (source : Source) → HasRow (Binary w op source)
@@ -122,7 +122,7 @@ left_of_two true b r s h = absurd cc
 left_of_two false true r s h = absurd cc
 left_of_two false false r s h = refl
 
-named : (op : Operation) (d s o i : ℕ) → is_named_by op (fields (opcode_of op) d s o i) ≡ true → row_of (fields (opcode_of op) d s o i) ≡ Some (row_for op s)
+named : (op : OpcodeMeaning) (d s o i : ℕ) → is_named_by op (fields (opcode_of op) d s o i) ≡ true → row_of (fields (opcode_of op) d s o i) ≡ Some (row_for op s)
 named (Binary w op source) d s o i h = binary w op source d s o i
 named (Division w op source) d s o i h = division w op source d s o i
 named (Negate w) d s o i h = negate w d s o i
@@ -139,7 +139,7 @@ named (LoadSigned size) d s o i h = load_signed size d s o i
 named (StoreImmediate size) d s o i h = store_immediate size d s o i
 named (StoreRegister size) d s o i h = store_register size d s o i
 
-unnamed : (op : Operation) (d s o i : ℕ) → is_named_by op (fields (opcode_of op) d s o i) ≡ false → row_of (fields (opcode_of op) d s o i) ≡ None
+unnamed : (op : OpcodeMeaning) (d s o i : ℕ) → is_named_by op (fields (opcode_of op) d s o i) ≡ false → row_of (fields (opcode_of op) d s o i) ≡ None
 unnamed (Reorder order) d s o i h = reorder order d s o i ∙ left (one_of (16 ∷ 32 ∷ 64 ∷ []) i) byte_swap_row h
 unnamed Call d s o i h = calls d s o i ∙ left_and (one_of (0 ∷ []) s) call_row h
 unnamed Wide d s o i h = wide d s o i ∙ left_of_two (eqb s 0) (eqb s 5) wide_number_row wide_map_row h
@@ -151,18 +151,18 @@ abbrev at : Fields → ℕ → Fields
 at f opcode = fields opcode f.dst f.src f.offset f.imm
 
 -- a unit that an operation names is in the operation's row
-pub row_of-named : (op : Operation) (f : Fields) → opcode_of op ≡ f.opcode → is_named_by op f ≡ true → row_of f ≡ Some (row_for op f.src)
+pub row_of-named : (op : OpcodeMeaning) (f : Fields) → opcode_of op ≡ f.opcode → is_named_by op f ≡ true → row_of f ≡ Some (row_for op f.src)
 row_of-named op f e h =
     ap (λ (n : ℕ). row_of (at f n)) (sym e) ∙ named op f.dst f.src f.offset f.imm (ap (λ (n : ℕ). is_named_by op (at f n)) e ∙ h)
 
 -- and with other numbers it is in no row
-pub row_of-unnamed : (op : Operation) (f : Fields) → opcode_of op ≡ f.opcode → is_named_by op f ≡ false → row_of f ≡ None
+pub row_of-unnamed : (op : OpcodeMeaning) (f : Fields) → opcode_of op ≡ f.opcode → is_named_by op f ≡ false → row_of f ≡ None
 row_of-unnamed op f e h =
     ap (λ (n : ℕ). row_of (at f n)) (sym e) ∙ unnamed op f.dst f.src f.offset f.imm (ap (λ (n : ℕ). is_named_by op (at f n)) e ∙ h)
 
 -- ---- what is left out
 
-abbrev IsKept : Operation → Type 0
+abbrev IsKept : OpcodeMeaning → Type 0
 IsKept op = (d s o i : ℕ) → is_left_out (fields (opcode_of op) d s o i) ≡ false
 
 kept_binary : (w : Width) (op : BinaryOp) (source : Source) → IsKept (Binary w op source)
@@ -241,7 +241,7 @@ kept_wide d s o i h =
       | inr e ↦ subst P (sym (eqb-true s 5 e)) refl
     ]
 
-kept : (op : Operation) (d s o i : ℕ) → is_named_by op (fields (opcode_of op) d s o i) ≡ true → is_left_out (fields (opcode_of op) d s o i) ≡ false
+kept : (op : OpcodeMeaning) (d s o i : ℕ) → is_named_by op (fields (opcode_of op) d s o i) ≡ true → is_left_out (fields (opcode_of op) d s o i) ≡ false
 kept (Binary w op source) d s o i h = kept_binary w op source d s o i
 kept (Division w op source) d s o i h = kept_division w op source d s o i
 kept (Negate w) d s o i h = kept_negate w d s o i
@@ -259,6 +259,6 @@ kept (StoreImmediate size) d s o i h = kept_store_immediate size d s o i
 kept (StoreRegister size) d s o i h = kept_store_register size d s o i
 
 -- a unit that an operation names is not left out
-pub not_left_out : (op : Operation) (f : Fields) → opcode_of op ≡ f.opcode → is_named_by op f ≡ true → is_left_out f ≡ false
+pub not_left_out : (op : OpcodeMeaning) (f : Fields) → opcode_of op ≡ f.opcode → is_named_by op f ≡ true → is_left_out f ≡ false
 not_left_out op f e h =
     ap (λ (n : ℕ). is_left_out (at f n)) (sym e) ∙ kept op f.dst f.src f.offset f.imm (ap (λ (n : ℕ). is_named_by op (at f n)) e ∙ h)

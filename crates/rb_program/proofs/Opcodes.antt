@@ -3,10 +3,10 @@ use Rattle.std.proofs.Common.{◌≡◌, ℕ, zero, suc, ◌<◌, inl, inr, Bool
 use Rattle.std.specs.Option.{option_map}
 use Rattle.std.proofs.lemmas.Bool.{cases_lt}
 use Rattle.rb_insn.specs.Opcodes.{ld, ldx, st, stx, jmp, jmp32, source_k, source_x, operation_opcode, imm_mode, mem_mode, memsx_mode, access_opcode, alu_class, jump_class, binary_code, division_code, neg_code, mov_code, condition_code, ja_code, call_code, exit_code, double_code, size_code, signed_size_code, reorder_opcode}
-use Rattle.rb_program.specs.declared.operation.Source.{Source}
-use Rattle.rb_program.specs.declared.operation.Source.TheVariants.{Immediate, Register}
-use Rattle.rb_program.specs.declared.operation.Operation.{Operation}
-use Rattle.rb_program.specs.declared.operation.Operation.TheVariants.{Binary, Division, Negate, Move, Reorder, Branch, Jump, JumpFar, Call, Exit, Wide, Load, LoadSigned, StoreImmediate, StoreRegister}
+use Rattle.rb_program.specs.declared.opcode_meaning.Source.{Source}
+use Rattle.rb_program.specs.declared.opcode_meaning.Source.TheVariants.{Immediate, Register}
+use Rattle.rb_program.specs.declared.opcode_meaning.OpcodeMeaning.{OpcodeMeaning}
+use Rattle.rb_program.specs.declared.opcode_meaning.OpcodeMeaning.TheVariants.{Binary, Division, Negate, Move, Reorder, Branch, Jump, JumpFar, Call, Exit, Wide, Load, LoadSigned, StoreImmediate, StoreRegister}
 use Rattle.rb_program.specs.inner.Operations.{operation_at}
 use Rattle.rb_program.specs.declared.fields.Fields.{Fields}
 use Rattle.rb_program.specs.OpcodeTable.{Row, opcode_table, one_of, find_row, row_of}
@@ -15,7 +15,7 @@ abbrev pub source_bit : Source → ℕ
 source_bit Immediate = source_k
 source_bit Register = source_x
 
-abbrev pub opcode_of : Operation → ℕ
+abbrev pub opcode_of : OpcodeMeaning → ℕ
 opcode_of (Binary width op source) = operation_opcode (binary_code op) (source_bit source) (alu_class width)
 opcode_of (Division width op source) = operation_opcode (division_code op) (source_bit source) (alu_class width)
 opcode_of (Negate width) = operation_opcode neg_code source_k (alu_class width)
@@ -68,7 +68,7 @@ every_opcode = refl
 found-listed : (n : ℕ) → n < 256 → found n ≡ listed n
 found-listed n h = agree_below found listed 256 n every_opcode h
 
-from_listed : (op : Operation) (n : ℕ) (b : Bool) → Some (opcode_of op) ≡ cond b (Some n) None → opcode_of op ≡ n
+from_listed : (op : OpcodeMeaning) (n : ℕ) (b : Bool) → Some (opcode_of op) ≡ cond b (Some n) None → opcode_of op ≡ n
 from_listed op n true e = cc
 from_listed op n false e = absurd cc
 
@@ -77,7 +77,7 @@ from_unlisted n true e = absurd cc
 from_unlisted n false e = refl
 
 -- an operation is found for its opcode alone
-pub operation_at-some : (n : ℕ) (op : Operation) → n < 256 → operation_at n ≡ Some op → opcode_of op ≡ n
+pub operation_at-some : (n : ℕ) (op : OpcodeMeaning) → n < 256 → operation_at n ≡ Some op → opcode_of op ≡ n
 operation_at-some n op h e = from_listed op n (lists opcode_table n) (ap (option_map opcode_of) (sym e) ∙ found-listed n h)
 
 -- and where none is found no row has the opcode

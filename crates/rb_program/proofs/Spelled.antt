@@ -17,9 +17,9 @@ use Rattle.rb_insn.specs.Spelling.{unit, second_unit, bits16, bits32, spelling, 
 use Rattle.rb_insn.proofs.Units as spelled
 use Rattle.rb_insn.proofs.Units.{bits16-bound, bits32-bound, next-second_unit}
 use Rattle.rb_program.specs.declared.fields.Fields.{Fields}
-use Rattle.rb_program.specs.declared.operation.Source.TheVariants.{Immediate, Register}
-use Rattle.rb_program.specs.declared.operation.Operation.{Operation}
-use Rattle.rb_program.specs.declared.operation.Operation.TheVariants.{Binary, Division, Negate, Move, Reorder, Branch, Jump, JumpFar, Call, Exit, Wide, Load, LoadSigned, StoreImmediate, StoreRegister}
+use Rattle.rb_program.specs.declared.opcode_meaning.Source.TheVariants.{Immediate, Register}
+use Rattle.rb_program.specs.declared.opcode_meaning.OpcodeMeaning.{OpcodeMeaning}
+use Rattle.rb_program.specs.declared.opcode_meaning.OpcodeMeaning.TheVariants.{Binary, Division, Negate, Move, Reorder, Branch, Jump, JumpFar, Call, Exit, Wide, Load, LoadSigned, StoreImmediate, StoreRegister}
 use Rattle.rb_program.specs.declared.fault.DecodeKind.{DecodeKind}
 use Rattle.rb_program.specs.UnitFields.{fields_at, next_imm_at}
 use Rattle.rb_program.specs.OpcodeTable.{any, one_of, row_of}
@@ -32,7 +32,7 @@ use Rattle.rb_program.proofs.FirstKinds.{InRow, SecondFits, has_no_bad_register,
 
 -- ---- the operation and the fields of an instruction
 
-abbrev op_of : Insn → Operation
+abbrev op_of : Insn → OpcodeMeaning
 op_of (insns.Binary w op dst (operands.Immediate v)) = Binary w op Immediate
 op_of (insns.Binary w op dst (operands.Register src)) = Binary w op Register
 op_of (insns.Division w op sign dst (operands.Immediate v)) = Division w op Immediate
@@ -57,7 +57,7 @@ op_of (insns.StoreImmediate size base offset value) = StoreImmediate size
 op_of (insns.StoreRegister size base offset src) = StoreRegister size
 
 -- the fields behind the opcode: destination, source, offset, immediate
-abbrev four : Operation → ℕ → ℕ → ℕ → ℕ → Fields
+abbrev four : OpcodeMeaning → ℕ → ℕ → ℕ → ℕ → Fields
 four op d s o i = fields (opcode_of op) d s o i
 
 abbrev fields_of : Insn → Fields

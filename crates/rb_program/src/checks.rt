@@ -22,18 +22,18 @@ ghost use Rattle.rb_program.specs.inner.FieldChecks.{
 };
 
 use crate::fields::Fields;
-use crate::operation::{Operation, Source};
+use crate::opcode_meaning::{OpcodeMeaning, Source};
 use rb_insn::{Extend32, Extend64, Insn, Operand, Reg, Signedness, SwapWidth, Width};
 
-impl Operation {
+impl OpcodeMeaning {
     /// Whether the source field and the immediate name an instruction, where the opcode alone does not.
     pub(crate) fn is_named_by(self, fields: &Fields) -> bool
         ensures { result ≡ is_named_by self fields.now }
     {
         match self {
-            Operation::Reorder(_) => fields.imm == 16 || fields.imm == 32 || fields.imm == 64,
-            Operation::Call => fields.src == 0,
-            Operation::Wide => fields.src == 0 || fields.src == 5,
+            OpcodeMeaning::Reorder(_) => fields.imm == 16 || fields.imm == 32 || fields.imm == 64,
+            OpcodeMeaning::Call => fields.src == 0,
+            OpcodeMeaning::Wide => fields.src == 0 || fields.src == 5,
             _ => true,
         }
     }
@@ -43,7 +43,10 @@ impl Operation {
         ensures { (src : ℕ) → result ≡ is_register (row_for self src).dst }
     {
         match self {
-            Operation::Jump | Operation::JumpFar | Operation::Call | Operation::Exit => false,
+            OpcodeMeaning::Jump
+            | OpcodeMeaning::JumpFar
+            | OpcodeMeaning::Call
+            | OpcodeMeaning::Exit => false,
             _ => true,
         }
     }
@@ -53,14 +56,16 @@ impl Operation {
         ensures { (src : ℕ) → result ≡ is_register (row_for self src).src }
     {
         match self {
-            Operation::Binary(_, _, source)
-            | Operation::Division(_, _, source)
-            | Operation::Move(_, source)
-            | Operation::Branch(_, _, source) => match source {
+            OpcodeMeaning::Binary(_, _, source)
+            | OpcodeMeaning::Division(_, _, source)
+            | OpcodeMeaning::Move(_, source)
+            | OpcodeMeaning::Branch(_, _, source) => match source {
                 Source::Immediate => false,
                 Source::Register => true,
             },
-            Operation::Load(_) | Operation::LoadSigned(_) | Operation::StoreRegister(_) => true,
+            OpcodeMeaning::Load(_)
+            | OpcodeMeaning::LoadSigned(_)
+            | OpcodeMeaning::StoreRegister(_) => true,
             _ => false,
         }
     }
@@ -77,19 +82,19 @@ impl Operation {
         ensures { (src : ℕ) → result ≡ fits_unused (row_for self src).offset offset }
     {
         match self {
-            Operation::Division(_, _, _) => offset == 0 || offset == 1,
-            Operation::Move(Width::W32, Source::Register) => offset == 0
+            OpcodeMeaning::Division(_, _, _) => offset == 0 || offset == 1,
+            OpcodeMeaning::Move(Width::W32, Source::Register) => offset == 0
                 || offset == 8
                 || offset == 16,
-            Operation::Move(Width::W64, Source::Register) => {
+            OpcodeMeaning::Move(Width::W64, Source::Register) => {
                 offset == 0 || offset == 8 || offset == 16 || offset == 32
             }
-            Operation::Branch(_, _, _)
-            | Operation::Jump
-            | Operation::Load(_)
-            | Operation::LoadSigned(_)
-            | Operation::StoreImmediate(_)
-            | Operation::StoreRegister(_) => true,
+            OpcodeMeaning::Branch(_, _, _)
+            | OpcodeMeaning::Jump
+            | OpcodeMeaning::Load(_)
+            | OpcodeMeaning::LoadSigned(_)
+            | OpcodeMeaning::StoreImmediate(_)
+            | OpcodeMeaning::StoreRegister(_) => true,
             _ => offset == 0,
         }
     }
@@ -99,18 +104,18 @@ impl Operation {
         ensures { (src : ℕ) (imm : ℕ) → fits_unused (row_for self src).imm imm ≡ (result || (imm == 0)) }
     {
         match self {
-            Operation::Binary(_, _, source)
-            | Operation::Division(_, _, source)
-            | Operation::Move(_, source)
-            | Operation::Branch(_, _, source) => match source {
+            OpcodeMeaning::Binary(_, _, source)
+            | OpcodeMeaning::Division(_, _, source)
+            | OpcodeMeaning::Move(_, source)
+            | OpcodeMeaning::Branch(_, _, source) => match source {
                 Source::Immediate => true,
                 Source::Register => false,
             },
-            Operation::Reorder(_)
-            | Operation::JumpFar
-            | Operation::Call
-            | Operation::Wide
-            | Operation::StoreImmediate(_) => true,
+            OpcodeMeaning::Reorder(_)
+            | OpcodeMeaning::JumpFar
+            | OpcodeMeaning::Call
+            | OpcodeMeaning::Wide
+            | OpcodeMeaning::StoreImmediate(_) => true,
             _ => false,
         }
     }
@@ -131,7 +136,7 @@ impl Operation {
         ensures { (src : ℕ) → result ≡ is_some (row_for self src).next }
     {
         match self {
-            Operation::Wide => true,
+            OpcodeMeaning::Wide => true,
             _ => false,
         }
     }
@@ -142,21 +147,21 @@ impl Operation {
         ensures { result ≡ insn_from self fields.now next_imm }
     {
         match self {
-            Operation::Binary(_, _, _)
-            | Operation::Division(_, _, _)
-            | Operation::Negate(_)
-            | Operation::Move(_, _)
-            | Operation::Reorder(_) => self.arithmetic_insn(fields),
-            Operation::Branch(_, _, _)
-            | Operation::Jump
-            | Operation::JumpFar
-            | Operation::Call
-            | Operation::Exit => self.jump_insn(fields),
-            Operation::Wide => wide(fields, next_imm),
-            Operation::Load(_)
-            | Operation::LoadSigned(_)
-            | Operation::StoreImmediate(_)
-            | Operation::StoreRegister(_) => self.access_insn(fields),
+            OpcodeMeaning::Binary(_, _, _)
+            | OpcodeMeaning::Division(_, _, _)
+            | OpcodeMeaning::Negate(_)
+            | OpcodeMeaning::Move(_, _)
+            | OpcodeMeaning::Reorder(_) => self.arithmetic_insn(fields),
+            OpcodeMeaning::Branch(_, _, _)
+            | OpcodeMeaning::Jump
+            | OpcodeMeaning::JumpFar
+            | OpcodeMeaning::Call
+            | OpcodeMeaning::Exit => self.jump_insn(fields),
+            OpcodeMeaning::Wide => wide(fields, next_imm),
+            OpcodeMeaning::Load(_)
+            | OpcodeMeaning::LoadSigned(_)
+            | OpcodeMeaning::StoreImmediate(_)
+            | OpcodeMeaning::StoreRegister(_) => self.access_insn(fields),
         }
     }
 
@@ -167,31 +172,31 @@ impl Operation {
         ensures { (next : ℕ) → result ≡ insn_from self fields.now next }
     {
         match self {
-            Operation::Binary(width, op, source) => Insn::Binary {
+            OpcodeMeaning::Binary(width, op, source) => Insn::Binary {
                 width,
                 op,
                 dst: register(fields.dst),
                 operand: operand(source, fields),
             },
-            Operation::Division(width, op, source) => Insn::Division {
+            OpcodeMeaning::Division(width, op, source) => Insn::Division {
                 width,
                 op,
                 sign: sign(fields.offset),
                 dst: register(fields.dst),
                 operand: operand(source, fields),
             },
-            Operation::Negate(width) => Insn::Negate {
+            OpcodeMeaning::Negate(width) => Insn::Negate {
                 width,
                 dst: register(fields.dst),
             },
-            Operation::Move(width, Source::Immediate) => Insn::Move {
+            OpcodeMeaning::Move(width, Source::Immediate) => Insn::Move {
                 width,
                 dst: register(fields.dst),
                 operand: operand(Source::Immediate, fields),
             },
-            Operation::Move(Width::W32, Source::Register) => move32(fields),
-            Operation::Move(Width::W64, Source::Register) => move64(fields),
-            Operation::Reorder(order) => Insn::Reorder {
+            OpcodeMeaning::Move(Width::W32, Source::Register) => move32(fields),
+            OpcodeMeaning::Move(Width::W64, Source::Register) => move64(fields),
+            OpcodeMeaning::Reorder(order) => Insn::Reorder {
                 order,
                 width: swap_width(fields.imm),
                 dst: register(fields.dst),
@@ -207,21 +212,21 @@ impl Operation {
         ensures { (next : ℕ) → result ≡ insn_from self fields.now next }
     {
         match self {
-            Operation::Branch(width, condition, source) => Insn::Branch {
+            OpcodeMeaning::Branch(width, condition, source) => Insn::Branch {
                 width,
                 condition,
                 dst: register(fields.dst),
                 operand: operand(source, fields),
                 distance: fields.offset.cast_signed(),
             },
-            Operation::Jump => Insn::Jump {
+            OpcodeMeaning::Jump => Insn::Jump {
                 distance: fields.offset.cast_signed(),
             },
-            Operation::JumpFar => Insn::JumpFar {
+            OpcodeMeaning::JumpFar => Insn::JumpFar {
                 distance: fields.imm.cast_signed(),
             },
-            Operation::Call => Insn::Call { helper: fields.imm },
-            Operation::Exit => Insn::Exit,
+            OpcodeMeaning::Call => Insn::Call { helper: fields.imm },
+            OpcodeMeaning::Exit => Insn::Exit,
             _ => unreachable!(),
         }
     }
@@ -233,25 +238,25 @@ impl Operation {
         ensures { (next : ℕ) → result ≡ insn_from self fields.now next }
     {
         match self {
-            Operation::Load(size) => Insn::Load {
+            OpcodeMeaning::Load(size) => Insn::Load {
                 size,
                 dst: register(fields.dst),
                 base: register(fields.src),
                 offset: fields.offset.cast_signed(),
             },
-            Operation::LoadSigned(size) => Insn::LoadSigned {
+            OpcodeMeaning::LoadSigned(size) => Insn::LoadSigned {
                 size,
                 dst: register(fields.dst),
                 base: register(fields.src),
                 offset: fields.offset.cast_signed(),
             },
-            Operation::StoreImmediate(size) => Insn::StoreImmediate {
+            OpcodeMeaning::StoreImmediate(size) => Insn::StoreImmediate {
                 size,
                 base: register(fields.dst),
                 offset: fields.offset.cast_signed(),
                 value: fields.imm.cast_signed(),
             },
-            Operation::StoreRegister(size) => Insn::StoreRegister {
+            OpcodeMeaning::StoreRegister(size) => Insn::StoreRegister {
                 size,
                 base: register(fields.dst),
                 offset: fields.offset.cast_signed(),

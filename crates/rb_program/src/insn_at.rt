@@ -8,7 +8,7 @@ ghost use Rattle.rb_program.specs.inner.SecondUnit.{has_zeros as has_zeros_at, I
 
 use crate::fault::DecodeKind;
 use crate::fields::{Fields, read_fields, read_next_imm};
-use crate::operation::Operation;
+use crate::opcode_meaning::OpcodeMeaning;
 use rb_insn::Insn;
 
 /// Whether the unit is an instruction that this project leaves out.
@@ -58,7 +58,7 @@ pub(crate) fn insn_at(bytes: &[u8]) -> Result<Insn, DecodeKind>
     if is_left_out(&fields) {
         return Err(DecodeKind::LeftOut);
     }
-    let Some(operation) = Operation::of(fields.opcode) else {
+    let Some(operation) = OpcodeMeaning::of(fields.opcode) else {
         return Err(DecodeKind::BadOpcode);
     };
     if !operation.is_named_by(&fields) {

@@ -15,7 +15,7 @@ mod edges;
 mod fault;
 mod fields;
 mod insn_at;
-mod operation;
+mod opcode_meaning;
 mod program;
 mod reach;
 mod shape_check;

@@ -4,7 +4,7 @@ use crate::answers::{tell_entries, tell_handed_out, tell_numbers, tell_tally};
 use crate::row::Row;
 use crate::script::{Script, WRONG_WORDS, keep, narrow};
 use crate::text::Text;
-use rb_chapter_ring::{Chapter, Opening, UntakenRecord, UntakenStatus};
+use rb_chapter_ring::{Chapter, Standing, UntakenRecord, UntakenStatus};
 use rb_consumer::Keeper;
 
 /// The verbs of rows on chapters.
@@ -148,7 +148,7 @@ fn tell_state(chapter: &Chapter, out: &mut Text) {
 }
 
 // What a chapter begins with, or stands for at its end.
-fn tell_opening(opening: &Opening, out: &mut Text) {
+fn tell_opening(opening: &Standing, out: &mut Text) {
     let numbers = opening.numbers();
     out.field("size", numbers.size);
     out.field("start", numbers.start);

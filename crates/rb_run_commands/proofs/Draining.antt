@@ -12,7 +12,7 @@ use Rattle.rb_ledger.specs.ChapterSeats.{ChapterConsumerSeat}
 use Rattle.rb_ledger.specs.EntryRoom.{InRoom}
 use Rattle.rb_ledger.proofs.EntryRoom.{called-as}
 use Rattle.rb_shared_ring.specs.SharedCalls.{Audits}
-use Rattle.rb_run_commands.specs.DrainedRings.{TakesNone, TakesRecord, TakesEach, DrainsRing, DrainsRings}
+use Rattle.rb_run_commands.specs.DrainedRings.{TakesNone, TakesRecord, TakesRecords, DrainsRing, DrainsRings}
 
 -- ---- records
 
@@ -35,12 +35,12 @@ none_on a b c first second = record {
 }
 
 -- then none was taken
-pub each_then_none : (start : ChapterConsumerSeat) (records : List Taken) (now next : ChapterConsumerSeat) → TakesEach start records now → TakesNone now next → TakesEach start records next
+pub each_then_none : (start : ChapterConsumerSeat) (records : List Taken) (now next : ChapterConsumerSeat) → TakesRecords start records now → TakesNone now next → TakesRecords start records next
 each_then_none start [] now next each none = none_on start now next each none
 each_then_none start (taken ∷ more) now next each none = (each.0, each.1, each.2, each.3, each_then_none each.1 more now next each.4 none)
 
 -- then one more was taken
-pub each_then_one : (start : ChapterConsumerSeat) (records : List Taken) (now next : ChapterConsumerSeat) (taken : Taken) → TakesEach start records now → TakesRecord now taken next → TakesEach start (records ++ taken ∷ []) next
+pub each_then_one : (start : ChapterConsumerSeat) (records : List Taken) (now next : ChapterConsumerSeat) (taken : Taken) → TakesRecords start records now → TakesRecord now taken next → TakesRecords start (records ++ taken ∷ []) next
 each_then_one start [] now next taken each one = (now, next, each, one, none_yet next)
 each_then_one start (first ∷ more) now next taken each one = (each.0, each.1, each.2, each.3, each_then_one each.1 more now next taken each.4 one)
 

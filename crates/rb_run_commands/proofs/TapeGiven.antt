@@ -16,7 +16,7 @@ use Rattle.rb_workers.specs.declared.opened.Opened.{Opened}
 use Rattle.rb_workers.specs.declared.opened.Report.{Report}
 use Rattle.rb_ledger.specs.Seats.{WorkerSeat}
 use Rattle.rb_run_commands.specs.RunCommand.{RunsWorkers}
-use Rattle.rb_run_commands.specs.TapedRun.{SinkTape, TapesRing, WritesOn, first_tape, tape_items, tape_position, tape_takes}
+use Rattle.rb_run_commands.specs.TapedRun.{SinkTape, TapesRing, WritesOn, first_tape, sink_tape_items, tape_position, tape_takes}
 use Rattle.rb_run_commands.specs.declared.run_command.JobsRequest.{JobsRequest}
 
 front_empty : (xs ys : List ℕ) → xs ++ ys ≡ [] → xs ≡ []
@@ -138,11 +138,11 @@ module _ {W : Type 0} (contents : W → Option (List ℕ)) where
           }
 
   -- what a sink was given item by item
-  the_tape_of_what_is_given : (items : List SinkItem) (old new : SinkTape W) → TakesAll (tape_takes contents) old items new → WritesOn contents old (tape_items items) new
+  the_tape_of_what_is_given : (items : List SinkItem) (old new : SinkTape W) → TakesAll (tape_takes contents) old items new → WritesOn contents old (sink_tape_items items) new
   the_tape_of_what_is_given [] old new same = subst (λ s. WritesOn contents old [] s) (sym same) (nothing_yet old)
   the_tape_of_what_is_given (item ∷ items) old new given =
       subst (λ l. WritesOn contents old l new) (sym (filter_map-append tape_item (item ∷ []) items))
-      (goes_on old given.0 new (tape_items (item ∷ [])) (tape_items items) given.1 (the_tape_of_what_is_given items given.0 new given.2))
+      (goes_on old given.0 new (sink_tape_items (item ∷ [])) (sink_tape_items items) given.1 (the_tape_of_what_is_given items given.0 new given.2))
 
 -- ---- the run
 
@@ -184,18 +184,18 @@ module _ {W : Type 0} (contents : W → Option (List ℕ)) (writer left : W) (su
   one_ring = ap length ending.2
 
   -- what the sink of the ring that was taken out of the report wrote
-  pub ring_taped : (hands_out : W → Bool → W → Type 0) (front : List (Ended (SinkTape W))) (ended : Ended (SinkTape W)) (whole handed_out : Bool) → report.rings.items ≡ front ++ ended ∷ []
-      → whole ≡ (handed_out && not ended.sink.failed) → Keeps (contents ended.sink.writer) (contents left) → hands_out ended.sink.writer handed_out left
-      → All (TapesRing contents hands_out request.size whole writer left) report.rings.items
-  ring_taped hands_out front ended whole handed_out is told kept called =
+  pub ring_taped : (writes_out : W → Bool → W → Type 0) (front : List (Ended (SinkTape W))) (ended : Ended (SinkTape W)) (whole handed_out : Bool) → report.rings.items ≡ front ++ ended ∷ []
+      → whole ≡ (handed_out && not ended.sink.failed) → Keeps (contents ended.sink.writer) (contents left) → writes_out ended.sink.writer handed_out left
+      → All (TapesRing contents writes_out request.size whole writer left) report.rings.items
+  ring_taped writes_out front ended whole handed_out is told kept called =
       let e = ending.0 in
       let ends = ending.3 in
       let same : ended ≡ e = last_of_one front e ended (sym ending.2 ∙ is) in
       let given = ends.sink_given in
       let wrote = the_tape_of_what_is_given contents given.items (first_tape writer request) e.sink (subst (λ s. TakesAll (tape_takes contents) s given.items e.sink) ran.just_opened.sink_is given.given) in
       let on_e : whole ≡ (handed_out && not e.sink.failed) = subst (λ (x : Ended (SinkTape W)). whole ≡ (handed_out && not x.sink.failed)) same told in
-      subst (All (TapesRing contents hands_out request.size whole writer left)) (sym ending.2)
-      (All-cons (TapesRing contents hands_out request.size whole writer left) e [] (record {
+      subst (All (TapesRing contents writes_out request.size whole writer left)) (sym ending.2)
+      (All-cons (TapesRing contents writes_out request.size whole writer left) e [] (record {
         seats = ending.1;
         consumer = ends.consumer;
         items = given.items;
@@ -207,7 +207,7 @@ module _ {W : Type 0} (contents : W → Option (List ℕ)) (writer left : W) (su
         records_are = given.records_are;
         wrote = Appends-kept (contents writer) (contents e.sink.writer) (contents left) wrote.out wrote.wrote (subst (λ (x : Ended (SinkTape W)). Keeps (contents x.sink.writer) (contents left)) same kept);
         beginning = wrote.beginning refl;
-        called = subst (λ (x : Ended (SinkTape W)). hands_out x.sink.writer handed_out left) same called;
+        called = subst (λ (x : Ended (SinkTape W)). writes_out x.sink.writer handed_out left) same called;
         all_out = λ is_whole. let both = told_whole whole handed_out e.sink.failed on_e is_whole in (wrote.all_out both.1, both.0);
         not_all_out = λ cut. by_part (told_cut whole handed_out e.sink.failed on_e cut) (wrote.not_all_out refl);
-      }) (All-nil (TapesRing contents hands_out request.size whole writer left)))
+      }) (All-nil (TapesRing contents writes_out request.size whole writer left)))

@@ -41,17 +41,17 @@ pub record TakesNone (before after : ChapterConsumerSeat) : Type 0 where
   pub chapters_same : after.handed_out ≡ before.handed_out
 
 -- the consumer took these records, one after another, and no other
-abbrev pub TakesEach : ChapterConsumerSeat → List Taken → ChapterConsumerSeat → Type 0
-TakesEach before [] after = TakesNone before after
-TakesEach before (taken ∷ more) after =
-    (here next : ChapterConsumerSeat) × TakesNone before here × TakesRecord here taken next × TakesEach next more after
+abbrev pub TakesRecords : ChapterConsumerSeat → List Taken → ChapterConsumerSeat → Type 0
+TakesRecords before [] after = TakesNone before after
+TakesRecords before (taken ∷ more) after =
+    (here next : ChapterConsumerSeat) × TakesNone before here × TakesRecord here taken next × TakesRecords next more after
 
 -- the consumer took these records, up to the producer position that the worker's seat was told: none is left that the worker knows of
 pub record DrainsRing (seat : WorkerSeat) (consumer : ChapterConsumerSeat) (records : List Taken) : Type 0 where
   pub seen : Book
   pub cut : ℕ
   pub after : ChapterConsumerSeat
-  pub each : TakesEach consumer records after
+  pub each : TakesRecords consumer records after
   pub none_left : LockedCall (Worker seat.worker) seat.seen seen (InRoom seat.room cut (λ old new. (new ≡ old) × (producer_now old ≡ after.position)))
 
 -- ---- all rings

@@ -48,20 +48,20 @@ pub record WritesOn {W : Type 0} (contents : W → Option (List ℕ)) (old : Sin
   pub not_all_out : old.failed ≡ false → new.failed ≡ true → missing ≢ []
 
 -- the records among items, as those of a tape
-abbrev pub tape_items : List SinkItem → List Item
-tape_items items = filter_map tape_item items
+abbrev pub sink_tape_items : List SinkItem → List Item
+sink_tape_items items = filter_map tape_item items
 
 -- what taking one item makes of such a sink; a chapter has nothing for the tape
 abbrev pub tape_takes : {W : Type 0} → (W → Option (List ℕ)) → SinkTape W → SinkItem → SinkTape W → Type 0
-tape_takes contents old item new = WritesOn contents old (tape_items (item ∷ [])) new
+tape_takes contents old item new = WritesOn contents old (sink_tape_items (item ∷ [])) new
 
 -- ---- the run
 
 -- A beginning of the tape of all that the closed ring's whole history took went out, from the first record on and in order. At last the writer was
 -- called to hand on what waits. The tape is told as whole where all of it went out and that call succeeded, and as not whole only where
 -- some of it did not go out or that call failed. The records are the history's, with the bytes that the consumer got, which are those that the
--- seats sent. `hands_out` is what such a call makes of a writer.
-pub record TapesRing {W : Type 0} (contents : W → Option (List ℕ)) (hands_out : W → Bool → W → Type 0) (size : ℕ) (whole : Bool) (writer left : W) (ended : Ended (SinkTape W)) : Type 0 where
+-- seats sent. `writes_out` is what such a call makes of a writer.
+pub record TapesRing {W : Type 0} (contents : W → Option (List ℕ)) (writes_out : W → Bool → W → Type 0) (size : ℕ) (whole : Bool) (writer left : W) (ended : Ended (SinkTape W)) : Type 0 where
   pub seats : List WorkerSeat
   pub consumer : ChapterConsumerSeat
   pub items : List SinkItem
@@ -72,18 +72,18 @@ pub record TapesRing {W : Type 0} (contents : W → Option (List ℕ)) (hands_ou
   pub taken_are : takes_in (ring_at_end consumer ended).history ≡ positions_among items
   pub records_are : All (IsRecordIn (ring_at_end consumer ended).history consumer.got) items
   pub wrote : Appends (contents writer) (contents left) out
-  pub beginning : out ++ missing ≡ tape size (tape_items items)
-  pub called : hands_out ended.sink.writer handed_out left
+  pub beginning : out ++ missing ≡ tape size (sink_tape_items items)
+  pub called : writes_out ended.sink.writer handed_out left
   pub all_out : whole ≡ true → (missing ≡ []) × (handed_out ≡ true)
   pub not_all_out : whole ≡ false → (missing ≢ []) ⊎ (handed_out ≡ false)
 
 -- the program was run with such a sink, what the report says was printed, and nothing else, and what the ring's consumer took was written as a
 -- tape
-pub record TapesRun {W : Type 0} (contents : W → Option (List ℕ)) (hands_out : W → Bool → W → Type 0) (writer : W) (subject : Subject) (request : JobsRequest) (before after : Option (List ℕ)) (whole : Bool) (left : W) : Type 0 where
+pub record TapesRun {W : Type 0} (contents : W → Option (List ℕ)) (writes_out : W → Bool → W → Type 0) (writer : W) (subject : Subject) (request : JobsRequest) (before after : Option (List ℕ)) (whole : Bool) (left : W) : Type 0 where
   pub report : Report (SinkTape W)
   pub ran : RunsWorkers tape_position (tape_takes contents) (first_tape writer request) subject request report
   pub printed : Appends before after (report_lines request.form report)
-  pub taped : All (TapesRing contents hands_out request.size whole writer left) report.rings.items
+  pub taped : All (TapesRing contents writes_out request.size whole writer left) report.rings.items
 
 -- a program that the input spells, where that is known, was run so, and all of its tape went through a buffer, in which nothing waits any more,
 -- to a writer whose bytes are known to nobody

@@ -42,7 +42,7 @@ pub fn run_taped<T: Threads + Wait + Sync, W: Write, F: Outgoing + Send + Drop>(
     requires one_ring { program.now.rings ≡ 1 }
     requires size { IsRingSize request.size }
     requires start { IsStartPosition request.start }
-    ensures taped { IfOk result (λ written. TapesRun F.contents F.hands_out tape program.now request (W.contents out.old) (W.contents out.new) written.is_whole written.writer) }
+    ensures taped { IfOk result (λ written. TapesRun F.contents F.writes_out tape program.now request (W.contents out.old) (W.contents out.new) written.is_whole written.writer) }
     ensures handed_on { IfOk result (λ written. written.is_whole ≡ true → F.waiting written.writer ≡ []) }
     ensures workers { OnOk result (IsWorkerCount request.workers) }
     ensures refused { IfErr result (λ fault. (fault ≡ JobsFault.Program ProgramFault.Device) ⊎ IsRightRingFault request fault) }
@@ -55,17 +55,17 @@ pub fn run_taped<T: Threads + Wait + Sync, W: Write, F: Outgoing + Send + Drop>(
     };
     let is_out = !ended.sink.failed();
     let mut writer = ended.sink.into_writer();
-    let is_whole = hand_out_all(&mut writer, is_out);
+    let is_whole = write_out_all(&mut writer, is_out);
     Ok(WrittenTape { writer, is_whole })
 }
 
 // Has the writer hand on what waits: whether the tape is whole then, where all of it was written to the writer or not.
-fn hand_out_all<F: Outgoing>(writer: &mut F, is_out: bool) -> bool
+fn write_out_all<F: Outgoing>(writer: &mut F, is_out: bool) -> bool
     ensures bytes { Keeps (F.contents writer.old) (F.contents writer.new) }
     ensures nothing_waits { result ≡ true → F.waiting writer.new ≡ [] }
-    ensures called { (handed_out : Bool) × F.hands_out writer.old handed_out writer.new × (result ≡ (handed_out && is_out)) }
+    ensures called { (handed_out : Bool) × F.writes_out writer.old handed_out writer.new × (result ≡ (handed_out && is_out)) }
 {
-    writer.hand_out().is_ok() && is_out
+    writer.write_out().is_ok() && is_out
 }
 
 /// Verifies the program whose text is the input and runs it as `run` does, prints the same, and writes the tape to a file of this name, which is

@@ -4,7 +4,7 @@ use Rattle.std.proofs.lemmas.Bool.{eq-eqb}
 use Rattle.hex.proofs.HexLemmas.{decode_of-same}
 use Rattle.rb_world.specs.declared.actor.Actor.TheVariants.{Worker, Consumer, Keeper}
 use Rattle.rb_world.specs.declared.opening.RingSetup.{RingSetup}
-use Rattle.rb_script.specs.ScriptText.{Statement, Spells, SaysRing, SaysWorker, SaysTurns, SaysOneTurn, SaysWords, Says, words_of}
+use Rattle.rb_script.specs.ScriptText.{Statement, SpellsNumber, SaysRing, SaysWorker, SaysTurns, SaysOneTurn, SaysWords, Says, words_of}
 use Rattle.rb_script.specs.ScriptText.Statement.{RingOf, WorkerOf, TurnsOf}
 
 -- a number that differs for each of the words in front
@@ -14,7 +14,7 @@ key word = slice_index word 0 + length word
 pub clash : (a b : List ℕ) → (key a == key b) ≡ false → a ≡ b → ⊥
 clash a b differ e = let same : (key a == key b) ≡ true = eq-eqb (key a) (key b) (ap key e) in absurd (let never : false ≡ true = sym differ ∙ same in cc)
 
-one-number : (word : List ℕ) (m n : ℕ) → Spells word m → Spells word n → m ≡ n
+one-number : (word : List ℕ) (m n : ℕ) → SpellsNumber word m → SpellsNumber word n → m ≡ n
 one-number word m n a b = sym a.value ∙ b.value
 
 abbrev make : ℕ → ℕ → ℕ → RingSetup

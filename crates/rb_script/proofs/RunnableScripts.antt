@@ -18,23 +18,23 @@ use Rattle.rb_world.proofs.Openings.{length-opened}
 use Rattle.rb_world.specs.WorldValue.{WorldValue, IsThere}
 use Rattle.rb_script.specs.declared.script.Script.{Script}
 use Rattle.rb_script.specs.declared.script.ScriptWorker.{ScriptWorker}
-use Rattle.rb_script.specs.Programs.{IsProgramOf}
+use Rattle.rb_script.specs.Programs.{IsWorkersProgram}
 use Rattle.rb_script.specs.ScriptText.{Statement, Says}
 use Rattle.rb_script.specs.ScriptText.Statement.{RingOf, WorkerOf, TurnsOf}
-use Rattle.rb_script.specs.Scripts.{IsWithinLimits, HasWorker, MayRun, IsAmong, AreInOrder, StandFor, worker_text, rings_of, workers_of, actors_of}
+use Rattle.rb_script.specs.Scripts.{IsWithinLimits, HasWorker, MayRunScript, IsAmong, AreInOrder, StandFor, worker_text, script_rings, script_workers, actors_of}
 use Rattle.rb_script.specs.Simulation.{AreSetups, BeginsRun, BeginsSimulationWith, BreaksOff, SimulatesWith, WritesRun, world_text}
 use Rattle.rb_script.proofs.ScriptParts.{rings-append, workers-append}
 use Rattle.rb_script.proofs.WorldEnds.{machines-long}
 
 -- ---- the rings
 
-said-rings : (lines : List (List ℕ)) (said : List Statement) → AllZip Says lines said → All IsRingSetup (rings_of said) × All (λ (s : RingSetup). IsChapterRoom s.room) (rings_of said)
+said-rings : (lines : List (List ℕ)) (said : List Statement) → AllZip Says lines said → All IsRingSetup (script_rings said) × All (λ (s : RingSetup). IsChapterRoom s.room) (script_rings said)
 said-rings [] [] h = (All-nil IsRingSetup, All-nil (λ (s : RingSetup). IsChapterRoom s.room))
 said-rings [] (y ∷ said) h = absurd h
 said-rings (x ∷ lines) [] h = absurd h
 said-rings (x ∷ lines) (RingOf setup ∷ said) h =
     let rest = said-rings lines said h.1 in
-    (All-cons IsRingSetup setup (rings_of said) h.0.bounds.0 rest.0, All-cons (λ (s : RingSetup). IsChapterRoom s.room) setup (rings_of said) h.0.bounds.1 rest.1)
+    (All-cons IsRingSetup setup (script_rings said) h.0.bounds.0 rest.0, All-cons (λ (s : RingSetup). IsChapterRoom s.room) setup (script_rings said) h.0.bounds.1 rest.1)
 said-rings (x ∷ lines) (WorkerOf program context ∷ said) h = said-rings lines said h.1
 said-rings (x ∷ lines) (TurnsOf actor count ∷ said) h = said-rings lines said h.1
 
@@ -47,15 +47,15 @@ among-more r w R W (Keeper n) rings workers h = omega arith
 
 module _ (R W : ℕ) where
   abbrev Fits : List Statement → Type 0
-  Fits said = (length (rings_of said) ≤ R) × (length (workers_of 1 said) ≤ W)
+  Fits said = (length (script_rings said) ≤ R) × (length (script_workers 1 said) ≤ W)
 
   fits-next : (front : List Statement) (x : Statement) (said : List Statement) → Fits (front ++ x ∷ said) → Fits ((front ++ x ∷ []) ++ said)
   fits-next front x said h = subst Fits (sym (append_assoc front (x ∷ []) said)) h
 
   fits-front : (front said : List Statement) → Fits (front ++ said) → Fits front
   fits-front front said h =
-      let long : length (rings_of (front ++ said)) ≡ length (rings_of front) + length (rings_of said) = ap length (rings-append front said) ∙ length-append (rings_of front) (rings_of said) in
-      let many : length (workers_of 1 (front ++ said)) ≡ length (workers_of 1 front) + length (workers_of (1 + length front) said) = ap length (workers-append 1 front said) ∙ length-append (workers_of 1 front) (workers_of (1 + length front) said) in
+      let long : length (script_rings (front ++ said)) ≡ length (script_rings front) + length (script_rings said) = ap length (rings-append front said) ∙ length-append (script_rings front) (script_rings said) in
+      let many : length (script_workers 1 (front ++ said)) ≡ length (script_workers 1 front) + length (script_workers (1 + length front) said) = ap length (workers-append 1 front said) ∙ length-append (script_workers 1 front) (script_workers (1 + length front) said) in
       let rings = h.0 in
       let workers = h.1 in
       (omega arith, omega arith)
@@ -67,14 +67,14 @@ module _ (R W : ℕ) where
   said-among front (TurnsOf actor count ∷ said) h fits =
       let few = fits-front front (TurnsOf actor count ∷ said) fits in
       All-append (IsAmong R W) (replicate count actor) (actors_of said)
-      (All-replicate (IsAmong R W) count actor (among-more (length (rings_of front)) (length (workers_of 1 front)) R W actor few.0 few.1 h.0.1))
+      (All-replicate (IsAmong R W) count actor (among-more (length (script_rings front)) (length (script_workers 1 front)) R W actor few.0 few.1 h.0.1))
       (said-among (front ++ TurnsOf actor count ∷ []) said h.1 (fits-next front (TurnsOf actor count) said fits))
 
-pub may-run : (lines : List (List ℕ)) (s : Script) → StandFor lines s → IsWithinLimits s → HasWorker s → MayRun s
+pub may-run : (lines : List (List ℕ)) (s : Script) → StandFor lines s → IsWithinLimits s → HasWorker s → MayRunScript s
 may-run lines s stands limits worker =
     let rings = said-rings lines stands.said stands.begins.says in
-    let many : length (workers_of 1 stands.said) ≡ length s.workers.items = sym (ap length stands.made.workers) ∙ length-map s.workers.items worker_text in
-    let long : length (rings_of stands.said) ≡ length s.rings.items = sym (ap length stands.made.rings) in
+    let many : length (script_workers 1 stands.said) ≡ length s.workers.items = sym (ap length stands.made.workers) ∙ length-map s.workers.items worker_text in
+    let long : length (script_rings stands.said) ≡ length s.rings.items = sym (ap length stands.made.rings) in
     record {
       limits = limits;
       worker = worker;
@@ -88,7 +88,7 @@ may-run lines s stands limits worker =
 
 module _ (R : ℕ) where
   setups-fit : (workers : List ScriptWorker) (programs : List Subject) (setups : List WorkerSetup) → map (λ (x : WorkerSetup). x.program.now) setups ≡ programs
-      → map (λ (x : WorkerSetup). x.context.now) setups ≡ map (λ (w : ScriptWorker). w.context.items) workers → AllZip (IsProgramOf R) (map worker_text workers) programs
+      → map (λ (x : WorkerSetup). x.context.now) setups ≡ map (λ (w : ScriptWorker). w.context.items) workers → AllZip (IsWorkersProgram R) (map worker_text workers) programs
       → HaveContexts setups × All (λ (x : WorkerSetup). x.program.now.rings ≤ R) setups
   setups-fit workers programs [] p q h = (All-nil (λ (x : WorkerSetup). length x.context.now ≡ x.program.now.ctx_len), All-nil (λ (x : WorkerSetup). x.program.now.rings ≤ R))
   setups-fit [] programs (x ∷ setups) p q h = absurd (cc)
@@ -109,7 +109,7 @@ pub setups-long : (workers : List ScriptWorker) (programs : List Subject) (setup
 setups-long workers programs setups are = sym (length-map setups (λ (x : WorkerSetup). x.context.now)) ∙ (ap length are.contexts_are ∙ length-map workers (λ (w : ScriptWorker). w.context.items))
 
 -- a world may be opened for a script that can be run
-pub may-open : (s : Script) (programs : List Subject) (setups : List WorkerSetup) → MayRun s → AllZip (IsProgramOf (length s.rings.items)) (map worker_text s.workers.items) programs → AreSetups s.workers.items programs setups → MayOpen s.rings.items setups
+pub may-open : (s : Script) (programs : List Subject) (setups : List WorkerSetup) → MayRunScript s → AllZip (IsWorkersProgram (length s.rings.items)) (map worker_text s.workers.items) programs → AreSetups s.workers.items programs setups → MayOpen s.rings.items setups
 may-open s programs setups may accepted are =
     let fit = setups-fit (length s.rings.items) s.workers.items programs setups are.programs_are are.contexts_are accepted in
     let long = setups-long s.workers.items programs setups are in
@@ -137,7 +137,7 @@ memory-only rings setups r fault.Chapter is may ring context count worker chapte
 memory-only rings setups r fault.Memory is may ring context count worker chapter = refl
 
 -- the actors of the script are there
-pub actors-there : (s : Script) (programs : List Subject) (setups : List WorkerSetup) (v : WorldValue) → MayRun s → AreSetups s.workers.items programs setups → IsOpenedWorld s.rings.items setups v → All (IsThere v) s.actors.items
+pub actors-there : (s : Script) (programs : List Subject) (setups : List WorkerSetup) (v : WorldValue) → MayRunScript s → AreSetups s.workers.items programs setups → IsOpenedWorld s.rings.items setups v → All (IsThere v) s.actors.items
 actors-there s programs setups v may are opened =
     let rings : length v.rings ≡ length s.rings.items = ap length opened.rings_are ∙ length-opened (length setups) 0 s.rings.items in
     let workers : length s.workers.items ≡ length v.machines = sym (setups-long s.workers.items programs setups are) ∙ machines-long setups v.machines opened.machines_are in
@@ -149,14 +149,14 @@ actors-there s programs setups v may are opened =
     there (Keeper n) h rings workers = omega arith
 
 -- where memory ran out behind the programs
-pub breaks-off : (draw : Bool) (s : Script) (lent programs : List Subject) (before after : List ℕ) → lent ≡ programs → AllZip (IsProgramOf (length s.rings.items)) (map worker_text s.workers.items) programs
+pub breaks-off : (draw : Bool) (s : Script) (lent programs : List Subject) (before after : List ℕ) → lent ≡ programs → AllZip (IsWorkersProgram (length s.rings.items)) (map worker_text s.workers.items) programs
     → (after ≡ before) ⊎ BeginsSimulationWith draw s lent before after → BreaksOff draw s before after
 breaks-off draw s lent programs before after same accepted (inl none) = inl none
 breaks-off draw s lent programs before after same accepted (inr begun) = inr (record { programs = programs; accepted = accepted; begun = subst (λ l. BeginsSimulationWith draw s l before after) same begun })
 
 -- the same by what is lent of the script and of its workers' setups
 module _ (s : Script) (programs : List Subject) (setups : List WorkerSetup) (workers : List ScriptWorker) (rings : List RingSetup) (lent : List WorkerSetup) (workers_are : workers ≡ s.workers.items) (rings_are : rings ≡ s.rings.items)
-    (lent_are : lent ≡ setups) (may : MayRun s) (accepted : AllZip (IsProgramOf (length s.rings.items)) (map worker_text s.workers.items) programs) (are : AreSetups workers programs setups) where
+    (lent_are : lent ≡ setups) (may : MayRunScript s) (accepted : AllZip (IsWorkersProgram (length s.rings.items)) (map worker_text s.workers.items) programs) (are : AreSetups workers programs setups) where
   pub setups-are : AreSetups s.workers.items programs setups
   setups-are = subst (λ ws. AreSetups ws programs setups) workers_are are
 

@@ -8,13 +8,13 @@ use Rattle.rb_script.specs.declared.script_fault.ScriptFault.{ScriptFault}
 use Rattle.rb_script.specs.declared.script_fault.ScriptFault.TheVariants.{Line, Memory}
 use Rattle.rb_script.specs.ScriptText.{Statement, Says, lines_of}
 use Rattle.rb_script.specs.ScriptText.Statement.{RingOf, WorkerOf, TurnsOf}
-use Rattle.rb_script.specs.Scripts.{WorkerText, worker_text, rings_of, workers_of, actors_of, MayStandBehind, AreInOrder, Begins, BeginsScript, IsScript, IsMadeOf, StandFor, IsFirstFault, IsFaultOf}
-use Rattle.rb_script.specs.inner.ScriptRead.{MayFollow, MayAddLine, Adds, AddsLine, IsFaultUnless, HasRead}
+use Rattle.rb_script.specs.Scripts.{WorkerText, worker_text, script_rings, script_workers, actors_of, MayStandBehind, AreInOrder, LinesSay, BeginsScript, IsScript, IsMadeOf, StandFor, IsFirstFault, IsFaultOf}
+use Rattle.rb_script.specs.inner.ScriptRead.{MayFollowScript, MayAddLine, Adds, AddsLine, IsFaultUnless, HasRead}
 use Rattle.rb_script.proofs.Keywords.{says-one}
 
 -- ---- what is said on both sides of a place
 
-pub rings-append : (a b : List Statement) → rings_of (a ++ b) ≡ rings_of a ++ rings_of b
+pub rings-append : (a b : List Statement) → script_rings (a ++ b) ≡ script_rings a ++ script_rings b
 rings-append [] b = refl
 rings-append (RingOf setup ∷ a) b = ap (λ l. setup ∷ l) (rings-append a b)
 rings-append (WorkerOf program context ∷ a) b = rings-append a b
@@ -23,13 +23,13 @@ rings-append (TurnsOf actor count ∷ a) b = rings-append a b
 next-number : (n : ℕ) (a : List Statement) (x : Statement) → n + 1 + length a ≡ n + length (x ∷ a)
 next-number n a x = omega arith
 
-pub workers-append : (n : ℕ) (a b : List Statement) → workers_of n (a ++ b) ≡ workers_of n a ++ workers_of (n + length a) b
-workers-append n [] b = let same : n ≡ n + 0 = omega arith in ap (λ k. workers_of k b) same
-workers-append n (RingOf setup ∷ a) b = workers-append (n + 1) a b ∙ ap (λ k. workers_of (n + 1) a ++ workers_of k b) (next-number n a (RingOf setup))
+pub workers-append : (n : ℕ) (a b : List Statement) → script_workers n (a ++ b) ≡ script_workers n a ++ script_workers (n + length a) b
+workers-append n [] b = let same : n ≡ n + 0 = omega arith in ap (λ k. script_workers k b) same
+workers-append n (RingOf setup ∷ a) b = workers-append (n + 1) a b ∙ ap (λ k. script_workers (n + 1) a ++ script_workers k b) (next-number n a (RingOf setup))
 workers-append n (WorkerOf program context ∷ a) b =
     let worker : WorkerText = record { line = n; program = program; context = context } in
-    ap (λ l. worker ∷ l) (workers-append (n + 1) a b ∙ ap (λ k. workers_of (n + 1) a ++ workers_of k b) (next-number n a (WorkerOf program context)))
-workers-append n (TurnsOf actor count ∷ a) b = workers-append (n + 1) a b ∙ ap (λ k. workers_of (n + 1) a ++ workers_of k b) (next-number n a (TurnsOf actor count))
+    ap (λ l. worker ∷ l) (workers-append (n + 1) a b ∙ ap (λ k. script_workers (n + 1) a ++ script_workers k b) (next-number n a (WorkerOf program context)))
+workers-append n (TurnsOf actor count ∷ a) b = workers-append (n + 1) a b ∙ ap (λ k. script_workers (n + 1) a ++ script_workers k b) (next-number n a (TurnsOf actor count))
 
 actors-append : (a b : List Statement) → actors_of (a ++ b) ≡ actors_of a ++ actors_of b
 actors-append [] b = refl
@@ -40,7 +40,7 @@ actors-append (TurnsOf actor count ∷ a) b = ap (λ l. replicate count actor ++
 -- ---- the order
 
 abbrev May : List Statement → Statement → Type 0
-May front x = MayStandBehind (length (rings_of front)) (length (workers_of 1 front)) (length (actors_of front)) x
+May front x = MayStandBehind (length (script_rings front)) (length (script_workers 1 front)) (length (actors_of front)) x
 
 order-more : (front a : List Statement) (x : Statement) → AreInOrder front a → May (front ++ a) x → AreInOrder front (a ++ x ∷ [])
 order-more front [] x h may = (subst (λ l. May l x) (append-nil front) may, tt)
@@ -118,7 +118,7 @@ one-fault lines m n (inr a) (inr b) = a.0 ∙ sym b.0
 
 stands-script : (lines : List (List ℕ)) (s : Script) → StandFor lines s → 1 ≤ length s.workers.items → IsScript lines
 stands-script lines s h worker =
-    let same : length s.workers.items ≡ length (workers_of 1 h.said) = sym (length-map s.workers.items worker_text) ∙ ap length h.made.workers in
+    let same : length s.workers.items ≡ length (script_workers 1 h.said) = sym (length-map s.workers.items worker_text) ∙ ap length h.made.workers in
     (h.said, h.begins, subst (λ n. 1 ≤ n) same worker)
 
 pub no-fault-of-script : (lines : List (List ℕ)) (s : Script) → StandFor lines s → 1 ≤ length s.workers.items → (line : ℕ) → IsFirstFault lines line → ⊥
@@ -141,21 +141,21 @@ may-same : (x : Statement) (a b c d e f : ℕ) → a ≡ d → b ≡ e → c ≡
 may-same x a b c d e f p q r h = subst (λ n. MayStandBehind n e f x) p (subst (λ n. MayStandBehind a n f x) q (subst (λ n. MayStandBehind a b n x) r h))
 
 module _ (said : List Statement) (s : Script) (made : IsMadeOf said s) (x : Statement) where
-  worker-count : length s.workers.items ≡ length (workers_of 1 said)
+  worker-count : length s.workers.items ≡ length (script_workers 1 said)
   worker-count = sym (length-map s.workers.items worker_text) ∙ ap length made.workers
 
-  may-said : MayFollow s x → May said x
+  may-said : MayFollowScript s x → May said x
   may-said may = may-same x _ _ _ _ _ _ (ap length made.rings) worker-count (ap length made.actors) may
 
-  may-follow : May said x → MayFollow s x
+  may-follow : May said x → MayFollowScript s x
   may-follow may = may-same x _ _ _ _ _ _ (sym (ap length made.rings)) (sym worker-count) (sym (ap length made.actors)) may
 
   made-more : (t : Script) → Adds (length said + 1) x s t → IsMadeOf (said ++ x ∷ []) t
   made-more t h = record {
-    rings = h.rings ∙ (ap (λ l. l ++ rings_of (x ∷ [])) made.rings ∙ sym (rings-append said (x ∷ [])));
+    rings = h.rings ∙ (ap (λ l. l ++ script_rings (x ∷ [])) made.rings ∙ sym (rings-append said (x ∷ [])));
     workers =
         let number : length said + 1 ≡ 1 + length said = omega arith in
-        h.workers ∙ (ap (λ l. l ++ workers_of (length said + 1) (x ∷ [])) made.workers ∙ (ap (λ n. workers_of 1 said ++ workers_of n (x ∷ [])) number ∙ sym (workers-append 1 said (x ∷ []))));
+        h.workers ∙ (ap (λ l. l ++ script_workers (length said + 1) (x ∷ [])) made.workers ∙ (ap (λ n. script_workers 1 said ++ script_workers n (x ∷ [])) number ∙ sym (workers-append 1 said (x ∷ []))));
     actors = h.actors ∙ (ap (λ l. l ++ actors_of (x ∷ [])) made.actors ∙ sym (actors-append said (x ∷ [])));
   }
 
@@ -214,15 +214,15 @@ module _ (text rest : List ℕ) (number : ℕ) (s : Script) (read : HasRead text
   all-lines = read.parted ∙ (ap (λ l. read.lines ++ lines_of l) done ∙ append-nil read.lines)
 
   pub read-all : StandFor (lines_of text) s
-  read-all = record { said = read.said; begins = subst (λ l. Begins l read.said) (sym all-lines) read.begins; made = read.made }
+  read-all = record { said = read.said; begins = subst (λ l. LinesSay l read.said) (sym all-lines) read.begins; made = read.made }
 
   pub no-worker : length s.workers.items ≡ 0 → IsFirstFault (lines_of text) (number + 1)
   no-worker none = inr (
     ap (λ n. n + 1) (sym (ap length all-lines ∙ read.counted)),
-    (read.said, subst (λ l. Begins l read.said) (sym all-lines) read.begins),
+    (read.said, subst (λ l. LinesSay l read.said) (sym all-lines) read.begins),
     λ script.
         let (said, begins, worker) = script in
         let same : said ≡ read.said = zip-one (lines_of text) said read.said begins.says (subst (λ l. AllZip Says l read.said) (sym all-lines) read.begins.says) in
-        let counts : length (workers_of 1 said) ≡ 0 = ap (λ l. length (workers_of 1 l)) same ∙ (sym (worker-count read.said s read.made (RingOf (record { size = 0; start = 0; room = 0 }))) ∙ none) in
+        let counts : length (script_workers 1 said) ≡ 0 = ap (λ l. length (script_workers 1 l)) same ∙ (sym (worker-count read.said s read.made (RingOf (record { size = 0; start = 0; room = 0 }))) ∙ none) in
         absurd (omega arith),
   )

@@ -13,7 +13,7 @@ use Rattle.hex.proofs.HexLemmas.{decode_of-ok}
 use Rattle.rb_chapter_ring.specs.Chapters.{IsChapterRoom}
 use Rattle.rb_world.specs.declared.opening.RingSetup.{RingSetup}
 use Rattle.rb_world.specs.OpenedWorlds.{IsRingSetup}
-use Rattle.rb_script.specs.ScriptText.{Spells, SaysRing, SaysWorker, SaysTurns, SaysOneTurn, words_of}
+use Rattle.rb_script.specs.ScriptText.{SpellsNumber, SaysRing, SaysWorker, SaysTurns, SaysOneTurn, words_of}
 use Rattle.rb_script.specs.ScriptText.Statement.{RingOf, WorkerOf, TurnsOf}
 use Rattle.rb_world.specs.declared.actor.Actor.TheVariants.{Worker, Consumer, Keeper}
 use Rattle.rb_script.specs.inner.ScriptRead.{AreNumbersOf, IsWorkerText, SaysNone}
@@ -47,7 +47,7 @@ cut text (Some x) h =
     let parts = split_parts 32 text (Some x) h (lit< tt) in
     ap words_of parts.0 ∙ slice_split_at is_space x.0.now 32 x.1.now (no-space x.0.now parts.1) refl
 
-digits-word : (text : List ℕ) (n : ℕ) → Spells text n → words_of text ≡ text ∷ []
+digits-word : (text : List ℕ) (n : ℕ) → SpellsNumber text n → words_of text ≡ text ∷ []
 digits-word text n h = one-word text (no-space text (λ i low e. let digit : IsInRange 48 57 (get_or text i 0) = digit_at text i h.digits.1 low in absurd (omega arith)))
 
 hex-word : (text bytes : List ℕ) → decode_of text ≡ Ok bytes → words_of text ≡ text ∷ []
@@ -62,15 +62,15 @@ hex-word text bytes h =
 
 -- the number that the text spells, if it is below the bound
 abbrev pub IsReadAs : ℕ → List ℕ → Option ℕ → Type 0
-IsReadAs most text r = MatchOption r ((number : ℕ) → Spells text number → number < most → ⊥) (λ number. Spells text number)
+IsReadAs most text r = MatchOption r ((number : ℕ) → SpellsNumber text number → number < most → ⊥) (λ number. SpellsNumber text number)
 
-read-is : (most : ℕ) (text : List ℕ) (r : Option ℕ) → IsReadAs most text r → (n : ℕ) → Spells text n → n < most → r ≡ Some n
+read-is : (most : ℕ) (text : List ℕ) (r : Option ℕ) → IsReadAs most text r → (n : ℕ) → SpellsNumber text n → n < most → r ≡ Some n
 read-is most text None h n spells low = absurd (h n spells low)
 read-is most text (Some m) h n spells low = ap Some (sym h.value ∙ spells.value)
 
-read-spells : (most : ℕ) (text : List ℕ) (r : Option ℕ) → IsReadAs most text r → (n : ℕ) → r ≡ Some n → Spells text n
+read-spells : (most : ℕ) (text : List ℕ) (r : Option ℕ) → IsReadAs most text r → (n : ℕ) → r ≡ Some n → SpellsNumber text n
 read-spells most text None h n e = absurd (cc)
-read-spells most text (Some m) h n e = let same : m ≡ n = cc in subst (λ k. Spells text k) same h
+read-spells most text (Some m) h n e = let same : m ≡ n = cc in subst (λ k. SpellsNumber text k) same h
 
 -- ---- rings
 
@@ -85,9 +85,9 @@ pub no-ring : (words : List (List ℕ)) (word : List ℕ) → words ≡ word ∷
 no-ring words word e setup says fits room = subst (λ (l : List (List ℕ)). SaysRing l setup) e says
 
 three-words : (size start : List ℕ) (s : RingSetup) (room : List ℕ) (words : List (List ℕ)) → words_of room ≡ words → SaysRing (size ∷ start ∷ words) s
-    → Spells size s.size × Spells start s.start × Spells room s.room
+    → SpellsNumber size s.size × SpellsNumber start s.start × SpellsNumber room s.room
 three-words size start s room [] e h = absurd (some-word room e)
-three-words size start s room (word ∷ []) e h = (h.0, h.1, subst (λ t. Spells t s.room) (word-alone room word e) h.2)
+three-words size start s room (word ∷ []) e h = (h.0, h.1, subst (λ t. SpellsNumber t s.room) (word-alone room word e) h.2)
 three-words size start s room (word ∷ next ∷ words) e h = absurd h
 
 module _ (words : List (List ℕ)) (size start : List ℕ) (a b : Option ℕ) (size_read : IsReadAs (2 ^ 64) size a) (start_read : IsReadAs (2 ^ 64) start b) where
@@ -102,7 +102,7 @@ module _ (words : List (List ℕ)) (size start : List ℕ) (a b : Option ℕ) (s
         room_fits = room_fits;
       })
   ring-of-three room d (Some s) e room_read h =
-      let last : Spells room s.room = read-spells (2 ^ 64) room d room_read s.room h.room_is in
+      let last : SpellsNumber room s.room = read-spells (2 ^ 64) room d room_read s.room h.room_is in
       let all : words ≡ size ∷ start ∷ room ∷ [] = e ∙ ap (λ (l : List (List ℕ)). size ∷ start ∷ l) (digits-word room s.room last) in
       (subst (λ (l : List (List ℕ)). SaysRing l s) (sym all) (read-spells (2 ^ 64) size a size_read s.size h.size_is, read-spells (2 ^ 64) start b start_read s.start h.start_is, last), h.setup_fits, h.room_fits)
 
@@ -176,22 +176,22 @@ module _ (words : List (List ℕ)) (program hex : List ℕ) (e : words ≡ progr
 
 -- ---- turns
 
-times-words : (number : List ℕ) (n count : ℕ) (times : List ℕ) (words : List (List ℕ)) → words_of times ≡ words → SaysTurns (number ∷ words) n count → Spells number n × Spells times count
+times-words : (number : List ℕ) (n count : ℕ) (times : List ℕ) (words : List (List ℕ)) → words_of times ≡ words → SaysTurns (number ∷ words) n count → SpellsNumber number n × SpellsNumber times count
 times-words number n count times [] e h = absurd (some-word times e)
-times-words number n count times (word ∷ []) e h = (h.0, subst (λ t. Spells t count) (word-alone times word e) h.1)
+times-words number n count times (word ∷ []) e h = (h.0, subst (λ t. SpellsNumber t count) (word-alone times word e) h.1)
 times-words number n count times (word ∷ next ∷ words) e h = absurd h
 
 abbrev pub SaysNoTurns : List (List ℕ) → Type 0
 SaysNoTurns words = (number count : ℕ) → SaysTurns words number count → number < 2 ^ 32 → count < 2 ^ 64 → ⊥
 
 module _ (words : List (List ℕ)) (number : List ℕ) where
-  pub turns-of-one : (n : ℕ) → words ≡ number ∷ [] → Spells number n → SaysTurns words n 1
+  pub turns-of-one : (n : ℕ) → words ≡ number ∷ [] → SpellsNumber number n → SaysTurns words n 1
   turns-of-one n e spells = subst (λ (l : List (List ℕ)). SaysTurns l n 1) (sym e) (spells, refl)
 
   pub no-turns-of-one : words ≡ number ∷ [] → IsReadAs (2 ^ 32) number None → SaysNoTurns words
   no-turns-of-one e none = λ n count says low few. let said = subst (λ (l : List (List ℕ)). SaysTurns l n count) e says in none n said.0 low
 
-  pub turns-of-two : (times : List ℕ) (n count : ℕ) → words ≡ number ∷ words_of times → Spells number n → Spells times count → SaysTurns words n count
+  pub turns-of-two : (times : List ℕ) (n count : ℕ) → words ≡ number ∷ words_of times → SpellsNumber number n → SpellsNumber times count → SaysTurns words n count
   turns-of-two times n count e spells many =
       let all : words ≡ number ∷ times ∷ [] = e ∙ ap (λ (l : List (List ℕ)). number ∷ l) (digits-word times count many) in
       subst (λ (l : List (List ℕ)). SaysTurns l n count) (sym all) (spells, many)
@@ -203,12 +203,12 @@ module _ (words : List (List ℕ)) (number : List ℕ) where
 
 -- ---- keepers
 
-one-turn : (n count : ℕ) (number : List ℕ) (words : List (List ℕ)) → words_of number ≡ words → SaysOneTurn words n count → Spells number n
+one-turn : (n count : ℕ) (number : List ℕ) (words : List (List ℕ)) → words_of number ≡ words → SaysOneTurn words n count → SpellsNumber number n
 one-turn n count number [] e h = absurd (some-word number e)
-one-turn n count number (word ∷ []) e h = subst (λ t. Spells t n) (word-alone number word e) h.0
+one-turn n count number (word ∷ []) e h = subst (λ t. SpellsNumber t n) (word-alone number word e) h.0
 one-turn n count number (word ∷ next ∷ words) e h = absurd h
 
-pub keeper-says : (number : List ℕ) (n : ℕ) → Spells number n → SaysOneTurn (words_of number) n 1
+pub keeper-says : (number : List ℕ) (n : ℕ) → SpellsNumber number n → SaysOneTurn (words_of number) n 1
 keeper-says number n spells = subst (λ (l : List (List ℕ)). SaysOneTurn l n 1) (sym (digits-word number n spells)) (spells, refl)
 
 no-keeper-line : (number : List ℕ) → IsReadAs (2 ^ 32) number None → SaysNone (codes "k" ∷ words_of number)

@@ -7,7 +7,7 @@ use Rattle.rb_world.specs.declared.opening.RingSetup.{RingSetup}
 use Rattle.rb_script.specs.declared.script.Script.{Script}
 use Rattle.rb_script.specs.Programs.{IsFirstRefused}
 use Rattle.rb_script.specs.ScriptText.{Statement, lines_of}
-use Rattle.rb_script.specs.Scripts.{WorkerText, IsFirstFault, StandFor, HasWorker, rings_of, workers_of, worker_text}
+use Rattle.rb_script.specs.Scripts.{WorkerText, IsFirstFault, StandFor, HasWorker, script_rings, script_workers, worker_text}
 use Rattle.rb_script.specs.Simulation.{Simulates, BreaksOff}
 use Rattle.rb_script.proofs.ScriptParts.{zip-one, one-fault, no-fault-of-script}
 use Rattle.rb_script.proofs.WorkerPrograms.{one-refused, none-refused}
@@ -22,8 +22,8 @@ err fault = Err fault
 refused-too : (text : List ℕ) (s : Script) → StandFor (lines_of text) s → (line : ℕ) → IsRefusedScript text line → IsFirstRefused (length s.rings.items) (map worker_text s.workers.items) line
 refused-too text s stands line told =
     let same : told.stands.said ≡ stands.said = zip-one (lines_of text) told.stands.said stands.said told.stands.begins.says stands.begins.says in
-    let rings : told.script.rings.items ≡ s.rings.items = told.stands.made.rings ∙ (ap rings_of same ∙ sym stands.made.rings) in
-    let workers : map worker_text told.script.workers.items ≡ map worker_text s.workers.items = told.stands.made.workers ∙ (ap (workers_of 1) same ∙ sym stands.made.workers) in
+    let rings : told.script.rings.items ≡ s.rings.items = told.stands.made.rings ∙ (ap script_rings same ∙ sym stands.made.rings) in
+    let workers : map worker_text told.script.workers.items ≡ map worker_text s.workers.items = told.stands.made.workers ∙ (ap (script_workers 1) same ∙ sym stands.made.workers) in
     subst (λ (ws : List WorkerText). IsFirstRefused (length s.rings.items) ws line) workers (subst (λ (l : List RingSetup). IsFirstRefused (length l) (map worker_text told.script.workers.items) line) rings told.first)
 
 has-worker : (s : Script) (rings line : ℕ) → IsFirstRefused rings (map worker_text s.workers.items) line → HasWorker s

@@ -7,23 +7,23 @@ use Rattle.rb_script.specs.declared.script.ScriptWorker.{ScriptWorker}
 use Rattle.rb_script.specs.declared.script_fault.ScriptFault.{ScriptFault}
 use Rattle.rb_script.specs.declared.script_fault.ScriptFault.TheVariants.{Line, Memory}
 use Rattle.rb_script.specs.Scripts.{WorkerText, worker_text}
-use Rattle.rb_script.specs.Programs.{IsProgramOf, HasProgram, IsFirstRefused, IsProgramsFault}
+use Rattle.rb_script.specs.Programs.{IsWorkersProgram, HasProgram, IsFirstRefused, IsProgramsFault}
 use Rattle.rb_script.specs.inner.ScriptRead.{IsFaultUnless}
 
-zip-more : (rings : ℕ) (workers : List WorkerText) (programs : List Subject) (worker : WorkerText) (subject : Subject) → AllZip (IsProgramOf rings) workers programs → IsProgramOf rings worker subject
-    → AllZip (IsProgramOf rings) (workers ++ worker ∷ []) (programs ++ subject ∷ [])
+zip-more : (rings : ℕ) (workers : List WorkerText) (programs : List Subject) (worker : WorkerText) (subject : Subject) → AllZip (IsWorkersProgram rings) workers programs → IsWorkersProgram rings worker subject
+    → AllZip (IsWorkersProgram rings) (workers ++ worker ∷ []) (programs ++ subject ∷ [])
 zip-more rings [] [] worker subject h is = (is, tt)
 zip-more rings [] (y ∷ programs) worker subject h is = absurd h
 zip-more rings (x ∷ workers) [] worker subject h is = absurd h
 zip-more rings (x ∷ workers) (y ∷ programs) worker subject h is = (h.0, zip-more rings workers programs worker subject h.1 is)
 
 module _ (rings : ℕ) (workers : List ScriptWorker) (i : ℕ) (w : ScriptWorker) (is_at : w ≡ get_or workers i w) (low : i < length workers) (programs : List Subject)
-    (so_far : AllZip (IsProgramOf rings) (map worker_text (take i workers)) programs) where
-  pub programs-more : (subject : Subject) → IsProgramOf rings (worker_text w) subject → AllZip (IsProgramOf rings) (map worker_text (take (i + 1) workers)) (programs ++ subject ∷ [])
+    (so_far : AllZip (IsWorkersProgram rings) (map worker_text (take i workers)) programs) where
+  pub programs-more : (subject : Subject) → IsWorkersProgram rings (worker_text w) subject → AllZip (IsWorkersProgram rings) (map worker_text (take (i + 1) workers)) (programs ++ subject ∷ [])
   programs-more subject is =
       let more : map worker_text (take (i + 1) workers) ≡ map worker_text (take i workers) ++ worker_text w ∷ [] =
       ap (map worker_text) (take_more workers i w low ∙ ap (λ x. take i workers ++ x ∷ []) (sym is_at)) ∙ map-append worker_text (take i workers) (w ∷ []) in
-      subst (λ l. AllZip (IsProgramOf rings) l (programs ++ subject ∷ [])) (sym more) (zip-more rings (map worker_text (take i workers)) programs (worker_text w) subject so_far is)
+      subst (λ l. AllZip (IsWorkersProgram rings) l (programs ++ subject ∷ [])) (sym more) (zip-more rings (map worker_text (take i workers)) programs (worker_text w) subject so_far is)
 
   pub programs-fault : (fault : ScriptFault) → IsFaultUnless w.line (HasProgram rings (worker_text w)) fault → IsProgramsFault rings (map worker_text workers) fault
   programs-fault Memory h = tt
@@ -40,7 +40,7 @@ module _ (rings : ℕ) (workers : List ScriptWorker) (i : ℕ) (w : ScriptWorker
   }
 
 -- as many programs as workers
-pub programs-long : (rings : ℕ) (workers : List ScriptWorker) (programs : List Subject) → AllZip (IsProgramOf rings) (map worker_text workers) programs → length programs ≡ length workers
+pub programs-long : (rings : ℕ) (workers : List ScriptWorker) (programs : List Subject) → AllZip (IsWorkersProgram rings) (map worker_text workers) programs → length programs ≡ length workers
 programs-long rings [] [] h = refl
 programs-long rings [] (y ∷ programs) h = absurd h
 programs-long rings (x ∷ workers) [] h = absurd h
@@ -49,20 +49,20 @@ programs-long rings (x ∷ workers) (y ∷ programs) h = ap ℕ.suc (programs-lo
 -- ---- the first worker that is refused is one
 
 module _ (rings : ℕ) where
-  has-program : (worker : WorkerText) (front : List WorkerText) (programs : List Subject) → AllZip (IsProgramOf rings) (worker ∷ front) programs → HasProgram rings worker
+  has-program : (worker : WorkerText) (front : List WorkerText) (programs : List Subject) → AllZip (IsWorkersProgram rings) (worker ∷ front) programs → HasProgram rings worker
   has-program worker front [] h = absurd h
   has-program worker front (subject ∷ programs) h = (subject, h.0)
 
-  rest-programs : (worker : WorkerText) (front : List WorkerText) (programs : List Subject) → AllZip (IsProgramOf rings) (worker ∷ front) programs → (rest : List Subject) × AllZip (IsProgramOf rings) front rest
+  rest-programs : (worker : WorkerText) (front : List WorkerText) (programs : List Subject) → AllZip (IsWorkersProgram rings) (worker ∷ front) programs → (rest : List Subject) × AllZip (IsWorkersProgram rings) front rest
   rest-programs worker front [] h = absurd h
   rest-programs worker front (subject ∷ programs) h = (programs, h.1)
 
-  accepted-all : (front : List WorkerText) (worker : WorkerText) (behind : List WorkerText) (programs : List Subject) → AllZip (IsProgramOf rings) (front ++ worker ∷ behind) programs → HasProgram rings worker
+  accepted-all : (front : List WorkerText) (worker : WorkerText) (behind : List WorkerText) (programs : List Subject) → AllZip (IsWorkersProgram rings) (front ++ worker ∷ behind) programs → HasProgram rings worker
   accepted-all [] worker behind programs h = has-program worker behind programs h
   accepted-all (x ∷ front) worker behind [] h = absurd h
   accepted-all (x ∷ front) worker behind (subject ∷ programs) h = accepted-all front worker behind programs h.1
 
-  same-worker : (v w : WorkerText) (b c f g : List WorkerText) (p q : List Subject) → f ++ v ∷ b ≡ g ++ w ∷ c → AllZip (IsProgramOf rings) f p → AllZip (IsProgramOf rings) g q
+  same-worker : (v w : WorkerText) (b c f g : List WorkerText) (p q : List Subject) → f ++ v ∷ b ≡ g ++ w ∷ c → AllZip (IsWorkersProgram rings) f p → AllZip (IsWorkersProgram rings) g q
       → (HasProgram rings v → ⊥) → (HasProgram rings w → ⊥) → v ≡ w
   same-worker v w b c [] [] p q e h k a r = cc
   same-worker v w b c [] (y ∷ g) p q e h k a r = let same : v ≡ y = cc in absurd (a (subst (HasProgram rings) (sym same) (has-program y g q k)))
@@ -78,8 +78,8 @@ module _ (rings : ℕ) where
       let same : a.worker ≡ b.worker = same-worker a.worker b.worker a.behind b.behind a.front b.front a.accepted.0 b.accepted.0 (sym a.parted ∙ b.parted) a.accepted.1 b.accepted.1 a.refused b.refused in
       sym a.line_is ∙ (ap (λ (w : WorkerText). w.line) same ∙ b.line_is)
 
-  pub none-refused : (workers : List WorkerText) (programs : List Subject) → AllZip (IsProgramOf rings) workers programs → (line : ℕ) → IsFirstRefused rings workers line → ⊥
-  none-refused workers programs h line a = a.refused (accepted-all a.front a.worker a.behind programs (subst (λ l. AllZip (IsProgramOf rings) l programs) a.parted h))
+  pub none-refused : (workers : List WorkerText) (programs : List Subject) → AllZip (IsWorkersProgram rings) workers programs → (line : ℕ) → IsFirstRefused rings workers line → ⊥
+  none-refused workers programs h line a = a.refused (accepted-all a.front a.worker a.behind programs (subst (λ l. AllZip (IsWorkersProgram rings) l programs) a.parted h))
 
   abbrev err : {T : Type 0} → ScriptFault → Result T ScriptFault
   err fault = Err fault

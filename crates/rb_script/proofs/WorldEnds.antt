@@ -19,10 +19,10 @@ use Rattle.rb_world.specs.declared.opening.WorkerSetup.{WorkerSetup}
 use Rattle.rb_world.specs.declared.world_record.WorldRecord.{WorldRecord}
 use Rattle.rb_world.proofs.Openings.{length-opened}
 use Rattle.rb_chapter_ring.specs.Chapters.{Chapter, closing_of}
-use Rattle.rb_chapter_ring.specs.Opening.{Opening}
+use Rattle.rb_chapter_ring.specs.Standing.{Standing}
 use Rattle.rb_script.specs.Drawings.{drawing_line, ring_drawing}
 use Rattle.rb_script.specs.OutputLines.{ring_line}
-use Rattle.rb_script.specs.Simulation.{lines_below, ring_text}
+use Rattle.rb_script.specs.Simulation.{lines_below, ring_state_text}
 
 pub machines-long : (setups : List WorkerSetup) (machines : List (MachineState WorldRecord)) → AllZip IsStarted setups machines → length setups ≡ length machines
 machines-long [] [] h = refl
@@ -48,14 +48,14 @@ module _ (earlier : List Entry) (ring : ChapterRing) (kept : IsKept earlier ring
   same = (goes-on ring.chapter.opening.setup earlier ring.chapter.opening kept.continues.earlier_legal kept.continues.opened ring.chapter.entries).1 kept.continues.legal
 
   pub ring-shown : (r : ℕ) (whole : Ring) → whole_ring earlier ring ≡ whole → (producer consumer : ℕ) (counts : Counts) → producer ≡ producer_from ring.chapter.opening ring.chapter.entries → consumer ≡ consumer_from ring.chapter.opening ring.chapter.entries
-      → counts ≡ told_counts ring → ring_line r producer consumer counts ≡ ring_text r whole
+      → counts ≡ told_counts ring → ring_line r producer consumer counts ≡ ring_state_text r whole
   ring-shown r whole e producer consumer counts p q k =
       ap (λ n. ring_line r n consumer counts) (p ∙ same.query PROD_POS)
       ∙ (ap (λ n. ring_line r (producer_now (whole_ring earlier ring)) n counts) (q ∙ same.query CONS_POS)
-      ∙ (ap (λ c. ring_line r (producer_now (whole_ring earlier ring)) (consumer_now (whole_ring earlier ring)) c) (k ∙ ap capped_counts same.counts) ∙ ap (λ s. ring_text r s) e))
+      ∙ (ap (λ c. ring_line r (producer_now (whole_ring earlier ring)) (consumer_now (whole_ring earlier ring)) c) (k ∙ ap capped_counts same.counts) ∙ ap (λ s. ring_state_text r s) e))
 
   -- its drawing by what its chapter stands for at its end
-  pub drawing-shown : (r : ℕ) (whole : Ring) → whole_ring earlier ring ≡ whole → (chapter : Chapter) → chapter ≡ ring.chapter → (closing : Opening) → closing ≡ closing_of chapter
+  pub drawing-shown : (r : ℕ) (whole : Ring) → whole_ring earlier ring ≡ whole → (chapter : Chapter) → chapter ≡ ring.chapter → (closing : Standing) → closing ≡ closing_of chapter
       → drawing_line r closing.setup.size closing.consumer closing.producer closing.records ≡ ring_drawing r whole
   drawing-shown r whole e chapter is closing closes =
-      ap (λ (o : Opening). drawing_line r o.setup.size o.consumer o.producer o.records) (closes ∙ (ap closing_of is ∙ same.stands)) ∙ ap (ring_drawing r) e
+      ap (λ (o : Standing). drawing_line r o.setup.size o.consumer o.producer o.records) (closes ∙ (ap closing_of is ∙ same.stands)) ∙ ap (ring_drawing r) e

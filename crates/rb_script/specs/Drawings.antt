@@ -9,7 +9,7 @@ use Rattle.rb_history.specs.Calls.{producer_now, consumer_now}
 use Rattle.rb_history.specs.History.{Shown, Status, records}
 use Rattle.rb_history.specs.History.Status.{Busy, Waiting, Consumed, Discarded}
 use Rattle.rb_history.specs.RingModel.{Ring}
-use Rattle.rb_script.specs.OutputLines.{line}
+use Rattle.rb_io.specs.Lines.{line}
 
 abbrev pub status_word : Status → List ℕ
 status_word Busy = codes "busy"

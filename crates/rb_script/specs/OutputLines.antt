@@ -1,31 +1,22 @@
 -- The lines that are written of a script's turns and of the world at the end, as bytes (own).
 use Rattle.std.specs.Prelude.{ℕ, List, [], ◌∷◌, ◌++◌, codes, length}
 use Rattle.std.specs.Fmt.{decimal}
-use Rattle.hex.specs.Hex.{encode_lower}
+use Rattle.rb_io.specs.Lines.{hex_text, line}
 use Rattle.rb_history.specs.declared.answers.Taken.{Taken}
 use Rattle.rb_history.specs.declared.answers.Taken.TheVariants.{Event, Skipped, BusyFront, Empty}
 use Rattle.rb_history.specs.declared.answers.Counts.{Counts}
-
--- a line: the text, and a line feed
-abbrev pub line : List ℕ → List ℕ
-line text = text ++ 10 ∷ []
-
--- bytes in hex; `-` where there are none
-abbrev pub hex_text : List ℕ → List ℕ
-hex_text [] = codes "-"
-hex_text (byte ∷ bytes) = encode_lower (byte ∷ bytes)
 
 -- where a record stands, its worker, and how many that worker was granted before
 abbrev pub grant_text : (pos worker serial : ℕ) → List ℕ
 grant_text pos worker serial = codes " pos " ++ decimal pos ++ codes " worker " ++ decimal worker ++ codes " serial " ++ decimal serial
 
 -- a record's length and its bytes
-abbrev pub bytes_text : List ℕ → List ℕ
-bytes_text bytes = codes " len " ++ decimal (length bytes) ++ codes " " ++ hex_text bytes
+abbrev pub record_text : List ℕ → List ℕ
+record_text bytes = codes " len " ++ decimal (length bytes) ++ codes " " ++ hex_text bytes
 
 -- what a take found: a submitted record with its bytes, a discarded one, a busy one, or none
 abbrev pub found_text : Taken → List ℕ
-found_text (Event pos worker serial bytes) = grant_text pos worker serial ++ bytes_text bytes
+found_text (Event pos worker serial bytes) = grant_text pos worker serial ++ record_text bytes
 found_text (Skipped pos len) = codes " pos " ++ decimal pos ++ codes " len " ++ decimal len ++ codes " discarded"
 found_text BusyFront = codes " busy"
 found_text Empty = codes " empty"

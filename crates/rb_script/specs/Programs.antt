@@ -13,7 +13,7 @@ use Rattle.rb_script.specs.Scripts.{WorkerText}
 
 -- the worker's text is the bytes of this program in hex; the program is well-shaped, and has a valid annotation for so many rings and a
 -- context as long as the worker's
-pub record IsProgramOf (rings : ℕ) (worker : WorkerText) (subject : Subject) : Type 0 where
+pub record IsWorkersProgram (rings : ℕ) (worker : WorkerText) (subject : Subject) : Type 0 where
   pub bytes : List ℕ
   pub hex : IsHexOf (without_white_space worker.program) bytes
   pub program : IsProgram subject.program
@@ -27,7 +27,7 @@ pub record IsProgramOf (rings : ℕ) (worker : WorkerText) (subject : Subject) :
 
 -- some program is the worker's
 abbrev pub HasProgram : ℕ → WorkerText → Type 0
-HasProgram rings worker = (subject : Subject) × IsProgramOf rings worker subject
+HasProgram rings worker = (subject : Subject) × IsWorkersProgram rings worker subject
 
 -- the worker of this line is the first whose program is refused
 pub record IsFirstRefused (rings : ℕ) (workers : List WorkerText) (line : ℕ) : Type 0 where
@@ -35,7 +35,7 @@ pub record IsFirstRefused (rings : ℕ) (workers : List WorkerText) (line : ℕ)
   pub worker : WorkerText
   pub behind : List WorkerText
   pub parted : workers ≡ front ++ worker ∷ behind
-  pub accepted : (programs : List Subject) × AllZip (IsProgramOf rings) front programs
+  pub accepted : (programs : List Subject) × AllZip (IsWorkersProgram rings) front programs
   pub refused : HasProgram rings worker → ⊥
   pub line_is : worker.line ≡ line
 

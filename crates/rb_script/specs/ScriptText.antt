@@ -30,14 +30,14 @@ abbrev pub is_plain : ℕ → Bool
 is_plain byte = is_ascii byte && (byte == 32 || not (is_ascii_whitespace byte))
 
 -- a word is a number in decimal digits
-pub record Spells (word : List ℕ) (number : ℕ) : Type 0 where
+pub record SpellsNumber (word : List ℕ) (number : ℕ) : Type 0 where
   pub digits : IsNumeral 10 word
   pub value : digits_value 10 word ≡ number
 
 -- SIZE START or SIZE START ROOM; the room is 65,536 where none is given
 abbrev pub SaysRing : List (List ℕ) → RingSetup → Type 0
-SaysRing (size ∷ start ∷ []) setup = Spells size setup.size × Spells start setup.start × (setup.room ≡ 65536)
-SaysRing (size ∷ start ∷ room ∷ []) setup = Spells size setup.size × Spells start setup.start × Spells room setup.room
+SaysRing (size ∷ start ∷ []) setup = SpellsNumber size setup.size × SpellsNumber start setup.start × (setup.room ≡ 65536)
+SaysRing (size ∷ start ∷ room ∷ []) setup = SpellsNumber size setup.size × SpellsNumber start setup.start × SpellsNumber room setup.room
 SaysRing words setup = ⊥
 
 -- HEX or HEX CTXHEX; the hex of a program is decoded with the program, and no context is an empty one
@@ -48,13 +48,13 @@ SaysWorker words program context = ⊥
 
 -- NUMBER or NUMBER COUNT; one turn where no count is given
 abbrev pub SaysTurns : List (List ℕ) → (number count : ℕ) → Type 0
-SaysTurns (number ∷ []) n count = Spells number n × (count ≡ 1)
-SaysTurns (number ∷ times ∷ []) n count = Spells number n × Spells times count
+SaysTurns (number ∷ []) n count = SpellsNumber number n × (count ≡ 1)
+SaysTurns (number ∷ times ∷ []) n count = SpellsNumber number n × SpellsNumber times count
 SaysTurns words n count = ⊥
 
 -- a keeper's turn has no count
 abbrev pub SaysOneTurn : List (List ℕ) → (number count : ℕ) → Type 0
-SaysOneTurn (number ∷ []) n count = Spells number n × (count ≡ 1)
+SaysOneTurn (number ∷ []) n count = SpellsNumber number n × (count ≡ 1)
 SaysOneTurn words n count = ⊥
 
 -- the word in front, and the words behind it
@@ -67,13 +67,13 @@ SaysWords (word ∷ words) (TurnsOf (Consumer r) count) = (word ≡ codes "c") �
 SaysWords (word ∷ words) (TurnsOf (Keeper r) count) = (word ≡ codes "k") × SaysOneTurn words r count
 
 -- sizes, starts and rooms are those of a world's rings, a context has at most 65,536 bytes, and a line gives 1 to 1,000,000 turns
-abbrev pub IsWithinBounds : Statement → Type 0
-IsWithinBounds (RingOf setup) = IsRingSetup setup × IsChapterRoom setup.room
-IsWithinBounds (WorkerOf program context) = length context ≤ 65536
-IsWithinBounds (TurnsOf actor count) = (1 ≤ count) × (count ≤ 1000000)
+abbrev pub IsStatementWithinBounds : Statement → Type 0
+IsStatementWithinBounds (RingOf setup) = IsRingSetup setup × IsChapterRoom setup.room
+IsStatementWithinBounds (WorkerOf program context) = length context ≤ 65536
+IsStatementWithinBounds (TurnsOf actor count) = (1 ≤ count) × (count ≤ 1000000)
 
 -- a line says so
 pub record Says (line : List ℕ) (statement : Statement) : Type 0 where
   pub plain : AllPass is_plain line
   pub words : SaysWords (words_of line) statement
-  pub bounds : IsWithinBounds statement
+  pub bounds : IsStatementWithinBounds statement

@@ -29,7 +29,7 @@ IsAmong rings workers (Consumer r) = r < rings
 IsAmong rings workers (Keeper r) = r < rings
 
 -- a script that can be run: its rings are lawful, it has 1 to 256 workers, and each turn is one of a worker or a ring that is there
-pub record MayRun (s : Script) : Type 0 where
+pub record MayRunScript (s : Script) : Type 0 where
   pub limits : IsWithinLimits s
   pub worker : HasWorker s
   pub rings : AreRings s.rings.items
@@ -45,18 +45,18 @@ pub record WorkerText : Type 0 where
   pub context : List ℕ
 
 -- the rings, in the order of their lines
-abbrev pub rings_of : List Statement → List RingSetup
-rings_of [] = []
-rings_of (RingOf setup ∷ said) = setup ∷ rings_of said
-rings_of (WorkerOf program context ∷ said) = rings_of said
-rings_of (TurnsOf actor count ∷ said) = rings_of said
+abbrev pub script_rings : List Statement → List RingSetup
+script_rings [] = []
+script_rings (RingOf setup ∷ said) = setup ∷ script_rings said
+script_rings (WorkerOf program context ∷ said) = script_rings said
+script_rings (TurnsOf actor count ∷ said) = script_rings said
 
 -- the workers, in the order of their lines, the first of which has this number
-abbrev pub workers_of : ℕ → List Statement → List WorkerText
-workers_of number [] = []
-workers_of number (RingOf setup ∷ said) = workers_of (number + 1) said
-workers_of number (WorkerOf program context ∷ said) = record { line = number; program = program; context = context } ∷ workers_of (number + 1) said
-workers_of number (TurnsOf actor count ∷ said) = workers_of (number + 1) said
+abbrev pub script_workers : ℕ → List Statement → List WorkerText
+script_workers number [] = []
+script_workers number (RingOf setup ∷ said) = script_workers (number + 1) said
+script_workers number (WorkerOf program context ∷ said) = record { line = number; program = program; context = context } ∷ script_workers (number + 1) said
+script_workers number (TurnsOf actor count ∷ said) = script_workers (number + 1) said
 
 -- whose the turns are, one after the other
 abbrev pub actors_of : List Statement → List Actor
@@ -77,36 +77,36 @@ MayStandBehind rings workers turns (TurnsOf actor count) = (1 ≤ workers) × Is
 abbrev pub AreInOrder : (front : List Statement) → List Statement → Type 0
 AreInOrder front [] = Unit {0}
 AreInOrder front (statement ∷ more) =
-    MayStandBehind (length (rings_of front)) (length (workers_of 1 front)) (length (actors_of front)) statement × AreInOrder (front ++ statement ∷ []) more
+    MayStandBehind (length (script_rings front)) (length (script_workers 1 front)) (length (actors_of front)) statement × AreInOrder (front ++ statement ∷ []) more
 
 -- ---- the script, and the first line at fault
 
 -- the lines say this, and each may stand where it does
-pub record Begins (lines : List (List ℕ)) (said : List Statement) : Type 0 where
+pub record LinesSay (lines : List (List ℕ)) (said : List Statement) : Type 0 where
   pub says : AllZip Says lines said
   pub in_order : AreInOrder [] said
 
 -- lines with which a script may begin
 abbrev pub BeginsScript : List (List ℕ) → Type 0
-BeginsScript lines = (said : List Statement) × Begins lines said
+BeginsScript lines = (said : List Statement) × LinesSay lines said
 
 -- lines of a whole script
 abbrev pub IsScript : List (List ℕ) → Type 0
-IsScript lines = (said : List Statement) × Begins lines said × (1 ≤ length (workers_of 1 said))
+IsScript lines = (said : List Statement) × LinesSay lines said × (1 ≤ length (script_workers 1 said))
 
 abbrev pub worker_text : ScriptWorker → WorkerText
 worker_text worker = record { line = worker.line; program = worker.program.now; context = worker.context.items }
 
 -- the rings, the workers and the turns of a script are those that are said
 pub record IsMadeOf (said : List Statement) (s : Script) : Type 0 where
-  pub rings : s.rings.items ≡ rings_of said
-  pub workers : map worker_text s.workers.items ≡ workers_of 1 said
+  pub rings : s.rings.items ≡ script_rings said
+  pub workers : map worker_text s.workers.items ≡ script_workers 1 said
   pub actors : s.actors.items ≡ actors_of said
 
 -- each line is a line of a script, and the script is what they say
 pub record StandFor (lines : List (List ℕ)) (s : Script) : Type 0 where
   pub said : List Statement
-  pub begins : Begins lines said
+  pub begins : LinesSay lines said
   pub made : IsMadeOf said s
 
 -- the first line at fault: a script may begin with the lines in front of it, and not with it as well; where that is no line, it is the

@@ -19,7 +19,7 @@ use Rattle.rb_script.specs.declared.script.Script.{Script}
 use Rattle.rb_script.specs.declared.script.ScriptWorker.{ScriptWorker}
 use Rattle.rb_script.specs.Drawings.{ring_drawing}
 use Rattle.rb_script.specs.OutputLines.{take_line, chapter_line, done_line, at_line, ring_line}
-use Rattle.rb_script.specs.Programs.{IsProgramOf}
+use Rattle.rb_script.specs.Programs.{IsWorkersProgram}
 use Rattle.rb_script.specs.Scripts.{worker_text}
 
 -- the lines of the numbers below this one, in their order
@@ -83,11 +83,11 @@ abbrev pub worker_line : WorldValue → ℕ → List ℕ
 worker_line v w = status_line w (result_of ((world_of v).workers w)) (next_unit ((world_of v).workers w))
 
 -- a ring's: its positions and its counts, by its whole history
-abbrev pub ring_text : ℕ → Ring → List ℕ
-ring_text r ring = ring_line r (producer_now ring) (consumer_now ring) (counts_of ring.history)
+abbrev pub ring_state_text : ℕ → Ring → List ℕ
+ring_state_text r ring = ring_line r (producer_now ring) (consumer_now ring) (counts_of ring.history)
 
 abbrev pub ring_end_of : WorldValue → ℕ → List ℕ
-ring_end_of v r = ring_text r ((world_of v).rings r).ring
+ring_end_of v r = ring_state_text r ((world_of v).rings r).ring
 
 -- those of the workers, and then those of the rings
 abbrev pub world_text : WorldValue → List ℕ
@@ -114,7 +114,7 @@ pub record SimulatesWith (draw : Bool) (s : Script) (programs : List Subject) (b
 -- the same with the programs that the texts of the script's workers are
 pub record Simulates (draw : Bool) (s : Script) (before after ends : List ℕ) : Type 0 where
   pub programs : List Subject
-  pub accepted : AllZip (IsProgramOf (length s.rings.items)) (map worker_text s.workers.items) programs
+  pub accepted : AllZip (IsWorkersProgram (length s.rings.items)) (map worker_text s.workers.items) programs
   pub ran : SimulatesWith draw s programs before after ends
 
 -- the same world was opened, and the first of the script's turns were run in it, whose lines were added to the text
@@ -127,7 +127,7 @@ pub record BeginsSimulationWith (draw : Bool) (s : Script) (programs : List Subj
 
 pub record BeginsSimulation (draw : Bool) (s : Script) (before after : List ℕ) : Type 0 where
   pub programs : List Subject
-  pub accepted : AllZip (IsProgramOf (length s.rings.items)) (map worker_text s.workers.items) programs
+  pub accepted : AllZip (IsWorkersProgram (length s.rings.items)) (map worker_text s.workers.items) programs
   pub begun : BeginsSimulationWith draw s programs before after
 
 -- what was added to the text once memory ran out: nothing, or the lines of the first turns

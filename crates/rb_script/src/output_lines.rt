@@ -2,7 +2,8 @@
 
 ghost use Rattle.std.specs.Prelude.{◌≡◌, ◌<◌, ◌^◌, ◌++◌, OnOk, length};
 ghost use Rattle.std.specs.Fmt.{decimal};
-ghost use Rattle.rb_script.specs.OutputLines.{hex_text, grant_text, bytes_text, found_text, take_line, chapter_line, done_line, at_line, counts_text, ring_line};
+ghost use Rattle.rb_script.specs.OutputLines.{grant_text, record_text, found_text, take_line, chapter_line, done_line, at_line, counts_text, ring_line};
+ghost use Rattle.rb_io.specs.Lines.{hex_text};
 
 use itoa::Buffer;
 use rb_history::{Counts, Taken};
@@ -54,7 +55,7 @@ fn push_grant(text: &mut Vec<u8>, pos: u64, worker: u32, serial: u64) -> Result<
 
 // Adds the length of a record and its bytes.
 fn push_bytes(text: &mut Vec<u8>, sheet: &Sheet) -> Result<(), AllocError>
-    ensures text { OnOk result (text.new.items ≡ text.old.items ++ bytes_text sheet.now) }
+    ensures text { OnOk result (text.new.items ≡ text.old.items ++ record_text sheet.now) }
 {
     let len = sheet.len();
     text.extend_from_slice(b" len ")?;

@@ -3,7 +3,7 @@
 ghost use Rattle.std.specs.Prelude.{map, IfOk, IfErr};
 ghost use Rattle.std.specs.List.{AllZip};
 ghost use Rattle.rb_script.specs.Scripts.{worker_text};
-ghost use Rattle.rb_script.specs.Programs.{IsProgramOf, HasProgram, IsProgramsFault};
+ghost use Rattle.rb_script.specs.Programs.{IsWorkersProgram, HasProgram, IsProgramsFault};
 ghost use Rattle.rb_script.specs.inner.ScriptRead.{IsFaultUnless};
 
 use crate::script::ScriptWorker;
@@ -19,7 +19,7 @@ pub(crate) fn programs_of(
     workers: &[ScriptWorker<'_>],
     rings: usize,
 ) -> Result<Vec<Verified>, ScriptFault>
-    ensures programs { IfOk result (λ programs. AllZip (IsProgramOf rings) (map worker_text workers.now) programs.items) }
+    ensures programs { IfOk result (λ programs. AllZip (IsWorkersProgram rings) (map worker_text workers.now) programs.items) }
     ensures fault { IfErr result (IsProgramsFault rings (map worker_text workers.now)) }
 {
     let mut programs = Vec::new(alloc);
@@ -41,7 +41,7 @@ fn program_of(
     worker: &ScriptWorker<'_>,
     rings: usize,
 ) -> Result<Verified, ScriptFault>
-    ensures program { IfOk result (λ program. IsProgramOf rings (worker_text worker.now) program) }
+    ensures program { IfOk result (λ program. IsWorkersProgram rings (worker_text worker.now) program) }
     ensures fault { IfErr result (IsFaultUnless worker.now.line (HasProgram rings (worker_text worker.now))) }
 {
     // Beyond these no program is verified.

@@ -3,8 +3,8 @@
 ghost use Rattle.std.specs.Prelude.{◌≡◌, ◌==◌, ◌≤◌, ◌<◌, ◌⊎◌, ◌∷◌, ◌↔◌, ℕ, length, position, Err, IsTrue, IfOk, IfErr, OnOk};
 ghost use Rattle.rb_script.specs.ScriptText.{lines_of};
 ghost use Rattle.rb_script.specs.ScriptText.Statement.{RingOf};
-ghost use Rattle.rb_script.specs.Scripts.{HasWorker, IsWithinLimits, MayRun, IsScript, IsFirstFault, IsFaultOf, StandFor, IsAmong};
-ghost use Rattle.rb_script.specs.inner.ScriptRead.{AddsLawful, AddsWorker, AddsTurns, AddsLine, MayFollow, MayAddWorker, MayAddTurns, MayAddLine, IsFaultUnless};
+ghost use Rattle.rb_script.specs.Scripts.{HasWorker, IsWithinLimits, MayRunScript, IsScript, IsFirstFault, IsFaultOf, StandFor, IsAmong};
+ghost use Rattle.rb_script.specs.inner.ScriptRead.{AddsLawful, AddsWorker, AddsTurns, AddsLine, MayFollowScript, MayAddWorker, MayAddTurns, MayAddLine, IsFaultUnless};
 
 use crate::script_fault::ScriptFault;
 use crate::script_line::{ScriptLine, line_of};
@@ -45,7 +45,7 @@ impl<'a> Script<'a> {
     pub fn read(alloc: Global, input: &'a [u8]) -> Result<Script<'a>, ScriptFault>
         ensures limits { IfOk result IsWithinLimits }
         ensures worker { IfOk result HasWorker }
-        ensures runs { IfOk result MayRun }
+        ensures runs { IfOk result MayRunScript }
 
         // The script is what the lines say, and there is one exactly where each line is one of a script.
         ensures script { IfOk result (λ s. StandFor (lines_of input.now) s) }
@@ -99,7 +99,7 @@ impl<'a> Script<'a> {
         requires limits { IsWithinLimits self.old }
         ensures limits { OnOk result (IsWithinLimits self.new) }
         ensures added { OnOk result (AddsLawful number (RingOf setup) self.old self.new) }
-        ensures fault { IfErr result (IsFaultUnless number (MayFollow self.old (RingOf setup))) }
+        ensures fault { IfErr result (IsFaultUnless number (MayFollowScript self.old (RingOf setup))) }
     {
         if !self.actors.is_empty() || self.rings.len() >= 16 {
             return Err(ScriptFault::Line(number));

@@ -5,7 +5,7 @@ ghost use Rattle.std.specs.List.{AllPass};
 ghost use Rattle.rb_world.specs.declared.opening.RingSetup.{RingSetup};
 ghost use Rattle.rb_world.specs.OpenedWorlds.{IsRingSetup};
 ghost use Rattle.rb_chapter_ring.specs.Chapters.{IsChapterRoom};
-ghost use Rattle.rb_script.specs.ScriptText.{Spells, SaysRing, SaysWorker, SaysTurns, is_plain as is_plain_byte, words_of};
+ghost use Rattle.rb_script.specs.ScriptText.{SpellsNumber, SaysRing, SaysWorker, SaysTurns, is_plain as is_plain_byte, words_of};
 ghost use Rattle.rb_script.specs.inner.ScriptRead.{AreNumbersOf, IsWorkerText, IsSaid, SaysNone, IsLine, IsNoLine};
 
 use rb_history::{is_size, is_start};
@@ -162,8 +162,8 @@ fn turns_of(words: &str) -> Option<(u32, u64)>
 // The number of a worker or a ring.
 fn number_of(word: &str) -> Option<u32>
     ensures number { MatchOption result
-        ((number : ℕ) → Spells word.now number → number < 2 ^ 32 → ⊥)
-        (λ number. Spells word.now number) }
+        ((number : ℕ) → SpellsNumber word.now number → number < 2 ^ 32 → ⊥)
+        (λ number. SpellsNumber word.now number) }
 {
     let number = decimal(word)?;
     u32::try_from(number).ok()
@@ -172,8 +172,8 @@ fn number_of(word: &str) -> Option<u32>
 // The number that decimal digits spell, if it is below 2^64. `parse` alone would take a plus in front.
 fn decimal(text: &str) -> Option<u64>
     ensures number { MatchOption result
-        ((number : ℕ) → Spells text.now number → number < 2 ^ 64 → ⊥)
-        (λ number. Spells text.now number) }
+        ((number : ℕ) → SpellsNumber text.now number → number < 2 ^ 64 → ⊥)
+        (λ number. SpellsNumber text.now number) }
 {
     if text.as_bytes().first() == Some(&b'+') {
         return None;

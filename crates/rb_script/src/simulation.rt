@@ -4,8 +4,8 @@ ghost use Rattle.std.specs.Prelude.{◌≡◌, ◌≤◌, ◌⊎◌, ◌++◌, �
 ghost use Rattle.rb_world.specs.WorldValue.{IsThere, world_of};
 ghost use Rattle.rb_world.specs.declared.actor.Actor.TheVariants.{Worker, Consumer};
 ghost use Rattle.std.specs.List.{AllZip};
-ghost use Rattle.rb_script.specs.Programs.{IsFirstRefused, IsProgramOf, IsProgramsFault};
-ghost use Rattle.rb_script.specs.Scripts.{MayRun, worker_text};
+ghost use Rattle.rb_script.specs.Programs.{IsFirstRefused, IsWorkersProgram, IsProgramsFault};
+ghost use Rattle.rb_script.specs.Scripts.{MayRunScript, worker_text};
 ghost use Rattle.rb_script.specs.Simulation.{AreSetups, BeginsRun, BeginsSimulationWith, BreaksOff, Simulates, SimulatesWith, WritesRun, drawing_of, drawings, lines_below, worker_line, ring_end_of, world_text};
 ghost use Rattle.rb_script.specs.inner.ShownTurns.{consumer_text, keeper_text, last_line, shown_text};
 
@@ -29,7 +29,7 @@ impl<'a> Script<'a> {
         draw: bool,
         text: &mut Vec<u8>,
     ) -> Result<Vec<u8>, ScriptFault>
-        requires may_run { MayRun self.now }
+        requires may_run { MayRunScript self.now }
         ensures ran { IfOk result (λ ends. Simulates draw self.now text.old.items text.new.items ends.items) }
         ensures refused { IfErr result (IsProgramsFault (length self.now.rings.items) (map worker_text self.now.workers.items)) }
         ensures only_refused { (line : ℕ) → IsFirstRefused (length self.now.rings.items) (map worker_text self.now.workers.items) line
@@ -55,8 +55,8 @@ impl<'a> Script<'a> {
         draw: bool,
         text: &mut Vec<u8>,
     ) -> Result<Vec<u8>, AllocError>
-        requires may_run { MayRun self.now }
-        requires accepted { AllZip (IsProgramOf (length self.now.rings.items)) (map worker_text self.now.workers.items) programs.now }
+        requires may_run { MayRunScript self.now }
+        requires accepted { AllZip (IsWorkersProgram (length self.now.rings.items)) (map worker_text self.now.workers.items) programs.now }
         ensures ran { IfOk result (λ ends. SimulatesWith draw self.now programs.now text.old.items text.new.items ends.items) }
         ensures begun { OnErr result ((text.new.items ≡ text.old.items) ⊎ BeginsSimulationWith draw self.now programs.now text.old.items text.new.items) }
     {

@@ -5,7 +5,7 @@ use Rattle.rb_history.specs.declared.answers.Notice.{Notice}
 use Rattle.rb_history.specs.declared.answers.Notice.TheVariants.{Due}
 use Rattle.rb_history.specs.NoticesAndQueries.{IsDue}
 use Rattle.rb_chapter_ring.specs.ChapterRing.{ChapterRing}
-use Rattle.rb_chapter_ring.specs.ChapterCalls.{Outputs, producer_now, consumer_now}
+use Rattle.rb_chapter_ring.specs.ChapterCalls.{OutputsByChapter, producer_by_chapter, consumer_by_chapter}
 use Rattle.rb_chapter_ring.specs.declared.faults.ReserveFault.{ReserveFault}
 use Rattle.rb_chapter_ring.specs.declared.faults.ReserveFault.TheVariants.{Flags}
 use Rattle.rb_chapter_ring.specs.RingFaults.{RefusesInChapter}
@@ -19,7 +19,7 @@ pub meets-reserve : (old new : HandRing) (w hand n : ℕ) (a : Result HandGrante
 meets-reserve old new w hand n (Ok r) granted worker zeros refused flags same = (granted, worker, zeros)
 meets-reserve old new w hand n (Err e) granted worker zeros refused flags same = (refused, flags, same)
 
-pub meets-output : (old new : ChapterRing) (w : ℕ) (b : List ℕ) (flags : ℕ) (a : Result Notice (ReserveFault × List ℕ)) → OnOk a (Outputs old new w b) → IfOk a (λ n. (n ≡ Due) ↔ IsDue (consumer_now old) (producer_now old) flags)
+pub meets-output : (old new : ChapterRing) (w : ℕ) (b : List ℕ) (flags : ℕ) (a : Result Notice (ReserveFault × List ℕ)) → OnOk a (OutputsByChapter old new w b) → IfOk a (λ n. (n ≡ Due) ↔ IsDue (consumer_by_chapter old) (producer_by_chapter old) flags)
     → OnOk a (flags ≤ 3) → IfErr a (λ e. (e.0 ≡ Flags) ↔ (3 < flags)) → IfErr a (λ e. RefusesInChapter old new w (length b) e.0) → OutputsInChapter w b flags a old new
 meets-output old new w b flags (Ok n) done due known flags_above refused = (done, due, known)
 meets-output old new w b flags (Err e) done due known flags_above refused = (refused, flags_above)

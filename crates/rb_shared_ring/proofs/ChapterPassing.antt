@@ -14,18 +14,18 @@ use Rattle.rb_ledger.specs.ChapterLockSteps.{TakesChapterState, MayPutChapter, P
 use Rattle.rb_ledger.specs.LockedChapterCalls.{LockedChapterCall}
 use Rattle.rb_ledger.specs.inner.ChapterRooms.{InRoomAt, InKnownRoom}
 use Rattle.rb_ledger.proofs.ChapterSteps.{has-same, handed-out-same, calls-may-put, facts-make-ring}
-use Rattle.rb_shared_ring.specs.inner.SeatPasses.{seen_by, bytes_by, room_by, handed_out_by, known_in, IsIdleIn}
+use Rattle.rb_shared_ring.specs.inner.SeatPasses.{seen_by, bytes_by, room_by, handed_out_by, known_as, IsIdleIn}
 use Rattle.rb_shared_ring.specs.inner.LentState.{IsKeptRing}
 
 -- what one role's pass knows once it has the state out
 pub record HeldChapter (role : Role) (v : ChapterPassView) (r : ChapterRing) (w : ChapterPassView) : Type 0 where
   pub taken : ChapteredRing
   pub ring_is : taken.ring ≡ r
-  pub now : w ≡ chapter_view (known_in role v ∷ []) (Some taken)
+  pub now : w ≡ chapter_view (known_as role v ∷ []) (Some taken)
   pub goes_on : ExtendsSeen role (seen_by v) (book_of (whole_of taken))
   pub was_ring : IsChapteredRing taken
   pub is_role : IsRoleIn (whole_of taken).setup role
-  pub knows : KnowsHandedOut taken.ring.chapter.room taken.handed_out (known_in role v)
+  pub knows : KnowsHandedOut taken.ring.chapter.room taken.handed_out (known_as role v)
 
 pub held-in : (role : Role) (v : ChapterPassView) (r : ChapterRing) (w : ChapterPassView) → IsIdleIn role v → TakesChapterState v r w → HeldChapter role v r w
 held-in role v r w idle took =
@@ -65,7 +65,7 @@ module _ (role : Role) (v : ChapterPassView) (r new : ChapterRing) (w : ChapterP
       facts-make-ring left_by has.binds kept.room b.chapter_room kept.stands (record { size = b.size; start = b.start; workers = b.workers; consumer = b.consumer; producer = b.producer; room = b.room })
 
   pub may-put-in : (IsRing (whole_of left_by) → RoleStep (role_knowledge role (seen_by v) (bytes_by v)) (whole_of h.taken) (whole_of left_by) (knowledge_after (whole_of h.taken) (whole_of left_by) (role_knowledge role (seen_by v) (bytes_by v)))) → MayPutChapter w new
-  may-put-in step = subst (λ x. MayPutChapter x new) (sym h.now) (calls-may-put (known_in role v) h.taken new h.was_ring.has_chapters same-taken kept.legal kept.room (step left-ring.is_ring))
+  may-put-in step = subst (λ x. MayPutChapter x new) (sym h.now) (calls-may-put (known_as role v) h.taken new h.was_ring.has_chapters same-taken kept.legal kept.room (step left-ring.is_ring))
 
   module _ (after : ChapterPassView) (put : PutsChapterState w new after) where
     -- the pass once the state is back

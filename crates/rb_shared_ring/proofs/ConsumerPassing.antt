@@ -32,7 +32,7 @@ use Rattle.rb_history.specs.RoomRule.{Setup}
 use Rattle.rb_chapter_ring.proofs.Chain.{binds-continue, binds-number}
 use Rattle.rb_ledger.proofs.ChapterSteps.{handed-out-more, handed-out-whole, has-next, hands-out-may-put}
 use Rattle.rb_ledger.proofs.WholeCalls.{takes-whole}
-use Rattle.rb_shared_ring.specs.inner.SeatPasses.{seen_by, bytes_by, room_by, handed_out_by, known_in, IsIdleIn}
+use Rattle.rb_shared_ring.specs.inner.SeatPasses.{seen_by, bytes_by, room_by, handed_out_by, known_as, IsIdleIn}
 use Rattle.rb_shared_ring.specs.inner.LentState.{IsKeptRing}
 use Rattle.rb_shared_ring.proofs.ChapterPassing.{HeldChapter, held-in, may-put-in, idle-in, bytes-in, room-in, handed-out-in, is-known-in}
 use Rattle.rb_shared_ring.proofs.WholeAnswers.{stays, same-taken}
@@ -161,7 +161,7 @@ module _ (v : ChapterPassView) (r new : ChapterRing) (out : ChapterPassView) (id
     pub put-next : MayPutChapter out new
     put-next =
         let h = held-in Consumer v r out idle took in
-        subst (λ x. MayPutChapter x new) (sym h.now) (hands-out-may-put (known_in Consumer v) h.taken new c refl h.was_ring.has_chapters h.was_ring.is_ring (here-hands h))
+        subst (λ x. MayPutChapter x new) (sym h.now) (hands-out-may-put (known_as Consumer v) h.taken new c refl h.was_ring.has_chapters h.was_ring.is_ring (here-hands h))
 
     -- it has the room and the workers that the pass knows
     pub handed-fits : (c.room ≡ room_by v) × (c.opening.setup.workers ≡ (seen_by v).setup.workers)

@@ -7,7 +7,7 @@ use Rattle.rb_ledger.specs.SeatRoles.{roles_of}
 use Rattle.rb_ledger.proofs.Gathers.{gather-step}
 use Rattle.rb_ledger.specs.ChapterKnowledge.{ChapterKnowledge, chapter_view, whole_knowledge}
 use Rattle.rb_ledger.specs.HandKnowledge.{HandPassView, hand_view, without_hands, chapters_known, chapters_out}
-use Rattle.rb_shared_ring.specs.inner.SeatPasses.{known_in}
+use Rattle.rb_shared_ring.specs.inner.SeatPasses.{known_as}
 use Rattle.rb_shared_ring.specs.inner.HandPasses.{seen_with, bytes_with, known_with}
 
 -- the pass has the roles of the seats that are gone, in front of those that it had first; with those of the seats that are there they are all
@@ -19,7 +19,7 @@ pub gather-more : (items rest : List WorkerSeat) (s : WorkerSeat) (v own after f
     → seen_with own ≡ s.seen → bytes_with own ≡ s.sent → after ≡ hand_view (own.knows ++ v.knows) v.out → HasGathered items v first all → HasGathered rest after first all
 gather-more items rest s v own after first all cut is_own seen bytes is_after old =
     let ks = old.0 in
-    let k = known_in (Worker s.worker) (without_hands own) in
+    let k = known_as (Worker s.worker) (without_hands own) in
     let whole = pass_view (whole_knowledge old.0) None in
     let one = pass_view (role_knowledge (Worker s.worker) s.seen s.sent ∷ []) None in
     let step = gather-step items rest s whole (pass_view (one.knows ++ whole.knows) None) one cut refl refl in

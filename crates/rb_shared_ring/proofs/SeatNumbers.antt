@@ -1,7 +1,6 @@
 -- A worker's numbers after each call on a shared ring over chapters.
 use Rattle.std.proofs.Common.{◌≡◌, ℕ, ◌<◌, ◌≤◌, ◌^◌, List, length, sym, ap, ◌∙◌, subst, arith, Result, Ok, Err, IfOk}
 use Rattle.rb_history.specs.declared.answers.Notice.{Notice}
-use Rattle.rb_history.specs.declared.answers.Stray.{Stray}
 use Rattle.rb_history.specs.declared.tally.Tally.{Tally}
 use Rattle.rb_history.specs.ReservationModel.{Granted}
 use Rattle.rb_history.specs.WorkerCounts.{numbers_below}
@@ -16,19 +15,22 @@ use Rattle.rb_chapter_ring.proofs.ChapterNumbers.{length-below}
 use Rattle.rb_chapter_ring.specs.declared.faults.ReserveFault.{ReserveFault}
 use Rattle.rb_chapter_ring.specs.declared.faults.ReserveFault.TheVariants.{Full, Flags, ChapterFull, Foreign, HandsFull}
 use Rattle.rb_chapter_ring.specs.RingFaults.{RefusesInChapter}
+use Rattle.rb_chapter_ring.specs.declared.record_end.RecordEnd.{RecordEnd}
+use Rattle.rb_chapter_ring.specs.inner.EndSteps.{tally_with_end}
 use Rattle.rb_shared_ring.specs.declared.audit.Audit.{Audit}
 use Rattle.rb_ledger.specs.Roles.{Role, Book, book_of}
 use Rattle.rb_ledger.specs.Roles.Role.{Worker}
 use Rattle.rb_ledger.specs.Seats.{IsBook, Ties}
-use Rattle.rb_ledger.specs.LockedCalls.{LockedCall, Reserves, OutputsAt, SubmitsAt, DiscardsAt, Queries, submitted_by, discarded_by}
-use Rattle.rb_ledger.proofs.Seated.{ring-book, ties-goes, reserve-ties, submit-ties, discard-ties, output-ties, query-ties, serial-is}
+use Rattle.rb_ledger.specs.LockedCalls.{LockedCall, Reserves, OutputsAt, Queries}
+use Rattle.rb_ledger.proofs.Seated.{ring-book, ties-goes, reserve-ties, end-ties, output-ties, query-ties, serial-is}
 use Rattle.rb_ledger.specs.ChapteredRing.{ChapteredRing, chaptered_ring, whole_of}
 use Rattle.rb_ledger.specs.LockedChapterCalls.{LockedChapterCall, InOneChapter}
-use Rattle.rb_ledger.specs.inner.ChapterAnswers.{SubmitsInChapter, DiscardsInChapter, QueriesInChapter}
+use Rattle.rb_ledger.specs.inner.ChapterAnswers.{QueriesInChapter}
+use Rattle.rb_ledger.specs.inner.RecordEnds.{EndsInChapter, EndsAt}
 use Rattle.rb_chapter_ring.proofs.Chain.{binds-continue}
-use Rattle.rb_ledger.proofs.WholeCalls.{call-whole, with-worker, submits-whole, discards-whole, queries-whole}
+use Rattle.rb_ledger.proofs.WholeCalls.{call-whole, with-worker, ends-whole, queries-whole}
 use Rattle.rb_ledger.proofs.EntryRoom.{totals-are}
-use Rattle.rb_shared_ring.specs.SharedCalls.{IsRefusedInChapterAs, reserved_in_chapter_by, output_in_chapter_by}
+use Rattle.rb_shared_ring.specs.SharedCalls.{IsRefusedInRoomAs, reserved_in_room_by, output_in_room_by}
 use Rattle.rb_shared_ring.specs.inner.ChapterAnswers.{ReservesInChapter, OutputsInChapter, AuditsInChapter}
 use Rattle.rb_chapter_ring.specs.Hands.{Hands}
 use Rattle.rb_ledger.specs.HandKnowledge.{HandPassView}
@@ -79,22 +81,22 @@ module _ (w : ℕ) (t : Tally) (b a : Book) (ties : Ties w t b) where
   full-at old new n Foreign is call = absurd call
   full-at old new n HandsFull is call = absurd call
 
-  full-reserve : (old new : ChapterRing) (n : ℕ) (r : Result Granted (ReserveFault × List ℕ)) → ReservesInChapter w n r old new → IsRefusedInChapterAs Full r → (tally_from old.chapter.opening w old.chapter.entries).refused < 2 ^ 62
+  full-reserve : (old new : ChapterRing) (n : ℕ) (r : Result Granted (ReserveFault × List ℕ)) → ReservesInChapter w n r old new → IsRefusedInRoomAs Full r → (tally_from old.chapter.opening w old.chapter.entries).refused < 2 ^ 62
   full-reserve old new n (Ok g) call full = absurd full
   full-reserve old new n (Err e) call full = full-at old new n e.0 full call.0
 
-  full-output : (old new : ChapterRing) (bytes : List ℕ) (flags : ℕ) (r : Result Notice (ReserveFault × List ℕ)) → OutputsInChapter w bytes flags r old new → IsRefusedInChapterAs Full r → (tally_from old.chapter.opening w old.chapter.entries).refused < 2 ^ 62
+  full-output : (old new : ChapterRing) (bytes : List ℕ) (flags : ℕ) (r : Result Notice (ReserveFault × List ℕ)) → OutputsInChapter w bytes flags r old new → IsRefusedInRoomAs Full r → (tally_from old.chapter.opening w old.chapter.entries).refused < 2 ^ 62
   full-output old new bytes flags (Ok g) call full = absurd full
   full-output old new bytes flags (Err e) call full = full-at old new (length bytes) e.0 full call.0
 
   module _ (n : ℕ) (r : Result Granted (ReserveFault × List ℕ)) (c : LockedChapterCall (Worker w) b a (InOneChapter (ReservesInChapter w n r))) where
-    pub reserve-fits : IsRefusedInChapterAs Full r → t.refused < 2 ^ 62
+    pub reserve-fits : IsRefusedInRoomAs Full r → t.refused < 2 ^ 62
     reserve-fits full = subst (λ (x : Tally). x.refused < 2 ^ 62) (sym (tally-there (ReservesInChapter w n r) c)) (full-reserve c.point.ring c.left.ring n r c.called.1 full)
 
     whole-reserve : LockedCall (Worker w) b a (Reserves w n (whole_answer r))
     whole-reserve = call-whole (Worker w) b a _ (Reserves w n (whole_answer r)) (λ earlier old new is x. reserves-whole earlier old new is w n r x.0 x.1) (with-worker (Worker w) b a (ReservesInChapter w n r) (λ old new. Unit {0}) w ties.in_ring c)
 
-    pub reserve-tied : Ties w (reserved_in_chapter_by t r) a
+    pub reserve-tied : Ties w (reserved_in_room_by t r) a
     reserve-tied = subst (λ u. Ties w u a) (tally-reserved t r) (reserve-ties w t b a n (whole_answer r) whole-reserve ties)
 
     serial-of : (r : Result Granted (ReserveFault × List ℕ)) → IfOk (whole_answer r) (λ g. g.serial ≡ t.made) → IfOk r (λ g. g.serial ≡ t.made)
@@ -105,21 +107,18 @@ module _ (w : ℕ) (t : Tally) (b a : Book) (ties : Ties w t b) where
     serial-in = serial-of r (serial-is w t b a n (whole_answer r) whole-reserve ties)
 
   module _ (bytes : List ℕ) (flags : ℕ) (r : Result Notice (ReserveFault × List ℕ)) (More : ChapterRing → Type 0) (c : LockedChapterCall (Worker w) b a (InOneChapter (λ old new. OutputsInChapter w bytes flags r old new × More old))) where
-    pub output-fits : IsRefusedInChapterAs Full r → t.refused < 2 ^ 62
+    pub output-fits : IsRefusedInRoomAs Full r → t.refused < 2 ^ 62
     output-fits full = subst (λ (x : Tally). x.refused < 2 ^ 62) (sym (tally-there (λ old new. OutputsInChapter w bytes flags r old new × More old) c)) (full-output c.point.ring c.left.ring bytes flags r c.called.1.0 full)
 
-    pub output-tied : Ties w (output_in_chapter_by t r) a
+    pub output-tied : Ties w (output_in_room_by t r) a
     output-tied =
         let whole : LockedCall (Worker w) b a (λ old new. OutputsAt w bytes flags (whole_answer r) old new × Unit {0}) =
         call-whole (Worker w) b a _ (λ old new. OutputsAt w bytes flags (whole_answer r) old new × Unit {0}) (λ earlier old new is x. (outputs-whole earlier old new is w bytes flags r x.0 x.1.0, tt))
         (with-worker (Worker w) b a (λ old new. OutputsInChapter w bytes flags r old new × More old) (λ old new. Unit {0}) w ties.in_ring c) in
         subst (λ u. Ties w u a) (tally-output t r) (output-ties w t b a bytes flags (whole_answer r) (λ old. Unit {0}) whole ties)
 
-  pub submit-tied : (g : Granted) (flags : ℕ) (r : Result Notice Stray) → g.worker ≡ w → LockedChapterCall (Worker w) b a (InOneChapter (SubmitsInChapter g flags r)) → Ties w (submitted_by t r) a
-  submit-tied g flags r mine c = submit-ties w t b a g flags r mine (call-whole (Worker w) b a (SubmitsInChapter g flags r) (SubmitsAt g flags r) (λ earlier old new is x. submits-whole earlier old new is g flags r x) c) ties
-
-  pub discard-tied : (g : Granted) (flags : ℕ) (r : Result Notice Stray) → g.worker ≡ w → LockedChapterCall (Worker w) b a (InOneChapter (DiscardsInChapter g flags r)) → Ties w (discarded_by t r) a
-  discard-tied g flags r mine c = discard-ties w t b a g flags r mine (call-whole (Worker w) b a (DiscardsInChapter g flags r) (DiscardsAt g flags r) (λ earlier old new is x. discards-whole earlier old new is g flags r x) c) ties
+  pub end-tied : (end : RecordEnd) (g : Granted) (flags : ℕ) (n : Notice) → g.worker ≡ w → LockedChapterCall (Worker w) b a (InOneChapter (EndsInChapter end g flags n)) → Ties w (tally_with_end end t) a
+  end-tied end g flags n mine c = end-ties w t b a end g flags n mine (call-whole (Worker w) b a (EndsInChapter end g flags n) (EndsAt end g flags n) (λ earlier old new is x. ends-whole earlier old new is end g flags n x) c) ties
 
   pub query-tied : (what n : ℕ) → LockedChapterCall (Worker w) b a (InOneChapter (QueriesInChapter what n)) → Ties w t a
   query-tied what n c = query-ties w t b a what n (call-whole (Worker w) b a (QueriesInChapter what n) (Queries what n) (λ earlier old new is x. queries-whole earlier old new is what n x) c) ties

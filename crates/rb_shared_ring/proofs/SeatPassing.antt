@@ -1,28 +1,32 @@
 -- Each call of a worker's seat under the lock: that the state may be put back with its hands, and what the seat's pass knows then.
 use Rattle.std.proofs.Common.{◌≡◌, ℕ, ◌<◌, List, Some, None, set, refl, ap, ◌∙◌, Result, Ok, Err, IfOk}
-use Rattle.std.specs.FinMap.{insert}
 use Rattle.rb_history.specs.declared.answers.Notice.{Notice}
-use Rattle.rb_chapter_ring.specs.ChapterCalls.{producer_now}
+use Rattle.rb_chapter_ring.specs.ChapterCalls.{producer_by_chapter}
 use Rattle.rb_chapter_ring.specs.declared.faults.ReserveFault.{ReserveFault}
 use Rattle.rb_ledger.specs.Roles.Role.{Worker}
-use Rattle.rb_ledger.specs.inner.ChapterAnswers.{SubmitsInChapter, DiscardsInChapter, QueriesInChapter}
+use Rattle.rb_ledger.specs.inner.ChapterAnswers.{QueriesInChapter}
+use Rattle.rb_ledger.specs.inner.RecordEnds.{EndsInChapter, sent_by_end}
 use Rattle.rb_chapter_ring.specs.Hands.{out_record, Hands, hands_of, with_hand, IsFree}
 use Rattle.rb_chapter_ring.specs.HandRing.{HandRing}
+use Rattle.rb_chapter_ring.specs.HandEnds.{EndsFromHand}
 use Rattle.rb_chapter_ring.specs.HandGranted.{HandGranted}
+use Rattle.rb_chapter_ring.specs.declared.record_end.RecordEnd.{RecordEnd}
+use Rattle.rb_chapter_ring.specs.declared.record_end.RecordEnd.TheVariants.{Submit, Discard}
+use Rattle.rb_chapter_ring.specs.inner.RecordEnds.{Ends}
 use Rattle.rb_ledger.specs.HandKnowledge.{HandPassView, without_hands}
 use Rattle.rb_ledger.specs.HandLockSteps.{TakesHandState, MayPutHands, PutsHandState}
 use Rattle.rb_shared_ring.specs.declared.audit.Audit.{Audit}
-use Rattle.rb_shared_ring.specs.SharedCalls.{IsRefusedInChapterAs, granted_in, hands_reserved, sent_by_chapter_output}
+use Rattle.rb_shared_ring.specs.SharedCalls.{IsRefusedInRoomAs, granted_in, hands_reserved, sent_by_output_in_room}
 use Rattle.rb_shared_ring.specs.inner.ChapterAnswers.{ReservesInChapter, OutputsInChapter, AuditsInChapter}
-use Rattle.rb_shared_ring.specs.inner.HandCalls.{ReservesToHand, SubmitsOut, DiscardsOut, LeavesHands}
+use Rattle.rb_shared_ring.specs.inner.HandCalls.{ReservesToHand, EndsOut, LeavesHands}
 use Rattle.rb_shared_ring.specs.inner.HandPasses.{bytes_with, hands_by, IsIdleWith}
 use Rattle.rb_shared_ring.specs.inner.LentState.{IsKeptHandRing}
-use Rattle.rb_shared_ring.proofs.WholeAnswers.{stays, same-reserved, same-output, same-submitted, same-discarded}
+use Rattle.rb_shared_ring.proofs.WholeAnswers.{stays, same-reserved, same-output, same-ended}
 use Rattle.rb_shared_ring.proofs.WorkerPassing as chapter
 use Rattle.rb_shared_ring.proofs.HandPassing.{LeavesSeat, chapter-idle, chapter-out, put-chapter, may-put-same, may-put-changed, hand-changed, hands-same, leaves-seat}
 
 -- the same refusal, of what was granted without its hand
-pub refused-in : (fault : ReserveFault) (a : Result HandGranted (ReserveFault × List ℕ)) → IsRefusedInChapterAs fault a → IsRefusedInChapterAs fault (granted_in a)
+pub refused-in : (fault : ReserveFault) (a : Result HandGranted (ReserveFault × List ℕ)) → IsRefusedInRoomAs fault a → IsRefusedInRoomAs fault (granted_in a)
 refused-in fault (Ok r) is = is
 refused-in fault (Err e) is = is
 
@@ -39,6 +43,15 @@ hands-kept hands hand n (Err e) none = refl
 pub reserves-in : (w hand n : ℕ) (a : Result HandGranted (ReserveFault × List ℕ)) (old new : HandRing) → ReservesToHand w hand n a old new → ReservesInChapter w n (granted_in a) old.ring new.ring
 reserves-in w hand n (Ok r) old new c = (c.0.grants, c.1, c.2)
 reserves-in w hand n (Err e) old new c = (c.0, c.1)
+
+-- what comes to its end out of a hand comes to it in the ring's chapter, and leaves the hand free
+ends-in : (end : RecordEnd) (g : HandGranted) (old new : HandRing) → EndsFromHand end g.hand g.granted old new → Ends end g.granted old.ring new.ring
+ends-in Submit g old new e = e.submits
+ends-in Discard g old new e = e.discards
+
+frees-hand : (end : RecordEnd) (g : HandGranted) (old new : HandRing) → EndsFromHand end g.hand g.granted old new → new.hands ≡ with_hand old.hands g.granted.worker g.hand None
+frees-hand Submit g old new e = e.freed
+frees-hand Discard g old new e = e.freed
 
 module _ (w : ℕ) (v : HandPassView) (r new : HandRing) (out : HandPassView) (idle : IsIdleWith (Worker w) v) (took : TakesHandState v r out) (kept : IsKeptHandRing new) where
   -- ---- that the state may be put back
@@ -63,17 +76,11 @@ module _ (w : ℕ) (v : HandPassView) (r new : HandRing) (out : HandPassView) (i
       by-answer (Ok g) c m = may-put-changed w v r out idle took new hand (Some (out_record g.granted.pos g.granted.serial n)) kept m c.0.marked
       by-answer (Err e) c m = may-put-same (Worker w) v r out idle took new kept m c.2
 
-  pub put-submit : (g : HandGranted) (flags : ℕ) (notice : Notice) → g.granted.worker ≡ w → SubmitsOut g flags notice r new → MayPutHands out new
-  put-submit g flags notice mine c =
+  pub put-end : (end : RecordEnd) (g : HandGranted) (flags : ℕ) (notice : Notice) → g.granted.worker ≡ w → EndsOut end g flags notice r new → MayPutHands out new
+  put-end end g flags notice mine c =
       may-put-changed w v r out idle took new g.hand None kept
-      (chapter.put-submit w (without_hands v) r.ring new.ring (without_hands out) (chapter-idle (Worker w) v r out idle took) took.chapters kept.kept g.granted flags (Ok notice) mine (c.0.submits, c.1))
-      (c.0.freed ∙ ap (λ u. with_hand r.hands u g.hand None) mine)
-
-  pub put-discard : (g : HandGranted) (flags : ℕ) (notice : Notice) → g.granted.worker ≡ w → DiscardsOut g flags notice r new → MayPutHands out new
-  put-discard g flags notice mine c =
-      may-put-changed w v r out idle took new g.hand None kept
-      (chapter.put-discard w (without_hands v) r.ring new.ring (without_hands out) (chapter-idle (Worker w) v r out idle took) took.chapters kept.kept g.granted flags (Ok notice) mine (c.0.discards, c.1))
-      (c.0.freed ∙ ap (λ u. with_hand r.hands u g.hand None) mine)
+      (chapter.put-end w (without_hands v) r.ring new.ring (without_hands out) (chapter-idle (Worker w) v r out idle took) took.chapters kept.kept end g.granted flags notice mine (ends-in end g r new c.0, c.1))
+      (frees-hand end g r new c.0 ∙ ap (λ u. with_hand r.hands u g.hand None) mine)
 
   -- ---- what the pass knows then
 
@@ -91,9 +98,9 @@ module _ (w : ℕ) (v : HandPassView) (r new : HandRing) (out : HandPassView) (i
         (hands-same w v r out idle took new c.1)
 
     pub output : (b : List ℕ) (flags : ℕ) (a : Result Notice (ReserveFault × List ℕ)) → LeavesHands (OutputsInChapter w b flags a) r new
-        → LeavesSeat w v after (bytes_with after) (hands_by v) (λ old left. OutputsInChapter w b flags a old left × (bytes_with after ≡ sent_by_chapter_output (bytes_with v) (producer_now old) b a))
+        → LeavesSeat w v after (bytes_with after) (hands_by v) (λ old left. OutputsInChapter w b flags a old left × (bytes_with after ≡ sent_by_output_in_room (bytes_with v) (producer_by_chapter old) b a))
     output b flags a c =
-        leaves-seat w v r out idle took new kept (same-output r.ring new.ring w b flags a c.0) after put (bytes_with after) (λ old left. OutputsInChapter w b flags a old left × (bytes_with after ≡ sent_by_chapter_output (bytes_with v) (producer_now old) b a)) (hands_by v)
+        leaves-seat w v r out idle took new kept (same-output r.ring new.ring w b flags a c.0) after put (bytes_with after) (λ old left. OutputsInChapter w b flags a old left × (bytes_with after ≡ sent_by_output_in_room (bytes_with v) (producer_by_chapter old) b a)) (hands_by v)
         (chapter.output w (without_hands v) r.ring new.ring (without_hands out) (chapter-idle (Worker w) v r out idle took) took.chapters kept.kept (without_hands after) (put-chapter (Worker w) v r out idle took new after put) took.taken.chaptered (chapter-out (Worker w) v r out idle took) b flags a c.0)
         (hands-same w v r out idle took new c.1)
 
@@ -107,15 +114,10 @@ module _ (w : ℕ) (v : HandPassView) (r new : HandRing) (out : HandPassView) (i
         marked (Ok g) c = hand-changed w v r out idle took new hand (Some (out_record g.granted.pos g.granted.serial n)) free.below c.0.marked
         marked (Err e) c = hands-same w v r out idle took new c.2
 
-    module _ (g : HandGranted) (flags : ℕ) (notice : Notice) (mine : g.granted.worker ≡ w) (low : g.hand < 4) where
-      pub submitted : SubmitsOut g flags notice r new → LeavesSeat w v after (insert (bytes_with v) g.granted.pos g.granted.bytes) (set (hands_by v) g.hand None) (SubmitsInChapter g.granted flags (Ok notice))
-      submitted c =
-          leaves-seat w v r out idle took new kept (same-submitted r.ring new.ring g.granted flags (Ok notice) (c.0.submits, c.1)) after put (insert (bytes_with v) g.granted.pos g.granted.bytes) (SubmitsInChapter g.granted flags (Ok notice)) (set (hands_by v) g.hand None)
-          (chapter.submitted w (without_hands v) r.ring new.ring (without_hands out) (chapter-idle (Worker w) v r out idle took) took.chapters kept.kept (without_hands after) (put-chapter (Worker w) v r out idle took new after put) took.taken.chaptered (chapter-out (Worker w) v r out idle took) g.granted flags (Ok notice) (c.0.submits, c.1))
-          (hand-changed w v r out idle took new g.hand None low (c.0.freed ∙ ap (λ u. with_hand r.hands u g.hand None) mine))
-
-      pub discarded : DiscardsOut g flags notice r new → LeavesSeat w v after (bytes_with v) (set (hands_by v) g.hand None) (DiscardsInChapter g.granted flags (Ok notice))
-      discarded c =
-          leaves-seat w v r out idle took new kept (same-discarded r.ring new.ring g.granted flags (Ok notice) (c.0.discards, c.1)) after put (bytes_with v) (DiscardsInChapter g.granted flags (Ok notice)) (set (hands_by v) g.hand None)
-          (chapter.discarded w (without_hands v) r.ring new.ring (without_hands out) (chapter-idle (Worker w) v r out idle took) took.chapters kept.kept (without_hands after) (put-chapter (Worker w) v r out idle took new after put) took.taken.chaptered (chapter-out (Worker w) v r out idle took) g.granted flags (Ok notice) (c.0.discards, c.1))
-          (hand-changed w v r out idle took new g.hand None low (c.0.freed ∙ ap (λ u. with_hand r.hands u g.hand None) mine))
+    pub ended : (end : RecordEnd) (g : HandGranted) (flags : ℕ) (notice : Notice) → g.granted.worker ≡ w → g.hand < 4 → EndsOut end g flags notice r new
+        → LeavesSeat w v after (sent_by_end end g.granted (bytes_with v)) (set (hands_by v) g.hand None) (EndsInChapter end g.granted flags notice)
+    ended end g flags notice mine low c =
+        let call : EndsInChapter end g.granted flags notice r.ring new.ring = (ends-in end g r new c.0, c.1) in
+        leaves-seat w v r out idle took new kept (same-ended r.ring new.ring end g.granted flags notice call) after put (sent_by_end end g.granted (bytes_with v)) (EndsInChapter end g.granted flags notice) (set (hands_by v) g.hand None)
+        (chapter.ended w (without_hands v) r.ring new.ring (without_hands out) (chapter-idle (Worker w) v r out idle took) took.chapters kept.kept (without_hands after) (put-chapter (Worker w) v r out idle took new after put) took.taken.chaptered (chapter-out (Worker w) v r out idle took) end g.granted flags notice call)
+        (hand-changed w v r out idle took new g.hand None low (frees-hand end g r new c.0 ∙ ap (λ u. with_hand r.hands u g.hand None) mine))

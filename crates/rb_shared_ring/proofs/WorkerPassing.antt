@@ -1,38 +1,38 @@
 -- A worker's call under the lock: that the state may be put back, and what the worker's pass knows then.
 use Rattle.std.proofs.Common.{◌≡◌, ℕ, ◌<◌, List, Some, length, drop, refl, sym, ap, ◌∙◌, subst, Result}
 use Rattle.rb_history.specs.declared.answers.Notice.{Notice}
-use Rattle.rb_history.specs.declared.answers.Stray.{Stray}
 use Rattle.rb_history.specs.ReservationModel.{Granted}
 use Rattle.rb_history.specs.RingModel.{Contents}
 use Rattle.rb_chapter_ring.specs.Chapters.{joined}
 use Rattle.rb_chapter_ring.specs.ChapterRing.{ChapterRing}
-use Rattle.rb_chapter_ring.specs.ChapterCalls.{IsSameChapter, producer_now}
+use Rattle.rb_chapter_ring.specs.ChapterCalls.{IsSameChapter, producer_by_chapter}
 use Rattle.rb_chapter_ring.specs.WholeHistory.{ContinuesHistory}
 use Rattle.rb_chapter_ring.specs.declared.faults.ReserveFault.{ReserveFault}
+use Rattle.rb_chapter_ring.specs.declared.record_end.RecordEnd.{RecordEnd}
 use Rattle.rb_shared_ring.specs.declared.audit.Audit.{Audit}
 use Rattle.rb_ledger.specs.Ledger.{IsRing}
 use Rattle.rb_ledger.specs.Roles.Role.{Worker}
 use Rattle.rb_ledger.specs.RoleKnowledge.{role_knowledge}
 use Rattle.rb_ledger.specs.AddedBytes.{bytes_after}
 use Rattle.rb_ledger.specs.LockSteps.{RoleStep, knowledge_after}
-use Rattle.rb_ledger.specs.LockedCalls.{sent_by_submit}
-use Rattle.rb_ledger.proofs.Calls.{put-same, put-reserved, put-submitted, put-discarded, put-output}
-use Rattle.rb_ledger.proofs.Passing.{after-same, after-reserve, after-submit, after-discard, after-output}
+use Rattle.rb_ledger.proofs.Calls.{put-same, put-reserved, put-ended, put-output}
+use Rattle.rb_ledger.proofs.Passing.{after-same, after-reserve, after-end, after-output}
 use Rattle.rb_ledger.specs.ChapteredRing.{ChapteredRing, chaptered_ring, whole_of}
 use Rattle.rb_ledger.specs.ChapterKnowledge.{ChapterPassView}
 use Rattle.rb_ledger.specs.ChapterLockSteps.{TakesChapterState, MayPutChapter, PutsChapterState}
 use Rattle.rb_ledger.specs.LockedChapterCalls.{LockedChapterCall}
-use Rattle.rb_ledger.specs.inner.ChapterAnswers.{SubmitsInChapter, DiscardsInChapter, QueriesInChapter}
+use Rattle.rb_ledger.specs.inner.ChapterAnswers.{QueriesInChapter}
 use Rattle.rb_ledger.specs.inner.ChapterRooms.{InRoomAt}
+use Rattle.rb_ledger.specs.inner.RecordEnds.{EndsInChapter, sent_by_end}
 use Rattle.rb_chapter_ring.proofs.Chain.{binds-continue}
-use Rattle.rb_ledger.proofs.WholeCalls.{submits-whole, discards-whole, queries-whole}
+use Rattle.rb_ledger.proofs.WholeCalls.{ends-whole, queries-whole}
 use Rattle.rb_shared_ring.specs.inner.SeatPasses.{seen_by, bytes_by, room_by, IsIdleIn}
 use Rattle.rb_shared_ring.specs.inner.LentState.{IsKeptRing}
-use Rattle.rb_shared_ring.specs.SharedCalls.{sent_by_chapter_output}
+use Rattle.rb_shared_ring.specs.SharedCalls.{sent_by_output_in_room}
 use Rattle.rb_shared_ring.specs.inner.ChapterAnswers.{ReservesInChapter, OutputsInChapter, AuditsInChapter}
 use Rattle.rb_shared_ring.proofs.ChapterPassing.{HeldChapter, held-in, held-is-out, may-put-in, idle-in, bytes-in, room-in, is-locked-in}
 use Rattle.rb_shared_ring.specs.AnswersOverAll.{whole_answer}
-use Rattle.rb_shared_ring.proofs.WholeAnswers.{stays, same-reserved, same-output, same-submitted, same-discarded, reserves-whole, outputs-whole, producer-same, sent-output}
+use Rattle.rb_shared_ring.proofs.WholeAnswers.{stays, same-reserved, same-output, same-ended, reserves-whole, outputs-whole, producer-same, sent-output}
 
 -- what a worker's call leaves, which was made on this ring
 pub record LeavesWorker (w : ℕ) (v after : ChapterPassView) (c : ChapteredRing) (sent : Contents) (Call : ChapterRing → ChapterRing → Type 0) : Type 0 where
@@ -79,11 +79,8 @@ module _ (w : ℕ) (v : ChapterPassView) (r new : ChapterRing) (out : ChapterPas
   pub put-reserve : (n : ℕ) (a : Result Granted (ReserveFault × List ℕ)) → ReservesInChapter w n a r new → MayPutChapter out new
   put-reserve n a call = puts-back (ReservesInChapter w n a) call (same-reserved r new w n a call) (λ h is low c ring. put-reserved w _ _ _ _ n (whole_answer a) (reserves-whole _ _ _ is w n a low c) ring)
 
-  pub put-submit : (g : Granted) (flags : ℕ) (a : Result Notice Stray) → g.worker ≡ w → SubmitsInChapter g flags a r new → MayPutChapter out new
-  put-submit g flags a mine call = puts-back (SubmitsInChapter g flags a) call (same-submitted r new g flags a call) (λ h is low c ring. put-submitted w _ _ _ _ g flags a mine (submits-whole _ _ _ is g flags a c) ring)
-
-  pub put-discard : (g : Granted) (flags : ℕ) (a : Result Notice Stray) → g.worker ≡ w → DiscardsInChapter g flags a r new → MayPutChapter out new
-  put-discard g flags a mine call = puts-back (DiscardsInChapter g flags a) call (same-discarded r new g flags a call) (λ h is low c ring. put-discarded w _ _ _ _ g flags a mine (discards-whole _ _ _ is g flags a c) ring)
+  pub put-end : (end : RecordEnd) (g : Granted) (flags : ℕ) (n : Notice) → g.worker ≡ w → EndsInChapter end g flags n r new → MayPutChapter out new
+  put-end end g flags n mine call = puts-back (EndsInChapter end g flags n) call (same-ended r new end g flags n call) (λ h is low c ring. put-ended w _ _ end _ _ g flags n mine (ends-whole _ _ _ is end g flags n c) ring)
 
   pub put-out : (b : List ℕ) (flags : ℕ) (a : Result Notice (ReserveFault × List ℕ)) → OutputsInChapter w b flags a r new → MayPutChapter out new
   put-out b flags a call = puts-back (OutputsInChapter w b flags a) call (same-output r new w b flags a call) (λ h is low c ring. put-output w _ _ _ _ b flags (whole_answer a) (outputs-whole _ _ _ is w b flags a low c) ring)
@@ -98,14 +95,11 @@ module _ (w : ℕ) (v : ChapterPassView) (r new : ChapterRing) (out : ChapterPas
     pub reserved : (n : ℕ) (a : Result Granted (ReserveFault × List ℕ)) → ReservesInChapter w n a r new → LeavesWorker w v after c (bytes_by v) (ReservesInChapter w n a)
     reserved n a call = leaves after put c there (ReservesInChapter w n a) call (same-reserved r new w n a call) (bytes_by v) (λ h is low x. after-reserve (seen_by v) _ _ _ w n (whole_answer a) (reserves-whole _ _ _ is w n a low x))
 
-    pub submitted : (g : Granted) (flags : ℕ) (a : Result Notice Stray) → SubmitsInChapter g flags a r new → LeavesWorker w v after c (sent_by_submit (bytes_by v) g a) (SubmitsInChapter g flags a)
-    submitted g flags a call = leaves after put c there (SubmitsInChapter g flags a) call (same-submitted r new g flags a call) (sent_by_submit (bytes_by v) g a) (λ h is low x. after-submit (seen_by v) _ _ _ w g flags a (submits-whole _ _ _ is g flags a x))
-
-    pub discarded : (g : Granted) (flags : ℕ) (a : Result Notice Stray) → DiscardsInChapter g flags a r new → LeavesWorker w v after c (bytes_by v) (DiscardsInChapter g flags a)
-    discarded g flags a call = leaves after put c there (DiscardsInChapter g flags a) call (same-discarded r new g flags a call) (bytes_by v) (λ h is low x. after-discard (seen_by v) _ _ _ w g flags a (discards-whole _ _ _ is g flags a x))
+    pub ended : (end : RecordEnd) (g : Granted) (flags : ℕ) (n : Notice) → EndsInChapter end g flags n r new → LeavesWorker w v after c (sent_by_end end g (bytes_by v)) (EndsInChapter end g flags n)
+    ended end g flags n call = leaves after put c there (EndsInChapter end g flags n) call (same-ended r new end g flags n call) (sent_by_end end g (bytes_by v)) (λ h is low x. after-end (seen_by v) _ _ _ w end g flags n (ends-whole _ _ _ is end g flags n x))
 
     pub output : (b : List ℕ) (flags : ℕ) (a : Result Notice (ReserveFault × List ℕ)) → OutputsInChapter w b flags a r new
-        → LeavesWorker w v after c (bytes_by after) (λ old left. OutputsInChapter w b flags a old left × (bytes_by after ≡ sent_by_chapter_output (bytes_by v) (producer_now old) b a))
+        → LeavesWorker w v after c (bytes_by after) (λ old left. OutputsInChapter w b flags a old left × (bytes_by after ≡ sent_by_output_in_room (bytes_by v) (producer_by_chapter old) b a))
     output b flags a call =
         let h = held-in (Worker w) v r out idle took in
         let same = same-output r new w b flags a call in
@@ -117,7 +111,7 @@ module _ (w : ℕ) (v : ChapterPassView) (r new : ChapterRing) (out : ChapterPas
         let is_out = held-is-out (Worker w) v r out h c there in
         record {
           idle = idle-in (Worker w) v r new out h same kept after put;
-          call = is-locked-in (Worker w) v r new out h same kept after put c.ring.chapter.room (length (joined c.handed_out)) (ap (λ (x : ChapteredRing). x.ring.chapter.room) is_out) (ap (λ (x : ChapteredRing). length (joined x.handed_out)) is_out) (λ old left. OutputsInChapter w b flags a old left × (bytes_by after ≡ sent_by_chapter_output (bytes_by v) (producer_now old) b a)) (here, bytes);
+          call = is-locked-in (Worker w) v r new out h same kept after put c.ring.chapter.room (length (joined c.handed_out)) (ap (λ (x : ChapteredRing). x.ring.chapter.room) is_out) (ap (λ (x : ChapteredRing). length (joined x.handed_out)) is_out) (λ old left. OutputsInChapter w b flags a old left × (bytes_by after ≡ sent_by_output_in_room (bytes_by v) (producer_by_chapter old) b a)) (here, bytes);
           bytes = refl;
           room = room-in (Worker w) v r new out h same kept after put;
         }

@@ -4,10 +4,10 @@ use Rattle.rb_history.specs.declared.entries.Entry.{Entry}
 use Rattle.rb_chapter_ring.specs.Chapters.{Chapter, joined}
 use Rattle.rb_chapter_ring.specs.ChapterRing.{ChapterRing}
 use Rattle.rb_ledger.specs.Seats.{WorkerSeat}
-use Rattle.rb_ledger.specs.Headline.{IsClosed, IsGathered}
+use Rattle.rb_ledger.specs.Headline.{IsGathered}
 use Rattle.rb_ledger.specs.declared.binding.BindFault.{BindFault}
 use Rattle.rb_ledger.specs.ChapterSeats.{ChapterConsumerSeat, whole_consumer}
-use Rattle.rb_ledger.specs.ChapterClosing.{IsClosedByChapters, bound_book, AreTied}
+use Rattle.rb_ledger.specs.ChapterClosing.{IsGatheredByChapters, AreTied, bound_book}
 use Rattle.rb_ledger.specs.ChapterHeadline.{bound_ring}
 
 -- the answer is this fault
@@ -15,12 +15,12 @@ abbrev pub IsNotBound : {A B C : Type 0} → BindFault → Result A (BindFault �
 IsNotBound fault (Ok _) = ⊥
 IsNotBound fault (Err e) = e.0 ≡ fault
 
--- all seats and the consumer with which the ring was closed tie to the history
+-- all seats and the consumer that were gathered tie to the history
 abbrev pub TiesAllSeats : ChapterRing → List Entry → Type 0
-TiesAllSeats last history = (seats : List WorkerSeat) (consumer : ChapterConsumerSeat) → IsClosedByChapters last seats consumer → AreTied seats consumer (bound_book last history)
+TiesAllSeats last history = (seats : List WorkerSeat) (consumer : ChapterConsumerSeat) → IsGatheredByChapters last seats consumer → AreTied seats consumer (bound_book last history)
 
--- where the chapters are those that the ring handed out, the ring is closed with the history as its whole history, and gathered
+-- where the chapters are those that the ring handed out, all are gathered at the ring with this history
 abbrev pub GathersAllSeats : ChapterRing → List Chapter → List Entry → Type 0
 GathersAllSeats last chapters history =
-    (seats : List WorkerSeat) (consumer : ChapterConsumerSeat) → IsClosedByChapters last seats consumer → joined chapters ≡ joined consumer.handed_out
-    → IsClosed (bound_ring last history) seats (whole_consumer consumer) × IsGathered (bound_ring last history) seats (whole_consumer consumer)
+    (seats : List WorkerSeat) (consumer : ChapterConsumerSeat) → IsGatheredByChapters last seats consumer → joined chapters ≡ joined consumer.handed_out
+    → IsGathered (bound_ring last history) seats (whole_consumer consumer)

@@ -51,32 +51,32 @@ pub record Audits (w : ℕ) (a : Audit) (old new : Ring) : Type 0 where
   pub same : new ≡ old
 
 -- the answer is this refusal
-abbrev pub IsRefusedInChapterAs : {T : Type 0} → ReserveFault → Result T (ReserveFault × List ℕ) → Type 0
-IsRefusedInChapterAs fault (Ok _) = ⊥
-IsRefusedInChapterAs fault (Err e) = e.0 ≡ fault
+abbrev pub IsRefusedInRoomAs : {T : Type 0} → ReserveFault → Result T (ReserveFault × List ℕ) → Type 0
+IsRefusedInRoomAs fault (Ok _) = ⊥
+IsRefusedInRoomAs fault (Err e) = e.0 ≡ fault
 
 -- ---- what an answer adds to a seat's numbers and bytes
 
 -- a refusal that is logged is counted
-abbrev pub refused_in_chapter_by : Tally → ReserveFault → Tally
-refused_in_chapter_by t Full = record t { refused = t.refused + 1 }
-refused_in_chapter_by t Flags = t
-refused_in_chapter_by t ChapterFull = t
-refused_in_chapter_by t Foreign = t
-refused_in_chapter_by t HandsFull = t
+abbrev pub refused_in_room_by : Tally → ReserveFault → Tally
+refused_in_room_by t Full = record t { refused = t.refused + 1 }
+refused_in_room_by t Flags = t
+refused_in_room_by t ChapterFull = t
+refused_in_room_by t Foreign = t
+refused_in_room_by t HandsFull = t
 
-abbrev pub reserved_in_chapter_by : Tally → Result Granted (ReserveFault × List ℕ) → Tally
-reserved_in_chapter_by t (Ok r) = record t { made = t.made + 1 }
-reserved_in_chapter_by t (Err e) = refused_in_chapter_by t e.0
+abbrev pub reserved_in_room_by : Tally → Result Granted (ReserveFault × List ℕ) → Tally
+reserved_in_room_by t (Ok r) = record t { made = t.made + 1 }
+reserved_in_room_by t (Err e) = refused_in_room_by t e.0
 
-abbrev pub output_in_chapter_by : Tally → Result Notice (ReserveFault × List ℕ) → Tally
-output_in_chapter_by t (Ok _) = record t { made = t.made + 1; submitted = t.submitted + 1 }
-output_in_chapter_by t (Err e) = refused_in_chapter_by t e.0
+abbrev pub output_in_room_by : Tally → Result Notice (ReserveFault × List ℕ) → Tally
+output_in_room_by t (Ok _) = record t { made = t.made + 1; submitted = t.submitted + 1 }
+output_in_room_by t (Err e) = refused_in_room_by t e.0
 
 -- an output adds its bytes, at the position where its record stands
-abbrev pub sent_by_chapter_output : Contents → ℕ → List ℕ → Result Notice (ReserveFault × List ℕ) → Contents
-sent_by_chapter_output sent p bytes (Ok _) = insert sent p bytes
-sent_by_chapter_output sent p bytes (Err e) = sent
+abbrev pub sent_by_output_in_room : Contents → ℕ → List ℕ → Result Notice (ReserveFault × List ℕ) → Contents
+sent_by_output_in_room sent p bytes (Ok _) = insert sent p bytes
+sent_by_output_in_room sent p bytes (Err e) = sent
 
 -- ---- a seat's hands
 

@@ -2,7 +2,7 @@
 
 ghost use Rattle.std.specs.Prelude.{◌≡◌, ◌≢◌, ◌↔◌, ◌<◌, IfOk, IsErr, None, length, slice_index_or};
 ghost use Rattle.crossbeam_queue.specs.Passes.{view, IsPassOf, IsSamePass, ruled_capacity};
-ghost use Rattle.rb_chapter_ring.specs.Opening.{no_tally};
+ghost use Rattle.rb_chapter_ring.specs.Standing.{no_tally};
 ghost use Rattle.rb_ledger.specs.Roles.Role.{Worker};
 ghost use Rattle.rb_ledger.specs.Seats.{IsSameSeat};
 ghost use Rattle.rb_ledger.specs.LockedCalls.{LockedCall};
@@ -85,22 +85,22 @@ fn audit_with<R: Wait>(rt: &R, lock: &Lock, pass: &mut RingPass, worker: u32) ->
 impl SharedRing {
     /// The ring's positions and counts at one moment, and the numbers of the entries of the seat's worker, all of the whole history. Of the
     /// refusals of all workers it tells 2^64 - 1 at most. In constant time: the ring keeps all of them.
-    pub fn audit<R: Wait>(&self, rt: &R, me: &mut Seat) -> Result<Audit, Foreign>
-        requires ring { me.old.tag ≡ self.now.tag → me.old.ring ≡ self.now.ring }
-        ensures foreign { IsErr result ↔ (me.old.tag ≢ self.now.tag) }
-        ensures unchanged { me.old.tag ≢ self.now.tag → me.new ≡ me.old }
-        ensures seat { IsSameSeat me.old me.new }
-        ensures released { (me.old.out ≡ None) × (me.new.out ≡ None) }
-        ensures call { IfOk result (λ a. LockedCall (Worker me.old.worker) me.old.seen me.new.seen (InRoom me.old.room me.new.cut (Audits me.old.worker a))) }
-        ensures own { IfOk result (λ a. a.own ≡ me.old.tally) }
-        ensures tally { me.new.tally ≡ me.old.tally }
-        ensures hands { me.new.hands ≡ me.old.hands }
-        ensures sent { me.new.sent ≡ me.old.sent }
+    pub fn audit<R: Wait>(&self, rt: &R, seat: &mut Seat) -> Result<Audit, Foreign>
+        requires ring { seat.old.tag ≡ self.now.tag → seat.old.ring ≡ self.now.ring }
+        ensures foreign { IsErr result ↔ (seat.old.tag ≢ self.now.tag) }
+        ensures unchanged { seat.old.tag ≢ self.now.tag → seat.new ≡ seat.old }
+        ensures seat { IsSameSeat seat.old seat.new }
+        ensures released { (seat.old.out ≡ None) × (seat.new.out ≡ None) }
+        ensures call { IfOk result (λ a. LockedCall (Worker seat.old.worker) seat.old.seen seat.new.seen (InRoom seat.old.room seat.new.cut (Audits seat.old.worker a))) }
+        ensures own { IfOk result (λ a. a.own ≡ seat.old.tally) }
+        ensures tally { seat.new.tally ≡ seat.old.tally }
+        ensures hands { seat.new.hands ≡ seat.old.hands }
+        ensures sent { seat.new.sent ≡ seat.old.sent }
     {
-        if me.tag != self.tag {
+        if seat.tag != self.tag {
             return Err(Foreign);
         }
-        let worker = me.worker;
-        Ok(audit_with(rt, &self.lock, &mut me.pass, worker))
+        let worker = seat.worker;
+        Ok(audit_with(rt, &self.lock, &mut seat.pass, worker))
     }
 }

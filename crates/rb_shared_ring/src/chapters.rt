@@ -112,49 +112,49 @@ impl SharedRing {
     pub fn hand_out<R: Wait>(
         &self,
         rt: &R,
-        me: &mut ConsumerSeat,
+        seat: &mut ConsumerSeat,
         empty: Chapter,
     ) -> Result<Chapter, (HandFault, Chapter)>
-        requires ring { me.old.tag ≡ self.now.tag → me.old.ring ≡ self.now.ring }
-        ensures foreign { IsHandFault HandFault.Foreign result ↔ (me.old.tag ≢ self.now.tag) }
-        ensures unfit { IsHandFault HandFault.Unfit result ↔ ((me.old.tag ≡ self.now.tag) × ¬ IsFitChapter me.old empty) }
+        requires ring { seat.old.tag ≡ self.now.tag → seat.old.ring ≡ self.now.ring }
+        ensures foreign { IsHandFault HandFault.Foreign result ↔ (seat.old.tag ≢ self.now.tag) }
+        ensures unfit { IsHandFault HandFault.Unfit result ↔ ((seat.old.tag ≡ self.now.tag) × ¬ IsFitChapter seat.old empty) }
         ensures handed_back { IfErr result (λ e. e.1 ≡ empty) }
-        ensures unchanged { OnErr result (me.new ≡ me.old) }
-        ensures seat { IsSameChapterConsumer me.old me.new }
-        ensures numbers { TakesNothing me.old me.new }
-        ensures released { (me.old.out ≡ None) × (me.new.out ≡ None) }
-        ensures call { IfOk result (λ c. LockedChapterCall Consumer me.old.seen me.new.seen (HandsOutNext me.old.handed_out c)) }
-        ensures chapters { IfOk result (λ c. me.new.handed_out ≡ me.old.handed_out ++ c ∷ []) }
-        ensures number { IfOk result (λ c. c.number ≡ length me.old.handed_out) }
-        ensures room { IfOk result (λ c. c.room ≡ me.old.room) }
-        ensures workers { IfOk result (λ c. c.opening.setup.workers ≡ me.old.seen.setup.workers) }
+        ensures unchanged { OnErr result (seat.new ≡ seat.old) }
+        ensures seat { IsSameChapterConsumer seat.old seat.new }
+        ensures numbers { TakesNothing seat.old seat.new }
+        ensures released { (seat.old.out ≡ None) × (seat.new.out ≡ None) }
+        ensures call { IfOk result (λ c. LockedChapterCall Consumer seat.old.seen seat.new.seen (HandsOutNext seat.old.handed_out c)) }
+        ensures chapters { IfOk result (λ c. seat.new.handed_out ≡ seat.old.handed_out ++ c ∷ []) }
+        ensures number { IfOk result (λ c. c.number ≡ length seat.old.handed_out) }
+        ensures room { IfOk result (λ c. c.room ≡ seat.old.room) }
+        ensures workers { IfOk result (λ c. c.opening.setup.workers ≡ seat.old.seen.setup.workers) }
     {
-        if me.tag != self.tag {
+        if seat.tag != self.tag {
             return Err((HandFault::Foreign, empty));
         }
-        if !me.is_fit(&empty) {
+        if !seat.is_fit(&empty) {
             return Err((HandFault::Unfit, empty));
         }
-        let chapter = hand_out_with(rt, &self.lock, &mut me.pass, empty);
-        me.chapters += 1;
+        let chapter = hand_out_with(rt, &self.lock, &mut seat.pass, empty);
+        seat.chapters += 1;
         Ok(chapter)
     }
 
     /// How many entries the ring's chapter has, and how many more its records ask for: two for each busy one, its end and its take, and one for
     /// each other. A record is granted where both and 3 are at most the chapter's room.
-    pub fn used<R: Wait>(&self, rt: &R, me: &mut ConsumerSeat) -> Result<(u32, u32), Foreign>
-        requires ring { me.old.tag ≡ self.now.tag → me.old.ring ≡ self.now.ring }
-        ensures foreign { IsErr result ↔ (me.old.tag ≢ self.now.tag) }
-        ensures unchanged { me.old.tag ≢ self.now.tag → me.new ≡ me.old }
-        ensures seat { IsSameChapterConsumer me.old me.new }
-        ensures numbers { TakesNothing me.old me.new }
-        ensures chapters { me.new.handed_out ≡ me.old.handed_out }
-        ensures released { (me.old.out ≡ None) × (me.new.out ≡ None) }
-        ensures call { IfOk result (λ n. LockedChapterCall Consumer me.old.seen me.new.seen (InKnownChapter me.old.handed_out (TellsUsed n.0 n.1))) }
+    pub fn used<R: Wait>(&self, rt: &R, seat: &mut ConsumerSeat) -> Result<(u32, u32), Foreign>
+        requires ring { seat.old.tag ≡ self.now.tag → seat.old.ring ≡ self.now.ring }
+        ensures foreign { IsErr result ↔ (seat.old.tag ≢ self.now.tag) }
+        ensures unchanged { seat.old.tag ≢ self.now.tag → seat.new ≡ seat.old }
+        ensures seat { IsSameChapterConsumer seat.old seat.new }
+        ensures numbers { TakesNothing seat.old seat.new }
+        ensures chapters { seat.new.handed_out ≡ seat.old.handed_out }
+        ensures released { (seat.old.out ≡ None) × (seat.new.out ≡ None) }
+        ensures call { IfOk result (λ n. LockedChapterCall Consumer seat.old.seen seat.new.seen (InKnownChapter seat.old.handed_out (TellsUsed n.0 n.1))) }
     {
-        if me.tag != self.tag {
+        if seat.tag != self.tag {
             return Err(Foreign);
         }
-        Ok(used_with(rt, &self.lock, &mut me.pass))
+        Ok(used_with(rt, &self.lock, &mut seat.pass))
     }
 }

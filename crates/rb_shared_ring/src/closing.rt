@@ -3,7 +3,7 @@
 ghost use Rattle.std.specs.Prelude.{◌≡◌, ◌↔◌, ◌++◌, ◌∷◌, [], List, IfOk, IfErr, IsOk, IsTrue, All, true};
 ghost use Rattle.crossbeam_queue.specs.Passes.{view, IsPassOf, IsSamePass};
 ghost use Rattle.rb_chapter_ring.specs.ChapterRing.{StandsForChapter};
-ghost use Rattle.rb_chapter_ring.specs.ChapterCalls.{producer_now, consumer_now};
+ghost use Rattle.rb_chapter_ring.specs.ChapterCalls.{producer_by_chapter, consumer_by_chapter};
 ghost use Rattle.rb_chapter_ring.specs.OpenedRing.{told_counts};
 ghost use Rattle.rb_ledger.specs.Seats.{are_tagged, has_seat, HasAll};
 ghost use Rattle.rb_ledger.specs.SeatRoles.{roles_of, HasOwnCounts};
@@ -68,14 +68,14 @@ impl Closing {
 
     /// The producer position.
     pub fn producer(&self) -> u64
-        ensures position { result ≡ producer_now self.now.at_end }
+        ensures position { result ≡ producer_by_chapter self.now.at_end }
     {
         self.chapter().closing().numbers().producer
     }
 
     /// The consumer position.
     pub fn consumer(&self) -> u64
-        ensures position { result ≡ consumer_now self.now.at_end }
+        ensures position { result ≡ consumer_by_chapter self.now.at_end }
     {
         self.chapter().closing().numbers().consumer
     }

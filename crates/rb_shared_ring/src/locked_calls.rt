@@ -1,25 +1,25 @@
 //! The calls of a ring of one thread, each on the state that the lock holds. The lock is held for that one call alone.
 
-ghost use Rattle.std.specs.Prelude.{◌≡◌, ◌<◌, None, Some, Ok, IfOk, IfErr, length, slice_set};
-ghost use Rattle.std.specs.FinMap.{insert};
+ghost use Rattle.std.specs.Prelude.{◌≡◌, ◌<◌, None, Some, IfOk, IfErr, length, slice_set};
 ghost use Rattle.std.specs.Fn.{FnOnceTakesAtMut, FnOnceReturnsAtMut};
 ghost use Rattle.crossbeam_queue.specs.Passes.{view, IsPassOf, IsSamePass, ruled_capacity};
-ghost use Rattle.rb_chapter_ring.specs.ChapterCalls.{producer_now};
+ghost use Rattle.rb_chapter_ring.specs.ChapterCalls.{producer_by_chapter};
 ghost use Rattle.rb_ledger.specs.Roles.Role.{Worker};
 ghost use Rattle.rb_ledger.specs.LockedChapterCalls.{LockedChapterCall};
-ghost use Rattle.rb_ledger.specs.inner.ChapterAnswers.{QueriesInChapter, SubmitsInChapter, DiscardsInChapter};
+ghost use Rattle.rb_ledger.specs.inner.ChapterAnswers.{QueriesInChapter};
 ghost use Rattle.rb_ledger.specs.inner.ChapterRooms.{InRoomAt};
+ghost use Rattle.rb_ledger.specs.inner.RecordEnds.{EndsInChapter, sent_by_end};
 ghost use Rattle.rb_chapter_ring.specs.Hands.{out_record, in_hand, hands_of, IsFree};
 ghost use Rattle.rb_chapter_ring.specs.HandRing.{HasInHand};
 ghost use Rattle.rb_ledger.specs.NoStranger.{HoldsOwnBusy};
 ghost use Rattle.rb_shared_ring.specs.inner.HandPasses.{seen_with, bytes_with, room_with, hands_by, cut_by, IsIdleWith};
-ghost use Rattle.rb_shared_ring.specs.inner.HandCalls.{ReservesToHand, SubmitsOut, DiscardsOut, LeavesHands};
+ghost use Rattle.rb_shared_ring.specs.inner.HandCalls.{ReservesToHand, EndsOut, LeavesHands};
 ghost use Rattle.rb_shared_ring.specs.inner.LentState.{IsKeptHandRing, MayLend, MayCall, LendsState};
-ghost use Rattle.rb_shared_ring.specs.SharedCalls.{granted_in, hands_reserved, sent_by_chapter_output};
+ghost use Rattle.rb_shared_ring.specs.SharedCalls.{granted_in, hands_reserved, sent_by_output_in_room};
 ghost use Rattle.rb_shared_ring.specs.inner.ChapterAnswers.{ReservesInChapter, OutputsInChapter};
 
 use crate::lock::{Lock, RingPass, put_back, take_out};
-use rb_chapter_ring::{HandState, Reservation, ReserveFault};
+use rb_chapter_ring::{HandState, RecordEnd, Reservation, ReserveFault};
 use rb_history::Notice;
 use rb_lend::Sheet;
 use std::sync::Wait;
@@ -31,6 +31,7 @@ pub(crate) fn facts_of(state: &HandState)
     state.facts();
 }
 
+#[inline(always)]
 /// Takes the state out of the lock, lends it to one call, and puts it back.
 pub(crate) fn with_state<R: Wait, T, F: FnOnce(&mut HandState) -> T>(
     rt: &R,
@@ -123,13 +124,15 @@ pub(crate) fn reserve_with<R: Wait>(
     )
 }
 
-/// `HandState::submit`, of a reservation that is out in a hand of the worker whose pass it is. There is no refusal.
-pub(crate) fn submit_with<R: Wait>(
+#[inline(always)]
+/// `HandState::settle`, of a reservation that is out in a hand of the worker whose pass it is. There is no refusal.
+pub(crate) fn settle_with<R: Wait>(
     rt: &R,
     lock: &Lock,
     pass: &mut RingPass,
     worker: u32,
     reservation: Reservation,
+    end: RecordEnd,
     flags: u64,
 ) -> Notice
     requires pass { IsPassOf lock.now pass.old × (ruled_capacity lock.now ≡ 1) }
@@ -138,8 +141,8 @@ pub(crate) fn submit_with<R: Wait>(
     requires out { in_hand (hands_by (view pass.old)) reservation.hand ≡ Some (out_record reservation.granted.pos reservation.granted.serial (length reservation.granted.bytes)) }
     ensures same { IsSamePass pass.old pass.new }
     ensures idle { IsIdleWith (Worker worker) (view pass.new) }
-    ensures call { LockedChapterCall (Worker worker) (seen_with (view pass.old)) (seen_with (view pass.new)) (InRoomAt (room_with (view pass.old)) (cut_by (view pass.new)) (SubmitsInChapter reservation.granted flags (Ok result))) }
-    ensures bytes { bytes_with (view pass.new) ≡ insert (bytes_with (view pass.old)) reservation.granted.pos reservation.granted.bytes }
+    ensures call { LockedChapterCall (Worker worker) (seen_with (view pass.old)) (seen_with (view pass.new)) (InRoomAt (room_with (view pass.old)) (cut_by (view pass.new)) (EndsInChapter end reservation.granted flags result)) }
+    ensures bytes { bytes_with (view pass.new) ≡ sent_by_end end reservation.granted (bytes_with (view pass.old)) }
     ensures room { room_with (view pass.new) ≡ room_with (view pass.old) }
     ensures hands { hands_by (view pass.new) ≡ slice_set (hands_by (view pass.old)) reservation.hand None }
     ensures holds { HoldsOwnBusy (hands_by (view pass.new)) worker (seen_with (view pass.new)).history }
@@ -150,40 +153,8 @@ pub(crate) fn submit_with<R: Wait>(
         pass,
         |state|
             requires out { HasInHand state.old reservation.hand reservation.granted }
-            ensures call { SubmitsOut reservation flags result state.old state.new }
-        { state.submit(reservation, flags) },
-    )
-}
-
-/// `HandState::discard`, of a reservation that is out in a hand of the worker whose pass it is. There is no refusal.
-pub(crate) fn discard_with<R: Wait>(
-    rt: &R,
-    lock: &Lock,
-    pass: &mut RingPass,
-    worker: u32,
-    reservation: Reservation,
-    flags: u64,
-) -> Notice
-    requires pass { IsPassOf lock.now pass.old × (ruled_capacity lock.now ≡ 1) }
-    requires idle { IsIdleWith (Worker worker) (view pass.old) }
-    requires mine { reservation.granted.worker ≡ worker }
-    requires out { in_hand (hands_by (view pass.old)) reservation.hand ≡ Some (out_record reservation.granted.pos reservation.granted.serial (length reservation.granted.bytes)) }
-    ensures same { IsSamePass pass.old pass.new }
-    ensures idle { IsIdleWith (Worker worker) (view pass.new) }
-    ensures call { LockedChapterCall (Worker worker) (seen_with (view pass.old)) (seen_with (view pass.new)) (InRoomAt (room_with (view pass.old)) (cut_by (view pass.new)) (DiscardsInChapter reservation.granted flags (Ok result))) }
-    ensures bytes { bytes_with (view pass.new) ≡ bytes_with (view pass.old) }
-    ensures room { room_with (view pass.new) ≡ room_with (view pass.old) }
-    ensures hands { hands_by (view pass.new) ≡ slice_set (hands_by (view pass.old)) reservation.hand None }
-    ensures holds { HoldsOwnBusy (hands_by (view pass.new)) worker (seen_with (view pass.new)).history }
-{
-    with_state(
-        rt,
-        lock,
-        pass,
-        |state|
-            requires out { HasInHand state.old reservation.hand reservation.granted }
-            ensures call { DiscardsOut reservation flags result state.old state.new }
-        { state.discard(reservation, flags) },
+            ensures call { EndsOut end reservation flags result state.old state.new }
+        { state.settle(reservation, end, flags) },
     )
 }
 
@@ -200,7 +171,7 @@ pub(crate) fn output_with<R: Wait>(
     requires idle { IsIdleWith (Worker worker) (view pass.old) }
     ensures same { IsSamePass pass.old pass.new }
     ensures idle { IsIdleWith (Worker worker) (view pass.new) }
-    ensures call { LockedChapterCall (Worker worker) (seen_with (view pass.old)) (seen_with (view pass.new)) (InRoomAt (room_with (view pass.old)) (cut_by (view pass.new)) (λ old new. OutputsInChapter worker sheet flags result old new × (bytes_with (view pass.new) ≡ sent_by_chapter_output (bytes_with (view pass.old)) (producer_now old) sheet result))) }
+    ensures call { LockedChapterCall (Worker worker) (seen_with (view pass.old)) (seen_with (view pass.new)) (InRoomAt (room_with (view pass.old)) (cut_by (view pass.new)) (λ old new. OutputsInChapter worker sheet flags result old new × (bytes_with (view pass.new) ≡ sent_by_output_in_room (bytes_with (view pass.old)) (producer_by_chapter old) sheet result))) }
     ensures room { room_with (view pass.new) ≡ room_with (view pass.old) }
     ensures hands { hands_by (view pass.new) ≡ hands_by (view pass.old) }
     ensures holds { HoldsOwnBusy (hands_by (view pass.new)) worker (seen_with (view pass.new)).history }

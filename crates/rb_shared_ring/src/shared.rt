@@ -5,17 +5,19 @@ ghost use Rattle.std.specs.FinMap.{insert};
 ghost use Rattle.rb_chapter_ring.specs.declared.faults.ReserveFault.TheVariants.{Foreign as FaultForeign, HandsFull};
 ghost use Rattle.rb_history.specs.Calls.{producer_now};
 ghost use Rattle.rb_chapter_ring.specs.Hands.{AreAllOut, IsLowestFree};
+ghost use Rattle.rb_chapter_ring.specs.inner.EndSteps.{tally_with_end};
 ghost use Rattle.rb_ledger.specs.Roles.Role.{Worker};
 ghost use Rattle.rb_ledger.specs.Seats.{IsSameSeat};
 ghost use Rattle.rb_ledger.specs.LockedCalls.{LockedCall, SubmitsAt, DiscardsAt, Queries, submitted_by, discarded_by};
 ghost use Rattle.rb_ledger.specs.EntryRoom.{InRoom};
-ghost use Rattle.rb_shared_ring.specs.SharedCalls.{ReservesInRoom, OutputsInRoom, IsInSeatsHand, IsRefusedInChapterAs, granted_in, hands_after_reserve, reserved_in_chapter_by, output_in_chapter_by, sent_by_chapter_output};
+ghost use Rattle.rb_ledger.specs.inner.RecordEnds.{EndsAt, sent_by_end};
+ghost use Rattle.rb_shared_ring.specs.SharedCalls.{ReservesInRoom, OutputsInRoom, IsInSeatsHand, IsRefusedInRoomAs, granted_in, hands_after_reserve, reserved_in_room_by, output_in_room_by, sent_by_output_in_room};
 
 use crate::lock::Lock;
-use crate::locked_calls::{discard_with, output_with, query_with, reserve_with, submit_with};
-use crate::tally::{after_discard, after_output, after_reserve, after_submit};
+use crate::locked_calls::{output_with, query_with, reserve_with, settle_with};
+use crate::tally::{after_end, after_output, after_reserve};
 use crate::worker_seat::Seat;
-use rb_chapter_ring::{OutRecord, Reservation, ReserveFault, lowest_free};
+use rb_chapter_ring::{OutRecord, RecordEnd, Reservation, ReserveFault, lowest_free};
 use rb_history::Notice;
 use rb_lend::Sheet;
 use std::marker::Model;
@@ -76,38 +78,38 @@ impl SharedRing {
     pub fn reserve<R: Wait>(
         &self,
         rt: &R,
-        me: &mut Seat,
+        seat: &mut Seat,
         n: u32,
         sheet: Sheet,
     ) -> Result<Reservation, (ReserveFault, Sheet)>
-        requires ring { me.old.tag ≡ self.now.tag → me.old.ring ≡ self.now.ring }
+        requires ring { seat.old.tag ≡ self.now.tag → seat.old.ring ≡ self.now.ring }
         requires sized { length sheet ≡ n }
-        ensures foreign { IsRefusedInChapterAs FaultForeign result ↔ (me.old.tag ≢ self.now.tag) }
-        ensures hands_full { IsRefusedInChapterAs HandsFull result ↔ ((me.old.tag ≡ self.now.tag) × AreAllOut me.old.hands) }
-        ensures unchanged { (me.old.tag ≢ self.now.tag) ⊎ AreAllOut me.old.hands → me.new ≡ me.old }
-        ensures seat { IsSameSeat me.old me.new }
-        ensures released { (me.old.out ≡ None) × (me.new.out ≡ None) }
-        ensures call { me.old.tag ≡ self.now.tag → ¬ AreAllOut me.old.hands → LockedCall (Worker me.old.worker) me.old.seen me.new.seen (InRoom me.old.room me.new.cut (ReservesInRoom me.old.room me.new.cut me.old.worker n (granted_in result))) }
-        ensures tally { me.new.tally ≡ reserved_in_chapter_by me.old.tally (granted_in result) }
-        ensures serial { IfOk result (λ r. r.granted.serial ≡ me.old.tally.made) }
-        ensures tag { IfOk result (λ r. r.tag ≡ me.old.tag) }
-        ensures hand { IfOk result (λ r. IsLowestFree me.old.hands r.hand) }
-        ensures hands { me.new.hands ≡ hands_after_reserve me.old.hands n result }
-        ensures sent { me.new.sent ≡ me.old.sent }
+        ensures foreign { IsRefusedInRoomAs FaultForeign result ↔ (seat.old.tag ≢ self.now.tag) }
+        ensures hands_full { IsRefusedInRoomAs HandsFull result ↔ ((seat.old.tag ≡ self.now.tag) × AreAllOut seat.old.hands) }
+        ensures unchanged { (seat.old.tag ≢ self.now.tag) ⊎ AreAllOut seat.old.hands → seat.new ≡ seat.old }
+        ensures seat { IsSameSeat seat.old seat.new }
+        ensures released { (seat.old.out ≡ None) × (seat.new.out ≡ None) }
+        ensures call { seat.old.tag ≡ self.now.tag → ¬ AreAllOut seat.old.hands → LockedCall (Worker seat.old.worker) seat.old.seen seat.new.seen (InRoom seat.old.room seat.new.cut (ReservesInRoom seat.old.room seat.new.cut seat.old.worker n (granted_in result))) }
+        ensures tally { seat.new.tally ≡ reserved_in_room_by seat.old.tally (granted_in result) }
+        ensures serial { IfOk result (λ r. r.granted.serial ≡ seat.old.tally.made) }
+        ensures tag { IfOk result (λ r. r.tag ≡ seat.old.tag) }
+        ensures hand { IfOk result (λ r. IsLowestFree seat.old.hands r.hand) }
+        ensures hands { seat.new.hands ≡ hands_after_reserve seat.old.hands n result }
+        ensures sent { seat.new.sent ≡ seat.old.sent }
         ensures handed_back { IfErr result (λ e. e.1 ≡ sheet) }
     {
-        let free = lowest_free(&me.hands);
-        if me.tag != self.tag {
+        let free = lowest_free(&seat.hands);
+        if seat.tag != self.tag {
             return Err((ReserveFault::Foreign, sheet));
         }
         let Some(hand) = free else {
             return Err((ReserveFault::HandsFull, sheet));
         };
-        let (tag, worker) = (me.tag, me.worker);
-        let answer = reserve_with(rt, &self.lock, &mut me.pass, tag, worker, hand, n, sheet);
-        me.tally = after_reserve(me.tally, &answer);
+        let (tag, worker) = (seat.tag, seat.worker);
+        let answer = reserve_with(rt, &self.lock, &mut seat.pass, tag, worker, hand, n, sheet);
+        seat.tally = after_reserve(seat.tally, &answer);
         if let Ok(reservation) = &answer {
-            me.hands[hand as usize] = Some(OutRecord {
+            seat.hands[hand as usize] = Some(OutRecord {
                 pos: reservation.pos(),
                 serial: reservation.serial(),
                 len: n,
@@ -117,13 +119,13 @@ impl SharedRing {
     }
 
     // Whether the reservation is one that the seat may give back to the ring.
-    fn is_held_by(&self, me: &Seat, reservation: &Reservation) -> bool
-        ensures exact { IsTrue result ↔ IsInSeatsHand self.now me.now reservation.now }
+    fn is_held_by(&self, seat: &Seat, reservation: &Reservation) -> bool
+        ensures exact { IsTrue result ↔ IsInSeatsHand self.now seat.now reservation.now }
     {
-        me.tag == self.tag
-            && reservation.tag() == me.tag
-            && reservation.worker() == me.worker
-            && reservation.is_in(&me.hands)
+        seat.tag == self.tag
+            && reservation.tag() == seat.tag
+            && reservation.worker() == seat.worker
+            && reservation.is_in(&seat.hands)
     }
 
     /// Hands the reservation's bytes to the consumer, and frees the seat's hand. The reservation is handed back, and nothing changes, exactly where the
@@ -132,55 +134,79 @@ impl SharedRing {
     pub fn submit<R: Wait>(
         &self,
         rt: &R,
-        me: &mut Seat,
+        seat: &mut Seat,
         reservation: Reservation,
         flags: u64,
     ) -> Result<Notice, Reservation>
-        requires ring { me.old.tag ≡ self.now.tag → me.old.ring ≡ self.now.ring }
-        ensures exact { IsOk result ↔ IsInSeatsHand self.now me.old reservation }
-        ensures handed_back { IfErr result (λ back. (back ≡ reservation) × (me.new ≡ me.old)) }
-        ensures seat { IsSameSeat me.old me.new }
-        ensures released { (me.old.out ≡ None) × (me.new.out ≡ None) }
-        ensures call { IfOk result (λ notice. LockedCall (Worker me.old.worker) me.old.seen me.new.seen (InRoom me.old.room me.new.cut (SubmitsAt reservation.granted flags (Ok notice)))) }
-        ensures tally { IfOk result (λ notice. me.new.tally ≡ submitted_by me.old.tally (Ok notice)) }
-        ensures hands { OnOk result (me.new.hands ≡ slice_set me.old.hands reservation.hand None) }
-        ensures sent { OnOk result (me.new.sent ≡ insert me.old.sent reservation.granted.pos reservation.granted.bytes) }
+        requires ring { seat.old.tag ≡ self.now.tag → seat.old.ring ≡ self.now.ring }
+        ensures exact { IsOk result ↔ IsInSeatsHand self.now seat.old reservation }
+        ensures handed_back { IfErr result (λ back. (back ≡ reservation) × (seat.new ≡ seat.old)) }
+        ensures seat { IsSameSeat seat.old seat.new }
+        ensures released { (seat.old.out ≡ None) × (seat.new.out ≡ None) }
+        ensures call { IfOk result (λ notice. LockedCall (Worker seat.old.worker) seat.old.seen seat.new.seen (InRoom seat.old.room seat.new.cut (SubmitsAt reservation.granted flags (Ok notice)))) }
+        ensures tally { IfOk result (λ notice. seat.new.tally ≡ submitted_by seat.old.tally (Ok notice)) }
+        ensures hands { OnOk result (seat.new.hands ≡ slice_set seat.old.hands reservation.hand None) }
+        ensures sent { OnOk result (seat.new.sent ≡ insert seat.old.sent reservation.granted.pos reservation.granted.bytes) }
     {
-        if !self.is_held_by(me, &reservation) {
-            return Err(reservation);
-        }
-        let (worker, hand) = (me.worker, reservation.hand());
-        let notice = submit_with(rt, &self.lock, &mut me.pass, worker, reservation, flags);
-        me.tally = after_submit(me.tally);
-        me.hands[hand as usize] = None;
-        Ok(notice)
+        self.settle(rt, seat, reservation, RecordEnd::Submit, flags)
     }
 
     /// Gives the reservation's record up, so that the consumer passes over it, and frees the seat's hand. It is handed back as in `submit`.
     pub fn discard<R: Wait>(
         &self,
         rt: &R,
-        me: &mut Seat,
+        seat: &mut Seat,
         reservation: Reservation,
         flags: u64,
     ) -> Result<Notice, Reservation>
-        requires ring { me.old.tag ≡ self.now.tag → me.old.ring ≡ self.now.ring }
-        ensures exact { IsOk result ↔ IsInSeatsHand self.now me.old reservation }
-        ensures handed_back { IfErr result (λ back. (back ≡ reservation) × (me.new ≡ me.old)) }
-        ensures seat { IsSameSeat me.old me.new }
-        ensures released { (me.old.out ≡ None) × (me.new.out ≡ None) }
-        ensures call { IfOk result (λ notice. LockedCall (Worker me.old.worker) me.old.seen me.new.seen (InRoom me.old.room me.new.cut (DiscardsAt reservation.granted flags (Ok notice)))) }
-        ensures tally { IfOk result (λ notice. me.new.tally ≡ discarded_by me.old.tally (Ok notice)) }
-        ensures hands { OnOk result (me.new.hands ≡ slice_set me.old.hands reservation.hand None) }
-        ensures sent { me.new.sent ≡ me.old.sent }
+        requires ring { seat.old.tag ≡ self.now.tag → seat.old.ring ≡ self.now.ring }
+        ensures exact { IsOk result ↔ IsInSeatsHand self.now seat.old reservation }
+        ensures handed_back { IfErr result (λ back. (back ≡ reservation) × (seat.new ≡ seat.old)) }
+        ensures seat { IsSameSeat seat.old seat.new }
+        ensures released { (seat.old.out ≡ None) × (seat.new.out ≡ None) }
+        ensures call { IfOk result (λ notice. LockedCall (Worker seat.old.worker) seat.old.seen seat.new.seen (InRoom seat.old.room seat.new.cut (DiscardsAt reservation.granted flags (Ok notice)))) }
+        ensures tally { IfOk result (λ notice. seat.new.tally ≡ discarded_by seat.old.tally (Ok notice)) }
+        ensures hands { OnOk result (seat.new.hands ≡ slice_set seat.old.hands reservation.hand None) }
+        ensures sent { seat.new.sent ≡ seat.old.sent }
     {
-        if !self.is_held_by(me, &reservation) {
+        self.settle(rt, seat, reservation, RecordEnd::Discard, flags)
+    }
+
+    #[inline(always)]
+    // The reservation's record comes to this end, and the seat's hand is free; or it is handed back, as `submit` has it.
+    fn settle<R: Wait>(
+        &self,
+        rt: &R,
+        seat: &mut Seat,
+        reservation: Reservation,
+        end: RecordEnd,
+        flags: u64,
+    ) -> Result<Notice, Reservation>
+        requires ring { seat.old.tag ≡ self.now.tag → seat.old.ring ≡ self.now.ring }
+        ensures exact { IsOk result ↔ IsInSeatsHand self.now seat.old reservation }
+        ensures handed_back { IfErr result (λ back. (back ≡ reservation) × (seat.new ≡ seat.old)) }
+        ensures seat { IsSameSeat seat.old seat.new }
+        ensures released { (seat.old.out ≡ None) × (seat.new.out ≡ None) }
+        ensures call { IfOk result (λ notice. LockedCall (Worker seat.old.worker) seat.old.seen seat.new.seen (InRoom seat.old.room seat.new.cut (EndsAt end reservation.granted flags notice))) }
+        ensures tally { IfOk result (λ notice. seat.new.tally ≡ tally_with_end end seat.old.tally) }
+        ensures hands { OnOk result (seat.new.hands ≡ slice_set seat.old.hands reservation.hand None) }
+        ensures sent { OnOk result (seat.new.sent ≡ sent_by_end end reservation.granted seat.old.sent) }
+    {
+        if !self.is_held_by(seat, &reservation) {
             return Err(reservation);
         }
-        let (worker, hand) = (me.worker, reservation.hand());
-        let notice = discard_with(rt, &self.lock, &mut me.pass, worker, reservation, flags);
-        me.tally = after_discard(me.tally);
-        me.hands[hand as usize] = None;
+        let (worker, hand) = (seat.worker, reservation.hand());
+        let notice = settle_with(
+            rt,
+            &self.lock,
+            &mut seat.pass,
+            worker,
+            reservation,
+            end,
+            flags,
+        );
+        seat.tally = after_end(seat.tally, end);
+        seat.hands[hand as usize] = None;
         Ok(notice)
     }
 
@@ -189,46 +215,46 @@ impl SharedRing {
     pub fn output<R: Wait>(
         &self,
         rt: &R,
-        me: &mut Seat,
+        seat: &mut Seat,
         sheet: Sheet,
         flags: u64,
     ) -> Result<Notice, (ReserveFault, Sheet)>
-        requires ring { me.old.tag ≡ self.now.tag → me.old.ring ≡ self.now.ring }
-        ensures foreign { IsRefusedInChapterAs FaultForeign result ↔ (me.old.tag ≢ self.now.tag) }
-        ensures unchanged { me.old.tag ≢ self.now.tag → me.new ≡ me.old }
-        ensures seat { IsSameSeat me.old me.new }
-        ensures released { (me.old.out ≡ None) × (me.new.out ≡ None) }
-        ensures call { me.old.tag ≡ self.now.tag → LockedCall (Worker me.old.worker) me.old.seen me.new.seen (InRoom me.old.room me.new.cut (λ old new. OutputsInRoom me.old.room me.new.cut me.old.worker sheet flags result old new × (me.new.sent ≡ sent_by_chapter_output me.old.sent (producer_now old) sheet result))) }
-        ensures tally { me.new.tally ≡ output_in_chapter_by me.old.tally result }
-        ensures hands { me.new.hands ≡ me.old.hands }
+        requires ring { seat.old.tag ≡ self.now.tag → seat.old.ring ≡ self.now.ring }
+        ensures foreign { IsRefusedInRoomAs FaultForeign result ↔ (seat.old.tag ≢ self.now.tag) }
+        ensures unchanged { seat.old.tag ≢ self.now.tag → seat.new ≡ seat.old }
+        ensures seat { IsSameSeat seat.old seat.new }
+        ensures released { (seat.old.out ≡ None) × (seat.new.out ≡ None) }
+        ensures call { seat.old.tag ≡ self.now.tag → LockedCall (Worker seat.old.worker) seat.old.seen seat.new.seen (InRoom seat.old.room seat.new.cut (λ old new. OutputsInRoom seat.old.room seat.new.cut seat.old.worker sheet flags result old new × (seat.new.sent ≡ sent_by_output_in_room seat.old.sent (producer_now old) sheet result))) }
+        ensures tally { seat.new.tally ≡ output_in_room_by seat.old.tally result }
+        ensures hands { seat.new.hands ≡ seat.old.hands }
         ensures handed_back { IfErr result (λ e. e.1 ≡ sheet) }
     {
-        if me.tag != self.tag {
+        if seat.tag != self.tag {
             return Err((ReserveFault::Foreign, sheet));
         }
-        let worker = me.worker;
-        let answer = output_with(rt, &self.lock, &mut me.pass, worker, sheet, flags);
-        me.tally = after_output(me.tally, &answer);
+        let worker = seat.worker;
+        let answer = output_with(rt, &self.lock, &mut seat.pass, worker, sheet, flags);
+        seat.tally = after_output(seat.tally, &answer);
         answer
     }
 
     /// The answers to a query (bpf-helpers(7), bpf_ringbuf_query): 0 asks for the bytes between the two positions, 1 for the size, 2 for
     /// the consumer position and 3 for the producer position; any other number gives 0. They are those of one moment.
-    pub fn query<R: Wait>(&self, rt: &R, me: &mut Seat, what: u64) -> Result<u64, Foreign>
-        requires ring { me.old.tag ≡ self.now.tag → me.old.ring ≡ self.now.ring }
-        ensures foreign { IsErr result ↔ (me.old.tag ≢ self.now.tag) }
-        ensures unchanged { me.old.tag ≢ self.now.tag → me.new ≡ me.old }
-        ensures seat { IsSameSeat me.old me.new }
-        ensures released { (me.old.out ≡ None) × (me.new.out ≡ None) }
-        ensures call { IfOk result (λ n. LockedCall (Worker me.old.worker) me.old.seen me.new.seen (InRoom me.old.room me.new.cut (Queries what n))) }
-        ensures tally { me.new.tally ≡ me.old.tally }
-        ensures hands { me.new.hands ≡ me.old.hands }
-        ensures sent { me.new.sent ≡ me.old.sent }
+    pub fn query<R: Wait>(&self, rt: &R, seat: &mut Seat, what: u64) -> Result<u64, Foreign>
+        requires ring { seat.old.tag ≡ self.now.tag → seat.old.ring ≡ self.now.ring }
+        ensures foreign { IsErr result ↔ (seat.old.tag ≢ self.now.tag) }
+        ensures unchanged { seat.old.tag ≢ self.now.tag → seat.new ≡ seat.old }
+        ensures seat { IsSameSeat seat.old seat.new }
+        ensures released { (seat.old.out ≡ None) × (seat.new.out ≡ None) }
+        ensures call { IfOk result (λ n. LockedCall (Worker seat.old.worker) seat.old.seen seat.new.seen (InRoom seat.old.room seat.new.cut (Queries what n))) }
+        ensures tally { seat.new.tally ≡ seat.old.tally }
+        ensures hands { seat.new.hands ≡ seat.old.hands }
+        ensures sent { seat.new.sent ≡ seat.old.sent }
     {
-        if me.tag != self.tag {
+        if seat.tag != self.tag {
             return Err(Foreign);
         }
-        let worker = me.worker;
-        Ok(query_with(rt, &self.lock, &mut me.pass, worker, what))
+        let worker = seat.worker;
+        Ok(query_with(rt, &self.lock, &mut seat.pass, worker, what))
     }
 }

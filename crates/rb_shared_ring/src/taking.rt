@@ -76,27 +76,27 @@ fn take_many_with<R: Wait>(
 impl SharedRing {
     /// Takes the record at the consumer position: returns a submitted one with its bytes, and skips a discarded one; both raise a count of
     /// the seat and move its position. A busy record stops it, whatever is behind.
-    pub fn take<R: Wait>(&self, rt: &R, me: &mut ConsumerSeat) -> Result<Taken, Foreign>
-        requires ring { me.old.tag ≡ self.now.tag → me.old.ring ≡ self.now.ring }
-        ensures foreign { IsErr result ↔ (me.old.tag ≢ self.now.tag) }
-        ensures unchanged { me.old.tag ≢ self.now.tag → me.new ≡ me.old }
-        ensures seat { IsSameChapterConsumer me.old me.new }
-        ensures chapters { me.new.handed_out ≡ me.old.handed_out }
-        ensures released { (me.old.out ≡ None) × (me.new.out ≡ None) }
-        ensures call { IfOk result (λ t. LockedCall Consumer me.old.seen me.new.seen (InRoomBehind me.old.room (entries_out me.old) (TakesAt t))) }
-        ensures place { IfOk result (λ t. IsTakenAt me.old.position t) }
-        ensures position { IfOk result (λ t. me.new.position ≡ me.old.position + span_in t) }
-        ensures consumed { IfOk result (λ t. me.new.consumed ≡ me.old.consumed + events_in t) }
-        ensures skipped { IfOk result (λ t. me.new.skipped ≡ me.old.skipped + skips_in t) }
-        ensures got { IfOk result (λ t. me.new.got ≡ got_by me.old.got t) }
+    pub fn take<R: Wait>(&self, rt: &R, seat: &mut ConsumerSeat) -> Result<Taken, Foreign>
+        requires ring { seat.old.tag ≡ self.now.tag → seat.old.ring ≡ self.now.ring }
+        ensures foreign { IsErr result ↔ (seat.old.tag ≢ self.now.tag) }
+        ensures unchanged { seat.old.tag ≢ self.now.tag → seat.new ≡ seat.old }
+        ensures seat { IsSameChapterConsumer seat.old seat.new }
+        ensures chapters { seat.new.handed_out ≡ seat.old.handed_out }
+        ensures released { (seat.old.out ≡ None) × (seat.new.out ≡ None) }
+        ensures call { IfOk result (λ t. LockedCall Consumer seat.old.seen seat.new.seen (InRoomBehind seat.old.room (entries_out seat.old) (TakesAt t))) }
+        ensures place { IfOk result (λ t. IsTakenAt seat.old.position t) }
+        ensures position { IfOk result (λ t. seat.new.position ≡ seat.old.position + span_in t) }
+        ensures consumed { IfOk result (λ t. seat.new.consumed ≡ seat.old.consumed + events_in t) }
+        ensures skipped { IfOk result (λ t. seat.new.skipped ≡ seat.old.skipped + skips_in t) }
+        ensures got { IfOk result (λ t. seat.new.got ≡ got_by seat.old.got t) }
     {
-        if me.tag != self.tag {
+        if seat.tag != self.tag {
             return Err(Foreign);
         }
-        let answer = take_with(rt, &self.lock, &mut me.pass);
-        me.consumed += events(&answer);
-        me.skipped += skips(&answer);
-        me.position += span_taken(&answer);
+        let answer = take_with(rt, &self.lock, &mut seat.pass);
+        seat.consumed += events(&answer);
+        seat.skipped += skips(&answer);
+        seat.position += span_taken(&answer);
         Ok(answer)
     }
 
@@ -107,42 +107,42 @@ impl SharedRing {
     pub fn take_many<R: Wait>(
         &self,
         rt: &R,
-        me: &mut ConsumerSeat,
+        seat: &mut ConsumerSeat,
         n: usize,
         out: &mut Vec<Taken>,
     ) -> Result<usize, Foreign>
-        requires ring { me.old.tag ≡ self.now.tag → me.old.ring ≡ self.now.ring }
+        requires ring { seat.old.tag ≡ self.now.tag → seat.old.ring ≡ self.now.ring }
         requires room { vec_len out.old + n ≤ vec_capacity out.old }
-        ensures foreign { IsErr result ↔ (me.old.tag ≢ self.now.tag) }
-        ensures unchanged { me.old.tag ≢ self.now.tag → me.new ≡ me.old }
-        ensures none_pushed { me.old.tag ≢ self.now.tag → out.new ≡ out.old }
-        ensures seat { IsSameChapterConsumer me.old me.new }
-        ensures chapters { me.new.handed_out ≡ me.old.handed_out }
-        ensures released { (me.old.out ≡ None) × (me.new.out ≡ None) }
+        ensures foreign { IsErr result ↔ (seat.old.tag ≢ self.now.tag) }
+        ensures unchanged { seat.old.tag ≢ self.now.tag → seat.new ≡ seat.old }
+        ensures none_pushed { seat.old.tag ≢ self.now.tag → out.new ≡ out.old }
+        ensures seat { IsSameChapterConsumer seat.old seat.new }
+        ensures chapters { seat.new.handed_out ≡ seat.old.handed_out }
+        ensures released { (seat.old.out ≡ None) × (seat.new.out ≡ None) }
         ensures kept { out.new.items ≡ out.old.items ++ pushed out.old.items out.new.items }
         ensures capacity { vec_capacity out.new ≡ vec_capacity out.old }
         ensures count { IfOk result (λ count. count ≡ length (pushed out.old.items out.new.items)) }
-        ensures call { OnOk result (LockedCall Consumer me.old.seen me.new.seen (InRoomBehind me.old.room (entries_out me.old) (TakesMany n (pushed out.old.items out.new.items)))) }
-        ensures place { OnOk result (AreTakenFrom me.old.position (pushed out.old.items out.new.items)) }
-        ensures position { OnOk result (me.new.position ≡ me.old.position + span_among (pushed out.old.items out.new.items)) }
-        ensures consumed { OnOk result (me.new.consumed ≡ me.old.consumed + events_among (pushed out.old.items out.new.items)) }
-        ensures skipped { OnOk result (me.new.skipped ≡ me.old.skipped + skips_among (pushed out.old.items out.new.items)) }
-        ensures got { OnOk result (me.new.got ≡ got_by_all me.old.got (pushed out.old.items out.new.items)) }
+        ensures call { OnOk result (LockedCall Consumer seat.old.seen seat.new.seen (InRoomBehind seat.old.room (entries_out seat.old) (TakesMany n (pushed out.old.items out.new.items)))) }
+        ensures place { OnOk result (AreTakenFrom seat.old.position (pushed out.old.items out.new.items)) }
+        ensures position { OnOk result (seat.new.position ≡ seat.old.position + span_among (pushed out.old.items out.new.items)) }
+        ensures consumed { OnOk result (seat.new.consumed ≡ seat.old.consumed + events_among (pushed out.old.items out.new.items)) }
+        ensures skipped { OnOk result (seat.new.skipped ≡ seat.old.skipped + skips_among (pushed out.old.items out.new.items)) }
+        ensures got { OnOk result (seat.new.got ≡ got_by_all seat.old.got (pushed out.old.items out.new.items)) }
     {
-        if me.tag != self.tag {
+        if seat.tag != self.tag {
             return Err(Foreign);
         }
         let before = out.len();
-        let count = take_many_with(rt, &self.lock, &mut me.pass, n, out);
+        let count = take_many_with(rt, &self.lock, &mut seat.pass, n, out);
         let moves = moves_of(&out[before..]);
         let Moves {
             events,
             skips,
             span,
         } = moves;
-        me.consumed += events;
-        me.skipped += skips;
-        me.position += span;
+        seat.consumed += events;
+        seat.skipped += skips;
+        seat.position += span;
         Ok(count)
     }
 }

@@ -1,17 +1,18 @@
 //! What an answer adds to a seat's numbers.
 
-ghost use Rattle.std.specs.Prelude.{◌≡◌, ◌<◌, ◌≤◌, ◌+◌, ◌^◌};
+ghost use Rattle.std.specs.Prelude.{◌≡◌, ◌<◌, ◌≤◌, ◌^◌};
 ghost use Rattle.rb_chapter_ring.specs.declared.faults.ReserveFault.TheVariants.{Full as FaultFull};
-ghost use Rattle.rb_shared_ring.specs.SharedCalls.{IsRefusedInChapterAs, granted_in, refused_in_chapter_by, reserved_in_chapter_by, output_in_chapter_by};
+ghost use Rattle.rb_chapter_ring.specs.inner.EndSteps.{tally_with_end};
+ghost use Rattle.rb_shared_ring.specs.SharedCalls.{IsRefusedInRoomAs, granted_in, refused_in_room_by, reserved_in_room_by, output_in_room_by};
 
-use rb_chapter_ring::{Reservation, ReserveFault};
+use rb_chapter_ring::{RecordEnd, Reservation, ReserveFault};
 use rb_history::{Notice, Tally};
 use rb_lend::Sheet;
 
 // After a refusal.
 fn after_fault(tally: Tally, fault: ReserveFault) -> Tally
     requires fits { fault ≡ FaultFull → tally.refused < 2 ^ 62 }
-    ensures counted { result ≡ refused_in_chapter_by tally fault }
+    ensures counted { result ≡ refused_in_room_by tally fault }
 {
     match fault {
         ReserveFault::Full => Tally {
@@ -28,8 +29,8 @@ pub(crate) fn after_reserve(
     answer: &Result<Reservation, (ReserveFault, Sheet)>,
 ) -> Tally
     requires made { tally.made ≤ 2 ^ 62 }
-    requires refused { IsRefusedInChapterAs FaultFull answer.now → tally.refused < 2 ^ 62 }
-    ensures counted { result ≡ reserved_in_chapter_by tally (granted_in answer.now) }
+    requires refused { IsRefusedInRoomAs FaultFull answer.now → tally.refused < 2 ^ 62 }
+    ensures counted { result ≡ reserved_in_room_by tally (granted_in answer.now) }
 {
     match answer {
         Ok(_) => Tally {
@@ -44,8 +45,8 @@ pub(crate) fn after_reserve(
 pub(crate) fn after_output(tally: Tally, answer: &Result<Notice, (ReserveFault, Sheet)>) -> Tally
     requires made { tally.made ≤ 2 ^ 62 }
     requires submitted { tally.submitted ≤ 2 ^ 62 }
-    requires refused { IsRefusedInChapterAs FaultFull answer.now → tally.refused < 2 ^ 62 }
-    ensures counted { result ≡ output_in_chapter_by tally answer.now }
+    requires refused { IsRefusedInRoomAs FaultFull answer.now → tally.refused < 2 ^ 62 }
+    ensures counted { result ≡ output_in_room_by tally answer.now }
 {
     match answer {
         Ok(_) => Tally {
@@ -57,24 +58,20 @@ pub(crate) fn after_output(tally: Tally, answer: &Result<Notice, (ReserveFault, 
     }
 }
 
-/// After a submit that was taken.
-pub(crate) fn after_submit(tally: Tally) -> Tally
+/// After the end of a record.
+pub(crate) fn after_end(tally: Tally, end: RecordEnd) -> Tally
     requires submitted { tally.submitted ≤ 2 ^ 62 }
-    ensures counted { result ≡ record tally { submitted = tally.submitted + 1 } }
-{
-    Tally {
-        submitted: tally.submitted + 1,
-        ..tally
-    }
-}
-
-/// After a discard that was taken.
-pub(crate) fn after_discard(tally: Tally) -> Tally
     requires discarded { tally.discarded ≤ 2 ^ 62 }
-    ensures counted { result ≡ record tally { discarded = tally.discarded + 1 } }
+    ensures counted { result ≡ tally_with_end end tally }
 {
-    Tally {
-        discarded: tally.discarded + 1,
-        ..tally
+    match end {
+        RecordEnd::Submit => Tally {
+            submitted: tally.submitted + 1,
+            ..tally
+        },
+        RecordEnd::Discard => Tally {
+            discarded: tally.discarded + 1,
+            ..tally
+        },
     }
 }

@@ -1,8 +1,10 @@
 //! A closed ring and its chapters are bound to the whole history.
 
 ghost use Rattle.std.specs.Prelude.{◌≡◌, ◌↔◌, ◌++◌, ◌∷◌, [], IfOk, IfErr};
+ghost use Rattle.rb_history.specs.Legal.{IsLegal};
+ghost use Rattle.rb_chapter_ring.specs.Chapters.{joined};
 ghost use Rattle.rb_chapter_ring.specs.WholeHistory.{IsBound};
-ghost use Rattle.rb_ledger.specs.ChapterClosing.{AreNumberedFrom, AreOpenedInTurn};
+ghost use Rattle.rb_ledger.specs.ChapterClosing.{AreNumberedFrom, EachGoesOn};
 ghost use Rattle.rb_shared_ring.specs.BoundSeats.{IsNotBound, TiesAllSeats, GathersAllSeats};
 
 use crate::closing::Closing;
@@ -70,21 +72,22 @@ impl Whole {
 }
 
 impl Closing {
-    /// Joins the entries of chapters and of the ring's last one, behind them, to the whole history. Of the faults that apply the first is
-    /// returned, and all is handed back. Whatever chapters were bound, all seats with which the ring was closed tie to the history; where
-    /// they are those that the ring handed out, it is the ring's whole history, and all are gathered. In time linear in the entries, and in
-    /// each chapter's untaken records and workers.
+    /// Joins the entries of chapters and of the ring's last one, behind them, to one history, which is legal. Of the faults that apply the
+    /// first is returned, and all is handed back. Whatever chapters were bound, all seats with which the ring was closed tie to the history;
+    /// where they are those that the ring handed out, it is the ring's whole history, and all are gathered. In time linear in the entries,
+    /// and in each chapter's untaken records and workers.
     pub fn bind(
         self,
         alloc: Global,
         chapters: Vec<Chapter>,
     ) -> Result<Whole, (BindFault, Closing, Vec<Chapter>)>
         ensures number { IsNotBound BindFault.Number result ↔ ¬ AreNumberedFrom 0 (chapters.items ++ self.at_end.chapter ∷ []) }
-        ensures opening { IsNotBound BindFault.Opening result ↔ (AreNumberedFrom 0 (chapters.items ++ self.at_end.chapter ∷ []) × ¬ AreOpenedInTurn (chapters.items ++ self.at_end.chapter ∷ [])) }
+        ensures opening { IsNotBound BindFault.Opening result ↔ (AreNumberedFrom 0 (chapters.items ++ self.at_end.chapter ∷ []) × ¬ EachGoesOn self.at_end.chapter.opening.setup [] (chapters.items ++ self.at_end.chapter ∷ [])) }
         ensures handed_back { IfErr result (λ e. (e.1 ≡ self) × (e.2.items ≡ chapters.items)) }
         ensures closed { IfOk result (λ w. w.closed ≡ self) }
         ensures chapters { IfOk result (λ w. w.chapters ≡ chapters.items) }
-        ensures bound { IfOk result (λ w. IsBound chapters.items self.at_end.chapter w.history) }
+        ensures history { IfOk result (λ w. w.history ≡ joined chapters.items ++ self.at_end.chapter.entries) }
+        ensures legal { IfOk result (λ w. IsLegal self.at_end.chapter.opening.setup w.history) }
         ensures tied { IfOk result (λ w. TiesAllSeats self.at_end w.history) }
         ensures gathered { IfOk result (λ w. GathersAllSeats self.at_end chapters.items w.history) }
     {

@@ -13,7 +13,7 @@ use Rattle.rb_history.specs.declared.answers.Taken.TheVariants.{Event, Skipped, 
 use Rattle.rb_tape.specs.declared.item.Item as given
 use Rattle.rb_tape.specs.declared.item.Item.TheVariants as kinds
 use Rattle.rb_tape.specs.Items.{item_of, item_taken, tape_items, sent_after}
-use Rattle.rb_tape.specs.TapeCalls.{Begins, MakesCall, PutsAll}
+use Rattle.rb_tape.specs.TapeCalls.{BeginsItems, MakesTapeCall, PutsAll}
 use Rattle.rb_tape.specs.TapeCalls.TapeCall.{Put}
 use Rattle.rb_tape.specs.TapeOutput.{TapeOutput, StopsWithin}
 use Rattle.rb_tape.proofs.TapeCalls.{begins_none, begins_on}
@@ -62,7 +62,7 @@ module _ (W : Type 0) (contents : W → Option (List ℕ)) (old : TapeOutput W) 
   -- the items before those that are left went out, and those that are left stand on the tape
   pub record PutSoFar (now : TapeOutput W) (left : List Taken) : Type 0 where
     pub whole : List Taken
-    pub begins : Begins contents old (tape_items whole) now
+    pub begins : BeginsItems contents old (tape_items whole) now
     pub items_are : items ≡ whole ++ left
     pub position_is : now.position ≡ end_of old.position (tape_items whole)
     pub sent_is : now.sent ≡ sent_after old.sent (tape_items whole)
@@ -90,7 +90,7 @@ module _ (W : Type 0) (contents : W → Option (List ℕ)) (old : TapeOutput W) 
 
   pub one-more : (now new : TapeOutput W) (left rest : List Taken) (i : given.Item) → PutSoFar now left → left ≡ item_taken i ∷ rest →
       Appends (contents now.writer) (contents new.writer) (take new.sent (item_bytes now.size (item_of i))) → new.sent ≡ item_span (item_of i) →
-      new.size ≡ now.size → new.position ≡ now.position + item_span (item_of i) → Begins contents now (item_of i ∷ []) new → new.failures ≡ now.failures → PutSoFar new rest
+      new.size ≡ now.size → new.position ≡ now.position + item_span (item_of i) → BeginsItems contents now (item_of i ∷ []) new → new.failures ≡ now.failures → PutSoFar new rest
   one-more now new left rest i so_far is went sent size moved begins counted =
       let whole = so_far.whole in
       let more : tape_items (whole ++ item_taken i ∷ []) ≡ tape_items whole ++ item_of i ∷ [] = tape_items-append whole (item_taken i ∷ []) ∙ ap (λ x. tape_items whole ++ x) (tape_items-cons i []) in
@@ -99,7 +99,7 @@ module _ (W : Type 0) (contents : W → Option (List ℕ)) (old : TapeOutput W) 
       ∙ ap (λ s. item_bytes s (item_of i)) so_far.size_same ∙ sym (append-nil (item_bytes old.size (item_of i))) in
       record {
         whole = whole ++ item_taken i ∷ [];
-        begins = subst (λ l. Begins contents old l new) (sym more) (begins_on contents old now new (tape_items whole) (item_of i ∷ []) so_far.begins begins);
+        begins = subst (λ l. BeginsItems contents old l new) (sym more) (begins_on contents old now new (tape_items whole) (item_of i ∷ []) so_far.begins begins);
         items_are = so_far.items_are ∙ ap (λ x. whole ++ x) is ∙ sym (append_assoc whole (item_taken i ∷ []) rest);
         position_is = moved ∙ ap (λ n. n + item_span (item_of i)) so_far.position_is ∙ sym (ap (end_of old.position) more ∙ end_of-push old.position (tape_items whole) (item_of i));
         sent_is = sent ∙ sym (ap (sent_after old.sent) more ∙ sent_after-push old.sent (tape_items whole) (item_of i));
@@ -136,7 +136,7 @@ module _ (W : Type 0) (contents : W → Option (List ℕ)) (old : TapeOutput W) 
   -- ---- the call as a whole
 
   -- it stopped within the next item
-  pub puts-within : {ok : Bool} (now new : TapeOutput W) (left rest : List Taken) (i : given.Item) → PutSoFar now left → left ≡ item_taken i ∷ rest → old.unfinished ≡ None → MakesCall contents now (Put (item_of i)) ok new → new.failures ≡ now.failures + 1
+  pub puts-within : {ok : Bool} (now new : TapeOutput W) (left rest : List Taken) (i : given.Item) → PutSoFar now left → left ≡ item_taken i ∷ rest → old.unfinished ≡ None → MakesTapeCall contents now (Put (item_of i)) ok new → new.failures ≡ now.failures + 1
       → PutsAll contents old (tape_items items) (tape_items rest) false new
   puts-within now new left rest i so_far is none call counted = (
     tape_items so_far.whole ++ item_of i ∷ [],

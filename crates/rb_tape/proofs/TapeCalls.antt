@@ -8,7 +8,7 @@ use Rattle.std.proofs.KnownBytes.{Appends-nil, Appends-trans}
 use Rattle.rb_history.specs.TapeBytes.{Item, item_bytes, item_span, tape, end_of, IsItemAt, AreItemsFrom}
 use Rattle.rb_history.proofs.HeaderLaws.{length-item_bytes, tape-append, end_of-nil, end_of-cons, end_of-append, AreItemsFrom-append}
 use Rattle.rb_tape.specs.TapeOutput.{TapeOutput}
-use Rattle.rb_tape.specs.TapeCalls.{rest_of, still_missing, end_behind, end_of_begun, Begins, TapeCall, MakesCall, MakesCalls, failures_after, records_begun, all_begun, fresh_tape, CallsLeaveTape}
+use Rattle.rb_tape.specs.TapeCalls.{rest_of, still_missing, end_behind, end_of_begun, BeginsItems, TapeCall, MakesTapeCall, MakesCalls, failures_after, records_begun, all_begun, fresh_tape, CallsLeaveTape}
 use Rattle.rb_tape.specs.TapeCalls.TapeCall.{Put, Resume}
 
 -- ---- one record
@@ -43,7 +43,7 @@ module _ {W : Type 0} (contents : W → Option (List ℕ)) where
       → Appends (contents old.writer) (contents new.writer) (drop from (take new.sent (item_bytes old.size item))) → from ≤ new.sent → OnOk answer (new.sent ≡ item_span item) → OnErr answer (new.sent < item_span item)
       → new.unfinished ≡ (if is_ok answer then None else Some item) → new.size ≡ old.size → new.position ≡ (if is_ok answer then old.position + item_span item else old.position)
       → still_missing old ++ tape old.size items ≡ drop from (item_bytes old.size item) → end_of (end_of_begun old) items ≡ old.position + item_span item → AreItemsFrom old.size (end_of_begun old) items
-      → Begins contents old items new
+      → BeginsItems contents old items new
   begins_from old new item from answer items went more all part left size moved missing ends stand =
       let bytes = item_bytes old.size item in
       let within : new.sent ≤ length bytes = let n = length-item_bytes old.size item in let m = within_span new.sent item answer all part in omega (arith, n, m) in
@@ -58,7 +58,7 @@ module _ {W : Type 0} (contents : W → Option (List ℕ)) where
 
   -- ---- one call after the other
 
-  pub begins_none : (t : TapeOutput W) → Begins contents t [] t
+  pub begins_none : (t : TapeOutput W) → BeginsItems contents t [] t
   begins_none t = record {
     out = [];
     wrote = Appends-nil (contents t.writer);
@@ -68,7 +68,7 @@ module _ {W : Type 0} (contents : W → Option (List ℕ)) where
     size_same = refl;
   }
 
-  pub begins_on : (a b c : TapeOutput W) (items more : List Item) → Begins contents a items b → Begins contents b more c → Begins contents a (items ++ more) c
+  pub begins_on : (a b c : TapeOutput W) (items more : List Item) → BeginsItems contents a items b → BeginsItems contents b more c → BeginsItems contents a (items ++ more) c
   begins_on a b c items more one two = record {
     out = one.out ++ two.out;
     wrote = Appends-trans (contents a.writer) (contents b.writer) (contents c.writer) one.out two.out one.wrote two.wrote;
@@ -85,8 +85,8 @@ module _ {W : Type 0} (contents : W → Option (List ℕ)) where
     size_same = two.size_same ∙ one.size_same;
   }
 
-  pub all_begin : (old new : TapeOutput W) (calls : List (TapeCall × Bool)) → MakesCalls contents old calls new → Begins contents old (all_begun calls) new
-  all_begin old new [] same = subst (Begins contents old []) (sym same) (begins_none old)
+  pub all_begin : (old new : TapeOutput W) (calls : List (TapeCall × Bool)) → MakesCalls contents old calls new → BeginsItems contents old (all_begun calls) new
+  all_begin old new [] same = subst (BeginsItems contents old []) (sym same) (begins_none old)
   all_begin old new ((call, ok) ∷ calls) made = begins_on old made.0 new (records_begun call) (all_begun calls) made.1.begins (all_begin made.0 new calls made.2)
 
   pub all_finish : (old new : TapeOutput W) (calls : List (TapeCall × Bool)) → MakesCalls contents old calls new → old.unfinished ≡ None → All (λ c. c.1 ≡ true) calls → new.unfinished ≡ None
@@ -114,7 +114,7 @@ module _ {W : Type 0} (contents : W → Option (List ℕ)) where
 module _ {W : Type 0} (contents : W → Option (List ℕ)) {A E : Type 0} (old new : TapeOutput W) (item : Item) (answer : Result A E) (all : OnOk answer (new.sent ≡ item_span item)) (part : OnErr answer (new.sent < item_span item))
     (left : new.unfinished ≡ (if is_ok answer then None else Some item)) (size : new.size ≡ old.size) (moved : new.position ≡ (if is_ok answer then old.position + item_span item else old.position)) (counted : new.failures ≡ failures_after old.failures (is_ok answer)) where
   -- a record is put behind those that are whole
-  pub makes_put : old.unfinished ≡ None → IsItemAt old.size old.position item → Appends (contents old.writer) (contents new.writer) (take new.sent (item_bytes old.size item)) → MakesCall contents old (Put item) (is_ok answer) new
+  pub makes_put : old.unfinished ≡ None → IsItemAt old.size old.position item → Appends (contents old.writer) (contents new.writer) (take new.sent (item_bytes old.size item)) → MakesTapeCall contents old (Put item) (is_ok answer) new
   makes_put none stands went =
       let ends : end_of_begun old ≡ old.position = ap (end_behind old.position) none in
       record {
@@ -129,7 +129,7 @@ module _ {W : Type 0} (contents : W → Option (List ℕ)) {A E : Type 0} (old n
       }
 
   -- the rest of the unfinished record is written
-  pub makes_resume : old.unfinished ≡ Some item → old.sent ≤ new.sent → Appends (contents old.writer) (contents new.writer) (drop old.sent (take new.sent (item_bytes old.size item))) → MakesCall contents old (Resume item) (is_ok answer) new
+  pub makes_resume : old.unfinished ≡ Some item → old.sent ≤ new.sent → Appends (contents old.writer) (contents new.writer) (drop old.sent (take new.sent (item_bytes old.size item))) → MakesTapeCall contents old (Resume item) (is_ok answer) new
   makes_resume this more went = record {
     lawful = this;
     begins =

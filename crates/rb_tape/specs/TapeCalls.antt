@@ -28,7 +28,7 @@ end_of_begun t = end_behind t.position t.unfinished
 
 -- These records were begun behind those of before. What was missing and all of their bytes went out, but for what is missing now. `contents` are the
 -- bytes that a writer has, where they are known.
-pub record Begins {W : Type 0} (contents : W → Option (List ℕ)) (old : TapeOutput W) (items : List Item) (new : TapeOutput W) : Type 0 where
+pub record BeginsItems {W : Type 0} (contents : W → Option (List ℕ)) (old : TapeOutput W) (items : List Item) (new : TapeOutput W) : Type 0 where
   pub out : List ℕ
   pub wrote : Appends (contents old.writer) (contents new.writer) out
   pub bytes_are : out ++ still_missing new ≡ still_missing old ++ tape old.size items
@@ -58,22 +58,22 @@ abbrev pub failures_after : ℕ → Bool → ℕ
 failures_after failures ok = if ok then failures else failures + 1
 
 -- a lawful call, whether it answered Ok, and what it does; none is unfinished behind an Ok
-pub record MakesCall {W : Type 0} (contents : W → Option (List ℕ)) (old : TapeOutput W) (call : TapeCall) (ok : Bool) (new : TapeOutput W) : Type 0 where
+pub record MakesTapeCall {W : Type 0} (contents : W → Option (List ℕ)) (old : TapeOutput W) (call : TapeCall) (ok : Bool) (new : TapeOutput W) : Type 0 where
   pub lawful : old.unfinished ≡ unfinished_before call
-  pub begins : Begins contents old (records_begun call) new
+  pub begins : BeginsItems contents old (records_begun call) new
   pub finished : ok ≡ true → new.unfinished ≡ None
   pub failures_are : new.failures ≡ failures_after old.failures ok
 
 -- `put_all` of these items, of which some are left: it begins the others
 abbrev pub PutsAll : {W : Type 0} → (W → Option (List ℕ)) → TapeOutput W → List Item → List Item → Bool → TapeOutput W → Type 0
-PutsAll contents old items left ok new = (begun : List Item) × (items ≡ begun ++ left) × MakesCall contents old (PutAll begun) ok new
+PutsAll contents old items left ok new = (begun : List Item) × (items ≡ begun ++ left) × MakesTapeCall contents old (PutAll begun) ok new
 
 -- ---- the tape as a whole
 
 -- lawful calls one after the other, each with whether it answered Ok
 abbrev pub MakesCalls : {W : Type 0} → (W → Option (List ℕ)) → TapeOutput W → List (TapeCall × Bool) → TapeOutput W → Type 0
 MakesCalls contents old [] new = new ≡ old
-MakesCalls {W} contents old ((call, ok) ∷ calls) new = (mid : TapeOutput W) × MakesCall contents old call ok mid × MakesCalls contents mid calls new
+MakesCalls {W} contents old ((call, ok) ∷ calls) new = (mid : TapeOutput W) × MakesTapeCall contents old call ok mid × MakesCalls contents mid calls new
 
 -- all records that calls begin, in order
 abbrev pub all_begun : List (TapeCall × Bool) → List Item

@@ -44,7 +44,7 @@ impl<W: Write> TapeWriter<W> {
     ghost use Rattle.rb_history.specs.TapeBytes.{item_bytes, item_span, tape, end_of, IsItemAt, AreItemsFrom};
     ghost use Rattle.rb_history.specs.RingModel.{IsRingSize, IsStartPosition};
     ghost use Rattle.rb_tape.specs.Items.{item_of, tape_items, sent_after};
-    ghost use Rattle.rb_tape.specs.TapeCalls.{failures_after, fresh_tape, MakesCall, PutsAll};
+    ghost use Rattle.rb_tape.specs.TapeCalls.{failures_after, fresh_tape, MakesTapeCall, PutsAll};
     ghost use Rattle.rb_tape.specs.TapeCalls.TapeCall.{Put, Resume};
     ghost use Rattle.rb_tape.specs.TapeOutput.{StopsWithin};
 
@@ -77,7 +77,7 @@ impl<W: Write> TapeWriter<W> {
         ensures failures { self.new.failures ≡ failures_after self.old.failures (is_ok result) }
         ensures size { self.new.size ≡ self.old.size }
         ensures position { self.new.position ≡ (if is_ok result then self.old.position + item_span (item_of item.now) else self.old.position) }
-        ensures call { MakesCall W.contents self.old (Put (item_of item.now)) (is_ok result) self.new }
+        ensures call { MakesTapeCall W.contents self.old (Put (item_of item.now)) (is_ok result) self.new }
     {
         self.write_on(item, 0)
     }
@@ -121,7 +121,7 @@ impl<W: Write> TapeWriter<W> {
         ensures failures { self.new.failures ≡ failures_after self.old.failures (is_ok result) }
         ensures size { self.new.size ≡ self.old.size }
         ensures position { self.new.position ≡ (if is_ok result then self.old.position + item_span (item_of item.now) else self.old.position) }
-        ensures call { MakesCall W.contents self.old (Resume (item_of item.now)) (is_ok result) self.new }
+        ensures call { MakesTapeCall W.contents self.old (Resume (item_of item.now)) (is_ok result) self.new }
     {
         self.write_on(item, self.sent)
     }

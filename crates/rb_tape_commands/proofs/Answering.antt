@@ -4,7 +4,7 @@ use Rattle.std.specs.Int.{w32, to_le_bytes}
 use Rattle.std.specs.Io.KnownBytes.{Keeps}
 use Rattle.std.proofs.KnownBytes.{Appends-kept, Keeps-refl, Keeps-trans}
 use Rattle.rb_history.specs.TapeBytes.{end_of}
-use Rattle.rb_tape_commands.specs.Input.{framed, framed_all, events_from, Ending, Follows, InputIs}
+use Rattle.rb_tape_commands.specs.Input.{framed, framed_all, payload_events, Ending, Follows, InputIs}
 use Rattle.rb_tape_commands.specs.Input.Ending.{Whole, Unfit, Cut}
 use Rattle.rb_tape_commands.specs.inner.FeedRuns.{feed_run}
 use Rattle.rb_tape_commands.specs.inner.PayloadSteps.{IsOpeningFault}
@@ -81,7 +81,7 @@ stops_says size start input (Some rest) h g ps e s = record {
   rest = s.more ++ rest;
   input_is = s.passes.read ∙ append_assoc (framed_all ps) s.more rest;
   stand = s.passes.stand;
-  goes_on = follows_on size (end_of start (events_from start ps)) e s.more rest s.goes_on s.read_to;
+  goes_on = follows_on size (end_of start (payload_events start ps)) e s.more rest s.goes_on s.read_to;
 }
 
 answers : (size start : ℕ) (input : List ℕ) (v h g : Option (List ℕ)) (ps qs : List (List ℕ)) (e f : Ending) → FeedsThenEnds (feed_run size start (Some input) v h g) ps e → InputIs size start input qs f → feed_answer start ps e ≡ feed_answer start qs f

@@ -13,7 +13,7 @@ use Rattle.rb_chapter_ring.specs.CountedFrom.{producer_from, consumer_from}
 use Rattle.rb_chapter_ring.specs.Chapters.{Chapter}
 use Rattle.rb_chapter_ring.specs.ChapterRoom.{MayGrant, owed, owed_for}
 use Rattle.rb_chapter_ring.specs.ChapterRing.{ChapterRing, whole_ring}
-use Rattle.rb_chapter_ring.specs.ChapterCalls.{AllTaken, IsSameChapter, Outputs, Takes, HandsOut, ChapterRingHasRoom, producer_now, consumer_now}
+use Rattle.rb_chapter_ring.specs.ChapterCalls.{AllTakenByChapter, IsSameChapter, OutputsByChapter, TakesByChapter, HandsOut, ChapterRingHasRoom, producer_by_chapter, consumer_by_chapter}
 use Rattle.rb_chapter_ring.specs.WholeHistory.{IsKept, IsSameFrom}
 use Rattle.rb_chapter_ring.proofs.Alike.{calls-alike}
 use Rattle.rb_chapter_ring.proofs.Keeping.{calls-keep}
@@ -35,11 +35,11 @@ module _ (earlier : List Entry) (v : ChapterRing) (kept : IsKept earlier v.chapt
       let c = kept.continues in
       (goes-on v.chapter.opening.setup earlier v.chapter.opening c.earlier_legal c.opened v.chapter.entries).0.0 c.legal
 
-  whole_producer : producer_now v ≡ producer_of v.chapter.opening.setup.start (earlier ++ v.chapter.entries)
+  whole_producer : producer_by_chapter v ≡ producer_of v.chapter.opening.setup.start (earlier ++ v.chapter.entries)
   whole_producer = ap (λ o. o.producer) said.stands
 
   -- where every record was taken, nothing is owed
-  nothing_owed : AllTaken v → owed v.chapter ≡ 0
+  nothing_owed : AllTakenByChapter v → owed v.chapter ≡ 0
   nothing_owed at =
       let whole = earlier ++ v.chapter.entries in
       let row = (kept-from-legal v.chapter.opening.setup whole legal_whole).in_row in
@@ -51,11 +51,11 @@ module _ (earlier : List Entry) (v : ChapterRing) (kept : IsKept earlier v.chapt
 
 -- where it stood, its bytes, and where the ring stands then
 pub record Passes (old new : ChapterRing) (bytes : List ℕ) (p : ℕ) (s : List ℕ) : Type 0 where
-  pub position_is : p ≡ producer_now old
+  pub position_is : p ≡ producer_by_chapter old
   pub bytes_are : s ≡ bytes
   pub moves : MovesOn old new (length bytes)
 
-module _ (earlier : List Entry) (old mid new : ChapterRing) (bytes : List ℕ) (kept : IsKept earlier old.chapter) (worker : 0 < old.chapter.opening.setup.workers) (at : AllTaken old) (o : Outputs old mid 0 bytes) (t : Taken) (a : Takes mid new t) where
+module _ (earlier : List Entry) (old mid new : ChapterRing) (bytes : List ℕ) (kept : IsKept earlier old.chapter) (worker : 0 < old.chapter.opening.setup.workers) (at : AllTakenByChapter old) (o : OutputsByChapter old mid 0 bytes) (t : Taken) (a : TakesByChapter mid new t) where
   kept_mid : IsKept earlier mid.chapter
   kept_mid = (calls-keep earlier old mid kept).outputs 0 bytes worker o
 
@@ -96,8 +96,8 @@ module _ (earlier : List Entry) (old mid new : ChapterRing) (bytes : List ℕ) (
       }
 
 -- a payload that the ring has room for when it is empty is refused only past the last position
-pub too_far : (old : ChapterRing) (n : ℕ) → AllTaken old → span n < old.chapter.opening.setup.size → ¬ ChapterRingHasRoom old n → 2 ^ 62 < producer_now old + span n
-too_far old n at room none = elim (cases_lt (2 ^ 62) (producer_now old + span n)) [
+pub too_far : (old : ChapterRing) (n : ℕ) → AllTakenByChapter old → span n < old.chapter.opening.setup.size → ¬ ChapterRingHasRoom old n → 2 ^ 62 < producer_by_chapter old + span n
+too_far old n at room none = elim (cases_lt (2 ^ 62) (producer_by_chapter old + span n)) [
   | inl past ↦ past
   | inr within ↦ absurd (none (record { space = omega (arith, at); limit = within }))
 ]
@@ -109,8 +109,8 @@ pub record GoesOn (old new : ChapterRing) : Type 0 where
   pub setup_same : new.chapter.opening.setup ≡ old.chapter.opening.setup
   pub room_same : new.chapter.room ≡ old.chapter.room
   pub numbered : new.chapter.number ≤ old.chapter.number + 1
-  pub producer_same : producer_now new ≡ producer_now old
-  pub consumer_same : consumer_now new ≡ consumer_now old
+  pub producer_same : producer_by_chapter new ≡ producer_by_chapter old
+  pub consumer_same : consumer_by_chapter new ≡ consumer_by_chapter old
 
 turned : (old new : ChapterRing) (out : Chapter) → HandsOut old new out → GoesOn old new
 turned old new out a =
@@ -136,13 +136,13 @@ goes_on old new (inl same) =
       setup_same = ap (λ (v : ChapterRing). v.chapter.opening.setup) e;
       room_same = ap (λ (v : ChapterRing). v.chapter.room) e;
       numbered = omega (arith, ap (λ (v : ChapterRing). v.chapter.number) e);
-      producer_same = ap producer_now e;
-      consumer_same = ap consumer_now e;
+      producer_same = ap producer_by_chapter e;
+      consumer_same = ap consumer_by_chapter e;
     }
 goes_on old new (inr out) = turned old new out.1.0 out.1.1
 
 -- the next chapter of a ring in which every record was taken has room for a record
-pub turn_gives_room : (earlier : List Entry) (old new : ChapterRing) (out : Chapter) → IsKept earlier old.chapter → AllTaken old → 8 ≤ old.chapter.room → HandsOut old new out → MayGrant new.chapter
+pub turn_gives_room : (earlier : List Entry) (old new : ChapterRing) (out : Chapter) → IsKept earlier old.chapter → AllTakenByChapter old → 8 ≤ old.chapter.room → HandsOut old new out → MayGrant new.chapter
 turn_gives_room earlier old new out kept at room a =
     let next = turned old new out a in
     let used : length new.chapter.entries ≡ 0 = ap length a.next.no_entries in

@@ -8,7 +8,7 @@ use Rattle.rb_history.specs.Span.{span}
 use Rattle.rb_history.specs.TapeBytes.{Item, IsItemAt, item_bytes, tape, end_of}
 use Rattle.rb_history.specs.TapeBytes.Item.{Event}
 use Rattle.rb_history.proofs.HeaderLaws.{tape-append, end_of-nil, end_of-cons, end_of-append, AreItemsFrom-push}
-use Rattle.rb_tape_commands.specs.Input.{framed, framed_all, events_from}
+use Rattle.rb_tape_commands.specs.Input.{framed, framed_all, payload_events}
 use Rattle.rb_tape_commands.specs.PayloadReads.{FindsPayload, FindsEnd, FindsNext}
 use Rattle.rb_tape_commands.specs.inner.FeedRuns.{feed_run}
 use Rattle.rb_tape_commands.specs.Feed.{FeedsAll, FeedResult, ends_of}
@@ -21,12 +21,12 @@ use Rattle.rb_tape_commands.specs.declared.feed_fault.FeedFault.TheVariants.{Siz
 framed_all-push : (ps : List (List ℕ)) (p : List ℕ) → framed_all (ps ++ p ∷ []) ≡ framed_all ps ++ framed p
 framed_all-push ps p = flat_map-append framed ps (p ∷ []) ∙ ap (λ xs. framed_all ps ++ xs) (append-nil (framed p))
 
-events_from-push : (position : ℕ) (ps : List (List ℕ)) (p : List ℕ) → events_from position (ps ++ p ∷ []) ≡ events_from position ps ++ Event (end_of position (events_from position ps)) p ∷ []
+events_from-push : (position : ℕ) (ps : List (List ℕ)) (p : List ℕ) → payload_events position (ps ++ p ∷ []) ≡ payload_events position ps ++ Event (end_of position (payload_events position ps)) p ∷ []
 events_from-push position [] p = ap (λ at. Event at p ∷ []) (sym (end_of-nil position))
 events_from-push position (q ∷ ps) p =
     let next = position + span (length q) in
     ap (λ items. Event position q ∷ items) (events_from-push next ps p)
-    ∙ ap (λ at. Event position q ∷ (events_from next ps ++ Event at p ∷ [])) (sym (end_of-cons position (Event position q) (events_from next ps)))
+    ∙ ap (λ at. Event position q ∷ (payload_events next ps ++ Event at p ∷ [])) (sym (end_of-cons position (Event position q) (payload_events next ps)))
 
 tape-push : (size : ℕ) (items : List Item) (item : Item) → tape size (items ++ item ∷ []) ≡ tape size items ++ item_bytes size item
 tape-push size items item = tape-append size items (item ∷ []) ∙ ap (λ xs. tape size items ++ xs) (append-nil (item_bytes size item))
@@ -45,11 +45,11 @@ module _ (size start : ℕ) (u v h g : Option (List ℕ)) (ps : List (List ℕ))
   passes_and w more read = record { stand = so_far.stand; read = Consumes-trans u v w (framed_all ps) more whole_read read; wrote = so_far.wrote }
 
   -- then a payload was read, and its record was written
-  pub passes_more : (w f : Option (List ℕ)) (p : List ℕ) → Consumes v w (framed p) → IsItemAt size (end_of start (events_from start ps)) (Event (end_of start (events_from start ps)) p) → Appends g f (item_bytes size (Event (end_of start (events_from start ps)) p)) → FeedsAll (feed_run size start u w h f) (ps ++ p ∷ []) []
+  pub passes_more : (w f : Option (List ℕ)) (p : List ℕ) → Consumes v w (framed p) → IsItemAt size (end_of start (payload_events start ps)) (Event (end_of start (payload_events start ps)) p) → Appends g f (item_bytes size (Event (end_of start (payload_events start ps)) p)) → FeedsAll (feed_run size start u w h f) (ps ++ p ∷ []) []
   passes_more w f p read item wrote = record {
-    stand = rw (events_from-push start ps p) (AreItemsFrom-push size start (events_from start ps) (Event (end_of start (events_from start ps)) p) so_far.stand item);
+    stand = rw (events_from-push start ps p) (AreItemsFrom-push size start (payload_events start ps) (Event (end_of start (payload_events start ps)) p) so_far.stand item);
     read = subst (Consumes u w) (sym (framed_all-push ps p) ∙ sym (append-nil (framed_all (ps ++ p ∷ [])))) (Consumes-trans u v w (framed_all ps) (framed p) whole_read read);
-    wrote = rw (events_from-push start ps p, tape-push size (events_from start ps) (Event (end_of start (events_from start ps)) p)) (Appends-trans h g f _ _ so_far.wrote wrote);
+    wrote = rw (events_from-push start ps p, tape-push size (payload_events start ps) (Event (end_of start (payload_events start ps)) p)) (Appends-trans h g f _ _ so_far.wrote wrote);
   }
 
   -- nothing more came
@@ -68,7 +68,7 @@ module _ (size start : ℕ) (u v h g : Option (List ℕ)) (ps : List (List ℕ))
   fed_next w number count Device f = record {
     payloads = ps;
     more = f.part;
-    out = tape size (events_from start ps);
+    out = tape size (payload_events start ps);
     missing = [];
     stand = so_far.stand;
     read = (passes_and w f.part f.read).read;
@@ -77,7 +77,7 @@ module _ (size start : ℕ) (u v h g : Option (List ℕ)) (ps : List (List ℕ))
   }
 
   -- a payload was read, and did not come onto the tape whole
-  pub fed_one : (w f : Option (List ℕ)) (number position : ℕ) (p : List ℕ) → number ≡ length ps → position ≡ end_of start (events_from start ps) → size < 2 ^ 32 → FindsPayload size v w p → (e : FeedFault) → FeedsOne size position number p g f (Err e) → FeedResult (feed_run size start u w h f) (Err e)
+  pub fed_one : (w f : Option (List ℕ)) (number position : ℕ) (p : List ℕ) → number ≡ length ps → position ≡ end_of start (payload_events start ps) → size < 2 ^ 32 → FindsPayload size v w p → (e : FeedFault) → FeedsOne size position number p g f (Err e) → FeedResult (feed_run size start u w h f) (Err e)
   fed_one w f number position p count at small read Size o = absurd o
   fed_one w f number position p count at small read Start o = absurd o
   fed_one w f number position p count at small read (Fit k) o =
@@ -98,22 +98,22 @@ module _ (size start : ℕ) (u v h g : Option (List ℕ)) (ps : List (List ℕ))
       record {
         payloads = ps ++ p ∷ [];
         more = [];
-        out = tape size (events_from start ps) ++ take o.1 item;
+        out = tape size (payload_events start ps) ++ take o.1 item;
         missing = drop o.1 item;
-        stand = rw (events_from-push start ps p) (AreItemsFrom-push size start (events_from start ps) (Event (end_of start (events_from start ps)) p) so_far.stand (subst (λ q. IsItemAt size q (Event q p)) at o.0));
+        stand = rw (events_from-push start ps p) (AreItemsFrom-push size start (payload_events start ps) (Event (end_of start (payload_events start ps)) p) so_far.stand (subst (λ q. IsItemAt size q (Event q p)) at o.0));
         read = subst (Consumes u w) (sym (framed_all-push ps p) ∙ sym (append-nil (framed_all (ps ++ p ∷ [])))) (Consumes-trans u v w (framed_all ps) (framed p) whole_read read.read);
         wrote = Appends-trans h g f _ _ so_far.wrote o.2;
         beginning =
-            append_assoc (tape size (events_from start ps)) (take o.1 item) (drop o.1 item)
-            ∙ ap (λ xs. tape size (events_from start ps) ++ xs) (take-append-drop o.1 item)
-            ∙ ap (λ q. tape size (events_from start ps) ++ item_bytes size (Event q p)) at
-            ∙ sym (tape-push size (events_from start ps) (Event (end_of start (events_from start ps)) p))
+            append_assoc (tape size (payload_events start ps)) (take o.1 item) (drop o.1 item)
+            ∙ ap (λ xs. tape size (payload_events start ps) ++ xs) (take-append-drop o.1 item)
+            ∙ ap (λ q. tape size (payload_events start ps) ++ item_bytes size (Event q p)) at
+            ∙ sym (tape-push size (payload_events start ps) (Event (end_of start (payload_events start ps)) p))
             ∙ ap (tape size) (sym (events_from-push start ps p));
       }
 
 -- where the payloads end with one more
-pub end_of-push : (start : ℕ) (ps : List (List ℕ)) (p : List ℕ) → end_of start (events_from start (ps ++ p ∷ [])) ≡ end_of start (events_from start ps) + span (length p)
+pub end_of-push : (start : ℕ) (ps : List (List ℕ)) (p : List ℕ) → end_of start (payload_events start (ps ++ p ∷ [])) ≡ end_of start (payload_events start ps) + span (length p)
 end_of-push start ps p =
-    let item = Event (end_of start (events_from start ps)) p in
-    let here = end_of start (events_from start ps) in
-    ap (end_of start) (events_from-push start ps p) ∙ end_of-append start (events_from start ps) (item ∷ []) ∙ end_of-cons here item [] ∙ end_of-nil (here + span (length p))
+    let item = Event (end_of start (payload_events start ps)) p in
+    let here = end_of start (payload_events start ps) in
+    ap (end_of start) (events_from-push start ps p) ∙ end_of-append start (payload_events start ps) (item ∷ []) ∙ end_of-cons here item [] ∙ end_of-nil (here + span (length p))

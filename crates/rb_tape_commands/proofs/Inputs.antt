@@ -7,7 +7,7 @@ use Rattle.rb_history.specs.TapeBytes.{IsItemAt, AreItemsFrom, end_of}
 use Rattle.rb_history.specs.TapeBytes.Item.{Event}
 use Rattle.rb_history.proofs.HeaderBytes.{halves}
 use Rattle.rb_history.proofs.HeaderLaws.{same_first_word, end_of-nil, end_of-cons}
-use Rattle.rb_tape_commands.specs.Input.{framed, framed_all, events_from, Ending, Follows, InputIs}
+use Rattle.rb_tape_commands.specs.Input.{framed, framed_all, payload_events, Ending, Follows, InputIs}
 use Rattle.rb_tape_commands.specs.Input.Ending.{Whole, Unfit, Cut}
 
 -- ---- one payload in front
@@ -80,7 +80,7 @@ same_ending size position text Cut Unfit a b = absurd (not_both size position te
 
 -- ---- the whole input
 
-pub one_reading : (size position : ℕ) (ps qs : List (List ℕ)) (e f : Ending) (r s : List ℕ) → framed_all ps ++ r ≡ framed_all qs ++ s → AreItemsFrom size position (events_from position ps) → AreItemsFrom size position (events_from position qs) → Follows size (end_of position (events_from position ps)) e r → Follows size (end_of position (events_from position qs)) f s → (ps ≡ qs) × (e ≡ f)
+pub one_reading : (size position : ℕ) (ps qs : List (List ℕ)) (e f : Ending) (r s : List ℕ) → framed_all ps ++ r ≡ framed_all qs ++ s → AreItemsFrom size position (payload_events position ps) → AreItemsFrom size position (payload_events position qs) → Follows size (end_of position (payload_events position ps)) e r → Follows size (end_of position (payload_events position qs)) f s → (ps ≡ qs) × (e ≡ f)
 one_reading size position [] [] e f r s same a b x y = (refl, same_ending size (end_of position []) s e f (subst (Follows size (end_of position []) e) same x) y)
 one_reading size position [] (q ∷ qs) e f r s same a b x y =
     let text : r ≡ framed q ++ (framed_all qs ++ s) = same ∙ append_assoc (framed q) (framed_all qs) s in
@@ -94,11 +94,11 @@ one_reading size position (p ∷ ps) (q ∷ qs) e f r s same a b x y =
     let text : framed p ++ (framed_all ps ++ r) ≡ framed q ++ (framed_all qs ++ s) = sym (append_assoc (framed p) (framed_all ps) r) ∙ same ∙ append_assoc (framed q) (framed_all qs) s in
     let first = same_payload p q (framed_all ps ++ r) (framed_all qs ++ s) (omega arith) (omega arith) text in
     let here : position + span (length q) ≡ position + span (length p) = ap (λ z. position + span (length z)) (sym first.0) in
-    let next : AreItemsFrom size (position + span (length p)) (events_from (position + span (length p)) qs) = subst (λ at. AreItemsFrom size at (events_from at qs)) here b.1 in
-    let behind : Follows size (end_of (position + span (length p)) (events_from (position + span (length p)) ps)) e r =
-    subst (λ at. Follows size at e r) (end_of-cons position (Event position p) (events_from (position + span (length p)) ps)) x in
-    let beyond : Follows size (end_of (position + span (length p)) (events_from (position + span (length p)) qs)) f s =
-    subst (λ at. Follows size (end_of at (events_from at qs)) f s) here (subst (λ at. Follows size at f s) (end_of-cons position (Event position q) (events_from (position + span (length q)) qs)) y) in
+    let next : AreItemsFrom size (position + span (length p)) (payload_events (position + span (length p)) qs) = subst (λ at. AreItemsFrom size at (payload_events at qs)) here b.1 in
+    let behind : Follows size (end_of (position + span (length p)) (payload_events (position + span (length p)) ps)) e r =
+    subst (λ at. Follows size at e r) (end_of-cons position (Event position p) (payload_events (position + span (length p)) ps)) x in
+    let beyond : Follows size (end_of (position + span (length p)) (payload_events (position + span (length p)) qs)) f s =
+    subst (λ at. Follows size (end_of at (payload_events at qs)) f s) here (subst (λ at. Follows size at f s) (end_of-cons position (Event position q) (payload_events (position + span (length q)) qs)) y) in
     let rest = one_reading size (position + span (length p)) ps qs e f r s first.1 a.1 next behind beyond in
     let heads = first.0 in
     let tails = rest.0 in

@@ -3,7 +3,7 @@ use Rattle.std.specs.Prelude.{ℕ, ◌≡◌, ◌⊎◌, List, ◌++◌, length,
 use Rattle.std.specs.Io.KnownBytes.{Appends, Consumes, Keeps, IsAtEnd}
 use Rattle.rb_history.specs.TapeBytes.{AreItemsFrom, end_of, tape}
 use Rattle.rb_history.specs.RingModel.{IsRingSize, IsStartPosition}
-use Rattle.rb_tape_commands.specs.Input.{framed_all, events_from, Ending, Follows, InputIs}
+use Rattle.rb_tape_commands.specs.Input.{framed_all, payload_events, Ending, Follows, InputIs}
 use Rattle.rb_tape_commands.specs.Input.Ending.{Whole, Unfit, Cut}
 use Rattle.rb_tape_commands.specs.declared.feed_fault.FeedFault.{FeedFault}
 use Rattle.rb_tape_commands.specs.declared.feed_fault.FeedFault.TheVariants.{Size, Start, Fit, Ends, Memory, Device}
@@ -19,9 +19,9 @@ pub record FeedRun : Type 0 where
 
 -- these payloads were read, and then some bytes more; and the whole tape of the payloads was written, and nothing else
 pub record FeedsAll (run : FeedRun) (payloads : List (List ℕ)) (more : List ℕ) : Type 0 where
-  pub stand : AreItemsFrom run.size run.start (events_from run.start payloads)
+  pub stand : AreItemsFrom run.size run.start (payload_events run.start payloads)
   pub read : Consumes run.input_before run.input_after (framed_all payloads ++ more)
-  pub wrote : Appends run.output_before run.output_after (tape run.size (events_from run.start payloads))
+  pub wrote : Appends run.output_before run.output_after (tape run.size (payload_events run.start payloads))
 
 -- where the input goes on with nothing or with less than a payload, it was read to its end
 abbrev pub IsReadTo : Ending → Option (List ℕ) → Type 0
@@ -33,12 +33,12 @@ IsReadTo Cut input_after = IsAtEnd input_after
 pub record FeedsThenEnds (run : FeedRun) (payloads : List (List ℕ)) (ending : Ending) : Type 0 where
   pub more : List ℕ
   pub passes : FeedsAll run payloads more
-  pub goes_on : Follows run.size (end_of run.start (events_from run.start payloads)) ending more
+  pub goes_on : Follows run.size (end_of run.start (payload_events run.start payloads)) ending more
   pub read_to : IsReadTo ending run.input_after
 
 -- the producer and the consumer position where the tape of the payloads ends
 abbrev pub ends_of : ℕ → List (List ℕ) → ℕ × ℕ
-ends_of start payloads = (end_of start (events_from start payloads), end_of start (events_from start payloads))
+ends_of start payloads = (end_of start (payload_events start payloads), end_of start (payload_events start payloads))
 
 -- ---- the cases of an answer
 
@@ -71,10 +71,10 @@ pub record FeedBreaksOff (run : FeedRun) : Type 0 where
   pub more : List ℕ
   pub out : List ℕ
   pub missing : List ℕ
-  pub stand : AreItemsFrom run.size run.start (events_from run.start payloads)
+  pub stand : AreItemsFrom run.size run.start (payload_events run.start payloads)
   pub read : Consumes run.input_before run.input_after (framed_all payloads ++ more)
   pub wrote : Appends run.output_before run.output_after out
-  pub beginning : out ++ missing ≡ tape run.size (events_from run.start payloads)
+  pub beginning : out ++ missing ≡ tape run.size (payload_events run.start payloads)
 
 -- what was read and written, by the answer
 abbrev pub FeedResult : FeedRun → Result (ℕ × ℕ) FeedFault → Type 0

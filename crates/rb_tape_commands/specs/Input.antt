@@ -17,9 +17,9 @@ abbrev pub framed_all : List (List ℕ) → List ℕ
 framed_all payloads = flat_map framed payloads
 
 -- the records that payloads become: each an event, which begins where the one before it ends
-abbrev pub events_from : ℕ → List (List ℕ) → List Item
-events_from position [] = []
-events_from position (payload ∷ payloads) = Event position payload ∷ events_from (position + span (length payload)) payloads
+abbrev pub payload_events : ℕ → List (List ℕ) → List Item
+payload_events position [] = []
+payload_events position (payload ∷ payloads) = Event position payload ∷ payload_events (position + span (length payload)) payloads
 
 -- ---- what may stand behind them
 
@@ -71,5 +71,5 @@ Follows size position Cut text = IsCutLength text ⊎ IsCutPayload size text
 pub record InputIs (size start : ℕ) (input : List ℕ) (payloads : List (List ℕ)) (ending : Ending) : Type 0 where
   pub rest : List ℕ
   pub input_is : input ≡ framed_all payloads ++ rest
-  pub stand : AreItemsFrom size start (events_from start payloads)
-  pub goes_on : Follows size (end_of start (events_from start payloads)) ending rest
+  pub stand : AreItemsFrom size start (payload_events start payloads)
+  pub goes_on : Follows size (end_of start (payload_events start payloads)) ending rest

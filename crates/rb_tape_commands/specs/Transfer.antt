@@ -2,16 +2,16 @@
 use Rattle.std.specs.Prelude.{ℕ, ◌≡◌, ◌+◌, ◌<◌, ◌≤◌, ◌^◌}
 use Rattle.rb_history.specs.Span.{span}
 use Rattle.rb_chapter_ring.specs.ChapterRing.{ChapterRing}
-use Rattle.rb_chapter_ring.specs.ChapterCalls.{AllTaken, IsSameChapter, producer_now}
+use Rattle.rb_chapter_ring.specs.ChapterCalls.{AllTakenByChapter, IsSameChapter, producer_by_chapter}
 use Rattle.rb_tape_commands.specs.declared.feed_fault.FeedFault.{FeedFault}
 use Rattle.rb_tape_commands.specs.declared.feed_fault.FeedFault.TheVariants.{Size, Start, Fit, Ends, Memory, Device}
 
 -- the ring keeps the same chapter, has again no record that was not taken, and has moved on by a record of n bytes
 pub record MovesOn (old new : ChapterRing) (n : ℕ) : Type 0 where
   pub same_chapter : IsSameChapter old new
-  pub all_taken : AllTaken new
-  pub producer_is : producer_now new ≡ producer_now old + span n
-  pub bounded : producer_now old + span n ≤ 2 ^ 62
+  pub all_taken : AllTakenByChapter new
+  pub producer_is : producer_by_chapter new ≡ producer_by_chapter old + span n
+  pub bounded : producer_by_chapter old + span n ≤ 2 ^ 62
 
 -- the ring refuses the payload of this number, of n bytes, at this position: it would end past 2^62
 abbrev pub IsRefusal : ℕ → ℕ → ℕ → FeedFault → Type 0

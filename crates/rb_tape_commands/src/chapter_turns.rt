@@ -2,7 +2,7 @@
 
 ghost use Rattle.std.specs.Prelude.{ℕ, ◌≡◌, ◌<◌, ◌^◌, OnOk};
 ghost use Rattle.rb_chapter_ring.specs.ChapterRoom.{MayGrant};
-ghost use Rattle.rb_chapter_ring.specs.ChapterCalls.{AllTaken};
+ghost use Rattle.rb_chapter_ring.specs.ChapterCalls.{AllTakenByChapter};
 ghost use Rattle.rb_tape_commands.specs.ChapterTurns.{IsSpareOf, MakesChapterRoom};
 
 use rb_chapter_ring::{Chapter, RingState};
@@ -11,7 +11,7 @@ use rb_chapter_ring::{Chapter, RingState};
 /// Has a ring in which every record was taken go on in the spare chapter, where its own has no room for what one more record logs:
 /// its grant, its submit and its take. The old chapter is emptied, and is the next spare one.
 pub(crate) fn make_chapter_room(ring: &mut RingState, spare: &mut Option<Chapter>)
-    requires all_taken { AllTaken ring.old.state.ring }
+    requires all_taken { AllTakenByChapter ring.old.state.ring }
     requires number { ring.old.state.ring.chapter.number < 2 ^ 62 }
     requires spare { IsSpareOf ring.old.state.ring spare.old }
     ensures turned { MakesChapterRoom ring.old.state.ring ring.new.state.ring }
@@ -27,7 +27,7 @@ pub(crate) fn make_chapter_room(ring: &mut RingState, spare: &mut Option<Chapter
 #[cold]
 #[inline(never)]
 fn turn_chapter(ring: &mut RingState, spare: &mut Option<Chapter>)
-    requires all_taken { AllTaken ring.old.state.ring }
+    requires all_taken { AllTakenByChapter ring.old.state.ring }
     requires full { ¬ MayGrant ring.old.state.ring.chapter }
     requires number { ring.old.state.ring.chapter.number < 2 ^ 62 }
     requires spare { IsSpareOf ring.old.state.ring spare.old }

@@ -4,18 +4,18 @@ ghost use Rattle.std.specs.Prelude.{◌≡◌, ◌≢◌, [], ◌+◌, ◌<◌, 
 ghost use Rattle.rb_history.specs.Span.{span};
 ghost use Rattle.rb_history.specs.RingModel.{IsRingSize, IsStartPosition};
 ghost use Rattle.rb_chapter_ring.specs.ChapterRoom.{MayGrant};
-ghost use Rattle.rb_chapter_ring.specs.ChapterCalls.{AllTaken, producer_now};
+ghost use Rattle.rb_chapter_ring.specs.ChapterCalls.{AllTakenByChapter, producer_by_chapter};
 ghost use Rattle.rb_tape_commands.specs.ChapterTurns.{IsSpareOf};
 ghost use Rattle.rb_tape_commands.specs.inner.OpenedFeed.{IsOpenedFeed};
 ghost use Rattle.rb_tape_commands.specs.Feed.{FeedResult, FeedAnswerMatches, AnswersAlone};
 ghost use Rattle.rb_tape_commands.specs.inner.PayloadSteps.{FeedsOne, IsOpeningFault};
-ghost use Rattle.rb_tape_commands.specs.Retries.{HandsOutAtEnd};
+ghost use Rattle.rb_tape_commands.specs.Retries.{WritesOutAtEnd};
 ghost use Rattle.rb_tape_commands.specs.Transfer.{MovesOn};
 
 use crate::chapter_turns::make_chapter_room;
 use crate::feed_fault::FeedFault;
 use crate::payloads::next_payload;
-use crate::retries::{hand_out_with_retries, put_with_retries};
+use crate::retries::{put_with_retries, write_out_with_retries};
 use crate::transfer::transfer_payload;
 use rb_chapter_ring::{Chapter, OpenFault, RingState};
 use rb_io::Outgoing;
@@ -36,12 +36,12 @@ fn feed_one<W: Write>(
     number: u64,
     retries: &mut u32,
 ) -> Result<Sheet, FeedFault>
-    requires all_taken { AllTaken ring.old.state.ring }
+    requires all_taken { AllTakenByChapter ring.old.state.ring }
     requires chapter_room { MayGrant ring.old.state.ring.chapter }
     requires worker { 0 < ring.old.state.ring.chapter.opening.setup.workers }
     requires size { IsRingSize ring.old.state.ring.chapter.opening.setup.size }
     requires tape_size { tape.old.size ≡ ring.old.state.ring.chapter.opening.setup.size }
-    requires position { tape.old.position ≡ producer_now ring.old.state.ring }
+    requires position { tape.old.position ≡ producer_by_chapter ring.old.state.ring }
     requires finished { tape.old.unfinished ≡ None }
     requires room { span (length payload) < ring.old.state.ring.chapter.opening.setup.size }
     ensures fed { FeedsOne tape.old.size tape.old.position number payload (W.contents tape.old.writer) (W.contents tape.new.writer) result }
@@ -117,7 +117,7 @@ pub fn feed<R: BufRead, W: Outgoing>(
     ensures handed_on { W.waiting writer ≡ [] → result.0 ≢ Err FeedFault.Device → W.waiting result.1 ≡ [] }
 
     // A writer is handed back as it was, or was at last called to hand on, with no more retries than are given.
-    ensures handed_out { (result.1 ≡ writer) ⊎ HandsOutAtEnd W.hands_out retries result.0 result.1 }
+    ensures handed_out { (result.1 ≡ writer) ⊎ WritesOutAtEnd W.writes_out retries result.0 result.1 }
 
     // Which answer it is.
     ensures size { IsErrOf result.0 FeedFault.Size ↔ ¬ IsRingSize size }
@@ -174,7 +174,7 @@ fn feed_ring<R: BufRead, W: Outgoing>(
     requires opened { IsOpenedFeed ROOM size start opened.0.state.ring opened.1 }
     ensures fed { FeedResult (record { size = size; start = start; input_before = R.remaining reader.old; input_after = R.remaining reader.new; output_before = W.contents writer; output_after = W.contents result.1 }) result.0 }
     ensures handed_on { result.0 ≢ Err FeedFault.Device → W.waiting result.1 ≡ [] }
-    ensures handed_out { HandsOutAtEnd W.hands_out retries result.0 result.1 }
+    ensures handed_out { WritesOutAtEnd W.writes_out retries result.0 result.1 }
     ensures no_bounds { (result.0 ≢ Err FeedFault.Size) × (result.0 ≢ Err FeedFault.Start) }
 {
     let (mut ring, mut spare_chapter, spare) = opened;
@@ -189,7 +189,7 @@ fn feed_ring<R: BufRead, W: Outgoing>(
         &mut retries,
     );
     let mut writer = tape.into_writer();
-    match hand_out_with_retries(&mut writer, retries) {
+    match write_out_with_retries(&mut writer, retries) {
         Ok(()) => (fed, writer),
         Err(_) => (Err(FeedFault::Device), writer),
     }

@@ -4,7 +4,7 @@ ghost use Rattle.std.specs.Prelude.{◌≡◌, ◌<◌, ◌≤◌, ◌+◌, [], 
 ghost use Rattle.std.specs.Io.KnownBytes.{Appends, Keeps};
 ghost use Rattle.rb_history.specs.TapeBytes.{item_bytes, item_span, IsItemAt};
 ghost use Rattle.rb_tape.specs.Items.{item_of};
-ghost use Rattle.rb_tape_commands.specs.Retries.{TriesToHandOut};
+ghost use Rattle.rb_tape_commands.specs.Retries.{TriesToWriteOut};
 
 use rb_io::{DeviceFault, Outgoing};
 use rb_tape::{Item, TapeWriter};
@@ -43,16 +43,16 @@ pub(crate) fn put_with_retries<W: Write>(
 }
 
 /// Has the writer hand on all that waits in it, again after each time that this failed, `retries` times and no more.
-pub(crate) fn hand_out_with_retries<W: Outgoing>(
+pub(crate) fn write_out_with_retries<W: Outgoing>(
     writer: &mut W,
     retries: u32,
 ) -> Result<(), DeviceFault>
     ensures bytes { Keeps (W.contents writer.old) (W.contents writer.new) }
     ensures nothing_waits { OnOk result (W.waiting writer.new ≡ []) }
-    ensures tried { TriesToHandOut W.hands_out retries writer.old (is_ok result) writer.new }
+    ensures tried { TriesToWriteOut W.writes_out retries writer.old (is_ok result) writer.new }
 {
     let mut left = retries;
-    while writer.hand_out().is_err() {
+    while writer.write_out().is_err() {
         if left == 0 {
             return Err(DeviceFault);
         }

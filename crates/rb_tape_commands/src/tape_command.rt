@@ -48,7 +48,7 @@ pub fn tape<R: Read, W: Outgoing>(
     };
     let mut lines = Lines::new(alloc);
     let printed = print_pieces(alloc, &mut feed, input, out, &mut lines, form);
-    match out.hand_out() {
+    match out.write_out() {
         Ok(()) => printed,
         Err(_) => Err(TapeRefusal::Device),
     }

@@ -3,7 +3,7 @@
 ghost use Rattle.std.specs.Prelude.{◌≡◌, ◌<◌, IfOk, IfErr, length};
 ghost use Rattle.rb_history.specs.Span.{span};
 ghost use Rattle.rb_chapter_ring.specs.ChapterRoom.{MayGrant};
-ghost use Rattle.rb_chapter_ring.specs.ChapterCalls.{AllTaken, producer_now};
+ghost use Rattle.rb_chapter_ring.specs.ChapterCalls.{AllTakenByChapter, producer_by_chapter};
 ghost use Rattle.rb_tape_commands.specs.Transfer.{MovesOn, IsRefusal};
 
 use crate::feed_fault::FeedFault;
@@ -17,14 +17,14 @@ pub(crate) fn transfer_payload(
     payload: Sheet,
     number: u64,
 ) -> Result<(u64, Sheet), FeedFault>
-    requires all_taken { AllTaken ring.old.state.ring }
+    requires all_taken { AllTakenByChapter ring.old.state.ring }
     requires chapter_room { MayGrant ring.old.state.ring.chapter }
     requires worker { 0 < ring.old.state.ring.chapter.opening.setup.workers }
     requires room { span (length payload) < ring.old.state.ring.chapter.opening.setup.size }
     ensures moves_on { IfOk result (λ r. MovesOn ring.old.state.ring ring.new.state.ring (length payload)) }
-    ensures position { IfOk result (λ r. r.0 ≡ producer_now ring.old.state.ring) }
+    ensures position { IfOk result (λ r. r.0 ≡ producer_by_chapter ring.old.state.ring) }
     ensures bytes { IfOk result (λ r. r.1 ≡ payload) }
-    ensures refused { IfErr result (IsRefusal (producer_now ring.old.state.ring) number (length payload)) }
+    ensures refused { IfErr result (IsRefusal (producer_by_chapter ring.old.state.ring) number (length payload)) }
 {
     ring.facts();
     match ring.output(0, payload, 0) {

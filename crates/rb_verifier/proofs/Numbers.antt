@@ -5,7 +5,7 @@ use Rattle.std.specs.Option.{SomeIff}
 use Rattle.rb_verifier.specs.AbstractArithmetic.{is_near, check_near}
 use Rattle.rb_verifier.specs.Extents.{contains_range, stack_extent}
 use Rattle.rb_verifier.specs.StackPlaces.{natural, stack_byte, place_from, whole_place}
-use Rattle.rb_verifier.specs.inner.StackReach.{IsPlace}
+use Rattle.rb_verifier.specs.inner.StackReach.{IsPlaceOrNone}
 use Rattle.rb_verifier.specs.declared.rule.Rule.{Rule}
 use Rattle.rb_verifier.specs.declared.rule.Rule.TheVariants as rule
 use Rattle.std.specs.Int.{cast_signed, cast_unsigned}
@@ -61,13 +61,13 @@ byte_on_stack z len h = of_sum (z +ℤ pos 512) refl
     of_sum (negsuc n) e = absurd (grind (arith, ints, nat_tests))
 
 -- a place that has bytes of the stack is one of the 64
-pub whole_inside : (at len : ℕ) → at + len ≤ 512 → IsPlace (whole_place at len)
+pub whole_inside : (at len : ℕ) → at + len ≤ 512 → IsPlaceOrNone (whole_place at len)
 whole_inside at len h = of_length (len == 8) refl
   where
-    of_rest : (b : Bool) → len ≡ 8 → IsPlace (if b then Some (at / 8) else None)
+    of_rest : (b : Bool) → len ≡ 8 → IsPlaceOrNone (if b then Some (at / 8) else None)
     of_rest true e = omega arith
     of_rest false e = tt
 
-    of_length : (b : Bool) → (len == 8) ≡ b → IsPlace (if b then place_from at else None)
+    of_length : (b : Bool) → (len == 8) ≡ b → IsPlaceOrNone (if b then place_from at else None)
     of_length true e = of_rest (at % 8 == 0) (eqb-true len 8 e)
     of_length false e = tt

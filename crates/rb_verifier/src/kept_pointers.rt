@@ -5,7 +5,7 @@ ghost use Rattle.rb_verifier.specs.Extents.{contains_range, stack_extent};
 ghost use Rattle.rb_verifier.specs.StackPlaces.{stack_byte};
 ghost use Rattle.rb_verifier.specs.KeptPointers.{known_in, byte_behind, is_data, check_data, check_loaded, check_kept, check_stored};
 ghost use Rattle.rb_verifier.specs.ValueChecks.{check_inside};
-ghost use Rattle.rb_verifier.specs.inner.StackReach.{IsPlace, IsPlaced, LiesInside};
+ghost use Rattle.rb_verifier.specs.inner.StackReach.{IsPlaceOrNone, IsPlaced, LiesInside};
 
 use crate::extents::reaches;
 use crate::limits::Limits;
@@ -88,7 +88,7 @@ pub(crate) fn check_loaded(byte: Option<u64>, len: u64, places: &Places) -> Resu
 
 /// What a store of a pointer leaves of the places: the one that has exactly the bytes keeps it, and no other bytes do.
 fn keep_at(place: Option<u64>, value: Abs, places: &mut Places) -> Result<(), StepFault>
-    requires place { IsPlace place }
+    requires place { IsPlaceOrNone place }
     requires pointer { is_data value ≡ false }
     ensures placed { IsPlaced result places.new (check_kept place value (known_in places.old)) }
     ensures unchanged { IfErr result (λ _. places.new ≡ places.old) }

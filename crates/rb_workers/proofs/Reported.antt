@@ -12,7 +12,7 @@ use Rattle.rb_ledger.proofs.Beginnings.{begins_through, extended_begins}
 use Rattle.rb_jobs.specs.SeatLaws.{SeatBegins}
 use Rattle.rb_ledger.specs.Seats.{WorkerSeat, IsSameSeat}
 use Rattle.rb_chapter_ring.specs.Chapters.{joined}
-use Rattle.rb_chapter_ring.proofs.Chain.{binds-continue}
+use Rattle.rb_ledger.proofs.BoundChapters.{gathered-continues}
 use Rattle.rb_ledger.proofs.WholeCalls.{consumer-same}
 use Rattle.rb_shared_ring.specs.SharedSeats.{IsSameChapterConsumer}
 use Rattle.rb_jobs.specs.declared.job.Job.{Job}
@@ -61,7 +61,7 @@ rings_end position takes (o ∷ os) (b ∷ bs) (e ∷ es) count all rings seats 
     let whole = ring_at_end b.consumer e in
     let closed = c.closed.closed in
     let last = e.closing.at_end in
-    let goes_on = binds-continue b.consumer.handed_out last.chapter c.closed.has_chapters.binds in (
+    let goes_on = gathered-continues last b.seats.items b.consumer c.closed.gathered in (
       record {
         consumer = b.consumer;
         which = c.which ∙ list_head b.ring o.ring (map (λ x. x.ring) bs) (map (λ x. x.ring) os) rings;

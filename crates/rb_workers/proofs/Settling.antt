@@ -11,9 +11,10 @@ use Rattle.rb_history.specs.Counting.{counts_of}
 use Rattle.rb_chapter_ring.specs.Chapters.{Chapter, joined}
 use Rattle.rb_chapter_ring.specs.ChapterRing.{ChapterRing}
 use Rattle.rb_chapter_ring.specs.OpenedRing.{told_counts}
-use Rattle.rb_ledger.specs.ChapteredRing.{HasChapters, chaptered_ring, whole_of}
+use Rattle.rb_chapter_ring.specs.WholeHistory.{ContinuesHistory}
+use Rattle.rb_ledger.specs.ChapteredRing.{chaptered_ring, whole_of}
 use Rattle.rb_ledger.specs.ChapterSeats.{whole_consumer}
-use Rattle.rb_chapter_ring.proofs.Chain.{binds-continue}
+use Rattle.rb_ledger.proofs.BoundChapters.{gathered-continues}
 use Rattle.rb_ledger.proofs.WholeCalls.{said}
 use Rattle.rb_jobs.specs.SeatHelpers.{made_in, submitted_in, discarded_in}
 use Rattle.rb_jobs.specs.declared.job.Job.{Job}
@@ -99,8 +100,8 @@ settled_together count (row ∷ seats) all k below =
 -- ---- closed rings
 
 -- the busy records that a closed ring tells are those of its whole history
-busy_told : (handed_out : List Chapter) (last : ChapterRing) → HasChapters (chaptered_ring handed_out last) → (told_counts last).busy ≡ (counts_of (whole_of (chaptered_ring handed_out last)).history).busy
-busy_told handed_out last has = ap (λ (n : Counts). n.busy) (said (joined handed_out) last last (binds-continue handed_out last.chapter has.binds)).counts
+busy_told : (handed_out : List Chapter) (last : ChapterRing) → ContinuesHistory (joined handed_out) last.chapter → (told_counts last).busy ≡ (counts_of (whole_of (chaptered_ring handed_out last)).history).busy
+busy_told handed_out last goes_on = ap (λ (n : Counts). n.busy) (said (joined handed_out) last last goes_on).counts
 
 rings_within : {S : Type 0} (position : S → ℕ) (takes : S → SinkItem → S → Type 0) (opened : List (Opened S)) (ended : List (Ended S)) (seats : List (List WorkerSeat)) → RingsEnd position takes opened ended seats → All (All SettlesWithin) seats
 rings_within position takes [] [] [] ends = All-nil (All SettlesWithin)
@@ -127,7 +128,7 @@ rings_settled position takes (o ∷ os) (e ∷ es) (row ∷ more) ends settled =
     let here = All-head (All HasSettledAll) row more settled in
     let one : EndsSettled e = record {
       tallies_even = All-same IsEven e.tallies.items (map (λ (s : WorkerSeat). s.tally) row) ring.tallies_are (All-map IsEven (λ (s : WorkerSeat). s.tally) row here);
-      none_busy = busy_told ring.consumer.handed_out e.closing.at_end ring.closed.has_chapters ∙ (once-closed (ring_at_end ring.consumer e) row (whole_consumer ring.consumer) ring.closed.closed).none_busy.0 here;
+      none_busy = busy_told ring.consumer.handed_out e.closing.at_end (gathered-continues e.closing.at_end row ring.consumer ring.closed.gathered) ∙ (once-closed (ring_at_end ring.consumer e) row (whole_consumer ring.consumer) ring.closed.closed).none_busy.0 here;
     } in
     All-cons EndsSettled e es one (rings_settled position takes os es more ends.1 (All-tail (All HasSettledAll) row more settled))
 

@@ -4,7 +4,7 @@ use Rattle.std.specs.List.{AllZip, count_by, list_any, sum_by}
 use Rattle.rb_interp.specs.declared.done.Done.{Done}
 use Rattle.rb_interp.specs.AnsweredCalls.{AllMayAnswer, notes_of}
 use Rattle.rb_history.specs.RingModel.{Ring}
-use Rattle.rb_chapter_ring.specs.ChapterCalls.{consumer_now}
+use Rattle.rb_chapter_ring.specs.ChapterCalls.{consumer_by_chapter}
 use Rattle.rb_interp.specs.declared.fault.RunFault.TheVariants.{Stray}
 use Rattle.rb_interp.specs.RunTraces.{RunMatches, TellsLength, TraceBalances}
 use Rattle.rb_ledger.specs.Roles.{BeginsWith, book_of}
@@ -14,7 +14,7 @@ use Rattle.rb_ledger.specs.ChapterSeats.{ChapterConsumerSeat}
 use Rattle.rb_ledger.specs.ChapterClosing.{IsClosedByChapters}
 use Rattle.rb_shared_ring.specs.SharedSeats.{IsSameChapterConsumer}
 use Rattle.rb_jobs.specs.SeatLaws.{SeatBegins}
-use Rattle.rb_jobs.specs.SeatRecords.{record_bytes, with_record_bytes}
+use Rattle.rb_jobs.specs.SeatRecords.{reserved_bytes, with_record_bytes}
 use Rattle.rb_jobs.specs.SeatHelpers.{makes, submits, discards, fails, call_total, made_in, refused_in, submitted_in, discarded_in}
 use Rattle.rb_jobs.specs.declared.job.Job.{Job}
 use Rattle.rb_workers.specs.declared.opened.Opened.{Opened}
@@ -78,7 +78,7 @@ pub record RingEnds {S : Type 0} (position : S → ℕ) (takes : S → SinkItem 
   pub same_consumer : IsSameChapterConsumer o.consumer consumer
   pub keeper_fits : IsKeeperFor consumer ended.keeper
   pub sink_given : GetsTaken takes o.consumer consumer (ring_at_end consumer ended).history o.sink ended.sink
-  pub sink_follows : position ended.sink ≡ consumer_now ended.closing.at_end
+  pub sink_follows : position ended.sink ≡ consumer_by_chapter ended.closing.at_end
   pub tallies_are : ended.tallies.items ≡ map (λ s. s.tally) seats
 
 abbrev pub RingsEnd : {S : Type 0} → (S → ℕ) → (S → SinkItem → S → Type 0) → List (Opened S) → List (Ended S) → List (List WorkerSeat) → Type 0
@@ -90,7 +90,7 @@ RingsEnd position takes _ _ _ = ⊥
 -- back is the one that was granted, as its ring made it.
 pub record IsRun (run : JobRun) : Type 0 where
   pub length_is : TellsLength run.job.program.now run.job.ctx.now run.answer.result
-  pub shows : RunMatches record_bytes with_record_bytes run.job.program.now run.job.ctx.now run.calls run.answer.result
+  pub shows : RunMatches reserved_bytes with_record_bytes run.job.program.now run.job.ctx.now run.calls run.answer.result
   pub never_stray : run.answer.result ≢ Err Stray
   pub balanced : OnOk run.answer.result (TraceBalances [] (notes_of run.calls))
   pub may_answer : AllMayAnswer (notes_of run.calls)

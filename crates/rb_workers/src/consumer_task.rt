@@ -44,7 +44,7 @@ impl<S: Sink> ConsumerTask<S> {
         );
         match self.batch.fill(rt, ring, &mut self.consumer) {
             Ok(count) => {
-                give_all(&mut self.sink, self.batch.items());
+                pass_items(&mut self.sink, self.batch.items());
                 count
             }
             Err(Foreign) => unreachable!(),
@@ -99,7 +99,7 @@ fn turn_chapter<R: Wait, S: Sink>(
 }
 
 // Gives the sink each of the records, in their order.
-fn give_all<S: Sink>(sink: &mut S, mut items: Items<'_>)
+fn pass_items<S: Sink>(sink: &mut S, mut items: Items<'_>)
     requires stand { (size : ℕ) × AreItemsFrom size (S.position_of sink.old) (tape_items items) }
     ensures moved { S.position_of sink.new ≡ end_of (S.position_of sink.old) (tape_items items.entry) }
     ensures given { TakesAll S.takes sink.old (items_among items.entry) sink.new }

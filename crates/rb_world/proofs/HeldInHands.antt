@@ -26,7 +26,7 @@ use Rattle.rb_world.specs.WorldValue.{KeptRing, WorldValue, no_kept_ring, ring_a
 use Rattle.rb_world.specs.TurnsDone.{chapters_of}
 use Rattle.rb_world.specs.inner.FittingWorlds.{IsSoundWorld}
 use Rattle.rb_world.specs.inner.HeldInHands.{AllInHand, AreTagged, HoldsEachOldOrOut, HoldsOldOrOut, IsHeldWorld, IsOutIn, KeepsEachInHand, KeepsInHand, Mark, StaysOut, WasHeld, books_of, hands_shown, mark_of}
-use Rattle.rb_chapter_ring.specs.inner.RecordEnds.{EndsFromHand}
+use Rattle.rb_chapter_ring.specs.HandEnds.{EndsFromHand}
 use Rattle.rb_world.specs.inner.WorkerTurn.{KeepsChapter, TakesOnce}
 use Rattle.rb_world.proofs.MachineAnswers.{set-length}
 use Rattle.rb_world.proofs.SoundWorlds.{busy-held}

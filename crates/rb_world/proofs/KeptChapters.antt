@@ -12,14 +12,14 @@ use Rattle.rb_chapter_ring.proofs.Empty.{empty-kept}
 use Rattle.rb_chapter_ring.proofs.Keeping.{calls-keep}
 use Rattle.rb_world.specs.Worlds.{WorldRing}
 use Rattle.rb_world.specs.WorldValue.{KeptRing, WorldValue, world_of, world_ring, ring_at}
-use Rattle.rb_world.specs.inner.KeptChapters.{HasChapters}
+use Rattle.rb_world.specs.inner.KeptChapters.{KeepsChapters}
 use Rattle.rb_world.proofs.WholeTurns.{ring-shown}
 
-pub kept-of : (s : KeptRing) → HasChapters s → IsKept (joined s.chapters) s.ring.state.ring.chapter
+pub kept-of : (s : KeptRing) → KeepsChapters s → IsKept (joined s.chapters) s.ring.state.ring.chapter
 kept-of s has = record { continues = binds-continue s.chapters s.ring.state.ring.chapter has.binds; room = has.room }
 
 -- a ring in its first chapter
-pub first-has : (room : ℕ) (r : Setup) (s : KeptRing) → s.ring.state.ring.chapter ≡ first_chapter room r → s.chapters ≡ [] → HasChapters s
+pub first-has : (room : ℕ) (r : Setup) (s : KeptRing) → s.ring.state.ring.chapter ≡ first_chapter room r → s.chapters ≡ [] → KeepsChapters s
 first-has room r s first none =
     let kept : IsKept [] s.ring.state.ring.chapter = subst (IsKept []) (sym first) (empty-kept room r) in
     record {
@@ -28,14 +28,14 @@ first-has room r s first none =
     }
 
 -- a ring in the same chapter, with other entries
-pub same-has : (s : KeptRing) (new : TaggedRing) (taken : List Taken) → HasChapters s → IsSameChapter s.ring.state.ring new.state.ring → IsKept (joined s.chapters) new.state.ring.chapter → HasChapters (record { ring = new; chapters = s.chapters; taken = taken })
+pub same-has : (s : KeptRing) (new : TaggedRing) (taken : List Taken) → KeepsChapters s → IsSameChapter s.ring.state.ring new.state.ring → IsKept (joined s.chapters) new.state.ring.chapter → KeepsChapters (record { ring = new; chapters = s.chapters; taken = taken })
 same-has s new taken has same kept = record {
   binds = binds-same s.chapters s.ring.state.ring.chapter new.state.ring.chapter has.binds (ap (λ (c : Chapter). c.number) same) (ap (λ (c : Chapter). c.opening) same) kept.continues.legal;
   room = kept.room;
 }
 
 -- its chapter was handed out, and kept behind the others
-pub next-has : (s : KeptRing) (new : TaggedRing) (out : Chapter) → HasChapters s → HandsOut s.ring.state.ring new.state.ring out → HasChapters (record s { ring = new; chapters = s.chapters ++ out ∷ [] })
+pub next-has : (s : KeptRing) (new : TaggedRing) (out : Chapter) → KeepsChapters s → HandsOut s.ring.state.ring new.state.ring out → KeepsChapters (record s { ring = new; chapters = s.chapters ++ out ∷ [] })
 next-has s new out has h =
     let kept = (calls-keep (joined s.chapters) s.ring.state.ring new.state.ring (kept-of s has)).hands_out out h in
     record {

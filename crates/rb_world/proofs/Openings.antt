@@ -11,7 +11,7 @@ use Rattle.rb_world.specs.declared.opening.RingSetup.{RingSetup}
 use Rattle.rb_world.specs.declared.opening.WorkerSetup.{WorkerSetup}
 use Rattle.rb_world.specs.declared.world_record.WorldRecord.{WorldRecord}
 use Rattle.rb_world.specs.WorldValue.{world_ring, WorldValue, whole_world, worker_of, no_worker, no_ring, no_kept_ring, world_of}
-use Rattle.rb_world.specs.OpenedWorlds.{HaveRings, opened_ring, opened_rings, IsStarted, IsOpenedWorld}
+use Rattle.rb_world.specs.OpenedWorlds.{HaveRings, opened_kept_ring, opened_rings, IsStarted, IsOpenedWorld}
 use Rattle.rb_world.specs.inner.FittingWorlds.{AreFor, setups_of, IsFitting, IsSoundWorld}
 use Rattle.rb_world.specs.inner.HeldInHands.{Mark, AllHeld, IsHeldWorld, IsOutIn, books_of}
 use Rattle.rb_world.proofs.ListSteps.{zip-long}
@@ -38,11 +38,11 @@ length-opened n k [] = refl
 length-opened n k (s ∷ rings) = ap ℕ.suc (length-opened n (k + 1) rings)
 
 -- one more is opened, which has the next number
-pub opened-push : (n k : ℕ) (xs : List RingSetup) (s : RingSetup) → opened_rings n k (xs ++ s ∷ []) ≡ opened_rings n k xs ++ opened_ring n (k + length xs) s ∷ []
-opened-push n k [] s = let same : k ≡ k + 0 = omega arith in ap (λ m. opened_ring n m s ∷ []) same
+pub opened-push : (n k : ℕ) (xs : List RingSetup) (s : RingSetup) → opened_rings n k (xs ++ s ∷ []) ≡ opened_rings n k xs ++ opened_kept_ring n (k + length xs) s ∷ []
+opened-push n k [] s = let same : k ≡ k + 0 = omega arith in ap (λ m. opened_kept_ring n m s ∷ []) same
 opened-push n k (x ∷ xs) s =
     let next : k + 1 + length xs ≡ k + ℕ.suc (length xs) = omega arith in
-    ap (λ l. opened_ring n k x ∷ l) (opened-push n (k + 1) xs s ∙ ap (λ m. opened_rings n (k + 1) xs ++ opened_ring n m s ∷ []) next)
+    ap (λ l. opened_kept_ring n k x ∷ l) (opened-push n (k + 1) xs s ∙ ap (λ m. opened_rings n (k + 1) xs ++ opened_kept_ring n m s ∷ []) next)
 
 tagged-at : (n k : ℕ) (rings : List RingSetup) (r : ℕ) → r < length (opened_rings n k rings) → (get_or (opened_rings n k rings) r no_kept_ring).ring.tag ≡ k + r
 tagged-at n k [] r low = absurd (omega arith)

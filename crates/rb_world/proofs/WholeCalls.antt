@@ -10,7 +10,7 @@ use Rattle.rb_history.specs.RingModel.{Ring, StandsFor}
 use Rattle.rb_history.specs.Calls as ring
 use Rattle.rb_chapter_ring.specs.Chapters.{Chapter, joined}
 use Rattle.rb_chapter_ring.specs.ChapterRing.{ChapterRing, StandsForChapter, whole_ring}
-use Rattle.rb_chapter_ring.specs.ChapterCalls.{IsSameChapter, Grants, FindsFull, Outputs, Takes, HandsOut}
+use Rattle.rb_chapter_ring.specs.ChapterCalls.{IsSameChapter, GrantsByChapter, FindsFullByChapter, OutputsByChapter, TakesByChapter, HandsOut}
 use Rattle.rb_chapter_ring.specs.CountedFrom.{query_answer_from}
 use Rattle.rb_chapter_ring.specs.WholeHistory.{IsKept}
 use Rattle.rb_chapter_ring.proofs.Alike.{stands-alike, calls-alike}
@@ -26,8 +26,8 @@ use Rattle.rb_world.specs.CallsInWorld.{RingSteps, BadFlags, Unlogged, NoRoom, M
 use Rattle.rb_chapter_ring.specs.declared.record_end.RecordEnd.{RecordEnd}
 use Rattle.rb_chapter_ring.specs.declared.record_end.RecordEnd.TheVariants.{Submit, Discard}
 use Rattle.rb_world.specs.WorldValue.{KeptRing, world_ring}
-use Rattle.rb_world.specs.TurnsDone.{TurnsChapter, chapters_of}
-use Rattle.rb_chapter_ring.specs.inner.RecordEnds.{EndsFromHand}
+use Rattle.rb_world.specs.TurnsDone.{HandsChapterOut, chapters_of}
+use Rattle.rb_chapter_ring.specs.HandEnds.{EndsFromHand}
 use Rattle.rb_world.specs.inner.RecordEnds.{WorkerEnds}
 use Rattle.rb_world.specs.inner.RingAnswers.{untaken_ring, IsReserved, IsOutput, IsWholeAnswer}
 
@@ -50,7 +50,7 @@ module _ (old new : ChapterRing) (w : ℕ) where
   pub reserve-unlogged : (len flags : ℕ) → flags ≡ 0 → new ≡ old → IsWholeAnswer (λ v v'. IsReserved v v' w len flags None) old new
   reserve-unlogged len flags none same = λ earlier kept. (subst (λ (v : ChapterRing). IsKept earlier v.chapter) (sym same) kept, (Unlogged, tt, (none, ap (λ v. untaken_ring (whole_ring earlier v)) same)))
 
-  pub reserve-made : (len flags : ℕ) (r : Granted) → w < old.chapter.opening.setup.workers → flags ≡ 0 → StandsForChapter new → Grants old new w len r.pos r.serial → r.worker ≡ w → r.bytes ≡ replicate len 0 → IsWholeAnswer (λ v v'. IsReserved v v' w len flags (Some r)) old new
+  pub reserve-made : (len flags : ℕ) (r : Granted) → w < old.chapter.opening.setup.workers → flags ≡ 0 → StandsForChapter new → GrantsByChapter old new w len r.pos r.serial → r.worker ≡ w → r.bytes ≡ replicate len 0 → IsWholeAnswer (λ v v'. IsReserved v v' w len flags (Some r)) old new
   reserve-made len flags r there none stands grants mine zeros = λ earlier kept.
       let kept_on = (calls-keep earlier old new kept).grants w len r.pos r.serial there grants in
       let whole = ((calls-alike earlier old new kept.continues).grants w len r.pos r.serial there).0 grants in (
@@ -62,7 +62,7 @@ module _ (old new : ChapterRing) (w : ℕ) where
         ),
       )
 
-  full-kept : (n : ℕ) → w < old.chapter.opening.setup.workers → StandsForChapter new → FindsFull old new w n → IsWholeAnswer (λ v v'. RingSteps (λ u u'. ring.FindsFull u u' w n) [] (untaken_ring v) (untaken_ring v')) old new
+  full-kept : (n : ℕ) → w < old.chapter.opening.setup.workers → StandsForChapter new → FindsFullByChapter old new w n → IsWholeAnswer (λ v v'. RingSteps (λ u u'. ring.FindsFull u u' w n) [] (untaken_ring v) (untaken_ring v')) old new
   full-kept n there stands full = λ earlier kept.
       let kept_on = (calls-keep earlier old new kept).finds_full w n there full in
       let whole = ((calls-alike earlier old new kept.continues).finds_full w n).0 full in
@@ -81,7 +81,7 @@ module _ (old new : ChapterRing) (w : ℕ) where
   pub output-unlogged : (bytes : List ℕ) (flags : ℕ) → flags ≤ 3 → new ≡ old → IsWholeAnswer (λ v v'. IsOutput v v' w bytes flags (negsuc 10)) old new
   output-unlogged bytes flags few same = λ earlier kept. (subst (λ (v : ChapterRing). IsKept earlier v.chapter) (sym same) kept, (Unlogged, refl, (few, ap (λ v. untaken_ring (whole_ring earlier v)) same)))
 
-  pub output-made : (bytes : List ℕ) (flags : ℕ) → w < old.chapter.opening.setup.workers → flags ≤ 3 → StandsForChapter new → Outputs old new w bytes → IsWholeAnswer (λ v v'. IsOutput v v' w bytes flags (pos 0)) old new
+  pub output-made : (bytes : List ℕ) (flags : ℕ) → w < old.chapter.opening.setup.workers → flags ≤ 3 → StandsForChapter new → OutputsByChapter old new w bytes → IsWholeAnswer (λ v v'. IsOutput v v' w bytes flags (pos 0)) old new
   output-made bytes flags there few stands outputs = λ earlier kept.
       let kept_on = (calls-keep earlier old new kept).outputs w bytes there outputs in
       let whole = ((calls-alike earlier old new kept.continues).outputs w bytes there).0 outputs in (
@@ -94,7 +94,7 @@ module _ (old new : ChapterRing) (w : ℕ) where
       )
 
   pub output-refused : (n : ℕ) (bytes : List ℕ) (flags : ℕ) (fault : ReserveFault) → w < old.chapter.opening.setup.workers → flags ≤ 3 → n ≡ length bytes → StandsForChapter new → RefusesInChapter old new w n fault → IsWholeAnswer (λ v v'. IsOutput v v' w bytes flags (negsuc 10)) old new
-  output-refused n bytes flags Full there few long stands h = λ earlier kept. let full = full-kept (length bytes) there stands (subst (λ m. FindsFull old new w m) long h) earlier kept in (full.0, (NoRoom, refl, (few, full.1)))
+  output-refused n bytes flags Full there few long stands h = λ earlier kept. let full = full-kept (length bytes) there stands (subst (λ m. FindsFullByChapter old new w m) long h) earlier kept in (full.0, (NoRoom, refl, (few, full.1)))
   output-refused n bytes flags Flags there few long stands h = output-unlogged bytes flags few h
   output-refused n bytes flags ChapterFull there few long stands h = output-unlogged bytes flags few h.same
   output-refused n bytes flags Foreign there few long stands h = absurd h
@@ -117,7 +117,7 @@ module _ (s : KeptRing) (new : TaggedRing) (kept : IsKept (joined s.chapters) s.
   ended Submit hand r stands h = stepped-to (λ v v'. ring.Submits v v' r) (((calls-alike (joined s.chapters) s.ring.state.ring new.state.ring kept.continues).submits r).0 h.submits).1 (end-kept Submit hand r h) stands
   ended Discard hand r stands h = stepped-to (λ v v'. ring.Discards v v' r) (((calls-alike (joined s.chapters) s.ring.state.ring new.state.ring kept.continues).discards r).0 h.discards).1 (end-kept Discard hand r h) stands
 
-  pub take-stands : (found : Taken) → StandsForChapter new.state.ring → Takes s.ring.state.ring new.state.ring found → ring.Takes (world_ring s).ring (world_ring after).ring found × StandsFor (world_ring after).ring
+  pub take-stands : (found : Taken) → StandsForChapter new.state.ring → TakesByChapter s.ring.state.ring new.state.ring found → ring.Takes (world_ring s).ring (world_ring after).ring found × StandsFor (world_ring after).ring
   take-stands found stands h = (
     (((calls-alike (joined s.chapters) s.ring.state.ring new.state.ring kept.continues).takes found).0 h).1,
     stands-whole (joined s.chapters) new.state.ring ((calls-keep (joined s.chapters) s.ring.state.ring new.state.ring kept).takes found h) stands,
@@ -142,7 +142,7 @@ module _ (s : KeptRing) (new : TaggedRing) (kept : IsKept (joined s.chapters) s.
   out-same = ap (λ (v : Ring). record { ring = v; taken = s.taken })
       (ap (λ l. whole_ring l new.state.ring) (joined-more s.chapters out) ∙ (((calls-alike (joined s.chapters) s.ring.state.ring new.state.ring kept.continues).hands_out out).0 h).1)
 
-  pub out-turned : new.tag ≡ s.ring.tag → new.state.hands ≡ s.ring.state.hands → TurnsChapter out.number s (record s { ring = new; chapters = s.chapters ++ out ∷ [] })
+  pub out-turned : new.tag ≡ s.ring.tag → new.state.hands ≡ s.ring.state.hands → HandsChapterOut out.number s (record s { ring = new; chapters = s.chapters ++ out ∷ [] })
   out-turned tag hands = record {
     number_is = ap (λ (c : Chapter). c.number) h.next.out_is;
     handed_out = subst (λ c. HandsOut s.ring.state.ring new.state.ring c) h.next.out_is h;

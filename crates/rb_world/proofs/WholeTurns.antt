@@ -6,7 +6,7 @@ use Rattle.rb_world.specs.declared.actor.Actor.TheVariants.{Consumer, Keeper}
 use Rattle.rb_world.specs.declared.turn_done.TurnDone.{TurnDone}
 use Rattle.rb_world.specs.declared.turn_done.TurnDone.TheVariants as turn
 use Rattle.rb_world.specs.WorldValue.{KeptRing, world_ring, WorldValue, WholeWorld, whole_world, shown_world, no_ring, no_kept_ring, ring_at, world_of}
-use Rattle.rb_world.specs.TurnsDone.{IsWholeTurn, IsTurnOf, TurnsChapter, TurnsChaptersOf, chapters_of}
+use Rattle.rb_world.specs.TurnsDone.{IsWholeTurn, IsTurnOf, HandsChapterOut, TurnsChaptersOf, chapters_of}
 use Rattle.rb_world.specs.inner.WorkerTurn.{TakesOnce, KeepsChapter}
 use Rattle.rb_world.specs.inner.FittingWorlds.{IsSoundWorld}
 use Rattle.rb_world.proofs.ShownWorlds.{take-turn, at-default, set-get}
@@ -64,7 +64,7 @@ pub keeper-chapters : (v : WorldValue) (r : ℕ) (s s' : KeptRing) (done : TurnD
 keeper-chapters v r s s' done there low keeps = by_done done keeps
   where
     by_done : (d : TurnDone) → KeepsChapter s d s' → TurnsChaptersOf (Keeper r) d v.rings (set v.rings r s')
-    by_done (turn.Chapter n) k = (s', subst (λ (u : KeptRing). TurnsChapter n u s') (at-default v.rings r s no_kept_ring low there) k, refl)
+    by_done (turn.Chapter n) k = (s', subst (λ (u : KeptRing). HandsChapterOut n u s') (at-default v.rings r s no_kept_ring low there) k, refl)
     by_done turn.Memory k = ap (set v.rings r) (k ∙ there) ∙ set-get v.rings r s
     by_done turn.Went k = absurd k
     by_done (turn.Finished n) k = absurd k

@@ -45,8 +45,8 @@ pub record MayOpen (rings : List RingSetup) (workers : List WorkerSetup) : Type 
   pub rooms : HaveRooms rings
 
 -- a ring of this number for so many workers, with nothing in it, in its first chapter, and with free hands
-abbrev pub opened_ring : ℕ → ℕ → RingSetup → KeptRing
-opened_ring workers number s = record {
+abbrev pub opened_kept_ring : ℕ → ℕ → RingSetup → KeptRing
+opened_kept_ring workers number s = record {
   ring = record { tag = number; state = hand_ring (chapter_ring.opened_ring s.room (record { size = s.size; start = s.start; workers = workers })) (free_book workers) };
   chapters = [];
   taken = [];
@@ -55,7 +55,7 @@ opened_ring workers number s = record {
 -- the rings, numbered from here on
 abbrev pub opened_rings : ℕ → ℕ → List RingSetup → List KeptRing
 opened_rings workers number [] = []
-opened_rings workers number (s ∷ rings) = opened_ring workers number s ∷ opened_rings workers (number + 1) rings
+opened_rings workers number (s ∷ rings) = opened_kept_ring workers number s ∷ opened_rings workers (number + 1) rings
 
 -- a machine is at the first instruction of a worker's program, over its context, and holds no record
 pub record IsStarted (x : WorkerSetup) (m : MachineState WorldRecord) : Type 0 where

@@ -39,7 +39,7 @@ abbrev pub chapters_of : KeptRing → ℕ × List Chapter × Chapter
 chapters_of s = (s.ring.tag, s.chapters, record s.ring.state.ring.chapter { entries = [] })
 
 -- the ring handed its chapter out, which has this number, and the world keeps it; nothing else changed
-pub record TurnsChapter (number : ℕ) (old new : KeptRing) : Type 0 where
+pub record HandsChapterOut (number : ℕ) (old new : KeptRing) : Type 0 where
   pub number_is : number ≡ old.ring.state.ring.chapter.number
   pub handed_out : HandsOut old.ring.state.ring new.ring.state.ring old.ring.state.ring.chapter
   pub hands_same : new.ring.state.hands ≡ old.ring.state.hands
@@ -50,6 +50,6 @@ pub record TurnsChapter (number : ℕ) (old new : KeptRing) : Type 0 where
 -- a keeper that answers a chapter's number handed that chapter out, and a keeper without memory did nothing; the turns of others leave
 -- each ring in its chapter
 abbrev pub TurnsChaptersOf : Actor → TurnDone → List KeptRing → List KeptRing → Type 0
-TurnsChaptersOf (Keeper r) (answer.Chapter n) old new = (s : KeptRing) × TurnsChapter n (slice_index_or old r no_kept_ring) s × (new ≡ slice_set old r s)
+TurnsChaptersOf (Keeper r) (answer.Chapter n) old new = (s : KeptRing) × HandsChapterOut n (slice_index_or old r no_kept_ring) s × (new ≡ slice_set old r s)
 TurnsChaptersOf (Keeper r) done old new = new ≡ old
 TurnsChaptersOf actor done old new = map chapters_of new ≡ map chapters_of old

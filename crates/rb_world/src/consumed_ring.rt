@@ -1,6 +1,6 @@
 //! A ring of a world, the chapters that it handed out, and what its consumer took of it.
 
-use crate::record_end::give_back;
+use crate::record_end::end_record;
 use crate::ring_answers;
 use crate::turn_done::TurnDone;
 use crate::world_record::WorldRecord;
@@ -25,7 +25,7 @@ impl Model for ConsumedRing {
     ghost use Rattle.rb_history.specs.contracts.tally.Tally as tally_row;
     ghost use Rattle.rb_chapter_ring.specs.contracts.out_record.OutRecord as out_row;
     ghost use Rattle.rb_world.specs.WorldValue.{KeptRing};
-    ghost use Rattle.rb_world.specs.inner.KeptChapters.{HasChapters};
+    ghost use Rattle.rb_world.specs.inner.KeptChapters.{KeepsChapters};
 
     ghost Value = { KeptRing };
 
@@ -33,7 +33,7 @@ impl Model for ConsumedRing {
 
     ghost view = { λ s. record { ring = s.ring; chapters = s.chapters.items; taken = s.taken.items } };
 
-    ghost invariant = { λ s. HasChapters (record { ring = s.ring; chapters = s.chapters.items; taken = s.taken.items }) };
+    ghost invariant = { λ s. KeepsChapters (record { ring = s.ring; chapters = s.chapters.items; taken = s.taken.items }) };
 }
 
 impl ConsumedRing {
@@ -125,7 +125,7 @@ impl ConsumedRing {
         ensures chapters { chapters_of self.new ≡ chapters_of self.old }
     {
         self.ring.facts();
-        give_back(ending, &mut self.ring, owned.reservation, flags);
+        end_record(ending, &mut self.ring, owned.reservation, flags);
         self.ring.facts();
         machine.answer(Answer::Taken);
     }

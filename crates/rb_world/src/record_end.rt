@@ -3,13 +3,13 @@
 ghost use Rattle.std.specs.Prelude.{◌≡◌};
 ghost use Rattle.rb_chapter_ring.specs.ChapterCalls.{IsSameChapter};
 ghost use Rattle.rb_chapter_ring.specs.HandRing.{HasInHand};
-ghost use Rattle.rb_chapter_ring.specs.inner.RecordEnds.{EndsFromHand};
+ghost use Rattle.rb_chapter_ring.specs.HandEnds.{EndsFromHand};
 
 use rb_chapter_ring::{RecordEnd, Reservation, RingState};
 use rb_history::Notice;
 
 // Gives a record back to its ring, out of the hand that it is in.
-pub(crate) fn give_back(
+pub(crate) fn end_record(
     end: RecordEnd,
     ring: &mut RingState,
     reservation: Reservation,

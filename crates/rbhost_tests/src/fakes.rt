@@ -125,11 +125,11 @@ impl Outgoing for Sink {
 
     ghost waiting = { λ _. [] };
 
-    ghost hands_out = { λ _ _ _. ⊤ };
+    ghost writes_out = { λ _ _ _. ⊤ };
 
     ghost contents_are = { λ _. refl };
 
-    fn hand_out(&mut self) -> Result<()> {
+    fn write_out(&mut self) -> Result<()> {
         self.flush()
     }
 }
@@ -180,11 +180,11 @@ impl Outgoing for OneFailure {
 
     ghost waiting = { λ _. [] };
 
-    ghost hands_out = { λ _ _ _. ⊤ };
+    ghost writes_out = { λ _ _ _. ⊤ };
 
     ghost contents_are = { λ _. refl };
 
-    fn hand_out(&mut self) -> Result<()> {
+    fn write_out(&mut self) -> Result<()> {
         self.flush()
     }
 }

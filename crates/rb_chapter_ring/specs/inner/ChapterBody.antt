@@ -3,7 +3,7 @@ use Rattle.std.specs.Prelude.{◌≡◌, ◌+◌, ◌*◌, ◌≤◌, List, leng
 use Rattle.rb_history.specs.declared.entries.Entry.{Entry}
 use Rattle.rb_history.specs.RingModel.{IsWorkerCount}
 use Rattle.rb_chapter_ring.specs.declared.chapter.Chapter.TheInside.{Inside}
-use Rattle.rb_chapter_ring.specs.Opening.{Opening}
+use Rattle.rb_chapter_ring.specs.Standing.{Standing}
 use Rattle.rb_chapter_ring.specs.Chapters.{Chapter, IsChapterRoom, closing_of}
 use Rattle.rb_chapter_ring.specs.ChapterRoom.{owed}
 use Rattle.rb_chapter_ring.specs.WholeHistory.{IsKept}
@@ -12,7 +12,7 @@ abbrev pub chapter_shown : Inside → Chapter
 chapter_shown a = record { number = a.number; room = a.room; opening = a.opening.opening; entries = a.entries.items }
 
 -- the consumer position is a header at least beyond the start for each record that was taken
-abbrev pub IsBehindTakes : Opening → Type 0
+abbrev pub IsBehindTakes : Standing → Type 0
 IsBehindTakes o = 8 * (o.consumed + o.skipped) ≤ o.consumer
 
 -- it has memory for the entries that it has room for, and for as many records at both ends, of which the taken ones are so few that

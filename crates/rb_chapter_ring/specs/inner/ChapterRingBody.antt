@@ -12,7 +12,7 @@ use Rattle.rb_history.specs.History.Status.{Busy, Waiting}
 use Rattle.rb_history.specs.Counting.{counts_of}
 use Rattle.rb_history.specs.RingModel.{IsRingSize, IsStartPosition, IsWorkerCount}
 use Rattle.rb_history.specs.StoredRecords.{shown_record, contents_of, IsSized}
-use Rattle.rb_chapter_ring.specs.Opening.{Opening}
+use Rattle.rb_chapter_ring.specs.Standing.{Standing}
 use Rattle.rb_chapter_ring.specs.Chapters.{Chapter, IsChapterRoom, closing_of}
 use Rattle.rb_chapter_ring.specs.ChapterRing.{ChapterRing}
 use Rattle.rb_chapter_ring.specs.WholeHistory.{IsKept}
@@ -35,7 +35,7 @@ stored_from slots sheets n [] = []
 stored_from slots sheets n (s ∷ ss) = stored_at s (get_or sheets (n % slots) []) ∷ stored_from slots sheets (n + 1) ss
 
 -- the records that an opening has
-abbrev pub stored_in : Opening → List (List ℕ) → List StoredRecord
+abbrev pub stored_in : Standing → List (List ℕ) → List StoredRecord
 stored_in o sheets = stored_from (length sheets) sheets (taken_before o) o.records
 
 -- the chapter's records, with their bytes
@@ -56,7 +56,7 @@ abbrev pub chapter_ring_shown : Inside → ChapterRing
 chapter_ring_shown a = ring_of a.chapter (stored_of a.chapter a.sheets.items)
 
 -- what holds of the records, by what the chapter stands for at its end
-pub record IsStored (size : ℕ) (o : Opening) (stored : List StoredRecord) : Type 0 where
+pub record IsStored (size : ℕ) (o : Standing) (stored : List StoredRecord) : Type 0 where
   pub limit : o.producer ≤ 2 ^ 62
   pub space : o.producer ≤ o.consumer + (size - 1)
   pub aligned : o.consumer % 8 ≡ 0

@@ -1,27 +1,27 @@
 -- A record's ordinal: how many records its ring had granted before it.
 use Rattle.std.specs.Prelude.{ℕ, ◌≡◌, ◌+◌, ◌<◌, ◌≤◌, List, [], Some, length}
 use Rattle.std.specs.List.{slice_index_or as get_or}
-use Rattle.rb_chapter_ring.specs.Opening.{Opening, record_in}
+use Rattle.rb_chapter_ring.specs.Standing.{Standing, record_in}
 use Rattle.rb_chapter_ring.specs.Chapters.{Chapter, closing_of}
 use Rattle.rb_chapter_ring.specs.declared.out_record.OutRecord.{OutRecord}
 use Rattle.rb_chapter_ring.specs.Hands.{hand_at}
 use Rattle.rb_chapter_ring.specs.HandRing.{HandRing, HasHands}
 
 -- how many records were taken: the ordinal of the one at the front
-abbrev pub taken_before : Opening → ℕ
+abbrev pub taken_before : Standing → ℕ
 taken_before o = o.consumed + o.skipped
 
 -- the record at this position is there, and has this ordinal
-pub record IsNumbered (o : Opening) (p n : ℕ) : Type 0 where
+pub record HasOrdinal (o : Standing) (p n : ℕ) : Type 0 where
   pub index : ℕ
   pub within : index < length o.records
   pub here : (record_in o index).pos ≡ p
   pub ordinal : n ≡ taken_before o + index
 
 -- a record that was granted before has the ordinal that it had
-pub record KeepsOrdinals (old new : Opening) : Type 0 where
+pub record KeepsOrdinals (old new : Standing) : Type 0 where
   pub grown : old.producer ≤ new.producer
-  pub numbers : (p n : ℕ) → IsNumbered new p n → p < old.producer → IsNumbered old p n
+  pub numbers : (p n : ℕ) → HasOrdinal new p n → p < old.producer → HasOrdinal old p n
 
 abbrev pub KeepsNumbers : Chapter → Chapter → Type 0
 KeepsNumbers old new = KeepsOrdinals (closing_of old) (closing_of new)
@@ -34,7 +34,7 @@ ordinal_at ordinals w h = get_or (get_or ordinals w []) h 0
 pub record HasOrdinals (v : HandRing) (ordinals : List (List ℕ)) : Type 0 where
   pub workers : length ordinals ≡ v.ring.chapter.opening.setup.workers
   pub four : (w : ℕ) → w < length ordinals → length (get_or ordinals w []) ≡ 4
-  pub numbered : (w h : ℕ) (o : OutRecord) → hand_at v.hands w h ≡ Some o → IsNumbered (closing_of v.ring.chapter) o.pos (ordinal_at ordinals w h)
+  pub numbered : (w h : ℕ) (o : OutRecord) → hand_at v.hands w h ≡ Some o → HasOrdinal (closing_of v.ring.chapter) o.pos (ordinal_at ordinals w h)
 
 -- what a ring with hands keeps: its book is that of its busy records, and beside it stand their ordinals
 pub record IsHandState (v : HandRing) (ordinals : List (List ℕ)) : Type 0 where

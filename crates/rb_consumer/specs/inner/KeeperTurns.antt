@@ -8,6 +8,6 @@ kept_chapter None = empty_chapter 0 0
 kept_chapter (Some c) = c
 
 -- the chapter that was handed out; at `Err` none was, and the kept one came back
-abbrev pub chapters_out : Result Chapter Chapter → List Chapter
-chapters_out (Ok c) = c ∷ []
-chapters_out (Err kept) = []
+abbrev pub chapters_handed : Result Chapter Chapter → List Chapter
+chapters_handed (Ok c) = c ∷ []
+chapters_handed (Err kept) = []

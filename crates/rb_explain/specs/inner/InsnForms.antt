@@ -27,8 +27,8 @@ IsStore (StoreImmediate size base offset value) = Unit {0}
 IsStore (StoreRegister size base offset src) = Unit {0}
 IsStore _ = ⊥
 
-abbrev pub IsJump : Insn → Type 0
-IsJump (Jump distance) = Unit {0}
-IsJump (JumpFar distance) = Unit {0}
-IsJump (Branch width condition dst operand distance) = Unit {0}
-IsJump _ = ⊥
+abbrev pub IsJumpForm : Insn → Type 0
+IsJumpForm (Jump distance) = Unit {0}
+IsJumpForm (JumpFar distance) = Unit {0}
+IsJumpForm (Branch width condition dst operand distance) = Unit {0}
+IsJumpForm _ = ⊥

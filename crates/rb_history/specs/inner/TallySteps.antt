@@ -7,8 +7,8 @@ use Rattle.rb_history.specs.declared.tally.Tally.{Tally}
 use Rattle.rb_history.specs.WorkerCounts.{is_refusal_of, is_submit_of, is_discard_of}
 
 -- the four numbers, each with one more where the entry is of its kind, and h has what stands before it
-abbrev pub with_entry : ℕ → List Entry → Entry → Tally → Tally
-with_entry w h e t = record {
+abbrev pub tally_with_entry : ℕ → List Entry → Entry → Tally → Tally
+tally_with_entry w h e t = record {
   made = t.made + cond (is_grant_of w e) 1 0;
   refused = t.refused + cond (is_refusal_of w e) 1 0;
   submitted = t.submitted + cond (is_submit_of w h e) 1 0;

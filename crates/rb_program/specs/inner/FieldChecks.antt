@@ -15,22 +15,22 @@ use Rattle.rb_insn.specs.declared.insn.Operand.TheVariants as operands
 use Rattle.rb_insn.specs.declared.insn.Insn.{Insn}
 use Rattle.rb_insn.specs.declared.insn.Insn.TheVariants as insns
 use Rattle.rb_program.specs.declared.fields.Fields.{Fields}
-use Rattle.rb_program.specs.declared.operation.Source.{Source}
-use Rattle.rb_program.specs.declared.operation.Source.TheVariants.{Immediate, Register}
-use Rattle.rb_program.specs.declared.operation.Operation.{Operation}
-use Rattle.rb_program.specs.declared.operation.Operation.TheVariants.{Binary, Division, Negate, Move, Reorder, Branch, Jump, JumpFar, Call, Exit, Wide, Load, LoadSigned, StoreImmediate, StoreRegister}
+use Rattle.rb_program.specs.declared.opcode_meaning.Source.{Source}
+use Rattle.rb_program.specs.declared.opcode_meaning.Source.TheVariants.{Immediate, Register}
+use Rattle.rb_program.specs.declared.opcode_meaning.OpcodeMeaning.{OpcodeMeaning}
+use Rattle.rb_program.specs.declared.opcode_meaning.OpcodeMeaning.TheVariants.{Binary, Division, Negate, Move, Reorder, Branch, Jump, JumpFar, Call, Exit, Wide, Load, LoadSigned, StoreImmediate, StoreRegister}
 use Rattle.rb_program.specs.OpcodeTable as rows
 use Rattle.rb_program.specs.OpcodeTable.{Allowed, register, any, only, named, Row, one_of}
 
 -- the numbers that name a row beside its opcode
-abbrev pub is_named_by : Operation → Fields → Bool
+abbrev pub is_named_by : OpcodeMeaning → Fields → Bool
 is_named_by (Reorder order) fields = one_of (16 ∷ 32 ∷ 64 ∷ []) fields.imm
 is_named_by Call fields = one_of (0 ∷ []) fields.src
 is_named_by Wide fields = one_of (0 ∷ 5 ∷ []) fields.src
 is_named_by op fields = true
 
 -- the row of an operation, where the source field names one
-abbrev pub row_for : Operation → ℕ → Row
+abbrev pub row_for : OpcodeMeaning → ℕ → Row
 row_for (Binary width op Immediate) src = rows.binary_k_row
 row_for (Binary width op Register) src = rows.binary_x_row
 row_for (Division width op Immediate) src = rows.division_k_row
@@ -105,7 +105,7 @@ wide_from fields next =
     if fields.src == 0 then insns.LoadNumber (reg_at fields.dst) (2 ^ 32 * next + fields.imm)
     else insns.LoadRing (reg_at fields.dst) fields.imm
 
-abbrev pub insn_from : Operation → Fields → ℕ → Insn
+abbrev pub insn_from : OpcodeMeaning → Fields → ℕ → Insn
 insn_from (Binary width op source) fields next = insns.Binary width op (reg_at fields.dst) (operand_from source fields)
 insn_from (Division width op source) fields next = insns.Division width op (sign_from fields.offset) (reg_at fields.dst) (operand_from source fields)
 insn_from (Negate width) fields next = insns.Negate width (reg_at fields.dst)
@@ -126,7 +126,7 @@ insn_from (StoreRegister size) fields next = insns.StoreRegister size (reg_at fi
 
 -- ---- the classes of operations
 
-abbrev pub IsAluOperation : Operation → Type 0
+abbrev pub IsAluOperation : OpcodeMeaning → Type 0
 IsAluOperation (Binary width op source) = Unit {0}
 IsAluOperation (Division width op source) = Unit {0}
 IsAluOperation (Negate width) = Unit {0}
@@ -134,7 +134,7 @@ IsAluOperation (Move width source) = Unit {0}
 IsAluOperation (Reorder order) = Unit {0}
 IsAluOperation op = ⊥
 
-abbrev pub IsJumpOperation : Operation → Type 0
+abbrev pub IsJumpOperation : OpcodeMeaning → Type 0
 IsJumpOperation (Branch width condition source) = Unit {0}
 IsJumpOperation Jump = Unit {0}
 IsJumpOperation JumpFar = Unit {0}
@@ -142,7 +142,7 @@ IsJumpOperation Call = Unit {0}
 IsJumpOperation Exit = Unit {0}
 IsJumpOperation op = ⊥
 
-abbrev pub IsAccessOperation : Operation → Type 0
+abbrev pub IsAccessOperation : OpcodeMeaning → Type 0
 IsAccessOperation (Load size) = Unit {0}
 IsAccessOperation (LoadSigned size) = Unit {0}
 IsAccessOperation (StoreImmediate size) = Unit {0}

@@ -12,9 +12,9 @@ use Rattle.rb_script.specs.declared.script_fault.ScriptFault.{ScriptFault}
 use Rattle.rb_script.specs.declared.script_fault.ScriptFault.TheVariants.{Line, Memory}
 use Rattle.rb_script.specs.declared.script_line.ScriptLine.{ScriptLine}
 use Rattle.rb_script.specs.declared.script_line.ScriptLine.TheVariants.{Ring, Worker as WorkerLine, Turns}
-use Rattle.rb_script.specs.ScriptText.{Statement, Says, SaysWords, SaysWorker, IsWithinBounds, words_of, is_plain, lines_of}
+use Rattle.rb_script.specs.ScriptText.{Statement, Says, SaysWords, SaysWorker, IsStatementWithinBounds, words_of, is_plain, lines_of}
 use Rattle.rb_script.specs.ScriptText.Statement.{RingOf, WorkerOf, TurnsOf}
-use Rattle.rb_script.specs.Scripts.{Begins, MayStandBehind, IsMadeOf, rings_of, workers_of, actors_of, worker_text}
+use Rattle.rb_script.specs.Scripts.{LinesSay, MayStandBehind, IsMadeOf, script_rings, script_workers, actors_of, worker_text}
 
 -- the numbers are there, and are those of a ring
 pub record AreNumbersOf (size start room : Option ℕ) (setup : RingSetup) : Type 0 where
@@ -35,40 +35,40 @@ number_of (Worker w) = w
 number_of (Consumer r) = r
 number_of (Keeper r) = r
 
-abbrev pub IsNumbered : Statement → Type 0
-IsNumbered (RingOf setup) = Unit {0}
-IsNumbered (WorkerOf program context) = Unit {0}
-IsNumbered (TurnsOf actor count) = number_of actor < 2 ^ 32
+abbrev pub HasSmallNumber : Statement → Type 0
+HasSmallNumber (RingOf setup) = Unit {0}
+HasSmallNumber (WorkerOf program context) = Unit {0}
+HasSmallNumber (TurnsOf actor count) = number_of actor < 2 ^ 32
 
 -- the words say this line, whose bounds are still to be tested but for a ring, and the hex of a context still to be decoded
 abbrev pub IsSaid : List (List ℕ) → ScriptLine → Type 0
-IsSaid words (Ring setup) = SaysWords words (RingOf setup) × IsWithinBounds (RingOf setup)
+IsSaid words (Ring setup) = SaysWords words (RingOf setup) × IsStatementWithinBounds (RingOf setup)
 IsSaid words (WorkerLine program hex) = (more : List (List ℕ)) × (words ≡ codes "worker" ∷ more) × IsWorkerText more program.now hex.now
 IsSaid words (Turns actor count) = SaysWords words (TurnsOf actor count)
 
 -- the words say nothing
 abbrev pub SaysNone : List (List ℕ) → Type 0
-SaysNone words = (statement : Statement) → SaysWords words statement → IsWithinBounds statement → IsNumbered statement → ⊥
+SaysNone words = (statement : Statement) → SaysWords words statement → IsStatementWithinBounds statement → HasSmallNumber statement → ⊥
 
 -- the bytes are this line, and are none
 abbrev pub IsLine : List ℕ → ScriptLine → Type 0
 IsLine bytes line = AllPass is_plain bytes × IsSaid (words_of bytes) line
 
 abbrev pub IsNoLine : List ℕ → Type 0
-IsNoLine bytes = (statement : Statement) → Says bytes statement → IsNumbered statement → ⊥
+IsNoLine bytes = (statement : Statement) → Says bytes statement → HasSmallNumber statement → ⊥
 
 -- a statement may stand behind what was read
-abbrev pub MayFollow : Script → Statement → Type 0
-MayFollow s statement = MayStandBehind (length s.rings.items) (length s.workers.items) (length s.actors.items) statement
+abbrev pub MayFollowScript : Script → Statement → Type 0
+MayFollowScript s statement = MayStandBehind (length s.rings.items) (length s.workers.items) (length s.actors.items) statement
 
 -- what is said by the line of this number was added
 pub record Adds (number : ℕ) (statement : Statement) (old new : Script) : Type 0 where
-  pub rings : new.rings.items ≡ old.rings.items ++ rings_of (statement ∷ [])
-  pub workers : map worker_text new.workers.items ≡ map worker_text old.workers.items ++ workers_of number (statement ∷ [])
+  pub rings : new.rings.items ≡ old.rings.items ++ script_rings (statement ∷ [])
+  pub workers : map worker_text new.workers.items ≡ map worker_text old.workers.items ++ script_workers number (statement ∷ [])
   pub actors : new.actors.items ≡ old.actors.items ++ actors_of (statement ∷ [])
 
 pub record AddsLawful (number : ℕ) (statement : Statement) (old new : Script) : Type 0 where
-  pub may : MayFollow old statement
+  pub may : MayFollowScript old statement
   pub adds : Adds number statement old new
 
 -- a line of this number is at fault only where this does not hold
@@ -82,19 +82,19 @@ AddsWorker number program hex old new =
     (context : List ℕ) × (decode_of hex ≡ Ok context) × (length context ≤ 65536) × AddsLawful number (WorkerOf program context) old new
 
 abbrev pub MayAddWorker : Script → (program hex : List ℕ) → Type 0
-MayAddWorker s program hex = (context : List ℕ) × (decode_of hex ≡ Ok context) × (length context ≤ 65536) × MayFollow s (WorkerOf program context)
+MayAddWorker s program hex = (context : List ℕ) × (decode_of hex ≡ Ok context) × (length context ≤ 65536) × MayFollowScript s (WorkerOf program context)
 
 abbrev pub AddsTurns : ℕ → Actor → ℕ → (old new : Script) → Type 0
 AddsTurns number actor count old new = (1 ≤ count) × (count ≤ 1000000) × AddsLawful number (TurnsOf actor count) old new
 
 abbrev pub MayAddTurns : Script → Actor → ℕ → Type 0
-MayAddTurns s actor count = (1 ≤ count) × (count ≤ 1000000) × MayFollow s (TurnsOf actor count)
+MayAddTurns s actor count = (1 ≤ count) × (count ≤ 1000000) × MayFollowScript s (TurnsOf actor count)
 
 abbrev pub AddsLine : ℕ → List ℕ → (old new : Script) → Type 0
 AddsLine number line old new = (statement : Statement) × Says line statement × AddsLawful number statement old new
 
 abbrev pub MayAddLine : Script → List ℕ → Type 0
-MayAddLine s line = (statement : Statement) × Says line statement × MayFollow s statement
+MayAddLine s line = (statement : Statement) × Says line statement × MayFollowScript s statement
 
 -- these lines were read, what they say was added, and the rest of the text is still to be read
 pub record HasRead (text rest : List ℕ) (number : ℕ) (s : Script) : Type 0 where
@@ -102,5 +102,5 @@ pub record HasRead (text rest : List ℕ) (number : ℕ) (s : Script) : Type 0 w
   pub said : List Statement
   pub parted : lines_of text ≡ lines ++ lines_of rest
   pub counted : length lines ≡ number
-  pub begins : Begins lines said
+  pub begins : LinesSay lines said
   pub made : IsMadeOf said s

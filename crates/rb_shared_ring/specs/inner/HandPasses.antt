@@ -6,7 +6,7 @@ use Rattle.rb_ledger.specs.Roles.{Role, Book}
 use Rattle.rb_chapter_ring.specs.Hands.{Hands}
 use Rattle.rb_ledger.specs.HandKnowledge.{HandKnowledge, HandPassView, hand_view, without_hands}
 use Rattle.rb_ledger.specs.NoStranger.{HoldsOwnBusy}
-use Rattle.rb_shared_ring.specs.inner.SeatPasses.{known_in, seen_by, bytes_by, room_by, handed_out_by}
+use Rattle.rb_shared_ring.specs.inner.SeatPasses.{known_as, seen_by, bytes_by, room_by, handed_out_by}
 
 -- what it has seen of the whole history, its bytes, the chapters' room, and those that were handed out
 abbrev pub seen_with : HandPassView → Book
@@ -38,7 +38,7 @@ cut_by v = first_cut v.knows
 
 -- what a pass of this one role knows
 abbrev pub known_with : Role → HandPassView → HandKnowledge
-known_with role v = record { chapter = known_in role (without_hands v); cut = cut_by v; hands = hands_by v }
+known_with role v = record { chapter = known_as role (without_hands v); cut = cut_by v; hands = hands_by v }
 
 -- the pass has this one role, and the state is not out with it
 abbrev pub IsIdleWith : Role → HandPassView → Type 0

@@ -30,9 +30,9 @@ abbrev pub handed_out_by : ChapterPassView → List Chapter
 handed_out_by v = first_handed_out v.knows
 
 -- what a pass of this one role knows
-abbrev pub known_in : Role → ChapterPassView → ChapterKnowledge
-known_in role v = record { whole = role_knowledge role (seen_by v) (bytes_by v); room = room_by v; handed_out = handed_out_by v }
+abbrev pub known_as : Role → ChapterPassView → ChapterKnowledge
+known_as role v = record { whole = role_knowledge role (seen_by v) (bytes_by v); room = room_by v; handed_out = handed_out_by v }
 
 -- the pass has this one role, and the state is not out with it
 abbrev pub IsIdleIn : Role → ChapterPassView → Type 0
-IsIdleIn role v = v ≡ chapter_view (known_in role v ∷ []) None
+IsIdleIn role v = v ≡ chapter_view (known_as role v ∷ []) None

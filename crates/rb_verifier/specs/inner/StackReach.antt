@@ -12,9 +12,9 @@ LiesInside len None = Unit {0}
 LiesInside len (Some at) = at + len ≤ 512
 
 -- a place of the stack, or none
-abbrev pub IsPlace : Option ℕ → Type 0
-IsPlace None = Unit {0}
-IsPlace (Some place) = place ≤ 63
+abbrev pub IsPlaceOrNone : Option ℕ → Type 0
+IsPlaceOrNone None = Unit {0}
+IsPlaceOrNone (Some place) = place ≤ 63
 
 -- a store leaves these places, or breaks a rule; or there was no memory, where a place may keep a pointer before or after it
 abbrev pub IsPlaced : Result (Unit {0}) StepFault → List Abs → Result (List Abs) Rule → Type 0

@@ -5,6 +5,6 @@ use Rattle.rb_world.specs.WorldValue.{KeptRing}
 
 -- the chapters that were handed out and then the one that the ring keeps are a ring's: numbered 0 upward, from the empty ring on, each
 -- meeting the next, and legal; and the last one has room for what it owes
-pub record HasChapters (s : KeptRing) : Type 0 where
+pub record KeepsChapters (s : KeptRing) : Type 0 where
   pub binds : Binds s.chapters s.ring.state.ring.chapter
   pub room : HasRoomForOwed s.ring.state.ring.chapter

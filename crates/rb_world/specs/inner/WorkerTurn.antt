@@ -16,7 +16,7 @@ use Rattle.rb_world.specs.declared.turn_done.TurnDone.{TurnDone}
 use Rattle.rb_world.specs.declared.turn_done.TurnDone.TheVariants as turn
 use Rattle.rb_world.specs.declared.world_record.WorldRecord.{WorldRecord}
 use Rattle.rb_world.specs.WorldValue.{KeptRing, held_by, worker_of}
-use Rattle.rb_world.specs.TurnsDone.{TellsEvent, IsWholeTurn, TurnsChapter}
+use Rattle.rb_world.specs.TurnsDone.{TellsEvent, IsWholeTurn, HandsChapterOut}
 
 -- ---- a take
 
@@ -33,7 +33,7 @@ TakesOnce old done new = (event : TurnEvent) × TellsEvent done event × DoesTak
 
 -- what a keeper did to a ring
 abbrev pub KeepsChapter : KeptRing → TurnDone → KeptRing → Type 0
-KeepsChapter old (turn.Chapter n) new = TurnsChapter n old new
+KeepsChapter old (turn.Chapter n) new = HandsChapterOut n old new
 KeepsChapter old turn.Memory new = new ≡ old
 KeepsChapter old done new = ⊥
 

@@ -1,5 +1,5 @@
 use Rattle.std.proofs.Common.{◌≡◌, ◌↔◌, drop, replicate, length}
-use Rattle.rb_chapter_ring.specs.Opening.{no_tally}
+use Rattle.rb_chapter_ring.specs.Standing.{no_tally}
 use Rattle.rb_ledger.proofs.binding.are_none.Given as goal
 
 abbrev pub invariant-loop-tally : goal.invariant-loop-tally

@@ -1,11 +1,11 @@
 use Rattle.std.proofs.Common.{◌≡◌, ◌+◌, ◌-◌, ◌*◌, ◌≤◌, ◌^◌, List, ℕ, [], length}
 use Rattle.std.specs.Prelude.{None}
 use Rattle.rb_history.specs.TapeBytes.{end_of}
-use Rattle.rb_chapter_ring.specs.ChapterCalls.{AllTaken, producer_now}
+use Rattle.rb_chapter_ring.specs.ChapterCalls.{AllTakenByChapter, producer_by_chapter}
 use Rattle.rb_tape_commands.specs.ChapterTurns.{IsSpareOf}
 use Rattle.rb_tape_commands.specs.Feed.{FeedsAll}
 use Rattle.rb_tape_commands.specs.inner.FeedRuns.{feed_run}
-use Rattle.rb_tape_commands.specs.Input.{events_from}
+use Rattle.rb_tape_commands.specs.Input.{payload_events}
 use Rattle.rb_tape_commands.proofs.feed_command.feed_all.Given as goal
 
 -- the payloads so far were read, and their tape was written; in the ring each was taken, and the positions are one; before each at most one
@@ -18,11 +18,11 @@ invariant-loop-payload g l = record {
   setup : l.ring.state.ring.chapter.opening.setup ≡ record { size = l.size; start = l.fn.tape.position; workers = 1 };
   spare : IsSpareOf l.ring.state.ring l.spare_chapter;
   numbered : l.ring.state.ring.chapter.number ≤ l.number;
-  all_taken : AllTaken l.ring.state.ring;
-  position : l.tape.position ≡ producer_now l.ring.state.ring;
+  all_taken : AllTakenByChapter l.ring.state.ring;
+  position : l.tape.position ≡ producer_by_chapter l.ring.state.ring;
   low : l.fn.tape.position + 8 * l.number ≤ l.tape.position;
   high : l.tape.position ≤ 2 ^ 62;
-  passed : (payloads : List (List ℕ)) × FeedsAll (feed_run l.size l.fn.tape.position (g.R.Read.remaining l.fn.reader) (g.R.Read.remaining l.reader) (g.W.Write.contents l.fn.tape.writer) (g.W.Write.contents l.tape.writer)) payloads [] × (l.number ≡ length payloads) × (l.tape.position ≡ end_of l.fn.tape.position (events_from l.fn.tape.position payloads));
+  passed : (payloads : List (List ℕ)) × FeedsAll (feed_run l.size l.fn.tape.position (g.R.Read.remaining l.fn.reader) (g.R.Read.remaining l.reader) (g.W.Write.contents l.fn.tape.writer) (g.W.Write.contents l.tape.writer)) payloads [] × (l.number ≡ length payloads) × (l.tape.position ≡ end_of l.fn.tape.position (payload_events l.fn.tape.position payloads));
 }
 
 abbrev pub decreases-loop-payload : goal.decreases-loop-payload

@@ -2,7 +2,7 @@ use Rattle.std.proofs.Common.{◌≡◌, ◌+◌, ◌<◌, ◌++◌, ◌∷◌, 
 use Rattle.std.proofs.lemmas.List.{length-take, take_more}
 use Rattle.rb_chapter_ring.specs.HandRing.{HandRing}
 use Rattle.rb_world.specs.declared.opening.RingSetup.{RingSetup}
-use Rattle.rb_world.specs.OpenedWorlds.{opened_ring, opened_rings}
+use Rattle.rb_world.specs.OpenedWorlds.{opened_kept_ring, opened_rings}
 use Rattle.rb_world.proofs.KeptChapters.{first-has}
 use Rattle.rb_world.proofs.Openings.{opened-push}
 use Rattle.rb_world.proofs.opening.open_rings.Goals as goal
@@ -21,6 +21,6 @@ loop-number-preserved c =
     let long : 0 + length (take i rings) ≡ i = omega (arith, length-take i rings, low) in
     c.in_ok-push.ensures.items
     ∙ (λ j. c.loop-number.invariant j ++ record { ring = record { tag = c.in-Ok.ensures.tag j; state = c.in-Ok.ensures.opened j }; chapters = c.new-in-loop-number.ensures.items j; taken = c.new-in-loop-number-2.ensures.items j } ∷ [])
-    ∙ ap (λ m. opened_rings w 0 (take i rings) ++ opened_ring w m s ∷ []) (sym long)
+    ∙ ap (λ m. opened_rings w 0 (take i rings) ++ opened_kept_ring w m s ∷ []) (sym long)
     ∙ sym (opened-push w 0 (take i rings) s)
     ∙ ap (opened_rings w 0) (sym (take_more rings i none low))

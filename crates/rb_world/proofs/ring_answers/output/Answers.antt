@@ -1,5 +1,5 @@
 use Rattle.std.proofs.Common.{refl, sym, ap, subst, length, to_z, of_z, w64}
-use Rattle.rb_chapter_ring.specs.ChapterCalls.{Outputs}
+use Rattle.rb_chapter_ring.specs.ChapterCalls.{OutputsByChapter}
 use Rattle.rb_world.specs.inner.RingAnswers.{IsOutput, IsWholeAnswer}
 use Rattle.rb_world.proofs.WholeCalls.{output-bad, output-unlogged, output-made, output-refused}
 use Rattle.rb_world.proofs.ring_answers.output.Goals as goal
@@ -13,7 +13,7 @@ returns-in_default-clause-given c = output-unlogged c.args.ring.now.state.ring c
 pub returns-in-Ok-clause-given : goal.returns-in-Ok-clause-given
 returns-in-Ok-clause-given c =
     output-made c.args.ring.now.state.ring c.output.new.self.state.ring c.args.worker c.args.bytes.now c.args.flags c.requires.worker c.in-Ok.ensures.known_flags c.facts.ensures.stands
-    (subst (λ sheet. Outputs c.args.ring.now.state.ring c.output.new.self.state.ring c.args.worker sheet) c.in-Some.ensures c.in-Ok.ensures.granted)
+    (subst (λ sheet. OutputsByChapter c.args.ring.now.state.ring c.output.new.self.state.ring c.args.worker sheet) c.in-Some.ensures c.in-Ok.ensures.granted)
 
 pub returns-in-Err-clause-given : goal.returns-in-Err-clause-given
 returns-in-Err-clause-given c =

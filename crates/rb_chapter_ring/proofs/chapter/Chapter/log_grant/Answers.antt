@@ -1,12 +1,12 @@
 use Rattle.std.proofs.Common.{◌≡◌, ◌<◌, ◌++◌, ◌∷◌, [], length, length-append, sym, ap, ◌∙◌, subst, arith}
 use Rattle.rb_history.specs.declared.entries.Entry.TheVariants.{Res}
 use Rattle.rb_history.specs.History.{Shown}
-use Rattle.rb_chapter_ring.specs.Opening.{Opening}
+use Rattle.rb_chapter_ring.specs.Standing.{Standing}
 use Rattle.rb_chapter_ring.specs.Chapters.{Chapter}
 use Rattle.rb_chapter_ring.specs.CountedFrom.{HasRoomFrom, grants_from, producer_from}
 use Rattle.rb_chapter_ring.specs.ChapterRoom.{MayGrant, with_entry}
 use Rattle.rb_chapter_ring.specs.inner.ChapterBody.{chapter_shown, IsBehindTakes}
-use Rattle.rb_chapter_ring.specs.inner.OpeningSteps.{next_record}
+use Rattle.rb_chapter_ring.specs.inner.StandingSteps.{next_record}
 use Rattle.rb_chapter_ring.proofs.Logging.{grants-fit, granted, serial-is, position-is}
 use Rattle.rb_chapter_ring.proofs.chapter.Chapter.log_grant.Goals as goal
 
@@ -48,7 +48,7 @@ invariant_of-self c =
         arith,
         was.passed,
         c.add_grant-record.ensures.passed,
-        ap (λ (o : Opening). length o.records) c.add_grant-record.ensures.added,
+        ap (λ (o : Standing). length o.records) c.add_grant-record.ensures.added,
         length-append closing.records (next_record w c.args.len closing ∷ []),
         ap length c.log.ensures.logged,
         length-append old.entries (Res w c.add_grant-record.result.serial c.args.len c.add_grant-record.result.pos ∷ []),

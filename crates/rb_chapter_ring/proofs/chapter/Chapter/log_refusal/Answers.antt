@@ -1,6 +1,6 @@
 use Rattle.std.proofs.Common.{◌≡◌, ◌<◌, [], ◌∷◌, length, length-append, sym, ap, subst, arith}
 use Rattle.rb_history.specs.declared.entries.Entry.TheVariants.{Full}
-use Rattle.rb_chapter_ring.specs.Opening.{Opening}
+use Rattle.rb_chapter_ring.specs.Standing.{Standing}
 use Rattle.rb_chapter_ring.specs.Chapters.{Chapter}
 use Rattle.rb_chapter_ring.specs.CountedFrom.{HasRoomFrom}
 use Rattle.rb_chapter_ring.specs.ChapterRoom.{MayRefuse, with_entry}
@@ -32,7 +32,7 @@ invariant_of-self c =
       space = omega (arith, was.space, c.log.ensures.space);
       opening_space = was.opening_space;
       closing_space = omega (arith, was.closing_space, c.add_refusal.ensures.room);
-      passed = omega (arith, was.passed, c.add_refusal.ensures.passed, ap (λ (o : Opening). length o.records) c.add_refusal.ensures.added, ap length c.log.ensures.logged, length-append old.entries (Full c.args.worker c.args.len ∷ []));
+      passed = omega (arith, was.passed, c.add_refusal.ensures.passed, ap (λ (o : Standing). length o.records) c.add_refusal.ensures.added, ap length c.log.ensures.logged, length-append old.entries (Full c.args.worker c.args.len ∷ []));
       takes = subst IsBehindTakes (sym c.add_refusal.ensures.added) was.takes;
       closing_is = runs.closing_is;
       owed_is = runs.owed_is;

@@ -1,6 +1,6 @@
 use Rattle.std.proofs.Common.{◌≤◌, [], length, sym, ap, ◌∙◌, subst, arith}
 use Rattle.rb_history.specs.RingModel.{IsWorkerCount}
-use Rattle.rb_chapter_ring.specs.Opening.{Opening}
+use Rattle.rb_chapter_ring.specs.Standing.{Standing}
 use Rattle.rb_chapter_ring.specs.Chapters.{empty_ring}
 use Rattle.rb_chapter_ring.specs.inner.ChapterBody.{IsBehindTakes}
 use Rattle.rb_chapter_ring.proofs.Empty.{empty-as}
@@ -12,15 +12,15 @@ invariant_of-self c =
     let was = c.self.invariant in
     let first = c.begin.ensures.first in
     let kept = empty-as c.self.inside.room _ c.begin.new.self.opening c.clear.new.self.items first c.clear.ensures.items in
-    let workers = ap (λ (o : Opening). empty_ring (record { size = c.args.size; start = c.args.start; workers = o.setup.workers })) was.closing_is in
+    let workers = ap (λ (o : Standing). empty_ring (record { size = c.args.size; start = c.args.start; workers = o.setup.workers })) was.closing_is in
     let runs = runs-from-none [] _ c.begin-2.new.self.opening _ kept c.clear.ensures.items first (c.begin-2.ensures.first ∙ workers) in
     record {
       room = was.room;
-      workers = subst IsWorkerCount (sym (ap (λ (o : Opening). o.setup.workers) first)) was.workers;
+      workers = subst IsWorkerCount (sym (ap (λ (o : Standing). o.setup.workers) first)) was.workers;
       space = subst (λ n. c.self.inside.room ≤ n) (sym c.clear.ensures.capacity) was.space;
       opening_space = subst (λ n. c.self.inside.room ≤ n) (sym c.begin.ensures.room) was.opening_space;
       closing_space = subst (λ n. c.self.inside.room ≤ n) (sym c.begin-2.ensures.room) was.closing_space;
-      passed = omega (arith, c.begin-2.ensures.passed, ap (λ (o : Opening). length o.records) c.begin-2.ensures.first);
+      passed = omega (arith, c.begin-2.ensures.passed, ap (λ (o : Standing). length o.records) c.begin-2.ensures.first);
       takes = subst IsBehindTakes (sym c.begin-2.ensures.first) (omega arith);
       closing_is = runs.closing_is;
       owed_is = runs.owed_is;

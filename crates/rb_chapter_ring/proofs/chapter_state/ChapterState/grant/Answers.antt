@@ -5,13 +5,13 @@ use Rattle.rb_history.specs.declared.entries.Entry.TheVariants.{Res}
 use Rattle.rb_history.specs.History.{Shown}
 use Rattle.rb_history.specs.History.Status.{Busy}
 use Rattle.rb_history.specs.StoredRecords.{shown_record, contents_of}
-use Rattle.rb_chapter_ring.specs.Opening.{Opening, no_tally}
+use Rattle.rb_chapter_ring.specs.Standing.{Standing, no_tally}
 use Rattle.rb_chapter_ring.specs.Chapters.{Chapter, closing_of}
 use Rattle.rb_chapter_ring.specs.ChapterRing.{ChapterRing}
 use Rattle.rb_chapter_ring.specs.ChapterRoom.{with_entry}
-use Rattle.rb_chapter_ring.specs.ChapterCalls.{Grants, FindsChapterFull}
+use Rattle.rb_chapter_ring.specs.ChapterCalls.{GrantsByChapter, FindsChapterFull}
 use Rattle.rb_chapter_ring.specs.inner.ChapterRingBody.{ring_of, stored_of}
-use Rattle.rb_chapter_ring.specs.inner.Ordinals.{IsNumbered, KeepsNumbers, KeepsOrdinals, taken_before}
+use Rattle.rb_chapter_ring.specs.inner.Ordinals.{HasOrdinal, KeepsNumbers, KeepsOrdinals, taken_before}
 use Rattle.rb_chapter_ring.proofs.CountSteps.{counting_grant}
 use Rattle.rb_chapter_ring.proofs.Grants.{newest, grant-closing, grant-keeps, serial-of, tallies-long, contents-grant}
 use Rattle.rb_chapter_ring.proofs.Numbers.{ordinal-of-grant, ordinals-grant, ordinals-same}
@@ -30,7 +30,7 @@ made_by-serial-requires c =
     let a = c.self.inside in
     let i = c.self.invariant in
     let below = subst (λ (v : ChapterRing). c.args.worker < v.chapter.opening.setup.workers) (sym c.self.view_is) c.requires.worker in
-    let tallies = c.tallies.ensures.tallies ∙ ap (λ (x : Opening). x.tallies) c.closing-closing.ensures.closing in
+    let tallies = c.tallies.ensures.tallies ∙ ap (λ (x : Standing). x.tallies) c.closing-closing.ensures.closing in
     record { worker = omega (arith, below, ap length tallies, tallies-long i.earlier a.chapter (stored_of a.chapter a.sheets.items) i.counts i.ring) }
 
 pub invariant_of-self : goal.invariant_of-self
@@ -65,12 +65,12 @@ returns-clause-granted c =
     let fits = c.has_room.ensures.exact.0 c.if-not-has_room.false in
     let may = c.may_grant.ensures.exact.0 c.if-not-may_grant.false in
     let o = c.closing-closing.ensures.closing in
-    let pos = c.numbers-pos.ensures.producer ∙ ap (λ (x : Opening). x.producer) o in
-    let tallies = c.tallies.ensures.tallies ∙ ap (λ (x : Opening). x.tallies) o in
+    let pos = c.numbers-pos.ensures.producer ∙ ap (λ (x : Standing). x.producer) o in
+    let tallies = c.tallies.ensures.tallies ∙ ap (λ (x : Standing). x.tallies) o in
     let serial = c.made_by-serial.ensures.made ∙ ap (λ ts. (get_or ts w no_tally).made) tallies in
     let own = serial ∙ serial-of i.earlier a.chapter (stored_of a.chapter a.sheets.items) i.counts i.ring w below in
     let stored = ap (λ d. stored_of d a.sheets.items) c.log_grant.ensures.logged ∙ sym (grant-stored i.earlier a.chapter a.sheets.items i.counts i.ring w n below fits may) in
-    subst (λ v. Grants v (ring_of c.log_grant.new.self (stored_of c.log_grant.new.self a.sheets.items)) w n c.numbers-pos.result.producer c.made_by-serial.result) c.self.view_is
+    subst (λ v. GrantsByChapter v (ring_of c.log_grant.new.self (stored_of c.log_grant.new.self a.sheets.items)) w n c.numbers-pos.result.producer c.made_by-serial.result) c.self.view_is
     (record {
       room = fits;
       chapter_room = may;
@@ -90,8 +90,8 @@ returns-clause-shown c =
     let fits = c.has_room.ensures.exact.0 c.if-not-has_room.false in
     let may = c.may_grant.ensures.exact.0 c.if-not-may_grant.false in
     let o = c.closing-closing.ensures.closing in
-    let pos = c.numbers-pos.ensures.producer ∙ ap (λ (x : Opening). x.producer) o in
-    let tallies = c.tallies.ensures.tallies ∙ ap (λ (x : Opening). x.tallies) o in
+    let pos = c.numbers-pos.ensures.producer ∙ ap (λ (x : Standing). x.producer) o in
+    let tallies = c.tallies.ensures.tallies ∙ ap (λ (x : Standing). x.tallies) o in
     let serial = c.made_by-serial.ensures.made ∙ ap (λ ts. (get_or ts w no_tally).made) tallies in
     let stored = ap (λ d. stored_of d a.sheets.items) c.log_grant.ensures.logged ∙ sym (grant-stored i.earlier a.chapter a.sheets.items i.counts i.ring w n below fits may) in
     let last : Shown = record { pos = c.numbers-pos.result.producer; len = n; worker = w; serial = c.made_by-serial.result; status = Busy } in
@@ -119,8 +119,8 @@ returns-clause-number c =
     let i = c.self.invariant in
     let below = subst (λ (v : ChapterRing). c.args.worker < v.chapter.opening.setup.workers) (sym c.self.view_is) c.requires.worker in
     let closing = grant-closing i.earlier a.chapter (stored_of a.chapter a.sheets.items) i.counts i.ring c.args.worker c.args.n below (c.has_room.ensures.exact.0 c.if-not-has_room.false) (c.may_grant.ensures.exact.0 c.if-not-may_grant.false) in
-    let pos = c.numbers-pos.ensures.producer ∙ ap (λ (x : Opening). x.producer) c.closing-closing.ensures.closing in
+    let pos = c.numbers-pos.ensures.producer ∙ ap (λ (x : Standing). x.producer) c.closing-closing.ensures.closing in
     let o = closing_of a.chapter in
     let new = closing_of c.log_grant.new.self in
-    let there : IsNumbered new o.producer (taken_before o + length o.records) = subst (λ d. IsNumbered (closing_of d) o.producer (taken_before o + length o.records)) (sym c.log_grant.ensures.logged) (subst (λ x. IsNumbered x o.producer (taken_before o + length o.records)) closing (ordinal-of-grant c.args.worker c.args.n o)) in
-    subst (λ (v : ChapterRing). IsNumbered new c.numbers-pos.result.producer (taken_before (closing_of v.chapter) + length (closing_of v.chapter).records)) c.self.view_is (subst (λ p. IsNumbered new p (taken_before o + length o.records)) (sym pos) there)
+    let there : HasOrdinal new o.producer (taken_before o + length o.records) = subst (λ d. HasOrdinal (closing_of d) o.producer (taken_before o + length o.records)) (sym c.log_grant.ensures.logged) (subst (λ x. HasOrdinal x o.producer (taken_before o + length o.records)) closing (ordinal-of-grant c.args.worker c.args.n o)) in
+    subst (λ (v : ChapterRing). HasOrdinal new c.numbers-pos.result.producer (taken_before (closing_of v.chapter) + length (closing_of v.chapter).records)) c.self.view_is (subst (λ p. HasOrdinal new p (taken_before o + length o.records)) (sym pos) there)

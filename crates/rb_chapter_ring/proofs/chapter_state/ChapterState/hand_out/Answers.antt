@@ -1,5 +1,5 @@
 use Rattle.std.proofs.Common.{◌≡◌, ◌/◌, ◌≤◌, ◌++◌, ℕ, length, sym, ap, ◌∙◌, subst}
-use Rattle.rb_chapter_ring.specs.Opening.{Opening}
+use Rattle.rb_chapter_ring.specs.Standing.{Standing}
 use Rattle.rb_chapter_ring.specs.Chapters.{Chapter, closing_of}
 use Rattle.rb_chapter_ring.specs.ChapterRing.{ChapterRing}
 use Rattle.rb_chapter_ring.specs.ChapterCalls.{HandsOut}
@@ -17,7 +17,7 @@ invariant_of-self c =
     let room = c.open_after.ensures.room ∙ (c.may_go_on_in.ensures.exact.0 c.if-not-may_go_on_in.false).room_same ∙ sym (ap (λ (v : ChapterRing). v.chapter.room) c.self.view_is) in
     let kept = turn-keeps i.earlier a.chapter (stored_of a.chapter a.sheets.items) i.counts i.ring c.open_after.new.self meets c.open_after.ensures.empty room in
     let same = closing-same i.earlier a.chapter (stored_of a.chapter a.sheets.items) i.counts i.ring c.open_after.new.self meets c.open_after.ensures.empty room in
-    let size : c.open_after.new.self.opening.setup.size ≡ a.chapter.opening.setup.size = ap (λ (o : Opening). o.setup.size) meets.goes_on in
+    let size : c.open_after.new.self.opening.setup.size ≡ a.chapter.opening.setup.size = ap (λ (o : Standing). o.setup.size) meets.goes_on in
     let slots : (n : ℕ) → n ≤ c.open_after.new.self.opening.setup.size / 8 → n ≤ c.open_after.new.self.room → n ≤ length a.sheets.items =
     λ n within fits. i.slots n (subst (λ s. n ≤ s / 8) size within) (subst (λ m. n ≤ m) room fits) in
     record {

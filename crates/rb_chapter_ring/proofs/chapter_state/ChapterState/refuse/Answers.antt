@@ -5,7 +5,7 @@ use Rattle.rb_history.specs.StoredRecords.{contents_of}
 use Rattle.rb_chapter_ring.specs.Chapters.{Chapter, closing_of}
 use Rattle.rb_chapter_ring.specs.ChapterRing.{ChapterRing}
 use Rattle.rb_chapter_ring.specs.ChapterRoom.{with_entry}
-use Rattle.rb_chapter_ring.specs.ChapterCalls.{ChapterRingHasRoom, FindsFull, FindsChapterFull}
+use Rattle.rb_chapter_ring.specs.ChapterCalls.{ChapterRingHasRoom, FindsFullByChapter, FindsChapterFull}
 use Rattle.rb_chapter_ring.specs.OpenedRing.{capped}
 use Rattle.rb_chapter_ring.specs.inner.Ordinals.{KeepsNumbers, KeepsOrdinals}
 use Rattle.rb_chapter_ring.specs.inner.ChapterRingBody.{ring_of, IsRingOf, stored_of}
@@ -53,7 +53,7 @@ returns-clause-refused c =
     let may = c.may_refuse.ensures.exact.0 c.if-not-may_refuse.false in
     let same = refusal-stored i.earlier a.chapter a.sheets.items i.counts i.ring c.args.worker c.args.n below full may in
     let stored : stored_of c.log_refusal.new.self a.sheets.items ≡ stored_of a.chapter a.sheets.items = ap (λ d. stored_of d a.sheets.items) c.log_refusal.ensures.logged ∙ sym same in
-    subst (λ v. FindsFull v (ring_of c.log_refusal.new.self (stored_of c.log_refusal.new.self a.sheets.items)) c.args.worker c.args.n) c.self.view_is
+    subst (λ v. FindsFullByChapter v (ring_of c.log_refusal.new.self (stored_of c.log_refusal.new.self a.sheets.items)) c.args.worker c.args.n) c.self.view_is
     (record { no_room = full; chapter_room = may; logged = c.log_refusal.ensures.logged; contents_same = ap contents_of stored })
 
 pub returns-then-not-may_refuse-clause-numbers : goal.returns-then-not-may_refuse-clause-numbers

@@ -4,7 +4,7 @@ use Rattle.std.proofs.lemmas.List.{length-map}
 use Rattle.rb_history.specs.declared.answers.Taken.TheVariants.{Event, Skipped, BusyFront, Empty}
 use Rattle.rb_history.specs.History.{Shown}
 use Rattle.rb_history.proofs.Row.{get_or-default}
-use Rattle.rb_chapter_ring.specs.Opening.{Opening, no_record, record_in}
+use Rattle.rb_chapter_ring.specs.Standing.{Standing, no_record, record_in}
 use Rattle.rb_chapter_ring.specs.UntakenRecords.{status_shown, untaken_shown}
 use Rattle.rb_chapter_ring.specs.ChapterRing.{ChapterRing}
 use Rattle.rb_chapter_ring.specs.Chapters.{Chapter, closing_of}
@@ -20,7 +20,7 @@ pub returns-in_default-clause-takes : goal.returns-in_default-clause-takes
 returns-in_default-clause-takes c =
     let a = c.self.inside in
     let i = c.self.invariant in
-    let recs = c.records.ensures.records ∙ ap (λ (o : Opening). o.records) c.closing.ensures.closing in
+    let recs = c.records.ensures.records ∙ ap (λ (o : Standing). o.records) c.closing.ensures.closing in
     let none : length (closing_of a.chapter).records ≡ 0 = omega (arith, c.in_default.ensures.none, ap length recs, length-map c.records.result.now untaken_shown) in
     (subst (λ v. TakesAs v v Empty) c.self.view_is (none-front i.earlier a.chapter a.sheets.items i.counts i.ring none)).takes
 
@@ -28,7 +28,7 @@ pub returns-in_default-clause-busy_front : goal.returns-in_default-clause-busy_f
 returns-in_default-clause-busy_front c =
     let a = c.self.inside in
     let i = c.self.invariant in
-    let recs = c.records.ensures.records ∙ ap (λ (o : Opening). o.records) c.closing.ensures.closing in
+    let recs = c.records.ensures.records ∙ ap (λ (o : Standing). o.records) c.closing.ensures.closing in
     let none : length (closing_of a.chapter).records ≡ 0 = omega (arith, c.in_default.ensures.none, ap length recs, length-map c.records.result.now untaken_shown) in
     (subst (λ v. TakesAs v v Empty) c.self.view_is (none-front i.earlier a.chapter a.sheets.items i.counts i.ring none)).busy_front
 
@@ -36,7 +36,7 @@ pub returns-in_default-clause-empty : goal.returns-in_default-clause-empty
 returns-in_default-clause-empty c =
     let a = c.self.inside in
     let i = c.self.invariant in
-    let recs = c.records.ensures.records ∙ ap (λ (o : Opening). o.records) c.closing.ensures.closing in
+    let recs = c.records.ensures.records ∙ ap (λ (o : Standing). o.records) c.closing.ensures.closing in
     let none : length (closing_of a.chapter).records ≡ 0 = omega (arith, c.in_default.ensures.none, ap length recs, length-map c.records.result.now untaken_shown) in
     (subst (λ v. TakesAs v v Empty) c.self.view_is (none-front i.earlier a.chapter a.sheets.items i.counts i.ring none)).empty
 
@@ -47,7 +47,7 @@ pub returns-in-Busy-clause-takes : goal.returns-in-Busy-clause-takes
 returns-in-Busy-clause-takes c =
     let a = c.self.inside in
     let i = c.self.invariant in
-    let recs = c.records.ensures.records ∙ ap (λ (o : Opening). o.records) c.closing.ensures.closing in
+    let recs = c.records.ensures.records ∙ ap (λ (o : Standing). o.records) c.closing.ensures.closing in
     let found = c.in-Some.ensures.front in
     let some : 0 < length (closing_of a.chapter).records = omega (arith, found.0, ap length recs, length-map c.records.result.now untaken_shown) in
     let shown : untaken_shown c.in-Some.front ≡ record_in (closing_of a.chapter) 0 = found.1 ∙ ap (λ ss. get_or ss 0 no_record) recs in
@@ -58,7 +58,7 @@ pub returns-in-Busy-clause-busy_front : goal.returns-in-Busy-clause-busy_front
 returns-in-Busy-clause-busy_front c =
     let a = c.self.inside in
     let i = c.self.invariant in
-    let recs = c.records.ensures.records ∙ ap (λ (o : Opening). o.records) c.closing.ensures.closing in
+    let recs = c.records.ensures.records ∙ ap (λ (o : Standing). o.records) c.closing.ensures.closing in
     let found = c.in-Some.ensures.front in
     let some : 0 < length (closing_of a.chapter).records = omega (arith, found.0, ap length recs, length-map c.records.result.now untaken_shown) in
     let shown : untaken_shown c.in-Some.front ≡ record_in (closing_of a.chapter) 0 = found.1 ∙ ap (λ ss. get_or ss 0 no_record) recs in
@@ -69,7 +69,7 @@ pub returns-in-Busy-clause-empty : goal.returns-in-Busy-clause-empty
 returns-in-Busy-clause-empty c =
     let a = c.self.inside in
     let i = c.self.invariant in
-    let recs = c.records.ensures.records ∙ ap (λ (o : Opening). o.records) c.closing.ensures.closing in
+    let recs = c.records.ensures.records ∙ ap (λ (o : Standing). o.records) c.closing.ensures.closing in
     let found = c.in-Some.ensures.front in
     let some : 0 < length (closing_of a.chapter).records = omega (arith, found.0, ap length recs, length-map c.records.result.now untaken_shown) in
     let shown : untaken_shown c.in-Some.front ≡ record_in (closing_of a.chapter) 0 = found.1 ∙ ap (λ ss. get_or ss 0 no_record) recs in
@@ -80,7 +80,7 @@ pub invariant_of-self : goal.invariant_of-self
 invariant_of-self c =
     let a = c.self.inside in
     let i = c.self.invariant in
-    let recs = c.records.ensures.records ∙ ap (λ (o : Opening). o.records) c.closing.ensures.closing in
+    let recs = c.records.ensures.records ∙ ap (λ (o : Standing). o.records) c.closing.ensures.closing in
     let found = c.in-Some.ensures.front in
     let some : 0 < length (closing_of a.chapter).records = omega (arith, found.0, ap length recs, length-map c.records.result.now untaken_shown) in
     let shown : untaken_shown c.in-Some.front ≡ record_in (closing_of a.chapter) 0 = found.1 ∙ ap (λ ss. get_or ss 0 no_record) recs in
@@ -109,7 +109,7 @@ pub returns-in-Waiting-clause-takes : goal.returns-in-Waiting-clause-takes
 returns-in-Waiting-clause-takes c =
     let a = c.self.inside in
     let i = c.self.invariant in
-    let recs = c.records.ensures.records ∙ ap (λ (o : Opening). o.records) c.closing.ensures.closing in
+    let recs = c.records.ensures.records ∙ ap (λ (o : Standing). o.records) c.closing.ensures.closing in
     let found = c.in-Some.ensures.front in
     let some : 0 < length (closing_of a.chapter).records = omega (arith, found.0, ap length recs, length-map c.records.result.now untaken_shown) in
     let shown : untaken_shown c.in-Some.front ≡ record_in (closing_of a.chapter) 0 = found.1 ∙ ap (λ ss. get_or ss 0 no_record) recs in
@@ -134,7 +134,7 @@ pub returns-in-Waiting-clause-busy_front : goal.returns-in-Waiting-clause-busy_f
 returns-in-Waiting-clause-busy_front c =
     let a = c.self.inside in
     let i = c.self.invariant in
-    let recs = c.records.ensures.records ∙ ap (λ (o : Opening). o.records) c.closing.ensures.closing in
+    let recs = c.records.ensures.records ∙ ap (λ (o : Standing). o.records) c.closing.ensures.closing in
     let found = c.in-Some.ensures.front in
     let some : 0 < length (closing_of a.chapter).records = omega (arith, found.0, ap length recs, length-map c.records.result.now untaken_shown) in
     let shown : untaken_shown c.in-Some.front ≡ record_in (closing_of a.chapter) 0 = found.1 ∙ ap (λ ss. get_or ss 0 no_record) recs in
@@ -159,7 +159,7 @@ pub returns-in-Waiting-clause-empty : goal.returns-in-Waiting-clause-empty
 returns-in-Waiting-clause-empty c =
     let a = c.self.inside in
     let i = c.self.invariant in
-    let recs = c.records.ensures.records ∙ ap (λ (o : Opening). o.records) c.closing.ensures.closing in
+    let recs = c.records.ensures.records ∙ ap (λ (o : Standing). o.records) c.closing.ensures.closing in
     let found = c.in-Some.ensures.front in
     let some : 0 < length (closing_of a.chapter).records = omega (arith, found.0, ap length recs, length-map c.records.result.now untaken_shown) in
     let shown : untaken_shown c.in-Some.front ≡ record_in (closing_of a.chapter) 0 = found.1 ∙ ap (λ ss. get_or ss 0 no_record) recs in
@@ -184,7 +184,7 @@ pub invariant_of-self-in-Discarded : goal.invariant_of-self-in-Discarded
 invariant_of-self-in-Discarded c =
     let a = c.self.inside in
     let i = c.self.invariant in
-    let recs = c.records.ensures.records ∙ ap (λ (o : Opening). o.records) c.closing.ensures.closing in
+    let recs = c.records.ensures.records ∙ ap (λ (o : Standing). o.records) c.closing.ensures.closing in
     let found = c.in-Some.ensures.front in
     let some : 0 < length (closing_of a.chapter).records = omega (arith, found.0, ap length recs, length-map c.records.result.now untaken_shown) in
     let shown : untaken_shown c.in-Some.front ≡ record_in (closing_of a.chapter) 0 = found.1 ∙ ap (λ ss. get_or ss 0 no_record) recs in
@@ -204,7 +204,7 @@ pub returns-in-Discarded-clause-takes : goal.returns-in-Discarded-clause-takes
 returns-in-Discarded-clause-takes c =
     let a = c.self.inside in
     let i = c.self.invariant in
-    let recs = c.records.ensures.records ∙ ap (λ (o : Opening). o.records) c.closing.ensures.closing in
+    let recs = c.records.ensures.records ∙ ap (λ (o : Standing). o.records) c.closing.ensures.closing in
     let found = c.in-Some.ensures.front in
     let some : 0 < length (closing_of a.chapter).records = omega (arith, found.0, ap length recs, length-map c.records.result.now untaken_shown) in
     let shown : untaken_shown c.in-Some.front ≡ record_in (closing_of a.chapter) 0 = found.1 ∙ ap (λ ss. get_or ss 0 no_record) recs in
@@ -220,7 +220,7 @@ pub returns-in-Discarded-clause-busy_front : goal.returns-in-Discarded-clause-bu
 returns-in-Discarded-clause-busy_front c =
     let a = c.self.inside in
     let i = c.self.invariant in
-    let recs = c.records.ensures.records ∙ ap (λ (o : Opening). o.records) c.closing.ensures.closing in
+    let recs = c.records.ensures.records ∙ ap (λ (o : Standing). o.records) c.closing.ensures.closing in
     let found = c.in-Some.ensures.front in
     let some : 0 < length (closing_of a.chapter).records = omega (arith, found.0, ap length recs, length-map c.records.result.now untaken_shown) in
     let shown : untaken_shown c.in-Some.front ≡ record_in (closing_of a.chapter) 0 = found.1 ∙ ap (λ ss. get_or ss 0 no_record) recs in
@@ -236,7 +236,7 @@ pub returns-in-Discarded-clause-empty : goal.returns-in-Discarded-clause-empty
 returns-in-Discarded-clause-empty c =
     let a = c.self.inside in
     let i = c.self.invariant in
-    let recs = c.records.ensures.records ∙ ap (λ (o : Opening). o.records) c.closing.ensures.closing in
+    let recs = c.records.ensures.records ∙ ap (λ (o : Standing). o.records) c.closing.ensures.closing in
     let found = c.in-Some.ensures.front in
     let some : 0 < length (closing_of a.chapter).records = omega (arith, found.0, ap length recs, length-map c.records.result.now untaken_shown) in
     let shown : untaken_shown c.in-Some.front ≡ record_in (closing_of a.chapter) 0 = found.1 ∙ ap (λ ss. get_or ss 0 no_record) recs in
@@ -252,7 +252,7 @@ pub returns-in-Waiting-clause-numbers : goal.returns-in-Waiting-clause-numbers
 returns-in-Waiting-clause-numbers c =
     let a = c.self.inside in
     let i = c.self.invariant in
-    let recs = c.records.ensures.records ∙ ap (λ (o : Opening). o.records) c.closing.ensures.closing in
+    let recs = c.records.ensures.records ∙ ap (λ (o : Standing). o.records) c.closing.ensures.closing in
     let found = c.in-Some.ensures.front in
     let some : 0 < length (closing_of a.chapter).records = omega (arith, found.0, ap length recs, length-map c.records.result.now untaken_shown) in
     let shown : untaken_shown c.in-Some.front ≡ record_in (closing_of a.chapter) 0 = found.1 ∙ ap (λ ss. get_or ss 0 no_record) recs in
@@ -263,7 +263,7 @@ pub returns-in-Discarded-clause-numbers : goal.returns-in-Discarded-clause-numbe
 returns-in-Discarded-clause-numbers c =
     let a = c.self.inside in
     let i = c.self.invariant in
-    let recs = c.records.ensures.records ∙ ap (λ (o : Opening). o.records) c.closing.ensures.closing in
+    let recs = c.records.ensures.records ∙ ap (λ (o : Standing). o.records) c.closing.ensures.closing in
     let found = c.in-Some.ensures.front in
     let some : 0 < length (closing_of a.chapter).records = omega (arith, found.0, ap length recs, length-map c.records.result.now untaken_shown) in
     let shown : untaken_shown c.in-Some.front ≡ record_in (closing_of a.chapter) 0 = found.1 ∙ ap (λ ss. get_or ss 0 no_record) recs in

@@ -1,7 +1,7 @@
 use Rattle.std.proofs.Common.{◌<◌, ◌∷◌, [], inl, inr, length, length-append, arith, ap, sym, ◌∙◌, subst}
 use Rattle.rb_history.proofs.ManyTakes.{has-record, pushed-more, kept-more}
 use Rattle.rb_history.specs.ManyTakes.{pushed}
-use Rattle.rb_chapter_ring.specs.ChapterCalls.{Takes}
+use Rattle.rb_chapter_ring.specs.ChapterCalls.{TakesByChapter}
 use Rattle.rb_chapter_ring.specs.Chapters.{closing_of}
 use Rattle.rb_chapter_ring.specs.ManyTakes.{TakesEachInChapter}
 use Rattle.rb_chapter_ring.proofs.ManyTakes.{each-more, stops-busy, stops-empty, takes-all, same-chapter}
@@ -16,8 +16,8 @@ returns-in-BusyFront-clause-takes c =
     let i = c.loop-count.invariant in
     let less : length (pushed c.args.out.now.items c.loop-count.out.items) < c.args.n = omega arith in
     elim c.in-BusyFront.is [
-      | inl busy ↦ stops-busy c.args.n c.args.self.now c.loop-count.self c.take.new.self _ i.each less (subst (Takes c.loop-count.self c.take.new.self) busy c.take.ensures.takes)
-      | inr empty ↦ stops-empty c.args.n c.args.self.now c.loop-count.self c.take.new.self _ i.each less (subst (Takes c.loop-count.self c.take.new.self) empty c.take.ensures.takes)
+      | inl busy ↦ stops-busy c.args.n c.args.self.now c.loop-count.self c.take.new.self _ i.each less (subst (TakesByChapter c.loop-count.self c.take.new.self) busy c.take.ensures.takes)
+      | inr empty ↦ stops-empty c.args.n c.args.self.now c.loop-count.self c.take.new.self _ i.each less (subst (TakesByChapter c.loop-count.self c.take.new.self) empty c.take.ensures.takes)
     ]
 
 pub loop-count-preserved : goal.loop-count-preserved

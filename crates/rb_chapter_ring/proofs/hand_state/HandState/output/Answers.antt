@@ -1,7 +1,7 @@
 use Rattle.std.proofs.Common.{◌≡◌, ◌↔◌, ◌<◌, refl, sym, subst, IfOk}
 use Rattle.rb_history.specs.declared.answers.Notice.TheVariants.{Due}
 use Rattle.rb_history.specs.NoticesAndQueries.{IsDue}
-use Rattle.rb_chapter_ring.specs.ChapterCalls.{consumer_now, producer_now}
+use Rattle.rb_chapter_ring.specs.ChapterCalls.{consumer_by_chapter, producer_by_chapter}
 use Rattle.rb_chapter_ring.specs.HandRing.{HandRing, hand_ring}
 use Rattle.rb_chapter_ring.proofs.StateSteps.{output-holds}
 use Rattle.rb_chapter_ring.proofs.hand_state.HandState.output.Goals as goal
@@ -13,4 +13,4 @@ invariant_of-self c =
     output-holds k.0 (hand_ring c.self.inside.ring c.self.inside.hands.items) (hand_ring c.output.new.self c.self.inside.hands.items) c.self.inside.ordinals.items k.1 c.self.invariant c.output.ensures.numbers c.args.worker c.args.sheet low c.output.result c.output.ensures.granted c.output.ensures.refused refl
 
 pub returns-clause-notice : goal.returns-clause-notice
-returns-clause-notice c = subst (λ (s : HandRing). IfOk c.output.result (λ n. (n ≡ Due) ↔ IsDue (consumer_now s.ring) (producer_now s.ring) c.args.flags)) c.self.view_is c.output.ensures.notice
+returns-clause-notice c = subst (λ (s : HandRing). IfOk c.output.result (λ n. (n ≡ Due) ↔ IsDue (consumer_by_chapter s.ring) (producer_by_chapter s.ring) c.args.flags)) c.self.view_is c.output.ensures.notice

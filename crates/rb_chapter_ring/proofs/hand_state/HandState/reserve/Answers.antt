@@ -1,7 +1,7 @@
 use Rattle.std.proofs.Common.{◌<◌, Some, length, refl, sym, ◌∙◌, ap, subst}
 use Rattle.std.proofs.lemmas.List.{length-replicate}
 use Rattle.rb_chapter_ring.specs.Chapters.{closing_of}
-use Rattle.rb_chapter_ring.specs.inner.Ordinals.{IsHandState, IsNumbered}
+use Rattle.rb_chapter_ring.specs.inner.Ordinals.{IsHandState, HasOrdinal}
 use Rattle.rb_chapter_ring.specs.Hands.{hand_at, hands_of, out_record, with_hand, IsFree}
 use Rattle.rb_chapter_ring.proofs.ChangedHands.{hand-here}
 use Rattle.rb_chapter_ring.specs.HandRing.{HandRing, hand_ring, GrantsToHand}
@@ -22,7 +22,7 @@ invariant_of-self-in-Ok c =
     let r = c.in-Ok.grant in
     let marked = c.set_hand.ensures.set ∙ (λ i. with_hand c.self.inside.hands.items c.args.worker c.args.hand (Some (record { pos = c.pos.ensures.value i; serial = c.serial.ensures.value i; len = c.args.n }))) in
     let state = granted-holds k.0 (hand_ring c.self.inside.ring c.self.inside.hands.items) (hand_ring c.reserve.new.self c.set_hand.new.book.items) c.self.inside.ordinals.items k.1 c.self.invariant c.reserve.ensures.numbers c.args.worker c.args.hand c.args.n r.pos r.serial c.next_ordinal-ordinal.result low
-    (record { grants = c.in-Ok.ensures.granted; was_free = free; marked = marked }) (subst (IsNumbered (closing_of c.reserve.new.self.chapter) r.pos) (sym c.next_ordinal-ordinal.ensures.ordinal) c.in-Ok.ensures.number) in
+    (record { grants = c.in-Ok.ensures.granted; was_free = free; marked = marked }) (subst (HasOrdinal (closing_of c.reserve.new.self.chapter) r.pos) (sym c.next_ordinal-ordinal.ensures.ordinal) c.in-Ok.ensures.number) in
     subst (IsHandState (hand_ring c.reserve.new.self c.set_hand.new.book.items)) (sym c.set_ordinal.ensures.set) state
 
 pub returns-in-Ok-clause-granted : goal.returns-in-Ok-clause-granted

@@ -1,6 +1,6 @@
 use Rattle.std.proofs.Common.{◌≡◌, ◌↔◌, refl, subst}
 use Rattle.rb_history.specs.declared.answers.Taken.TheVariants.{BusyFront, Empty}
-use Rattle.rb_chapter_ring.specs.ChapterCalls.{HasBusyFront, AllTaken}
+use Rattle.rb_chapter_ring.specs.ChapterCalls.{HasBusyFrontByChapter, AllTakenByChapter}
 use Rattle.rb_chapter_ring.specs.HandRing.{HandRing, hand_ring}
 use Rattle.rb_chapter_ring.proofs.StateSteps.{taken-holds}
 use Rattle.rb_chapter_ring.proofs.hand_state.HandState.take.Goals as goal
@@ -11,7 +11,7 @@ invariant_of-self c =
     taken-holds k.0 (hand_ring c.self.inside.ring c.self.inside.hands.items) (hand_ring c.take.new.self c.self.inside.hands.items) c.self.inside.ordinals.items k.1 c.self.invariant c.take.ensures.numbers c.take.result c.take.ensures.takes refl
 
 pub returns-clause-busy_front : goal.returns-clause-busy_front
-returns-clause-busy_front c = subst (λ (s : HandRing). (c.take.result ≡ BusyFront) ↔ HasBusyFront s.ring) c.self.view_is c.take.ensures.busy_front
+returns-clause-busy_front c = subst (λ (s : HandRing). (c.take.result ≡ BusyFront) ↔ HasBusyFrontByChapter s.ring) c.self.view_is c.take.ensures.busy_front
 
 pub returns-clause-empty : goal.returns-clause-empty
-returns-clause-empty c = subst (λ (s : HandRing). (c.take.result ≡ Empty) ↔ AllTaken s.ring) c.self.view_is c.take.ensures.empty
+returns-clause-empty c = subst (λ (s : HandRing). (c.take.result ≡ Empty) ↔ AllTakenByChapter s.ring) c.self.view_is c.take.ensures.empty

@@ -1,9 +1,9 @@
 use Rattle.std.proofs.Common.{◌≡◌, ◌↔◌, subst, IfOk}
 use Rattle.rb_history.specs.declared.answers.Notice.TheVariants.{Due}
 use Rattle.rb_history.specs.NoticesAndQueries.{IsDue}
-use Rattle.rb_chapter_ring.specs.ChapterCalls.{consumer_now, producer_now}
+use Rattle.rb_chapter_ring.specs.ChapterCalls.{consumer_by_chapter, producer_by_chapter}
 use Rattle.rb_chapter_ring.specs.TaggedRing.{TaggedRing}
 use Rattle.rb_chapter_ring.proofs.ring.RingState.output.Goals as goal
 
 pub returns-clause-notice : goal.returns-clause-notice
-returns-clause-notice c = subst (λ (s : TaggedRing). IfOk c.output.result (λ n. (n ≡ Due) ↔ IsDue (consumer_now s.state.ring) (producer_now s.state.ring) c.args.flags)) c.self.view_is c.output.ensures.notice
+returns-clause-notice c = subst (λ (s : TaggedRing). IfOk c.output.result (λ n. (n ≡ Due) ↔ IsDue (consumer_by_chapter s.state.ring) (producer_by_chapter s.state.ring) c.args.flags)) c.self.view_is c.output.ensures.notice

@@ -5,7 +5,7 @@ use Rattle.rb_semantics.specs.declared.value.MemoryRegion.TheVariants.{Stack}
 use Rattle.rb_semantics.specs.StackPointers.{pointer_at}
 use Rattle.rb_semantics.specs.ProgramMemory.{Memory, place_at, write}
 use Rattle.rb_interp.specs.StoredMemory.{program_memory_of}
-use Rattle.rb_interp.specs.inner.KeptPointers.{IsPlace}
+use Rattle.rb_interp.specs.inner.KeptPointers.{IsSlotPlace}
 use Rattle.rb_interp.proofs.Spilling.{IsAtPlace, spills_at, spill_written, spill_is, Begins, begins_at}
 use Rattle.rb_interp.proofs.machine_memory.MachineMemory.keep.Goals as goal
 
@@ -18,14 +18,14 @@ pub place_beginning-requires-clause-place : goal.place_beginning-requires-clause
 place_beginning-requires-clause-place g c =
     let m : Memory = program_memory_of g.R.Lent.bytes_of g.C.Context.shown c.args.self.now in
     let at : IsAtPlace c.args.place c.args.offset = spills_at m c.args.place c.args.offset c.args.value c.requires.stack c.requires.inside in
-    subst (λ offset. IsPlace (place_at Stack offset)) (sym (to_z-of_z w64 c.args.offset c.ranges.offset)) at.place
+    subst (λ offset. IsSlotPlace (place_at Stack offset)) (sym (to_z-of_z w64 c.args.offset c.ranges.offset)) at.place
 
 pub keep-requires-clause-inside : goal.keep-requires-clause-inside
 keep-requires-clause-inside g c =
     let m : Memory = program_memory_of g.R.Lent.bytes_of g.C.Context.shown c.args.self.now in
     let at : IsAtPlace c.args.place c.args.offset = spills_at m c.args.place c.args.offset c.args.value c.requires.stack c.requires.inside in
     let there : place_at Stack c.args.offset ≡ Some c.place_beginning.result = ap (place_at Stack) (sym (to_z-of_z w64 c.args.offset c.ranges.offset)) ∙ c.place_beginning.ensures in
-    subst IsPlace there at.place
+    subst IsSlotPlace there at.place
 
 pub keep-requires-clause-empty : goal.keep-requires-clause-empty
 keep-requires-clause-empty g c =

@@ -1,6 +1,7 @@
 -- What is promised of kept records follows from what each call does at the seats.
 use Rattle.std.specs.Prelude.{is_ok}
-use Rattle.rb_jobs.proofs.KeptRecords.{reserved-keeps, reserved-kept, submitted-keeps, submitted-taken, submitted-frees, discarded-keeps, discarded-taken, discarded-frees, sent-keeps, queried-keeps}
+use Rattle.rb_chapter_ring.specs.declared.record_end.RecordEnd.TheVariants.{Submit, Discard}
+use Rattle.rb_jobs.proofs.KeptRecords.{reserved-keeps, reserved-kept, ended-keeps, ended-taken, ended-frees, sent-keeps, queried-keeps}
 use Rattle.rb_jobs.proofs.seat_helpers.SeatHelpersHelpers.TheImpl.Goals as goal
 
 pub reserve-tells : goal.reserve-tells
@@ -20,9 +21,9 @@ submit-tells g x c = record {
   room = c.ensures.room;
   rings = c.ensures.rings;
   called = c.ensures.called;
-  never_back = submitted-taken c.args.self.now c.new.self.now c.args.owned c.args.flags (is_ok c.result) c.ensures.call;
-  let_go = submitted-frees c.args.self.now c.new.self.now c.args.owned c.args.flags (is_ok c.result) c.ensures.call;
-  still_kept = submitted-keeps c.args.self.now c.new.self.now c.args.owned c.args.flags (is_ok c.result) c.ensures.call;
+  never_back = ended-taken c.args.self.now c.new.self.now Submit c.args.owned c.args.flags (is_ok c.result) c.ensures.call;
+  let_go = ended-frees c.args.self.now c.new.self.now Submit c.args.owned c.args.flags (is_ok c.result) c.ensures.call;
+  still_kept = ended-keeps c.args.self.now c.new.self.now Submit c.args.owned c.args.flags (is_ok c.result) c.ensures.call;
   handed_back = c.ensures.handed_back;
 }
 
@@ -32,9 +33,9 @@ discard-tells g x c = record {
   room = c.ensures.room;
   rings = c.ensures.rings;
   called = c.ensures.called;
-  never_back = discarded-taken c.args.self.now c.new.self.now c.args.owned c.args.flags (is_ok c.result) c.ensures.call;
-  let_go = discarded-frees c.args.self.now c.new.self.now c.args.owned c.args.flags (is_ok c.result) c.ensures.call;
-  still_kept = discarded-keeps c.args.self.now c.new.self.now c.args.owned c.args.flags (is_ok c.result) c.ensures.call;
+  never_back = ended-taken c.args.self.now c.new.self.now Discard c.args.owned c.args.flags (is_ok c.result) c.ensures.call;
+  let_go = ended-frees c.args.self.now c.new.self.now Discard c.args.owned c.args.flags (is_ok c.result) c.ensures.call;
+  still_kept = ended-keeps c.args.self.now c.new.self.now Discard c.args.owned c.args.flags (is_ok c.result) c.ensures.call;
   handed_back = c.ensures.handed_back;
 }
 

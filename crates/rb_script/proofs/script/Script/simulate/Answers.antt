@@ -1,7 +1,7 @@
 use Rattle.std.proofs.Common.{◌≡◌, length, map, refl, inl, rules, arith}
 use Rattle.std.specs.List.{AllZip}
 use Rattle.std.proofs.lemmas.Grind.{common_steps}
-use Rattle.rb_script.specs.Programs.{IsProgramOf, IsProgramsFault}
+use Rattle.rb_script.specs.Programs.{IsWorkersProgram, IsProgramsFault}
 use Rattle.rb_script.specs.Scripts.{worker_text}
 use Rattle.rb_script.proofs.WorkerPrograms.{only-refused, none-refused}
 use Rattle.rb_script.proofs.RunnableScripts.{breaks-off}
@@ -9,7 +9,7 @@ use Rattle.rb_script.proofs.script.Script.simulate.Goals as goal
 
 pub simulate_with-requires : goal.simulate_with-requires
 simulate_with-requires c =
-    let accepted : AllZip (IsProgramOf (length c.args.self.now.rings.items)) (map worker_text c.args.self.now.workers.items) c.as_slice-2.result.now = first_of (search rules, grind (arith, common_steps)) in
+    let accepted : AllZip (IsWorkersProgram (length c.args.self.now.rings.items)) (map worker_text c.args.self.now.workers.items) c.as_slice-2.result.now = first_of (search rules, grind (arith, common_steps)) in
     record { may_run = c.requires.may_run; accepted = accepted }
 
 pub returns-in-Err-clause-only_refused : goal.returns-in-Err-clause-only_refused
@@ -19,7 +19,7 @@ returns-in-Err-clause-only_refused c =
 
 pub returns-in-Ok-simulate_with-clause-only_refused : goal.returns-in-Ok-simulate_with-clause-only_refused
 returns-in-Ok-simulate_with-clause-only_refused c =
-    let accepted : AllZip (IsProgramOf (length c.args.self.now.rings.items)) (map worker_text c.args.self.now.workers.items) c.in-Ok.programs.items = first_of (search rules, grind (arith, common_steps)) in
+    let accepted : AllZip (IsWorkersProgram (length c.args.self.now.rings.items)) (map worker_text c.args.self.now.workers.items) c.in-Ok.programs.items = first_of (search rules, grind (arith, common_steps)) in
     λ line first. absurd (none-refused (length c.args.self.now.rings.items) (map worker_text c.args.self.now.workers.items) c.in-Ok.programs.items accepted line first)
 
 pub returns-in-Err-clause-begun : goal.returns-in-Err-clause-begun
@@ -27,6 +27,6 @@ returns-in-Err-clause-begun c = inl refl
 
 pub returns-clause-begun : goal.returns-clause-begun
 returns-clause-begun c =
-    let accepted : AllZip (IsProgramOf (length c.args.self.now.rings.items)) (map worker_text c.args.self.now.workers.items) c.in-Ok.programs.items = first_of (search rules, grind (arith, common_steps)) in
+    let accepted : AllZip (IsWorkersProgram (length c.args.self.now.rings.items)) (map worker_text c.args.self.now.workers.items) c.in-Ok.programs.items = first_of (search rules, grind (arith, common_steps)) in
     let same : c.as_slice-2.result.now ≡ c.in-Ok.programs.items = search rules in
     breaks-off c.args.draw c.args.self.now c.as_slice-2.result.now c.in-Ok.programs.items c.args.text.now.items c.simulate_with.new.text.items same accepted c.in-Err-simulate_with.ensures.begun

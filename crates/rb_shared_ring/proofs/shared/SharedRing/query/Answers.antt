@@ -10,16 +10,16 @@ use Rattle.rb_shared_ring.proofs.RoomCalls.{query-called}
 use Rattle.rb_shared_ring.proofs.SeatNumbers.{book-in, query-tied, keeps-hands}
 use Rattle.rb_shared_ring.proofs.shared.SharedRing.query.Goals as goal
 
-pub invariant_of-me : goal.invariant_of-me
-invariant_of-me g c =
+pub invariant_of-seat : goal.invariant_of-seat
+invariant_of-seat g c =
     let e = c.query_with.ensures in
-    let i = c.me.invariant in (
+    let i = c.seat.invariant in (
       e.same.2 ∙ i.0,
-      record { idle = e.idle; book = book-in _ _ _ _ e.call; ties = query-tied c.me.inside.worker c.me.inside.tally _ _ i.1.ties c.args.what c.query_with.result (in-one-chapter _ _ _ _ _ _ e.call) },
+      record { idle = e.idle; book = book-in _ _ _ _ e.call; ties = query-tied c.seat.inside.worker c.seat.inside.tally _ _ i.1.ties c.args.what c.query_with.result (in-one-chapter _ _ _ _ _ _ e.call) },
       keeps-hands _ _ _ _ _ i.2 (e.hands ∙ i.2.shows) i.2.four e.holds,
     )
 
 pub returns-clause-call : goal.returns-clause-call
 returns-clause-call g c =
-    subst (λ (s : WorkerSeat). LockedCall (Worker s.worker) s.seen (seen_with (view c.query_with.new.pass)) (InRoom s.room (cut_by (view c.query_with.new.pass)) (Queries c.args.what c.query_with.result))) c.me.view_is
-    (query-called _ _ _ c.me.invariant.1.ties.in_ring _ _ c.args.what c.query_with.result c.query_with.ensures.call)
+    subst (λ (s : WorkerSeat). LockedCall (Worker s.worker) s.seen (seen_with (view c.query_with.new.pass)) (InRoom s.room (cut_by (view c.query_with.new.pass)) (Queries c.args.what c.query_with.result))) c.seat.view_is
+    (query-called _ _ _ c.seat.invariant.1.ties.in_ring _ _ c.args.what c.query_with.result c.query_with.ensures.call)

@@ -17,17 +17,17 @@ returns g c =
     let e = c.in-Ok.ensures in
     let old = c.args.self.now in
     let mid = c.turn_chapter.new.consumer in
-    let now = c.fill.new.me in
+    let now = c.fill.new.seat in
     let x = c.turn_chapter.new.sink in
-    let y = c.give_all.new.sink in
+    let y = c.pass_items.new.sink in
     let ts = c.fill.new.self.taken in
     let items : c.items.result ≡ ts = c.items.ensures.value in
     let at : pos x ≡ mid.position = t.stays.1 ∙ (c.requires.ready.2 ∙ sym t.stays.0) in
-    let moved : pos y ≡ now.position = c.give_all.ensures.moved ∙ (ap (λ n. end_of n (tape_items c.items.result)) at ∙ (ap (λ (l : List Taken). end_of mid.position (tape_items l)) items ∙ sym e.end)) in
+    let moved : pos y ≡ now.position = c.pass_items.ensures.moved ∙ (ap (λ n. end_of n (tape_items c.items.result)) at ∙ (ap (λ (l : List Taken). end_of mid.position (tape_items l)) items ∙ sym e.end)) in
     let whole = behind-over-all _ _ _ _ (TakesMany old.batch.capacity ts) e.call in
     let same = same_by_many old.batch.capacity ts mid now e.seat whole in
     let given = many_given takes old.batch.capacity ts mid now x y whole e.place e.position e.got c.fill.ensures.chapters
-    (subst (λ (l : List Taken). TakesAll takes x (items_among l) y) items c.give_all.ensures.given) in
+    (subst (λ (l : List Taken). TakesAll takes x (items_among l) y) items c.pass_items.ensures.given) in
     record {
       taken = (
         same_on old.consumer mid now t.same same,

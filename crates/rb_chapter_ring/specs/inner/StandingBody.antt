@@ -1,0 +1,25 @@
+-- What an opening's fields mean, and what they keep.
+use Rattle.std.specs.Prelude.{◌≡◌, ◌≤◌, map, drop, length, vec_len, vec_capacity}
+use Rattle.rb_chapter_ring.specs.declared.standing.Standing.TheInside.{Inside}
+use Rattle.rb_chapter_ring.specs.UntakenRecords.{untaken_shown}
+use Rattle.rb_chapter_ring.specs.Standing.{Standing}
+use Rattle.rb_chapter_ring.specs.StandingValue.{StandingValue}
+
+abbrev pub opening_shown : Inside → Standing
+opening_shown a = record {
+  setup = record { size = a.numbers.size; start = a.numbers.start; workers = a.numbers.workers };
+  producer = a.numbers.producer;
+  consumer = a.numbers.consumer;
+  records = map untaken_shown (drop a.first a.records.items);
+  tallies = a.tallies.items;
+  consumed = a.numbers.consumed;
+  skipped = a.numbers.skipped;
+}
+
+abbrev pub opening_value : Inside → StandingValue
+opening_value a = record { opening = opening_shown a; room = vec_capacity a.records; passed = a.first }
+
+-- it has the totals of each worker, and the first of its records is one of them or stands behind them all
+pub record OpeningInvariant (a : Inside) : Type 0 where
+  pub workers : length a.tallies.items ≡ a.numbers.workers
+  pub first : a.first ≤ vec_len a.records

@@ -1,0 +1,238 @@
+//! What a chapter begins with.
+
+ghost use Rattle.std.specs.Prelude.{◌≡◌, ◌+◌, ◌<◌, ◌≤◌, ◌^◌, ◌↔◌, IfOk, IsTrue, drop, length, map, replicate, slice_index_or, slice_set};
+ghost use Rattle.rb_history.specs.Span.{span};
+ghost use Rattle.rb_chapter_ring.specs.Standing.{no_record, no_tally, record_in, tally_at};
+ghost use Rattle.rb_chapter_ring.specs.StandingValue.{StandingValue};
+ghost use Rattle.rb_chapter_ring.specs.Chapters.{empty_ring};
+ghost use Rattle.rb_chapter_ring.specs.UntakenRecords.{untaken_shown};
+ghost use Rattle.rb_chapter_ring.specs.inner.StandingSteps.{with_refusal, with_grant, next_record, with_end, with_take};
+
+mod numbers;
+
+use crate::record_end::RecordEnd;
+use crate::standing_lists::{
+    are_same_records, are_same_tallies, copy, count_end, count_made, count_refused, forget,
+    front_of, settle, tally_of,
+};
+pub use numbers::StandingNumbers;
+use rb_history::{Tally, span};
+use std::alloc::{AllocError, Global};
+use std::marker::Model;
+
+/// What has become of a record that was not taken.
+#[derive(Clone, Copy, Debug, PartialEq, Eq)]
+pub enum UntakenStatus {
+    /// It was neither submitted nor discarded.
+    Busy,
+    /// It was submitted.
+    Waiting,
+    /// It was discarded, and is still to be passed over.
+    Discarded,
+}
+
+/// A record that was granted and not taken when a chapter was opened.
+#[derive(Clone, Copy, Debug, PartialEq, Eq)]
+pub struct UntakenRecord {
+    /// Its position, in bytes.
+    pub pos: u64,
+    /// Its length, in bytes.
+    pub len: u32,
+    /// The worker to whom it was granted.
+    pub worker: u32,
+    /// How many records that worker was granted before.
+    pub serial: u64,
+    /// What has become of it.
+    pub status: UntakenStatus,
+}
+
+/// What a ring's history stands for where a chapter begins: the ring's numbers, both positions, the records that were not taken,
+/// and the totals of all entries before. It is made and changed by its chapter alone.
+#[derive(Drop)]
+pub struct Standing {
+    numbers: StandingNumbers,
+    records: Vec<UntakenRecord>,
+    // Where the records that are there begin: before them stand those that were taken.
+    first: usize,
+    // One for each worker, by its number.
+    tallies: Vec<Tally>,
+}
+
+impl Model for Standing {
+    ghost use Rattle.std.specs.Coded.{codes};
+    ghost use Rattle.rb_history.specs.contracts.tally.Tally as tally_row;
+    ghost use Rattle.rb_chapter_ring.specs.StandingValue.{StandingValue};
+    ghost use Rattle.rb_chapter_ring.specs.inner.StandingBody.{opening_value, OpeningInvariant};
+
+    ghost Value = { StandingValue };
+
+    ghost coded = { Prim.hlevel (codes, tally_row.the_row.coded) };
+
+    ghost view = { opening_value };
+
+    ghost invariant = { OpeningInvariant };
+}
+
+impl Standing {
+    // An opening of zeros, with room for `room` records.
+    pub(crate) fn of_zeros(alloc: Global, room: u32, workers: u32) -> Result<Standing, AllocError>
+        ensures zeros { IfOk result (λ o. o.opening ≡ empty_ring (record { size = 0; start = 0; workers = workers })) }
+        ensures room { IfOk result (λ o. o.room ≡ room) }
+        ensures passed { IfOk result (λ o. o.passed ≡ 0) }
+    {
+        Ok(Standing {
+            numbers: StandingNumbers::of_ring(0, 0, workers),
+            records: Vec::with_capacity(alloc, room as usize)?,
+            first: 0,
+            tallies: vec![in alloc; Tally::none(); workers as usize]?,
+        })
+    }
+
+    // Makes it that of a ring where nothing was done, for as many workers.
+    pub(crate) fn begin(&mut self, size: u64, start: u64)
+        ensures first { self.new.opening ≡ empty_ring (record { size = size; start = start; workers = self.old.opening.setup.workers }) }
+        ensures room { self.new.room ≡ self.old.room }
+        ensures passed { self.new.passed ≡ 0 }
+    {
+        self.numbers = StandingNumbers::of_ring(size, start, self.numbers.workers);
+        self.records.clear();
+        self.first = 0;
+        forget(self.tallies.as_mut_slice());
+    }
+
+    // Makes it say what the other says. It takes no memory.
+    pub(crate) fn copy_from(&mut self, other: &Standing)
+        requires room { length other.now.opening.records ≤ self.old.room }
+        requires workers { self.old.opening.setup.workers ≡ other.now.opening.setup.workers }
+        ensures same { self.new.opening ≡ other.now.opening }
+        ensures room { self.old.room ≤ self.new.room }
+        ensures passed { self.new.passed ≡ 0 }
+    {
+        self.numbers = other.numbers;
+        self.records.clear();
+        self.first = 0;
+        let _within = self.records.extend_from_slice(other.records());
+        copy(self.tallies.as_mut_slice(), other.tallies.as_slice());
+    }
+
+    // Another that says the same, with room for `room` records at least.
+    pub(crate) fn try_clone(&self, alloc: Global, room: u32) -> Result<Standing, AllocError>
+        ensures same { IfOk result (λ o. o.opening ≡ self.now.opening) }
+        ensures room { IfOk result (λ o. room ≤ o.room) }
+        ensures passed { IfOk result (λ o. o.passed ≡ 0) }
+    {
+        let mut records = Vec::with_capacity(alloc, room as usize)?;
+        records.extend_from_slice(self.records())?;
+        let mut tallies = Vec::with_capacity(alloc, self.tallies.len())?;
+        tallies.extend_from_slice(self.tallies())?;
+        Ok(Standing {
+            numbers: self.numbers,
+            records,
+            first: 0,
+            tallies,
+        })
+    }
+
+    // Counts a refusal of the worker.
+    pub(crate) fn add_refusal(&mut self, worker: u32)
+        requires worker { worker < self.old.opening.setup.workers }
+        requires total { (tally_at self.old.opening worker).refused < 2 ^ 62 }
+        ensures added { self.new.opening ≡ with_refusal worker self.old.opening }
+        ensures room { self.new.room ≡ self.old.room }
+        ensures passed { self.new.passed ≡ self.old.passed }
+    {
+        count_refused(self.tallies.as_mut_slice(), worker);
+    }
+
+    // Adds the record that the worker is granted next, of `len` bytes, and returns it.
+    pub(crate) fn add_grant(&mut self, worker: u32, len: u32) -> UntakenRecord
+        requires worker { worker < self.old.opening.setup.workers }
+        requires total { (tally_at self.old.opening worker).made < 2 ^ 62 }
+        requires limit { self.old.opening.producer + span len ≤ 2 ^ 62 }
+        requires room { self.old.passed + length self.old.opening.records < self.old.room }
+        ensures added { self.new.opening ≡ with_grant worker len self.old.opening }
+        ensures room { self.old.room ≤ self.new.room }
+        ensures passed { self.new.passed ≡ self.old.passed }
+        ensures record { untaken_shown result ≡ next_record worker len self.old.opening }
+    {
+        let record = UntakenRecord {
+            pos: self.numbers.producer,
+            len,
+            worker,
+            serial: count_made(self.tallies.as_mut_slice(), worker),
+            status: UntakenStatus::Busy,
+        };
+        self.records.push_reserved(record);
+        self.numbers.producer += span(len);
+        record
+    }
+
+    #[inline(always)]
+    // The record at an index, from the front on, came to this end. Returns its position.
+    pub(crate) fn add_end(&mut self, index: usize, end: RecordEnd) -> u64
+        requires within { index < length self.old.opening.records }
+        requires worker { (record_in self.old.opening index).worker < self.old.opening.setup.workers }
+        requires total { (tally_at self.old.opening (record_in self.old.opening index).worker).submitted + (tally_at self.old.opening (record_in self.old.opening index).worker).discarded < 2 ^ 62 }
+        ensures added { self.new.opening ≡ with_end end index self.old.opening }
+        ensures room { self.new.room ≡ self.old.room }
+        ensures passed { self.new.passed ≡ self.old.passed }
+        ensures position { result ≡ (record_in self.old.opening index).pos }
+    {
+        let record = settle(self.records.as_mut_slice(), self.first, index, end);
+        count_end(self.tallies.as_mut_slice(), record.worker, end);
+        record.pos
+    }
+
+    // The record at the front was taken. Returns the consumer position before.
+    pub(crate) fn add_take(&mut self) -> u64
+        requires some { 0 < length self.old.opening.records }
+        requires limit { self.old.opening.consumer + span (record_in self.old.opening 0).len ≤ 2 ^ 62 }
+        requires totals { self.old.opening.consumed + self.old.opening.skipped < 2 ^ 62 }
+        ensures taken { self.new.opening ≡ with_take self.old.opening }
+        ensures room { self.new.room ≡ self.old.room }
+        ensures passed { self.new.passed ≡ self.old.passed + 1 }
+        ensures position { result ≡ self.old.opening.consumer }
+    {
+        let record = front_of(self.records.as_slice(), self.first);
+        let position = self.numbers.consumer;
+        self.first += 1;
+        self.numbers.consumer += span(record.len);
+        self.numbers.count_take(record.status);
+        position
+    }
+
+    // The worker's totals.
+    pub(crate) fn tally(&self, worker: u32) -> Tally
+        requires worker { worker < self.now.opening.setup.workers }
+        ensures tally { result ≡ tally_at self.now.opening worker }
+    {
+        tally_of(self.tallies.as_slice(), worker)
+    }
+
+    // Whether both say the same. In time linear in the records and the workers.
+    pub(crate) fn is_same(&self, other: &Standing) -> bool
+        ensures exact { IsTrue result ↔ (self.now.opening ≡ other.now.opening) }
+    {
+        if !self.numbers.is_same(&other.numbers) {
+            return false;
+        }
+        if !are_same_records(self.records(), other.records()) {
+            return false;
+        }
+        are_same_tallies(self.tallies.as_slice(), other.tallies.as_slice())
+    }
+
+    /// The records that were granted and not taken, in the order of their grants. In constant time, as the call below.
+    pub fn records(&self) -> &[UntakenRecord]
+        ensures records { map untaken_shown result.now ≡ self.now.opening.records }
+    {
+        &self.records.as_slice()[self.first..]
+    }
+
+    /// Each worker's totals before the chapter, by its number.
+    pub fn tallies(&self) -> &[Tally]
+        ensures tallies { result.now ≡ self.now.opening.tallies }
+    {
+        self.tallies.as_slice()
+    }
+}

@@ -1,0 +1,80 @@
+//! The numbers of what a chapter begins with.
+
+ghost use Rattle.std.specs.Prelude.{◌≡◌, ◌+◌, ◌<◌, ◌^◌, ◌↔◌, IsTrue};
+ghost use Rattle.rb_chapter_ring.specs.UntakenRecords.{status_shown};
+ghost use Rattle.rb_chapter_ring.specs.inner.StandingNumbers.{first_numbers};
+ghost use Rattle.rb_chapter_ring.specs.inner.StandingSteps.{events_by, skips_by};
+
+use crate::{Standing, UntakenStatus};
+
+/// The numbers of what a ring's history stands for: those of the ring, both positions, and the totals of takes.
+#[derive(Clone, Copy, PartialEq, Eq)]
+pub struct StandingNumbers {
+    /// The ring's size in bytes; 0 where no ring keeps the chapter.
+    pub size: u64,
+    /// The ring's first position, in bytes.
+    pub start: u64,
+    /// How many workers the ring has.
+    pub workers: u32,
+    /// The position of the next record that is granted, in bytes.
+    pub producer: u64,
+    /// The position of the next record that is taken, in bytes.
+    pub consumer: u64,
+    /// How many submitted records were taken.
+    pub consumed: u64,
+    /// How many discarded records were passed over.
+    pub skipped: u64,
+}
+
+impl StandingNumbers {
+    /// Those of a ring where nothing was done.
+    pub(crate) fn of_ring(size: u64, start: u64, workers: u32) -> StandingNumbers
+        ensures first { result ≡ first_numbers size start workers }
+    {
+        StandingNumbers {
+            size,
+            start,
+            workers,
+            producer: start,
+            consumer: start,
+            consumed: 0,
+            skipped: 0,
+        }
+    }
+
+    #[inline(always)]
+    /// Counts a record that was taken, by what had become of it.
+    pub(crate) fn count_take(&mut self, status: UntakenStatus)
+        requires totals { self.old.consumed + self.old.skipped < 2 ^ 62 }
+        ensures counted { self.new ≡ record self.old { consumed = self.old.consumed + events_by (status_shown status); skipped = self.old.skipped + skips_by (status_shown status) } }
+    {
+        match status {
+            UntakenStatus::Busy => {}
+            UntakenStatus::Waiting => self.consumed += 1,
+            UntakenStatus::Discarded => self.skipped += 1,
+        }
+    }
+
+    /// Whether each number is the same.
+    pub(crate) fn is_same(&self, other: &StandingNumbers) -> bool
+        ensures exact { IsTrue result ↔ (self.now ≡ other.now) }
+    {
+        *self == *other
+    }
+}
+
+impl Standing {
+    #[inline(always)]
+    /// Its numbers, of which the totals are those before the chapter. In constant time.
+    pub fn numbers(&self) -> StandingNumbers
+        ensures size { result.size ≡ self.now.opening.setup.size }
+        ensures start { result.start ≡ self.now.opening.setup.start }
+        ensures workers { result.workers ≡ self.now.opening.setup.workers }
+        ensures producer { result.producer ≡ self.now.opening.producer }
+        ensures consumer { result.consumer ≡ self.now.opening.consumer }
+        ensures consumed { result.consumed ≡ self.now.opening.consumed }
+        ensures skipped { result.skipped ≡ self.now.opening.skipped }
+    {
+        self.numbers
+    }
+}

@@ -1,0 +1,113 @@
+//! The lists of an opening: its records, and its workers' totals.
+
+ghost use Rattle.std.specs.Prelude.{◌≡◌, ◌+◌, ◌<◌, ◌^◌, ◌↔◌, IsTrue, drop, length, map, replicate, slice_index_or, slice_set};
+ghost use Rattle.rb_chapter_ring.specs.Standing.{no_record, no_tally};
+ghost use Rattle.rb_chapter_ring.specs.UntakenRecords.{untaken_shown};
+ghost use Rattle.rb_chapter_ring.specs.inner.EndSteps.{status_of_end, tally_with_end};
+
+use crate::record_end::RecordEnd;
+use crate::standing::UntakenRecord;
+use rb_history::Tally;
+
+/// Makes all totals those of a worker without entries.
+pub(crate) fn forget(tallies: &mut [Tally])
+    ensures zeros { tallies.new ≡ replicate (length tallies.old) no_tally }
+{
+    tallies.fill(Tally::none());
+}
+
+/// Makes all totals those of the other.
+pub(crate) fn copy(tallies: &mut [Tally], other: &[Tally])
+    requires workers { length tallies.old ≡ length other.now }
+    ensures same { tallies.new ≡ other.now }
+{
+    tallies.copy_from_slice(other);
+}
+
+/// Whether the records show the same.
+pub(crate) fn are_same_records(records: &[UntakenRecord], others: &[UntakenRecord]) -> bool
+    ensures exact { IsTrue result ↔ (map untaken_shown records.now ≡ map untaken_shown others.now) }
+{
+    records == others
+}
+
+/// Whether the totals are the same.
+pub(crate) fn are_same_tallies(tallies: &[Tally], others: &[Tally]) -> bool
+    ensures exact { IsTrue result ↔ (tallies.now ≡ others.now) }
+{
+    tallies == others
+}
+
+/// The totals of the worker.
+pub(crate) fn tally_of(tallies: &[Tally], worker: u32) -> Tally
+    requires worker { worker < length tallies.now }
+    ensures tally { result ≡ slice_index_or tallies.now worker no_tally }
+{
+    tallies[worker as usize]
+}
+
+/// Counts a record that the worker was granted, and returns how many it was granted before.
+#[inline(always)]
+pub(crate) fn count_made(tallies: &mut [Tally], worker: u32) -> u64
+    requires worker { worker < length tallies.old }
+    requires total { (slice_index_or tallies.old worker no_tally).made < 2 ^ 62 }
+    ensures counted { tallies.new ≡ slice_set tallies.old worker (record (slice_index_or tallies.old worker no_tally) { made = (slice_index_or tallies.old worker no_tally).made + 1 }) }
+    ensures before { result ≡ (slice_index_or tallies.old worker no_tally).made }
+{
+    let tally = &mut tallies[worker as usize];
+    let before = tally.made;
+    tally.made = before + 1;
+    before
+}
+
+/// Counts a refusal of the worker.
+#[inline(always)]
+pub(crate) fn count_refused(tallies: &mut [Tally], worker: u32)
+    requires worker { worker < length tallies.old }
+    requires total { (slice_index_or tallies.old worker no_tally).refused < 2 ^ 62 }
+    ensures counted { tallies.new ≡ slice_set tallies.old worker (record (slice_index_or tallies.old worker no_tally) { refused = (slice_index_or tallies.old worker no_tally).refused + 1 }) }
+{
+    tallies[worker as usize].refused += 1;
+}
+
+/// Counts the end of a record of the worker.
+#[inline(always)]
+pub(crate) fn count_end(tallies: &mut [Tally], worker: u32, end: RecordEnd)
+    requires worker { worker < length tallies.old }
+    requires total { (slice_index_or tallies.old worker no_tally).submitted + (slice_index_or tallies.old worker no_tally).discarded < 2 ^ 62 }
+    ensures counted { tallies.new ≡ slice_set tallies.old worker (tally_with_end end (slice_index_or tallies.old worker no_tally)) }
+{
+    let tally = &mut tallies[worker as usize];
+    match end {
+        RecordEnd::Submit => tally.submitted += 1,
+        RecordEnd::Discard => tally.discarded += 1,
+    }
+}
+
+#[inline(always)]
+/// The record at an index, from the first on, comes to this end. Returns it as it was.
+pub(crate) fn settle(
+    records: &mut [UntakenRecord],
+    first: usize,
+    index: usize,
+    end: RecordEnd,
+) -> UntakenRecord
+    requires within { first + index < length records.old }
+    ensures settled { map untaken_shown (drop first records.new) ≡ slice_set (map untaken_shown (drop first records.old)) index (record (slice_index_or (map untaken_shown (drop first records.old)) index no_record) { status = status_of_end end }) }
+    ensures long { length records.new ≡ length records.old }
+    ensures record { untaken_shown result ≡ slice_index_or (map untaken_shown (drop first records.old)) index no_record }
+{
+    let place = first + index;
+    let record = records[place];
+    let status = end.status();
+    records[place] = UntakenRecord { status, ..record };
+    record
+}
+
+/// The first of the records that are there.
+pub(crate) fn front_of(records: &[UntakenRecord], first: usize) -> UntakenRecord
+    requires within { first < length records.now }
+    ensures record { untaken_shown result ≡ slice_index_or (map untaken_shown (drop first records.now)) 0 no_record }
+{
+    records[first]
+}

@@ -1,0 +1,79 @@
+//! Giving a record back.
+
+ghost use Rattle.std.specs.Prelude.{◌≡◌, ◌+◌, ◌<◌, [], ◌∷◌, ◌++◌, IfErr, is_ok};
+ghost use Rattle.rb_jobs.specs.SeatCalls.{RecordAnswered};
+ghost use Rattle.rb_jobs.specs.SeatHelpers.{CallsHelpers, Leads, has_number};
+ghost use Rattle.rb_jobs.specs.inner.CallAnswers.{due_in};
+ghost use Rattle.rb_jobs.specs.inner.RecordEnds.{SeatEnds, ended_call, ended_note};
+
+use crate::call_answers::is_due;
+use crate::record_end::{note_of_end, settle_at};
+use crate::seat_helpers::SeatHelpers;
+use crate::seat_record::SeatRecord;
+use crate::stock::Stock;
+use rb_chapter_ring::RecordEnd;
+use rb_history::Notice;
+use rb_shared_ring::Reservation;
+use std::sync::Wait;
+
+impl<'h, R: Wait, S: Stock> SeatHelpers<'h, R, S> {
+    #[inline(always)]
+    // Gives the record back at the seat of its ring, and notes the call. Hands it back where its ring is none of these, or where it is out in no hand
+    // of the seat there.
+    pub(crate) fn settle(
+        &mut self,
+        owned: SeatRecord,
+        end: RecordEnd,
+        flags: u64,
+    ) -> Result<(), SeatRecord>
+        requires room { 0 < self.old.room }
+        ensures trace { self.new.trace ≡ self.old.trace ++ ended_note end flags (is_ok result) ∷ [] }
+        ensures room { self.new.room + 1 ≡ self.old.room }
+        ensures rings { has_number self.new ≡ has_number self.old }
+        ensures handed_back { IfErr result (λ back. back ≡ owned) }
+        ensures called { Leads self.old (ended_call end owned flags (is_ok result) ∷ []) self.new }
+        ensures call { CallsHelpers (ended_call end owned flags (is_ok result)) self.old self.new }
+    {
+        let SeatRecord { ring, reservation } = owned;
+        let answer = self.try_settle(ring, reservation, end, flags);
+        let due = is_due(&answer);
+        match answer {
+            Ok(_) => {
+                self.log(note_of_end(end, flags, true), false, due);
+                Ok(())
+            }
+            Err(reservation) => {
+                self.log(note_of_end(end, flags, false), false, due);
+                Err(SeatRecord { ring, reservation })
+            }
+        }
+    }
+
+    #[inline(always)]
+    // Gives the reservation back at the ring's seat, without noting the call. One of no ring here is handed back.
+    fn try_settle(
+        &mut self,
+        ring: u32,
+        reservation: Reservation,
+        end: RecordEnd,
+        flags: u64,
+    ) -> Result<Notice, Reservation>
+        ensures rest { self.new ≡ record self.old { seats = self.new.seats } }
+        ensures seat { RecordAnswered ring (is_ok result) (due_in result) (SeatEnds end reservation flags (is_ok result) (due_in result)) self.old.seats self.new.seats }
+        ensures handed_back { IfErr result (λ back. back ≡ reservation) }
+    {
+        let at = ring as usize;
+        if at >= self.rings.len() {
+            return Err(reservation);
+        }
+        let shared = &self.rings[at];
+        settle_at(
+            self.rt,
+            shared,
+            &mut self.seats[at],
+            reservation,
+            end,
+            flags,
+        )
+    }
+}
