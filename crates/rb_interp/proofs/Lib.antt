@@ -18,3 +18,4 @@ mod Reaching
 mod RunSteps
 mod Advancing
 mod KeptRecords
+mod Serving

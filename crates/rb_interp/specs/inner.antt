@@ -10,3 +10,4 @@ pub mod NearOffsets
 pub mod PendingRequests
 pub mod RegisterValues
 pub mod KeptRecords
+pub mod Serving

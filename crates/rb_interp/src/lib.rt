@@ -56,6 +56,7 @@ mod program_run;
 mod records;
 mod registers;
 mod request;
+mod served;
 mod slot_table;
 mod stack;
 mod step;

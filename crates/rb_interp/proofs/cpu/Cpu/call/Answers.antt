@@ -14,8 +14,8 @@ give_back-owned-requires-in-Discard g c none =
     let small : IsSmall (call_of_helper (Some helper.Discard) s) = subst (λ h. IsSmall (call_of_helper (Some h) s)) c.in-Discard.is c.requires.small in
     subst IsSmall (same_giving Submit Discard (register s 1) (register s 2) s none) small
 
-pub returns-in-Submit : goal.returns-in-Submit
-returns-in-Submit g c =
+pub returns-in-Submit-clause-called : goal.returns-in-Submit-clause-called
+returns-in-Submit-clause-called g c =
     let B = g.R.Lent.bytes_of in
     let S = g.C.Context.shown in
     let s : State = state_of B S c.args.self.now in
@@ -23,8 +23,8 @@ returns-in-Submit g c =
     subst (λ o. IsCalled B S o c.args.self.now.memory.records (request.Submit c.give_back-owned.result.0 c.give_back-owned.result.1) c.give_back-owned.new.self)
     (sym (ap (λ k. call_of_helper (Some k) s) c.in-Submit.is ∙ h.3 Submit)) (refl, (h.0, h.1, refl), h.2)
 
-pub returns-in-Discard : goal.returns-in-Discard
-returns-in-Discard g c =
+pub returns-in-Discard-clause-called : goal.returns-in-Discard-clause-called
+returns-in-Discard-clause-called g c =
     let B = g.R.Lent.bytes_of in
     let S = g.C.Context.shown in
     let s : State = state_of B S c.args.self.now in
