@@ -9,13 +9,15 @@ ghost use Rattle.rb_run_commands.specs.Check.{Checks, PrintsCheck, RunsOnce};
 use crate::drain::drain_rings;
 use crate::fresh_rings::{Fresh, fresh_rings};
 use crate::run_lines::lines_of_run;
+use crossbeam_queue::ArrayQueue;
 use rb_history::Taken;
 use rb_io::write_whole;
-use rb_jobs::{Job, NoStock, OpenGate, run_job};
+use rb_jobs::{Job, OpenGate, run_job};
 use rb_json::LineForm;
 use rb_loader::{Bounds, ProgramFault, accept, read_all, text_of};
 use rb_shared_ring::{Seat, SharedRing};
 use rb_verifier::Verified;
+use rb_workers::used_sheets::UsedSheets;
 use std::alloc::{AllocError, Global};
 use std::io::{Read, Write};
 use std::sync::Wait;
@@ -82,7 +84,8 @@ pub fn check_text<T: Wait>(
     Ok(Checked { value, records })
 }
 
-// What a program ends with over a context of zeros, and the seats as the run left them.
+// What a program ends with over a context of zeros, and the seats as the run left them. Its stock is of the kind that the workers of `run` have, so that
+// `rbhost` has one copy of a run's loop for both, and a step stands in line there.
 fn run_once<T: Wait>(
     rt: &T,
     alloc: Global,
@@ -101,10 +104,13 @@ fn run_once<T: Wait>(
         program: verified,
         ctx: context.as_slice(),
     };
+    let sheets = ArrayQueue::new(alloc, 1)?;
+    let stock = UsedSheets {
+        rt,
+        sheets: &sheets,
+    };
     let mut calls = 0;
-    let (answer, seats) = run_job(
-        rt, alloc, rings, seats, &job, &OpenGate, &NoStock, &mut calls,
-    );
+    let (answer, seats) = run_job(rt, alloc, rings, seats, &job, &OpenGate, &stock, &mut calls);
     match answer?.result {
         Ok(value) => Ok((value, seats)),
         Err(_) => unreachable!(),
