@@ -31,6 +31,7 @@
 //! ```
 #![tactic(auto)]
 
+mod branch_operations;
 mod byte_numbers;
 mod context;
 mod cpu;

@@ -13,6 +13,7 @@
 
 mod arithmetic;
 mod arrivals;
+mod branch_forms;
 mod branches;
 mod calls;
 mod extents;
@@ -21,6 +22,7 @@ mod join_order;
 mod kept_pointers;
 mod limits;
 mod operation;
+mod operation_forms;
 mod places;
 mod reference_changes;
 mod references;

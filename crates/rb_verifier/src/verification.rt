@@ -5,7 +5,7 @@ ghost use Rattle.rb_verifier.specs.Annotation.{HasValid};
 ghost use Rattle.rb_verifier.specs.Refusals.{IsRightRefusal};
 
 use crate::Limits;
-use crate::operation::operations_of;
+use crate::operation_forms::operations_of;
 use crate::refusal::Refusal;
 use crate::sweep::annotate;
 use crate::verified::Verified;
