@@ -1,6 +1,7 @@
 //! What each kind of instruction does, but for the calls.
 
-ghost use Rattle.std.specs.Prelude.{◌≡◌, ◌≢◌, ◌<◌, ◌^◌, length};
+ghost use Rattle.std.specs.Prelude.{◌≡◌, ◌≢◌, ◌<◌, ◌^◌, None, length};
+ghost use Rattle.rb_interp.specs.inner.ExecutedInstruction.{IsBranchBy};
 ghost use Rattle.byteorder.specs.Endian.{little_number};
 ghost use Rattle.rb_insn.specs.ArithmeticAndJumps.{IsArithmetic, IsConditional};
 ghost use Rattle.rb_insn.specs.Sizes.{byte_count, signed_byte_count};
@@ -211,9 +212,11 @@ impl<C: Context, R: Lent> Cpu<C, R> {
         operand: Operand,
         a: Value,
         b: Value,
+        distance: i16,
     )
         requires unit { self.old.unit < 2 ^ 31 }
         requires conditional { IsConditional insn.now }
+        requires distance { IsBranchBy distance insn.now }
         requires meant { execute_compare insn.now (null_test width condition operand) a b (state_of R.bytes_of C.shown self.old) ≢ Stuck }
         ensures goes { execute_compare insn.now (null_test width condition operand) a b (state_of R.bytes_of C.shown self.old) ≡ Goes (state_of R.bytes_of C.shown self.new) }
         ensures memory { self.new.memory ≡ self.old.memory }
@@ -221,16 +224,42 @@ impl<C: Context, R: Lent> Cpu<C, R> {
         match (a, b) {
             (Value::Pointer(place, _), _) => match place {
                 MemoryRegion::Record(_) => match condition {
-                    Condition::Equal => self.along(insn, false),
-                    Condition::NotEqual => self.along(insn, true),
+                    Condition::Equal => self.along_branch(insn, false, distance),
+                    Condition::NotEqual => self.along_branch(insn, true, distance),
                     _ => unreachable!(),
                 },
                 MemoryRegion::Stack => unreachable!(),
                 MemoryRegion::Context => unreachable!(),
             },
-            (Value::Number(a), Value::Number(b)) => self.along(insn, jumps(insn, a, b)),
+            (Value::Number(a), Value::Number(b)) => self.along_branch(
+                insn,
+                jumps(insn, a, b),
+                distance,
+            ),
             _ => unreachable!(),
         }
+    }
+
+    /// A conditional jump on two numbers: the kinds of what the registers hold are not looked at. The caller names the distance, so that
+    /// it is not looked for in the instruction.
+    #[inline(always)]
+    pub(crate) fn execute_number_compare(
+        &mut self,
+        insn: &Insn,
+        dst: Reg,
+        operand: Operand,
+        distance: i16,
+    )
+        requires unit { self.old.unit < 2 ^ 31 }
+        requires conditional { IsConditional insn.now }
+        requires distance { IsBranchBy distance insn.now }
+        requires meant { let s = state_of R.bytes_of C.shown self.old in execute_compare insn.now None (register s dst.number) (operand_in s operand) s ≢ Stuck }
+        ensures goes { let s = state_of R.bytes_of C.shown self.old in execute_compare insn.now None (register s dst.number) (operand_in s operand) s ≡ Goes (state_of R.bytes_of C.shown self.new) }
+        ensures memory { self.new.memory ≡ self.old.memory }
+    {
+        let a = self.registers.number(dst);
+        let b = self.operand_number(operand);
+        self.along_branch(insn, jumps(insn, a, b), distance);
     }
 
     /// The result of the program.
