@@ -125,7 +125,8 @@ pub(crate) fn reserve_with<R: Wait>(
 }
 
 #[inline(always)]
-/// `HandState::settle`, of a reservation that is out in a hand of the worker whose pass it is. There is no refusal.
+/// `HandState::settle`, of a reservation that is out in a hand of the worker whose pass it is. There is no refusal. It lends
+/// the state itself: by `with_state` a submit and a discard would call one closure, which would stand in line in neither.
 pub(crate) fn settle_with<R: Wait>(
     rt: &R,
     lock: &Lock,
@@ -147,15 +148,12 @@ pub(crate) fn settle_with<R: Wait>(
     ensures hands { hands_by (view pass.new) ≡ slice_set (hands_by (view pass.old)) reservation.hand None }
     ensures holds { HoldsOwnBusy (hands_by (view pass.new)) worker (seen_with (view pass.new)).history }
 {
-    with_state(
-        rt,
-        lock,
-        pass,
-        |state|
-            requires out { HasInHand state.old reservation.hand reservation.granted }
-            ensures call { EndsOut end reservation flags result state.old state.new }
-        { state.settle(reservation, end, flags) },
-    )
+    let mut held = take_out(rt, lock, pass);
+    let state = held.as_mut();
+    let notice = state.settle(reservation, end, flags);
+    facts_of(state);
+    put_back(rt, lock, pass, held);
+    notice
 }
 
 /// `HandState::output`, for the worker whose pass it is. It needs no hand.
