@@ -72,6 +72,7 @@ impl SharedRing {
         self.tag
     }
 
+    #[inline(always)]
     /// Grants the seat's worker a record of `n` bytes into the seat's lowest free hand, in a sheet of as many, which become zeros. `Foreign` comes first,
     /// then `HandsFull`, where no hand is free; `Full` is logged, and raises the refused count; `ChapterFull`, where there is no room for the entries
     /// that it would log, changes nothing. A refusal hands the sheet back.
@@ -128,6 +129,7 @@ impl SharedRing {
             && reservation.is_in(&seat.hands)
     }
 
+    #[inline(always)]
     /// Hands the reservation's bytes to the consumer, and frees the seat's hand. The reservation is handed back, and nothing changes, exactly where the
     /// seat is foreign, the reservation's tag or worker is not the seat's, or the seat's hand of its number is not out with its position, serial
     /// and length. Of the flags only bits 0 and 1 are looked at.
