@@ -82,7 +82,9 @@ pub(crate) fn query_with<R: Wait>(
     )
 }
 
-/// `HandState::reserve`, into a free hand of the worker whose pass it is.
+#[inline(always)]
+/// `HandState::reserve`, into a free hand of the worker whose pass it is. It lends the state itself, so that it stands in line wherever a ring is
+/// called: a closure of several callers stands in line in none, and hands the record on through memory.
 pub(crate) fn reserve_with<R: Wait>(
     rt: &R,
     lock: &Lock,
@@ -108,25 +110,17 @@ pub(crate) fn reserve_with<R: Wait>(
     ensures hand { IfOk result (λ r. r.hand ≡ hand) }
     ensures handed_back { IfErr result (λ e. e.1 ≡ sheet) }
 {
-    with_state(
-        rt,
-        lock,
-        pass,
-        |state|
-            requires worker { worker < state.old.ring.chapter.opening.setup.workers }
-            requires hand { IsFree (hands_of state.old.hands worker) hand }
-            requires sized { length sheet ≡ n }
-            ensures call { ReservesToHand worker hand n result state.old state.new }
-            ensures tag { IfOk result (λ r. r.tag ≡ tag) }
-            ensures hand { IfOk result (λ r. r.hand ≡ hand) }
-            ensures handed_back { IfErr result (λ e. e.1 ≡ sheet) }
-        { state.reserve(tag, worker, hand, n, sheet) },
-    )
+    let mut held = take_out(rt, lock, pass);
+    let state = held.as_mut();
+    let answer = state.reserve(tag, worker, hand, n, sheet);
+    facts_of(state);
+    put_back(rt, lock, pass, held);
+    answer
 }
 
 #[inline(always)]
 /// `HandState::settle`, of a reservation that is out in a hand of the worker whose pass it is. There is no refusal. It lends
-/// the state itself: by `with_state` a submit and a discard would call one closure, which would stand in line in neither.
+/// the state itself, as `reserve_with` does.
 pub(crate) fn settle_with<R: Wait>(
     rt: &R,
     lock: &Lock,

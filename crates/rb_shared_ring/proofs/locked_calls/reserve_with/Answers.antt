@@ -1,37 +1,37 @@
-use Rattle.std.proofs.Common.{◌<◌, sym, subst}
-use Rattle.rb_chapter_ring.specs.Hands.{hands_of, IsFree}
-use Rattle.rb_chapter_ring.specs.HandRing.{HandRing}
+use Rattle.std.proofs.Common.{sym, subst, rules}
+use Rattle.crossbeam_queue.specs.Passes.{view}
+use Rattle.rb_ledger.specs.HandLockSteps.{TakesHandState}
 use Rattle.rb_shared_ring.specs.inner.HandCalls.{ReservesToHand}
-use Rattle.rb_shared_ring.proofs.HandPassing.{called-in-hands, worker-low, hand-free}
+use Rattle.rb_shared_ring.proofs.AnswersMeet.{meets-reserve}
+use Rattle.rb_shared_ring.proofs.HandPassing.{worker-low, hand-free}
 use Rattle.rb_shared_ring.proofs.SeatPassing.{put-reserve, reserved}
 use Rattle.rb_shared_ring.proofs.locked_calls.reserve_with.Goals as goal
 
-pub with_state-requires-clause-callable : goal.with_state-requires-clause-callable
-with_state-requires-clause-callable g c out old took p is = (
-  subst (λ (x : HandRing). c.args.worker < x.ring.chapter.opening.setup.workers) (sym is) (worker-low c.args.worker _ _ _ c.requires.idle took),
-  (
-    subst (λ (x : HandRing). IsFree (hands_of x.hands c.args.worker) c.args.hand) (sym is) (hand-free c.args.worker _ _ _ c.requires.idle took c.args.hand c.requires.hand),
-    c.requires.sized,
-  ),
-)
+pub reserve-answer-requires : goal.reserve-answer-requires
+reserve-answer-requires g c =
+    let took = subst (λ r. TakesHandState (view c.args.pass.now) r (view c.take_out-held.new.pass)) (sym c.as_mut-state.ensures.value) c.take_out-held.ensures.took in
+    record { worker = worker-low c.args.worker _ _ _ c.requires.idle took; hand = hand-free c.args.worker _ _ _ c.requires.idle took c.args.hand c.requires.hand; sized = c.requires.sized }
 
-pub with_state-requires-clause-step : goal.with_state-requires-clause-step
-with_state-requires-clause-step g c answer out old new took called kept =
-    put-reserve c.args.worker _ _ _ _ c.requires.idle took kept c.args.hand c.args.n answer (called-in-hands (ReservesToHand c.args.worker c.args.hand c.args.n answer) _ _ _ _ called.shows called.leaves called.met.0)
+pub put_back-requires-clause-step : goal.put_back-requires-clause-step
+put_back-requires-clause-step g c =
+    let took = subst (λ r. TakesHandState (view c.args.pass.now) r (view c.take_out-held.new.pass)) (sym c.as_mut-state.ensures.value) c.take_out-held.ensures.took in
+    let e = c.reserve-answer.ensures in
+    put-reserve c.args.worker _ _ _ _ c.requires.idle took c.facts_of.ensures.kept c.args.hand c.args.n c.reserve-answer.result (meets-reserve _ _ _ _ _ c.reserve-answer.result e.granted e.worker e.zeros e.refused e.known_flags e.same_hands)
 
 pub returns : goal.returns
 returns g c =
-    let l = c.with_state.ensures.lent in
-    let e = reserved c.args.worker _ _ _ _ c.requires.idle l.took l.kept _ l.put c.args.hand c.args.n c.with_state.result c.requires.hand (called-in-hands (ReservesToHand c.args.worker c.args.hand c.args.n c.with_state.result) _ _ _ _ l.called.shows l.called.leaves l.called.met.0) in
+    let took = subst (λ r. TakesHandState (view c.args.pass.now) r (view c.take_out-held.new.pass)) (sym c.as_mut-state.ensures.value) c.take_out-held.ensures.took in
+    let e = c.reserve-answer.ensures in
+    let told = reserved c.args.worker _ _ _ _ c.requires.idle took c.facts_of.ensures.kept _ c.put_back.ensures.put c.args.hand c.args.n c.reserve-answer.result c.requires.hand (meets-reserve _ _ _ _ _ c.reserve-answer.result e.granted e.worker e.zeros e.refused e.known_flags e.same_hands) in
     record {
-      same = c.with_state.ensures.same;
-      idle = e.idle;
-      call = e.call;
-      bytes = e.bytes;
-      room = e.room;
-      hands = e.hands_are;
-      holds = e.holds;
-      tag = l.called.met.1.0;
-      hand = l.called.met.1.1.0;
-      handed_back = l.called.met.1.1.1;
+      same = search rules;
+      idle = told.idle;
+      call = told.call;
+      bytes = told.bytes;
+      room = told.room;
+      hands = told.hands_are;
+      holds = told.holds;
+      tag = e.tag;
+      hand = e.hand;
+      handed_back = e.handed_back;
     }
