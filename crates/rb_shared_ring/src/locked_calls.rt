@@ -9,11 +9,10 @@ ghost use Rattle.rb_ledger.specs.LockedChapterCalls.{LockedChapterCall};
 ghost use Rattle.rb_ledger.specs.inner.ChapterAnswers.{QueriesInChapter};
 ghost use Rattle.rb_ledger.specs.inner.ChapterRooms.{InRoomAt};
 ghost use Rattle.rb_ledger.specs.inner.RecordEnds.{EndsInChapter, sent_by_end};
-ghost use Rattle.rb_chapter_ring.specs.Hands.{out_record, in_hand, hands_of, IsFree};
-ghost use Rattle.rb_chapter_ring.specs.HandRing.{HasInHand};
+ghost use Rattle.rb_chapter_ring.specs.Hands.{out_record, in_hand, IsFree};
 ghost use Rattle.rb_ledger.specs.NoStranger.{HoldsOwnBusy};
 ghost use Rattle.rb_shared_ring.specs.inner.HandPasses.{seen_with, bytes_with, room_with, hands_by, cut_by, IsIdleWith};
-ghost use Rattle.rb_shared_ring.specs.inner.HandCalls.{ReservesToHand, EndsOut, LeavesHands};
+ghost use Rattle.rb_shared_ring.specs.inner.HandCalls.{LeavesHands};
 ghost use Rattle.rb_shared_ring.specs.inner.LentState.{IsKeptHandRing, MayLend, MayCall, LendsState};
 ghost use Rattle.rb_shared_ring.specs.SharedCalls.{granted_in, hands_reserved, sent_by_output_in_room};
 ghost use Rattle.rb_shared_ring.specs.inner.ChapterAnswers.{ReservesInChapter, OutputsInChapter};
@@ -150,7 +149,8 @@ pub(crate) fn settle_with<R: Wait>(
     notice
 }
 
-/// `HandState::output`, for the worker whose pass it is. It needs no hand.
+#[inline(always)]
+/// `HandState::output`, for the worker whose pass it is. It needs no hand. It lends the state itself, as `reserve_with` does.
 pub(crate) fn output_with<R: Wait>(
     rt: &R,
     lock: &Lock,
@@ -169,14 +169,10 @@ pub(crate) fn output_with<R: Wait>(
     ensures holds { HoldsOwnBusy (hands_by (view pass.new)) worker (seen_with (view pass.new)).history }
     ensures handed_back { IfErr result (λ e. e.1 ≡ sheet) }
 {
-    with_state(
-        rt,
-        lock,
-        pass,
-        |state|
-            requires worker { worker < state.old.ring.chapter.opening.setup.workers }
-            ensures call { LeavesHands (OutputsInChapter worker sheet flags result) state.old state.new }
-            ensures handed_back { IfErr result (λ e. e.1 ≡ sheet) }
-        { state.output(worker, sheet, flags) },
-    )
+    let mut held = take_out(rt, lock, pass);
+    let state = held.as_mut();
+    let answer = state.output(worker, sheet, flags);
+    facts_of(state);
+    put_back(rt, lock, pass, held);
+    answer
 }

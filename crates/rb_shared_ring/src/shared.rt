@@ -212,6 +212,7 @@ impl SharedRing {
         Ok(notice)
     }
 
+    #[inline(always)]
     /// Grants the seat's worker a record and submits it at once, with the sheet's bytes. `Foreign` comes first, then `Flags` for flags
     /// above 3, which logs nothing; else it refuses as `reserve` does, but it needs no hand. A refusal hands the sheet back.
     pub fn output<R: Wait>(

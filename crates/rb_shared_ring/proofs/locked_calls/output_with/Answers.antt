@@ -1,29 +1,33 @@
-use Rattle.std.proofs.Common.{◌<◌, sym, subst}
-use Rattle.rb_chapter_ring.specs.HandRing.{HandRing}
-use Rattle.rb_shared_ring.specs.inner.ChapterAnswers.{OutputsInChapter}
-use Rattle.rb_shared_ring.specs.inner.HandCalls.{LeavesHands}
-use Rattle.rb_shared_ring.proofs.HandPassing.{called-in-hands, worker-low}
+use Rattle.std.proofs.Common.{sym, subst, rules}
+use Rattle.crossbeam_queue.specs.Passes.{view}
+use Rattle.rb_ledger.specs.HandLockSteps.{TakesHandState}
+use Rattle.rb_shared_ring.proofs.AnswersMeet.{meets-output}
+use Rattle.rb_shared_ring.proofs.HandPassing.{worker-low}
 use Rattle.rb_shared_ring.proofs.SeatPassing.{put-out, output}
 use Rattle.rb_shared_ring.proofs.locked_calls.output_with.Goals as goal
 
-pub with_state-requires-clause-callable : goal.with_state-requires-clause-callable
-with_state-requires-clause-callable g c out old took p is =
-    subst (λ (x : HandRing). c.args.worker < x.ring.chapter.opening.setup.workers) (sym is) (worker-low c.args.worker _ _ _ c.requires.idle took)
+pub output-answer-requires : goal.output-answer-requires
+output-answer-requires g c =
+    let took = subst (λ r. TakesHandState (view c.args.pass.now) r (view c.take_out-held.new.pass)) (sym c.as_mut-state.ensures.value) c.take_out-held.ensures.took in
+    record { worker = worker-low c.args.worker _ _ _ c.requires.idle took }
 
-pub with_state-requires-clause-step : goal.with_state-requires-clause-step
-with_state-requires-clause-step g c answer out old new took called kept =
-    put-out c.args.worker _ _ _ _ c.requires.idle took kept c.args.sheet c.args.flags answer (called-in-hands (LeavesHands (OutputsInChapter c.args.worker c.args.sheet c.args.flags answer)) _ _ _ _ called.shows called.leaves called.met.0)
+pub put_back-requires-clause-step : goal.put_back-requires-clause-step
+put_back-requires-clause-step g c =
+    let took = subst (λ r. TakesHandState (view c.args.pass.now) r (view c.take_out-held.new.pass)) (sym c.as_mut-state.ensures.value) c.take_out-held.ensures.took in
+    let e = c.output-answer.ensures in
+    put-out c.args.worker _ _ _ _ c.requires.idle took c.facts_of.ensures.kept c.args.sheet c.args.flags c.output-answer.result (meets-output _ _ _ _ _ c.output-answer.result e.granted e.notice e.known_flags e.flags e.refused, e.same_hands)
 
 pub returns : goal.returns
 returns g c =
-    let l = c.with_state.ensures.lent in
-    let e = output c.args.worker _ _ _ _ c.requires.idle l.took l.kept _ l.put c.args.sheet c.args.flags c.with_state.result (called-in-hands (LeavesHands (OutputsInChapter c.args.worker c.args.sheet c.args.flags c.with_state.result)) _ _ _ _ l.called.shows l.called.leaves l.called.met.0) in
+    let took = subst (λ r. TakesHandState (view c.args.pass.now) r (view c.take_out-held.new.pass)) (sym c.as_mut-state.ensures.value) c.take_out-held.ensures.took in
+    let e = c.output-answer.ensures in
+    let told = output c.args.worker _ _ _ _ c.requires.idle took c.facts_of.ensures.kept _ c.put_back.ensures.put c.args.sheet c.args.flags c.output-answer.result (meets-output _ _ _ _ _ c.output-answer.result e.granted e.notice e.known_flags e.flags e.refused, e.same_hands) in
     record {
-      same = c.with_state.ensures.same;
-      idle = e.idle;
-      call = e.call;
-      room = e.room;
-      hands = e.hands_are;
-      holds = e.holds;
-      handed_back = l.called.met.1;
+      same = search rules;
+      idle = told.idle;
+      call = told.call;
+      room = told.room;
+      hands = told.hands_are;
+      holds = told.holds;
+      handed_back = e.handed_back;
     }

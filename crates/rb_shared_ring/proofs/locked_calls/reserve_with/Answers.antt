@@ -1,7 +1,6 @@
 use Rattle.std.proofs.Common.{sym, subst, rules}
 use Rattle.crossbeam_queue.specs.Passes.{view}
 use Rattle.rb_ledger.specs.HandLockSteps.{TakesHandState}
-use Rattle.rb_shared_ring.specs.inner.HandCalls.{ReservesToHand}
 use Rattle.rb_shared_ring.proofs.AnswersMeet.{meets-reserve}
 use Rattle.rb_shared_ring.proofs.HandPassing.{worker-low, hand-free}
 use Rattle.rb_shared_ring.proofs.SeatPassing.{put-reserve, reserved}
