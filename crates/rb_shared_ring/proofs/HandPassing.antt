@@ -36,6 +36,10 @@ use Rattle.rb_shared_ring.proofs.WorkerPassing.{LeavesWorker}
 pub called-in-hands : (Call : HandRing → HandRing → Type 0) (shown old left new : HandRing) → shown ≡ old → left ≡ new → Call shown left → Call old new
 called-in-hands Call shown old left new is_old is_new call = subst (λ r. Call r new) is_old (subst (Call shown) is_new call)
 
+-- the state that was taken out is the one that a call is lent
+pub took-lent : (v : HandPassView) (lent held : HandRing) (out : HandPassView) → lent ≡ held → TakesHandState v held out → TakesHandState v lent out
+took-lent v lent held out is took = subst (λ r. TakesHandState v r out) (sym is) took
+
 -- ---- a pass of any role
 
 module _ (role : Role) (v : HandPassView) (r : HandRing) (out : HandPassView) (idle : IsIdleWith role v) (took : TakesHandState v r out) where

@@ -1,25 +1,23 @@
-use Rattle.std.proofs.Common.{sym, subst, rules}
-use Rattle.crossbeam_queue.specs.Passes.{view}
-use Rattle.rb_ledger.specs.HandLockSteps.{TakesHandState}
+use Rattle.std.proofs.Common.{rules}
 use Rattle.rb_shared_ring.proofs.AnswersMeet.{meets-reserve}
-use Rattle.rb_shared_ring.proofs.HandPassing.{worker-low, hand-free}
+use Rattle.rb_shared_ring.proofs.HandPassing.{worker-low, hand-free, took-lent}
 use Rattle.rb_shared_ring.proofs.SeatPassing.{put-reserve, reserved}
 use Rattle.rb_shared_ring.proofs.locked_calls.reserve_with.Goals as goal
 
 pub reserve-answer-requires : goal.reserve-answer-requires
 reserve-answer-requires g c =
-    let took = subst (λ r. TakesHandState (view c.args.pass.now) r (view c.take_out-held.new.pass)) (sym c.as_mut-state.ensures.value) c.take_out-held.ensures.took in
+    let took = took-lent _ _ _ _ c.as_mut-state.ensures.value c.take_out-held.ensures.took in
     record { worker = worker-low c.args.worker _ _ _ c.requires.idle took; hand = hand-free c.args.worker _ _ _ c.requires.idle took c.args.hand c.requires.hand; sized = c.requires.sized }
 
 pub put_back-requires-clause-step : goal.put_back-requires-clause-step
 put_back-requires-clause-step g c =
-    let took = subst (λ r. TakesHandState (view c.args.pass.now) r (view c.take_out-held.new.pass)) (sym c.as_mut-state.ensures.value) c.take_out-held.ensures.took in
+    let took = took-lent _ _ _ _ c.as_mut-state.ensures.value c.take_out-held.ensures.took in
     let e = c.reserve-answer.ensures in
     put-reserve c.args.worker _ _ _ _ c.requires.idle took c.facts_of.ensures.kept c.args.hand c.args.n c.reserve-answer.result (meets-reserve _ _ _ _ _ c.reserve-answer.result e.granted e.worker e.zeros e.refused e.known_flags e.same_hands)
 
 pub returns : goal.returns
 returns g c =
-    let took = subst (λ r. TakesHandState (view c.args.pass.now) r (view c.take_out-held.new.pass)) (sym c.as_mut-state.ensures.value) c.take_out-held.ensures.took in
+    let took = took-lent _ _ _ _ c.as_mut-state.ensures.value c.take_out-held.ensures.took in
     let e = c.reserve-answer.ensures in
     let told = reserved c.args.worker _ _ _ _ c.requires.idle took c.facts_of.ensures.kept _ c.put_back.ensures.put c.args.hand c.args.n c.reserve-answer.result c.requires.hand (meets-reserve _ _ _ _ _ c.reserve-answer.result e.granted e.worker e.zeros e.refused e.known_flags e.same_hands) in
     record {
