@@ -124,7 +124,7 @@ pub(crate) fn consume<R: Wait, S: Sink, K: Stock>(
     ensures returned { Consumed S.position_of S.takes task.old task.new }
 {
     let numbers = task.consumer.ring();
-    let mut pace = Pace::new(numbers.size);
+    let mut pace = Pace::new(numbers.size, numbers.room);
     for _ in rt.forever() {
         let over = ended.load(Ordering::SeqCst);
         let looks = pace.is_look_due(numbers.room);

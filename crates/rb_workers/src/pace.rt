@@ -4,10 +4,13 @@ use rb_shared_ring::WaitBackoff;
 use std::sync::atomic::{AtomicBool, Ordering};
 
 /// How many records a consumer takes at most under one holding of its ring's lock.
-pub(crate) const BATCH: usize = 128;
+pub(crate) const BATCH: usize = 512;
 
 // A batch of so many records has many of them.
 const MANY: usize = BATCH / 2;
+
+// Where a chapter has little room, as many records are many as this part of it: with their three entries each they fill a quarter.
+const PART_OF_CHAPTER: usize = 12;
 
 // A batch has many bytes where it has this part of the ring's.
 const PART_OF_RING: u64 = 4;
@@ -25,6 +28,8 @@ const PART_OF_ROOM: usize = 32;
 /// than the consumer holds it. So the consumer comes seldom, but before much has gathered.
 #[derive(Clone, Copy)]
 pub(crate) struct Pace {
+    // How many records are many.
+    many: usize,
     // How many bytes of the ring are many.
     many_bytes: u64,
     // How often it looks before it comes again.
@@ -36,9 +41,10 @@ pub(crate) struct Pace {
 }
 
 impl Pace {
-    /// The pace of the consumer of a ring of so many bytes that has not come yet: its keeper is to look first.
-    pub(crate) fn new(size: u64) -> Pace {
+    /// The pace of the consumer of a ring of so many bytes, whose chapters have so much room, that has not come yet: its keeper is to look first.
+    pub(crate) fn new(size: u64, room: u32) -> Pace {
         Pace {
+            many: MANY.min(room as usize / PART_OF_CHAPTER),
             many_bytes: size / PART_OF_RING,
             pause: SHORTEST,
             backoff: WaitBackoff::new(),
@@ -63,7 +69,7 @@ impl Pace {
         let before = if looked { 0 } else { self.unlooked };
         self.unlooked = before.saturating_add(count);
         self.backoff = WaitBackoff::new();
-        self.pause = pause_after(self.pause, count >= MANY || bytes >= self.many_bytes);
+        self.pause = pause_after(self.pause, count >= self.many || bytes >= self.many_bytes);
         if count < BATCH {
             watch(ended, self.pause);
         }

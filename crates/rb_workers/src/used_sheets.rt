@@ -2,13 +2,14 @@
 
 ghost use Rattle.std.specs.Prelude.{◌≡◌, IfSome};
 
+use crate::pace::BATCH;
 use crossbeam_queue::ArrayQueue;
 use rb_jobs::{SHORT, Stock};
 use rb_lend::Sheet;
 use std::sync::Wait;
 
-/// How many used sheets wait at most.
-pub const PLACES: usize = 64;
+/// How many used sheets wait at most: all those of a whole batch.
+pub const PLACES: usize = BATCH;
 
 /// The sheets of taken records, until a worker needs one. One that finds no place is handed back, and so is a short one, which is not
 /// worth a place.

@@ -23,10 +23,10 @@ fn sheet<A: Abort>(rt: &A, alloc: Global, n: u32) -> Sheet {
     Sheet::new(alloc, n).expect(rt, "memory")
 }
 
-// How many of 65 sheets of 24 bytes a stock keeps.
+// How many of 513 sheets of 24 bytes a stock keeps.
 fn count_kept(rt: &impl Abort, alloc: Global, stock: &impl Stock) -> u32 {
     let mut kept = 0u32;
-    for _ in 0..65 {
+    for _ in 0..513 {
         if stock.put(sheet(rt, alloc, 24)).is_none() {
             kept = kept.saturating_add(1);
         }
@@ -34,10 +34,10 @@ fn count_kept(rt: &impl Abort, alloc: Global, stock: &impl Stock) -> u32 {
     kept
 }
 
-// How often of 65 times a stock has a sheet.
+// How often of 513 times a stock has a sheet.
 fn count_had(stock: &impl Stock) -> u32 {
     let mut had = 0u32;
-    for _ in 0..65 {
+    for _ in 0..513 {
         if stock.used().is_some() {
             had = had.saturating_add(1);
         }
@@ -54,7 +54,11 @@ fn as_many_sheets_wait_as_there_are_places(rt: HostRuntime) {
     };
     let short = len_of(stock.put(sheet(&rt, rt.alloc(), 16)));
     let kept = count_kept(&rt, rt.alloc(), &stock);
-    same(&rt, &(short, kept, count_had(&stock)), &(Some(16), 64, 64));
+    same(
+        &rt,
+        &(short, kept, count_had(&stock)),
+        &(Some(16), 512, 512),
+    );
 }
 
 // Two hundred jobs of one worker, which run the one program and the other in turn.
