@@ -1,6 +1,7 @@
-// DPDK's eBPF loader with its verifier, and its interpreter, over 4,000 arithmetic units (add, exclusive or, multiply, shift, add in turn) and an exit.
-// Usage: interpreter load | interpreter run
-// Prints a line for each of three rounds: the nanoseconds of 20 loads or of 250 runs, and 0.
+// DPDK's eBPF loader with its verifier, and its interpreter, over 4,000 units and an exit: of arithmetic (add, exclusive or, multiply, shift, add in turn)
+// or of memory (eight bytes are stored on the stack and loaded in turn).
+// Usage: interpreter load | interpreter run | interpreter memory
+// Prints a line for each of three rounds: the nanoseconds of 20 loads of the arithmetic, or of 250 runs of the arithmetic or of the memory, and 0.
 #include "rounds.h"
 #include <rte_bpf.h>
 #include <string.h>
@@ -11,7 +12,7 @@
 
 static struct ebpf_insn instructions[UNITS];
 
-static void write_program(void) {
+static void write_arithmetic(void) {
     static const unsigned char codes[5] = {0x0f, 0xa7, 0x27, 0x67, 0x07};
     instructions[0] = (struct ebpf_insn){.code = 0xb7, .dst_reg = 0, .imm = 7};
     instructions[1] = (struct ebpf_insn){.code = 0xb7, .dst_reg = 2, .imm = 12345};
@@ -21,6 +22,16 @@ static void write_program(void) {
         if (kind == 0) one.src_reg = 2;
         else one.imm = kind == 3 ? 3 : 0x1234567;
         instructions[unit] = one;
+    }
+    instructions[UNITS - 1] = (struct ebpf_insn){.code = 0x95};
+}
+
+static void write_memory(void) {
+    instructions[0] = (struct ebpf_insn){.code = 0xb7, .dst_reg = 0, .imm = 7};
+    for (int unit = 1; unit < UNITS - 1; unit++) {
+        struct ebpf_insn store = {.code = 0x7b, .dst_reg = 10, .src_reg = 0, .off = -8};
+        struct ebpf_insn load = {.code = 0x79, .dst_reg = 0, .src_reg = 10, .off = -8};
+        instructions[unit] = unit % 2 == 1 ? store : load;
     }
     instructions[UNITS - 1] = (struct ebpf_insn){.code = 0x95};
 }
@@ -49,7 +60,8 @@ static uint64_t runs(struct rte_bpf *program) {
 int main(int count, char **words) {
     if (count != 2) return 2;
     int loading = strcmp(words[1], "load") == 0;
-    write_program();
+    if (strcmp(words[1], "memory") == 0) write_memory();
+    else write_arithmetic();
     struct rte_bpf *program = load();
     if (!program) return 1;
     volatile uint64_t sum = 0; // so that no run is left out
