@@ -62,21 +62,21 @@ module _ (earlier : List Entry) (c : Chapter) (sheets : List (List ℕ)) (counts
       pub waiting-numbers : KeepsNumbers c took
       waiting-numbers = subst (KeepsOrdinals (closing_of c)) (take-closing earlier c (stored_of c sheets) counts g (front earlier c sheets counts g some) (behind earlier c sheets counts g some) (split-now earlier c sheets counts g some) waiting-free) (ordinals-take (closing_of c) some (ap (λ st. events_by st + skips_by st) waits))
 
-      module _ (k : ℕ) (slot : k ≡ taken_before (closing_of c) % length sheets) (few : length (stored_of c sheets) ≤ length sheets) where
-        stored : behind earlier c sheets counts g some ≡ stored_of took (set sheets k [])
-        stored = empty-stored earlier c sheets counts g some waiting-free k [] slot few
+      module _ (k : ℕ) (left : List ℕ) (slot : k ≡ taken_before (closing_of c) % length sheets) (few : length (stored_of c sheets) ≤ length sheets) where
+        stored : behind earlier c sheets counts g some ≡ stored_of took (set sheets k left)
+        stored = empty-stored earlier c sheets counts g some waiting-free k left slot few
 
-        pub waiting-keeps : IsRingOf earlier took (stored_of took (set sheets k [])) (counting_take true counts)
+        pub waiting-keeps : IsRingOf earlier took (stored_of took (set sheets k left)) (counting_take true counts)
         waiting-keeps =
             let kept = take-keeps earlier c (stored_of c sheets) counts g (front earlier c sheets counts g some) (behind earlier c sheets counts g some) (split-now earlier c sheets counts g some) waiting-free in
             subst (λ ss. IsRingOf earlier took ss (counting_take true counts)) stored
             (subst (λ a. IsRingOf earlier took (behind earlier c sheets counts g some) (counting_take (is_submitted_state a) counts)) waiting-state kept)
 
-        pub waiting-takes : TakesAs (ring_of c (stored_of c sheets)) (ring_of took (stored_of took (set sheets k []))) (Event x.pos x.worker x.serial (get_or sheets k []))
+        pub waiting-takes : TakesAs (ring_of c (stored_of c sheets)) (ring_of took (stored_of took (set sheets k left))) (Event x.pos x.worker x.serial (get_or sheets k []))
         waiting-takes =
             let t = front earlier c sheets counts g some in
             let done = takes-it earlier c (stored_of c sheets) counts g t (behind earlier c sheets counts g some) (split-now earlier c sheets counts g some) waiting-free in
-            subst (λ j. TakesAs (ring_of c (stored_of c sheets)) (ring_of took (stored_of took (set sheets k []))) (Event x.pos x.worker x.serial (get_or sheets j []))) (sym slot)
+            subst (λ j. TakesAs (ring_of c (stored_of c sheets)) (ring_of took (stored_of took (set sheets k left))) (Event x.pos x.worker x.serial (get_or sheets j []))) (sym slot)
             (subst (λ ss. TakesAs (ring_of c (stored_of c sheets)) (ring_of took ss) (Event x.pos x.worker x.serial bytes)) stored
             (subst (λ a. TakesAs (ring_of c (stored_of c sheets)) (ring_of took (behind earlier c sheets counts g some)) (taken_of t a)) waiting-state done))
 

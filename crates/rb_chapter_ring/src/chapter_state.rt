@@ -32,7 +32,6 @@ use rb_history::{
 use rb_lend::Sheet;
 use std::alloc::Global;
 use std::marker::Model;
-use std::mem;
 
 /// One ring of records, for one thread. Contracts see its chapter, the bytes of its waiting records, and what it shows.
 ///
@@ -43,7 +42,6 @@ use std::mem;
 pub(crate) struct ChapterState {
     chapter: Chapter,
     sheets: Vec<Sheet>,
-    alloc: Global,
     // The refusals, of which it counts as many as 64 bits hold, and the discards. The other counts follow from the chapter.
     refused: u64,
     discarded: u64,
@@ -94,7 +92,6 @@ impl ChapterState {
         Ok(ChapterState {
             chapter,
             sheets,
-            alloc,
             refused: 0,
             discarded: 0,
         })
@@ -262,8 +259,7 @@ impl ChapterState {
             UntakenStatus::Busy => Taken::BusyFront,
             UntakenStatus::Waiting => {
                 let slot = slot_in(self.sheets.len(), self.taken());
-                let empty = Sheet::empty(self.alloc);
-                let sheet = mem::replace(&mut self.sheets[slot], empty);
+                let sheet = self.sheets[slot].hand_out();
                 self.chapter.log_take();
                 Taken::Event(front.pos, front.worker, front.serial, sheet)
             }

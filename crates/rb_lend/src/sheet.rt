@@ -1,6 +1,6 @@
 //! The bytes of one record.
 
-ghost use Rattle.std.specs.Prelude.{◌≡◌, ◌<◌, ◌^◌, ℕ, List, [], IfOk, IfErr, replicate, length, vec_len, false};
+ghost use Rattle.std.specs.Prelude.{◌≡◌, ◌⊎◌, ◌<◌, ◌^◌, ℕ, List, [], IfOk, IfErr, replicate, length, vec_len, false};
 
 use crate::lent::Lent;
 use crate::short::{CAPACITY, Short};
@@ -126,6 +126,22 @@ impl Sheet {
             Bytes::OnHeap(heap) => heap.as_mut_slice().fill(0),
             Bytes::Zeros(_) => {}
         }
+    }
+
+    #[inline]
+    /// Hands the bytes out, in a sheet of their own. Bytes in place are copied and stay behind, which is faster than to clear them; a sheet on the
+    /// heap is left without bytes. In constant time, and without memory.
+    pub fn hand_out(&mut self) -> Sheet
+        ensures value { result ≡ self.old }
+        ensures left { (self.new ≡ self.old) ⊎ (self.new ≡ []) }
+    {
+        if let Bytes::InPlace(short) = &self.bytes {
+            return Sheet {
+                bytes: Bytes::InPlace(short.copied()),
+                alloc: self.alloc,
+            };
+        }
+        mem::replace(self, Sheet::empty(self.alloc))
     }
 
     #[inline]

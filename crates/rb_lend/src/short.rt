@@ -44,6 +44,19 @@ impl Short {
     }
 
     #[inline]
+    /// The same bytes once more. In constant time.
+    pub(crate) fn copied(&self) -> Short
+        ensures { result ≡ self.now }
+    {
+        Short {
+            block: Block {
+                bytes: self.block.bytes,
+            },
+            len: self.len,
+        }
+    }
+
+    #[inline]
     /// Makes each byte zero. In constant time.
     pub(crate) fn clear(&mut self)
         ensures { self.new ≡ replicate (length self.old) 0 }

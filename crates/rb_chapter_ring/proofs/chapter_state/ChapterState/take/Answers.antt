@@ -89,18 +89,16 @@ invariant_of-self c =
     let many = c.len.ensures ∙ a.sheets.ok.0 in
     let few = slots-enough i.earlier a.chapter a.sheets.items i.counts i.ring i.slots in
     let slot : c.slot_in-slot.result ≡ taken_before (closing_of a.chapter) % length a.sheets.items = c.slot_in-slot.ensures.value ∙ (λ j. taken j % many j) in
-    let empty = c.replace-sheet.ensures.after ∙ c.empty-empty.ensures.empty in
     let logged = c.log_take.ensures.logged in
-    let after = set a.sheets.items c.slot_in-slot.result c.replace-sheet.new.dest in
-    let long : length after ≡ length a.sheets.items = length-set a.sheets.items c.slot_in-slot.result c.replace-sheet.new.dest in
-    let kept = waiting-keeps i.earlier a.chapter a.sheets.items i.counts i.ring some status c.slot_in-slot.result slot few in
+    let after = set a.sheets.items c.slot_in-slot.result c.hand_out-sheet.new.self in
+    let long : length after ≡ length a.sheets.items = length-set a.sheets.items c.slot_in-slot.result c.hand_out-sheet.new.self in
+    let kept = waiting-keeps i.earlier a.chapter a.sheets.items i.counts i.ring some status c.slot_in-slot.result c.hand_out-sheet.new.self slot few in
     record {
       earlier = i.earlier;
       counts = counting_take true i.counts;
       refused_is = i.refused_is;
       discarded_is = i.discarded_is;
-      ring = subst (λ d. IsRingOf i.earlier d (stored_of d after) (counting_take true i.counts)) (sym logged)
-          (subst (λ e. IsRingOf i.earlier (took i.earlier a.chapter a.sheets.items i.counts i.ring) (stored_of (took i.earlier a.chapter a.sheets.items i.counts i.ring) (set a.sheets.items c.slot_in-slot.result e)) (counting_take true i.counts)) (sym empty) kept);
+      ring = subst (λ d. IsRingOf i.earlier d (stored_of d after) (counting_take true i.counts)) (sym logged) kept;
       power = subst IsPowerOfTwo (sym long) i.power;
       slots = subst (λ (d : Chapter). (n : ℕ) → n ≤ d.opening.setup.size / 8 → n ≤ d.room → n ≤ length after) (sym logged) (λ n within room. subst (λ x. n ≤ x) (sym long) (i.slots n within room));
     }
@@ -118,17 +116,15 @@ returns-in-Waiting-clause-takes c =
     let many = c.len.ensures ∙ a.sheets.ok.0 in
     let few = slots-enough i.earlier a.chapter a.sheets.items i.counts i.ring i.slots in
     let slot : c.slot_in-slot.result ≡ taken_before (closing_of a.chapter) % length a.sheets.items = c.slot_in-slot.ensures.value ∙ (λ j. taken j % many j) in
-    let empty = c.replace-sheet.ensures.after ∙ c.empty-empty.ensures.empty in
     let logged = c.log_take.ensures.logged in
     let low : c.slot_in-slot.result < length a.sheets.items = omega (arith, c.slot_in-slot.ensures.within, many) in
-    let bytes : get_or a.sheets.items c.slot_in-slot.result [] ≡ c.replace-sheet.result = sym (c.replace-sheet.ensures.value ∙ c.index_mut.ensures.value ∙ get_or-default a.sheets.items c.slot_in-slot.result c.index_mut.result.now [] low) in
-    let after = set a.sheets.items c.slot_in-slot.result c.replace-sheet.new.dest in
-    let done = waiting-takes i.earlier a.chapter a.sheets.items i.counts i.ring some status c.slot_in-slot.result slot few in
-    let event : Event c.in-Some.front.pos c.in-Some.front.worker c.in-Some.front.serial c.replace-sheet.result ≡ Event (record_in (closing_of a.chapter) 0).pos (record_in (closing_of a.chapter) 0).worker (record_in (closing_of a.chapter) 0).serial (get_or a.sheets.items c.slot_in-slot.result []) = λ j. Event (shown j).pos (shown j).worker (shown j).serial (sym bytes j) in
-    (subst (λ v. TakesAs v (ring_of c.log_take.new.self (stored_of c.log_take.new.self after)) (Event c.in-Some.front.pos c.in-Some.front.worker c.in-Some.front.serial c.replace-sheet.result)) c.self.view_is
-    (subst (λ d. TakesAs (ring_of a.chapter (stored_of a.chapter a.sheets.items)) (ring_of d (stored_of d after)) (Event c.in-Some.front.pos c.in-Some.front.worker c.in-Some.front.serial c.replace-sheet.result)) (sym logged)
-    (subst (λ e. TakesAs (ring_of a.chapter (stored_of a.chapter a.sheets.items)) (ring_of (took i.earlier a.chapter a.sheets.items i.counts i.ring) (stored_of (took i.earlier a.chapter a.sheets.items i.counts i.ring) (set a.sheets.items c.slot_in-slot.result e))) (Event c.in-Some.front.pos c.in-Some.front.worker c.in-Some.front.serial c.replace-sheet.result)) (sym empty)
-    (subst (λ t. TakesAs (ring_of a.chapter (stored_of a.chapter a.sheets.items)) (ring_of (took i.earlier a.chapter a.sheets.items i.counts i.ring) (stored_of (took i.earlier a.chapter a.sheets.items i.counts i.ring) (set a.sheets.items c.slot_in-slot.result []))) t) (sym event) done)))).takes
+    let bytes : get_or a.sheets.items c.slot_in-slot.result [] ≡ c.hand_out-sheet.result = sym (c.hand_out-sheet.ensures.value ∙ c.index_mut.ensures.value ∙ get_or-default a.sheets.items c.slot_in-slot.result c.index_mut.result.now [] low) in
+    let after = set a.sheets.items c.slot_in-slot.result c.hand_out-sheet.new.self in
+    let done = waiting-takes i.earlier a.chapter a.sheets.items i.counts i.ring some status c.slot_in-slot.result c.hand_out-sheet.new.self slot few in
+    let event : Event c.in-Some.front.pos c.in-Some.front.worker c.in-Some.front.serial c.hand_out-sheet.result ≡ Event (record_in (closing_of a.chapter) 0).pos (record_in (closing_of a.chapter) 0).worker (record_in (closing_of a.chapter) 0).serial (get_or a.sheets.items c.slot_in-slot.result []) = λ j. Event (shown j).pos (shown j).worker (shown j).serial (sym bytes j) in
+    (subst (λ v. TakesAs v (ring_of c.log_take.new.self (stored_of c.log_take.new.self after)) (Event c.in-Some.front.pos c.in-Some.front.worker c.in-Some.front.serial c.hand_out-sheet.result)) c.self.view_is
+    (subst (λ d. TakesAs (ring_of a.chapter (stored_of a.chapter a.sheets.items)) (ring_of d (stored_of d after)) (Event c.in-Some.front.pos c.in-Some.front.worker c.in-Some.front.serial c.hand_out-sheet.result)) (sym logged)
+    (subst (λ t. TakesAs (ring_of a.chapter (stored_of a.chapter a.sheets.items)) (ring_of (took i.earlier a.chapter a.sheets.items i.counts i.ring) (stored_of (took i.earlier a.chapter a.sheets.items i.counts i.ring) after)) t) (sym event) done))).takes
 
 pub returns-in-Waiting-clause-busy_front : goal.returns-in-Waiting-clause-busy_front
 returns-in-Waiting-clause-busy_front c =
@@ -143,17 +139,15 @@ returns-in-Waiting-clause-busy_front c =
     let many = c.len.ensures ∙ a.sheets.ok.0 in
     let few = slots-enough i.earlier a.chapter a.sheets.items i.counts i.ring i.slots in
     let slot : c.slot_in-slot.result ≡ taken_before (closing_of a.chapter) % length a.sheets.items = c.slot_in-slot.ensures.value ∙ (λ j. taken j % many j) in
-    let empty = c.replace-sheet.ensures.after ∙ c.empty-empty.ensures.empty in
     let logged = c.log_take.ensures.logged in
     let low : c.slot_in-slot.result < length a.sheets.items = omega (arith, c.slot_in-slot.ensures.within, many) in
-    let bytes : get_or a.sheets.items c.slot_in-slot.result [] ≡ c.replace-sheet.result = sym (c.replace-sheet.ensures.value ∙ c.index_mut.ensures.value ∙ get_or-default a.sheets.items c.slot_in-slot.result c.index_mut.result.now [] low) in
-    let after = set a.sheets.items c.slot_in-slot.result c.replace-sheet.new.dest in
-    let done = waiting-takes i.earlier a.chapter a.sheets.items i.counts i.ring some status c.slot_in-slot.result slot few in
-    let event : Event c.in-Some.front.pos c.in-Some.front.worker c.in-Some.front.serial c.replace-sheet.result ≡ Event (record_in (closing_of a.chapter) 0).pos (record_in (closing_of a.chapter) 0).worker (record_in (closing_of a.chapter) 0).serial (get_or a.sheets.items c.slot_in-slot.result []) = λ j. Event (shown j).pos (shown j).worker (shown j).serial (sym bytes j) in
-    (subst (λ v. TakesAs v (ring_of c.log_take.new.self (stored_of c.log_take.new.self after)) (Event c.in-Some.front.pos c.in-Some.front.worker c.in-Some.front.serial c.replace-sheet.result)) c.self.view_is
-    (subst (λ d. TakesAs (ring_of a.chapter (stored_of a.chapter a.sheets.items)) (ring_of d (stored_of d after)) (Event c.in-Some.front.pos c.in-Some.front.worker c.in-Some.front.serial c.replace-sheet.result)) (sym logged)
-    (subst (λ e. TakesAs (ring_of a.chapter (stored_of a.chapter a.sheets.items)) (ring_of (took i.earlier a.chapter a.sheets.items i.counts i.ring) (stored_of (took i.earlier a.chapter a.sheets.items i.counts i.ring) (set a.sheets.items c.slot_in-slot.result e))) (Event c.in-Some.front.pos c.in-Some.front.worker c.in-Some.front.serial c.replace-sheet.result)) (sym empty)
-    (subst (λ t. TakesAs (ring_of a.chapter (stored_of a.chapter a.sheets.items)) (ring_of (took i.earlier a.chapter a.sheets.items i.counts i.ring) (stored_of (took i.earlier a.chapter a.sheets.items i.counts i.ring) (set a.sheets.items c.slot_in-slot.result []))) t) (sym event) done)))).busy_front
+    let bytes : get_or a.sheets.items c.slot_in-slot.result [] ≡ c.hand_out-sheet.result = sym (c.hand_out-sheet.ensures.value ∙ c.index_mut.ensures.value ∙ get_or-default a.sheets.items c.slot_in-slot.result c.index_mut.result.now [] low) in
+    let after = set a.sheets.items c.slot_in-slot.result c.hand_out-sheet.new.self in
+    let done = waiting-takes i.earlier a.chapter a.sheets.items i.counts i.ring some status c.slot_in-slot.result c.hand_out-sheet.new.self slot few in
+    let event : Event c.in-Some.front.pos c.in-Some.front.worker c.in-Some.front.serial c.hand_out-sheet.result ≡ Event (record_in (closing_of a.chapter) 0).pos (record_in (closing_of a.chapter) 0).worker (record_in (closing_of a.chapter) 0).serial (get_or a.sheets.items c.slot_in-slot.result []) = λ j. Event (shown j).pos (shown j).worker (shown j).serial (sym bytes j) in
+    (subst (λ v. TakesAs v (ring_of c.log_take.new.self (stored_of c.log_take.new.self after)) (Event c.in-Some.front.pos c.in-Some.front.worker c.in-Some.front.serial c.hand_out-sheet.result)) c.self.view_is
+    (subst (λ d. TakesAs (ring_of a.chapter (stored_of a.chapter a.sheets.items)) (ring_of d (stored_of d after)) (Event c.in-Some.front.pos c.in-Some.front.worker c.in-Some.front.serial c.hand_out-sheet.result)) (sym logged)
+    (subst (λ t. TakesAs (ring_of a.chapter (stored_of a.chapter a.sheets.items)) (ring_of (took i.earlier a.chapter a.sheets.items i.counts i.ring) (stored_of (took i.earlier a.chapter a.sheets.items i.counts i.ring) after)) t) (sym event) done))).busy_front
 
 pub returns-in-Waiting-clause-empty : goal.returns-in-Waiting-clause-empty
 returns-in-Waiting-clause-empty c =
@@ -168,17 +162,15 @@ returns-in-Waiting-clause-empty c =
     let many = c.len.ensures ∙ a.sheets.ok.0 in
     let few = slots-enough i.earlier a.chapter a.sheets.items i.counts i.ring i.slots in
     let slot : c.slot_in-slot.result ≡ taken_before (closing_of a.chapter) % length a.sheets.items = c.slot_in-slot.ensures.value ∙ (λ j. taken j % many j) in
-    let empty = c.replace-sheet.ensures.after ∙ c.empty-empty.ensures.empty in
     let logged = c.log_take.ensures.logged in
     let low : c.slot_in-slot.result < length a.sheets.items = omega (arith, c.slot_in-slot.ensures.within, many) in
-    let bytes : get_or a.sheets.items c.slot_in-slot.result [] ≡ c.replace-sheet.result = sym (c.replace-sheet.ensures.value ∙ c.index_mut.ensures.value ∙ get_or-default a.sheets.items c.slot_in-slot.result c.index_mut.result.now [] low) in
-    let after = set a.sheets.items c.slot_in-slot.result c.replace-sheet.new.dest in
-    let done = waiting-takes i.earlier a.chapter a.sheets.items i.counts i.ring some status c.slot_in-slot.result slot few in
-    let event : Event c.in-Some.front.pos c.in-Some.front.worker c.in-Some.front.serial c.replace-sheet.result ≡ Event (record_in (closing_of a.chapter) 0).pos (record_in (closing_of a.chapter) 0).worker (record_in (closing_of a.chapter) 0).serial (get_or a.sheets.items c.slot_in-slot.result []) = λ j. Event (shown j).pos (shown j).worker (shown j).serial (sym bytes j) in
-    (subst (λ v. TakesAs v (ring_of c.log_take.new.self (stored_of c.log_take.new.self after)) (Event c.in-Some.front.pos c.in-Some.front.worker c.in-Some.front.serial c.replace-sheet.result)) c.self.view_is
-    (subst (λ d. TakesAs (ring_of a.chapter (stored_of a.chapter a.sheets.items)) (ring_of d (stored_of d after)) (Event c.in-Some.front.pos c.in-Some.front.worker c.in-Some.front.serial c.replace-sheet.result)) (sym logged)
-    (subst (λ e. TakesAs (ring_of a.chapter (stored_of a.chapter a.sheets.items)) (ring_of (took i.earlier a.chapter a.sheets.items i.counts i.ring) (stored_of (took i.earlier a.chapter a.sheets.items i.counts i.ring) (set a.sheets.items c.slot_in-slot.result e))) (Event c.in-Some.front.pos c.in-Some.front.worker c.in-Some.front.serial c.replace-sheet.result)) (sym empty)
-    (subst (λ t. TakesAs (ring_of a.chapter (stored_of a.chapter a.sheets.items)) (ring_of (took i.earlier a.chapter a.sheets.items i.counts i.ring) (stored_of (took i.earlier a.chapter a.sheets.items i.counts i.ring) (set a.sheets.items c.slot_in-slot.result []))) t) (sym event) done)))).empty
+    let bytes : get_or a.sheets.items c.slot_in-slot.result [] ≡ c.hand_out-sheet.result = sym (c.hand_out-sheet.ensures.value ∙ c.index_mut.ensures.value ∙ get_or-default a.sheets.items c.slot_in-slot.result c.index_mut.result.now [] low) in
+    let after = set a.sheets.items c.slot_in-slot.result c.hand_out-sheet.new.self in
+    let done = waiting-takes i.earlier a.chapter a.sheets.items i.counts i.ring some status c.slot_in-slot.result c.hand_out-sheet.new.self slot few in
+    let event : Event c.in-Some.front.pos c.in-Some.front.worker c.in-Some.front.serial c.hand_out-sheet.result ≡ Event (record_in (closing_of a.chapter) 0).pos (record_in (closing_of a.chapter) 0).worker (record_in (closing_of a.chapter) 0).serial (get_or a.sheets.items c.slot_in-slot.result []) = λ j. Event (shown j).pos (shown j).worker (shown j).serial (sym bytes j) in
+    (subst (λ v. TakesAs v (ring_of c.log_take.new.self (stored_of c.log_take.new.self after)) (Event c.in-Some.front.pos c.in-Some.front.worker c.in-Some.front.serial c.hand_out-sheet.result)) c.self.view_is
+    (subst (λ d. TakesAs (ring_of a.chapter (stored_of a.chapter a.sheets.items)) (ring_of d (stored_of d after)) (Event c.in-Some.front.pos c.in-Some.front.worker c.in-Some.front.serial c.hand_out-sheet.result)) (sym logged)
+    (subst (λ t. TakesAs (ring_of a.chapter (stored_of a.chapter a.sheets.items)) (ring_of (took i.earlier a.chapter a.sheets.items i.counts i.ring) (stored_of (took i.earlier a.chapter a.sheets.items i.counts i.ring) after)) t) (sym event) done))).empty
 
 pub invariant_of-self-in-Discarded : goal.invariant_of-self-in-Discarded
 invariant_of-self-in-Discarded c =
