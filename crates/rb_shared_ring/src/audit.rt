@@ -15,6 +15,7 @@ ghost use Rattle.rb_shared_ring.specs.inner.ChapterAnswers.{AuditsInChapter};
 ghost use Rattle.rb_shared_ring.specs.inner.HandCalls.{LeavesHands};
 ghost use Rattle.rb_shared_ring.specs.inner.HandPasses.{seen_with, bytes_with, room_with, hands_by, cut_by, IsIdleWith};
 
+use crate::batch_flag::BatchFlag;
 use crate::lock::{Lock, RingPass};
 use crate::locked_calls::with_state;
 use crate::shared::{Foreign, SharedRing};
@@ -60,7 +61,13 @@ fn tally_in(tallies: &[Tally], worker: u32) -> Tally
 }
 
 // An audit for the worker whose pass it is.
-fn audit_with<R: Wait>(rt: &R, lock: &Lock, pass: &mut RingPass, worker: u32) -> Audit
+fn audit_with<R: Wait>(
+    rt: &R,
+    lock: &Lock,
+    batch: &BatchFlag,
+    pass: &mut RingPass,
+    worker: u32,
+) -> Audit
     requires pass { IsPassOf lock.now pass.old × (ruled_capacity lock.now ≡ 1) }
     requires idle { IsIdleWith (Worker worker) (view pass.old) }
     ensures same { IsSamePass pass.old pass.new }
@@ -74,6 +81,7 @@ fn audit_with<R: Wait>(rt: &R, lock: &Lock, pass: &mut RingPass, worker: u32) ->
     with_state(
         rt,
         lock,
+        batch,
         pass,
         |state|
             requires worker { worker < state.old.ring.chapter.opening.setup.workers }
@@ -101,6 +109,6 @@ impl SharedRing {
             return Err(Foreign);
         }
         let worker = seat.worker;
-        Ok(audit_with(rt, &self.lock, &mut seat.pass, worker))
+        Ok(audit_with(rt, &self.lock, &self.batch, &mut seat.pass, worker))
     }
 }

@@ -11,6 +11,7 @@ ghost use Rattle.rb_shared_ring.specs.SharedSeats.{IsSameChapterConsumer, TakesN
 ghost use Rattle.rb_shared_ring.specs.inner.HandCalls.{LeavesHands};
 ghost use Rattle.rb_shared_ring.specs.inner.HandPasses.{seen_with, bytes_with, room_with, handed_out_with, IsIdleWith};
 
+use crate::batch_flag::BatchFlag;
 use crate::consumer_seat::ConsumerSeat;
 use crate::lock::{Lock, RingPass};
 use crate::locked_calls::with_state;
@@ -32,7 +33,13 @@ pub enum HandFault {
 }
 
 // `RingState::hand_out`, for the consumer, of a chapter in which the ring may go on.
-fn hand_out_with<R: Wait>(rt: &R, lock: &Lock, pass: &mut RingPass, empty: Chapter) -> Chapter
+fn hand_out_with<R: Wait>(
+    rt: &R,
+    lock: &Lock,
+    batch: &BatchFlag,
+    pass: &mut RingPass,
+    empty: Chapter,
+) -> Chapter
     requires pass { IsPassOf lock.now pass.old × (ruled_capacity lock.now ≡ 1) }
     requires idle { IsIdleWith Consumer (view pass.old) }
     requires no_entries { empty.entries ≡ [] }
@@ -51,6 +58,7 @@ fn hand_out_with<R: Wait>(rt: &R, lock: &Lock, pass: &mut RingPass, empty: Chapt
     with_state(
         rt,
         lock,
+        batch,
         pass,
         |state|
             requires fits { MayGoOnIn state.old.ring empty }
@@ -73,7 +81,7 @@ fn next_chapter(state: &mut HandState, empty: Chapter) -> Chapter
 }
 
 // How many entries the ring's chapter has, and how many it owes.
-fn used_with<R: Wait>(rt: &R, lock: &Lock, pass: &mut RingPass) -> (u32, u32)
+fn used_with<R: Wait>(rt: &R, lock: &Lock, batch: &BatchFlag, pass: &mut RingPass) -> (u32, u32)
     requires pass { IsPassOf lock.now pass.old × (ruled_capacity lock.now ≡ 1) }
     requires idle { IsIdleWith Consumer (view pass.old) }
     ensures same { IsSamePass pass.old pass.new }
@@ -86,6 +94,7 @@ fn used_with<R: Wait>(rt: &R, lock: &Lock, pass: &mut RingPass) -> (u32, u32)
     with_state(
         rt,
         lock,
+        batch,
         pass,
         |state|
             ensures call { LeavesHands (TellsUsed result.0 result.1) state.old state.new }
@@ -135,7 +144,7 @@ impl SharedRing {
         if !seat.is_fit(&empty) {
             return Err((HandFault::Unfit, empty));
         }
-        let chapter = hand_out_with(rt, &self.lock, &mut seat.pass, empty);
+        let chapter = hand_out_with(rt, &self.lock, &self.batch, &mut seat.pass, empty);
         seat.chapters += 1;
         Ok(chapter)
     }
@@ -155,6 +164,6 @@ impl SharedRing {
         if seat.tag != self.tag {
             return Err(Foreign);
         }
-        Ok(used_with(rt, &self.lock, &mut seat.pass))
+        Ok(used_with(rt, &self.lock, &self.batch, &mut seat.pass))
     }
 }

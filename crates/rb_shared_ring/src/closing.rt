@@ -11,6 +11,7 @@ ghost use Rattle.rb_ledger.specs.ChapterKnowledge.{ChapterKnowledge, chapter_vie
 ghost use Rattle.rb_ledger.specs.ChapterClosing.{IsClosedByChapters};
 ghost use Rattle.rb_ledger.specs.HandKnowledge.{without_hands};
 
+use crate::batch_flag::BatchFlag;
 use crate::consumer_seat::ConsumerSeat;
 use crate::lock::{JoinRoles, Lock, RingPass, take_out};
 use crate::shared::SharedRing;
@@ -144,7 +145,13 @@ fn gather(lock: &Lock, pass: &mut RingPass, mut seats: Vec<Seat>)
 }
 
 // Takes the state out by a pass that has taken in all roles.
-fn collect<R: Wait>(rt: &R, lock: &Lock, seats: Vec<Seat>, consumer: ConsumerSeat) -> Box<HandState>
+fn collect<R: Wait>(
+    rt: &R,
+    lock: &Lock,
+    batch: &BatchFlag,
+    seats: Vec<Seat>,
+    consumer: ConsumerSeat,
+) -> Box<HandState>
     requires consumer { consumer.ring ≡ lock.now.table.shared.table_id }
     requires seats { All (λ s. s.ring ≡ consumer.ring) seats.items }
     requires all { HasAll consumer.seen.setup.workers seats.items }
@@ -152,7 +159,7 @@ fn collect<R: Wait>(rt: &R, lock: &Lock, seats: Vec<Seat>, consumer: ConsumerSea
 {
     let mut pass = consumer.into_pass();
     gather(lock, &mut pass, seats);
-    take_out(rt, lock, &mut pass)
+    take_out(rt, lock, batch, &mut pass)
 }
 
 impl SharedRing {
@@ -181,7 +188,7 @@ impl SharedRing {
                 consumer,
             });
         }
-        let state = collect(rt, &self.lock, seats, consumer);
+        let state = collect(rt, &self.lock, &self.batch, seats, consumer);
         Ok(Closing { ring: self, state })
     }
 }

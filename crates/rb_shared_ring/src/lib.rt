@@ -30,6 +30,7 @@
 
 mod answer_laws;
 mod audit;
+mod batch_flag;
 mod chapters;
 mod closing;
 mod consumer_seat;

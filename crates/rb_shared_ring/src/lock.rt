@@ -10,6 +10,7 @@ ghost use Rattle.rb_chapter_ring.specs.HandRing.{HasHands};
 ghost use Rattle.rb_ledger.specs.HandKnowledge.{hand_view};
 ghost use Rattle.rb_ledger.specs.HandLockSteps.{TakesHandState, PutsHandState, OpensHandState, MayPutHands, unopened_hands};
 
+use crate::batch_flag::BatchFlag;
 use crate::wait_backoff::WaitBackoff;
 use crossbeam_queue::protocol::{Join, Lesson, Outcome, Protocol, Split};
 use crossbeam_queue::{Pass, RuledArrayQueue};
@@ -155,8 +156,14 @@ pub(crate) fn new_lock(alloc: Global) -> Result<(Lock, RingPass), AllocError>
     Lock::ruled(alloc, 1)
 }
 
-/// Takes the state out, once it is there. A thread that finds the queue empty waits, for longer each time, and looks again.
-pub(crate) fn take_out<R: Wait>(rt: &R, lock: &Lock, pass: &mut RingPass) -> Box<HandState>
+/// Takes the state out, once it is there. A thread that finds the queue empty waits and looks again: until a batch is over, where one is taken, and else
+/// for longer each time.
+pub(crate) fn take_out<R: Wait>(
+    rt: &R,
+    lock: &Lock,
+    batch: &BatchFlag,
+    pass: &mut RingPass,
+) -> Box<HandState>
     requires pass { IsPassOf lock.now pass.old }
     requires free { (view pass.old).out ≡ None }
     ensures same { IsSamePass pass.old pass.new }
@@ -167,7 +174,9 @@ pub(crate) fn take_out<R: Wait>(rt: &R, lock: &Lock, pass: &mut RingPass) -> Box
         if let Some(state) = lock.pop_as::<TakeOut, R>(rt, pass) {
             return state.ring;
         }
-        wait_backoff.wait();
+        if !batch.wait_out() {
+            wait_backoff.wait();
+        }
     }
     unreachable!()
 }

@@ -17,6 +17,7 @@ ghost use Rattle.rb_shared_ring.specs.inner.LentState.{IsKeptHandRing, MayLend, 
 ghost use Rattle.rb_shared_ring.specs.SharedCalls.{granted_in, hands_reserved, sent_by_output_in_room};
 ghost use Rattle.rb_shared_ring.specs.inner.ChapterAnswers.{ReservesInChapter, OutputsInChapter};
 
+use crate::batch_flag::BatchFlag;
 use crate::lock::{Lock, RingPass, put_back, take_out};
 use rb_chapter_ring::{HandState, RecordEnd, Reservation, ReserveFault};
 use rb_history::Notice;
@@ -35,6 +36,7 @@ pub(crate) fn facts_of(state: &HandState)
 pub(crate) fn with_state<R: Wait, T, F: FnOnce(&mut HandState) -> T>(
     rt: &R,
     lock: &Lock,
+    batch: &BatchFlag,
     pass: &mut RingPass,
     call: F,
 ) -> T
@@ -45,7 +47,7 @@ pub(crate) fn with_state<R: Wait, T, F: FnOnce(&mut HandState) -> T>(
     ensures same { IsSamePass pass.old pass.new }
     ensures lent { LendsState (view pass.old) (view pass.new) (λ old new. FnOnceReturnsAtMut F.FnOnce call old result new) }
 {
-    let mut held = take_out(rt, lock, pass);
+    let mut held = take_out(rt, lock, batch, pass);
     let state = held.as_mut();
     let answer = call(state);
     facts_of(state);
@@ -57,6 +59,7 @@ pub(crate) fn with_state<R: Wait, T, F: FnOnce(&mut HandState) -> T>(
 pub(crate) fn query_with<R: Wait>(
     rt: &R,
     lock: &Lock,
+    batch: &BatchFlag,
     pass: &mut RingPass,
     worker: u32,
     what: u64,
@@ -74,6 +77,7 @@ pub(crate) fn query_with<R: Wait>(
     with_state(
         rt,
         lock,
+        batch,
         pass,
         |state|
             ensures call { LeavesHands (QueriesInChapter what result) state.old state.new }
@@ -87,6 +91,7 @@ pub(crate) fn query_with<R: Wait>(
 pub(crate) fn reserve_with<R: Wait>(
     rt: &R,
     lock: &Lock,
+    batch: &BatchFlag,
     pass: &mut RingPass,
     tag: u64,
     worker: u32,
@@ -109,7 +114,7 @@ pub(crate) fn reserve_with<R: Wait>(
     ensures hand { IfOk result (λ r. r.hand ≡ hand) }
     ensures handed_back { IfErr result (λ e. e.1 ≡ sheet) }
 {
-    let mut held = take_out(rt, lock, pass);
+    let mut held = take_out(rt, lock, batch, pass);
     let state = held.as_mut();
     let answer = state.reserve(tag, worker, hand, n, sheet);
     facts_of(state);
@@ -123,6 +128,7 @@ pub(crate) fn reserve_with<R: Wait>(
 pub(crate) fn settle_with<R: Wait>(
     rt: &R,
     lock: &Lock,
+    batch: &BatchFlag,
     pass: &mut RingPass,
     worker: u32,
     reservation: Reservation,
@@ -141,7 +147,7 @@ pub(crate) fn settle_with<R: Wait>(
     ensures hands { hands_by (view pass.new) ≡ slice_set (hands_by (view pass.old)) reservation.hand None }
     ensures holds { HoldsOwnBusy (hands_by (view pass.new)) worker (seen_with (view pass.new)).history }
 {
-    let mut held = take_out(rt, lock, pass);
+    let mut held = take_out(rt, lock, batch, pass);
     let state = held.as_mut();
     let notice = state.settle(reservation, end, flags);
     facts_of(state);
@@ -154,6 +160,7 @@ pub(crate) fn settle_with<R: Wait>(
 pub(crate) fn output_with<R: Wait>(
     rt: &R,
     lock: &Lock,
+    batch: &BatchFlag,
     pass: &mut RingPass,
     worker: u32,
     sheet: Sheet,
@@ -169,7 +176,7 @@ pub(crate) fn output_with<R: Wait>(
     ensures holds { HoldsOwnBusy (hands_by (view pass.new)) worker (seen_with (view pass.new)).history }
     ensures handed_back { IfErr result (λ e. e.1 ≡ sheet) }
 {
-    let mut held = take_out(rt, lock, pass);
+    let mut held = take_out(rt, lock, batch, pass);
     let state = held.as_mut();
     let answer = state.output(worker, sheet, flags);
     facts_of(state);

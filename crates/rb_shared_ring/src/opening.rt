@@ -6,6 +6,7 @@ ghost use Rattle.rb_chapter_ring.specs.Chapters.{IsChapterRoom};
 ghost use Rattle.rb_ledger.specs.Seats.{fresh_book, fresh_seats};
 ghost use Rattle.rb_ledger.specs.ChapterSeats.{fresh_chapter_consumer};
 
+use crate::batch_flag::BatchFlag;
 use crate::consumer_seat::{ConsumerSeat, new_consumer};
 use crate::lock::{new_lock, put_first};
 use crate::locked_calls::facts_of;
@@ -52,5 +53,6 @@ pub fn open<R: Wait>(
             return Err(OpenFault::Memory);
         };
     }
-    Ok((SharedRing { tag, lock }, seats, consumer))
+    let batch = BatchFlag::new();
+    Ok((SharedRing { tag, lock, batch }, seats, consumer))
 }

@@ -13,6 +13,7 @@ ghost use Rattle.rb_ledger.specs.EntryRoom.{InRoom};
 ghost use Rattle.rb_ledger.specs.inner.RecordEnds.{EndsAt, sent_by_end};
 ghost use Rattle.rb_shared_ring.specs.SharedCalls.{ReservesInRoom, OutputsInRoom, IsInSeatsHand, IsRefusedInRoomAs, granted_in, hands_after_reserve, reserved_in_room_by, output_in_room_by, sent_by_output_in_room};
 
+use crate::batch_flag::BatchFlag;
 use crate::lock::Lock;
 use crate::locked_calls::{output_with, query_with, reserve_with, settle_with};
 use crate::tally::{after_end, after_output, after_reserve};
@@ -46,6 +47,7 @@ pub struct Foreign;
 pub struct SharedRing {
     pub(crate) tag: u64,
     pub(crate) lock: Lock,
+    pub(crate) batch: BatchFlag,
 }
 
 impl Model for SharedRing {
@@ -107,7 +109,17 @@ impl SharedRing {
             return Err((ReserveFault::HandsFull, sheet));
         };
         let (tag, worker) = (seat.tag, seat.worker);
-        let answer = reserve_with(rt, &self.lock, &mut seat.pass, tag, worker, hand, n, sheet);
+        let answer = reserve_with(
+            rt,
+            &self.lock,
+            &self.batch,
+            &mut seat.pass,
+            tag,
+            worker,
+            hand,
+            n,
+            sheet,
+        );
         seat.tally = after_reserve(seat.tally, &answer);
         if let Ok(reservation) = &answer {
             seat.hands[hand as usize] = Some(OutRecord {
@@ -201,6 +213,7 @@ impl SharedRing {
         let notice = settle_with(
             rt,
             &self.lock,
+            &self.batch,
             &mut seat.pass,
             worker,
             reservation,
@@ -236,7 +249,15 @@ impl SharedRing {
             return Err((ReserveFault::Foreign, sheet));
         }
         let worker = seat.worker;
-        let answer = output_with(rt, &self.lock, &mut seat.pass, worker, sheet, flags);
+        let answer = output_with(
+            rt,
+            &self.lock,
+            &self.batch,
+            &mut seat.pass,
+            worker,
+            sheet,
+            flags,
+        );
         seat.tally = after_output(seat.tally, &answer);
         answer
     }
@@ -258,6 +279,6 @@ impl SharedRing {
             return Err(Foreign);
         }
         let worker = seat.worker;
-        Ok(query_with(rt, &self.lock, &mut seat.pass, worker, what))
+        Ok(query_with(rt, &self.lock, &self.batch, &mut seat.pass, worker, what))
     }
 }

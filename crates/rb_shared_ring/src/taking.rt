@@ -16,6 +16,7 @@ ghost use Rattle.rb_shared_ring.specs.SharedSeats.{IsSameChapterConsumer};
 ghost use Rattle.rb_shared_ring.specs.inner.HandCalls.{LeavesHands};
 ghost use Rattle.rb_shared_ring.specs.inner.HandPasses.{seen_with, bytes_with, room_with, handed_out_with, IsIdleWith};
 
+use crate::batch_flag::BatchFlag;
 use crate::consumer_seat::ConsumerSeat;
 use crate::lock::{Lock, RingPass, put_back, take_out};
 use crate::locked_calls::{facts_of, with_state};
@@ -24,7 +25,7 @@ use rb_history::{Taken, span};
 use std::sync::Wait;
 
 // `RingState::take`, for the consumer.
-fn take_with<R: Wait>(rt: &R, lock: &Lock, pass: &mut RingPass) -> Taken
+fn take_with<R: Wait>(rt: &R, lock: &Lock, batch: &BatchFlag, pass: &mut RingPass) -> Taken
     requires pass { IsPassOf lock.now pass.old × (ruled_capacity lock.now ≡ 1) }
     requires idle { IsIdleWith Consumer (view pass.old) }
     ensures same { IsSamePass pass.old pass.new }
@@ -37,6 +38,7 @@ fn take_with<R: Wait>(rt: &R, lock: &Lock, pass: &mut RingPass) -> Taken
     with_state(
         rt,
         lock,
+        batch,
         pass,
         |state|
             ensures call { LeavesHands (TakesInChapter result) state.old state.new }
@@ -44,10 +46,11 @@ fn take_with<R: Wait>(rt: &R, lock: &Lock, pass: &mut RingPass) -> Taken
     )
 }
 
-// `RingState::take_many`, for the consumer. The lock is held for all of its takes, and for nothing else.
+// `RingState::take_many`, for the consumer. The lock is held for all of its takes, and for nothing else; the flag is up meanwhile.
 fn take_many_with<R: Wait>(
     rt: &R,
     lock: &Lock,
+    batch: &BatchFlag,
     pass: &mut RingPass,
     n: usize,
     out: &mut Vec<Taken>,
@@ -65,11 +68,13 @@ fn take_many_with<R: Wait>(
     ensures count { result ≡ length (pushed out.old.items out.new.items) }
     ensures capacity { vec_capacity out.new ≡ vec_capacity out.old }
 {
-    let mut held = take_out(rt, lock, pass);
+    let mut held = take_out(rt, lock, batch, pass);
+    batch.set(true);
     let state = held.as_mut();
     let count = state.take_many(n, out);
     facts_of(state);
     put_back(rt, lock, pass, held);
+    batch.set(false);
     count
 }
 
@@ -93,7 +98,7 @@ impl SharedRing {
         if seat.tag != self.tag {
             return Err(Foreign);
         }
-        let answer = take_with(rt, &self.lock, &mut seat.pass);
+        let answer = take_with(rt, &self.lock, &self.batch, &mut seat.pass);
         seat.consumed += events(&answer);
         seat.skipped += skips(&answer);
         seat.position += span_taken(&answer);
@@ -133,7 +138,7 @@ impl SharedRing {
             return Err(Foreign);
         }
         let before = out.len();
-        let count = take_many_with(rt, &self.lock, &mut seat.pass, n, out);
+        let count = take_many_with(rt, &self.lock, &self.batch, &mut seat.pass, n, out);
         let moves = moves_of(&out[before..]);
         let Moves {
             events,
