@@ -17,6 +17,7 @@ ghost use Rattle.rb_interp.specs.inner.KeptPointers.{IsKeepable};
 use crate::Context;
 use crate::byte_numbers::{number_in, signed_number_in};
 use crate::cpu::Cpu;
+use crate::known::known;
 use crate::offsets::behind;
 use rb_insn::{BinaryOp, Condition, Insn, Operand, Reg, SignedSize, Size, Width, jumps, value};
 use rb_lend::Lent;
@@ -48,7 +49,10 @@ impl<C: Context, R: Lent> Cpu<C, R> {
             (Value::Number(a), Value::Number(b)) => {
                 self.gives(insn, dst, Value::Number(value(insn, a, b)));
             }
-            _ => unreachable!(),
+            _ => {
+                known(false);
+                unreachable!()
+            }
         }
     }
 
@@ -102,7 +106,10 @@ impl<C: Context, R: Lent> Cpu<C, R> {
                     }
                 }
             }
-            _ => unreachable!(),
+            _ => {
+                known(false);
+                unreachable!()
+            }
         }
     }
 
@@ -128,7 +135,10 @@ impl<C: Context, R: Lent> Cpu<C, R> {
                 let number = signed_number_in(size, bytes);
                 self.gives(insn, dst, Value::Number(number));
             }
-            _ => unreachable!(),
+            _ => {
+                known(false);
+                unreachable!()
+            }
         }
     }
 
@@ -152,7 +162,10 @@ impl<C: Context, R: Lent> Cpu<C, R> {
         match from {
             Value::Number(_) => self.store(insn, size, base, offset, from),
             Value::Pointer(_, _) | Value::Ring(_) => self.keep(insn, size, base, offset, from),
-            Value::Nothing => unreachable!(),
+            Value::Nothing => {
+                known(false);
+                unreachable!()
+            }
         }
     }
 
@@ -169,13 +182,17 @@ impl<C: Context, R: Lent> Cpu<C, R> {
         match (size, base) {
             (Size::Double, Value::Pointer(place, start)) => {
                 let Some(next) = next_unit(self.unit, insn) else {
+                    known(false);
                     unreachable!()
                 };
                 let at = behind(start, offset);
                 self.memory.keep(place, at, pointer);
                 self.unit = next;
             }
-            _ => unreachable!(),
+            _ => {
+                known(false);
+                unreachable!()
+            }
         }
     }
 
@@ -192,13 +209,17 @@ impl<C: Context, R: Lent> Cpu<C, R> {
         match (base, from) {
             (Value::Pointer(place, start), Value::Number(number)) => {
                 let Some(next) = next_unit(self.unit, insn) else {
+                    known(false);
                     unreachable!()
                 };
                 let at = behind(start, offset);
                 self.memory.store(place, at, size, number);
                 self.unit = next;
             }
-            _ => unreachable!(),
+            _ => {
+                known(false);
+                unreachable!()
+            }
         }
     }
 
@@ -226,17 +247,29 @@ impl<C: Context, R: Lent> Cpu<C, R> {
                 MemoryRegion::Record(_) => match condition {
                     Condition::Equal => self.along_branch(insn, false, distance),
                     Condition::NotEqual => self.along_branch(insn, true, distance),
-                    _ => unreachable!(),
+                    _ => {
+                        known(false);
+                        unreachable!()
+                    }
                 },
-                MemoryRegion::Stack => unreachable!(),
-                MemoryRegion::Context => unreachable!(),
+                MemoryRegion::Stack => {
+                    known(false);
+                    unreachable!()
+                }
+                MemoryRegion::Context => {
+                    known(false);
+                    unreachable!()
+                }
             },
             (Value::Number(a), Value::Number(b)) => self.along_branch(
                 insn,
                 jumps(insn, a, b),
                 distance,
             ),
-            _ => unreachable!(),
+            _ => {
+                known(false);
+                unreachable!()
+            }
         }
     }
 
@@ -269,7 +302,10 @@ impl<C: Context, R: Lent> Cpu<C, R> {
     {
         match self.register(Reg::R0) {
             Value::Number(number) => number,
-            _ => unreachable!(),
+            _ => {
+                known(false);
+                unreachable!()
+            }
         }
     }
 }

@@ -42,6 +42,7 @@ mod helpers;
 mod instruction;
 mod instruction_rows;
 mod kept_pointers;
+mod known;
 mod listed;
 mod machine;
 mod machine_memory;

@@ -10,6 +10,7 @@ ghost use Rattle.rb_interp.specs.inner.SlotTable.{part_named};
 ghost use Rattle.rb_interp.specs.inner.KeptPointers.{filled, IsSlotPlace};
 
 use crate::byte_numbers::put_number;
+use crate::known::known;
 use crate::pointer_table::PointerTable;
 use crate::slot_table::{SlotEntry, entry_of, without};
 use crate::{Context, Part, Parts};
@@ -73,7 +74,10 @@ impl<C, R> MachineMemory<C, R> {
     {
         match self.parts.hold(owned) {
             Ok(slot) => self.entries.push(SlotEntry { id, slot }),
-            Err(_) => unreachable!(),
+            Err(_) => {
+                known(false);
+                unreachable!()
+            }
         }
     }
 
@@ -84,9 +88,11 @@ impl<C, R> MachineMemory<C, R> {
         ensures rest { self.new ≡ record self.old { records = others id self.old.records } }
     {
         let Some(entry) = entry_of(self.entries.as_slice(), id) else {
+            known(false);
             unreachable!()
         };
         let Some(owned) = self.parts.give(entry.slot) else {
+            known(false);
             unreachable!()
         };
         self.entries = without(&self.entries, id);
@@ -108,7 +114,10 @@ fn located(entries: &[SlotEntry], place: MemoryRegion, offset: i64) -> (Part, us
         MemoryRegion::Context => (Part::Ctx, offset as usize),
         MemoryRegion::Record(id) => match entry_of(entries, id) {
             Some(entry) => (Part::Record(entry.slot), offset as usize),
-            None => unreachable!(),
+            None => {
+                known(false);
+                unreachable!()
+            }
         },
     }
 }

@@ -4,6 +4,7 @@ ghost use Rattle.std.specs.Prelude.{◌≡◌, ◌≢◌, ℕ, ◌+◌, ◌≤�
 ghost use Rattle.std.specs.Borrow.{sem};
 
 use crate::context::Context;
+use crate::known::known;
 use crate::records::{Records, Slot};
 use crate::stack::Stack;
 use crate::writable_range::WritableRange;
@@ -146,7 +147,10 @@ impl<C: Context, R: Lent> Parts<C, R> {
             Part::Ctx => &self.context.bytes()[off..off + len],
             Part::Record(slot) => match self.records.get(slot) {
                 Some(owned) => &owned.bytes()[off..off + len],
-                None => unreachable!(),
+                None => {
+                    known(false);
+                    unreachable!()
+                }
             },
         }
     }
@@ -199,7 +203,10 @@ impl<C: Context, R: Lent> Parts<C, R> {
         match part {
             Part::Stack => return self.stack_range(off, len),
             Part::Record(slot) => return self.record_range(slot, off, len),
-            Part::Ctx => unreachable!(),
+            Part::Ctx => {
+                known(false);
+                unreachable!()
+            }
         }
     }
 

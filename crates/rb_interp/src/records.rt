@@ -4,6 +4,7 @@ ghost use Rattle.std.specs.Prelude.{◌≡◌, IfOk, IfErr, IsSome, Some, None, 
 ghost use Rattle.std.specs.Borrow.{sem};
 ghost use Rattle.rb_interp.specs.inner.SomeOf.{LendsSome};
 
+use crate::known::known;
 use rb_lend::Lent;
 
 /// One of the four places for a record.
@@ -200,6 +201,9 @@ fn some_mut<T>(place: &mut Option<T>) -> &mut T
 {
     match place {
         Some(value) => value,
-        None => unreachable!(),
+        None => {
+            known(false);
+            unreachable!()
+        }
     }
 }

@@ -4,19 +4,19 @@ use Rattle.rb_interp.specs.StoredMemory.{held_record}
 use Rattle.rb_interp.proofs.Tables.{table_without, shown_without, shown_at, found_in}
 use Rattle.rb_interp.proofs.machine_memory.MachineMemory.give.Goals as goal
 
-pub unreachable-requires : goal.unreachable-requires
-unreachable-requires g c =
+pub known-requires : goal.known-requires
+known-requires g c =
     let es = c.self.inside.entries.items in
     let h = c.self.inside.parts.records in
     let found : find (entry_has_id c.args.id) es ≡ None = ap (find (entry_has_id c.args.id)) (sym c.as_slice.ensures.value) ∙ (sym c.entry_of.ensures ∙ c.in_default.is) in
-    c.requires (ap (λ v. held_record c.args.id v.records) (sym c.self.view_is) ∙ (shown_at es h c.args.id c.self.invariant ∙ ap (found_in h) found))
+    absurd (c.requires (ap (λ v. held_record c.args.id v.records) (sym c.self.view_is) ∙ (shown_at es h c.args.id c.self.invariant ∙ ap (found_in h) found)))
 
-pub unreachable-requires-in_default-give : goal.unreachable-requires-in_default-give
-unreachable-requires-in_default-give g c =
+pub known-requires-in_default-give : goal.known-requires-in_default-give
+known-requires-in_default-give g c =
     let es = c.self.inside.entries.items in
     let h = c.self.inside.parts.records in
     let found : find (entry_has_id c.args.id) es ≡ Some c.in-Some.entry = ap (find (entry_has_id c.args.id)) (sym c.as_slice.ensures.value) ∙ (sym c.entry_of.ensures ∙ c.in-Some.is) in
-    c.requires (ap (λ v. held_record c.args.id v.records) (sym c.self.view_is) ∙ (shown_at es h c.args.id c.self.invariant ∙ (ap (found_in h) found ∙ (sym c.give.ensures.value ∙ c.in_default-give.is))))
+    absurd (c.requires (ap (λ v. held_record c.args.id v.records) (sym c.self.view_is) ∙ (shown_at es h c.args.id c.self.invariant ∙ (ap (found_in h) found ∙ (sym c.give.ensures.value ∙ c.in_default-give.is)))))
 
 pub invariant_of-self : goal.invariant_of-self
 invariant_of-self g c =

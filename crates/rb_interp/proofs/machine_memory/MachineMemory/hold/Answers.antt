@@ -13,14 +13,14 @@ invariant_of-self g c =
     rw (c.push.ensures.items, c.in-Ok.ensures.held)
     (table_pushed es h c.args.id c.in-Ok.slot c.args.owned c.self.invariant (lowest_empty-empty h c.in-Ok.slot c.in-Ok.ensures.lowest) fresh)
 
-pub unreachable-requires : goal.unreachable-requires
-unreachable-requires g c =
+pub known-requires : goal.known-requires
+known-requires g c =
     let es = c.self.inside.entries.items in
     let h = c.self.inside.parts.records in
     let few : length (named es h) < 4 = rw (ap (λ v. length v.records) c.self.view_is) c.requires.few in
     let four = none_empty h c.in-Err.ensures.full in
     let count = shown_count es h c.self.invariant in
-    omega arith
+    absurd (omega arith)
 
 pub returns : goal.returns
 returns g c =
