@@ -11,6 +11,7 @@ pub(crate) fn stock_sheet<S: Stock>(stock: &S, sheet: Sheet) {
     let _refused = stock.put(sheet);
 }
 
+#[inline(always)]
 // A sheet of `n` zero bytes; where they take memory, a used one if the stock has one.
 pub(crate) fn zero_sheet<S: Stock>(alloc: Global, stock: &S, n: u32) -> Option<Sheet>
     ensures { IfSome result (λ s. s ≡ replicate n 0) }
@@ -18,6 +19,14 @@ pub(crate) fn zero_sheet<S: Stock>(alloc: Global, stock: &S, n: u32) -> Option<S
     if n <= SHORT {
         return Sheet::new(alloc, n).ok();
     }
+    long_sheet(alloc, stock, n)
+}
+
+#[inline(never)]
+// The same, where the bytes take memory.
+fn long_sheet<S: Stock>(alloc: Global, stock: &S, n: u32) -> Option<Sheet>
+    ensures { IfSome result (λ s. s ≡ replicate n 0) }
+{
     match stock.used() {
         Some(sheet) => match sheet.renew(n) {
             Ok(sheet) => Some(sheet),

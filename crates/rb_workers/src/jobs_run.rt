@@ -17,7 +17,7 @@ use crate::distribution::{merge, split};
 use crate::job_answers::{Gathered, gather_answers, is_any_short};
 use crate::opened::{Ended, JobFault, Opened, Report};
 use crate::ring_close::close_all;
-use crate::run_buffers::{RunBuffers, make_buffers};
+use crate::run_buffers::{RunBuffers, make_buffers, zero_counts};
 use crate::sink::Sink;
 use crate::threads::run_threads;
 use crate::workers::Worker;
@@ -31,28 +31,32 @@ use std::alloc::Global;
 use std::sync::Wait;
 use std::thread::Threads;
 
-// Whether some job's program knows more rings than these.
-fn is_ring_unknown(jobs: &[Job<'_>], rings: usize) -> bool
-    ensures { result ≡ has_unknown_ring rings jobs.now }
-{
-    for job in jobs {
-        if job.program.rings() as usize > rings {
-            return true;
-        }
-    }
-    false
+// Whether some job's program knows more rings than there are, and whether some job's worker is none of those that there are.
+#[derive(Clone, Copy)]
+struct Unknown {
+    ring: bool,
+    worker: bool,
 }
 
-// Whether some job's worker is none of these.
-fn is_worker_unknown(jobs: &[Job<'_>], count: u32) -> bool
-    ensures { result ≡ has_unknown_worker count jobs.now }
+// What the jobs name that is not there, of so many rings and workers. It counts each worker's jobs where there is a place for that. One pass over the jobs.
+fn find_unknown(jobs: &[Job<'_>], rings: usize, count: u32, counts: &mut [usize]) -> Unknown
+    ensures ring { result.ring ≡ has_unknown_ring rings jobs.now }
+    ensures worker { result.worker ≡ has_unknown_worker count jobs.now }
 {
+    let mut ring = false;
+    let mut worker = false;
     for job in jobs {
+        if job.program.rings() as usize > rings {
+            ring = true;
+        }
         if job.worker >= count {
-            return true;
+            worker = true;
+        }
+        if let Some(own) = counts.get_mut(job.worker as usize) {
+            *own = own.saturating_add(1);
         }
     }
-    false
+    Unknown { ring, worker }
 }
 
 // How many workers there are.
@@ -210,14 +214,16 @@ pub fn run_jobs<R: Threads + Wait + Sync, S: Sink + Send + Drop, G: Gate + Sync>
     ensures no_strays { IfOk result (λ r. r.strays ≡ 0) }
     ensures settled { IfOk result (λ r. EachSettled (workers_of opened.items) (seat_rows opened.items) → All EndsSettled r.rings.items) }
 {
-    if is_ring_unknown(jobs, opened.len()) {
+    let count = count_workers(&opened);
+    let mut counts = zero_counts(alloc, count);
+    let unknown = find_unknown(jobs, opened.len(), count, counts.as_mut_slice());
+    if unknown.ring {
         return Err((JobFault::UnknownRing, opened));
     }
-    let count = count_workers(&opened);
-    if is_worker_unknown(jobs, count) {
+    if unknown.worker {
         return Err((JobFault::UnknownWorker, opened));
     }
-    let Ok(buffers) = make_buffers(alloc, count, opened.len(), jobs) else {
+    let Ok(buffers) = make_buffers(alloc, count, &counts, opened.len(), jobs.len()) else {
         return Err((JobFault::Memory, opened));
     };
     match run_known(rt, alloc, opened, jobs, gate, buffers) {

@@ -13,7 +13,6 @@ use crossbeam_queue::ArrayQueue;
 use rb_consumer::Batch;
 use rb_history::Tally;
 use rb_interp::RunFault;
-use rb_jobs::Job;
 use rb_lend::Sheet;
 use rb_shared_ring::SharedRing;
 use std::alloc::{AllocError, Global};
@@ -33,35 +32,30 @@ pub(crate) struct RunBuffers<S> {
     pub(crate) results: Vec<Result<u64, RunFault>>,
 }
 
-// How many of the jobs are each worker's, for the room of their answers. Jobs of no worker are passed over.
-fn count_jobs(alloc: Global, count: u32, jobs: &[Job<'_>]) -> Result<Vec<usize>, AllocError>
-    ensures len { IfOk result (λ v. vec_len v ≡ count) }
-{
-    let mut counts: Vec<usize> = vec![in alloc; 0; count as usize]?;
-    for job in jobs {
-        if job.worker < count {
-            let own = counts[job.worker as usize];
-            counts[job.worker as usize] = own.saturating_add(1);
-        }
+/// A count of 0 for each of so many workers; none where there is no memory for that.
+pub(crate) fn zero_counts(alloc: Global, count: u32) -> Vec<usize> {
+    match vec![in alloc; 0; count as usize] {
+        Ok(counts) => counts,
+        Err(_) => Vec::new(alloc),
     }
-    Ok(counts)
 }
 
-// So many workers, each with room for a seat at each ring and for an answer of each of its jobs.
+// So many workers, each with room for a seat at each ring and for as many answers as its jobs were counted to be. Where it is not counted the room is
+// taken as its jobs run.
 fn new_workers(
     alloc: Global,
     count: u32,
+    counts: &[usize],
     rings: usize,
-    jobs: &[Job<'_>],
 ) -> Result<Vec<Worker>, AllocError>
     ensures len { IfOk result (λ v. vec_len v ≡ count) }
     ensures each { IfOk result (λ v. (k : ℕ) (d : _) → k < count → IsNew k rings (slice_index_or v.items k d)) }
 {
-    let counts = count_jobs(alloc, count, jobs)?;
     let mut workers = Vec::with_capacity(alloc, count as usize)?;
     for number in 0..count {
         let seats = Vec::with_capacity(alloc, rings)?;
-        let answers = Vec::with_capacity(alloc, counts[number as usize])?;
+        let own = counts.get(number as usize).copied().unwrap_or(0);
+        let answers = Vec::with_capacity(alloc, own)?;
         workers.push_reserved(Worker {
             number,
             calls: 0,
@@ -97,16 +91,17 @@ fn new_batches(alloc: Global, rings: usize) -> Result<Vec<Batch>, AllocError>
     Ok(batches)
 }
 
-/// All memory that a run over so many rings, workers and jobs needs before its first job.
+/// All memory that a run over so many rings, workers and jobs, of which each worker's are counted, needs before its first job.
 pub(crate) fn make_buffers<S: Drop>(
     alloc: Global,
     count: u32,
+    counts: &[usize],
     rings: usize,
-    jobs: &[Job<'_>],
+    jobs: usize,
 ) -> Result<RunBuffers<S>, AllocError>
-    ensures roomy { IfOk result (HasRoomForRun count rings (length jobs.now)) }
+    ensures roomy { IfOk result (HasRoomForRun count rings jobs) }
 {
-    let workers = new_workers(alloc, count, rings, jobs)?;
+    let workers = new_workers(alloc, count, counts, rings)?;
     let tallies = new_tallies(alloc, count, rings)?;
     let batches = new_batches(alloc, rings)?;
     let sheets = ArrayQueue::new(alloc, PLACES)?;
@@ -114,7 +109,7 @@ pub(crate) fn make_buffers<S: Drop>(
     let merged = Vec::with_capacity(alloc, rings)?;
     let ended = Vec::with_capacity(alloc, rings)?;
     let rings = Vec::with_capacity(alloc, rings)?;
-    let results = Vec::with_capacity(alloc, jobs.len())?;
+    let results = Vec::with_capacity(alloc, jobs)?;
     Ok(RunBuffers {
         rings,
         consumers,

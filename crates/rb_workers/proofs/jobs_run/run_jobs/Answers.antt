@@ -2,11 +2,11 @@ use Rattle.rb_workers.proofs.Same.{unchanged}
 use Rattle.rb_workers.proofs.Settling.{all_settled, no_strays}
 use Rattle.rb_workers.proofs.jobs_run.run_jobs.Goals as goal
 
-pub returns-then-is_ring_unknown-clause-handed_back : goal.returns-then-is_ring_unknown-clause-handed_back
-returns-then-is_ring_unknown-clause-handed_back g c = unchanged g.S.Sink.position_of g.S.Sink.takes c.args.opened.items c.args.jobs.now c.requires.opened
+pub returns-then-unknown-clause-handed_back : goal.returns-then-unknown-clause-handed_back
+returns-then-unknown-clause-handed_back g c = unchanged g.S.Sink.position_of g.S.Sink.takes c.args.opened.items c.args.jobs.now c.requires.opened
 
-pub returns-then-is_worker_unknown-clause-handed_back : goal.returns-then-is_worker_unknown-clause-handed_back
-returns-then-is_worker_unknown-clause-handed_back g c = unchanged g.S.Sink.position_of g.S.Sink.takes c.args.opened.items c.args.jobs.now c.requires.opened
+pub returns-then-unknown-2-clause-handed_back : goal.returns-then-unknown-2-clause-handed_back
+returns-then-unknown-2-clause-handed_back g c = unchanged g.S.Sink.position_of g.S.Sink.takes c.args.opened.items c.args.jobs.now c.requires.opened
 
 pub returns-in_default-clause-handed_back : goal.returns-in_default-clause-handed_back
 returns-in_default-clause-handed_back g c = unchanged g.S.Sink.position_of g.S.Sink.takes c.args.opened.items c.args.jobs.now c.requires.opened
