@@ -1,6 +1,6 @@
 //! Why a helper made no record.
 
-use rb_shared_ring::ReserveFault;
+use rb_shared_ring::{ReserveFault, WaitBackoff};
 
 /// Why a call of `reserve` or `output` made no record.
 #[derive(Clone, Copy, PartialEq, Eq)]
@@ -11,4 +11,14 @@ pub(crate) enum NoRecord {
     NoSheet,
     /// The ring granted none.
     Refused(ReserveFault),
+}
+
+#[cold]
+#[inline(never)]
+/// Waits for some microseconds where the ring or its chapter has no room, and gives up the processor: the ring's consumer is late, perhaps for want of one.
+/// The next calls would find no room either, and be done with it much sooner than calls that find some.
+pub(crate) fn give_way(fault: ReserveFault) {
+    if matches!(fault, ReserveFault::Full | ReserveFault::ChapterFull) {
+        WaitBackoff::new().wait();
+    }
 }

@@ -12,7 +12,7 @@ ghost use Rattle.rb_jobs.specs.inner.CallAnswers.{SeatReserves, SeatSends, with_
 mod giving_back;
 
 use crate::call_answers::{answer_of, is_due, is_unlogged};
-use crate::no_record::NoRecord;
+use crate::no_record::{NoRecord, give_way};
 use crate::seat_record::SeatRecord;
 use crate::sheets::{copied_sheet, stock_sheet, zero_sheet};
 use crate::stock::Stock;
@@ -174,6 +174,7 @@ impl<'h, R: Wait, S: Stock> SeatHelpers<'h, R, S> {
             Ok(reservation) => Ok(reservation),
             Err(refused) => {
                 stock_sheet(self.stock, refused.1);
+                give_way(refused.0);
                 Err(NoRecord::Refused(refused.0))
             }
         }
@@ -196,6 +197,7 @@ impl<'h, R: Wait, S: Stock> SeatHelpers<'h, R, S> {
             Ok(notice) => Ok(notice),
             Err(refused) => {
                 stock_sheet(self.stock, refused.1);
+                give_way(refused.0);
                 Err(NoRecord::Refused(refused.0))
             }
         }
