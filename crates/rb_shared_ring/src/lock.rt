@@ -156,8 +156,8 @@ pub(crate) fn new_lock(alloc: Global) -> Result<(Lock, RingPass), AllocError>
     Lock::ruled(alloc, 1)
 }
 
-/// Takes the state out, once it is there. A thread that finds the queue empty waits and looks again: until a batch is over, where one is taken, and else
-/// for longer each time.
+/// Takes the state out, once it is there. A thread that finds the queue empty waits and looks again: at first until a batch is over, where one is taken, and else
+/// for longer each time. So the thread that used the ring last goes on with it behind a batch, and those that wait are not called all at once.
 pub(crate) fn take_out<R: Wait>(
     rt: &R,
     lock: &Lock,
@@ -170,13 +170,15 @@ pub(crate) fn take_out<R: Wait>(
     ensures took { TakesHandState (view pass.old) result.value (view pass.new) }
 {
     let mut wait_backoff = WaitBackoff::new();
+    let mut has_just_come = true;
     for _ in rt.forever() {
         if let Some(state) = lock.pop_as::<TakeOut, R>(rt, pass) {
             return state.ring;
         }
-        if !batch.wait_out() {
+        if !has_just_come || !batch.wait_out() {
             wait_backoff.wait();
         }
+        has_just_come = false;
     }
     unreachable!()
 }
