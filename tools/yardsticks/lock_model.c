@@ -120,12 +120,13 @@ static void back_off(uint32_t times) {
 }
 
 static struct state *take_out(void) {
-    for (uint32_t times = 11;; times = times < 44 ? 2 * times : 88) {
+    int has_just_come = 1;
+    for (uint32_t times = 11;; times = times < 44 ? 2 * times : 88, has_just_come = 0) {
         struct state *found = pop();
         if (found) return found;
         if (wait == SHORT) pause_for(4);
         else if (wait == SPIN) pause_for(8 * (int)times);
-        else if (atomic_load(&batch_is_taken.value)) {
+        else if (has_just_come && atomic_load(&batch_is_taken.value)) {
             for (uint32_t i = 0; i < 88 && atomic_load(&batch_is_taken.value); i++) {
                 if (i < 7) pause_for(1 << i);
                 else sched_yield();
