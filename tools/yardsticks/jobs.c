@@ -5,13 +5,12 @@
 #define SIZE (1u << 20)
 #include "kernel_ring.h"
 #include "rounds.h"
+#include "workers.h"
 #include <rte_bpf.h>
 #include <stdlib.h>
 
 static uint64_t jobs;
 static struct rte_bpf *program;
-static _Atomic uint64_t refused;
-static _Atomic int ended;
 
 static uint64_t reserve(uint64_t ring, uint64_t size, uint64_t flags, uint64_t d, uint64_t e) {
     (void)ring, (void)flags, (void)d, (void)e;
@@ -81,17 +80,6 @@ static struct rte_bpf *load(void) {
     return rte_bpf_load(&given);
 }
 
-static void all_jobs(int workers) {
-    pthread_t made[64], consumer;
-    atomic_store(&refused, 0);
-    atomic_store(&ended, 0);
-    pthread_create(&consumer, 0, consume, 0);
-    for (long i = 0; i < workers; i++) pthread_create(&made[i], 0, work, (void *)i);
-    for (int i = 0; i < workers; i++) pthread_join(made[i], 0);
-    atomic_store(&ended, 1);
-    pthread_join(consumer, 0);
-}
-
 int main(int count, char **words) {
     if (count != 3) return 2;
     int workers = atoi(words[1]);
@@ -102,7 +90,7 @@ int main(int count, char **words) {
     pthread_spin_init(&lock, 0);
     for (int round = 0; round <= ROUNDS; round++) {
         uint64_t began = now();
-        all_jobs(workers);
+        all_jobs(workers, work, consume);
         if (round > 0) tell(now() - began, refused);
     }
     return 0;

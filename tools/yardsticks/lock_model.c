@@ -6,6 +6,7 @@
 // Prints a line for each of three rounds: its nanoseconds, and how many jobs found no room.
 #define _GNU_SOURCE
 #include "rounds.h"
+#include "workers.h"
 #include <pthread.h>
 #include <sched.h>
 #include <stdatomic.h>
@@ -108,8 +109,6 @@ static int take(struct state *s, struct reservation *out) {
 
 static uint64_t jobs, outside;
 static enum wait wait;
-static _Atomic uint64_t refused;
-static _Atomic int ended;
 
 // Backs off so often: seven times for 1, 2, 4 .. 64 pauses, and from then on by yielding.
 static void back_off(uint32_t times) {
@@ -184,17 +183,6 @@ static void *consume(void *unused) {
     }
 }
 
-static void all_jobs(int workers) {
-    pthread_t made[64], consumer;
-    atomic_store(&refused, 0);
-    atomic_store(&ended, 0);
-    pthread_create(&consumer, 0, consume, 0);
-    for (long i = 0; i < workers; i++) pthread_create(&made[i], 0, work, (void *)i);
-    for (int i = 0; i < workers; i++) pthread_join(made[i], 0);
-    atomic_store(&ended, 1);
-    pthread_join(consumer, 0);
-}
-
 int main(int count, char **words) {
     if (count < 3 || count > 5) return 2;
     int workers = atoi(words[1]);
@@ -205,7 +193,7 @@ int main(int count, char **words) {
     push(&ring);
     for (int round = 0; round <= ROUNDS; round++) {
         uint64_t began = now();
-        all_jobs(workers);
+        all_jobs(workers, work, consume);
         if (round > 0) tell(now() - began, refused);
     }
     return 0;
