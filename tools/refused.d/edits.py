@@ -1,0 +1,141 @@
+"""Wrong bodies: files with a line `file: src/x.rt` and pairs of lines `old: TEXT` and `new: TEXT`, and the functions that they change."""
+import difflib
+import functools
+import pathlib
+import re
+from typing import NamedTuple, Optional
+
+import kit
+
+FUNCTION = re.compile(r"^( *)(?:pub(?:\([a-z]+\))? )?(?:const )?(?:unsafe )?(?:extern \"C\" )?fn (\w+)")
+IMPL = re.compile(r"^impl(?:<.*?>)? (?:(?:\w+::)*(?P<trait>\w+)(?:<(?P<of>.*)>)? for )?(?P<type>\w+)")
+OPEN = re.compile(r"^# open without its stored answer: (.*)$", re.M)
+DECLARED = re.compile(r"^(?:pub(?:\([a-z]+\))? )?(?:struct|enum) (\w+)", re.M)
+
+
+class Owner(NamedTuple):
+    """A function by where it stands: its module, the type and the trait of its block, and its name."""
+
+    module: str
+    type: Optional[str]
+    trait: Optional[str]
+    name: str
+
+    def path(self):
+        block = (self.type or "") + (self.trait or "")
+        return "::".join(it for it in (self.module, block, self.name) if it)
+
+    def lines(self, crate, said):
+        """What a check said of the function, and of the closures in it."""
+        path = f"{crate}::{self.path()}"
+        exact = [text for name, text in said.items() if name == path or name.startswith(path + "::")]
+        if exact:
+            return exact
+        within = "::".join(it for it in (crate, self.module) if it) + "::"
+        named = [name.split("::") for name in said if name.split("::")[-1] == self.name]
+        mine = [name for name in named if self.type and name[-2].startswith(self.type)]
+        here = [name for name in named if "::".join(name).startswith(within)]
+        return [said["::".join(name)] for name in mine or here]
+
+    def proofs(self):
+        """The folder of what is written of its proof."""
+        return "proofs/" + self.path().replace("::", "/")
+
+
+class Change(NamedTuple):
+    """Lines of a file, from `first` to before `end`, that others stand in place of."""
+
+    file: str
+    first: int
+    end: int
+    lines: list
+
+
+def module_of(file):
+    inside = pathlib.PurePosixPath(file).relative_to("src").with_suffix("")
+    parts = [it for it in inside.parts if it != "mod"]
+    return "" if parts in (["lib"], ["main"]) else "::".join(parts)
+
+
+@functools.cache
+def modules_of_types(folder):
+    """The module of each type of a crate: a check names a method by the module of its type, wherever the method stands."""
+    source = pathlib.Path(folder) / "src"
+    return {name: module_of(str(it.relative_to(folder))) for it in sorted(source.rglob("*.rt")) for name in DECLARED.findall(it.read_text())}
+
+
+def owner_of(folder, file, lines, at):
+    """The function whose signature, clauses or body has the line, or None where it stands outside of any."""
+    begin = next((it for it in range(min(at, len(lines) - 1), -1, -1) if FUNCTION.match(lines[it])), None)
+    if begin is None:
+        return None
+    indent, name = FUNCTION.match(lines[begin]).groups()
+    if any(line == indent + "}" for line in lines[begin:at]):
+        return None
+    block = None
+    for line in reversed(lines[:begin] if indent else []):
+        if line.startswith("}"):
+            break
+        block = IMPL.match(line)
+        if block:
+            break
+    if not block:
+        return Owner(module_of(file), None, None, name)
+    module = module_of(file) if block["trait"] else modules_of_types(folder).get(block["type"], module_of(file))
+    trait = block["trait"] and block["trait"] + "".join(re.findall(r"\w+", block["of"] or ""))
+    return Owner(module, block["type"], trait, name)
+
+
+class Edit:
+    """One wrong body of a crate."""
+
+    def __init__(self, crate, path):
+        self.crate, self.path, self.name = crate, path, path.stem
+        self.changes, self.owners, self.is_outside = [], set(), False
+        self.taken_out, self.times_taken_out, self.open_clauses, self.open_goals = {}, 0, set(), []
+        noted = OPEN.search(path.read_text())
+        self.noted_open = noted[1] if noted else None
+        texts, self.fault = kit.rt.read_edit(str(path), crate.folder)
+        for file, text in (texts or {}).items():
+            was, now = (pathlib.Path(crate.folder) / file).read_text().split("\n"), text.split("\n")
+            for tag, first, end, begin, behind in difflib.SequenceMatcher(None, was, now, False).get_opcodes():
+                if tag != "equal":
+                    self.changes.append(Change(file, first, end, now[begin:behind]))
+                    self.note_owner(file, was, first)
+
+    def note_owner(self, file, lines, at):
+        owner = owner_of(self.crate.folder, file, lines, at) if file.startswith("src/") else None
+        if owner:
+            self.owners.add(owner)
+        else:
+            self.is_outside = True
+
+    def label(self):
+        return f"{self.crate.name}/{self.name}"
+
+    def note_clauses(self):
+        """Writes into its file which clauses of public calls it leaves open, and which goals stay open without a stored answer that no longer fits."""
+        kept = [line for line in self.path.read_text().split("\n") if not line.startswith(("# clause: ", "# open "))]
+        opened = [f"# open without its stored answer: {', '.join(self.open_goals)}"] if self.open_goals else []
+        self.path.write_text("\n".join([f"# clause: {it}" for it in sorted(self.open_clauses)] + opened + kept))
+
+    def where(self):
+        return ", ".join(sorted(owner.path() for owner in self.owners)) or "outside of any function"
+
+
+def read_all(crate, folder):
+    return [Edit(crate, path) for path in sorted(pathlib.Path(crate.folder, folder).glob("*.edit"))]
+
+
+def together(edits):
+    """The texts of the files with all these edits in them; they change different lines."""
+    changes = [change for edit in edits for change in edit.changes]
+    texts = {}
+    for file in {change.file for change in changes}:
+        lines = (pathlib.Path(edits[0].crate.folder) / file).read_text().split("\n")
+        for change in sorted((it for it in changes if it.file == file), key=lambda it: (it.first, it.end), reverse=True):
+            lines[change.first : change.end] = change.lines
+        texts[file] = "\n".join(lines)
+    for edit in edits:
+        texts |= edit.taken_out
+    return texts

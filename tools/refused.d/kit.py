@@ -1,0 +1,94 @@
+"""The kit's own ways of checking a crate with other texts in place of its own, over what an earlier check kept."""
+import importlib.machinery
+import importlib.util
+import os
+import pathlib
+import re
+import shutil
+import sys
+import tempfile
+
+ROOT = pathlib.Path(__file__).resolve().parent.parent.parent
+LINE = re.compile(r"^(?:fn|impl) ([^ ]*?): (.*)$")
+GENERICS = re.compile(r"<[^<>]*>")
+
+
+def load():
+    """The kit's command `rt` as a module: it knows the crates, their libraries and the words of a check."""
+    place = os.path.realpath(shutil.which("rt"))
+    loader = importlib.machinery.SourceFileLoader("rt_of_the_kit", place)
+    made = importlib.util.module_from_spec(importlib.util.spec_from_loader(loader.name, loader))
+    sys.modules[loader.name] = made
+    loader.exec_module(made)
+    return made
+
+
+rt = load()
+
+
+def crates(root):
+    """The crates of a repository by their names, lowest first."""
+    os.chdir(root)
+    return {crate.name: crate for crate in rt.crates_of(str(root))}
+
+
+def build_libraries(crate):
+    """Builds the libraries below a crate as `rt check` does, over what checks on this machine kept."""
+    return not any(below.build_rlib(["--jobs", "1"], anew=False) for below in crate.below())
+
+
+def are_of_the_gate(crate):
+    """Whether the libraries below a crate are those that `rt ci` left: they have no stamp, as those have that other commands build for themselves."""
+    return all(os.path.isfile(f"{below.rlib}/format") and not os.path.exists(f"{os.path.dirname(below.rlib)}/stamp") for below in crate.below())
+
+
+class Answer:
+    """What a check said: its status, what it said of each function, and its lines."""
+
+    def __init__(self, run):
+        self.status, self.lines = run.returncode, run.stdout.split("\n")
+        self.said = {}
+        for line in self.lines:
+            found = LINE.match(GENERICS.sub("", GENERICS.sub("", line)))
+            if found:
+                self.said[found[1]] = found[2]
+
+    def reached_the_prover(self):
+        return any(line.startswith(("logic=", "only=")) for line in self.lines)
+
+    def errors(self):
+        """The file and the line of each error, with what is said."""
+        for line in self.lines:
+            at = re.match(r"(?:\./)?(\S+?):(\d+):\d+: error(.*)", line)
+            if at:
+                yield at[1], int(at[2]), at[3]
+
+
+class Base:
+    """What a check of a crate as it stands kept; each further check begins with a copy of it."""
+
+    def __init__(self, crate, only=()):
+        self.crate, self.only = crate, [word for name in only for word in ("--only", name)]
+        self.room = tempfile.mkdtemp(prefix="refused-")
+        self.kept = f"{self.room}/kept"
+
+    def begin(self, start, jobs):
+        """Checks the crate as it stands, begun with what `start` holds where it is given, and tells whether it is proved."""
+        if start and os.path.isdir(start):
+            rt.linked(start, self.kept)
+        else:
+            os.mkdir(self.kept)
+        return Answer(rt.checked(self.crate, {}, ["--jobs", str(jobs), *self.only], self.kept))
+
+    def check(self, texts, only=()):
+        """What a check says of the crate with these texts in place of its own."""
+        words = [word for name in only for word in ("--only", name)] if self.only else []
+        over = f"{self.room}/over"
+        shutil.rmtree(over, ignore_errors=True)
+        rt.linked(self.kept, over)
+        answer = Answer(rt.checked(self.crate, texts, ["--jobs", "1", *words], over))
+        shutil.rmtree(over, ignore_errors=True)
+        return answer
+
+    def drop(self):
+        shutil.rmtree(self.room, ignore_errors=True)

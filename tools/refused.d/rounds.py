@@ -1,0 +1,189 @@
+"""A crate's wrong bodies, tried in rounds: in each one check tells of as many functions as have one.
+
+A function's proof rests on its own body and on the contracts below it, never on another body, so wrong bodies of different functions do not meet. One whose
+function calls another that is not proved in that round is not looked at, and is tried again in the next.
+"""
+import enum
+import pathlib
+import re
+
+import clauses
+import edits as edit_files
+
+OPEN = re.compile(r"`search` did not prove (.*)$")
+HIDDEN = re.compile(r"it (?:calls|waits)\b")
+# How often stored answers that no longer fit are taken out of an edit's way.
+TIMES = 3
+
+
+class Outcome(enum.Enum):
+    """What a try of a wrong body came to."""
+
+    REFUSED = "refused"
+    LIMIT = "refused by a limit of the prover alone"
+    ANSWER = "refused by a stored answer alone, which shows nothing of the contract"
+    PROVED = "PROVED"
+    BAD = "BAD EDIT"
+    UNTOLD = "NOT TOLD"
+
+
+PASSED = (Outcome.REFUSED, Outcome.LIMIT, Outcome.ANSWER)
+
+
+def names(paragraph, name):
+    return re.search(rf"(?<![\w-]){re.escape(name)}(?![\w-])", paragraph)
+
+
+def without_answers(text, lines):
+    """A file of answers without the paragraphs that have one of these lines, counted from 1, and without those that name what such a one defines."""
+    paragraphs, at, gone = re.split(r"(?<=\n)(?=\n)", text), 1, {}
+    heads = [re.match(r"(?:\s*--[^\n]*\n)*\s*(?:pub )?([^\s:]+)[^\n]* :", it) for it in paragraphs]
+    for number, paragraph in enumerate(paragraphs):
+        end = max(at + 1, at + paragraph.count("\n"))
+        if heads[number] and any(at <= line < end for line in lines):
+            gone[number] = heads[number][1]
+        at += paragraph.count("\n")
+    found = True
+    while found:
+        found = {number: heads[number][1] for number, it in enumerate(paragraphs) if heads[number] and number not in gone and any(names(it, name) for name in gone.values())}
+        gone |= found
+    kept = [it for number, it in enumerate(paragraphs) if number not in gone]
+    return "".join(without_unused(it, kept[at + 1 :]) for at, it in enumerate(kept))
+
+
+def without_unused(paragraph, others):
+    """A paragraph of `use` lines without the goals that the others do not name any more: a goal may be of another shape now."""
+    lines = []
+    for line in paragraph.split("\n"):
+        found = re.match(r"use (\S+\.Goals)\.\{(.*)\}$", line)
+        if found:
+            used = [name for name in found[2].split(", ") if any(names(it, name) for it in others)]
+            line = f"use {found[1]}.{{{', '.join(used)}}}" if used else None
+        lines.append(line)
+    return "\n".join(line for line in lines if line is not None)
+
+
+class Rounds:
+    """The rounds over one crate, and what each of its wrong bodies came to."""
+
+    def __init__(self, base, edits, tell, is_thorough):
+        self.base, self.tell, self.left, self.outcomes, self.is_thorough = base, tell, [], {}, is_thorough
+        self.number = 0
+        for edit in edits:
+            if edit.fault:
+                self.end(edit, Outcome.BAD, edit.fault)
+            else:
+                self.left.append(edit)
+
+    def end(self, edit, outcome, why):
+        self.outcomes[edit] = outcome
+        self.tell(f"  {outcome.value}: {edit.label()} [{edit.where()}] in round {self.number}{': ' + why if why else ''}")
+
+    def group(self):
+        """As many edits as can be tried at once: of each function one, or one alone that stands outside of any."""
+        taken, found = set(), []
+        for edit in self.left:
+            if edit.is_outside:
+                if not found:
+                    return [edit]
+            elif not edit.owners & taken:
+                found.append(edit)
+                taken |= edit.owners
+        return found
+
+    def run(self):
+        tried_alone = False
+        while self.left:
+            group = self.left[:1] if tried_alone else self.group()
+            self.number += 1
+            decided = self.one_round(group)
+            tried_alone = not decided
+            if not decided and len(group) == 1:
+                self.decide(group[0], Outcome.UNTOLD, "a function that it stands on is not proved")
+                tried_alone = False
+
+    def decide(self, edit, outcome, why=""):
+        self.left.remove(edit)
+        self.end(edit, outcome, why)
+
+    def one_round(self, group):
+        """Tries these together, and returns how many were decided."""
+        only = sorted({owner.path() for edit in group for owner in edit.owners})
+        answer = self.base.check(edit_files.together(group), only)
+        before = len(self.left)
+        if not answer.reached_the_prover():
+            self.without_broken(group, answer)
+            return before - len(self.left)
+        changed = 0
+        for edit in group:
+            changed += self.tell_of(edit, answer)
+        return before - len(self.left) + changed
+
+    def without_broken(self, group, answer):
+        """Takes out those that do not compile: those whose lines have an error, and where none has, each is tried by itself."""
+        errors = [(file, line, said) for file, line, said in answer.errors() if file.startswith("src/")]
+        broken = [edit for edit in group if any(self.has_line(edit, group, file, line) for file, line, _ in errors)]
+        if len(group) == 1:
+            broken = group
+        for edit in broken:
+            why = next((said for file, _, said in errors if any(change.file == file for change in edit.changes)), "")
+            self.decide(edit, Outcome.BAD, "it does not compile" + why[:160])
+        if not broken:
+            half = len(group) // 2
+            self.one_round(group[:half])
+            self.one_round(group[half:])
+
+    def has_line(self, edit, group, file, line):
+        """Whether a line of a file, as this round has it, is in a function that this edit changes."""
+        lines = edit_files.together(group).get(file, "").split("\n")
+        owner = edit_files.owner_of(edit.crate.folder, file, lines, line - 1)
+        return owner in edit.owners and any(change.file == file for change in edit.changes)
+
+    def tell_of(self, edit, answer):
+        """Decides an edit by what the round said of its functions; returns 1 where it is to be tried in another form."""
+        if edit.is_outside and not edit.owners:
+            own = [text for text in answer.said.values() if not text.startswith("proved") and not HIDDEN.search(text)]
+            self.decide(edit, Outcome.PROVED if answer.status == 0 else Outcome.REFUSED if own else Outcome.UNTOLD)
+            return 0
+        said = [text for owner in edit.owners for text in owner.lines(edit.crate.name, answer.said)]
+        goals = [found[1] for text in said for found in [OPEN.search(text)] if found]
+        own = [text for text in said if not text.startswith("proved") and not HIDDEN.search(text)]
+        if goals:
+            edit.open_clauses = clauses.opened(edit, answer.said)
+            edit.open_goals = goals if edit.taken_out else []
+            beside = ", without the stored answers that no longer fit" if edit.taken_out else ""
+            self.decide(edit, Outcome.REFUSED, f"open: {', '.join(goals)}{beside}"[:200])
+        elif any(text.startswith("could not tell") for text in own):
+            self.decide(edit, Outcome.LIMIT)
+        elif own:
+            return self.take_out(edit, answer)
+        elif any(HIDDEN.search(text) for text in said):
+            return 0
+        elif said:
+            self.decide(edit, Outcome.PROVED)
+        else:
+            self.decide(edit, Outcome.UNTOLD, "no line tells of its function")
+        return 0
+
+    def take_out(self, edit, answer):
+        """Has the edit tried again without the stored answers of its functions that no longer fit, so that their goals stand open, where that is asked for;
+        else its file says whether they did."""
+        said = next((said for file, _, said in answer.errors() if any(file.startswith(owner.proofs() + "/") for owner in edit.owners)), "")[:160]
+        if any(file == f"{owner.proofs()}/Proof.antt" for owner in edit.owners for file, _, _ in answer.errors()):
+            self.decide(edit, Outcome.REFUSED, "its proof by hand does not hold")
+            return 0
+        if not self.is_thorough:
+            self.decide(edit, *((Outcome.REFUSED, f"open without a stored answer: {edit.noted_open}") if edit.noted_open else (Outcome.ANSWER, said)))
+            return 0
+        edit.times_taken_out += 1
+        before = dict(edit.taken_out)
+        for owner in edit.owners:
+            name = f"{owner.proofs()}/Answers.antt"
+            lines = [line for file, line, _ in answer.errors() if file == name]
+            stored = pathlib.Path(edit.crate.folder, name)
+            if lines and stored.is_file():
+                edit.taken_out[name] = without_answers(before.get(name) or stored.read_text(), lines)
+        if edit.taken_out == before or edit.times_taken_out > TIMES:
+            self.decide(edit, Outcome.ANSWER, said)
+            return 0
+        return 1
