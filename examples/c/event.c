@@ -1,6 +1,8 @@
 /* An event with a struct and a text: who opened which descriptor, and when. */
 #include "heskavo.h"
 
+RING(events, 4096);
+
 struct context {
     u64 time;
     u32 process;
@@ -14,9 +16,10 @@ struct event {
     char call[8];
 };
 
+SEC("syscall")
 u64 event(const struct context *ctx)
 {
-    struct event *event = bpf_ringbuf_reserve(RING(0), sizeof *event, 0);
+    struct event *event = bpf_ringbuf_reserve(&events, sizeof *event, 0);
     if (!event)
         return 1;
     event->time = ctx->time;
@@ -26,3 +29,5 @@ u64 event(const struct context *ctx)
     bpf_ringbuf_submit(event, 0);
     return 0;
 }
+
+char _license[] SEC("license") = "GPL";

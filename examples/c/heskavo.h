@@ -1,21 +1,29 @@
-/* What a program needs to write into rings: the five helpers by their numbers, as bpf-helpers(7) declares them, and rings by theirs. */
+/* What a program needs to write into rings, by the names of <linux/bpf.h> and <bpf/bpf_helpers.h>, in whose place it stands: helpers, sections and maps.
+ * With WITH_LIBBPF defined those two are taken, from Debian's libbpf-dev. */
 #ifndef HESKAVO_H
 #define HESKAVO_H
 
-typedef unsigned char u8;
-typedef unsigned short u16;
-typedef unsigned int u32;
-typedef unsigned long long u64;
-typedef signed int s32;
-typedef signed long long s64;
+#ifdef WITH_LIBBPF
+#include <linux/bpf.h>
+#include <bpf/bpf_helpers.h>
+#else
 
-static long (*const bpf_ringbuf_output)(void *ring, const void *data, u64 size, u64 flags) = (void *)130;
-static void *(*const bpf_ringbuf_reserve)(void *ring, u64 size, u64 flags) = (void *)131;
-static void (*const bpf_ringbuf_submit)(void *record, u64 flags) = (void *)132;
-static void (*const bpf_ringbuf_discard)(void *record, u64 flags) = (void *)133;
-static u64 (*const bpf_ringbuf_query)(void *ring, u64 flags) = (void *)134;
+/* Puts a program, a map (".maps") or the license ("license") into a section. */
+#define SEC(name) __attribute__((section(name), used))
+
+/* A number of a map's definition. The maps of a file are its rings, numbered in their order. */
+#define __uint(name, val) int(*name)[val]
+
+/* The five helpers by their numbers, as bpf-helpers(7) declares them. */
+static long (*const bpf_ringbuf_output)(void *ringbuf, void *data, unsigned long long size, unsigned long long flags) = (void *)130;
+static void *(*const bpf_ringbuf_reserve)(void *ringbuf, unsigned long long size, unsigned long long flags) = (void *)131;
+static void (*const bpf_ringbuf_submit)(void *data, unsigned long long flags) = (void *)132;
+static void (*const bpf_ringbuf_discard)(void *data, unsigned long long flags) = (void *)133;
+static unsigned long long (*const bpf_ringbuf_query)(void *ringbuf, unsigned long long flags) = (void *)134;
 
 enum {
+    /* the type of a map that is a ring */
+    BPF_MAP_TYPE_RINGBUF = 27,
     /* flags of output, submit and discard */
     BPF_RB_NO_WAKEUP = 1,
     BPF_RB_FORCE_WAKEUP = 2,
@@ -26,13 +34,21 @@ enum {
     BPF_RB_PROD_POS = 3,
 };
 
-/* Ring n, a constant from 0 to 15: the wide load whose source field is 5, a map by its index (RFC 9669, section 5.4), into r1. */
-#define RING(n)                                                                                                        \
-    ({                                                                                                                 \
-        register void *ring_ asm("r1");                                                                                \
-        asm volatile(".byte 0x18,0x51,0,0,%c1,0,0,0,0,0,0,0,0,0,0,0" : "=r"(ring_) : "i"(n));                          \
-        ring_;                                                                                                         \
-    })
+#endif
+
+typedef unsigned char u8;
+typedef unsigned short u16;
+typedef unsigned int u32;
+typedef unsigned long long u64;
+typedef signed int s32;
+typedef signed long long s64;
+
+/* A ring of so many bytes. It has an initialiser, so that the rings of a file stand in their order: without it clang puts them in the order of their first use. */
+#define RING(name, bytes)                                                                                              \
+    struct {                                                                                                           \
+        __uint(type, BPF_MAP_TYPE_RINGBUF);                                                                            \
+        __uint(max_entries, bytes);                                                                                    \
+    } name SEC(".maps") = {}
 
 /* Stands behind the call that gives back a branch's record, where another branch gives back its own: without it clang makes one call of
  * the two, at which different references arrive along two edges, and the program is refused (V11). It makes no instruction. */

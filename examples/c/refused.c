@@ -1,6 +1,8 @@
 /* What was refused: three blocks are written, and the result says how many the ring refused, and how many bytes wait in it. */
 #include "heskavo.h"
 
+RING(events, 4096);
+
 struct context {
     u64 batch;
 };
@@ -13,7 +15,7 @@ struct block {
 
 static inline __attribute__((always_inline)) u64 refuses(u64 batch, u64 number)
 {
-    struct block *block = bpf_ringbuf_reserve(RING(0), sizeof *block, 0);
+    struct block *block = bpf_ringbuf_reserve(&events, sizeof *block, 0);
     if (!block)
         return 1;
     block->batch = batch;
@@ -22,10 +24,13 @@ static inline __attribute__((always_inline)) u64 refuses(u64 batch, u64 number)
     return 0;
 }
 
+SEC("syscall")
 u64 refused(const struct context *ctx)
 {
     u64 refused = refuses(ctx->batch, 0);
     refused += refuses(ctx->batch, 1);
     refused += refuses(ctx->batch, 2);
-    return refused << 32 | bpf_ringbuf_query(RING(0), BPF_RB_AVAIL_DATA);
+    return refused << 32 | bpf_ringbuf_query(&events, BPF_RB_AVAIL_DATA);
 }
+
+char _license[] SEC("license") = "GPL";

@@ -1,6 +1,8 @@
 /* Sampling: a latency is kept, but for each eighth measurement, which is discarded. */
 #include "heskavo.h"
 
+RING(events, 4096);
+
 struct context {
     u64 number;
     u64 begin;
@@ -12,9 +14,10 @@ struct sample {
     u64 latency;
 };
 
+SEC("syscall")
 u64 sampling(const struct context *ctx)
 {
-    struct sample *sample = bpf_ringbuf_reserve(RING(0), sizeof *sample, 0);
+    struct sample *sample = bpf_ringbuf_reserve(&events, sizeof *sample, 0);
     if (!sample)
         return 1;
     sample->number = ctx->number;
@@ -25,3 +28,5 @@ u64 sampling(const struct context *ctx)
         bpf_ringbuf_submit(sample, 0);
     return 0;
 }
+
+char _license[] SEC("license") = "GPL";

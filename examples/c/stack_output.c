@@ -1,6 +1,8 @@
 /* Output from the stack: a metric is put together there and written in one call, whose answer is the program's. */
 #include "heskavo.h"
 
+RING(events, 4096);
+
 struct context {
     u32 count;
     u32 errors;
@@ -14,6 +16,7 @@ struct metric {
     u32 per_mille;
 };
 
+SEC("syscall")
 u64 stack_output(const struct context *ctx)
 {
     struct metric metric = {
@@ -24,5 +27,7 @@ u64 stack_output(const struct context *ctx)
         metric.bytes_each = ctx->bytes / ctx->count;
         metric.per_mille = ctx->errors * 1000u / ctx->count;
     }
-    return bpf_ringbuf_output(RING(0), &metric, sizeof metric, 0);
+    return bpf_ringbuf_output(&events, &metric, sizeof metric, 0);
 }
+
+char _license[] SEC("license") = "GPL";

@@ -1,6 +1,9 @@
 /* Errors to a second ring: a call that failed is reported on ring 1 and wakes the reader, one that went well on ring 0. */
 #include "heskavo.h"
 
+RING(outcomes, 4096);
+RING(failures, 4096);
+
 struct context {
     u64 call;
     s64 result;
@@ -17,10 +20,11 @@ struct failure {
     u32 padding;
 };
 
+SEC("syscall")
 u64 two_rings(const struct context *ctx)
 {
     if (ctx->result < 0) {
-        struct failure *failure = bpf_ringbuf_reserve(RING(1), sizeof *failure, 0);
+        struct failure *failure = bpf_ringbuf_reserve(&failures, sizeof *failure, 0);
         if (!failure)
             return 1;
         failure->call = ctx->call;
@@ -29,7 +33,7 @@ u64 two_rings(const struct context *ctx)
         KEEP_APART();
         return 0;
     }
-    struct outcome *outcome = bpf_ringbuf_reserve(RING(0), sizeof *outcome, 0);
+    struct outcome *outcome = bpf_ringbuf_reserve(&outcomes, sizeof *outcome, 0);
     if (!outcome)
         return 1;
     outcome->call = ctx->call;
@@ -37,3 +41,5 @@ u64 two_rings(const struct context *ctx)
     bpf_ringbuf_submit(outcome, BPF_RB_NO_WAKEUP);
     return 0;
 }
+
+char _license[] SEC("license") = "GPL";

@@ -1,3 +1,4 @@
 pub mod Acceptance
 pub mod Explained
 pub mod MachineFaults
+pub mod PortableExplanation

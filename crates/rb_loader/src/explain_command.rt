@@ -42,8 +42,8 @@ pub fn explain<R: Read, W: Write>(
     }
 }
 
-// Why a program is refused, as a fault of a program.
-fn fault_of(reason: Reason) -> ProgramFault
+/// Why a program is refused, as a fault of a program.
+pub(crate) fn fault_of(reason: Reason) -> ProgramFault
     ensures { result ≡ fault_of_reason reason }
 {
     match reason {

@@ -6,7 +6,9 @@
 #![tactic(auto)]
 
 mod explain_command;
+mod portable_command;
 mod program;
 
 pub use explain_command::explain;
+pub use portable_command::explain_portable;
 pub use program::{Bounds, ProgramFault, accept, read_all, read_program, text_of};

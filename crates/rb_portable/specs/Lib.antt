@@ -1,0 +1,2 @@
+pub mod Portability
+pub mod Findings

@@ -1,0 +1,81 @@
+//! The findings of a program.
+
+ghost use Rattle.std.specs.Prelude.{◌≡◌, ◌<◌, ◌++◌, IfOk, OnOk, length, string_bytes};
+ghost use Rattle.std.specs.List.{flat_map};
+ghost use Rattle.rb_program.specs.Program.{unit_count};
+ghost use Rattle.rb_verifier.specs.Annotation.{state_at};
+ghost use Rattle.rb_portable.specs.Findings.{AreFindings, TellsFindings, finding_text, found_at, found_below};
+
+use crate::classes::class_of;
+use crate::finding::{Finding, push_finding};
+use rb_json::LineForm;
+use rb_program::Program;
+use rb_verifier::{AbsState, Verified};
+use std::alloc::{AllocError, Global};
+
+// Adds the finding of the instruction that begins at a unit, if it has one.
+fn find_at(
+    found: &mut Vec<Finding>,
+    program: &Program,
+    states: &[AbsState],
+    unit: u32,
+) -> Result<(), AllocError>
+    requires { unit < length states.now }
+    ensures added { OnOk result (found.new.items ≡ found.old.items ++ found_at program.now (state_at states.now) unit) }
+{
+    if let Some(insn) = program.at(unit)
+        && let Some(class) = class_of(&states[unit as usize], insn)
+    {
+        found.push(Finding { class, unit })?;
+    }
+    Ok(())
+}
+
+// The findings of a program by what is known at its units.
+#[tactic(auto, using(crate::proofs::Collecting::finds))]
+fn findings_of(
+    alloc: Global,
+    program: &Program,
+    states: &[AbsState],
+) -> Result<Vec<Finding>, AllocError>
+    requires { length states.now ≡ unit_count program.now }
+    ensures found { IfOk result (λ found. found.items ≡ found_below program.now (state_at states.now) (unit_count program.now)) }
+{
+    let mut found = Vec::new(alloc);
+    for unit in 0..program.units() {
+        find_at(&mut found, program, states, unit)?;
+    }
+    Ok(found)
+}
+
+/// Each unit at which Linux refuses a program that is accepted here, and why, in the order of the units. An error is out of memory. The time is linear in the
+/// units.
+pub fn findings(alloc: Global, verified: &Verified) -> Result<Vec<Finding>, AllocError>
+    ensures found { IfOk result (λ found. AreFindings verified.now found.items) }
+{
+    findings_of(alloc, verified.program(), verified.states())
+}
+
+// The lines of findings.
+#[tactic(auto, using(crate::proofs::Collecting::tells))]
+fn text_of(alloc: Global, form: LineForm, found: &[Finding]) -> Result<String, AllocError>
+    ensures text { IfOk result (λ text. string_bytes text ≡ flat_map (finding_text form) found.now) }
+{
+    let mut text = String::new(alloc);
+    for finding in found {
+        push_finding(&mut text, form, *finding)?;
+    }
+    Ok(text)
+}
+
+/// The lines of a program's findings, in words or as objects of JSON.
+pub fn findings_text(
+    alloc: Global,
+    verified: &Verified,
+    form: LineForm,
+) -> Result<String, AllocError>
+    ensures told { IfOk result (λ text. TellsFindings form verified.now (string_bytes text)) }
+{
+    let found = findings(alloc, verified)?;
+    text_of(alloc, form, found.as_slice())
+}

@@ -1,0 +1,265 @@
+//! The class of an instruction, by what is known in front of it.
+
+ghost use Rattle.std.specs.Prelude.{◌≡◌, ◌<◌, ◌≤◌, ℕ, ◌+ℤ◌, ◌-ℤ◌};
+ghost use Rattle.rb_verifier.specs.AbstractStates.{value_in};
+ghost use Rattle.rb_portable.specs.Portability as portability;
+
+use crate::linux_class::LinuxClass;
+use rb_insn::{BinaryOp, Insn, Operand, Reg, Width};
+use rb_verifier::{Abs, AbsState, Helper};
+
+/// The distance from which on Linux moves no pointer (kernel/bpf/verifier.c: BPF_MAX_VAR_OFF).
+const FAR: i128 = 1 << 29;
+
+// What is known of a register.
+fn value_of(state: &AbsState, register: Reg) -> Abs
+    ensures { result ≡ value_in state.now register.number }
+{
+    state.values[register.index()]
+}
+
+// A known number, read as signed.
+fn known_distance(value: Abs) -> Option<i64>
+    ensures { result ≡ portability.known_distance value }
+{
+    match value {
+        Abs::Known(n) => Some(n.cast_signed()),
+        _ => None,
+    }
+}
+
+// The number that the second operand is, where it is known.
+fn distance_of(operand: Operand, state: &AbsState) -> Option<i64>
+    ensures { result ≡ portability.distance_of operand state.now }
+{
+    match operand {
+        Operand::Immediate(k) => Some(i64::from(k)),
+        Operand::Register(register) => known_distance(value_of(state, register)),
+    }
+}
+
+// A class, where the condition does not hold.
+fn unless(holds: bool, class: LinuxClass) -> Option<LinuxClass>
+    ensures { result ≡ portability.unless holds class }
+{
+    if holds { None } else { Some(class) }
+}
+
+// What is left of an offset by a size.
+fn residue(offset: i64, size: u64) -> u64
+    requires { 0 < size }
+    ensures value { result ≡ portability.residue offset size }
+    ensures below { result < size }
+{
+    offset.cast_unsigned() % size
+}
+
+// Whether `by` behind an offset is a multiple of a size.
+fn is_aligned(at: i64, by: i64, size: u64) -> bool
+    requires positive { 0 < size }
+    requires short { size ≤ 8 }
+    ensures { result ≡ portability.is_aligned at by size }
+{
+    (residue(at, size) + residue(by, size)) % size == 0
+}
+
+// A load or a store of so many bytes, from `by` behind a pointer on.
+fn access_class(pointer: Abs, by: i64, size: u64) -> Option<LinuxClass>
+    requires positive { 0 < size }
+    requires short { size ≤ 8 }
+    ensures { result ≡ portability.access_class pointer by size }
+{
+    match pointer {
+        Abs::Stack(at) => unless(is_aligned(at, by, size), LinuxClass::StackAlignment),
+        Abs::Ctx(0) => unless(is_aligned(0, by, size), LinuxClass::ContextAlignment),
+        Abs::Ctx(_) => Some(LinuxClass::ContextMoved),
+        _ => None,
+    }
+}
+
+// Whether Linux allows a distance or an offset.
+fn is_close(offset: i128) -> bool
+    ensures { result ≡ portability.is_close offset }
+{
+    -FAR < offset && offset < FAR
+}
+
+// A pointer is moved by a distance to an offset.
+fn move_class(by: i64, to: i128) -> Option<LinuxClass>
+    ensures { result ≡ portability.move_class by to }
+{
+    let is_allowed = is_close(i128::from(by)) && is_close(to);
+    unless(is_allowed, LinuxClass::PointerFar)
+}
+
+// The sum of two numbers.
+fn sum(first: i64, second: i64) -> i128
+    ensures { result ≡ first +ℤ second }
+{
+    i128::from(first) + i128::from(second)
+}
+
+// The difference of two numbers.
+fn difference(first: i64, second: i64) -> i128
+    ensures { result ≡ first -ℤ second }
+{
+    i128::from(first) - i128::from(second)
+}
+
+// 64 bits are added to a register.
+fn add_class(dst: Abs, by: Option<i64>) -> Option<LinuxClass>
+    ensures { result ≡ portability.add_class dst by }
+{
+    match (dst, by) {
+        (Abs::Ctx(at), Some(by)) => move_class(by, sum(at, by)),
+        (Abs::Stack(at), Some(by)) => move_class(by, sum(at, by)),
+        (Abs::Record(_, at), Some(by)) => move_class(by, sum(at, by)),
+        _ => None,
+    }
+}
+
+// 64 bits are subtracted from a register.
+fn sub_class(dst: Abs, by: Option<i64>) -> Option<LinuxClass>
+    ensures { result ≡ portability.sub_class dst by }
+{
+    match (dst, by) {
+        (Abs::Stack(_), _) => Some(LinuxClass::StackSubtraction),
+        (Abs::Ctx(at), Some(by)) => move_class(by, difference(at, by)),
+        (Abs::Record(_, at), Some(by)) => move_class(by, difference(at, by)),
+        _ => None,
+    }
+}
+
+// How many bits a width has.
+fn bit_count(width: Width) -> i32
+    ensures { result ≡ portability.bit_count width }
+{
+    match width {
+        Width::W32 => 32,
+        Width::W64 => 64,
+    }
+}
+
+// A shift.
+fn shift_class(width: Width, operand: Operand) -> Option<LinuxClass>
+    ensures { result ≡ portability.shift_class width operand }
+{
+    match operand {
+        Operand::Immediate(by) => unless(0 <= by && by < bit_count(width), LinuxClass::Shift),
+        Operand::Register(_) => None,
+    }
+}
+
+// Arithmetic on what is known of two operands.
+fn binary_class(
+    width: Width,
+    op: BinaryOp,
+    operand: Operand,
+    dst: Abs,
+    by: Option<i64>,
+) -> Option<LinuxClass>
+    ensures { result ≡ portability.binary_class width op operand dst by }
+{
+    match (width, op) {
+        (Width::W64, BinaryOp::Add) => add_class(dst, by),
+        (Width::W64, BinaryOp::Sub) => sub_class(dst, by),
+        (_, BinaryOp::Lsh) | (_, BinaryOp::Rsh) | (_, BinaryOp::Arsh) => shift_class(
+            width, operand,
+        ),
+        _ => None,
+    }
+}
+
+// A division.
+fn division_class(operand: Operand) -> Option<LinuxClass>
+    ensures { result ≡ portability.division_class operand }
+{
+    match operand {
+        Operand::Immediate(0) => Some(LinuxClass::Division),
+        _ => None,
+    }
+}
+
+// An output of bytes that this leads to.
+fn output_class(bytes: Abs) -> Option<LinuxClass>
+    ensures { result ≡ portability.output_class bytes }
+{
+    match bytes {
+        Abs::Ctx(_) => Some(LinuxClass::ContextOutput),
+        Abs::Stack(0) => Some(LinuxClass::FrameTop),
+        _ => None,
+    }
+}
+
+// A call, with what its second argument is.
+fn call_class(helper: Option<Helper>, bytes: Abs) -> Option<LinuxClass>
+    ensures { result ≡ portability.call_class helper bytes }
+{
+    match helper {
+        Some(Helper::Output) => output_class(bytes),
+        _ => None,
+    }
+}
+
+/// Why Linux refuses an instruction in front of which this is known, by an instruction of an accepted program; none where it does not.
+pub fn class_of(state: &AbsState, insn: &Insn) -> Option<LinuxClass>
+    ensures { result ≡ portability.class_of state.now insn.now }
+{
+    match *insn {
+        Insn::Load {
+            size,
+            base,
+            offset,
+            ..
+        } => access_class(
+            value_of(state, base),
+            i64::from(offset),
+            size.bytes() as u64,
+        ),
+        Insn::LoadSigned {
+            size,
+            base,
+            offset,
+            ..
+        } => access_class(
+            value_of(state, base),
+            i64::from(offset),
+            size.bytes() as u64,
+        ),
+        Insn::StoreImmediate {
+            size,
+            base,
+            offset,
+            ..
+        } => access_class(
+            value_of(state, base),
+            i64::from(offset),
+            size.bytes() as u64,
+        ),
+        Insn::StoreRegister {
+            size,
+            base,
+            offset,
+            ..
+        } => access_class(
+            value_of(state, base),
+            i64::from(offset),
+            size.bytes() as u64,
+        ),
+        Insn::Binary {
+            width,
+            op,
+            dst,
+            operand,
+        } => binary_class(
+            width,
+            op,
+            operand,
+            value_of(state, dst),
+            distance_of(operand, state),
+        ),
+        Insn::Division { operand, .. } => division_class(operand),
+        Insn::Call { helper } => call_class(Helper::from_number(helper), state.values[2]),
+        _ => None,
+    }
+}
