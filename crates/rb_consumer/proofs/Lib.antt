@@ -1,2 +1,3 @@
 mod Batches
+mod BetweenLooks
 mod TapeItems

@@ -1,4 +1,5 @@
 pub mod Batches
+pub mod BetweenLooks
 pub mod Keepers
 pub mod Turns
 pub mod inner

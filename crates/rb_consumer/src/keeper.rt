@@ -54,7 +54,7 @@ impl Keeper {
     }
 
     /// The same, whose turns hand a ring's chapter out earlier, by so many entries: those that workers may add until the consumer comes
-    /// round again.
+    /// round again. How many are enough is in `chapters_are_full_after_their_ring`.
     pub fn with_margin(chapter: Chapter, margin: u32) -> Keeper
         ensures keeper { result ≡ record { chapter = chapter; margin = margin; is_lent = false } }
     {

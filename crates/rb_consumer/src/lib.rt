@@ -5,7 +5,8 @@
 //! Proved: what a `Batch` lends is what its one `take_many` took, in order and with nothing left out, so positions follow each other and
 //! the seat's numbers rise by them; fewer records than the capacity only where the front was busy then, or no record was left. All that a
 //! batch was filled with may go on a tape that stands at the consumer position before. A keeper hands a ring's chapter out exactly where it has entries and,
-//! with its margin, no room for one grant more; it lends that chapter as it was under the lock, and keeps it for the next turn.
+//! with its margin, no room for one grant more; it lends that chapter as it was under the lock, and keeps it for the next turn. With enough room and
+//! margin for the ring's size no chapter is full before the ring was (`chapters_are_full_after_their_ring`).
 //!
 //! ```text
 //! let mut batch = Batch::with_capacity(alloc, 64)?;
@@ -30,7 +31,9 @@
 mod batch;
 mod batch_items;
 mod keeper;
+mod look_laws;
 
 pub use batch::Batch;
 pub use batch_items::Events;
 pub use keeper::Keeper;
+pub use look_laws::chapters_are_full_after_their_ring;

@@ -9,6 +9,7 @@ pub mod ListedAnswers
 pub mod StoredMemory
 pub mod ShownState
 pub mod CodeCalls
+pub mod MachineRoom
 pub mod MachineState
 pub mod RunTraces
 pub mod inner

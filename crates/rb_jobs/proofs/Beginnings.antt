@@ -19,7 +19,7 @@ use Rattle.rb_ledger.proofs.Beginnings.{begins_with_all, begins_through, logged_
 use Rattle.rb_shared_ring.specs.SharedCalls.{RefusesInRoom, ReservesInRoom, OutputsInRoom}
 use Rattle.rb_interp.specs.AnsweredCalls.{AnsweredCall, Reserved, Submitted, Discarded, SentOut, Queried}
 use Rattle.rb_jobs.specs.declared.seat_record.SeatRecord.{SeatRecord}
-use Rattle.rb_jobs.specs.SeatCalls.{AtSeat, CallsSeats, OutputAnswered, RecordAnswered, SeatCallsRing, SeatIsRefused, SeatOutputs, ReserveAnswered, notice_of}
+use Rattle.rb_jobs.specs.SeatCalls.{AtSeat, CallsSeats, OutputAnswered, RecordAnswered, SeatCallsRing, SeatIsRefused, SeatOutputs, NoHandOrSheet, HasNoSheet, ReserveAnswered, notice_of}
 use Rattle.rb_jobs.specs.SeatLaws.{SeatsGoOn, SeatBegins}
 use Rattle.rb_jobs.specs.inner.RecordEnds.{SeatEnds, ended_call}
 use Rattle.rb_jobs.proofs.Ends.{ended_of}
@@ -50,12 +50,12 @@ ring_grants room cut w n r old new called = logged_begins old new _ called.0.log
 ring_queries : (what answer : ℕ) (old new : Ring) → Queries what answer old new → BeginsWith (book_of new) (book_of old)
 ring_queries what answer old new called = same_begins old new called.0
 
-refused_begins : (n unlogged : ℕ) (b a : WorkerSeat) → SeatIsRefused n unlogged b a → SeatBegins b a
-refused_begins n unlogged b a (inl full) =
+refused_begins : (Uncalled : WorkerSeat → Type 0) (n unlogged : ℕ) (b a : WorkerSeat) → SeatIsRefused Uncalled n unlogged b a → SeatBegins b a
+refused_begins Uncalled n unlogged b a (inl full) =
     seat_begins b a _ full.0.0 (ring_full b.room a.cut b.worker n)
-refused_begins n unlogged b a (inr (inl full)) =
-    seat_begins b a _ full.0.0 (ring_chapter_full b.room a.cut b.worker n)
-refused_begins n unlogged b a (inr (inr none)) = subst (λ (s : WorkerSeat). SeatBegins b s) (sym none.0) (begins_itself b)
+refused_begins Uncalled n unlogged b a (inr (inl full)) =
+    seat_begins b a _ full.0.at_last.0 (ring_chapter_full b.room a.cut b.worker n)
+refused_begins Uncalled n unlogged b a (inr (inr none)) = subst (λ (s : WorkerSeat). SeatBegins b s) (sym none.1) (begins_itself b)
 
 ring_ends : (end : RecordEnd) (r : Granted) (flags : ℕ) (notice : Notice) (old new : Ring) → EndsAt end r flags notice old new → BeginsWith (book_of new) (book_of old)
 ring_ends Submit r flags told old new called = logged_begins old new _ called.0.logged
@@ -94,13 +94,13 @@ reserve_begins ring n flags (Some r) unlogged old new led flagged =
     begins_at ring _ old new
     (λ b a did. seat_begins b a _ did.0 (ring_grants b.room a.cut b.worker n r.reservation.granted)) led.3
 reserve_begins ring n flags None unlogged old new led (inl above) = begins_nowhere old new (led.1 (λ e. absurd (omega (arith, above, e)))).0
-reserve_begins ring n flags None unlogged old new led (inr zero) = begins_at ring _ old new (refused_begins n unlogged) (led.0 (omega (arith, zero)))
+reserve_begins ring n flags None unlogged old new led (inr zero) = begins_at ring _ old new (refused_begins (NoHandOrSheet n) n unlogged) (led.0 (omega (arith, zero)))
 
 output_begins : (ring : ℕ) (bytes : List ℕ) (flags : ℕ) (answer : ℤ) (due : Bool) (unlogged : ℕ) (old new : List WorkerSeat) → OutputAnswered ring bytes flags answer due unlogged old new
     → (answer ≡ pos 0) ⊎ (answer ≡ negsuc 10) ⊎ (answer ≡ negsuc 21) → AllZip SeatBegins old new
 output_begins ring bytes flags answer due unlogged old new led (inl is) =
     begins_at ring (SeatOutputs bytes flags due) old new (sent_begins bytes flags due) (led.sent is).0
-output_begins ring bytes flags answer due unlogged old new led (inr (inl is)) = begins_at ring _ old new (refused_begins (length bytes) unlogged) (led.refused is).0
+output_begins ring bytes flags answer due unlogged old new led (inr (inl is)) = begins_at ring _ old new (refused_begins (HasNoSheet (length bytes)) (length bytes) unlogged) (led.refused is).0
 output_begins ring bytes flags answer due unlogged old new led (inr (inr is)) = begins_nowhere old new (led.no_step is).0
 
 end_goes_on : (end : RecordEnd) (owned : SeatRecord) (flags : ℕ) (taken due : Bool) (unlogged : ℕ) (old new : List WorkerSeat) → CallsSeats (ended_call end owned flags taken) due unlogged old new → AllZip SeatBegins old new

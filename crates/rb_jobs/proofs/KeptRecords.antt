@@ -10,7 +10,7 @@ use Rattle.rb_chapter_ring.specs.HandGranted.{HandGranted}
 use Rattle.rb_chapter_ring.specs.declared.record_end.RecordEnd.{RecordEnd}
 use Rattle.rb_interp.specs.AnsweredCalls.{Reserved, SentOut, Queried}
 use Rattle.rb_jobs.specs.declared.seat_record.SeatRecord.{SeatRecord}
-use Rattle.rb_jobs.specs.SeatCalls.{AtSeat, IsOutAtSeat, SeatQueries, SeatIsGranted, SeatIsRefused, SeatOutputs, ReserveAnswered, RecordAnswered, OutputAnswered}
+use Rattle.rb_jobs.specs.SeatCalls.{AtSeat, IsOutAtSeat, SeatQueries, SeatIsGranted, SeatIsRefused, SeatOutputs, NoHandOrSheet, HasNoSheet, ReserveAnswered, RecordAnswered, OutputAnswered}
 use Rattle.rb_jobs.specs.SeatHelpers.{AtSeats, CallsHelpers}
 use Rattle.rb_jobs.specs.KeptRecords.{IsStillOut, record_name}
 use Rattle.rb_jobs.specs.inner.RecordEnds.{SeatEnds, ended_call}
@@ -70,10 +70,11 @@ nothing-done At b a same = same-hands At b a (ap (λ (s : WorkerSeat). s.tag) sa
 queried : (what answer : ℕ) (b a : WorkerSeat) → SeatQueries what answer b a → StaysOut Anywhere b a
 queried what answer b a did = same-hands Anywhere b a (ap (λ (s : WorkerSeat). s.tag) did.1) (ap (λ (s : WorkerSeat). s.worker) did.1) (ap (λ (s : WorkerSeat). s.hands) did.1)
 
-refused : (n unlogged : ℕ) (b a : WorkerSeat) → SeatIsRefused n unlogged b a → StaysOut Anywhere b a
-refused n unlogged b a (inl full) = same-hands Anywhere b a (ap (λ (s : WorkerSeat). s.tag) full.0.1) (ap (λ (s : WorkerSeat). s.worker) full.0.1) (ap (λ (s : WorkerSeat). s.hands) full.0.1)
-refused n unlogged b a (inr (inl full)) = same-hands Anywhere b a (ap (λ (s : WorkerSeat). s.tag) full.0.1) (ap (λ (s : WorkerSeat). s.worker) full.0.1) (ap (λ (s : WorkerSeat). s.hands) full.0.1)
-refused n unlogged b a (inr (inr none)) = nothing-done Anywhere b a none.0
+refused : (Uncalled : WorkerSeat → Type 0) (n unlogged : ℕ) (b a : WorkerSeat) → SeatIsRefused Uncalled n unlogged b a → StaysOut Anywhere b a
+refused Uncalled n unlogged b a (inl full) = same-hands Anywhere b a (ap (λ (s : WorkerSeat). s.tag) full.0.1) (ap (λ (s : WorkerSeat). s.worker) full.0.1) (ap (λ (s : WorkerSeat). s.hands) full.0.1)
+refused Uncalled n unlogged b a (inr (inl full)) =
+    let is = full.0.at_last.1 in same-hands Anywhere b a (ap (λ (s : WorkerSeat). s.tag) is) (ap (λ (s : WorkerSeat). s.worker) is) (ap (λ (s : WorkerSeat). s.hands) is)
+refused Uncalled n unlogged b a (inr (inr none)) = nothing-done Anywhere b a none.1
 
 sent : (bytes : List ℕ) (flags : ℕ) (due : Bool) (b a : WorkerSeat) → SeatOutputs bytes flags due b a → StaysOut Anywhere b a
 sent bytes flags due b a did =
@@ -155,7 +156,7 @@ module _ (old new : AtSeats) where
   reserve-keeps ring n flags None unlogged led s = by_flags (zero-or flags)
     where
       by_flags : (flags ≡ 0) ⊎ (flags ≢ 0) → IsStillOut old s → IsStillOut new s
-      by_flags (inl none) = kept-at (SeatIsRefused n unlogged) Anywhere ring (refused n unlogged) (led.0 none) s (λ e. tt)
+      by_flags (inl none) = kept-at (SeatIsRefused (NoHandOrSheet n) n unlogged) Anywhere ring (refused (NoHandOrSheet n) n unlogged) (led.0 none) s (λ e. tt)
       by_flags (inr some) = same-seats (led.1 some).0 s
 
   reserve-kept : (ring n flags : ℕ) (answer : Option SeatRecord) (unlogged : ℕ) → ReserveAnswered ring n flags answer unlogged old.seats new.seats
@@ -213,7 +214,7 @@ module _ (old new : AtSeats) where
   output-keeps : (ring : ℕ) (bytes : List ℕ) (flags : ℕ) (answer : ℤ) (due : Bool) (unlogged : ℕ) → OutputAnswered ring bytes flags answer due unlogged old.seats new.seats → (answer ≡ pos 0) ⊎ (answer ≡ negsuc 10) ⊎ (answer ≡ negsuc 21)
       → (s : SeatRecord) → IsStillOut old s → IsStillOut new s
   output-keeps ring bytes flags answer due unlogged led (inl is) s = kept-at (SeatOutputs bytes flags due) Anywhere ring (sent bytes flags due) (led.sent is).0 s (λ e. tt)
-  output-keeps ring bytes flags answer due unlogged led (inr (inl is)) s = kept-at (SeatIsRefused (length bytes) unlogged) Anywhere ring (refused (length bytes) unlogged) (led.refused is).0 s (λ e. tt)
+  output-keeps ring bytes flags answer due unlogged led (inr (inl is)) s = kept-at (SeatIsRefused (HasNoSheet (length bytes)) (length bytes) unlogged) Anywhere ring (refused (HasNoSheet (length bytes)) (length bytes) unlogged) (led.refused is).0 s (λ e. tt)
   output-keeps ring bytes flags answer due unlogged led (inr (inr is)) s = same-seats (led.no_step is).0 s
 
   query-keeps : (ring what answer : ℕ) → AtSeat ring (SeatQueries what answer) old.seats new.seats → (s : SeatRecord) → IsStillOut old s → IsStillOut new s

@@ -1,4 +1,5 @@
 pub mod Beginnings
+pub mod ChapterTries
 pub mod Ends
 pub mod KeptRecords
 pub mod Leading

@@ -11,7 +11,7 @@ use Rattle.rb_interp.specs.AnsweredCalls.{AnsweredCall, Reserved, SentOut, Queri
 use Rattle.rb_jobs.specs.declared.no_record.NoRecord.{NoRecord}
 use Rattle.rb_jobs.specs.declared.no_record.NoRecord.TheVariants.{BadFlags, NoSheet, Refused}
 use Rattle.rb_jobs.specs.declared.seat_record.SeatRecord.{SeatRecord}
-use Rattle.rb_jobs.specs.SeatCalls.{AtSeat, CallsSeats, RecordAnswered, SeatIsRefused, SeatQueries}
+use Rattle.rb_jobs.specs.SeatCalls.{AtSeat, CallsSeats, RecordAnswered, SeatIsRefused, SeatQueries, NoHandOrSheet, HasNoSheet}
 use Rattle.rb_jobs.specs.SeatHelpers.{AtSeats, CallsHelpers, Leads}
 use Rattle.rb_jobs.specs.inner.CallAnswers.{SeatFails, SeatReserves, SeatSends, due_in, output_number, unlogged_in, with_call}
 use Rattle.rb_jobs.specs.inner.RecordEnds.{SeatEnds, ended_call, ended_note}
@@ -68,16 +68,30 @@ few_flags answer flags bad other many = other (ap (λ x. answer_number x) (bad.1
 at_most : (flags : ℕ) → ¬ (3 < flags) → flags ≤ 3
 at_most flags few = omega (arith, few)
 
--- no record was made
+-- no record was made for a reservation
 refused_for : (ring n : ℕ) (fault : NoRecord) (old new : List WorkerSeat) → AtSeat ring (SeatFails n fault) old new
-    → AtSeat ring (SeatIsRefused n (cond (unlogged_in {T = HandGranted} (Err fault)) 1 0)) old new
+    → AtSeat ring (SeatIsRefused (NoHandOrSheet n) n (cond (unlogged_in {T = HandGranted} (Err fault)) 1 0)) old new
 refused_for ring n BadFlags old new at = absurd at.did
-refused_for ring n NoSheet old new at = at_seat_as (SeatFails n NoSheet) (SeatIsRefused n 1) ring old new (λ b a none. inr (inr (none, refl))) at
-refused_for ring n (Refused Full) old new at = at_seat_as (SeatFails n (Refused Full)) (SeatIsRefused n 0) ring old new (λ b a full. inl (full, refl)) at
-refused_for ring n (Refused ChapterFull) old new at = at_seat_as (SeatFails n (Refused ChapterFull)) (SeatIsRefused n 1) ring old new (λ b a full. inr (inl (full, refl))) at
+refused_for ring n NoSheet old new at = at_seat_as (SeatFails n NoSheet) (SeatIsRefused (NoHandOrSheet n) n 1) ring old new (λ b a none. inr (inr (inr none.0, none.1, refl))) at
+refused_for ring n (Refused Full) old new at = at_seat_as (SeatFails n (Refused Full)) (SeatIsRefused (NoHandOrSheet n) n 0) ring old new (λ b a full. inl (full, refl)) at
+refused_for ring n (Refused ChapterFull) old new at = at_seat_as (SeatFails n (Refused ChapterFull)) (SeatIsRefused (NoHandOrSheet n) n 1) ring old new (λ b a full. inr (inl (full, refl))) at
 refused_for ring n (Refused Flags) old new at = absurd at.did
 refused_for ring n (Refused Foreign) old new at = absurd at.did
-refused_for ring n (Refused HandsFull) old new at = at_seat_as (SeatFails n (Refused HandsFull)) (SeatIsRefused n 1) ring old new (λ b a none. inr (inr (none, refl))) at
+refused_for ring n (Refused HandsFull) old new at = at_seat_as (SeatFails n (Refused HandsFull)) (SeatIsRefused (NoHandOrSheet n) n 1) ring old new (λ b a none. inr (inr (inl none.0, none.1, refl))) at
+
+-- for an output, which takes no hand
+abbrev FailsWithHands : ℕ → NoRecord → WorkerSeat → WorkerSeat → Type 0
+FailsWithHands n fault b a = SeatFails n fault b a × (fault ≢ Refused HandsFull)
+
+not_sent_for : (ring n : ℕ) (fault : NoRecord) (old new : List WorkerSeat) → AtSeat ring (FailsWithHands n fault) old new
+    → AtSeat ring (SeatIsRefused (HasNoSheet n) n (cond (unlogged_in {T = Notice} (Err fault)) 1 0)) old new
+not_sent_for ring n BadFlags old new at = absurd at.did.0
+not_sent_for ring n NoSheet old new at = at_seat_as (FailsWithHands n NoSheet) (SeatIsRefused (HasNoSheet n) n 1) ring old new (λ b a none. inr (inr (none.0.0, none.0.1, refl))) at
+not_sent_for ring n (Refused Full) old new at = at_seat_as (FailsWithHands n (Refused Full)) (SeatIsRefused (HasNoSheet n) n 0) ring old new (λ b a full. inl (full.0, refl)) at
+not_sent_for ring n (Refused ChapterFull) old new at = at_seat_as (FailsWithHands n (Refused ChapterFull)) (SeatIsRefused (HasNoSheet n) n 1) ring old new (λ b a full. inr (inl (full.0, refl))) at
+not_sent_for ring n (Refused Flags) old new at = absurd at.did.0
+not_sent_for ring n (Refused Foreign) old new at = absurd at.did.0
+not_sent_for ring n (Refused HandsFull) old new at = absurd (at.did.1 refl)
 
 -- ---- reserve
 
@@ -148,7 +162,7 @@ apart : (a b : ℤ) → below_zero a ≢ below_zero b → a ≢ b
 apart a b other is = other (ap below_zero is)
 
 -- no record was made of the bytes
-not_output : (ring : ℕ) (bytes : List ℕ) (flags unlogged : ℕ) (old new : List WorkerSeat) → ¬ (3 < flags) → AtSeat ring (SeatIsRefused (length bytes) unlogged) old new
+not_output : (ring : ℕ) (bytes : List ℕ) (flags unlogged : ℕ) (old new : List WorkerSeat) → ¬ (3 < flags) → AtSeat ring (SeatIsRefused (HasNoSheet (length bytes)) (length bytes) unlogged) old new
     → CallsSeats (SentOut ring bytes flags (negsuc 10)) false unlogged old new
 not_output ring bytes flags unlogged old new few at = record {
   answer_is = ((λ e. absurd (apart (negsuc 10) (negsuc 21) (λ n. absurd (omega (arith, n))) e), λ many. absurd (few many)), inr (inl refl));
@@ -176,10 +190,10 @@ output_seats ring bytes flags (Err BadFlags) old new bad no_step at = record {
 }
 output_seats ring bytes flags (Err NoSheet) old new bad no_step at =
     let few = few_flags (no_answer NoSheet) flags bad (λ e. absurd (omega (arith, e))) in
-    not_output ring bytes flags 1 old new few (refused_for ring (length bytes) NoSheet old new (at (at_most flags few)))
+    not_output ring bytes flags 1 old new few (not_sent_for ring (length bytes) NoSheet old new (at (at_most flags few)))
 output_seats ring bytes flags (Err (Refused fault)) old new bad no_step at =
     let few = few_flags (no_answer (Refused fault)) flags bad (λ e. absurd (omega (arith, e))) in
-    not_output ring bytes flags _ old new few (refused_for ring (length bytes) (Refused fault) old new (at (at_most flags few)))
+    not_output ring bytes flags _ old new few (not_sent_for ring (length bytes) (Refused fault) old new (at (at_most flags few)))
 
 pub output : (old mid next : AtSeats) (ring : ℕ) (bytes : List ℕ) (flags : ℕ) (answer : Result Notice NoRecord) (number : ℤ) (unlogged due : Bool)
     → number ≡ output_number answer → unlogged ≡ unlogged_in answer → due ≡ due_in answer → mid ≡ record old { seats = mid.seats }

@@ -1,12 +1,12 @@
 -- What the ring's answer to one call makes of the seat that made it.
-use Rattle.std.proofs.Common.{◌≡◌, ◌≢◌, ℕ, zero, suc, ◌+◌, ◌<◌, ◌≤◌, Bool, false, List, [], ◌∷◌, length, get_or, set, Some, Result, Ok, Err, None, IfOk, IfErr, is_ok, ◌↔◌, refl, ap, sym, ◌∙◌, subst, arith}
+use Rattle.std.proofs.Common.{◌≡◌, ◌≢◌, ℕ, zero, suc, ◌+◌, ◌<◌, ◌≤◌, Bool, false, List, [], ◌∷◌, length, get_or, set, Some, Result, Ok, Err, None, IfOk, IfErr, is_ok, ◌↔◌, ◌⊎◌, inl, inr, refl, ap, sym, ◌∙◌, subst, arith}
 use Rattle.std.proofs.lemmas.Option.{slice_get_read}
 use Rattle.std.proofs.lemmas.List.{length-replicate, get_or-set_same}
 use Rattle.std.specs.Prelude.{slice_get, IsOk, OnOk}
 use Rattle.rb_history.specs.declared.answers.Notice.{Notice}
 use Rattle.rb_history.specs.declared.answers.Notice.TheVariants.{Due, NotDue}
 use Rattle.rb_history.specs.declared.tally.Tally.{Tally}
-use Rattle.rb_history.specs.RingModel.{Contents}
+use Rattle.rb_history.specs.RingModel.{Ring, Contents}
 use Rattle.rb_history.specs.Calls.{producer_now}
 use Rattle.rb_chapter_ring.specs.declared.faults.ReserveFault.{ReserveFault}
 use Rattle.rb_chapter_ring.specs.declared.faults.ReserveFault.TheVariants.{Full, Flags, ChapterFull, Foreign, HandsFull}
@@ -17,12 +17,11 @@ use Rattle.rb_chapter_ring.specs.Hands.{Hands, out_record, in_hand, IsLowestFree
 use Rattle.rb_chapter_ring.specs.HandGranted.{HandGranted}
 use Rattle.rb_ledger.specs.LockedCalls.{Queries, output_by, sent_by_output}
 use Rattle.rb_ledger.specs.inner.RecordEnds.{EndsAt, sent_by_end}
-use Rattle.rb_shared_ring.specs.SharedCalls.{RefusesInRoom, ReservesInRoom, OutputsInRoom, IsInSeatsHand, refused_in_room_by, output_in_room_by, sent_by_output_in_room}
+use Rattle.rb_shared_ring.specs.SharedCalls.{RefusesInRoom, ReservesInRoom, OutputsInRoom, IsInSeatsHand, IsRefusedInRoomAs, granted_in, hands_after_reserve, reserved_in_room_by, refused_in_room_by, output_in_room_by, sent_by_output_in_room}
 use Rattle.rb_jobs.specs.declared.no_record.NoRecord.{NoRecord}
-use Rattle.rb_jobs.specs.declared.no_record.NoRecord.TheVariants.{Refused}
 use Rattle.rb_jobs.specs.SeatCalls.{AtSeat, IsOutAtSeat, RecordAnswered, SeatCallsRing, SeatIsGranted, SeatQueries}
 use Rattle.rb_jobs.specs.SeatHelpers.{AtSeats, AtRings, IsAt}
-use Rattle.rb_jobs.specs.inner.CallAnswers.{SeatFails, SeatReserves, SeatSends, due_in}
+use Rattle.rb_jobs.specs.inner.CallAnswers.{SeatFails, SeatFailsOnce, SeatReserves, SeatReservesOnce, SeatSends, SeatSendsOnce, due_in}
 use Rattle.rb_jobs.specs.inner.RecordEnds.{SeatEnds}
 use Rattle.rb_jobs.proofs.Lists.{zip_at, zip_length, zip_set}
 use Rattle.rb_jobs.proofs.RingCalls.{called_as}
@@ -61,7 +60,7 @@ abbrev Refuses : ℕ → ℕ → ReserveFault → WorkerSeat → WorkerSeat → 
 Refuses w n fault b a = SeatCallsRing (λ old new. RefusesInRoom b.room a.cut old new w n fault × (fault ≢ Flags)) b a
 
 pub fails_at : (n : ℕ) (fault : ReserveFault) (b a : WorkerSeat) → IsSameSeat b a → (b.out ≡ None) × (a.out ≡ None) → a.tally ≡ refused_in_room_by b.tally fault → a.hands ≡ b.hands → a.sent ≡ b.sent
-    → Refuses b.worker n fault b a → SeatFails n (Refused fault) b a
+    → Refuses b.worker n fault b a → SeatFailsOnce n fault b a
 fails_at n Full b a same released tally hands sent call =
     (called_as b a _ _ (λ old new called. called.0) call, seat_is b a _ b.hands b.sent same released tally hands sent)
 fails_at n ChapterFull b a same released tally hands sent call =
@@ -72,13 +71,29 @@ fails_at n HandsFull b a same released tally hands sent call = absurd call.calle
 
 -- of a reservation: where no hand is free the ring is not called
 pub refused_at : (n : ℕ) (fault : ReserveFault) (b a : WorkerSeat) → IsSameSeat b a → (b.out ≡ None) × (a.out ≡ None) → a.tally ≡ refused_in_room_by b.tally fault → a.hands ≡ b.hands → a.sent ≡ b.sent
-    → (fault ≡ HandsFull → AreAllOut b.hands) → (AreAllOut b.hands → fault ≡ HandsFull) → (AreAllOut b.hands → a ≡ b) → (¬ AreAllOut b.hands → Refuses b.worker n fault b a) → SeatFails n (Refused fault) b a
-refused_at n HandsFull b a same released tally hands sent full all unchanged call = unchanged (full refl)
+    → (fault ≡ HandsFull → AreAllOut b.hands) → (AreAllOut b.hands → fault ≡ HandsFull) → (AreAllOut b.hands → a ≡ b) → (¬ AreAllOut b.hands → Refuses b.worker n fault b a) → SeatFailsOnce n fault b a
+refused_at n HandsFull b a same released tally hands sent full all unchanged call = (full refl, unchanged (full refl))
 refused_at n Full b a same released tally hands sent full all unchanged call = fails_at n Full b a same released tally hands sent (call (λ out. let no_way : Full ≡ HandsFull = all out in cc))
 refused_at n ChapterFull b a same released tally hands sent full all unchanged call =
     fails_at n ChapterFull b a same released tally hands sent (call (λ out. let no_way : ChapterFull ≡ HandsFull = all out in cc))
 refused_at n Flags b a same released tally hands sent full all unchanged call = fails_at n Flags b a same released tally hands sent (call (λ out. let no_way : Flags ≡ HandsFull = all out in cc))
 refused_at n Foreign b a same released tally hands sent full all unchanged call = fails_at n Foreign b a same released tally hands sent (call (λ out. let no_way : Foreign ≡ HandsFull = all out in cc))
+
+-- the answer, whichever it is
+pub reserved_once : (n tag : ℕ) (answer : Result HandGranted (ReserveFault × List ℕ)) (b a : WorkerSeat) → length b.hands ≡ 4 → b.tag ≡ tag → IsSameSeat b a → (b.out ≡ None) × (a.out ≡ None)
+    → a.tally ≡ reserved_in_room_by b.tally (granted_in answer) → a.hands ≡ hands_after_reserve b.hands n answer → a.sent ≡ b.sent → IfOk answer (λ r. r.granted.serial ≡ b.tally.made) → IfOk answer (λ r. r.tag ≡ b.tag)
+    → IfOk answer (λ r. IsLowestFree b.hands r.hand) → IsRefusedInRoomAs HandsFull answer ↔ ((b.tag ≡ tag) × AreAllOut b.hands) → ((b.tag ≢ tag) ⊎ AreAllOut b.hands → a ≡ b)
+    → (b.tag ≡ tag → ¬ AreAllOut b.hands → SeatCallsRing (ReservesInRoom b.room a.cut b.worker n (granted_in answer)) b a) → SeatReservesOnce n answer b a
+reserved_once n tag (Ok r) b a four at same released tally hands sent serial tags lowest full unchanged call =
+    granted_at n r b a four same released tally hands sent serial tags lowest (call at (λ out. absurd (full.1 (at, out))))
+reserved_once n tag (Err e) b a four at same released tally hands sent serial tags lowest full unchanged call =
+    refused_at n e.0 b a same released tally hands sent (λ is. (full.0 is).1) (λ out. full.1 (at, out)) (λ out. unchanged (inr out)) (call at)
+
+-- where the chapter has no room the hands are not all out
+pub free_once : (tag : ℕ) (answer : Result HandGranted (ReserveFault × List ℕ)) (b : WorkerSeat) → b.tag ≡ tag → IsRefusedInRoomAs HandsFull answer ↔ ((b.tag ≡ tag) × AreAllOut b.hands)
+    → IfErr answer (λ e. e.0 ≡ ChapterFull → ¬ AreAllOut b.hands)
+free_once tag (Ok r) b at full = tt
+free_once tag (Err e) b at full = λ is out. let no_way : ChapterFull ≡ HandsFull = sym is ∙ full.1 (at, out) in cc
 
 -- ---- submit and discard
 
@@ -149,10 +164,25 @@ not_bad_flags : (fault : ReserveFault) (flags : ℕ) → flags ≤ 3 → (fault 
 not_bad_flags fault flags few only is = absurd (let many : 3 < flags = only is in omega (arith, few, many))
 
 pub not_sent_at : (bytes : List ℕ) (flags : ℕ) (refused : ReserveFault × List ℕ) (b a : WorkerSeat) → flags ≤ 3 → IsSameSeat b a → (b.out ≡ None) × (a.out ≡ None) → a.tally ≡ refused_in_room_by b.tally refused.0 → a.hands ≡ b.hands
-    → SeatCallsRing (λ old new. OutputsInRoom b.room a.cut b.worker bytes flags (Err refused) old new × (a.sent ≡ b.sent)) b a → SeatFails (length bytes) (Refused refused.0) b a
+    → SeatCallsRing (λ old new. OutputsInRoom b.room a.cut b.worker bytes flags (Err refused) old new × (a.sent ≡ b.sent)) b a → SeatFailsOnce (length bytes) refused.0 b a
 not_sent_at bytes flags refused b a few same released tally hands call =
     fails_at (length bytes) refused.0 b a same released tally hands call.called.called.1
     (called_as b a _ _ (λ old new called. (called.0.0, not_bad_flags refused.0 flags few (λ is. called.0.1.0 is))) call)
+
+called_with_hands : (room cut : ℕ) (old new : Ring) (w n : ℕ) (fault : ReserveFault) → RefusesInRoom room cut old new w n fault → fault ≢ HandsFull
+called_with_hands room cut old new w n Full refuses is = cc
+called_with_hands room cut old new w n ChapterFull refuses is = cc
+called_with_hands room cut old new w n Flags refuses is = cc
+called_with_hands room cut old new w n Foreign refuses is = cc
+called_with_hands room cut old new w n HandsFull refuses is = refuses
+
+-- the answer, whichever it is
+pub sent_once : (bytes : List ℕ) (flags : ℕ) (answer : Result Notice (ReserveFault × List ℕ)) (b a : WorkerSeat) → flags ≤ 3 → IsSameSeat b a → (b.out ≡ None) × (a.out ≡ None)
+    → a.tally ≡ output_in_room_by b.tally answer → a.hands ≡ b.hands
+    → SeatCallsRing (λ old new. OutputsInRoom b.room a.cut b.worker bytes flags answer old new × (a.sent ≡ sent_by_output_in_room b.sent (producer_now old) bytes answer)) b a → SeatSendsOnce bytes flags answer b a
+sent_once bytes flags (Ok notice) b a few same released tally hands call = sent_at bytes flags notice b a same released tally hands call
+sent_once bytes flags (Err e) b a few same released tally hands call =
+    (not_sent_at bytes flags e b a few same released tally hands call, called_with_hands b.room a.cut call.point call.left b.worker (length bytes) e.0 call.called.called.0.0)
 
 -- ---- query
 

@@ -10,7 +10,7 @@ use Rattle.rb_interp.specs.declared.done.Done.{Done}
 use Rattle.rb_interp.specs.declared.done.Done.TheVariants.{Reserve, Submit, Discard, Output, Query}
 use Rattle.rb_interp.specs.AnsweredCalls.{AnsweredCall, Reserved, Submitted, Discarded, SentOut, Queried, note_of}
 use Rattle.rb_jobs.specs.declared.seat_record.SeatRecord.{SeatRecord}
-use Rattle.rb_jobs.specs.SeatCalls.{AtSeat, CallsSeats, OutputAnswered, RecordAnswered, SeatDiscards, SeatIsRefused, SeatSubmits}
+use Rattle.rb_jobs.specs.SeatCalls.{AtSeat, CallsSeats, OutputAnswered, RecordAnswered, SeatDiscards, SeatIsRefused, SeatSubmits, NoHandOrSheet, HasNoSheet}
 use Rattle.rb_jobs.specs.SeatHelpers.{makes, submits, discards, fails, made_in, refused_in, submitted_in, discarded_in}
 use Rattle.rb_jobs.specs.SeatLaws.{SeatsRise, TotalsRise}
 use Rattle.rb_jobs.proofs.Lists.{zip_self, zip_through, zip_one}
@@ -91,17 +91,17 @@ rises_nowhere d unlogged old new is none makes_is fails_is submits_is discards_i
 -- ---- the calls
 
 -- what a seat that was refused a record adds
-refusal_adds : (n unlogged : ℕ) (b a : WorkerSeat) → SeatIsRefused n unlogged b a → (r : ℕ) × Adds 0 r 0 0 b a × (r + unlogged ≡ 1)
-refusal_adds n unlogged b a (inl full) =
+refusal_adds : (Uncalled : WorkerSeat → Type 0) (n unlogged : ℕ) (b a : WorkerSeat) → SeatIsRefused Uncalled n unlogged b a → (r : ℕ) × Adds 0 r 0 0 b a × (r + unlogged ≡ 1)
+refusal_adds Uncalled n unlogged b a (inl full) =
     (1, adds_as 0 1 0 0 b a _ full.0.1 (record { tag_same = refl; ring_same = refl; room_same = refl; worker_same = refl }, add_zero _, refl, add_zero _, add_zero _), omega (arith, full.1))
-refusal_adds n unlogged b a (inr (inl full)) =
-    (0, adds_as 0 0 0 0 b a _ full.0.1 (record { tag_same = refl; ring_same = refl; room_same = refl; worker_same = refl }, add_zero _, add_zero _, add_zero _, add_zero _), omega (arith, full.1))
-refusal_adds n unlogged b a (inr (inr none)) = (0, adds_as 0 0 0 0 b a _ none.0 (same_seat b, add_zero _, add_zero _, add_zero _, add_zero _), omega (arith, none.1))
+refusal_adds Uncalled n unlogged b a (inr (inl full)) =
+    (0, adds_as 0 0 0 0 b a _ full.0.at_last.1 (record { tag_same = refl; ring_same = refl; room_same = refl; worker_same = refl }, add_zero _, add_zero _, add_zero _, add_zero _), omega (arith, full.1))
+refusal_adds Uncalled n unlogged b a (inr (inr none)) = (0, adds_as 0 0 0 0 b a _ none.1 (same_seat b, add_zero _, add_zero _, add_zero _, add_zero _), omega (arith, none.2))
 
-refused_rises : (d : Done) (ring n unlogged : ℕ) (old new : List WorkerSeat) → AtSeat ring (SeatIsRefused n unlogged) old new → 0 ≡ makes d → 1 ≡ fails d → 0 ≡ submits d → 0 ≡ discards d
+refused_rises : (Uncalled : WorkerSeat → Type 0) (d : Done) (ring n unlogged : ℕ) (old new : List WorkerSeat) → AtSeat ring (SeatIsRefused Uncalled n unlogged) old new → 0 ≡ makes d → 1 ≡ fails d → 0 ≡ submits d → 0 ≡ discards d
     → CallRises d unlogged old new
-refused_rises d ring n unlogged old new at makes_is fails_is submits_is discards_is =
-    let added = refusal_adds n unlogged at.before at.after at.did in
+refused_rises Uncalled d ring n unlogged old new at makes_is fails_is submits_is discards_is =
+    let added = refusal_adds Uncalled n unlogged at.before at.after at.did in
     rises_at d unlogged 0 added.0 0 0 ring _ old new at added.1 makes_is (added.2 ∙ fails_is) submits_is discards_is
 
 not_zero : (n : ℕ) → suc n ≢ 0
@@ -144,7 +144,7 @@ output_rises ring bytes flags answer due unlogged old new led (inl is) =
     (adds_as 1 0 1 0 sent.0.before sent.0.after _ sent.0.did.called.called.1 (record { tag_same = refl; ring_same = refl; room_same = refl; worker_same = refl }, refl, add_zero _, refl, add_zero _)) refl (none_added unlogged sent.1) refl refl)
 output_rises ring bytes flags answer due unlogged old new led (inr (inl is)) =
     subst (λ x. CallRises (Output ring (length bytes) flags x) unlogged old new) (sym is)
-    (refused_rises (Output ring (length bytes) flags (negsuc 10)) ring (length bytes) unlogged old new (led.refused is).0 refl refl refl refl)
+    (refused_rises (HasNoSheet (length bytes)) (Output ring (length bytes) flags (negsuc 10)) ring (length bytes) unlogged old new (led.refused is).0 refl refl refl refl)
 output_rises ring bytes flags answer due unlogged old new led (inr (inr is)) =
     let same = led.no_step is in
     subst (λ x. CallRises (Output ring (length bytes) flags x) unlogged old new) (sym is)
@@ -155,7 +155,7 @@ call_rises (Reserved ring n zero (Some r)) due unlogged old new led =
     rises_at (Reserve ring n 0 true) unlogged 1 0 0 0 ring _ old new led.0.3
     (adds_as 1 0 0 0 led.0.3.before led.0.3.after _ led.0.3.did.4 (record { tag_same = refl; ring_same = refl; room_same = refl; worker_same = refl }, refl, add_zero _, add_zero _, add_zero _)) refl (none_added unlogged led.0.1) refl refl
 call_rises (Reserved ring n (suc f) (Some r)) due unlogged old new led = absurd (not_zero f led.0.0)
-call_rises (Reserved ring n zero None) due unlogged old new led = refused_rises (Reserve ring n 0 false) ring n unlogged old new (led.0.0 refl) refl refl refl refl
+call_rises (Reserved ring n zero None) due unlogged old new led = refused_rises (NoHandOrSheet n) (Reserve ring n 0 false) ring n unlogged old new (led.0.0 refl) refl refl refl refl
 call_rises (Reserved ring n (suc f) None) due unlogged old new led =
     let same = led.0.1 (not_zero f) in rises_nowhere (Reserve ring n (suc f) false) unlogged old new same.0 same.1 refl refl refl refl
 call_rises (Submitted owned flags taken) due unlogged old new led = submit_rises owned flags taken due unlogged old new led.1 led.0 (cases_lt owned.ring (length old))

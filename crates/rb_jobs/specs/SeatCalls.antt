@@ -1,6 +1,6 @@
 -- What each call of a helper does to the one seat that it uses, before and after it, as the shared ring answers it over its whole history (own).
 use Rattle.std.specs.FinMap.{insert}
-use Rattle.std.specs.Prelude.{◌≡◌, ◌≢◌, ℕ, ◌+◌, ◌<◌, ◌≤◌, ◌⊎◌, ℤ, ◌↔◌, pos, neg_ℤ, Bool, true, false, List, length, slice_get, slice_set, Option, Some, None, Ok}
+use Rattle.std.specs.Prelude.{◌≡◌, ◌≢◌, ℕ, ◌+◌, ◌<◌, ◌≤◌, ◌⊎◌, ℤ, ◌↔◌, pos, neg_ℤ, Bool, true, false, List, [], ◌∷◌, length, slice_get, slice_set, Option, Some, None, Ok}
 use Rattle.rb_history.specs.declared.answers.Notice.{Notice}
 use Rattle.rb_history.specs.declared.answers.Notice.TheVariants.{Due, NotDue}
 use Rattle.rb_history.specs.RingModel.{Ring}
@@ -10,7 +10,7 @@ use Rattle.rb_ledger.specs.Roles.Role.{Worker}
 use Rattle.rb_ledger.specs.Seats.{WorkerSeat}
 use Rattle.rb_ledger.specs.LockedCalls.{LockedCall, SubmitsAt, DiscardsAt, Queries, output_by, sent_by_output}
 use Rattle.rb_ledger.specs.EntryRoom.{InRoom}
-use Rattle.rb_chapter_ring.specs.Hands.{out_record, in_hand, IsLowestFree}
+use Rattle.rb_chapter_ring.specs.Hands.{out_record, in_hand, AreAllOut, IsLowestFree}
 use Rattle.rb_chapter_ring.specs.HandGranted.{HandGranted}
 use Rattle.rb_shared_ring.specs.SharedCalls.{RefusesInRoom, ReservesInRoom, OutputsInRoom}
 use Rattle.rb_interp.specs.ErrorNumbers.{EAGAIN, EINVAL}
@@ -52,11 +52,39 @@ SeatFindsFull n b a =
 abbrev pub SeatFindsChapterFull : ℕ → WorkerSeat → WorkerSeat → Type 0
 SeatFindsChapterFull n b a = SeatCallsRing (λ old new. RefusesInRoom b.room a.cut old new b.worker n ChapterFull) b a × (a ≡ record b { seen = a.seen; cut = a.cut })
 
--- no record of n bytes was made: the ring had no room; or it had none for entries; or no hand was free for a reservation, or no sheet could be had,
--- which make no call of the ring. All but the first are unlogged
-abbrev pub SeatIsRefused : ℕ → ℕ → WorkerSeat → WorkerSeat → Type 0
-SeatIsRefused n unlogged b a =
-    (SeatFindsFull n b a × (unlogged ≡ 0)) ⊎ (SeatFindsChapterFull n b a × (unlogged ≡ 1)) ⊎ ((a ≡ b) × (unlogged ≡ 1))
+-- so at each call that left one of these seats behind, the calls one after another
+abbrev pub FindsChapterFullEach : ℕ → WorkerSeat → List WorkerSeat → WorkerSeat → Type 0
+FindsChapterFullEach n b [] a = a ≡ b
+FindsChapterFullEach n b (m ∷ ms) a = SeatFindsChapterFull n b m × FindsChapterFullEach n m ms a
+
+-- how often the ring is called for one record before a full chapter is told: its keeper may hand the chapter out meanwhile
+abbrev pub chapter_tries : ℕ
+chapter_tries = 64
+
+-- at as many calls the ring had no room for entries, and what the last of them says is so of all of them together
+pub record SeatGivesUp (n : ℕ) (b a : WorkerSeat) : Type 0 where
+  pub behind_each : List WorkerSeat
+  pub as_often : length behind_each ≡ chapter_tries
+  pub each : FindsChapterFullEach n b behind_each a
+  pub at_last : SeatFindsChapterFull n b a
+
+-- the bytes of a record do not fit into a sheet, so that it takes memory
+abbrev pub NeedsMemory : ℕ → Type 0
+NeedsMemory n = 16 < n
+
+-- no record of n bytes was made: the ring had no room; or its chapter had none, time after time; or the ring was not called, for this reason. All but
+-- the first are unlogged
+abbrev pub SeatIsRefused : (Uncalled : WorkerSeat → Type 0) → ℕ → ℕ → WorkerSeat → WorkerSeat → Type 0
+SeatIsRefused Uncalled n unlogged b a =
+    (SeatFindsFull n b a × (unlogged ≡ 0)) ⊎ (SeatGivesUp n b a × (unlogged ≡ 1)) ⊎ (Uncalled b × (a ≡ b) × (unlogged ≡ 1))
+
+-- why the ring is not called for a reservation: all four hands of the seat are out, or no sheet could be had
+abbrev pub NoHandOrSheet : ℕ → WorkerSeat → Type 0
+NoHandOrSheet n b = AreAllOut b.hands ⊎ NeedsMemory n
+
+-- and for an output, which takes no hand: no sheet could be had
+abbrev pub HasNoSheet : ℕ → WorkerSeat → Type 0
+HasNoSheet n b = NeedsMemory n
 
 abbrev pub notice_of : Bool → Notice
 notice_of true = Due
@@ -100,7 +128,7 @@ abbrev pub ReserveAnswered : ℕ → ℕ → ℕ → Option SeatRecord → ℕ �
 ReserveAnswered ring n flags (Some r) unlogged old new =
     (flags ≡ 0) × (unlogged ≡ 0) × (r.ring ≡ ring) × AtSeat ring (SeatIsGranted n r.reservation) old new
 ReserveAnswered ring n flags None unlogged old new =
-    (flags ≡ 0 → AtSeat ring (SeatIsRefused n unlogged) old new) × (flags ≢ 0 → (new ≡ old) × (unlogged ≡ 0))
+    (flags ≡ 0 → AtSeat ring (SeatIsRefused (NoHandOrSheet n) n unlogged) old new) × (flags ≢ 0 → (new ≡ old) × (unlogged ≡ 0))
 
 -- a call to submit or discard a record did so to the seat at its ring; a record of no ring here is handed back without a step
 pub record RecordAnswered (ring : ℕ) (taken due : Bool) (Did : WorkerSeat → WorkerSeat → Type 0) (old new : List WorkerSeat) : Type 0 where
@@ -111,7 +139,7 @@ pub record RecordAnswered (ring : ℕ) (taken due : Bool) (Did : WorkerSeat → 
 pub record OutputAnswered (ring : ℕ) (bytes : List ℕ) (flags : ℕ) (answer : ℤ) (due : Bool) (unlogged : ℕ) (old new : List WorkerSeat) : Type 0 where
   pub answer_is : MayAnswerOutput flags answer
   pub sent : answer ≡ pos 0 → AtSeat ring (SeatOutputs bytes flags due) old new × (unlogged ≡ 0)
-  pub refused : answer ≡ neg_ℤ EAGAIN → AtSeat ring (SeatIsRefused (length bytes) unlogged) old new × (due ≡ false)
+  pub refused : answer ≡ neg_ℤ EAGAIN → AtSeat ring (SeatIsRefused (HasNoSheet (length bytes)) (length bytes) unlogged) old new × (due ≡ false)
   pub no_step : answer ≡ neg_ℤ EINVAL → (new ≡ old) × (due ≡ false) × (unlogged ≡ 0)
 
 -- the call was made and answered so at the seats; whether it made a notice due, and how many failures it added that no history says

@@ -15,10 +15,10 @@ pub(crate) enum NoRecord {
 
 #[cold]
 #[inline(never)]
-/// Waits for some microseconds where the ring or its chapter has no room, and gives up the processor: the ring's consumer is late, perhaps for want of one.
-/// The next calls would find no room either, and be done with it much sooner than calls that find some.
+/// Waits for some microseconds where the ring has no room, and gives up the processor: the ring's consumer is late, perhaps for want of one.
+/// The next calls would find no room either, and be done with it much sooner than calls that find some. Where its chapter has none the worker has waited.
 pub(crate) fn give_way(fault: ReserveFault) {
-    if matches!(fault, ReserveFault::Full | ReserveFault::ChapterFull) {
+    if matches!(fault, ReserveFault::Full) {
         WaitBackoff::new().wait();
     }
 }

@@ -12,9 +12,10 @@ ghost use Rattle.rb_jobs.specs.inner.CallAnswers.{SeatReserves, SeatSends, with_
 mod giving_back;
 
 use crate::call_answers::{answer_of, is_due, is_unlogged};
-use crate::no_record::{NoRecord, give_way};
+use crate::no_record::NoRecord;
+use crate::ring_calls::{output_once, output_refused, reserve_once, reserve_refused};
 use crate::seat_record::SeatRecord;
-use crate::sheets::{copied_sheet, stock_sheet, zero_sheet};
+use crate::sheets::{copied_sheet, zero_sheet};
 use crate::stock::Stock;
 use rb_chapter_ring::RecordEnd;
 use rb_history::Notice;
@@ -168,16 +169,12 @@ impl<'h, R: Wait, S: Stock> SeatHelpers<'h, R, S> {
         }
         let sheet = zero_sheet(self.alloc, self.stock, n).ok_or(NoRecord::NoSheet)?;
         let at = ring as usize;
-        let seat = &self.seats[at];
-        seat.facts();
-        match self.rings[at].reserve(self.rt, &mut self.seats[at], n, sheet) {
-            Ok(reservation) => Ok(reservation),
-            Err(refused) => {
-                stock_sheet(self.stock, refused.1);
-                give_way(refused.0);
-                Err(NoRecord::Refused(refused.0))
-            }
-        }
+        let (shared, seat) = (&self.rings[at], &mut self.seats[at]);
+        let refused = match reserve_once(self.rt, shared, seat, n, sheet) {
+            Ok(reservation) => return Ok(reservation),
+            Err(refused) => refused,
+        };
+        reserve_refused(self.rt, self.stock, shared, seat, n, refused)
     }
 
     // Outputs the bytes at the ring's seat, without noting the call. Its sheet is made before the ring is held.
@@ -193,14 +190,12 @@ impl<'h, R: Wait, S: Stock> SeatHelpers<'h, R, S> {
         }
         let sheet = copied_sheet(self.alloc, self.stock, bytes).ok_or(NoRecord::NoSheet)?;
         let at = ring as usize;
-        match self.rings[at].output(self.rt, &mut self.seats[at], sheet, flags) {
-            Ok(notice) => Ok(notice),
-            Err(refused) => {
-                stock_sheet(self.stock, refused.1);
-                give_way(refused.0);
-                Err(NoRecord::Refused(refused.0))
-            }
-        }
+        let (shared, seat) = (&self.rings[at], &mut self.seats[at]);
+        let refused = match output_once(self.rt, shared, seat, sheet, flags) {
+            Ok(notice) => return Ok(notice),
+            Err(refused) => refused,
+        };
+        output_refused(self.rt, self.stock, shared, seat, refused, flags)
     }
 
     // Asks the ring for a number at its seat, without noting the call.
@@ -261,7 +256,8 @@ impl<'h, R: Wait, S: Stock> Helpers for SeatHelpers<'h, R, S> {
     ghost leads_on = { called_on };
 
     /// Null where flags are not 0, without memory and without a step of the ring; where the ring has no room, which its history says; and
-    /// where its chapter has no room, where none of the seat's four hands is free, or memory is refused, which are unlogged.
+    /// where its chapter has no room, at 64 calls between which the worker waits, where none of the seat's four hands is free, or where memory is
+    /// refused for more than 16 bytes, which are unlogged.
     fn reserve(&mut self, ring: u32, n: u32, flags: u64) -> Option<SeatRecord>
         requires room { 0 < self.old.room }
         requires ring { has_number self.old ring ≡ true }
@@ -327,8 +323,8 @@ impl<'h, R: Wait, S: Stock> Helpers for SeatHelpers<'h, R, S> {
     }
 
     /// `-EINVAL` where flags are above 3, without memory and without a step of the ring; `-EAGAIN` where the ring has no room, which its
-    /// history says, where its chapter has no room, where memory is refused, and for more bytes than a record can have, which are
-    /// unlogged; else 0.
+    /// history says, where its chapter has no room, at 64 calls between which the worker waits, where memory is refused for more than 16
+    /// bytes, and for more bytes than a record can have, which are unlogged; else 0.
     fn output(&mut self, ring: u32, bytes: &[u8], flags: u64) -> i64
         requires room { 0 < self.old.room }
         requires ring { has_number self.old ring ≡ true }

@@ -1,6 +1,6 @@
 //! The sheets of a call, which are made before the ring is held.
 
-ghost use Rattle.std.specs.Prelude.{◌≡◌, IfSome, replicate};
+ghost use Rattle.std.specs.Prelude.{◌≡◌, ◌≤◌, IfSome, IsSome, length, replicate};
 
 use crate::stock::{SHORT, Stock};
 use rb_lend::{Lent, Sheet};
@@ -12,9 +12,10 @@ pub(crate) fn stock_sheet<S: Stock>(stock: &S, sheet: Sheet) {
 }
 
 #[inline(always)]
-// A sheet of `n` zero bytes; where they take memory, a used one if the stock has one.
+// A sheet of `n` zero bytes; where they take memory, a used one if the stock has one. None only where they do.
 pub(crate) fn zero_sheet<S: Stock>(alloc: Global, stock: &S, n: u32) -> Option<Sheet>
-    ensures { IfSome result (λ s. s ≡ replicate n 0) }
+    ensures zeros { IfSome result (λ s. s ≡ replicate n 0) }
+    ensures short { n ≤ 16 → IsSome result }
 {
     if n <= SHORT {
         return Sheet::new(alloc, n).ok();
@@ -39,9 +40,10 @@ fn long_sheet<S: Stock>(alloc: Global, stock: &S, n: u32) -> Option<Sheet>
     }
 }
 
-// A sheet with a copy of these bytes; none for more than a sheet can have.
+// A sheet with a copy of these bytes; none for more than a sheet can have. None only where they take memory.
 pub(crate) fn copied_sheet<S: Stock>(alloc: Global, stock: &S, bytes: &[u8]) -> Option<Sheet>
-    ensures { IfSome result (λ s. s ≡ bytes.now) }
+    ensures copy { IfSome result (λ s. s ≡ bytes.now) }
+    ensures short { length bytes.now ≤ 16 → IsSome result }
 {
     if bytes.len() > u32::MAX as usize {
         return None;

@@ -1,6 +1,6 @@
 //! The bytes of one record.
 
-ghost use Rattle.std.specs.Prelude.{◌≡◌, ◌⊎◌, ◌<◌, ◌^◌, ℕ, List, [], IfOk, IfErr, replicate, length, vec_len, false};
+ghost use Rattle.std.specs.Prelude.{◌≡◌, ◌⊎◌, ◌<◌, ◌^◌, ℕ, List, [], IfOk, IfErr, IsOk, ◌≤◌, replicate, length, vec_len, false};
 
 use crate::lent::Lent;
 use crate::short::{CAPACITY, Short};
@@ -57,9 +57,11 @@ impl Model for Sheet {
 
 impl Sheet {
     #[inline]
-    /// A sheet of `n` zero bytes, or `AllocError` where there is no memory for them. In time linear in `n`.
+    /// A sheet of `n` zero bytes, or `AllocError` where there is no memory for them. Up to 16 bytes it is always there. In time
+    /// linear in `n`.
     pub fn new(alloc: Global, n: u32) -> Result<Sheet, AllocError>
         ensures zeros { IfOk result (λ s. s ≡ replicate n 0) }
+        ensures short { n ≤ 16 → IsOk result }
     {
         let n = n as usize;
         let bytes = if n <= CAPACITY {

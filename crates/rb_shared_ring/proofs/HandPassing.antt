@@ -99,6 +99,7 @@ pub record LeavesSeat (w : ℕ) (v after : HandPassView) (sent : Contents) (hand
   pub room : room_with after ≡ room_with v
   pub hands_are : hands_by after ≡ hands
   pub holds : HoldsOwnBusy (hands_by after) w (seen_with after).history
+  pub cut : cut_by v ≤ cut_by after
 
 module _ (w : ℕ) (v : HandPassView) (r : HandRing) (out : HandPassView) (idle : IsIdleWith (Worker w) v) (took : TakesHandState v r out) where
   -- the book has what the pass shows
@@ -167,4 +168,5 @@ module _ (w : ℕ) (v : HandPassView) (r : HandRing) (out : HandPassView) (idle 
       room = e.room;
       hands_are = hands-after ∙ are;
       holds = holds-after;
+      cut = subst (λ n. cut_by v ≤ n) (sym cut-same) (knows-taken (Worker w) v r out idle took).cut_within;
     }

@@ -13,3 +13,4 @@ mod TakenNumbers
 mod OpenedSeats
 mod GatheredSeats
 mod WholeLaws
+mod KeptReservations

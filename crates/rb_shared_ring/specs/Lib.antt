@@ -1,5 +1,6 @@
 pub mod SharedCalls
 pub mod AnswersOverAll
+pub mod KeptReservations
 pub mod SharedSeats
 pub mod BoundSeats
 pub mod inner

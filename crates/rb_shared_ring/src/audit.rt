@@ -1,6 +1,6 @@
 //! An audit: a ring's positions and counts at one moment.
 
-ghost use Rattle.std.specs.Prelude.{◌≡◌, ◌≢◌, ◌↔◌, ◌<◌, IfOk, IsErr, None, length, slice_index_or};
+ghost use Rattle.std.specs.Prelude.{◌≡◌, ◌≢◌, ◌↔◌, ◌<◌, ◌≤◌, IfOk, IsErr, None, length, slice_index_or};
 ghost use Rattle.crossbeam_queue.specs.Passes.{view, IsPassOf, IsSamePass, ruled_capacity};
 ghost use Rattle.rb_chapter_ring.specs.Standing.{no_tally};
 ghost use Rattle.rb_ledger.specs.Roles.Role.{Worker};
@@ -77,6 +77,7 @@ fn audit_with<R: Wait>(
     ensures room { room_with (view pass.new) ≡ room_with (view pass.old) }
     ensures hands { hands_by (view pass.new) ≡ hands_by (view pass.old) }
     ensures holds { HoldsOwnBusy (hands_by (view pass.new)) worker (seen_with (view pass.new)).history }
+    ensures cut { cut_by (view pass.old) ≤ cut_by (view pass.new) }
 {
     with_state(
         rt,
@@ -104,6 +105,7 @@ impl SharedRing {
         ensures tally { seat.new.tally ≡ seat.old.tally }
         ensures hands { seat.new.hands ≡ seat.old.hands }
         ensures sent { seat.new.sent ≡ seat.old.sent }
+        ensures cut { seat.old.cut ≤ seat.new.cut }
     {
         if seat.tag != self.tag {
             return Err(Foreign);

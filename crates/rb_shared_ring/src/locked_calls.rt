@@ -1,6 +1,6 @@
 //! The calls of a ring of one thread, each on the state that the lock holds. The lock is held for that one call alone.
 
-ghost use Rattle.std.specs.Prelude.{◌≡◌, ◌<◌, None, Some, IfOk, IfErr, length, slice_set};
+ghost use Rattle.std.specs.Prelude.{◌≡◌, ◌<◌, ◌≤◌, None, Some, IfOk, IfErr, length, slice_set};
 ghost use Rattle.std.specs.Fn.{FnOnceTakesAtMut, FnOnceReturnsAtMut};
 ghost use Rattle.crossbeam_queue.specs.Passes.{view, IsPassOf, IsSamePass, ruled_capacity};
 ghost use Rattle.rb_chapter_ring.specs.ChapterCalls.{producer_by_chapter};
@@ -73,6 +73,7 @@ pub(crate) fn query_with<R: Wait>(
     ensures room { room_with (view pass.new) ≡ room_with (view pass.old) }
     ensures hands { hands_by (view pass.new) ≡ hands_by (view pass.old) }
     ensures holds { HoldsOwnBusy (hands_by (view pass.new)) worker (seen_with (view pass.new)).history }
+    ensures cut { cut_by (view pass.old) ≤ cut_by (view pass.new) }
 {
     with_state(
         rt,
@@ -110,6 +111,7 @@ pub(crate) fn reserve_with<R: Wait>(
     ensures room { room_with (view pass.new) ≡ room_with (view pass.old) }
     ensures hands { hands_by (view pass.new) ≡ hands_reserved (hands_by (view pass.old)) hand n result }
     ensures holds { HoldsOwnBusy (hands_by (view pass.new)) worker (seen_with (view pass.new)).history }
+    ensures cut { cut_by (view pass.old) ≤ cut_by (view pass.new) }
     ensures tag { IfOk result (λ r. r.tag ≡ tag) }
     ensures hand { IfOk result (λ r. r.hand ≡ hand) }
     ensures handed_back { IfErr result (λ e. e.1 ≡ sheet) }
@@ -146,6 +148,7 @@ pub(crate) fn settle_with<R: Wait>(
     ensures room { room_with (view pass.new) ≡ room_with (view pass.old) }
     ensures hands { hands_by (view pass.new) ≡ slice_set (hands_by (view pass.old)) reservation.hand None }
     ensures holds { HoldsOwnBusy (hands_by (view pass.new)) worker (seen_with (view pass.new)).history }
+    ensures cut { cut_by (view pass.old) ≤ cut_by (view pass.new) }
 {
     let mut held = take_out(rt, lock, batch, pass);
     let state = held.as_mut();
@@ -174,6 +177,7 @@ pub(crate) fn output_with<R: Wait>(
     ensures room { room_with (view pass.new) ≡ room_with (view pass.old) }
     ensures hands { hands_by (view pass.new) ≡ hands_by (view pass.old) }
     ensures holds { HoldsOwnBusy (hands_by (view pass.new)) worker (seen_with (view pass.new)).history }
+    ensures cut { cut_by (view pass.old) ≤ cut_by (view pass.new) }
     ensures handed_back { IfErr result (λ e. e.1 ≡ sheet) }
 {
     let mut held = take_out(rt, lock, batch, pass);

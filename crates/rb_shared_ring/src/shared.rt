@@ -1,6 +1,6 @@
 //! A ring over chapters that threads share.
 
-ghost use Rattle.std.specs.Prelude.{◌≡◌, ◌≢◌, ◌↔◌, ◌⊎◌, Ok, IfOk, OnOk, IfErr, IsOk, IsErr, IsTrue, None, length, slice_set};
+ghost use Rattle.std.specs.Prelude.{◌≡◌, ◌≢◌, ◌≤◌, ◌↔◌, ◌⊎◌, Ok, IfOk, OnOk, IfErr, IsOk, IsErr, IsTrue, None, length, slice_set};
 ghost use Rattle.std.specs.FinMap.{insert};
 ghost use Rattle.rb_chapter_ring.specs.declared.faults.ReserveFault.TheVariants.{Foreign as FaultForeign, HandsFull};
 ghost use Rattle.rb_history.specs.Calls.{producer_now};
@@ -37,7 +37,7 @@ pub struct Foreign;
 /// Each call takes the caller's seat. The ring has one history. Up to the moment of the call it begins with all that the seat has seen, and what
 /// was added since is other roles'; there the ring of one thread, with its whole history, answers as this call does for the seat's worker; and
 /// the seat has then seen the whole history with this call in it (`call`). Of that history the ring keeps the entries that were not handed out, and it
-/// has room for so many. The seat knows that room and how many were handed out (`room`, `cut`), so that `ChapterFull` is told exactly where there is no
+/// has room for so many. The seat knows that room and how many were handed out (`room`, `cut`: never fewer than before), so that `ChapterFull` is told exactly where there is no
 /// room for what the call would log. A seat that was opened with another tag is `Foreign`. Rings with the same tag are not told
 /// apart: each call requires that a seat with the ring's tag was opened with this ring.
 ///
@@ -99,6 +99,7 @@ impl SharedRing {
         ensures hand { IfOk result (λ r. IsLowestFree seat.old.hands r.hand) }
         ensures hands { seat.new.hands ≡ hands_after_reserve seat.old.hands n result }
         ensures sent { seat.new.sent ≡ seat.old.sent }
+        ensures cut { seat.old.cut ≤ seat.new.cut }
         ensures handed_back { IfErr result (λ e. e.1 ≡ sheet) }
     {
         let free = lowest_free(&seat.hands);
@@ -161,6 +162,7 @@ impl SharedRing {
         ensures tally { IfOk result (λ notice. seat.new.tally ≡ submitted_by seat.old.tally (Ok notice)) }
         ensures hands { OnOk result (seat.new.hands ≡ slice_set seat.old.hands reservation.hand None) }
         ensures sent { OnOk result (seat.new.sent ≡ insert seat.old.sent reservation.granted.pos reservation.granted.bytes) }
+        ensures cut { seat.old.cut ≤ seat.new.cut }
     {
         self.settle(rt, seat, reservation, RecordEnd::Submit, flags)
     }
@@ -182,6 +184,7 @@ impl SharedRing {
         ensures tally { IfOk result (λ notice. seat.new.tally ≡ discarded_by seat.old.tally (Ok notice)) }
         ensures hands { OnOk result (seat.new.hands ≡ slice_set seat.old.hands reservation.hand None) }
         ensures sent { seat.new.sent ≡ seat.old.sent }
+        ensures cut { seat.old.cut ≤ seat.new.cut }
     {
         self.settle(rt, seat, reservation, RecordEnd::Discard, flags)
     }
@@ -205,6 +208,7 @@ impl SharedRing {
         ensures tally { IfOk result (λ notice. seat.new.tally ≡ tally_with_end end seat.old.tally) }
         ensures hands { OnOk result (seat.new.hands ≡ slice_set seat.old.hands reservation.hand None) }
         ensures sent { OnOk result (seat.new.sent ≡ sent_by_end end reservation.granted seat.old.sent) }
+        ensures cut { seat.old.cut ≤ seat.new.cut }
     {
         if !self.is_held_by(seat, &reservation) {
             return Err(reservation);
@@ -243,6 +247,7 @@ impl SharedRing {
         ensures call { seat.old.tag ≡ self.now.tag → LockedCall (Worker seat.old.worker) seat.old.seen seat.new.seen (InRoom seat.old.room seat.new.cut (λ old new. OutputsInRoom seat.old.room seat.new.cut seat.old.worker sheet flags result old new × (seat.new.sent ≡ sent_by_output_in_room seat.old.sent (producer_now old) sheet result))) }
         ensures tally { seat.new.tally ≡ output_in_room_by seat.old.tally result }
         ensures hands { seat.new.hands ≡ seat.old.hands }
+        ensures cut { seat.old.cut ≤ seat.new.cut }
         ensures handed_back { IfErr result (λ e. e.1 ≡ sheet) }
     {
         if seat.tag != self.tag {
@@ -274,6 +279,7 @@ impl SharedRing {
         ensures tally { seat.new.tally ≡ seat.old.tally }
         ensures hands { seat.new.hands ≡ seat.old.hands }
         ensures sent { seat.new.sent ≡ seat.old.sent }
+        ensures cut { seat.old.cut ≤ seat.new.cut }
     {
         if seat.tag != self.tag {
             return Err(Foreign);

@@ -6,6 +6,7 @@ pub mod Whole
 pub mod Numbered
 pub mod SinkItems
 pub mod ChapterTurns
+pub mod ChapterSizes
 pub mod Giving
 pub mod Merges
 pub mod Same

@@ -1,5 +1,6 @@
 pub mod SeatRows
 pub mod Opened
+pub mod ChapterSizes
 pub mod Sink
 pub mod JobRuns
 pub mod Settled

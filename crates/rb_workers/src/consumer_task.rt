@@ -127,7 +127,7 @@ pub(crate) fn consume<R: Wait, S: Sink, K: Stock>(
     let mut pace = Pace::new(numbers.size, numbers.room);
     for _ in rt.forever() {
         let over = ended.load(Ordering::SeqCst);
-        let looks = pace.is_look_due(numbers.room);
+        let looks = pace.is_look_due();
         let start = task.consumer.position();
         let count = task.take_batch(rt, ring, looks);
         let bytes = task.consumer.position().saturating_sub(start);

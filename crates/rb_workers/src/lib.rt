@@ -7,7 +7,8 @@
 //! one (rb_ledger); each ring's sink was given just the records that were taken, in their order and with their bytes, and just the
 //! chapters that were handed out meanwhile, each once and in order, so that with the last one they may be bound; and where there is an
 //! error, all comes back and may be run again. Records are taken many at a time, and the sheets of long ones are used again. A ring's
-//! memory does not grow: its consumer's thread looks at its chapter between its batches, and hands it out in time.
+//! memory does not grow: its consumer's thread looks at its chapter between its batches, and hands it out in time: with the room and the margin that the
+//! ring's size asks for no chapter is full before the ring was (`chapters_follow_their_ring`).
 //!
 //! What holds of every interleaving of the same programs in turns, without threads, stands beside this in docs/PROOF_STATUS.md, "Every
 //! interleaving, and running threads".
@@ -16,6 +17,7 @@
 //! reaches its sink, or what a gate does.
 #![tactic(auto)]
 
+mod chapter_sizes;
 mod consumer_task;
 mod distribution;
 mod job_answers;
@@ -31,6 +33,7 @@ mod threads;
 pub mod used_sheets;
 mod workers;
 
+pub use chapter_sizes::{chapter_margin, chapter_room, chapters_follow_their_ring};
 pub use jobs_run::run_jobs;
 pub use null_sink::NullSink;
 pub use opened::{Ended, JobFault, Opened, Report};

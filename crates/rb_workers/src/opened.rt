@@ -37,7 +37,8 @@ pub struct Opened<S> {
 impl<S: Sink + Drop> Opened<S> {
     /// Opens a ring, as `rb_shared_ring::open` does, with a sink that begins where the ring does. Its chapters have room for `room` entries, 8
     /// to 1,048,576, and are handed out `margin` entries before that room could be used up: those that the workers may add until the
-    /// consumer comes round again.
+    /// consumer comes round again. `chapter_room` and `chapter_margin` give both by the ring's size: then no reservation and no output finds the
+    /// chapter full before the ring was (`chapters_follow_their_ring`, with its premises on how often the keeper looks and how long records are).
     pub fn open<R: Wait>(
         rt: &R,
         alloc: Global,

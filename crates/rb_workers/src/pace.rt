@@ -1,5 +1,6 @@
 //! How long a ring's consumer waits between its batches, and when its keeper looks at the ring's chapter.
 
+use crate::chapter_sizes::look_after;
 use rb_shared_ring::WaitBackoff;
 use std::sync::atomic::{AtomicBool, Ordering};
 
@@ -21,7 +22,9 @@ const SHORTEST: u32 = 1_024;
 
 const LONGEST: u32 = 65_536;
 
-// A keeper looks at its ring's chapter again after so many records as are this part of the chapter's room. A record has three entries.
+// A keeper looks at its ring's chapter again after as many records as its size asks for (`look_after`), or where its room is small after as many as are this
+// part of it. A record has three entries. So between two looks fewer records are taken than those and a batch, which is what `chapters_follow_their_ring`
+// asks for.
 const PART_OF_ROOM: usize = 32;
 
 /// The pace of a ring's consumer. Each time that the consumer comes it takes the ring's lock, and a worker that finds it taken waits longer
@@ -36,6 +39,8 @@ pub(crate) struct Pace {
     pause: u32,
     // How long it waits where it found nothing.
     backoff: WaitBackoff,
+    // After how many records the keeper looks.
+    look_after: usize,
     // How many records were taken since the keeper looked.
     unlooked: usize,
 }
@@ -46,15 +51,16 @@ impl Pace {
         Pace {
             many: MANY.min(room as usize / PART_OF_CHAPTER),
             many_bytes: size / PART_OF_RING,
+            look_after: (look_after(size) as usize).min(room as usize / PART_OF_ROOM),
             pause: SHORTEST,
             backoff: WaitBackoff::new(),
             unlooked: usize::MAX,
         }
     }
 
-    /// Whether the keeper is to look at a chapter of this room.
-    pub(crate) fn is_look_due(&self, room: u32) -> bool {
-        self.unlooked >= room as usize / PART_OF_ROOM
+    /// Whether the keeper is to look at the chapter.
+    pub(crate) fn is_look_due(&self) -> bool {
+        self.unlooked >= self.look_after
     }
 
     /// Waits after a batch of so many records and bytes, before which the keeper looked or not. After a whole batch it does not wait. After one

@@ -18,6 +18,7 @@ mod ListSteps
 mod WholeTurns
 mod KeptChapters
 mod HeldInHands
+mod Reasons
 mod Refusals
 pub mod Openings
 pub mod Runs

@@ -6,10 +6,11 @@ use Rattle.std.proofs.lemmas.List.{take_more}
 use Rattle.std.proofs.lemmas.List.Elements.{All-head, All-tail}
 use Rattle.rb_world.specs.declared.actor.Actor.{Actor}
 use Rattle.rb_world.specs.declared.actor.Actor.TheVariants.{Worker, Consumer, Keeper}
-use Rattle.rb_world.specs.Turns.{TurnEvent, WorldStep, WorldRun}
+use Rattle.rb_world.specs.Turns.{TurnEvent, WorldRun}
 use Rattle.rb_world.proofs.WholeRuns.{run-push}
 use Rattle.rb_world.specs.declared.turn_done.TurnDone.{TurnDone}
 use Rattle.rb_world.specs.WorldValue.{WorldValue, world_of, IsThere}
+use Rattle.rb_world.specs.RecordReasons.{TurnHasReasons}
 use Rattle.rb_world.specs.TurnsDone.{TellsEvent, IsTurnOf, TurnsChaptersOf}
 use Rattle.rb_world.specs.WorldRuns.{IsFirstUnknown, IsRunOf, TakesTurns}
 
@@ -28,17 +29,24 @@ run-more actors i d old mid new dones done low run turned = (
       (run-push (world_of old) (world_of mid) (world_of new) (take i actors) run.0 (get_or actors i d) turned.0 run.2 turned.2),
 )
 
-pub turns-push : (actors : List Actor) (old mid new : WorldValue) (dones : List TurnDone) (actor : Actor) (done : TurnDone) → TakesTurns actors old dones mid → IsTurnOf actor mid done new → TurnsChaptersOf actor done mid.rings new.rings → TakesTurns (actors ++ actor ∷ []) old (dones ++ done ∷ []) new
-turns-push [] old mid new [] actor done same turned chapters = (new, subst (λ (v : WorldValue). IsTurnOf actor v done new) same turned, subst (λ (v : WorldValue). TurnsChaptersOf actor done v.rings new.rings) same chapters, refl)
-turns-push [] old mid new (d ∷ dones) actor done before turned chapters = absurd before
-turns-push (a ∷ actors) old mid new [] actor done before turned chapters = absurd before
-turns-push (a ∷ actors) old mid new (d ∷ dones) actor done before turned chapters = (before.0, before.1, before.2, turns-push actors before.0 mid new dones actor done before.3 turned chapters)
+pub turns-push : (actors : List Actor) (old mid new : WorldValue) (dones : List TurnDone) (actor : Actor) (done : TurnDone) → TakesTurns actors old dones mid → IsTurnOf actor mid done new → TurnsChaptersOf actor done mid.rings new.rings → TurnHasReasons actor mid new → TakesTurns (actors ++ actor ∷ []) old (dones ++ done ∷ []) new
+turns-push [] old mid new [] actor done same turned chapters reasons = (
+  new,
+  subst (λ (v : WorldValue). IsTurnOf actor v done new) same turned,
+  subst (λ (v : WorldValue). TurnsChaptersOf actor done v.rings new.rings) same chapters,
+  subst (λ (v : WorldValue). TurnHasReasons actor v new) same reasons,
+  refl,
+)
+turns-push [] old mid new (d ∷ dones) actor done before turned chapters reasons = absurd before
+turns-push (a ∷ actors) old mid new [] actor done before turned chapters reasons = absurd before
+turns-push (a ∷ actors) old mid new (d ∷ dones) actor done before turned chapters reasons =
+    (before.0, before.1, before.2, before.3, turns-push actors before.0 mid new dones actor done before.4 turned chapters reasons)
 
 -- one more turn, in the world that the turns before left
 pub turns-more : (actors : List Actor) (i : ℕ) (d : Actor) (old mid new : WorldValue) (dones : List TurnDone) (done : TurnDone) → i < length actors → TakesTurns (take i actors) old dones mid → IsTurnOf (get_or actors i d) mid done new
-    → TurnsChaptersOf (get_or actors i d) done mid.rings new.rings → TakesTurns (take (i + 1) actors) old (dones ++ done ∷ []) new
-turns-more actors i d old mid new dones done low before turned chapters =
-    subst (λ l. TakesTurns l old (dones ++ done ∷ []) new) (sym (take_more actors i d low)) (turns-push (take i actors) old mid new dones (get_or actors i d) done before turned chapters)
+    → TurnsChaptersOf (get_or actors i d) done mid.rings new.rings → TurnHasReasons (get_or actors i d) mid new → TakesTurns (take (i + 1) actors) old (dones ++ done ∷ []) new
+turns-more actors i d old mid new dones done low before turned chapters reasons =
+    subst (λ l. TakesTurns l old (dones ++ done ∷ []) new) (sym (take_more actors i d low)) (turns-push (take i actors) old mid new dones (get_or actors i d) done before turned chapters reasons)
 
 -- the first actor that is not there
 pub first-at : (v : WorldValue) (actors : List Actor) (i : ℕ) (d : Actor) → All (IsThere v) (take i actors) → i < length actors → (IsThere v (get_or actors i d) → ⊥) → IsFirstUnknown v actors i

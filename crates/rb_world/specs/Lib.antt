@@ -6,5 +6,6 @@ pub mod EveryInterleaving
 pub mod WorldValue
 pub mod TurnsDone
 pub mod OpenedWorlds
+pub mod RecordReasons
 pub mod WorldRuns
 pub mod inner

@@ -6,6 +6,7 @@ use Rattle.rb_world.specs.Worlds.{WorkerStatus, Running, Finished, WorkerState}
 use Rattle.rb_world.specs.Turns.{TurnEvent, WorldRun}
 use Rattle.rb_world.specs.declared.turn_done.TurnDone.{TurnDone}
 use Rattle.rb_world.specs.WorldValue.{WorldValue, world_of, IsThere}
+use Rattle.rb_world.specs.RecordReasons.{TurnHasReasons}
 use Rattle.rb_world.specs.TurnsDone.{TellsEvent, IsTurnOf, TurnsChaptersOf}
 
 -- the actor at this place is not there, and those before it are
@@ -18,12 +19,12 @@ IsFirstUnknown v (actor ∷ actors) (ℕ.suc place) = IsThere v actor × IsFirst
 abbrev pub IsRunOf : List Actor → WorldValue → List TurnDone → WorldValue → Type 0
 IsRunOf actors old dones new = (events : List TurnEvent) × AllZip TellsEvent dones events × WorldRun (world_of old) actors events (world_of new)
 
--- the turns of these actors were made one after the other, each in the world that the turns before it left, and so were answered; and in
--- each, the chapters became what that actor's turn makes of them
+-- the turns of these actors were made one after the other, each in the world that the turns before it left, and so were answered; in each, the
+-- chapters became what that actor's turn makes of them, and a worker whose call came to no record had a reason
 abbrev pub TakesTurns : List Actor → WorldValue → List TurnDone → WorldValue → Type 0
 TakesTurns [] old [] new = new ≡ old
 TakesTurns (actor ∷ actors) old (done ∷ dones) new =
-    (next : WorldValue) × IsTurnOf actor old done next × TurnsChaptersOf actor done old.rings next.rings × TakesTurns actors next dones new
+    (next : WorldValue) × IsTurnOf actor old done next × TurnsChaptersOf actor done old.rings next.rings × TurnHasReasons actor old next × TakesTurns actors next dones new
 TakesTurns _ old _ new = ⊥
 
 -- the next unit of a worker that runs

@@ -37,12 +37,13 @@ impl Model for ConsumedRing {
 }
 
 impl ConsumedRing {
-    ghost use Rattle.std.specs.Prelude.{◌≡◌, ◌<◌, ℕ};
+    ghost use Rattle.std.specs.Prelude.{◌≡◌, ◌<◌, ◌≤◌, ℕ, List, Some};
     ghost use Rattle.rb_chapter_ring.specs.Chapters.{joined};
     ghost use Rattle.rb_chapter_ring.specs.WholeHistory.{Binds, IsKept};
     ghost use Rattle.rb_chapter_ring.specs.HandRing.{HasInHand};
     ghost use Rattle.rb_interp.specs.declared.step.Phase.TheVariants as phase;
     ghost use Rattle.rb_semantics.specs.declared.pending_call.PendingCall.TheVariants as asked;
+    ghost use Rattle.rb_world.specs.RecordReasons.{OutputsOrHasReason, ReservesOrHasReason};
     ghost use Rattle.rb_world.specs.inner.WorkerTurn.{TakesOnce, KeepsChapter, AnswersReserve, AnswersOutput, AnswersGivenBack, AnswersQuery};
     ghost use Rattle.rb_world.specs.inner.RecordEnds.{WorkerEnds};
     ghost use Rattle.rb_world.specs.inner.FittingWorlds.{AreOwn};
@@ -76,6 +77,7 @@ impl ConsumedRing {
         ensures hands { KeepsInHand self.old self.new }
         ensures program { machine.new.program ≡ machine.old.program }
         ensures chapters { chapters_of self.new ≡ chapters_of self.old }
+        ensures reason { flags ≡ 0 → ReservesOrHasReason w len self.old.ring.state self.new.ring.state }
     {
         machine.facts();
         machine.record_facts();
@@ -103,6 +105,7 @@ impl ConsumedRing {
         ensures hands { hands_shown self.new ≡ hands_shown self.old }
         ensures program { machine.new.program ≡ machine.old.program }
         ensures chapters { chapters_of self.new ≡ chapters_of self.old }
+        ensures reason { (bytes : List ℕ) → machine.old.output ≡ Some bytes → flags ≤ 3 → OutputsOrHasReason w bytes self.old.ring.state self.new.ring.state }
     {
         let code = ring_answers::output(&mut self.ring, alloc, w, machine.output(), flags);
         machine.answer(Answer::Code(code));

@@ -1,10 +1,11 @@
 //! The answers of one ring to the calls of a program.
 
-ghost use Rattle.std.specs.Prelude.{◌<◌, ◌≡◌, negsuc, IfSome, option_map};
+ghost use Rattle.std.specs.Prelude.{◌<◌, ◌≤◌, ◌≡◌, negsuc, IfNone, IfSome, option_map, length};
 ghost use Rattle.rb_chapter_ring.specs.ChapterCalls.{IsSameChapter};
 ghost use Rattle.rb_chapter_ring.specs.ChapterRing.{StandsForChapter};
 ghost use Rattle.rb_chapter_ring.specs.HandRing.{HasInHand};
 ghost use Rattle.rb_world.specs.inner.HeldInHands.{StaysOut};
+ghost use Rattle.rb_world.specs.RecordReasons.{OutputsOrHasReason, ReservesOrHasReason};
 ghost use Rattle.rb_world.specs.inner.RingAnswers.{IsReserved, IsOutput, IsWholeAnswer};
 
 use rb_chapter_ring::{Reservation, ReserveFault, RingState};
@@ -26,6 +27,7 @@ pub(crate) fn reserve(
     ensures same_chapter { IsSameChapter ring.old.state.ring ring.new.state.ring }
     ensures in_hand { IfSome result (λ r. HasInHand ring.new.state r.hand r.granted) }
     ensures others { StaysOut ring.old.state.hands ring.new.state.hands }
+    ensures reason { flags ≡ 0 → ReservesOrHasReason worker len ring.old.state ring.new.state }
 {
     if flags != 0 {
         return None;
@@ -57,6 +59,7 @@ pub(crate) fn output(
     ensures same_tag { ring.new.tag ≡ ring.old.tag }
     ensures same_chapter { IsSameChapter ring.old.state.ring ring.new.state.ring }
     ensures same_hands { ring.new.state.hands ≡ ring.old.state.hands }
+    ensures reason { flags ≤ 3 → OutputsOrHasReason worker bytes.now ring.old.state ring.new.state }
 {
     if flags > 3 {
         return -22;
@@ -88,7 +91,8 @@ fn refused(ring: &RingState, fault: ReserveFault) -> i64
 
 // A sheet with a copy of these bytes; none for more than a sheet can have, and where memory is refused.
 fn copy_of(alloc: Global, bytes: &[u8]) -> Option<Sheet>
-    ensures { IfSome result (λ s. s ≡ bytes.now) }
+    ensures copied { IfSome result (λ s. s ≡ bytes.now) }
+    ensures long { IfNone result (16 < length bytes.now) }
 {
     if bytes.len() > u32::MAX as usize {
         return None;

@@ -4,8 +4,9 @@ ghost use Rattle.std.specs.Prelude.{◌≡◌, ◌<◌, ◌≤◌, length, map};
 ghost use Rattle.rb_world.specs.inner.HeldInHands.{AreInHand, HoldsEachOldOrOut, KeepsEachInHand, books_of};
 ghost use Rattle.rb_world.specs.inner.WorkerTurn.{IsWorkerTurn};
 ghost use Rattle.rb_world.specs.inner.FittingWorlds.{AreOwn, AreOpenTo, setups_of};
+ghost use Rattle.rb_world.specs.RecordReasons.{HasReasons};
 ghost use Rattle.rb_world.specs.TurnsDone.{chapters_of};
-ghost use Rattle.rb_world.specs.WorldValue.{world_ring};
+ghost use Rattle.rb_world.specs.WorldValue.{world_ring, worker_of};
 
 use crate::consumed_ring::ConsumedRing;
 use crate::turn_done::TurnDone;
@@ -31,6 +32,7 @@ pub(crate) fn work(
     ensures hands { KeepsEachInHand rings.old.items rings.new.items }
     ensures program { machine.new.program ≡ machine.old.program }
     ensures chapters { map chapters_of rings.new.items ≡ map chapters_of rings.old.items }
+    ensures reasons { HasReasons w (worker_of machine.old) rings.old.items rings.new.items }
 {
     match machine.phase() {
         Phase::Ready => {}

@@ -50,6 +50,7 @@ impl<'p> World<'p> {
     ghost use Rattle.rb_world.specs.EveryInterleaving.{IsReachedWorld};
     ghost use Rattle.rb_world.specs.OpeningWorld.{IsOpeningWorld};
     ghost use Rattle.rb_world.specs.OpenedWorlds.{AreRings, HaveContexts, HaveRings, HaveRooms, IsOpenedWorld, MayOpen};
+    ghost use Rattle.rb_world.specs.RecordReasons.{TurnHasReasons};
     ghost use Rattle.rb_world.specs.WorldRuns.{next_unit, result_of};
     ghost use Rattle.rb_world.specs.TurnsDone.{IsTurnOf, TurnsChaptersOf, chapters_of};
     ghost use Rattle.rb_chapter_ring.specs.Chapters.{joined};
@@ -198,6 +199,7 @@ impl<'p> World<'p> {
         requires worker { w < length self.old.machines }
         ensures turned { IsTurnOf (Worker w) self.old result self.new }
         ensures chapters { TurnsChaptersOf (Worker w) result self.old.rings self.new.rings }
+        ensures reasons { TurnHasReasons (Worker w) self.old self.new }
         ensures workers { length self.new.machines ≡ length self.old.machines }
         ensures rings { length self.new.rings ≡ length self.old.rings }
     {
@@ -216,6 +218,7 @@ impl<'p> World<'p> {
         requires there { IsThere self.old actor }
         ensures turned { IsTurnOf actor self.old result self.new }
         ensures chapters { TurnsChaptersOf actor result self.old.rings self.new.rings }
+        ensures reasons { TurnHasReasons actor self.old self.new }
         ensures workers { length self.new.machines ≡ length self.old.machines }
         ensures rings { length self.new.rings ≡ length self.old.rings }
     {

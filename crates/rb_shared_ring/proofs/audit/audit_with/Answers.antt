@@ -26,4 +26,5 @@ returns g c =
       room = e.room;
       hands = e.hands_are;
       holds = e.holds;
+      cut = e.cut;
     }

@@ -27,5 +27,6 @@ returns g c =
       room = told.room;
       hands = told.hands_are;
       holds = told.holds;
+      cut = told.cut;
       handed_back = e.handed_back;
     }

@@ -28,6 +28,7 @@ returns g c =
       room = told.room;
       hands = told.hands_are;
       holds = told.holds;
+      cut = told.cut;
       tag = e.tag;
       hand = e.hand;
       handed_back = e.handed_back;

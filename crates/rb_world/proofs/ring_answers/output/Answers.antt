@@ -13,9 +13,9 @@ returns-in_default-clause-given c = output-unlogged c.args.ring.now.state.ring c
 pub returns-in-Ok-clause-given : goal.returns-in-Ok-clause-given
 returns-in-Ok-clause-given c =
     output-made c.args.ring.now.state.ring c.output.new.self.state.ring c.args.worker c.args.bytes.now c.args.flags c.requires.worker c.in-Ok.ensures.known_flags c.facts.ensures.stands
-    (subst (λ sheet. OutputsByChapter c.args.ring.now.state.ring c.output.new.self.state.ring c.args.worker sheet) c.in-Some.ensures c.in-Ok.ensures.granted)
+    (subst (λ sheet. OutputsByChapter c.args.ring.now.state.ring c.output.new.self.state.ring c.args.worker sheet) c.in-Some.ensures.copied c.in-Ok.ensures.granted)
 
 pub returns-in-Err-clause-given : goal.returns-in-Err-clause-given
 returns-in-Err-clause-given c =
     subst (λ code. IsWholeAnswer (λ v v'. IsOutput v v' c.args.worker c.args.bytes.now c.args.flags (to_z w64 (of_z w64 code))) c.args.ring.now.state.ring c.output.new.self.state.ring) (sym c.refused-code.ensures.code)
-    (output-refused c.args.ring.now.state.ring c.output.new.self.state.ring c.args.worker (length c.in-Some.sheet) c.args.bytes.now c.args.flags c.in-Err.fault c.requires.worker c.if-flags-gt3.false (ap length c.in-Some.ensures) c.refused-code.ensures.stands c.in-Err.ensures.refused)
+    (output-refused c.args.ring.now.state.ring c.output.new.self.state.ring c.args.worker (length c.in-Some.sheet) c.args.bytes.now c.args.flags c.in-Err.fault c.requires.worker c.if-flags-gt3.false (ap length c.in-Some.ensures.copied) c.refused-code.ensures.stands c.in-Err.ensures.refused)

@@ -1,8 +1,8 @@
-use Rattle.std.proofs.Common.{rules, ◌≡◌, ◌<◌, ◌≤◌, [], length, map, set, get_or, refl, inl, inr, sym, ap, subst, ◌∙◌, arith}
+use Rattle.std.proofs.Common.{rules, ◌≡◌, ◌<◌, ◌≤◌, [], length, map, set, get_or, refl, inl, sym, ap, subst, ◌∙◌, arith}
 use Rattle.std.specs.Prelude.{◌⊎◌}
 use Rattle.rb_chapter_ring.specs.Hands.{hand_at}
 use Rattle.rb_semantics.specs.HelperCalls.{Submit, Discard}
-use Rattle.rb_semantics.specs.Instructions.{Asks, next_step}
+use Rattle.rb_semantics.specs.Instructions.{Goes, Ends, Asks, next_step}
 use Rattle.rb_semantics.specs.Soundness.{IsLawful}
 use Rattle.rb_interp.specs.CodeCalls.{left_by}
 use Rattle.rb_interp.specs.MachineState.{StepsTo}
@@ -13,18 +13,20 @@ use Rattle.rb_world.specs.CallsInWorld.{WorkerSubmits, WorkerDiscards}
 use Rattle.rb_world.specs.Turns.{submit_event, discard_event}
 use Rattle.rb_world.specs.declared.world_record.WorldRecord.{WorldRecord}
 use Rattle.rb_world.specs.declared.turn_done.TurnDone.TheVariants as turn
-use Rattle.rb_world.specs.WorldValue.{place_of, world_ring}
+use Rattle.rb_world.specs.RecordReasons.{ReservesOrHasReason, OutputsOrHasReason, hands_at}
+use Rattle.rb_world.specs.WorldValue.{place_of, worker_of, world_ring}
 use Rattle.rb_world.specs.TurnsDone.{chapters_of}
 use Rattle.rb_world.specs.inner.WorkerTurn.{IsWorkerTurn}
 use Rattle.rb_world.specs.inner.FittingWorlds.{AreOwn}
-use Rattle.rb_world.specs.inner.HeldInHands.{HoldsEachOldOrOut, IsOutIn, KeepsEachInHand, WasHeld, books_of, hands_shown, mark_of}
-use Rattle.rb_world.specs.WorldValue.{KeptRing, no_kept_ring}
+use Rattle.rb_world.specs.inner.HeldInHands.{HoldsEachOldOrOut, IsOutIn, WasHeld, books_of, hands_shown, mark_of}
+use Rattle.rb_world.specs.WorldValue.{no_kept_ring}
+use Rattle.rb_world.proofs.Reasons.{runs-ready, hands-there, hands-set, idle-reasons, other-reasons, reserve-reasons, output-reasons, other-call, goes-asks, ends-asks}
 use Rattle.rb_world.proofs.ShownWorlds.{at-default, set-get}
 use Rattle.rb_world.proofs.HeldByWorkers.{all-given, all-rewritten, held-were, mark-stays}
 use Rattle.rb_world.proofs.HeldInHands.{book-at, holds-each, keeps-each-set, same-keeps}
 use Rattle.rb_world.proofs.WorkerTurns.{same-shown, went-turn, ended-turn, idle-turn, reserve-turn, output-turn, query-turn, give-turn}
 use Rattle.rb_world.proofs.MachineAnswers.{lawful-of, open-at, set-length}
-use Rattle.rb_world.proofs.WholeLists.{map-length, map-low, map-there, map-set, map-set-same}
+use Rattle.rb_world.proofs.WholeLists.{map-low, map-there, map-set, map-set-same}
 use Rattle.rb_world.proofs.worker_turn.work.Goals as goal
 
 pub returns-in_default-clause-turned : goal.returns-in_default-clause-turned
@@ -373,3 +375,86 @@ returns-in-Call-Discard-clause-hands c =
     let s = c.index_mut-in-Call-Discard.result.now in
     let mine = c.requires.own st.2.0 owned st.2.1 in
     keeps-each-set rings owned.ring s c.answer_given_back-in-Call-Discard.new.self (at-default rings owned.ring s no_kept_ring mine.0 c.index_mut-in-Call-Discard.ensures.value) mine.0 c.answer_given_back-in-Call-Discard.ensures.hands
+
+pub returns-in_default-clause-reasons : goal.returns-in_default-clause-reasons
+returns-in_default-clause-reasons c =
+    let old = c.args.machine.now in
+    idle-reasons c.args.w (worker_of old) c.args.rings.now.items c.args.rings.now.items (λ runs. c.in_default.not-Ready (c.phase.ensures ∙ runs-ready old.phase runs))
+
+pub returns-in-Went-clause-reasons : goal.returns-in-Went-clause-reasons
+returns-in-Went-clause-reasons c =
+    let old = c.args.machine.now in
+    other-reasons c.args.w (worker_of old) c.args.rings.now.items c.args.rings.now.items (Goes c.step.new.self.state) c.in-Went.ensures.stepped.0 (λ id r n t e. goes-asks _ _ _ e) (λ r flags bytes t e. goes-asks _ _ _ e)
+
+pub returns-in-Exit-clause-reasons : goal.returns-in-Exit-clause-reasons
+returns-in-Exit-clause-reasons c =
+    let old = c.args.machine.now in
+    other-reasons c.args.w (worker_of old) c.args.rings.now.items c.args.rings.now.items (Ends c.in-Exit.n) c.in-Exit.ensures.stepped.0 (λ id r n t e. ends-asks _ _ _ e) (λ r flags bytes t e. ends-asks _ _ _ e)
+
+pub returns-in-Call-Reserve-clause-reasons : goal.returns-in-Call-Reserve-clause-reasons
+returns-in-Call-Reserve-clause-reasons c =
+    let old = c.args.machine.now in
+    let mid = c.step.new.self in
+    let rings = c.args.rings.now.items in
+    let ready : old.phase ≡ phase.Ready = sym c.phase.ensures ∙ c.in-Ready.is in
+    let st = subst (λ (q : request.Request WorldRecord). StepsTo (λ (x : WorldRecord). x.reservation.granted.bytes) (next_step c.args.machine.now.program.program c.args.machine.now.state) c.args.machine.now.records (Call q) c.step.new.self) c.in-Call-Reserve.field-0-is c.in-Call-Reserve.ensures.stepped in
+    let lawful = subst (IsLawful old.program) st.2 (lawful-of old st.0 mid.state ready c.facts.ensures st.1) in
+    let known : c.in-Call-Reserve.ring < old.program.rings = lawful.0 in
+    let there : old.program.rings ≤ length rings = c.requires.program in
+    let low : c.in-Call-Reserve.ring < length rings = omega arith in
+    let ring = c.in-Call-Reserve.ring in
+    let len = c.in-Call-Reserve.len in
+    let is = subst (λ call. next_step old.program.program old.state ≡ Asks call mid.state) st.2 st.1 in
+    let was = hands-there rings ring c.index_mut.result.now low c.index_mut.ensures.value in
+    let now = hands-set rings ring c.answer_reserve.new.self low in
+    reserve-reasons c.args.w (worker_of old) rings (set rings ring c.answer_reserve.new.self) _ ring len c.in-Call-Reserve.flags mid.state is
+    (λ none. subst (λ v. ReservesOrHasReason c.args.w len (hands_at rings ring) v) (sym now) (subst (λ v. ReservesOrHasReason c.args.w len v c.answer_reserve.new.self.ring.state) (sym was) (c.answer_reserve.ensures.reason none)))
+
+pub returns-in-Call-Output-clause-reasons : goal.returns-in-Call-Output-clause-reasons
+returns-in-Call-Output-clause-reasons c =
+    let old = c.args.machine.now in
+    let mid = c.step.new.self in
+    let rings = c.args.rings.now.items in
+    let ready : old.phase ≡ phase.Ready = sym c.phase.ensures ∙ c.in-Ready.is in
+    let st = subst (λ (q : request.Request WorldRecord). StepsTo (λ (x : WorldRecord). x.reservation.granted.bytes) (next_step c.args.machine.now.program.program c.args.machine.now.state) c.args.machine.now.records (Call q) c.step.new.self) c.in-Call-Output.field-0-is c.in-Call-Output.ensures.stepped in
+    let lawful = subst (IsLawful old.program) st.2.2 (lawful-of old st.0 mid.state ready c.facts.ensures st.1) in
+    let known : c.in-Call-Output.ring < old.program.rings = lawful in
+    let there : old.program.rings ≤ length rings = c.requires.program in
+    let low : c.in-Call-Output.ring < length rings = omega arith in
+    let ring = c.in-Call-Output.ring in
+    let bytes = st.2.0 in
+    let is = subst (λ call. next_step old.program.program old.state ≡ Asks call mid.state) st.2.2 st.1 in
+    let was = hands-there rings ring c.index_mut-in-Call-Output.result.now low c.index_mut-in-Call-Output.ensures.value in
+    let now = hands-set rings ring c.answer_output.new.self low in
+    output-reasons c.args.w (worker_of old) rings (set rings ring c.answer_output.new.self) ring c.in-Call-Output.flags bytes mid.state is
+    (λ few. subst (λ v. OutputsOrHasReason c.args.w bytes (hands_at rings ring) v) (sym now) (subst (λ v. OutputsOrHasReason c.args.w bytes v c.answer_output.new.self.ring.state) (sym was) (c.answer_output.ensures.reason bytes st.2.1 few)))
+
+pub returns-in-Call-Query-clause-reasons : goal.returns-in-Call-Query-clause-reasons
+returns-in-Call-Query-clause-reasons c =
+    let old = c.args.machine.now in
+    let mid = c.step.new.self in
+    let rings = c.args.rings.now.items in
+    let ready : old.phase ≡ phase.Ready = sym c.phase.ensures ∙ c.in-Ready.is in
+    let st = subst (λ (q : request.Request WorldRecord). StepsTo (λ (x : WorldRecord). x.reservation.granted.bytes) (next_step c.args.machine.now.program.program c.args.machine.now.state) c.args.machine.now.records (Call q) c.step.new.self) c.in-Call-Query.field-0-is c.in-Call-Query.ensures.stepped in
+    let is = subst (λ call. next_step old.program.program old.state ≡ Asks call mid.state) st.2 st.1 in
+    other-call c.args.w (worker_of old) rings _ _ (λ none. none) mid.state is
+
+pub returns-in-Call-Submit-clause-reasons : goal.returns-in-Call-Submit-clause-reasons
+returns-in-Call-Submit-clause-reasons c =
+    let old = c.args.machine.now in
+    let mid = c.step.new.self in
+    let rings = c.args.rings.now.items in
+    let ready : old.phase ≡ phase.Ready = sym c.phase.ensures ∙ c.in-Ready.is in
+    let st = subst (λ (q : request.Request WorldRecord). StepsTo (λ (x : WorldRecord). x.reservation.granted.bytes) (next_step c.args.machine.now.program.program c.args.machine.now.state) c.args.machine.now.records (Call q) c.step.new.self) c.in-Call-Submit.field-0-is c.in-Call-Submit.ensures.stepped in
+    let is = subst (λ call. next_step old.program.program old.state ≡ Asks call mid.state) st.2.2 st.1 in
+    other-call c.args.w (worker_of old) rings _ _ (λ none. none) mid.state is
+
+pub returns-in-Call-Discard-clause-reasons : goal.returns-in-Call-Discard-clause-reasons
+returns-in-Call-Discard-clause-reasons c =
+    let old = c.args.machine.now in
+    let mid = c.step.new.self in
+    let rings = c.args.rings.now.items in
+    let ready : old.phase ≡ phase.Ready = sym c.phase.ensures ∙ c.in-Ready.is in
+    let st = subst (λ (q : request.Request WorldRecord). StepsTo (λ (x : WorldRecord). x.reservation.granted.bytes) (next_step c.args.machine.now.program.program c.args.machine.now.state) c.args.machine.now.records (Call q) c.step.new.self) c.in-Call-Discard.field-0-is c.in-Call-Discard.ensures.stepped in
+    let is = subst (λ call. next_step old.program.program old.state ≡ Asks call mid.state) st.2.2 st.1 in
+    other-call c.args.w (worker_of old) rings _ _ (λ none. none) mid.state is

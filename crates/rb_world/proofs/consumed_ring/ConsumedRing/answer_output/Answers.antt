@@ -7,11 +7,13 @@ use Rattle.rb_chapter_ring.specs.Chapters.{joined}
 use Rattle.rb_chapter_ring.specs.ChapterRing.{whole_ring}
 use Rattle.rb_world.specs.WorldValue.{KeptRing, world_ring}
 use Rattle.rb_world.specs.TurnsDone.{chapters_of}
+use Rattle.rb_world.specs.RecordReasons.{OutputsOrHasReason}
 use Rattle.rb_world.specs.inner.RingAnswers.{IsOutput}
 use Rattle.rb_world.specs.inner.HeldInHands.{hands_shown}
 use Rattle.rb_world.proofs.KeptChapters.{kept-of, same-has}
 use Rattle.rb_world.proofs.WholeCalls.{same-chapters}
 use Rattle.rb_world.proofs.MachineAnswers.{output-answered}
+use Rattle.rb_world.proofs.Reasons.{same-some}
 use Rattle.rb_world.proofs.consumed_ring.ConsumedRing.answer_output.Goals as goal
 
 -- the codes of an output pass through 64 bits
@@ -47,3 +49,9 @@ returns-clause-chapters c =
 
 pub returns-clause-hands : goal.returns-clause-hands
 returns-clause-hands c = c.output-code.ensures.same_hands ∙ ap hands_shown c.self.view_is
+
+pub returns-clause-reason : goal.returns-clause-reason
+returns-clause-reason c = λ bytes lent known.
+    let same = same-some c.output.result.now bytes (sym c.output.ensures ∙ lent) in
+    subst (λ b. OutputsOrHasReason c.args.w b c.args.self.now.ring.state c.output-code.new.ring.state) same
+    (subst (λ (u : KeptRing). OutputsOrHasReason c.args.w c.output.result.now u.ring.state c.output-code.new.ring.state) c.self.view_is (c.output-code.ensures.reason known))

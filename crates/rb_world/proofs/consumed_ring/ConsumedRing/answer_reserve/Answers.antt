@@ -11,8 +11,9 @@ use Rattle.rb_chapter_ring.specs.Chapters.{joined}
 use Rattle.rb_chapter_ring.specs.ChapterRing.{whole_ring}
 use Rattle.rb_world.specs.WorldValue.{KeptRing, world_ring}
 use Rattle.rb_world.specs.TurnsDone.{chapters_of}
+use Rattle.rb_world.specs.RecordReasons.{ReservesOrHasReason}
 use Rattle.rb_world.specs.inner.RingAnswers.{IsReserved}
-use Rattle.rb_world.specs.inner.HeldInHands.{HoldsOldOrOut, KeepsInHand, Mark, WasHeld, hands_shown}
+use Rattle.rb_world.specs.inner.HeldInHands.{HoldsOldOrOut, KeepsInHand, WasHeld}
 use Rattle.rb_world.proofs.HeldInHands.{filled-keeps}
 use Rattle.rb_world.proofs.KeptChapters.{kept-of, same-has}
 use Rattle.rb_world.proofs.WholeCalls.{same-chapters}
@@ -94,3 +95,6 @@ returns-clause-hands c =
     let s : KeptRing = record { ring = c.self.inside.ring; chapters = c.self.inside.chapters.items; taken = c.self.inside.taken.items } in
     let s' : KeptRing = record { ring = c.reserve.new.ring; chapters = c.self.inside.chapters.items; taken = c.self.inside.taken.items } in
     subst (λ (u : KeptRing). KeepsInHand u s') c.self.view_is (filled-keeps s s' c.reserve.ensures.others)
+
+pub returns-clause-reason : goal.returns-clause-reason
+returns-clause-reason c = λ none. subst (λ (u : KeptRing). ReservesOrHasReason c.args.w c.args.len u.ring.state c.reserve.new.ring.state) c.self.view_is (c.reserve.ensures.reason none)

@@ -17,7 +17,7 @@ loop-actor-preserved c = record {
   so_far = subst (λ l. IsRunOf (take (c.loop-actor.actor-index + 1) c.args.actors.now) c.args.self.now l c.turn-done.new.self) (sym c.push_reserved.ensures.items)
       (run-more c.args.actors.now c.loop-actor.actor-index _ c.args.self.now c.loop-actor.self c.turn-done.new.self c.loop-actor.turns.items c.turn-done.result c.loop-actor-test.true c.loop-actor.invariant.so_far c.turn-done.ensures.turned);
   turns_so_far = subst (λ l. TakesTurns (take (c.loop-actor.actor-index + 1) c.args.actors.now) c.args.self.now l c.turn-done.new.self) (sym c.push_reserved.ensures.items)
-      (turns-more c.args.actors.now c.loop-actor.actor-index _ c.args.self.now c.loop-actor.self c.turn-done.new.self c.loop-actor.turns.items c.turn-done.result c.loop-actor-test.true c.loop-actor.invariant.turns_so_far c.turn-done.ensures.turned c.turn-done.ensures.chapters);
+      (turns-more c.args.actors.now c.loop-actor.actor-index _ c.args.self.now c.loop-actor.self c.turn-done.new.self c.loop-actor.turns.items c.turn-done.result c.loop-actor-test.true c.loop-actor.invariant.turns_so_far c.turn-done.ensures.turned c.turn-done.ensures.chapters c.turn-done.ensures.reasons);
   count = (let more = c.push_reserved.ensures.len in let before = c.loop-actor.invariant.count in omega arith);
   room = (let same = c.push_reserved.ensures.capacity in let before = c.loop-actor.invariant.room in omega arith);
   workers = c.turn-done.ensures.workers ∙ c.loop-actor.invariant.workers;

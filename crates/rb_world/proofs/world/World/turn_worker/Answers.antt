@@ -1,10 +1,11 @@
-use Rattle.std.proofs.Common.{◌≡◌, ◌<◌, length, map, set, sym, subst, ◌∙◌}
+use Rattle.std.proofs.Common.{◌<◌, length, map, set, ap, sym, subst, ◌∙◌}
 use Rattle.rb_world.specs.declared.actor.Actor.TheVariants.{Worker}
-use Rattle.rb_world.specs.WorldValue.{world_ring, WorldValue, whole_world}
+use Rattle.rb_world.specs.RecordReasons.{HasReasons, TurnHasReasons}
+use Rattle.rb_world.specs.WorldValue.{world_ring, WorldValue, no_worker, whole_world, worker_of}
 use Rattle.rb_world.specs.TurnsDone.{IsTurnOf}
 use Rattle.rb_world.specs.inner.FittingWorlds.{AreOwn, IsSoundWorld}
 use Rattle.rb_world.proofs.MachineAnswers.{fits-worker, fits-rings}
-use Rattle.rb_world.proofs.WholeLists.{length-by-chapters, map-length, setups-by-chapters}
+use Rattle.rb_world.proofs.WholeLists.{length-by-chapters, map-at, map-length, setups-by-chapters}
 use Rattle.rb_world.proofs.SoundWorlds.{sound-after}
 use Rattle.rb_world.proofs.HeldInHands.{still-tagged, tags-by-chapters, worker-in-hand}
 use Rattle.rb_world.proofs.world.World.turn_worker.Goals as goal
@@ -39,3 +40,12 @@ work-requires-clause-in_hand c =
     let inside : WorldValue = record { rings = c.self.inside.rings.items; machines = c.self.inside.machines.items } in
     let low : c.args.w < length inside.machines = subst (λ (b : WorldValue). c.args.w < length b.machines) (sym c.self.view_is) c.requires.worker in
     c.self.invariant.in_hand c.args.w c.index_mut.result.now low c.index_mut.ensures.value
+
+pub returns-clause-reasons : goal.returns-clause-reasons
+returns-clause-reasons c =
+    let inside : WorldValue = record { rings = c.self.inside.rings.items; machines = c.self.inside.machines.items } in
+    let new : WorldValue = record { rings = c.work.new.rings.items; machines = set inside.machines c.args.w c.work.new.machine } in
+    let low : c.args.w < length inside.machines = subst (λ (b : WorldValue). c.args.w < length b.machines) (sym c.self.view_is) c.requires.worker in
+    let is = ap worker_of c.index_mut.ensures.value ∙ sym (map-at worker_of inside.machines c.args.w c.index_mut.result.now no_worker low) in
+    subst (λ (b : WorldValue). TurnHasReasons (Worker c.args.w) b new) c.self.view_is
+    (subst (λ x. HasReasons c.args.w x inside.rings new.rings) is c.work.ensures.reasons)
