@@ -4,10 +4,11 @@
  * Every function is proved to do what is said here (crates/heskavo_c); the contracts stand at its exports. Nothing is kept between calls, no lock is
  * taken, no thread is started, and nothing aborts. Any number of threads may call at once, with buffers of their own.
  *
- * A buffer is a pointer and its length in items. A pointer may be null where its length is 0; no other one may. Buffers that a call writes overlap no
- * other one of the same call, and no length is above PTRDIFF_MAX. Memory comes of malloc, and goes back to free before the call returns: so no function
- * is called from a signal handler, or in the child of a fork of a process with threads, and malloc aligns a block to each power of two up to 16 that
- * divides its size. Link with libheskavo.a, which tools/install puts beside this header.
+ * A buffer is a pointer and its length in items. A pointer may be null where its length is 0; no other one may. Every pointer is aligned for what it
+ * points to. What a call may write, a buffer as well as a single number or struct, overlaps nothing else that the same call is given, and no length is
+ * above PTRDIFF_MAX. Memory comes of malloc, and goes back to free before the call returns: so no function is called from a signal handler, or in the
+ * child of a fork of a process with threads, and malloc aligns a block to each power of two up to 16 that divides its size. Link with libheskavo.a,
+ * which tools/install puts beside this header.
  *
  * A program is its bytes, eight a unit, as RFC 9669 lays them out. bpf-helpers(7) has its calls, Linux Documentation/bpf/ringbuf.rst the rings.
  */
@@ -21,16 +22,19 @@
 extern "C" {
 #endif
 
+/* The version of this library, which is that of rbhost: a byte each for its three numbers, the first one the highest (0x000200 is 0.2.0). */
+uint32_t heskavo_version(void);
+
 /* What a call answers. */
 enum heskavo_status {
     HESKAVO_DONE = 0,     /* it did what it is for */
-    HESKAVO_REFUSED = 1,  /* the program was refused */
+    HESKAVO_REFUSED = 1,  /* the program was refused; the verdict, or the explanation and its length, was written, and nothing else */
     HESKAVO_ARGUMENT = 2, /* a length, a size or a position is out of its bounds; nothing was written */
     HESKAVO_MEMORY = 3,   /* there was no memory; this says nothing of the program, and nothing was written */
     HESKAVO_ROOM = 4,     /* what is to be written does not fit; how much it is was told, and nothing else written */
-    HESKAVO_MORE = 5,     /* the bytes show no whole record yet, and no fault */
+    HESKAVO_MORE = 5,     /* the bytes show no whole record yet, and no fault; nothing was written */
     HESKAVO_FAULT = 6,    /* the bytes show a fault */
-    HESKAVO_BROKEN = 7    /* what a run left is no tape, or not all of it came out: a fault of the library */
+    HESKAVO_BROKEN = 7    /* what a run left is no tape, or not all of it came out: a fault of the library; nothing was written */
 };
 
 /* The layers of a verdict. */
@@ -120,7 +124,8 @@ uint32_t heskavo_explain(const uint8_t *program, size_t program_len, uint32_t ct
  * Verifies a program for this context and so many rings, runs it once over fresh rings of `size` bytes, and puts the records that it left in each ring as
  * a tape into `tapes`, the tape of ring 0 first, each from position 0 on: HESKAVO_DONE with what the program ended with in `value`, and the length of each
  * ring's tape in `written`, which has a place for each ring. HESKAVO_REFUSED with the verdict; HESKAVO_ROOM where all tapes together are longer than
- * `tapes`, with their lengths told. Also answered: HESKAVO_ARGUMENT, HESKAVO_MEMORY, HESKAVO_BROKEN.
+ * `tapes`, with their lengths told. Also answered: HESKAVO_ARGUMENT, HESKAVO_MEMORY, HESKAVO_BROKEN. Where there is no memory for a record of more than 16
+ * bytes that the program asks for, the program goes on as where the ring has no room for it, with null or -EAGAIN: that is no HESKAVO_MEMORY.
  */
 uint32_t heskavo_run(const uint8_t *program, size_t program_len, const uint8_t *context, size_t context_len, uint64_t size, uint8_t *tapes, size_t tapes_len,
                      uint64_t *written, size_t rings, uint64_t *value, struct heskavo_verdict *verdict);

@@ -3,6 +3,13 @@ use Rattle.std.proofs.Common.{◌≡◌, ℕ, suc, ◌+◌, ◌-◌, ◌<◌, Li
 use Rattle.std.proofs.lemmas.Grind.{flat_map-append}
 use Rattle.std.proofs.lemmas.List.{take_more}
 use Rattle.rb_explain.specs.Joined.{joined_below}
+use Rattle.rb_history.specs.Calls.{AllTaken}
+use Rattle.rb_history.specs.RingModel.{Ring}
+use Rattle.rb_history.specs.declared.entries.Entry.{Entry}
+use Rattle.rb_chapter_ring.specs.ChapterCalls.{consumer_by_chapter, producer_by_chapter}
+use Rattle.rb_chapter_ring.specs.ChapterRing.{ChapterRing, whole_ring}
+use Rattle.rb_chapter_ring.specs.WholeHistory.{IsKept}
+use Rattle.rb_chapter_ring.proofs.Alike.{calls-alike}
 use Rattle.rb_history.specs.TapeBytes.{Item, AreItemsFrom, end_of, tape}
 use Rattle.rb_history.proofs.HeaderLaws.{AreItemsFrom-append, end_of-append, tape-append}
 use Rattle.rb_history.specs.declared.answers.Taken.{Taken}
@@ -60,3 +67,7 @@ module _ (world : WorldValue) (size ring : ℕ) (was bytes old new : List ℕ) (
         follow = below_more (λ r. AreItemsFrom size 0 (items_left world r)) ring left.follow (subst (λ t. AreItemsFrom size 0 (taken_items t)) same stands);
         drained = below_more (IsDrained world) ring left.drained drained;
       }
+
+-- a ring whose chapter's positions are one has nothing left, by its whole history
+pub all_taken : (earlier : List Entry) (v : ChapterRing) (whole : Ring) → IsKept earlier v.chapter → whole_ring earlier v ≡ whole → producer_by_chapter v ≡ consumer_by_chapter v → AllTaken whole
+all_taken earlier v whole kept is same = subst AllTaken is ((calls-alike earlier v v kept.continues).all_taken.0 same)

@@ -1,9 +1,9 @@
 -- What a run of one program over fresh rings leaves (own).
 use Rattle.std.specs.Prelude.{◌≡◌, ◌≢◌, ℕ, zero, suc, ◌<◌, List, [], ◌∷◌, ◌++◌, All, Some, length, replicate}
 use Rattle.std.specs.List.{flat_map}
-use Rattle.rb_chapter_ring.specs.CountedFrom.{consumer_from, producer_from}
 use Rattle.rb_program.specs.Program.{unit_count}
 use Rattle.rb_explain.specs.Joined.{joined_below}
+use Rattle.rb_history.specs.Calls.{AllTaken}
 use Rattle.rb_history.specs.TapeBytes.{Item, AreItemsFrom, tape}
 use Rattle.rb_history.specs.TapeBytes.Item.{Event, Skip}
 use Rattle.rb_history.specs.declared.answers.Taken.{Taken}
@@ -12,8 +12,8 @@ use Rattle.rb_world.specs.declared.actor.Actor.{Actor}
 use Rattle.rb_world.specs.declared.actor.Actor.TheVariants.{Consumer, Worker}
 use Rattle.rb_verifier.specs.Subject.{Subject}
 use Rattle.rb_world.specs.OpenedWorlds.{IsOpenedWorld}
-use Rattle.rb_world.specs.WorldRuns.{IsRunOf, result_of}
-use Rattle.rb_world.specs.WorldValue.{WorldValue, ring_at, world_of}
+use Rattle.rb_world.specs.WorldRuns.{IsRunOf, TakesTurns, result_of}
+use Rattle.rb_world.specs.WorldValue.{WorldValue, world_of}
 use Rattle.rb_world.specs.declared.opening.RingSetup.{RingSetup}
 use Rattle.rb_world.specs.declared.opening.WorkerSetup.{WorkerSetup}
 use Rattle.rb_world.specs.declared.turn_done.TurnDone.{TurnDone}
@@ -38,7 +38,7 @@ turns_alone units zero = replicate units (Worker 0)
 turns_alone units (suc ring) = turns_alone units ring ++ replicate units (Consumer ring)
 
 -- the program ran over this context and fresh rings of this size, as many as it was verified for, and what it left in them was taken, which came to
--- this world; no take was refused memory
+-- this world; no take was refused memory, and each call of the program that came to no record had a reason
 pub record RunsAlone (subject : Subject) (context : List ℕ) (size : ℕ) (last : WorldValue) : Type 0 where
   pub worker : WorkerSetup
   pub first : WorldValue
@@ -47,6 +47,7 @@ pub record RunsAlone (subject : Subject) (context : List ℕ) (size : ℕ) (last
   pub context_is : worker.context.now ≡ context
   pub opened : IsOpenedWorld (replicate subject.rings (fresh_ring size)) (worker ∷ []) first
   pub ran : IsRunOf (turns_alone (unit_count subject.program) subject.rings) first dones last
+  pub turned : TakesTurns (turns_alone (unit_count subject.program) subject.rings) first dones last
   pub remembered : All (λ done. done ≢ Memory) dones
 
 -- ---- what it left
@@ -68,10 +69,9 @@ items_left world ring = taken_items ((world_of world).rings ring).taken
 abbrev pub tape_left : WorldValue → ℕ → ℕ → List ℕ
 tape_left world size ring = tape size (items_left world ring)
 
--- nothing is left in the ring of this number
+-- nothing is left in the ring of this number: its producer and its consumer stand at one position
 abbrev pub IsDrained : WorldValue → ℕ → Type 0
-IsDrained world ring =
-    producer_from (ring_at world ring).ring.state.ring.chapter.opening (ring_at world ring).ring.state.ring.chapter.entries ≡ consumer_from (ring_at world ring).ring.state.ring.chapter.opening (ring_at world ring).ring.state.ring.chapter.entries
+IsDrained world ring = AllTaken ((world_of world).rings ring).ring
 
 -- the lengths of the tapes of the rings below this number
 abbrev pub lengths_below : (ℕ → List ℕ) → ℕ → List ℕ

@@ -6,6 +6,8 @@ use crate::status::{DONE, FAULT, MORE, REFUSED, ROOM};
 use crate::tapes::{TapeRecord, heskavo_tape_next, heskavo_tape_put, heskavo_tape_put_discarded};
 use crate::verdict::{RULES, Verdict};
 use crate::verifying::heskavo_verify;
+use crate::version::heskavo_version;
+use rb_version::VERSION_NUMBER;
 use std::alloc::Global;
 
 // Reserves a record of eight bytes, and submits 42 where it was granted.
@@ -27,6 +29,11 @@ const NONE: Verdict = Verdict {
 
 // The tape of what the program submits.
 const TAPE: [u8; 16] = [8, 0, 0, 0, 0, 0, 0, 0, 42, 0, 0, 0, 0, 0, 0, 0];
+
+#[test]
+fn the_version_is_told(rt: HostRuntime) {
+    assert_eq!(rt; heskavo_version(), VERSION_NUMBER);
+}
 
 // What `heskavo_verify` answers, and the verdict's layer, number and unit.
 fn verified(alloc: Global, program: &[u8]) -> (u32, [u32; 3]) {
@@ -65,12 +72,30 @@ fn programs_are_explained(rt: HostRuntime) {
     );
 }
 
+// What a program of eleven units more does behind `SUBMIT_42`'s submit: it reserves another record of eight bytes, discards it where it was granted, and
+// ends with 0.
+const DISCARD_8: [u8; 88] = [
+    0x18, 0x51, 0, 0, 0, 0, 0, 0, 0, 0, 0, 0, 0, 0, 0, 0, 0xb7, 0x02, 0, 0, 0x08, 0, 0, 0, 0xb7,
+    0x03, 0, 0, 0, 0, 0, 0, 0x85, 0, 0, 0, 0x83, 0, 0, 0, 0x15, 0, 0x03, 0, 0, 0, 0, 0, 0xbf, 0x01,
+    0, 0, 0, 0, 0, 0, 0xb7, 0x02, 0, 0, 0, 0, 0, 0, 0x85, 0, 0, 0, 0x85, 0, 0, 0, 0xb7, 0, 0, 0, 0,
+    0, 0, 0, 0x95, 0, 0, 0, 0, 0, 0, 0,
+];
+
+// What it leaves: a record with 42, and one of as many bytes that was discarded.
+const BOTH_TAPES: [u8; 32] = [
+    8, 0, 0, 0, 0, 0, 0, 0, 42, 0, 0, 0, 0, 0, 0, 0, 8, 0, 0, 0x40, 0, 0, 0, 0, 0, 0, 0, 0, 0, 0,
+    0, 0,
+];
+
 #[test]
 fn a_program_runs(rt: HostRuntime) {
-    let (mut tape, mut written, mut value, mut verdict) = ([0; 16], [0], 7, NONE);
+    let mut program = [0; 168];
+    program[..80].copy_from_slice(&SUBMIT_42[..80]);
+    program[80..].copy_from_slice(&DISCARD_8);
+    let (mut tape, mut written, mut value, mut verdict) = ([0; 32], [0], 7, NONE);
     let status = heskavo_run(
         rt.alloc(),
-        &SUBMIT_42,
+        &program,
         &[0; 16],
         4096,
         &mut tape,
@@ -78,7 +103,7 @@ fn a_program_runs(rt: HostRuntime) {
         &mut value,
         &mut verdict,
     );
-    assert_eq!(rt; (status, value, written, tape), (DONE, 0, [16], TAPE));
+    assert_eq!(rt; (status, value, written, tape), (DONE, 0, [32], BOTH_TAPES));
 }
 
 // What `heskavo_tape_next` answers of bytes at this position: the status, and of the record its offset, span, length, whether it was discarded, and

@@ -29,6 +29,7 @@ pub extern "C" fn heskavo_explain(
     ensures room { result ≡ ROOM → WantsRoom program.now ctx_len rings text.old wanted.new }
     ensures argument { (result ≡ ARGUMENT) ↔ ¬ AreBounds ctx_len rings }
     ensures unwritten { result ≢ DONE → result ≢ REFUSED → text.new ≡ text.old }
+    ensures untold { result ≢ DONE → result ≢ REFUSED → result ≢ ROOM → wanted.new ≡ wanted.old }
     ensures answers { result ≤ ROOM }
 {
     if !are_bounds(ctx_len, rings) {

@@ -17,6 +17,7 @@ mod status;
 mod tapes;
 mod verdict;
 mod verifying;
+mod version;
 
 pub use explaining::heskavo_explain;
 pub use running::heskavo_run;
@@ -24,3 +25,4 @@ pub use status::{ARGUMENT, BROKEN, DONE, FAULT, MEMORY, MORE, REFUSED, ROOM};
 pub use tapes::{TapeRecord, heskavo_tape_next, heskavo_tape_put, heskavo_tape_put_discarded};
 pub use verdict::{BYTES, RULES, SHAPE, Verdict};
 pub use verifying::heskavo_verify;
+pub use version::heskavo_version;

@@ -140,6 +140,7 @@ pub extern "C" fn heskavo_tape_put(
     ensures room { result ≡ ROOM → (length tape.old < written.new) × (written.new ≡ spans.span (length payload.now)) }
     ensures argument { (result ≡ ARGUMENT) ↔ ¬ HasRoomAt size position (length payload.now) }
     ensures unwritten { result ≢ DONE → tape.new ≡ tape.old }
+    ensures untold { result ≢ DONE → result ≢ ROOM → written.new ≡ written.old }
     ensures answers { (result ≡ DONE) ⊎ ((result ≡ ROOM) ⊎ (result ≡ ARGUMENT)) }
 {
     if !has_room_at(size, position, payload.len() as u64) {
@@ -169,6 +170,7 @@ pub extern "C" fn heskavo_tape_put_discarded(
     ensures room { result ≡ ROOM → (length tape.old < written.new) × (written.new ≡ spans.span len) }
     ensures argument { (result ≡ ARGUMENT) ↔ ¬ HasRoomAt size position len }
     ensures unwritten { result ≢ DONE → tape.new ≡ tape.old }
+    ensures untold { result ≢ DONE → result ≢ ROOM → written.new ≡ written.old }
     ensures answers { (result ≡ DONE) ⊎ ((result ≡ ROOM) ⊎ (result ≡ ARGUMENT)) }
 {
     if !has_room_at(size, position, u64::from(len)) {

@@ -7,69 +7,58 @@ ghost use Rattle.rb_tape_commands.specs.Feed.{FeedAnswerMatches, AnswersAlone};
 ghost use Rattle.rb_tape_commands.specs.inner.PayloadSteps.{IsWholeInput};
 ghost use Rattle.rb_tape_commands.specs.TapeText.{IsTape};
 
-use crate::options::{Request, parse};
+use crate::progress::{Metered, Progress};
+use crate::reasons::{Seen, reason_of};
+use crate::refusal::{Refusal, object_of};
+use crate::request::{Asked, Request, parse};
+use crate::sim_objects::print_objects;
 use clap::Error;
 use clap::error::ErrorKind;
-use rb_io::Buffered;
+use rb_io::{Buffered, NotedReader, NotedWriter, write_whole};
 use rb_json::LineForm;
-use rb_loader::explain;
-use rb_run_commands::{check, run, run_to_file};
-use rb_script::sim;
+use rb_loader::{Bounds, ProgramFault, explain, explain_portable, read_all};
+use rb_run_commands::{JobsFault, TapeFile, check, check_portable, run, run_to_file};
+use rb_script::{SimFault, line_reason, sim};
 use rb_tape_commands::{FeedFault, TapeRefusal, feed, tape};
 use std::alloc::Global;
 use std::convert::AsStr;
-use std::fmt::Display;
-use std::io::{BufReader, Read, Write};
+use std::io::{BufReader, Eprint, Read, Write};
 use std::rt::Files;
 use std::sync::Wait;
 use std::thread::Threads;
+use std::time::Clock;
 
 // How many bytes of payloads are read at once: as many as a pipe holds (pipe(7)).
 const READ_AHEAD: usize = 65_536;
 
 /// Carries out the command that the words name, which follow the program's name on the command line, and returns the status that
-/// the program ends with: 0; 1 where it was refused, with a line on `err` that begins with `refused `; 2 for wrong usage, which
-/// goes to `err` before anything is read or written. Help and the version, where they are asked for, go to `out`.
+/// the program ends with: 0; 1 where it was refused, with a line on `err` that begins with `refused `, with `--why` behind a line with the reason,
+/// and with `--json` as an object on `out` too; 2 for wrong usage, which goes to `err` before anything is read or written. Help and the version,
+/// where they are asked for, go to `out`.
+///
+/// With `--progress`, and without it where `is_watched`, as by a person at a terminal, `feed`, `tape` and `run` tell about once a second how far they are,
+/// on the runtime's standard error and not on `err`, and take it away at the end.
 ///
 /// `feed`, `tape`, `explain` and `sim` wait for nobody. `check` and `run` hold a ring's lock for each call, and `run` starts threads.
 pub fn command<T, F: Write + Send + Drop, S: AsStr, R: Read, W: Write, E: Write>(
     rt: &T,
     alloc: Global,
     words: &[S],
+    is_watched: bool,
     input: &mut R,
     out: &mut W,
     err: &mut E,
 ) -> u8
 where
-    T: Threads + Wait + Sync + Files<File = F>,
+    T: Threads + Wait + Sync + Files<File = F> + Clock + Eprint,
     ensures status { result ≤ 2 }
     ensures usage { result ≡ 2 → Keeps (R.remaining input.old) (R.remaining input.new) × Keeps (W.contents out.old) (W.contents out.new) }
 {
     match parse(alloc, words) {
-        Ok(
-            Request::Feed {
-                size,
-                start,
-                retries,
-            },
-        ) => feed_command(alloc, input, out, err, size, start, retries),
-        Ok(Request::Tape { size, start, form }) => {
-            status_of(tape_buffered(alloc, input, out, size, start, form), err)
+        Ok(mut asked) => {
+            asked.progress |= is_watched && asked.request.is_long();
+            carry_out(rt, alloc, &asked, input, out, err)
         }
-        Ok(Request::Check { bounds, form }) => {
-            status_of(check(rt, alloc, input, out, bounds, form), err)
-        }
-        Ok(Request::Explain { bounds, form }) => {
-            status_of(explain(alloc, input, out, bounds, form), err)
-        }
-        Ok(Request::Run { jobs, tape: None }) => status_of(run(rt, alloc, input, out, jobs), err),
-        Ok(
-            Request::Run {
-                jobs,
-                tape: Some(path),
-            },
-        ) => status_of(run_to_file(rt, alloc, input, out, jobs, path), err),
-        Ok(Request::Sim { draw }) => status_of(sim(alloc, input, out, draw), err),
         Err(error) => print_usage(&error, out, err),
     }
 }
@@ -80,10 +69,10 @@ fn print_usage<W: Write, E: Write>(error: &Error, out: &mut W, err: &mut E) -> u
     ensures usage { result ≡ 2 → Keeps (W.contents out.old) (W.contents out.new) }
 {
     match error.kind() {
-        ErrorKind::OutOfMemory => print_refusal(&FeedFault::Memory, err),
+        ErrorKind::OutOfMemory => print_refusal(&Refusal::Program(ProgramFault::Memory), err),
         ErrorKind::DisplayHelp | ErrorKind::DisplayVersion => match write!(out, "{error}") {
             Ok(()) => 0,
-            Err(_) => print_refusal(&FeedFault::Device, err),
+            Err(_) => print_refusal(&Refusal::Program(ProgramFault::Device), err),
         },
         _ => {
             let _ = write!(err, "{error}");
@@ -92,29 +81,278 @@ fn print_usage<W: Write, E: Write>(error: &Error, out: &mut W, err: &mut E) -> u
     }
 }
 
-// Writes the tape of the payloads, and prints where it ends.
-fn feed_command<R: Read, W: Write, E: Write>(
+// The line of a refusal.
+fn print_refusal<E: Write>(refusal: &Refusal, err: &mut E) -> u8
+    ensures { result ≡ 1 }
+{
+    let _ = writeln!(err, "refused {refusal}");
+    1
+}
+
+// Carries out a command, and tells its refusal.
+fn carry_out<T, F: Write + Send + Drop, R: Read, W: Write, E: Write>(
+    rt: &T,
     alloc: Global,
+    asked: &Asked<'_>,
     input: &mut R,
     out: &mut W,
     err: &mut E,
-    size: u64,
-    start: u64,
-    retries: u32,
 ) -> u8
-    ensures status { result ≤ 1 }
-    ensures whole { result ≡ 0 → IsRingSize size × IsStartPosition start × IsWholeInput size start (R.remaining input.old) }
+where
+    T: Threads + Wait + Sync + Files<File = F> + Clock + Eprint,
+    ensures { result ≤ 1 }
 {
-    match feed_buffered(alloc, input, out, size, start, retries) {
-        Ok((producer, consumer)) => match writeln!(err, "producer {producer} consumer {consumer}") {
-            Ok(()) => 0,
-            Err(_) => 1,
-        },
-        Err(fault) => print_refusal(&fault, err),
+    let mut input = NotedReader::new(input);
+    let mut out = NotedWriter::new(out);
+    let mut seen = Seen::default();
+    let progress = Progress::new(rt, asked.progress);
+    let mut told = Vec::new(alloc);
+    let answer = answer(
+        rt, alloc, asked, &progress, &mut input, &mut out, &mut told, &mut seen,
+    );
+    progress.end();
+    match and_told(answer, told.as_slice(), err) {
+        Ok(None) => 0,
+        Ok(Some(end)) => print_end(err, end, asked.request.form()),
+        Err(refusal) => {
+            seen.front = input.front;
+            seen.reading = input.error;
+            seen.printing = out.error;
+            tell_refusal(alloc, &refusal, asked, &seen, &mut out, err)
+        }
     }
 }
 
-// The same, over buffers. The order of the answers is that of `feed`, after out of memory for the buffers.
+// What a command answers, once what it told beside its output is written.
+fn and_told<E: Write>(
+    answer: Result<Option<(u64, u64)>, Refusal>,
+    told: &[u8],
+    err: &mut E,
+) -> Result<Option<(u64, u64)>, Refusal> {
+    if told.is_empty() || write_whole(err, told).is_ok() || answer.is_err() {
+        return answer;
+    }
+    Err(Refusal::Jobs(JobsFault::Program(ProgramFault::Device)))
+}
+
+// Tells a refusal: its reason and its object where they are asked for, and its line.
+fn tell_refusal<W: Write, E: Write>(
+    alloc: Global,
+    refusal: &Refusal,
+    asked: &Asked<'_>,
+    seen: &Seen,
+    out: &mut W,
+    err: &mut E,
+) -> u8
+    ensures { result ≡ 1 }
+{
+    let cause = refusal.cause();
+    let reason = if asked.why {
+        reason_of(alloc, cause, &asked.request, seen).ok()
+    } else {
+        None
+    };
+    if let Some(reason) = &reason {
+        let _ = writeln!(err, "{reason}");
+    }
+    let status = print_refusal(refusal, err);
+    if asked.request.prints_object() {
+        let reason = reason.as_ref().map(|reason| reason.as_str());
+        if let Ok(object) = object_of(alloc, cause, reason) {
+            let _ = write_whole(out, object.as_slice());
+        }
+    }
+    status
+}
+
+// Checks a program, and tells where Linux refuses it where that is asked for.
+fn checked<T: Wait, R: Read, W: Write>(
+    rt: &T,
+    alloc: Global,
+    input: &mut R,
+    out: &mut W,
+    bounds: Bounds,
+    form: LineForm,
+    portable: bool,
+) -> Result<(), ProgramFault> {
+    if portable {
+        check_portable(rt, alloc, input, out, bounds, form)
+    } else {
+        check(rt, alloc, input, out, bounds, form)
+    }
+}
+
+// Explains a program, and tells where Linux refuses it where that is asked for.
+fn explained<R: Read, W: Write>(
+    alloc: Global,
+    input: &mut R,
+    out: &mut W,
+    bounds: Bounds,
+    form: LineForm,
+    portable: bool,
+) -> Result<(), ProgramFault> {
+    if portable {
+        explain_portable(alloc, input, out, bounds, form)
+    } else {
+        explain(alloc, input, out, bounds, form)
+    }
+}
+
+// What a command answers: where the tape of `feed` ends, or why it was refused. What goes to standard error beside its output is left in `told`.
+fn answer<T, F: Write + Send + Drop, R: Read, W: Write>(
+    rt: &T,
+    alloc: Global,
+    asked: &Asked<'_>,
+    progress: &Progress<'_, T>,
+    input: &mut R,
+    out: &mut W,
+    told: &mut Vec<u8>,
+    seen: &mut Seen,
+) -> Result<Option<(u64, u64)>, Refusal>
+where
+    T: Threads + Wait + Sync + Files<File = F> + Clock + Eprint,
+{
+    match asked.request {
+        Request::Feed {
+            size,
+            start,
+            retries,
+            ..
+        } => feed_metered(alloc, input, out, progress, size, start, retries),
+        Request::Tape { size, start, form } => {
+            let mut input = Metered::new(input, progress);
+            match tape_buffered(alloc, &mut input, out, size, start, form) {
+                Ok(()) => Ok(None),
+                Err(refusal) => Err(Refusal::Tape(refusal)),
+            }
+        }
+        Request::Check {
+            bounds,
+            form,
+            portable,
+        } => of_program(checked(rt, alloc, input, out, bounds, form, portable)),
+        Request::Explain {
+            bounds,
+            form,
+            portable,
+        } => of_program(explained(alloc, input, out, bounds, form, portable)),
+        Request::Run { jobs, tape: None } => of_jobs(run(
+            rt, alloc, input, out, told, jobs, progress,
+        )),
+        Request::Run {
+            jobs,
+            tape: Some(path),
+        } => {
+            let mut file = TapeFile { path, fault: None };
+            let answer = run_to_file(rt, alloc, input, out, told, jobs, &mut file, progress);
+            seen.file = file.fault;
+            of_jobs(answer)
+        }
+        Request::Sim { draw, form } => {
+            match sim_told(alloc, input, out, draw, form, asked.why, seen) {
+                Ok(()) => Ok(None),
+                Err(fault) => Err(Refusal::Sim(fault)),
+            }
+        }
+    }
+}
+
+// Writes the tape of the payloads, and tells how far it is: where the tape ends, or why it was refused.
+fn feed_metered<T: Clock + Eprint, R: Read, W: Write>(
+    alloc: Global,
+    input: &mut R,
+    out: &mut W,
+    progress: &Progress<'_, T>,
+    size: u64,
+    start: u64,
+    retries: u32,
+) -> Result<Option<(u64, u64)>, Refusal>
+    ensures whole { OnOk result (IsRingSize size × IsStartPosition start × IsWholeInput size start (R.remaining input.old)) }
+{
+    let mut input = Metered::new(input, progress);
+    match feed_buffered(alloc, &mut input, out, size, start, retries) {
+        Ok(end) => Ok(Some(end)),
+        Err(fault) => Err(Refusal::Feed(fault)),
+    }
+}
+
+// The answer of a command over a program.
+fn of_program(answer: Result<(), ProgramFault>) -> Result<Option<(u64, u64)>, Refusal> {
+    match answer {
+        Ok(()) => Ok(None),
+        Err(fault) => Err(Refusal::Program(fault)),
+    }
+}
+
+// The answer of a run.
+fn of_jobs(answer: Result<(), JobsFault>) -> Result<Option<(u64, u64)>, Refusal> {
+    match answer {
+        Ok(()) => Ok(None),
+        Err(fault) => Err(Refusal::Jobs(fault)),
+    }
+}
+
+// Tells where a tape ends that `feed` wrote: the producer's position and the consumer's.
+fn print_end<E: Write>(err: &mut E, end: (u64, u64), form: LineForm) -> u8
+    ensures { result ≤ 1 }
+{
+    let (producer, consumer) = end;
+    let told = match form {
+        LineForm::Words => writeln!(err, "producer {producer} consumer {consumer}"),
+        LineForm::Json => writeln!(err, "{{\"producer\":{producer},\"consumer\":{consumer}}}"),
+    };
+    match told {
+        Ok(()) => 0,
+        Err(_) => 1,
+    }
+}
+
+// Runs a script, and says what was expected at a line that is refused, where that is asked for.
+fn sim_told<R: Read, W: Write>(
+    alloc: Global,
+    input: &mut R,
+    out: &mut W,
+    draw: bool,
+    form: LineForm,
+    why: bool,
+    seen: &mut Seen,
+) -> Result<(), SimFault> {
+    if !why && form == LineForm::Words {
+        return sim(alloc, input, out, draw);
+    }
+    let script = match read_all(alloc, input) {
+        Ok(script) => script,
+        Err(ProgramFault::Memory) => return Err(SimFault::Memory),
+        Err(_) => return Err(SimFault::Device),
+    };
+    let answer = match form {
+        LineForm::Words => sim(alloc, &mut script.as_slice(), out, draw),
+        LineForm::Json => sim_objects(alloc, script.as_slice(), out, draw),
+    };
+    if let Err(SimFault::Line(line)) = answer {
+        seen.line = line_reason(alloc, script.as_slice(), line).ok();
+    }
+    answer
+}
+
+// Runs a script, and prints an object for each line, also of those before memory ran out.
+fn sim_objects<W: Write>(
+    alloc: Global,
+    mut script: &[u8],
+    out: &mut W,
+    draw: bool,
+) -> Result<(), SimFault> {
+    let mut lines = Vec::new(alloc);
+    let answer = sim(alloc, &mut script, &mut lines, draw);
+    print_objects(alloc, lines.as_slice(), out)?;
+    match answer {
+        // A list fails for want of memory alone.
+        Err(SimFault::Device) => Err(SimFault::Memory),
+        answer => answer,
+    }
+}
+
+// Writes the tape of the payloads, over buffers. The order of the answers is that of `feed`, after out of memory for the buffers.
 fn feed_buffered<R: Read, W: Write>(
     alloc: Global,
     input: &mut R,
@@ -152,22 +390,4 @@ fn tape_buffered<R: Read, W: Write>(
         return Err(TapeRefusal::Memory);
     };
     tape(alloc, input, &mut writer, size, start, form)
-}
-
-// The status of a command that printed its own output, with the line of its refusal.
-fn status_of<F: Display + Drop, E: Write>(answer: Result<(), F>, err: &mut E) -> u8
-    ensures { result ≤ 1 }
-{
-    match answer {
-        Ok(()) => 0,
-        Err(fault) => print_refusal(&fault, err),
-    }
-}
-
-// The line of a refusal.
-fn print_refusal<F: Display, E: Write>(fault: &F, err: &mut E) -> u8
-    ensures { result ≡ 1 }
-{
-    let _ = writeln!(err, "refused {fault}");
-    1
 }

@@ -6,5 +6,10 @@
 
 mod dispatch;
 mod options;
+mod progress;
+mod reasons;
+mod refusal;
+mod request;
+mod sim_objects;
 
 pub use dispatch::command;

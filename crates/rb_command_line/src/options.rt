@@ -1,165 +1,13 @@
-//! What the words of the command line ask for.
+//! What the command line may say.
 
-ghost use Rattle.std.specs.Prelude.{◌<◌, ◌≤◌, ◌^◌, IfOk};
-ghost use Rattle.std.specs.Option.{SomeIff};
-ghost use Rattle.std.specs.Str.Parse.{IsNumeral, digits_value};
-
-use clap::error::ErrorKind;
-use clap::{Arg, ArgAction, ArgMatches, Command, Error};
-use rb_json::LineForm;
-use rb_loader::Bounds;
-use rb_run_commands::JobsRequest;
+use clap::{Arg, ArgAction, Command};
+use rb_version::VERSION;
 use std::alloc::{AllocError, Global};
-use std::convert::AsStr;
 
-/// A command with its options.
-#[derive(Clone, Copy)]
-pub(crate) enum Request<'a> {
-    /// Writes the tape of payloads: the ring's size and its first position, and how often writing goes on after a write that failed.
-    Feed {
-        size: u64,
-        start: u64,
-        retries: u32,
-    },
-    /// Prints the records of a tape: the ring's size and its first position, and how a record is printed.
-    Tape {
-        size: u64,
-        start: u64,
-        form: LineForm,
-    },
-    /// Verifies a program and runs it once, and how what came of it is printed.
-    Check {
-        bounds: Bounds,
-        form: LineForm,
-    },
-    /// Explains a program, and how what is explained is printed.
-    Explain {
-        bounds: Bounds,
-        form: LineForm,
-    },
-    /// Verifies a program and runs it as jobs on threads, and writes what they sent as a tape to the file of this name, where there is one.
-    Run {
-        jobs: JobsRequest,
-        tape: Option<&'a str>,
-    },
-    /// Runs a script of workers and rings in turns, and whether the rings are drawn behind each.
-    Sim {
-        draw: bool,
-    },
-}
-
-// The command that these words name, which follow the program's name on the command line. An error is help or the version that was
-// asked for, wrong usage, or out of memory.
-pub(crate) fn parse<'a, S: AsStr>(alloc: Global, words: &'a [S]) -> Result<Request<'a>, Error> {
-    let mut program = program(alloc)?;
-    request_of(alloc, &mut program, words)
-}
-
-// The same by what the command line may say.
-fn request_of<'a, S: AsStr>(
-    alloc: Global,
-    program: &mut Command<'a>,
-    words: &'a [S],
-) -> Result<Request<'a>, Error> {
-    let matches = program.try_get_matches_from_mut(words)?;
-    match matches.subcommand() {
-        Some((name, options)) => command_request(alloc, program, name, options),
-        None => Err(program.error(ErrorKind::MissingSubcommand, "no command was given")?),
-    }
-}
-
-// What the command of this name asks for, by its options.
-fn command_request<'a>(
-    alloc: Global,
-    program: &mut Command<'_>,
-    name: &str,
-    options: &ArgMatches<'a>,
-) -> Result<Request<'a>, Error> {
-    match name {
-        "feed" => feed_request(alloc, program, options),
-        "tape" => tape_request(alloc, program, options),
-        "check" => Ok(Request::Check {
-            bounds: bounds(alloc, program, options)?,
-            form: form(options),
-        }),
-        "explain" => Ok(Request::Explain {
-            bounds: bounds(alloc, program, options)?,
-            form: form(options),
-        }),
-        "run" => Ok(Request::Run {
-            jobs: jobs_request(alloc, program, options)?,
-            tape: options.get_str("tape"),
-        }),
-        _ => Ok(Request::Sim {
-            draw: options.get_flag("draw"),
-        }),
-    }
-}
-
-fn feed_request<'a>(
-    alloc: Global,
-    program: &mut Command<'_>,
-    options: &ArgMatches<'_>,
-) -> Result<Request<'a>, Error> {
-    Ok(Request::Feed {
-        size: number(alloc, program, options, "size")?,
-        start: number(alloc, program, options, "start")?,
-        retries: bounded(alloc, program, options, "retry", 0, 100)?,
-    })
-}
-
-fn tape_request<'a>(
-    alloc: Global,
-    program: &mut Command<'_>,
-    options: &ArgMatches<'_>,
-) -> Result<Request<'a>, Error> {
-    Ok(Request::Tape {
-        size: number(alloc, program, options, "size")?,
-        start: number(alloc, program, options, "start")?,
-        form: form(options),
-    })
-}
-
-// What a program is verified for.
-fn bounds(
-    alloc: Global,
-    program: &mut Command<'_>,
-    options: &ArgMatches<'_>,
-) -> Result<Bounds, Error> {
-    Ok(Bounds {
-        ctx_len: bounded(alloc, program, options, "ctx", 0, 65_536)?,
-        rings: bounded(alloc, program, options, "rings", 0, 16)?,
-    })
-}
-
-// What is run, and over which ring.
-fn jobs_request(
-    alloc: Global,
-    program: &mut Command<'_>,
-    options: &ArgMatches<'_>,
-) -> Result<JobsRequest, Error> {
-    Ok(JobsRequest {
-        workers: number(alloc, program, options, "workers")?,
-        jobs: bounded(alloc, program, options, "jobs", 1, 1_000_000)?,
-        size: number(alloc, program, options, "size")?,
-        start: number(alloc, program, options, "start")?,
-        form: form(options),
-    })
-}
-
-// How lines of output are written.
-fn form(options: &ArgMatches<'_>) -> LineForm {
-    if options.get_flag("json") {
-        LineForm::Json
-    } else {
-        LineForm::Words
-    }
-}
-
-// What the command line may say.
-fn program<'a>(alloc: Global) -> Result<Command<'a>, AllocError> {
+/// The commands with their options.
+pub(crate) fn program<'a>(alloc: Global) -> Result<Command<'a>, AllocError> {
     let program = Command::new(alloc, "rbhost")
-        .version("0.1.0")
+        .version(VERSION)
         .bin_name("rbhost")?
         .about("A host for eBPF programs that write into BPF ring buffers")
         .no_binary_name(true)
@@ -188,7 +36,10 @@ fn feed<'a>(alloc: Global) -> Result<Command<'a>, AllocError> {
         .after_help("Example: printf '\\001\\000\\000\\000*' | rbhost feed --size 4096")
         .arg(size(alloc))?
         .arg(start(alloc))?
-        .arg(retry(alloc))
+        .arg(retry(alloc))?
+        .arg(json(alloc))?
+        .arg(why(alloc))?
+        .arg(progress(alloc))
 }
 
 fn tape<'a>(alloc: Global) -> Result<Command<'a>, AllocError> {
@@ -199,7 +50,9 @@ fn tape<'a>(alloc: Global) -> Result<Command<'a>, AllocError> {
         )
         .arg(size(alloc))?
         .arg(start(alloc))?
-        .arg(json(alloc))
+        .arg(json(alloc))?
+        .arg(why(alloc))?
+        .arg(progress(alloc))
 }
 
 fn check<'a>(alloc: Global) -> Result<Command<'a>, AllocError> {
@@ -208,7 +61,9 @@ fn check<'a>(alloc: Global) -> Result<Command<'a>, AllocError> {
         .after_help("Example: tools/bpf-hex examples/c/event.c | rbhost check")
         .arg(ctx(alloc))?
         .arg(rings(alloc))?
-        .arg(json(alloc))
+        .arg(portable(alloc))?
+        .arg(json(alloc))?
+        .arg(why(alloc))
 }
 
 fn explain<'a>(alloc: Global) -> Result<Command<'a>, AllocError> {
@@ -219,7 +74,9 @@ fn explain<'a>(alloc: Global) -> Result<Command<'a>, AllocError> {
         .after_help("Example: tools/bpf-hex examples/c/event.c | rbhost explain")
         .arg(ctx(alloc))?
         .arg(rings(alloc))?
-        .arg(json(alloc))
+        .arg(portable(alloc))?
+        .arg(json(alloc))?
+        .arg(why(alloc))
 }
 
 fn run<'a>(alloc: Global) -> Result<Command<'a>, AllocError> {
@@ -235,7 +92,9 @@ fn run<'a>(alloc: Global) -> Result<Command<'a>, AllocError> {
         .arg(size(alloc))?
         .arg(start(alloc))?
         .arg(tape_file(alloc))?
-        .arg(json(alloc))
+        .arg(json(alloc))?
+        .arg(why(alloc))?
+        .arg(progress(alloc))
 }
 
 fn sim<'a>(alloc: Global) -> Result<Command<'a>, AllocError> {
@@ -244,7 +103,9 @@ fn sim<'a>(alloc: Global) -> Result<Command<'a>, AllocError> {
         .after_help(
             "Example: printf 'ring 4096 0\\nworker b7000000000000009500000000000000\\nw 0 2\\n' | rbhost sim",
         )
-        .arg(draw(alloc))
+        .arg(draw(alloc))?
+        .arg(json(alloc))?
+        .arg(why(alloc))
 }
 
 fn workers<'a>(alloc: Global) -> Arg<'a> {
@@ -307,6 +168,27 @@ fn json<'a>(alloc: Global) -> Arg<'a> {
         .help("Print an object of JSON in the place of each line")
 }
 
+fn why<'a>(alloc: Global) -> Arg<'a> {
+    Arg::new(alloc, "why")
+        .long("why")
+        .action(ArgAction::SetTrue)
+        .help("Print the reason of a refusal in front of it")
+}
+
+fn progress<'a>(alloc: Global) -> Arg<'a> {
+    Arg::new(alloc, "progress")
+        .long("progress")
+        .action(ArgAction::SetTrue)
+        .help("Tell on standard error about once a second how far it is")
+}
+
+fn portable<'a>(alloc: Global) -> Arg<'a> {
+    Arg::new(alloc, "portable")
+        .long("portable")
+        .action(ArgAction::SetTrue)
+        .help("Print a line for each unit at which Linux refuses the program")
+}
+
 fn draw<'a>(alloc: Global) -> Arg<'a> {
     Arg::new(alloc, "draw")
         .long("draw")
@@ -317,51 +199,4 @@ fn draw<'a>(alloc: Global) -> Arg<'a> {
 // An option with a value.
 fn option<'a>(alloc: Global, name: &'a str) -> Arg<'a> {
     Arg::new(alloc, name).long(name).action(ArgAction::Set)
-}
-
-// The number that an option has.
-fn number(
-    alloc: Global,
-    program: &mut Command<'_>,
-    options: &ArgMatches<'_>,
-    name: &str,
-) -> Result<u64, Error> {
-    match options.get_str(name).and_then(decimal) {
-        Some(number) => Ok(number),
-        None => {
-            let message = format!(in alloc;
-                "the value of '--{name}' is no decimal number below 2^64"
-            )?;
-            Err(program.error(ErrorKind::ValueValidation, message.as_str())?)
-        }
-    }
-}
-
-// The number that an option has, which is bounded.
-fn bounded(
-    alloc: Global,
-    program: &mut Command<'_>,
-    options: &ArgMatches<'_>,
-    name: &str,
-    least: u32,
-    most: u32,
-) -> Result<u32, Error>
-    ensures { IfOk result (λ n. (least ≤ n) × (n ≤ most)) }
-{
-    let number = number(alloc, program, options, name)?;
-    if u64::from(least) <= number && number <= u64::from(most) {
-        return Ok(number as u32);
-    }
-    let message = format!(in alloc; "the value of '--{name}' is not {least} to {most}")?;
-    Err(program.error(ErrorKind::ValueValidation, message.as_str())?)
-}
-
-// The number that decimal digits spell, if it is below 2^64. `parse` alone would take a plus in front.
-fn decimal(text: &str) -> Option<u64>
-    ensures { SomeIff result (IsNumeral 10 text.now × (digits_value 10 text.now < 2 ^ 64)) (digits_value 10 text.now) }
-{
-    if text.as_bytes().first() == Some(&b'+') {
-        return None;
-    }
-    text.parse().ok()
 }

@@ -81,6 +81,10 @@ abbrev pub said_text : LineForm → (front layer name : List ℕ) → ℕ → Li
 said_text Words front layer name unit advice = front ++ advice ++ codes "\n"
 said_text Json front layer name unit advice = fault_object layer name unit advice
 
+-- what is said of a fault begins with its name: `BadOpcode: `
+abbrev pub BeginsWithName : (name advice : List ℕ) → Type 0
+BeginsWithName name advice = (rest : List ℕ) × (advice ≡ name ++ codes ": " ++ rest)
+
 -- ---- bytes that are no program: the lines before the fault, and the bytes of the units from it on
 
 abbrev pub raw_text : LineForm → ℕ → ℕ → List ℕ → List ℕ
@@ -106,11 +110,11 @@ ShowsFront form bytes at kind shown = ShowsUnits form bytes at shown
 -- behind what is shown stands what is said of the fault
 abbrev pub ShowsDecodeFault : LineForm → List ℕ → ℕ → DecodeKind → List ℕ → Type 0
 ShowsDecodeFault form bytes at kind text =
-    (shown : List ℕ) × (advice : List ℕ) × ShowsFront form bytes at kind shown × (text ≡ shown ++ said_text form [] (codes "decode") (decode_name kind) at advice)
+    (shown : List ℕ) × (advice : List ℕ) × ShowsFront form bytes at kind shown × BeginsWithName (decode_name kind) advice × (text ≡ shown ++ said_text form [] (codes "decode") (decode_name kind) at advice)
 
 -- behind the lines around a unit stands what is said of the fault
 abbrev pub ShowsShape : LineForm → List Insn → ℕ → ShapeFaultKind → List ℕ → Type 0
-ShowsShape form program at kind text = (advice : List ℕ) × (text ≡ window form program at ++ said_text form [] (codes "shape") (shape_name kind) at advice)
+ShowsShape form program at kind text = (advice : List ℕ) × BeginsWithName (shape_name kind) advice × (text ≡ window form program at ++ said_text form [] (codes "shape") (shape_name kind) at advice)
 
 -- a rule's number: `V10: `
 abbrev pub number_text : Rule → List ℕ

@@ -3,53 +3,53 @@
 use rb_program::{DecodeKind, ShapeFaultKind};
 use rb_verifier::Rule;
 
-/// What a fault of bytes says, and how programs mend it: a line without its end.
+/// What a fault of bytes says, behind its name, and how programs mend it: a line without its end.
 pub(crate) fn decode_advice(kind: DecodeKind) -> &'static str {
     match kind {
         DecodeKind::Length => {
-            "Length: A program is one or more units of eight bytes. Give the bytes of whole instructions, two units for a wide one."
+            "A program is one or more units of eight bytes. Give the bytes of whole instructions, two units for a wide one."
         }
         DecodeKind::TooLong => {
-            "TooLong: A program has 4,096 units at most. Unroll loops less, or share the work between several programs."
+            "A program has 4,096 units at most. Unroll loops less, or share the work between several programs."
         }
         DecodeKind::LeftOut => {
-            "LeftOut: This host leaves the instruction out: packet access, atomic operations, calls by register, calls of functions of the program, and wide loads of anything but a number or a ring by its index. Inline each function, and write plain loads and stores."
+            "This host leaves the instruction out: packet access, atomic operations, calls by register, calls of functions of the program, and wide loads of anything but a number or a ring by its index. Inline each function, and write plain loads and stores."
         }
         DecodeKind::BadOpcode => {
-            "BadOpcode: No instruction has this opcode. Compile for the profile of this host: RFC 9669 without its legacy and atomic instructions."
+            "No instruction has this opcode. Compile for the profile of this host: RFC 9669 without its legacy and atomic instructions."
         }
         DecodeKind::BadRegister => {
-            "BadRegister: A register is above r10. There are r0 to r10; the low half of the second byte is the destination, the high half the source."
+            "A register is above r10. There are r0 to r10; the low half of the second byte is the destination, the high half the source."
         }
         DecodeKind::UnusedField => {
-            "UnusedField: A field that the instruction does not use is set, or has a number that it does not allow. Set it to zero."
+            "A field that the instruction does not use is set, or has a number that it does not allow. Set it to zero."
         }
         DecodeKind::HalfWide => {
-            "HalfWide: A wide instruction (opcode 18) lacks its second unit. Give all sixteen bytes of it."
+            "A wide instruction (opcode 18) lacks its second unit. Give all sixteen bytes of it."
         }
-        DecodeKind::Memory => "Memory: There was no memory for the program.",
+        DecodeKind::Memory => "There was no memory for the program.",
     }
 }
 
-/// What a fault of a program's shape says, and how programs mend it: a line without its end.
+/// What a fault of a program's shape says, behind its name, and how programs mend it: a line without its end.
 pub(crate) fn shape_advice(kind: ShapeFaultKind) -> &'static str {
     match kind {
         ShapeFaultKind::Backward => {
-            "Backward: A jump leads backward. Programs here have no loops: unroll them (clang does so at -O2 where the count is a small constant)."
+            "A jump leads backward. Programs here have no loops: unroll them (clang does so at -O2 where the count is a small constant)."
         }
         ShapeFaultKind::OutOfProgram => {
-            "OutOfProgram: A jump leads out of the program. Its distance counts units from the one behind the jump, and a wide instruction has two."
+            "A jump leads out of the program. Its distance counts units from the one behind the jump, and a wide instruction has two."
         }
         ShapeFaultKind::IntoWide => {
-            "IntoWide: A jump leads to the second unit of a wide instruction. Let it lead to the first unit, or to the one behind it."
+            "A jump leads to the second unit of a wide instruction. Let it lead to the first unit, or to the one behind it."
         }
         ShapeFaultKind::FallsOff => {
-            "FallsOff: The program ends behind an instruction that goes on. Let each path end with exit."
+            "The program ends behind an instruction that goes on. Let each path end with exit."
         }
         ShapeFaultKind::Unreachable => {
-            "Unreachable: No path leads to this instruction. Leave it out, or let a jump lead to it."
+            "No path leads to this instruction. Leave it out, or let a jump lead to it."
         }
-        ShapeFaultKind::Memory => "Memory: There was no memory for the check.",
+        ShapeFaultKind::Memory => "There was no memory for the check.",
     }
 }
 

@@ -10,7 +10,7 @@ ghost use Rattle.rb_explain.specs.Explanations.{ExplainsBytes, Explains, IsNoHex
 use crate::advice::{decode_advice, rule_advice, shape_advice};
 use crate::explanation::{Explanation, Reason};
 use crate::listing::listing_text;
-use crate::saying::{decode_name, push_rule_said, push_said, shape_name};
+use crate::saying::{decode_name, named_advice, push_rule_said, push_said, shape_name};
 use crate::windows::{decode_again, push_window, units_text};
 use rb_json::LineForm;
 use rb_program::{
@@ -152,15 +152,9 @@ fn explain_decode(
     ensures shown { IfOk result (λ explanation. ShowsDecodeFault form bytes.now fault.unit fault.kind (string_bytes explanation.text)) }
 {
     let mut text = front_of(alloc, form, bytes, fault)?;
-    let advice = decode_advice(fault.kind);
-    push_said(
-        &mut text,
-        form,
-        "decode",
-        decode_name(fault.kind),
-        fault.unit,
-        advice,
-    )?;
+    let name = decode_name(fault.kind);
+    let advice = named_advice(alloc, name, decode_advice(fault.kind))?;
+    push_said(&mut text, form, "decode", name, fault.unit, &advice)?;
     Ok(Explanation {
         text,
         reason: Some(Reason::Decode(fault)),
@@ -186,15 +180,9 @@ fn explain_shape(
     let program = decode_again(alloc, bytes)?;
     let mut text = String::new(alloc);
     push_window(alloc, &mut text, form, &program, fault.unit)?;
-    let advice = shape_advice(fault.kind);
-    push_said(
-        &mut text,
-        form,
-        "shape",
-        shape_name(fault.kind),
-        fault.unit,
-        advice,
-    )?;
+    let name = shape_name(fault.kind);
+    let advice = named_advice(alloc, name, shape_advice(fault.kind))?;
+    push_said(&mut text, form, "shape", name, fault.unit, &advice)?;
     Ok(Explanation {
         text,
         reason: Some(Reason::Shape(fault)),

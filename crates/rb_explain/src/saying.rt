@@ -1,6 +1,6 @@
 //! What is said of a fault.
 
-ghost use Rattle.std.specs.Prelude.{◌≡◌, ◌++◌, [], OnOk, codes, string_bytes};
+ghost use Rattle.std.specs.Prelude.{◌≡◌, ◌++◌, [], IfOk, OnOk, codes, string_bytes};
 ghost use Rattle.rb_explain.specs.Explanations.{number_text, said_text};
 ghost use Rattle.rb_explain.specs.Objects as objects;
 
@@ -49,7 +49,14 @@ fn push_whole_line(text: &mut String, line: &str) -> Result<(), AllocError>
     text.push_str("\n")
 }
 
-/// What is said of a fault with a name. In words the advice has the name.
+/// What is said of a fault with a name, behind its name: `BadOpcode: `.
+pub(crate) fn named_advice(alloc: Global, name: &str, advice: &str) -> Result<String, AllocError>
+    ensures { IfOk result (λ text. string_bytes text ≡ name.now ++ codes ": " ++ advice.now) }
+{
+    format!(in alloc; "{name}: {advice}")
+}
+
+/// What is said of a fault whose advice begins with its name.
 pub(crate) fn push_said(
     text: &mut String,
     form: LineForm,

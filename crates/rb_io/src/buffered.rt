@@ -53,6 +53,18 @@ impl<W: Write> Buffered<W> {
         })
     }
 
+    /// The writer, without what waits.
+    pub fn into_writer(self) -> W
+        ensures { result ≡ self.writer }
+    {
+        let Buffered {
+            writer,
+            room: _,
+            count: _,
+        } = self;
+        writer
+    }
+
     // Hands on what waits, until a write fails or takes nothing.
     fn hand_on(&mut self) -> io::Result<()>
         ensures bytes { Keeps (append_known (W.contents self.old.writer) self.old.waiting) (append_known (W.contents self.new.writer) self.new.waiting) }

@@ -8,8 +8,10 @@
 
 mod buffered;
 mod device;
+mod noted;
 mod outgoing;
 
 pub use buffered::Buffered;
 pub use device::{DeviceFault, read_full, write_out, write_whole};
+pub use noted::{Front, NotedReader, NotedWriter};
 pub use outgoing::Outgoing;

@@ -14,4 +14,4 @@ mod form;
 mod words;
 
 pub use form::LineForm;
-pub use words::{push_field, push_number, push_payload, push_text};
+pub use words::{push_field, push_number, push_payload, push_text, push_wide_number};

@@ -25,6 +25,20 @@ pub fn push_number(line: &mut Vec<u8>, number: u64) -> Result<(), AllocError>
     line.extend_from_slice(b"\"")
 }
 
+#[tactic(auto, unfolding(crate::specs::Json::json_number))]
+/// Adds a number that may be wider than 64 bits; one above 2^53 as a string.
+pub fn push_wide_number(line: &mut Vec<u8>, number: u128) -> Result<(), AllocError>
+    ensures number { OnOk result (line.new.items ≡ line.old.items ++ json_number number) }
+{
+    let mut digits = Buffer::new();
+    if number <= u128::from(EXACT) {
+        return line.extend_from_slice(digits.format(number).as_bytes());
+    }
+    line.extend_from_slice(b"\"")?;
+    line.extend_from_slice(digits.format(number).as_bytes())?;
+    line.extend_from_slice(b"\"")
+}
+
 /// Adds what stands in front of a number, as the name of its field, and the number.
 pub fn push_field(line: &mut Vec<u8>, front: &[u8], number: u64) -> Result<(), AllocError>
     ensures field { OnOk result (line.new.items ≡ line.old.items ++ front.now ++ json_number number) }

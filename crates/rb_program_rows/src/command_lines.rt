@@ -5,10 +5,11 @@ use rb_command_line::command;
 use std::alloc::{AllocError, Global};
 use std::fmt::Write;
 use std::fs::File;
-use std::io::{self, Read};
+use std::io::{self, Eprint, Read};
 use std::rt::Files;
 use std::sync::Wait;
 use std::thread::Threads;
+use std::time::Clock;
 
 // How many bytes a read gives at most, in the runs of a command that tell the same.
 const PIECES: [usize; 3] = [7, 1, 65_536];
@@ -43,7 +44,7 @@ struct Ending {
 
 /// What a command line ends with, where its words stand in front of ` < ` and a text with escapes, or of ` : ` and hex, which are its input.
 /// Escapes may stand in words too. It is run over reads of three sizes, but for `run`, which is run once.
-pub(crate) fn answer_command_line<R: Threads + Wait + Sync + Files<File = File>>(
+pub(crate) fn answer_command_line<R: Threads + Wait + Sync + Files<File = File> + Clock + Eprint>(
     rt: &R,
     alloc: Global,
     line: &str,
@@ -78,7 +79,7 @@ fn words_of(alloc: Global, line: &str) -> Result<Option<Vec<String>>, AllocError
     Ok(Some(words))
 }
 
-fn tell_command<R: Threads + Wait + Sync + Files<File = File>>(
+fn tell_command<R: Threads + Wait + Sync + Files<File = File> + Clock + Eprint>(
     rt: &R,
     alloc: Global,
     words: &[String],
@@ -104,7 +105,7 @@ fn is_run(words: &[String]) -> bool {
 }
 
 // What a command ends with over an input that gives so many bytes at a time.
-fn ended<R: Threads + Wait + Sync + Files<File = File>>(
+fn ended<R: Threads + Wait + Sync + Files<File = File> + Clock + Eprint>(
     rt: &R,
     alloc: Global,
     words: &[String],
@@ -114,7 +115,15 @@ fn ended<R: Threads + Wait + Sync + Files<File = File>>(
     let mut reader = Pieces { rest: input, most };
     let mut printed = Vec::new(alloc);
     let mut told = Vec::new(alloc);
-    let status = command(rt, alloc, words, &mut reader, &mut printed, &mut told);
+    let status = command(
+        rt,
+        alloc,
+        words,
+        false,
+        &mut reader,
+        &mut printed,
+        &mut told,
+    );
     Ending {
         status,
         is_unread: !input.is_empty() && reader.rest.len() == input.len(),

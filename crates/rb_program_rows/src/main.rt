@@ -29,11 +29,12 @@ use fault::RowsFault;
 use names::Names;
 use std::alloc::Global;
 use std::fs::File;
-use std::io::{BufRead, BufReader, BufWriter, Read, Write};
+use std::io::{BufRead, BufReader, BufWriter, Eprint, Read, Write};
 use std::process::ExitCode;
 use std::rt::Files;
 use std::sync::Wait;
 use std::thread::Threads;
+use std::time::Clock;
 
 fn main(rt: HostRuntime) -> ExitCode {
     match answer_all(&rt, rt.alloc(), rt.stdin(), &mut rt.stdout()) {
@@ -46,12 +47,11 @@ fn main(rt: HostRuntime) -> ExitCode {
 }
 
 // Answers each line of the input.
-fn answer_all<R: Threads + Wait + Sync + Files<File = File>, I: Read + Drop, W: Write>(
-    rt: &R,
-    alloc: Global,
-    input: I,
-    out: &mut W,
-) -> Result<(), RowsFault> {
+fn answer_all<
+    R: Threads + Wait + Sync + Files<File = File> + Clock + Eprint,
+    I: Read + Drop,
+    W: Write,
+>(rt: &R, alloc: Global, input: I, out: &mut W) -> Result<(), RowsFault> {
     let mut names = Names::new(alloc);
     let mut number: u64 = 0;
     let mut out = BufWriter::new(alloc, out)?;
@@ -64,7 +64,7 @@ fn answer_all<R: Threads + Wait + Sync + Files<File = File>, I: Read + Drop, W: 
 }
 
 // Answers one line.
-fn answer_line<R: Threads + Wait + Sync + Files<File = File>, W: Write>(
+fn answer_line<R: Threads + Wait + Sync + Files<File = File> + Clock + Eprint, W: Write>(
     rt: &R,
     alloc: Global,
     names: &mut Names,

@@ -15,9 +15,11 @@ use rb_verifier::{Helper, Limits};
 use std::alloc::{AllocError, Global};
 use std::fmt::Write;
 use std::fs::File;
+use std::io::Eprint;
 use std::rt::Files;
 use std::sync::Wait;
 use std::thread::Threads;
+use std::time::Clock;
 
 // A row.
 #[derive(Clone, Copy)]
@@ -57,7 +59,7 @@ enum Row<'a> {
 }
 
 /// Answers the row of a line; a line that is none is told by its number.
-pub(crate) fn answer<R: Threads + Wait + Sync + Files<File = File>>(
+pub(crate) fn answer<R: Threads + Wait + Sync + Files<File = File> + Clock + Eprint>(
     rt: &R,
     alloc: Global,
     number: u64,
@@ -137,7 +139,7 @@ fn step_of(way: Way, words: &str) -> Option<Row<'_>> {
     Some(Row::Step((way, Limits { ctx_len, rings }, unit), state, hex))
 }
 
-fn answer_row<R: Threads + Wait + Sync + Files<File = File>>(
+fn answer_row<R: Threads + Wait + Sync + Files<File = File> + Clock + Eprint>(
     rt: &R,
     alloc: Global,
     row: Row<'_>,

@@ -1,14 +1,15 @@
 -- Texts that grow by lines.
-use Rattle.std.proofs.Common.{◌≡◌, ℕ, suc, ◌+◌, ◌<◌, ◌++◌, List, [], ◌∷◌, Result, Ok, Err, add-one, drop, drop-cons, get_or, length, take, refl, sym, ap, ◌∙◌, append_assoc}
+use Rattle.std.proofs.Common.{◌≡◌, ◌≢◌, ℕ, zero, suc, ◌+◌, ◌<◌, ◌++◌, List, [], ◌∷◌, Result, Ok, Err, add-one, drop, drop-cons, get_or, length, take, refl, sym, ap, subst, ◌∙◌, append_assoc}
 use Rattle.std.proofs.lemmas.List.{flat_map_more, take_more}
 use Rattle.std.specs.List.{flat_map}
-use Rattle.std.specs.Prelude.{OnOk, codes}
+use Rattle.std.specs.Prelude.{OnOk, codes, if◌then◌else◌}
+use Rattle.std.proofs.Math.Dec.{eqb-suc-zero}
 use Rattle.std.specs.Fmt.{decimal}
 use Rattle.rb_history.specs.declared.answers.Counts.{Counts}
 use Rattle.rb_history.specs.declared.tally.Tally.{Tally}
 use Rattle.rb_io.specs.Lines.{line}
 use Rattle.rb_workers.specs.declared.opened.Ended.{Ended}
-use Rattle.rb_run_commands.specs.ReportLines.{closing_lines, closing_objects, closing_objects_from, counts_line, tally_line}
+use Rattle.rb_run_commands.specs.ReportLines.{closing_lines, closing_objects, closing_objects_from, counts_line, tally_line, unlogged_text}
 
 -- the text of a seat's line, as it is put together
 tally_pieces : (worker made refused submitted discarded : List ℕ)
@@ -33,6 +34,24 @@ pub counts_written : {A B : Type 0} (answer : Result A B) (old new : List ℕ) (
     → OnOk answer (new ≡ old ++ counts_line c)
 counts_written (Ok a) old new c wrote = wrote ∙ ap (λ l. old ++ l) (counts_pieces (decimal c.made) (decimal c.consumed) (decimal c.discarded) (decimal c.waiting) (decimal c.busy))
 counts_written (Err e) old new c wrote = tt
+
+-- what is told beside a report, as it is put together
+unlogged_pieces : (unlogged : List ℕ) → codes "unlogged " ++ (unlogged ++ (codes " (reservations and outputs that found no room in the ring's chapter, no free hand or no memory)" ++ 10 ∷ []))
+    ≡ line (codes "unlogged " ++ unlogged ++ codes " (reservations and outputs that found no room in the ring's chapter, no free hand or no memory)")
+unlogged_pieces unlogged = simp append_assoc refl
+
+some_unlogged : (n : ℕ) → unlogged_text (suc n) ≡ line (codes "unlogged " ++ decimal (suc n) ++ codes " (reservations and outputs that found no room in the ring's chapter, no free hand or no memory)")
+some_unlogged n =
+    let told = line (codes "unlogged " ++ decimal (suc n) ++ codes " (reservations and outputs that found no room in the ring's chapter, no free hand or no memory)") in
+    subst (λ b. (if b then [] else told) ≡ told) (sym (eqb-suc-zero n)) refl
+
+pub unlogged_written : (old new : List ℕ) (unlogged : ℕ) → unlogged ≢ 0 → old ≡ []
+    → new ≡ old ++ (codes "unlogged " ++ (decimal unlogged ++ (codes " (reservations and outputs that found no room in the ring's chapter, no free hand or no memory)" ++ 10 ∷ []))) → new ≡ unlogged_text unlogged
+unlogged_written old new zero some none wrote = absurd (some refl)
+unlogged_written old new (suc n) some none wrote =
+    wrote
+    ∙ (ap (λ l. l ++ (codes "unlogged " ++ (decimal (suc n) ++ (codes " (reservations and outputs that found no room in the ring's chapter, no free hand or no memory)" ++ 10 ∷ [])))) none
+    ∙ (unlogged_pieces (decimal (suc n)) ∙ sym (some_unlogged n)))
 
 -- the lines of one ring more
 pub closing_written : {S : Type 0} (old new : List ℕ) (rings : List (Ended S)) (i : ℕ) (ended : Ended S) → i < length rings → ended ≡ get_or rings i ended → old ≡ flat_map closing_lines (take i rings) → new ≡ old ++ closing_lines ended

@@ -5,11 +5,12 @@ use Rattle.std.specs.Result.{OkIff, result_unwrap_or}
 use Rattle.std.proofs.lemmas.List.Elements.{All-nil, All-cons}
 use Rattle.rb_jobs.specs.Jobs.{task_of}
 use Rattle.rb_jobs.specs.declared.job.Job.{Job}
-use Rattle.rb_chapter_ring.specs.Chapters.{IsChapterRoom, empty_chapter}
+use Rattle.rb_chapter_ring.specs.Chapters.{empty_chapter}
 use Rattle.rb_ledger.specs.ChapterSeats.{fresh_chapter_consumer}
 use Rattle.rb_ledger.specs.Seats.{HasSettledAll, fresh_book, fresh_seats}
 use Rattle.rb_verifier.specs.Subject.{Subject}
 use Rattle.rb_workers.specs.declared.opened.Opened.{Opened}
+use Rattle.rb_workers.specs.ChapterSizes.{margin_of, room_of}
 use Rattle.rb_workers.specs.Opened.{IsOpened, AreOpened, workers_of}
 use Rattle.rb_workers.specs.Reports.{IsReport}
 use Rattle.rb_workers.specs.SeatRows.{seat_rows}
@@ -19,15 +20,11 @@ use Rattle.rb_workers.specs.declared.opened.Report.{Report}
 use Rattle.rb_workers.proofs.Numbered.{seats_length}
 use Rattle.rb_workers.proofs.Settling.{settled_together}
 use Rattle.rb_loader.specs.Acceptance.{IsAccepted, IsRightFault}
-use Rattle.rb_run_commands.specs.RunCommand.{IsRightJobsFault, IsRightRingFault, RunsWorkers}
+use Rattle.rb_run_commands.specs.RunCommand.{IsRightJobsFault, IsRightRingFault, RunsWorkers, first_book}
 use Rattle.rb_run_commands.specs.WorkerJobs.{tasks_of_workers}
 use Rattle.rb_run_commands.specs.declared.jobs_fault.JobsFault.{JobsFault}
 use Rattle.rb_run_commands.specs.declared.jobs_fault.JobsFault.TheVariants.{Program, Size, Start, Workers}
 use Rattle.rb_run_commands.specs.declared.run_command.JobsRequest.{JobsRequest}
-
--- a chapter may have the room that a command gives it
-pub command_room : IsChapterRoom 65536
-command_room = (omega arith, omega arith)
 
 module _ {S : Type 0} (position : S → ℕ) (workers : ℕ) (one : Opened S) (opened : List (Opened S)) (is : opened ≡ one ∷ []) (is_opened : IsOpened position workers one) where
   -- one ring may be run
@@ -47,24 +44,26 @@ one_settled one opened is settled =
     (settled_together (length one.seats.items) (one.seats.items ∷ []) (All-cons (All HasSettledAll) one.seats.items [] settled (All-nil (All HasSettledAll))))
 
 -- what such a run is, put together of what its calls say
-module _ {S : Type 0} (position : S → ℕ) (takes : S → SinkItem → S → Type 0) (sink : S) (subject : Subject) (request : JobsRequest) (workers : ℕ) (one : Opened S) (opened : List (Opened S)) (jobs : List Job) (report : Report S) where
+module _ {S : Type 0} (position : S → ℕ) (takes : S → SinkItem → S → Type 0) (sink : S) (subject : Subject) (request : JobsRequest) (workers room margin : ℕ) (one : Opened S) (opened : List (Opened S)) (jobs : List Job) (report : Report S) where
   pub ran_workers :
-      workers ≡ request.workers → opened ≡ one ∷ []
-      → one.seats.items ≡ fresh_seats 0 one.ring.ring 65536 (fresh_book request.size request.start workers) 0 workers
-      → one.consumer ≡ fresh_chapter_consumer 0 one.ring.ring 65536 (fresh_book request.size request.start workers)
-      → one.keeper ≡ record { chapter = empty_chapter 65536 workers; margin = 32768; is_lent = false }
+      workers ≡ request.workers → room ≡ room_of request.size → margin ≡ margin_of request.size → opened ≡ one ∷ []
+      → one.seats.items ≡ fresh_seats 0 one.ring.ring room (fresh_book request.size request.start workers) 0 workers
+      → one.consumer ≡ fresh_chapter_consumer 0 one.ring.ring room (fresh_book request.size request.start workers)
+      → one.keeper ≡ record { chapter = empty_chapter room workers; margin = margin; is_lent = false }
       → one.sink ≡ sink → All HasSettledAll one.seats.items
       → map task_of jobs ≡ tasks_of_workers subject workers request.jobs
       → IsReport position takes opened jobs report
       → report.strays ≡ 0 → (EachSettled (workers_of opened) (seat_rows opened) → All EndsSettled report.rings.items)
       → RunsWorkers position takes sink subject request report
-  ran_workers as_many is seats consumer keeper same_sink nothing_made tasks reported none settled = record {
+  ran_workers as_many room_is margin_is is seats consumer keeper same_sink nothing_made tasks reported none settled = record {
     opened = one;
     jobs = jobs;
     just_opened = record {
-      seats_are = subst (λ n. one.seats.items ≡ fresh_seats 0 one.ring.ring 65536 (fresh_book request.size request.start n) 0 n) as_many seats;
-      consumer_is = subst (λ n. one.consumer ≡ fresh_chapter_consumer 0 one.ring.ring 65536 (fresh_book request.size request.start n)) as_many consumer;
-      keeper_is = subst (λ n. one.keeper ≡ record { chapter = empty_chapter 65536 n; margin = 32768; is_lent = false }) as_many keeper;
+      seats_are = subst (λ m. one.seats.items ≡ fresh_seats 0 one.ring.ring m (first_book request) 0 request.workers) room_is (subst (λ n. one.seats.items ≡ fresh_seats 0 one.ring.ring room (fresh_book request.size request.start n) 0 n) as_many seats);
+      consumer_is = subst (λ m. one.consumer ≡ fresh_chapter_consumer 0 one.ring.ring m (first_book request)) room_is (subst (λ n. one.consumer ≡ fresh_chapter_consumer 0 one.ring.ring room (fresh_book request.size request.start n)) as_many consumer);
+      keeper_is = subst (λ m. one.keeper ≡ record { chapter = empty_chapter (room_of request.size) request.workers; margin = m; is_lent = false }) margin_is
+          (subst (λ m. one.keeper ≡ record { chapter = empty_chapter m request.workers; margin = margin; is_lent = false }) room_is
+          (subst (λ n. one.keeper ≡ record { chapter = empty_chapter room n; margin = margin; is_lent = false }) as_many keeper));
       sink_is = same_sink;
     };
     tasks_are = subst (λ n. map task_of jobs ≡ tasks_of_workers subject n request.jobs) as_many tasks;

@@ -7,3 +7,4 @@ pub mod RunCommand
 pub mod TapedRun
 pub mod WorkerJobs
 pub mod inner
+pub mod PortableCheck

@@ -1,5 +1,5 @@
 -- What `run` prints of its report, as bytes (own).
-use Rattle.std.specs.Prelude.{ℕ, ◌+◌, List, [], ◌∷◌, ◌++◌, codes}
+use Rattle.std.specs.Prelude.{ℕ, ◌+◌, ◌==◌, if◌then◌else◌, List, [], ◌∷◌, ◌++◌, codes}
 use Rattle.std.specs.Fmt.{decimal}
 use Rattle.std.specs.List.{flat_map}
 use Rattle.rb_history.specs.declared.answers.Counts.{Counts}
@@ -78,9 +78,18 @@ closing_objects_from ring [] = []
 closing_objects_from ring (ended ∷ more) = closing_objects ring ended ++ closing_objects_from (ring + 1) more
 
 abbrev pub report_objects : {S : Type 0} → Report S → List ℕ
-report_objects report = closing_objects_from 0 report.rings.items ++ line (codes "{\"strays\":" ++ json_number report.strays ++ codes "}")
+report_objects report =
+    closing_objects_from 0 report.rings.items ++ line (codes "{\"strays\":" ++ json_number report.strays ++ codes ",\"unlogged\":" ++ json_number report.unlogged ++ codes "}")
 
--- in the form that is asked for
+-- ---- what is told beside the report, in either form
+
+-- nothing where each reservation and each output was granted or is refused in the ring's history; else how many were neither, and why there are such
+abbrev pub unlogged_text : ℕ → List ℕ
+unlogged_text unlogged =
+    if unlogged == 0 then [] else line (codes "unlogged " ++ decimal unlogged ++ codes " (reservations and outputs that found no room in the ring's chapter, no free hand or no memory)")
+
+-- ---- the report in the form that is asked for
+
 abbrev pub report_lines : {S : Type 0} → LineForm → Report S → List ℕ
 report_lines Words report = report_text report
 report_lines Json report = report_objects report

@@ -11,13 +11,14 @@ use Rattle.rb_jobs.specs.declared.job.Job.{Job}
 use Rattle.rb_ledger.specs.Roles.{Book}
 use Rattle.rb_ledger.specs.Seats.{fresh_book, fresh_seats}
 use Rattle.rb_verifier.specs.Subject.{Subject}
+use Rattle.rb_workers.specs.ChapterSizes.{margin_of, room_of}
 use Rattle.rb_workers.specs.Reports.{IsReport}
 use Rattle.rb_workers.specs.Settled.{EndsSettled}
 use Rattle.rb_workers.specs.Sink.{SinkItem, sink_span}
 use Rattle.rb_workers.specs.declared.opened.Opened.{Opened}
 use Rattle.rb_workers.specs.declared.opened.Report.{Report}
 use Rattle.rb_loader.specs.Acceptance.{IsAccepted, IsRightProgramFault}
-use Rattle.rb_run_commands.specs.ReportLines.{report_lines}
+use Rattle.rb_run_commands.specs.ReportLines.{report_lines, unlogged_text}
 use Rattle.rb_run_commands.specs.WorkerJobs.{tasks_of_workers}
 use Rattle.rb_run_commands.specs.declared.jobs_fault.JobsFault.{JobsFault}
 use Rattle.rb_run_commands.specs.declared.jobs_fault.JobsFault.TheVariants.{Program, Size, Start, Workers}
@@ -43,14 +44,14 @@ first_null request = record { position = request.start }
 abbrev pub first_book : JobsRequest → Book
 first_book request = fresh_book request.size request.start request.workers
 
--- the keeper of its chapters of 65,536 entries, before any was handed out: one is once no more than half of its entries may follow
+-- the keeper of its chapters, before any was handed out, with the room and the margin that the ring's size asks for
 abbrev pub first_keeper : JobsRequest → KeeperValue
-first_keeper request = record { chapter = empty_chapter 65536 request.workers; margin = 32768; is_lent = false }
+first_keeper request = record { chapter = empty_chapter (room_of request.size) request.workers; margin = margin_of request.size; is_lent = false }
 
--- the ring was just opened, with the size, the start and the workers that are asked for and chapters of 65,536 entries, and with this sink
+-- the ring was just opened, with the size, the start and the workers that are asked for and chapters of that room, and with this sink
 pub record IsJustOpened {S : Type 0} (sink : S) (request : JobsRequest) (o : Opened S) : Type 0 where
-  pub seats_are : o.seats.items ≡ fresh_seats 0 o.ring.ring 65536 (first_book request) 0 request.workers
-  pub consumer_is : o.consumer ≡ fresh_chapter_consumer 0 o.ring.ring 65536 (first_book request)
+  pub seats_are : o.seats.items ≡ fresh_seats 0 o.ring.ring (room_of request.size) (first_book request) 0 request.workers
+  pub consumer_is : o.consumer ≡ fresh_chapter_consumer 0 o.ring.ring (room_of request.size) (first_book request)
   pub keeper_is : o.keeper ≡ first_keeper request
   pub sink_is : o.sink ≡ sink
 
@@ -67,14 +68,15 @@ pub record RunsWorkers {S : Type 0} (position : S → ℕ) (takes : S → SinkIt
 
 -- ---- what is printed
 
--- a program that the input spells, where that is known, was run so for contexts of 16 bytes and one ring, and what the report says was printed,
--- and nothing else
-pub record PrintsRun (input : Option (List ℕ)) (request : JobsRequest) (before after : Option (List ℕ)) : Type 0 where
+-- a program that the input spells, where that is known, was run so for contexts of 16 bytes and one ring; what the report says was printed, and nothing
+-- else; and beside it was told, and nothing else, how many reservations and outputs are neither granted nor refused in the ring's history
+pub record PrintsRun (input : Option (List ℕ)) (request : JobsRequest) (before after told_before told_after : Option (List ℕ)) : Type 0 where
   pub subject : Subject
   pub report : Report NullSink
   pub accepted : IfSome input (λ text. IsAccepted text 16 1 subject)
   pub ran : RunsWorkers null_position null_takes (first_null request) subject request report
   pub printed : Appends before after (report_lines request.form report)
+  pub told : Appends told_before told_after (unlogged_text report.unlogged)
 
 -- ---- what is refused
 

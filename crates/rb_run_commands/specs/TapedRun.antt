@@ -13,7 +13,7 @@ use Rattle.rb_workers.specs.Sink.{SinkItem, IsRecordIn, positions_among, takes_i
 use Rattle.rb_workers.specs.declared.opened.Ended.{Ended}
 use Rattle.rb_workers.specs.declared.opened.Report.{Report}
 use Rattle.rb_loader.specs.Acceptance.{IsAccepted}
-use Rattle.rb_run_commands.specs.ReportLines.{report_lines}
+use Rattle.rb_run_commands.specs.ReportLines.{report_lines, unlogged_text}
 use Rattle.rb_run_commands.specs.RunCommand.{RunsWorkers}
 use Rattle.rb_io.specs.Gathered.{Gathered, HandsOn}
 use Rattle.rb_run_commands.specs.declared.run_command.JobsRequest.{JobsRequest}
@@ -77,20 +77,21 @@ pub record TapesRing {W : Type 0} (contents : W → Option (List ℕ)) (writes_o
   pub all_out : whole ≡ true → (missing ≡ []) × (handed_out ≡ true)
   pub not_all_out : whole ≡ false → (missing ≢ []) ⊎ (handed_out ≡ false)
 
--- the program was run with such a sink, what the report says was printed, and nothing else, and what the ring's consumer took was written as a
--- tape
-pub record TapesRun {W : Type 0} (contents : W → Option (List ℕ)) (writes_out : W → Bool → W → Type 0) (writer : W) (subject : Subject) (request : JobsRequest) (before after : Option (List ℕ)) (whole : Bool) (left : W) : Type 0 where
+-- the program was run with such a sink, what the report says was printed, and nothing else, what is unlogged was told, and nothing else, and what the
+-- ring's consumer took was written as a tape
+pub record TapesRun {W : Type 0} (contents : W → Option (List ℕ)) (writes_out : W → Bool → W → Type 0) (writer : W) (subject : Subject) (request : JobsRequest) (before after told_before told_after : Option (List ℕ)) (whole : Bool) (left : W) : Type 0 where
   pub report : Report (SinkTape W)
   pub ran : RunsWorkers tape_position (tape_takes contents) (first_tape writer request) subject request report
   pub printed : Appends before after (report_lines request.form report)
+  pub told : Appends told_before told_after (unlogged_text report.unlogged)
   pub taped : All (TapesRing contents writes_out request.size whole writer left) report.rings.items
 
 -- a program that the input spells, where that is known, was run so, and all of its tape went through a buffer, in which nothing waits any more,
 -- to a writer whose bytes are known to nobody
-pub record PrintsTaped (F : Type 0) (contents : F → Option (List ℕ)) (input : Option (List ℕ)) (request : JobsRequest) (before after : Option (List ℕ)) : Type 0 where
+pub record PrintsTaped (F : Type 0) (contents : F → Option (List ℕ)) (input : Option (List ℕ)) (request : JobsRequest) (before after told_before told_after : Option (List ℕ)) : Type 0 where
   pub subject : Subject
   pub accepted : IfSome input (λ text. IsAccepted text 16 1 subject)
   pub writer : Gathered F
   pub left : Gathered F
-  pub taped : TapesRun (λ b. append_known (contents b.writer) b.waiting) (HandsOn contents) writer subject request before after true left
+  pub taped : TapesRun (λ b. append_known (contents b.writer) b.waiting) (HandsOn contents) writer subject request before after told_before told_after true left
   pub handed_on : left.waiting ≡ []

@@ -18,6 +18,7 @@ mod check_command;
 mod drain;
 mod fresh_rings;
 mod jobs_fault;
+mod portable_check;
 mod record_lines;
 mod record_objects;
 mod report;
@@ -31,5 +32,6 @@ mod worker_jobs;
 
 pub use check_command::{Checked, check, check_text};
 pub use jobs_fault::JobsFault;
+pub use portable_check::check_portable;
 pub use run_command::{JOB_BOUNDS, JobsRequest, check_ring, run};
-pub use taped_run::{WrittenTape, run_taped, run_to_file};
+pub use taped_run::{TapeFile, TapeFileFault, WrittenTape, run_taped, run_to_file};

@@ -1,7 +1,8 @@
-//! What `run` prints of its report: a line for each worker, one for the ring, and one for the strays.
+//! What `run` prints of its report: a line for each worker, one for the ring, and one for the strays; and what it
+//! tells beside that.
 
 ghost use Rattle.std.specs.Prelude.{◌≡◌, ◌++◌, IfOk, OnOk, string_bytes};
-ghost use Rattle.rb_run_commands.specs.ReportLines.{closing_lines, counts_line, report_text, tally_line, tally_lines_from};
+ghost use Rattle.rb_run_commands.specs.ReportLines.{closing_lines, counts_line, report_text, tally_line, tally_lines_from, unlogged_text};
 
 use rb_history::{Counts, Tally};
 use rb_workers::{Ended, Report};
@@ -17,6 +18,22 @@ pub(crate) fn text_of_report<S>(alloc: Global, report: &Report<S>) -> Result<Str
         push_ended(&mut text, ended)?;
     }
     writeln!(text, "strays {}", report.strays)?;
+    Ok(text)
+}
+
+/// What is told beside a report: nothing where no reservation and no output is unlogged; else a line `unlogged U`, with words for what they are.
+/// `AllocError` where there is no memory for it.
+pub(crate) fn text_of_unlogged(alloc: Global, unlogged: u128) -> Result<String, AllocError>
+    ensures text { IfOk result (λ text. string_bytes text ≡ unlogged_text unlogged) }
+{
+    let mut text = String::new(alloc);
+    if unlogged == 0 {
+        return Ok(text);
+    }
+    writeln!(
+        text,
+        "unlogged {unlogged} (reservations and outputs that found no room in the ring's chapter, no free hand or no memory)"
+    )?;
     Ok(text)
 }
 

@@ -1,23 +1,36 @@
-//! What `run` prints of its report as objects of JSON, one a line: for each ring one for each worker and one for the ring, and one for the strays.
+//! What `run` prints of its report as objects of JSON, one a line: for each ring one for each worker and one for the ring, and one for the strays and
+//! what is unlogged.
 
 ghost use Rattle.std.specs.Prelude.{◌≡◌, ◌++◌, IfOk, OnOk};
+ghost use Rattle.std.specs.Prelude.{codes};
+ghost use Rattle.rb_json.specs.Json.{json_number};
 ghost use Rattle.rb_run_commands.specs.ReportLines.{closing_objects, closing_objects_from, consumed_fields, counts_object, grant_fields, other_fields, outcome_fields, report_objects, tally_object, tally_objects_from};
 
 use rb_history::{Counts, Tally};
-use rb_json::push_field;
+use rb_json::{push_field, push_wide_number};
 use rb_workers::{Ended, Report};
 use std::alloc::{AllocError, Global};
 
 /// The objects of a report: for each ring, from ring 0 on, one with `ring`, `worker`, `made`, `refused`, `submitted` and `discarded` for each worker, from
-/// worker 0 on, and one with `ring`, `made`, `consumed`, `discarded`, `waiting` and `busy`; then one with `strays`. `AllocError` where there is no memory for them.
+/// worker 0 on, and one with `ring`, `made`, `consumed`, `discarded`, `waiting` and `busy`; then one with `strays` and
+/// `unlogged`. `AllocError` where there is no memory for them.
 pub(crate) fn objects_of_report<S>(alloc: Global, report: &Report<S>) -> Result<Vec<u8>, AllocError>
     ensures objects { IfOk result (λ lines. lines.items ≡ report_objects report.now) }
 {
     let mut lines = Vec::new(alloc);
     push_rings(&mut lines, report.rings.as_slice())?;
     push_field(&mut lines, b"{\"strays\":", report.strays)?;
+    push_unlogged(&mut lines, report.unlogged)?;
     lines.extend_from_slice(b"}\n")?;
     Ok(lines)
+}
+
+// What is unlogged more.
+fn push_unlogged(lines: &mut Vec<u8>, unlogged: u128) -> Result<(), AllocError>
+    ensures field { OnOk result (lines.new.items ≡ lines.old.items ++ codes ",\"unlogged\":" ++ json_number unlogged) }
+{
+    lines.extend_from_slice(b",\"unlogged\":")?;
+    push_wide_number(lines, unlogged)
 }
 
 // The objects of the rings more, from ring 0 on.

@@ -1,14 +1,17 @@
 //! A program from its text, run as jobs on threads over one ring.
 
-ghost use Rattle.std.specs.Prelude.{◌≡◌, ◌≢◌, ◌⊎◌, [], ◌∷◌, vec_len, IfErr, IfOk, IfSome, OnOk};
+ghost use Rattle.std.specs.Prelude.{◌≡◌, ◌≢◌, ◌⊎◌, [], ◌∷◌, vec_len, map, IfErr, IfOk, IfSome, OnOk};
 ghost use Rattle.std.specs.Io.KnownBytes.{Appends, Keeps};
 ghost use Rattle.rb_history.specs.RingModel.{IsRingSize, IsStartPosition, IsWorkerCount};
-ghost use Rattle.rb_run_commands.specs.ReportLines.{report_lines};
+ghost use Rattle.rb_jobs.specs.Jobs.{task_of};
+ghost use Rattle.rb_run_commands.specs.WorkerJobs.{tasks_of_workers};
+ghost use Rattle.rb_run_commands.specs.ReportLines.{report_lines, unlogged_text};
 ghost use Rattle.rb_run_commands.specs.RunCommand.{IsRightJobsFault, IsRightRingFault, PrintsRun, RunsWorkers};
 ghost use Rattle.rb_run_commands.specs.inner.OpeningFaults.{fault_of_opening};
 
 use crate::jobs_fault::JobsFault;
 use crate::report::lines_of_report;
+use crate::report_lines::text_of_unlogged;
 use crate::worker_jobs::{CONTEXT, contexts_of, jobs_of};
 use rb_history::{OpenFault as SetupFault, check_setup};
 use rb_io::write_whole;
@@ -16,7 +19,9 @@ use rb_json::LineForm;
 use rb_loader::{Bounds, ProgramFault, read_program};
 use rb_shared_ring::OpenFault;
 use rb_verifier::Verified;
-use rb_workers::{JobFault, NullSink, OpenGate, Opened, Report, Sink, run_jobs};
+use rb_workers::{
+    Gate, Job, JobFault, NullSink, Opened, Report, Sink, chapter_margin, chapter_room, run_jobs,
+};
 use std::alloc::{AllocError, Global};
 use std::io::{Read, Write};
 use std::sync::Wait;
@@ -43,72 +48,103 @@ pub struct JobsRequest {
     pub form: LineForm,
 }
 
-/// How many entries a chapter of a command's ring has room for.
-const CHAPTER_ROOM: u32 = 65_536;
-
-/// How many entries early a chapter is handed out: half of its room, which the workers may use up until the consumer comes round.
-const CHAPTER_MARGIN: u32 = CHAPTER_ROOM / 2;
-
 /// Verifies the program whose text is the input for one ring and contexts of 16 bytes, and has each worker run it so often, each on a thread
 /// of its own, over one ring. A job's context is the worker's number and the job's, each in eight bytes, the lowest first. Prints what each
-/// seat counted, and what the closed ring did, once all have ended. Input that is no UTF-8 is `Text`; the program's refusals come before those
-/// of size, start and workers. Nothing is printed where the program or the ring is refused or memory runs out.
-pub fn run<T: Threads + Wait + Sync, R: Read, W: Write>(
+/// seat counted, and what the closed ring did, once all have ended; then tells on `err` how many reservations and outputs are unlogged, where any are.
+/// Input that is no UTF-8 is `Text`; the program's refusals come before those of size, start and workers. Nothing is printed or told where the
+/// program or the ring is refused or memory runs out, and `Device` where not all of it was. The gate is called before each helper call.
+pub fn run<T: Threads + Wait + Sync, R: Read, W: Write, E: Write, G: Gate + Sync>(
     rt: &T,
     alloc: Global,
     input: &mut R,
     out: &mut W,
+    err: &mut E,
     request: JobsRequest,
+    gate: &G,
 ) -> Result<(), JobsFault>
-    ensures printed { OnOk result (PrintsRun (R.remaining input.old) request (W.contents out.old) (W.contents out.new)) }
+    ensures printed { OnOk result (PrintsRun (R.remaining input.old) request (W.contents out.old) (W.contents out.new) (E.contents err.old) (E.contents err.new)) }
     ensures bounds { OnOk result (IsRingSize request.size × IsStartPosition request.start × IsWorkerCount request.workers) }
     ensures refused { IfErr result (λ fault. IfSome (R.remaining input.old) (λ text. IsRightJobsFault text request fault)) }
     ensures nothing_printed { IfErr result (λ fault. fault ≢ JobsFault.Program ProgramFault.Device → Keeps (W.contents out.old) (W.contents out.new)) }
+    ensures nothing_told { IfErr result (λ fault. fault ≢ JobsFault.Program ProgramFault.Device → Keeps (E.contents err.old) (E.contents err.new)) }
 {
     let program = read_program(alloc, input, JOB_BOUNDS)?;
+    let workers = check_ring(request)?;
+    let contexts = contexts_of(alloc, workers, request.jobs)?;
+    let jobs = jobs_of(alloc, &program, contexts.as_slice())?;
     let sink = NullSink {
         position: request.start,
     };
-    match run_and_print(rt, alloc, &program, out, request, sink) {
+    match run_and_print(
+        rt,
+        alloc,
+        &program,
+        jobs.as_slice(),
+        out,
+        err,
+        request,
+        sink,
+        gate,
+    ) {
         Ok(_report) => Ok(()),
         Err(fault) => Err(fault),
     }
 }
 
-/// Runs the program as `run` does, with a sink that is given what the ring's consumer takes; it comes back in the report.
-pub(crate) fn run_and_print<T: Threads + Wait + Sync, W: Write, S: Sink + Send + Drop>(
+/// Runs these jobs of the program and tells what is unlogged as `run` does, with a sink that is given what the ring's consumer takes; it comes back in
+/// the report.
+pub(crate) fn run_and_print<
+    T: Threads + Wait + Sync,
+    W: Write,
+    E: Write,
+    S: Sink + Send + Drop,
+    G: Gate + Sync,
+>(
     rt: &T,
     alloc: Global,
     program: &Verified,
+    jobs: &[Job<'_>],
     out: &mut W,
+    err: &mut E,
     request: JobsRequest,
     sink: S,
+    gate: &G,
 ) -> Result<Report<S>, JobsFault>
     requires one_ring { program.now.rings ≡ 1 }
+    requires tasks { map task_of jobs.now ≡ tasks_of_workers program.now request.workers request.jobs }
     requires begins { S.position_of sink ≡ request.start }
     ensures ran { IfOk result (RunsWorkers S.position_of S.takes sink program.now request) }
     ensures printed { IfOk result (λ report. Appends (W.contents out.old) (W.contents out.new) (report_lines request.form report)) }
+    ensures told { IfOk result (λ report. Appends (E.contents err.old) (E.contents err.new) (unlogged_text report.unlogged)) }
     ensures bounds { OnOk result (IsRingSize request.size × IsStartPosition request.start × IsWorkerCount request.workers) }
     ensures refused { IfErr result (λ fault. (fault ≡ JobsFault.Program ProgramFault.Device) ⊎ IsRightRingFault request fault) }
     ensures nothing_printed { IfErr result (λ fault. fault ≢ JobsFault.Program ProgramFault.Device → Keeps (W.contents out.old) (W.contents out.new)) }
+    ensures nothing_told { IfErr result (λ fault. fault ≢ JobsFault.Program ProgramFault.Device → Keeps (E.contents err.old) (E.contents err.new)) }
 {
-    let report = run_program(rt, alloc, program, request, sink)?;
+    let report = run_program(rt, alloc, program, jobs, request, sink, gate)?;
     let printed = lines_of_report(alloc, &report, request.form)?;
-    match write_whole(out, printed.as_slice()) {
+    let told = text_of_unlogged(alloc, report.unlogged)?;
+    if write_whole(out, printed.as_slice()).is_err() {
+        return Err(JobsFault::Program(ProgramFault::Device));
+    }
+    match write_whole(err, told.as_bytes()) {
         Ok(()) => Ok(report),
         Err(_) => Err(JobsFault::Program(ProgramFault::Device)),
     }
 }
 
-// Runs the program on each worker so often, over one ring, whose records are given to the sink as they are taken.
-fn run_program<T: Threads + Wait + Sync, S: Sink + Send + Drop>(
+// Runs the jobs, which are the program's on each worker so often, over one ring, whose records are given to the sink as they are taken.
+fn run_program<T: Threads + Wait + Sync, S: Sink + Send + Drop, G: Gate + Sync>(
     rt: &T,
     alloc: Global,
     program: &Verified,
+    jobs: &[Job<'_>],
     request: JobsRequest,
     sink: S,
+    gate: &G,
 ) -> Result<Report<S>, JobsFault>
     requires one_ring { program.now.rings ≡ 1 }
+    requires tasks { map task_of jobs.now ≡ tasks_of_workers program.now request.workers request.jobs }
     requires begins { S.position_of sink ≡ request.start }
     ensures ran { IfOk result (RunsWorkers S.position_of S.takes sink program.now request) }
     ensures bounds { IfOk result (λ _. IsRingSize request.size × IsStartPosition request.start × IsWorkerCount request.workers) }
@@ -122,8 +158,8 @@ fn run_program<T: Threads + Wait + Sync, S: Sink + Send + Drop>(
         request.size,
         request.start,
         workers,
-        CHAPTER_ROOM,
-        CHAPTER_MARGIN,
+        chapter_room(request.size),
+        chapter_margin(request.size),
         sink,
     ) {
         Ok(one) => one,
@@ -134,12 +170,10 @@ fn run_program<T: Threads + Wait + Sync, S: Sink + Send + Drop>(
         Err(OpenFault::Memory) => return Err(JobsFault::Program(ProgramFault::Memory)),
     };
     one.consumer.facts();
-    let contexts = contexts_of(alloc, workers, request.jobs)?;
-    let jobs = jobs_of(alloc, program, contexts.as_slice())?;
     let Ok(opened) = list_of_one(alloc, one) else {
         return Err(JobsFault::Program(ProgramFault::Memory));
     };
-    match run_jobs(rt, alloc, opened, jobs.as_slice(), &OpenGate) {
+    match run_jobs(rt, alloc, opened, jobs, gate) {
         Ok(report) => Ok(report),
         Err((JobFault::Memory, _)) => Err(JobsFault::Program(ProgramFault::Memory)),
         Err((JobFault::UnknownRing, _)) => unreachable!(),

@@ -1,20 +1,24 @@
 //! A run whose records are written as a tape.
 
-ghost use Rattle.std.specs.Prelude.{◌≡◌, ◌≢◌, ◌⊎◌, ◌&&◌, Bool, [], true, IfErr, IfOk, IfSome, OnOk};
+ghost use Rattle.std.specs.Prelude.{◌≡◌, ◌≢◌, ◌⊎◌, ◌&&◌, Bool, [], true, map, IfErr, IfOk, IfSome, OnOk};
 ghost use Rattle.std.specs.Io.KnownBytes.{Keeps};
 ghost use Rattle.rb_history.specs.RingModel.{IsRingSize, IsStartPosition, IsWorkerCount};
 ghost use Rattle.rb_run_commands.specs.RunCommand.{IsRightJobsFault, IsRightRingFault};
+ghost use Rattle.rb_jobs.specs.Jobs.{task_of};
+ghost use Rattle.rb_run_commands.specs.WorkerJobs.{tasks_of_workers};
 ghost use Rattle.rb_run_commands.specs.TapedRun.{PrintsTaped, TapesRun};
 
 use crate::jobs_fault::JobsFault;
 use crate::run_command::{JOB_BOUNDS, JobsRequest, check_ring, run_and_print};
 use crate::tape_sink::TapeSink;
-use rb_io::{Buffered, Outgoing};
+use crate::worker_jobs::{contexts_of, jobs_of};
+use rb_io::{Buffered, NotedWriter, Outgoing};
 use rb_loader::{ProgramFault, read_program};
 use rb_verifier::Verified;
+use rb_workers::{Gate, Job, OpenGate};
 use std::alloc::Global;
 use std::fs::File;
-use std::io::{Read, Write};
+use std::io::{Error, Read, Write};
 use std::rt::Files;
 use std::sync::Wait;
 use std::thread::Threads;
@@ -28,28 +32,75 @@ pub struct WrittenTape<F> {
     pub is_whole: bool,
 }
 
-/// Runs the program as `run` does, prints the same, and writes what the ring's consumer took as a tape, each record once it is taken. A write
+/// Runs the program as `run` does, prints and tells the same, and writes what the ring's consumer took as a tape, each record once it is taken. A write
 /// that fails or takes nothing ends the tape and not the run. The writer hands all of it on at the end; it is called a few times for each record:
 /// buffer it. Where the run is refused or memory runs out, the writer is dropped.
-pub fn run_taped<T: Threads + Wait + Sync, W: Write, F: Outgoing + Send + Drop>(
+pub fn run_taped<T: Threads + Wait + Sync, W: Write, E: Write, F: Outgoing + Send + Drop>(
     rt: &T,
     alloc: Global,
     program: &Verified,
     out: &mut W,
+    err: &mut E,
     tape: F,
     request: JobsRequest,
 ) -> Result<WrittenTape<F>, JobsFault>
     requires one_ring { program.now.rings ≡ 1 }
     requires size { IsRingSize request.size }
     requires start { IsStartPosition request.start }
-    ensures taped { IfOk result (λ written. TapesRun F.contents F.writes_out tape program.now request (W.contents out.old) (W.contents out.new) written.is_whole written.writer) }
+    ensures taped { IfOk result (λ written. TapesRun F.contents F.writes_out tape program.now request (W.contents out.old) (W.contents out.new) (E.contents err.old) (E.contents err.new) written.is_whole written.writer) }
     ensures handed_on { IfOk result (λ written. written.is_whole ≡ true → F.waiting written.writer ≡ []) }
     ensures workers { OnOk result (IsWorkerCount request.workers) }
     ensures refused { IfErr result (λ fault. (fault ≡ JobsFault.Program ProgramFault.Device) ⊎ IsRightRingFault request fault) }
     ensures nothing_printed { IfErr result (λ fault. fault ≢ JobsFault.Program ProgramFault.Device → Keeps (W.contents out.old) (W.contents out.new)) }
+    ensures nothing_told { IfErr result (λ fault. fault ≢ JobsFault.Program ProgramFault.Device → Keeps (E.contents err.old) (E.contents err.new)) }
+{
+    let workers = check_ring(request)?;
+    let contexts = contexts_of(alloc, workers, request.jobs)?;
+    let jobs = jobs_of(alloc, program, contexts.as_slice())?;
+    tape_jobs(
+        rt,
+        alloc,
+        program,
+        jobs.as_slice(),
+        out,
+        err,
+        tape,
+        request,
+        &OpenGate,
+    )
+}
+
+// Runs these jobs of the program, as `run_taped` does.
+fn tape_jobs<
+    T: Threads + Wait + Sync,
+    W: Write,
+    E: Write,
+    F: Outgoing + Send + Drop,
+    G: Gate + Sync,
+>(
+    rt: &T,
+    alloc: Global,
+    program: &Verified,
+    jobs: &[Job<'_>],
+    out: &mut W,
+    err: &mut E,
+    tape: F,
+    request: JobsRequest,
+    gate: &G,
+) -> Result<WrittenTape<F>, JobsFault>
+    requires one_ring { program.now.rings ≡ 1 }
+    requires tasks { map task_of jobs.now ≡ tasks_of_workers program.now request.workers request.jobs }
+    requires size { IsRingSize request.size }
+    requires start { IsStartPosition request.start }
+    ensures taped { IfOk result (λ written. TapesRun F.contents F.writes_out tape program.now request (W.contents out.old) (W.contents out.new) (E.contents err.old) (E.contents err.new) written.is_whole written.writer) }
+    ensures handed_on { IfOk result (λ written. written.is_whole ≡ true → F.waiting written.writer ≡ []) }
+    ensures workers { OnOk result (IsWorkerCount request.workers) }
+    ensures refused { IfErr result (λ fault. (fault ≡ JobsFault.Program ProgramFault.Device) ⊎ IsRightRingFault request fault) }
+    ensures nothing_printed { IfErr result (λ fault. fault ≢ JobsFault.Program ProgramFault.Device → Keeps (W.contents out.old) (W.contents out.new)) }
+    ensures nothing_told { IfErr result (λ fault. fault ≢ JobsFault.Program ProgramFault.Device → Keeps (E.contents err.old) (E.contents err.new)) }
 {
     let sink = TapeSink::new(tape, request.size, request.start);
-    let mut report = run_and_print(rt, alloc, program, out, request, sink)?;
+    let mut report = run_and_print(rt, alloc, program, jobs, out, err, request, sink, gate)?;
     let Some(ended) = report.rings.pop() else {
         unreachable!()
     };
@@ -68,32 +119,72 @@ fn write_out_all<F: Outgoing>(writer: &mut F, is_out: bool) -> bool
     writer.write_out().is_ok() && is_out
 }
 
-/// Verifies the program whose text is the input and runs it as `run` does, prints the same, and writes the tape to a file of this name, which is
-/// made, or emptied where it is there. That comes after all refusals of the program and the ring and before anything runs: `Device` where
-/// it can't be done, and, behind what was printed, where not all of the tape was written.
-pub fn run_to_file<T, R: Read, W: Write, F: Write + Send + Drop>(
+/// What failed at the file of a tape, with the system's words where it had some.
+#[derive(Clone, Copy)]
+pub enum TapeFileFault {
+    /// It could not be made, or opened for writing.
+    Opening(Error),
+    /// A write failed, or took nothing.
+    Writing(Option<Error>),
+}
+
+/// The file of a tape.
+#[derive(Clone, Copy)]
+pub struct TapeFile<'a> {
+    /// Its name.
+    pub path: &'a str,
+    /// What failed there.
+    pub fault: Option<TapeFileFault>,
+}
+
+/// Verifies the program whose text is the input and runs it as `run` does, prints and tells the same, and writes the tape to this file, which is
+/// made, or emptied where it is there. That comes after all refusals of the program and the ring, and once there is memory for the list of all jobs, and
+/// before anything runs: `Device` where it can't be done, and, behind what was printed, where not all of the tape was written; the file then has what
+/// failed there.
+pub fn run_to_file<T, R: Read, W: Write, E: Write, F: Write + Send + Drop, G: Gate + Sync>(
     rt: &T,
     alloc: Global,
     input: &mut R,
     out: &mut W,
+    err: &mut E,
     request: JobsRequest,
-    path: &str,
+    file: &mut TapeFile<'_>,
+    gate: &G,
 ) -> Result<(), JobsFault>
 where
     T: Threads + Wait + Sync + Files<File = F>,
-    ensures printed { OnOk result (PrintsTaped F F.contents (R.remaining input.old) request (W.contents out.old) (W.contents out.new)) }
+    ensures printed { OnOk result (PrintsTaped F F.contents (R.remaining input.old) request (W.contents out.old) (W.contents out.new) (E.contents err.old) (E.contents err.new)) }
     ensures bounds { OnOk result (IsRingSize request.size × IsStartPosition request.start × IsWorkerCount request.workers) }
     ensures refused { IfErr result (λ fault. IfSome (R.remaining input.old) (λ text. IsRightJobsFault text request fault)) }
     ensures nothing_printed { IfErr result (λ fault. fault ≢ JobsFault.Program ProgramFault.Device → Keeps (W.contents out.old) (W.contents out.new)) }
+    ensures nothing_told { IfErr result (λ fault. fault ≢ JobsFault.Program ProgramFault.Device → Keeps (E.contents err.old) (E.contents err.new)) }
 {
     let program = read_program(alloc, input, JOB_BOUNDS)?;
-    let _workers = check_ring(request)?;
-    let Ok(file) = File::create(rt, path) else {
-        return Err(JobsFault::Program(ProgramFault::Device));
+    let workers = check_ring(request)?;
+    let contexts = contexts_of(alloc, workers, request.jobs)?;
+    let jobs = jobs_of(alloc, &program, contexts.as_slice())?;
+    let opened = match File::create(rt, file.path) {
+        Ok(opened) => opened,
+        Err(error) => {
+            file.fault = Some(TapeFileFault::Opening(error));
+            return Err(JobsFault::Program(ProgramFault::Device));
+        }
     };
-    let tape = Buffered::new(alloc, file)?;
-    let written = run_taped(rt, alloc, &program, out, tape, request)?;
+    let tape = Buffered::new(alloc, NotedWriter::new(opened))?;
+    let written = tape_jobs(
+        rt,
+        alloc,
+        &program,
+        jobs.as_slice(),
+        out,
+        err,
+        tape,
+        request,
+        gate,
+    )?;
     if !written.is_whole {
+        let error = written.writer.into_writer().error;
+        file.fault = Some(TapeFileFault::Writing(error));
         return Err(JobsFault::Program(ProgramFault::Device));
     }
     Ok(())

@@ -1,6 +1,7 @@
 //! Worlds by public calls alone: worked scripts, and every order of the calls of workers and consumers. Here are the programs and worlds that those tests share.
 
 mod chapters;
+mod hands;
 mod orders;
 mod refusals;
 mod scripts;

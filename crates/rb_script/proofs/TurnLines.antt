@@ -15,6 +15,7 @@ use Rattle.rb_world.specs.declared.turn_done.TurnDone.{TurnDone}
 use Rattle.rb_world.specs.declared.turn_done.TurnDone.TheVariants as turn
 use Rattle.rb_world.specs.WorldValue.{WorldValue, world_of}
 use Rattle.rb_world.specs.TurnsDone.{TellsEvent, IsTurnOf, TurnsChaptersOf}
+use Rattle.rb_world.specs.RecordReasons.{TurnHasReasons}
 use Rattle.rb_world.proofs.Runs.{tell-push, turns-push}
 use Rattle.rb_script.specs.OutputLines.{take_line}
 use Rattle.rb_script.specs.Simulation.{PassesWorlds, drawings, turn_text, turns_text, WritesRun}
@@ -152,8 +153,8 @@ pub writes-none : (draw : Bool) (v : WorldValue) (text : List ℕ) → WritesRun
 writes-none draw v text = record { dones = []; events = []; told = tt; run = refl; turns = refl; worlds = []; passed = refl; text_is = sym (append-nil text) }
 
 pub writes-more : (draw : Bool) (actors : List Actor) (i : ℕ) (d : Actor) (old mid new : WorldValue) (before between after : List ℕ) (done : TurnDone) → i < length actors → WritesRun draw (take i actors) old mid before between → IsTurnOf (get_or actors i d) mid done new
-    → TurnsChaptersOf (get_or actors i d) done mid.rings new.rings → after ≡ between ++ (shown_text (get_or actors i d) done (world_of new) ++ drawings draw new) → WritesRun draw (take (i + 1) actors) old new before after
-writes-more draw actors i d old mid new before between after done low w turned chapters wrote =
+    → TurnsChaptersOf (get_or actors i d) done mid.rings new.rings → TurnHasReasons (get_or actors i d) mid new → after ≡ between ++ (shown_text (get_or actors i d) done (world_of new) ++ drawings draw new) → WritesRun draw (take (i + 1) actors) old new before after
+writes-more draw actors i d old mid new before between after done low w turned chapters reasons wrote =
     let actor = get_or actors i d in
     let event = turned.0 in
     subst (λ l. WritesRun draw l old new before after) (sym (take_more actors i d low)) (record {
@@ -161,7 +162,7 @@ writes-more draw actors i d old mid new before between after done low w turned c
       events = w.events ++ event ∷ [];
       told = tell-push w.dones w.events done event w.told turned.1;
       run = run-push (world_of old) (world_of mid) (world_of new) (take i actors) w.events actor event w.run turned.2;
-      turns = turns-push (take i actors) old mid new w.dones actor done w.turns turned chapters;
+      turns = turns-push (take i actors) old mid new w.dones actor done w.turns turned chapters reasons;
       worlds = w.worlds ++ new ∷ [];
       passed = passed-push (take i actors) old mid new w.dones w.worlds actor done w.passed turned chapters;
       text_is =

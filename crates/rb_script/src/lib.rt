@@ -15,12 +15,14 @@
 mod drawings;
 mod output_lines;
 mod programs;
+mod reasons;
 mod script;
 mod script_fault;
 mod script_line;
 mod sim_command;
 mod simulation;
 
+pub use reasons::line_reason;
 pub use script::{Script, ScriptWorker};
 pub use script_fault::ScriptFault;
 pub use sim_command::{SimFault, sim};

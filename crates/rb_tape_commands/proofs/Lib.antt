@@ -8,3 +8,4 @@ mod PayloadReads
 mod RingPass
 mod Sending
 pub mod TapeReads
+mod TapeCallRuns

@@ -1,6 +1,6 @@
 //! Payloads in, their tape out.
 
-ghost use Rattle.std.specs.Prelude.{◌≡◌, ◌≢◌, [], ◌+◌, ◌<◌, ◌≤◌, ◌⊎◌, ◌↔◌, List, ℕ, None, Some, Err, IsErrOf, IfOk, IfErr, IfSome, OnOk, length};
+ghost use Rattle.std.specs.Prelude.{◌≡◌, ◌≢◌, [], ◌+◌, ◌<◌, ◌≤◌, ◌⊎◌, ◌↔◌, List, ℕ, None, Some, Err, IsErrOf, IfOk, IfErr, IfSome, IsSome, OnOk, length};
 ghost use Rattle.rb_history.specs.Span.{span};
 ghost use Rattle.rb_history.specs.RingModel.{IsRingSize, IsStartPosition};
 ghost use Rattle.rb_chapter_ring.specs.ChapterRoom.{MayGrant};
@@ -9,7 +9,7 @@ ghost use Rattle.rb_tape_commands.specs.ChapterTurns.{IsSpareOf};
 ghost use Rattle.rb_tape_commands.specs.inner.OpenedFeed.{IsOpenedFeed};
 ghost use Rattle.rb_tape_commands.specs.Feed.{FeedResult, FeedAnswerMatches, AnswersAlone};
 ghost use Rattle.rb_tape_commands.specs.inner.PayloadSteps.{FeedsOne, IsOpeningFault};
-ghost use Rattle.rb_tape_commands.specs.Retries.{WritesOutAtEnd};
+ghost use Rattle.rb_tape_commands.specs.Retries.{CountsRetries, LeadsByCalls, WritesOutAtEnd};
 ghost use Rattle.rb_tape_commands.specs.Transfer.{MovesOn};
 
 use crate::chapter_turns::make_chapter_room;
@@ -48,8 +48,11 @@ fn feed_one<W: Write>(
     ensures moves_on { OnOk result (MovesOn ring.old.state.ring ring.new.state.ring (length payload)) }
     ensures size { tape.new.size ≡ tape.old.size }
     ensures position { OnOk result (tape.new.position ≡ tape.old.position + span (length payload)) }
-    ensures finished { OnOk result (tape.new.unfinished ≡ None) }
-    ensures fewer { retries.new ≤ retries.old }
+    ensures finished { result ≢ Err FeedFault.Device → tape.new.unfinished ≡ None }
+    ensures unfinished { result ≡ Err FeedFault.Device → IsSome tape.new.unfinished }
+    ensures calls { LeadsByCalls W.contents tape.old tape.new }
+    ensures each_failure_takes_one { result ≢ Err FeedFault.Device → tape.new.failures + retries.new ≡ tape.old.failures + retries.old }
+    ensures all_failed { result ≡ Err FeedFault.Device → (tape.new.failures ≡ tape.old.failures + retries.old + 1) × (retries.new ≡ 0) }
 {
     let (position, payload) = transfer_payload(ring, payload, number)?;
     let item = Item::Event(Event {
@@ -82,7 +85,9 @@ fn feed_all<R: BufRead, W: Write>(
     requires finished { tape.old.unfinished ≡ None }
     ensures fed { FeedResult (record { size = size; start = tape.old.position; input_before = R.remaining reader.old; input_after = R.remaining reader.new; output_before = W.contents tape.old.writer; output_after = W.contents tape.new.writer }) result }
     ensures no_bounds { (result ≢ Err FeedFault.Size) × (result ≢ Err FeedFault.Start) }
-    ensures fewer { retries.new ≤ retries.old }
+    ensures calls { LeadsByCalls W.contents tape.old tape.new }
+    ensures counted { CountsRetries (tape.old.failures + retries.old) retries.new tape.new }
+    ensures unfinished { IfSome tape.new.unfinished (λ item. result ≡ Err FeedFault.Device) }
 {
     let mut number = 0;
     while let Some(payload) = next_payload(reader, spare, size, number)? {
@@ -116,8 +121,8 @@ pub fn feed<R: BufRead, W: Outgoing>(
     // Nothing of it waits in the writer, where nothing did before and no device failed.
     ensures handed_on { W.waiting writer ≡ [] → result.0 ≢ Err FeedFault.Device → W.waiting result.1 ≡ [] }
 
-    // A writer is handed back as it was, or was at last called to hand on, with no more retries than are given.
-    ensures handed_out { (result.1 ≡ writer) ⊎ WritesOutAtEnd W.writes_out retries result.0 result.1 }
+    // A writer is handed back as it was, or was at last called to hand on. Each failure took one of the retries, and there were no others.
+    ensures handed_out { (result.1 ≡ writer) ⊎ WritesOutAtEnd W.contents W.writes_out writer size start retries result.0 result.1 }
 
     // Which answer it is.
     ensures size { IsErrOf result.0 FeedFault.Size ↔ ¬ IsRingSize size }
@@ -174,7 +179,7 @@ fn feed_ring<R: BufRead, W: Outgoing>(
     requires opened { IsOpenedFeed ROOM size start opened.0.state.ring opened.1 }
     ensures fed { FeedResult (record { size = size; start = start; input_before = R.remaining reader.old; input_after = R.remaining reader.new; output_before = W.contents writer; output_after = W.contents result.1 }) result.0 }
     ensures handed_on { result.0 ≢ Err FeedFault.Device → W.waiting result.1 ≡ [] }
-    ensures handed_out { WritesOutAtEnd W.writes_out retries result.0 result.1 }
+    ensures handed_out { WritesOutAtEnd W.contents W.writes_out writer size start retries result.0 result.1 }
     ensures no_bounds { (result.0 ≢ Err FeedFault.Size) × (result.0 ≢ Err FeedFault.Start) }
 {
     let (mut ring, mut spare_chapter, spare) = opened;

@@ -4,7 +4,7 @@ ghost use Rattle.std.specs.Prelude.{◌≡◌, ◌<◌, ◌≤◌, ◌+◌, [], 
 ghost use Rattle.std.specs.Io.KnownBytes.{Appends, Keeps};
 ghost use Rattle.rb_history.specs.TapeBytes.{item_bytes, item_span, IsItemAt};
 ghost use Rattle.rb_tape.specs.Items.{item_of};
-ghost use Rattle.rb_tape_commands.specs.Retries.{TriesToWriteOut};
+ghost use Rattle.rb_tape_commands.specs.Retries.{LeadsByCalls, TriesToWriteOut};
 
 use rb_io::{DeviceFault, Outgoing};
 use rb_tape::{Item, TapeWriter};
@@ -29,6 +29,7 @@ pub(crate) fn put_with_retries<W: Write>(
     ensures none_left { OnErr result (retries.new ≡ 0) }
     ensures each_failure_takes_one { OnOk result (tape.new.failures + retries.new ≡ tape.old.failures + retries.old) }
     ensures all_failed { OnErr result (tape.new.failures ≡ tape.old.failures + retries.old + 1) }
+    ensures calls { LeadsByCalls W.contents tape.old tape.new }
 {
     if tape.put(item).is_ok() {
         return Ok(());

@@ -13,6 +13,7 @@
 #![tactic(auto)]
 
 use rb_command_line::command;
+use std::io::IsTerminal;
 use std::process::ExitCode;
 use std::{env, io};
 
@@ -22,10 +23,13 @@ fn main(rt: HostRuntime) -> ExitCode {
         Err(error) => return print_unreadable(&rt, &error),
     };
     let (mut input, mut out, mut err) = (rt.stdin(), rt.stdout(), rt.stderr());
+    // Where lines go to the terminal too, they would be mixed up.
+    let is_watched = err.is_terminal() && !out.is_terminal();
     ExitCode::from(command(
         &rt,
         rt.alloc(),
         words.as_slice(),
+        is_watched,
         &mut input,
         &mut out,
         &mut err,

@@ -6,17 +6,18 @@ use crate::fakes::{Sink, Source, Trouble};
 use rb_command_line::command;
 use std::alloc::Global;
 use std::fs::File;
-use std::io::ErrorKind;
+use std::io::{Eprint, ErrorKind};
 use std::process::Abort;
 use std::rt::Files;
 use std::sync::Wait;
 use std::thread::Threads;
+use std::time::Clock;
 
 // r0 = 0, and exit.
 const EXIT_ZERO: &str = "b700000000000000 9500000000000000";
 
 // What is told of a reader that fails behind the program, and of a writer that has room for so many bytes, or can't be flushed.
-fn told_of_trouble<T: Abort + Threads + Wait + Sync + Files<File = File>>(
+fn told_of_trouble<T: Abort + Threads + Wait + Sync + Files<File = File> + Clock + Eprint>(
     rt: &T,
     alloc: Global,
     mut reader: Source<'_>,
@@ -26,7 +27,15 @@ fn told_of_trouble<T: Abort + Threads + Wait + Sync + Files<File = File>>(
     let mut writer = Sink::new(alloc, room, 100, Trouble::TakesNothing);
     writer.flush_fails = flush_fails;
     let mut told = Vec::new(alloc);
-    let status = command(rt, alloc, &["check"], &mut reader, &mut writer, &mut told);
+    let status = command(
+        rt,
+        alloc,
+        &["check"],
+        false,
+        &mut reader,
+        &mut writer,
+        &mut told,
+    );
     ending(rt, alloc, status, &told, &writer.taken)
 }
 

@@ -1,22 +1,23 @@
 //! Commands, with all that they print.
 
-use crate::endings::ending;
+use crate::endings::{ended, ending};
 use crate::expected::{same, same_of};
 use crate::fakes::{Sink, Source, Trouble};
 use rb_command_line::command;
 use std::alloc::Global;
 use std::fs::File;
-use std::io::ErrorKind;
+use std::io::{Eprint, ErrorKind};
 use std::process::Abort;
 use std::rt::Files;
 use std::sync::Wait;
 use std::thread::Threads;
+use std::time::Clock;
 
 // One byte and none.
 const TWO: [u8; 9] = [1, 0, 0, 0, 0xff, 0, 0, 0, 0];
 
 // Whether the words print a help that ends in one line feed, and nothing is read or told.
-fn is_help<T: Threads + Wait + Sync + Files<File = File>>(
+fn is_help<T: Threads + Wait + Sync + Files<File = File> + Clock + Eprint>(
     rt: &T,
     alloc: Global,
     words: &[&str],
@@ -24,7 +25,7 @@ fn is_help<T: Threads + Wait + Sync + Files<File = File>>(
     let mut reader = Source::new(&[1], 5);
     let mut text = Vec::new(alloc);
     let mut told = Vec::new(alloc);
-    let status = command(rt, alloc, words, &mut reader, &mut text, &mut told);
+    let status = command(rt, alloc, words, false, &mut reader, &mut text, &mut told);
     let is_one_text = text.as_slice().ends_with(b"\n") && !text.as_slice().ends_with(b"\n\n");
     status == 0 && is_one_text && told.is_empty() && reader.rest.len() == 1
 }
@@ -43,7 +44,7 @@ fn help(rt: HostRuntime) {
 }
 
 // What `feed` ends with over this reader and writers with so much room, and how many bytes it wrote.
-fn fed_with<T: Abort + Threads + Wait + Sync + Files<File = File>>(
+fn fed_with<T: Abort + Threads + Wait + Sync + Files<File = File> + Clock + Eprint>(
     rt: &T,
     alloc: Global,
     mut reader: Source<'_>,
@@ -51,7 +52,7 @@ fn fed_with<T: Abort + Threads + Wait + Sync + Files<File = File>>(
     mut told: Sink,
 ) -> (String, usize) {
     let words = ["feed", "--size", "4096"];
-    let status = command(rt, alloc, &words, &mut reader, &mut tape, &mut told);
+    let status = command(rt, alloc, &words, false, &mut reader, &mut tape, &mut told);
     (
         ending(rt, alloc, status, &told.taken, &[]),
         tape.taken.len(),
@@ -96,4 +97,59 @@ fn positions_that_cannot_be_told(rt: HostRuntime) {
     let reader = Source::new(&TWO, 100);
     let (ending, written) = fed_with(&rt, alloc, reader, Sink::open(alloc), told);
     same(&rt, &(ending.as_str(), written), &("1 pro", 24));
+}
+
+// What `feed --why` ends with over this reader and this writer.
+fn fed_with_reason<T: Abort + Threads + Wait + Sync + Files<File = File> + Clock + Eprint>(
+    rt: &T,
+    alloc: Global,
+    mut reader: Source<'_>,
+    mut tape: Sink,
+) -> String {
+    let words = ["feed", "--size", "4096", "--why"];
+    let mut told = Vec::new(alloc);
+    let status = command(rt, alloc, &words, false, &mut reader, &mut tape, &mut told);
+    ending(rt, alloc, status, &told, &[])
+}
+
+#[test]
+fn what_failed_is_told_in_front(rt: HostRuntime) {
+    let alloc = rt.alloc();
+    let reader = Source::failing(&TWO, ErrorKind::BrokenPipe);
+    let read = fed_with_reason(&rt, alloc, reader, Sink::open(alloc));
+    let fails = Sink::new(alloc, 1, 100, Trouble::Fails(ErrorKind::StorageFull));
+    let written = fed_with_reason(&rt, alloc, Source::new(&TWO, 100), fails);
+    let full = Sink::new(alloc, 1, 100, Trouble::TakesNothing);
+    let taken = fed_with_reason(&rt, alloc, Source::new(&TWO, 100), full);
+    same(
+        &rt,
+        &(read.as_str(), written.as_str(), taken.as_str()),
+        &(
+            "1 cannot read standard input: broken pipe\nrefused device\n",
+            "1 cannot write to standard output: no storage space\nrefused device\n",
+            "1 cannot write to standard output: it takes no more bytes\nrefused device\n",
+        ),
+    );
+}
+
+#[test]
+fn numbers_that_no_command_takes_are_told_in_one_form(rt: HostRuntime) {
+    let rows: [(&[&str], &str); 3] = [
+        (
+            &["run", "--workers", "1", "--jobs", "0", "--size", "4096"],
+            "2 error: the value '0' of '--jobs' is not a decimal number from 1 to 1000000\n",
+        ),
+        (
+            &["check", "--ctx", "65537"],
+            "2 error: the value '65537' of '--ctx' is not a decimal number from 0 to 65536\n",
+        ),
+        (
+            &["feed", "--size", "+4096"],
+            "2 error: the value '+4096' of '--size' is not a decimal number from 0 to 18446744073709551615\n",
+        ),
+    ];
+    for (words, wanted) in &rows {
+        let ending = ended(&rt, rt.alloc(), words, &[]);
+        same_of(&rt, &ending.as_str().starts_with(*wanted), &true, words);
+    }
 }

@@ -4,13 +4,15 @@ use crate::fakes::Source;
 use rb_command_line::command;
 use std::alloc::Global;
 use std::fs::File;
+use std::io::Eprint;
 use std::process::Abort;
 use std::rt::Files;
 use std::sync::Wait;
 use std::thread::Threads;
+use std::time::Clock;
 
 /// The status, what was told on the error output, and what was printed, which is text too.
-pub(crate) fn ended<T: Abort + Threads + Wait + Sync + Files<File = File>>(
+pub(crate) fn ended<T: Abort + Threads + Wait + Sync + Files<File = File> + Clock + Eprint>(
     rt: &T,
     alloc: Global,
     words: &[&str],
@@ -20,7 +22,7 @@ pub(crate) fn ended<T: Abort + Threads + Wait + Sync + Files<File = File>>(
 }
 
 /// The same, over this reader.
-pub(crate) fn ended_over<T: Abort + Threads + Wait + Sync + Files<File = File>>(
+pub(crate) fn ended_over<T: Abort + Threads + Wait + Sync + Files<File = File> + Clock + Eprint>(
     rt: &T,
     alloc: Global,
     words: &[&str],
@@ -28,7 +30,15 @@ pub(crate) fn ended_over<T: Abort + Threads + Wait + Sync + Files<File = File>>(
 ) -> String {
     let mut printed = Vec::new(alloc);
     let mut told = Vec::new(alloc);
-    let status = command(rt, alloc, words, &mut reader, &mut printed, &mut told);
+    let status = command(
+        rt,
+        alloc,
+        words,
+        false,
+        &mut reader,
+        &mut printed,
+        &mut told,
+    );
     ending(rt, alloc, status, &told, &printed)
 }
 

@@ -188,3 +188,47 @@ impl Outgoing for OneFailure {
         self.flush()
     }
 }
+
+/// A writer over one that fails once, which fails once more: at the write of number `fails_at`, counted from 1. So do its first `closed` calls of
+/// `write_out`.
+#[derive(Drop)]
+pub struct MoreFailures {
+    pub inner: OneFailure,
+    pub writes: usize,
+    pub fails_at: usize,
+    pub closed: u32,
+}
+
+impl Write for MoreFailures {
+    fn write(&mut self, buf: &[u8]) -> Result<usize> {
+        self.writes = self.writes.saturating_add(1);
+        if self.writes == self.fails_at {
+            return Err(Error::from(ErrorKind::StorageFull));
+        }
+        self.inner.write(buf)
+    }
+
+    fn flush(&mut self) -> Result<()> {
+        self.inner.flush()
+    }
+}
+
+impl Outgoing for MoreFailures {
+    ghost use Rattle.std.specs.Prelude.{[], None, ⊤, refl};
+
+    ghost went = { λ _. None };
+
+    ghost waiting = { λ _. [] };
+
+    ghost writes_out = { λ _ _ _. ⊤ };
+
+    ghost contents_are = { λ _. refl };
+
+    fn write_out(&mut self) -> Result<()> {
+        if self.closed > 0 {
+            self.closed -= 1;
+            return Err(Error::from(ErrorKind::BrokenPipe));
+        }
+        self.flush()
+    }
+}

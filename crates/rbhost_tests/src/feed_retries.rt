@@ -7,11 +7,12 @@ use rb_command_line::command;
 use rb_tape_commands::{FeedFault, feed};
 use std::alloc::Global;
 use std::fs::File;
-use std::io::ErrorKind;
+use std::io::{Eprint, ErrorKind};
 use std::process::Abort;
 use std::rt::Files;
 use std::sync::Wait;
 use std::thread::Threads;
+use std::time::Clock;
 
 // A payload of eight bytes, and its tape.
 const ONE: [u8; 12] = [8, 0, 0, 0, 0x2a, 0, 0, 0, 0, 0, 0, 0];
@@ -70,7 +71,7 @@ fn one_write_is_tried_again(rt: HostRuntime) {
 }
 
 // The same by the command: its status, what it told, and what went out.
-fn told<T: Abort + Threads + Wait + Sync + Files<File = File>>(
+fn told<T: Abort + Threads + Wait + Sync + Files<File = File> + Clock + Eprint>(
     rt: &T,
     alloc: Global,
     fails_at: usize,
@@ -81,7 +82,15 @@ fn told<T: Abort + Threads + Wait + Sync + Files<File = File>>(
     let mut reader = Source::new(&ONE, 5);
     let mut writer = OneFailure::new(alloc, fails_at, trouble);
     let mut told = Vec::new(alloc);
-    let status = command(rt, alloc, &words, &mut reader, &mut writer, &mut told);
+    let status = command(
+        rt,
+        alloc,
+        &words,
+        false,
+        &mut reader,
+        &mut writer,
+        &mut told,
+    );
     (ending(rt, alloc, status, &told, &[]), writer.taken)
 }
 

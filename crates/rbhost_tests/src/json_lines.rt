@@ -52,7 +52,7 @@ fn objects_of_records_and_runs(rt: HostRuntime) {
         (
             &["tape", "--json", "--size", "4096"],
             &BYTE_TAPE[..9],
-            "1 refused Truncated at 0\n",
+            "1 refused Truncated at 0\n{\"refused\":\"tape\",\"kind\":\"Truncated\",\"offset\":0}\n",
         ),
         (
             &["check", "--json"],
@@ -76,7 +76,7 @@ fn objects_of_records_and_runs(rt: HostRuntime) {
                 "4096",
             ],
             SUBMIT_42.as_bytes(),
-            "0 {\"ring\":0,\"worker\":0,\"made\":3,\"refused\":0,\"submitted\":3,\"discarded\":0}\n{\"ring\":0,\"worker\":1,\"made\":3,\"refused\":0,\"submitted\":3,\"discarded\":0}\n{\"ring\":0,\"made\":6,\"consumed\":6,\"discarded\":0,\"waiting\":0,\"busy\":0}\n{\"strays\":0}\n",
+            "0 {\"ring\":0,\"worker\":0,\"made\":3,\"refused\":0,\"submitted\":3,\"discarded\":0}\n{\"ring\":0,\"worker\":1,\"made\":3,\"refused\":0,\"submitted\":3,\"discarded\":0}\n{\"ring\":0,\"made\":6,\"consumed\":6,\"discarded\":0,\"waiting\":0,\"busy\":0}\n{\"strays\":0,\"unlogged\":0}\n",
         ),
         (
             &["explain", "--json"],

@@ -19,8 +19,12 @@ mod feed_retries;
 #[cfg(test)]
 mod json_lines;
 #[cfg(test)]
+mod kept_file;
+#[cfg(test)]
 mod run_command;
 #[cfg(test)]
 mod tape_command;
 #[cfg(test)]
 mod taped_run;
+#[cfg(test)]
+mod whole_run_retries;

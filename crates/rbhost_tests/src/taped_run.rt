@@ -10,11 +10,12 @@ use rb_loader::read_program;
 use rb_run_commands::{JOB_BOUNDS, JobsRequest, WrittenTape, check_ring, run_taped};
 use rb_verifier::Verified;
 use std::fs::File;
-use std::io::ErrorKind;
+use std::io::{Eprint, ErrorKind};
 use std::process::Abort;
 use std::rt::Files;
 use std::sync::Wait;
 use std::thread::Threads;
+use std::time::Clock;
 
 // Outputs the first eight bytes of its context (examples/output_context.hex).
 const OUTPUT_CONTEXT: &str = "bf12000000000000 1851000000000000 0000000000000000
@@ -31,8 +32,8 @@ fn output_context(rt: &(impl Abort + AllocGlobal)) -> Verified
     }
 }
 
-// What is printed by a run of so many workers and jobs whose tape goes to this writer, and the tape.
-fn run_over<T: Abort + AllocGlobal + Threads + Wait + Sync + Files<File = File>>(
+// What is printed by a run of so many workers and jobs whose tape goes to this writer, and the tape. Each record has room, so nothing is told beside it.
+fn run_over<T: Abort + AllocGlobal + Threads + Wait + Sync + Files<File = File> + Clock + Eprint>(
     rt: &T,
     workers: u64,
     jobs: u32,
@@ -50,10 +51,13 @@ fn run_over<T: Abort + AllocGlobal + Threads + Wait + Sync + Files<File = File>>
         rt.panic("no ring");
     };
     let mut out = Vec::new(rt.alloc());
+    let mut told = Vec::new(rt.alloc());
     let program = output_context(rt);
-    let Ok(written) = run_taped(rt, rt.alloc(), &program, &mut out, tape, request) else {
+    let taped = run_taped(rt, rt.alloc(), &program, &mut out, &mut told, tape, request);
+    let Ok(written) = taped else {
         rt.panic("refused");
     };
+    same(rt, &told.as_slice(), &b"".as_slice());
     let printed = String::from_utf8(out).ok().expect(rt, "text");
     (printed, written)
 }
@@ -141,7 +145,7 @@ fn a_flush_that_fails(rt: HostRuntime) {
 }
 
 // What the command ends with, with a tape in this file and so many workers.
-fn taped<T: Abort + AllocGlobal + Threads + Wait + Sync + Files<File = File>>(
+fn taped<T: Abort + AllocGlobal + Threads + Wait + Sync + Files<File = File> + Clock + Eprint>(
     rt: &T,
     path: &str,
     workers: &str,

@@ -1,28 +1,11 @@
-use Rattle.std.proofs.Common.{◌≡◌, ap, ◌∙◌, subst}
-use Rattle.std.specs.Prelude.{◌&&◌, Bool, not}
-use Rattle.std.specs.Io.KnownBytes.{Keeps}
-use Rattle.rb_run_commands.specs.RunCommand.{RunsWorkers}
-use Rattle.rb_run_commands.specs.TapedRun.{tape_position, tape_takes}
-use Rattle.rb_run_commands.proofs.TapeGiven.{ring_taped}
+use Rattle.std.proofs.Common.{◌≡◌, map, subst}
+use Rattle.rb_jobs.specs.Jobs.{task_of}
+use Rattle.rb_run_commands.specs.WorkerJobs.{tasks_of_workers}
+use Rattle.rb_run_commands.proofs.WorkerTasks.{tasks_lent}
 use Rattle.rb_run_commands.proofs.taped_run.run_taped.Goals as goal
 
-pub returns-clause-taped : goal.returns-clause-taped
-returns-clause-taped g c =
-    let contents = g.F.Write.contents in
-    let writes_out = g.F.Outgoing.writes_out in
-    let report = c.in_ok-report.report in
-    let subject = c.args.program.now in
-    let request = c.args.request in
-    let ran = subst (λ s. RunsWorkers tape_position (tape_takes contents) s subject request report) c.new-sink.ensures.value c.in_ok-report.ensures.ran in
-    let handed = c.write_out_all-is_whole.ensures in
-    let left = c.write_out_all-is_whole.new.writer in
-    let whole = c.write_out_all-is_whole.result in
-    let kept = subst (λ w. Keeps (contents w) (contents left)) c.into_writer-writer.ensures.value handed.bytes in
-    let called = subst (λ w. writes_out w handed.called.0 left) c.into_writer-writer.ensures.value handed.called.1 in
-    let told : whole ≡ (handed.called.0 && not c.in-Some.ended.sink.failed) = handed.called.2 ∙ ap (λ (failed : Bool). handed.called.0 && not failed) c.failed-is_out.ensures.value in
-    record {
-      report = report;
-      ran = ran;
-      printed = c.in_ok-report.ensures.printed;
-      taped = ring_taped contents c.args.tape left subject request report ran writes_out c.pop.new.self.items c.in-Some.ended whole handed.called.0 c.in-Some.ensures.items told kept called;
-    }
+pub tape_jobs-requires-clause-tasks : goal.tape_jobs-requires-clause-tasks
+tape_jobs-requires-clause-tasks g c _ _ =
+    let many = c.in_ok-workers.ensures.workers in
+    subst (λ workers. map task_of c.as_slice-2.result.now ≡ tasks_of_workers c.args.program.now workers c.args.request.jobs) many
+    (tasks_lent c.args.program.now c.in_ok-workers.workers c.args.request.jobs _ _ _ _ c.in_ok-contexts.ensures.contexts c.as_slice.ensures.value c.in_ok-jobs.ensures.jobs c.as_slice-2.ensures.value)

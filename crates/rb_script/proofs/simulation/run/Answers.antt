@@ -27,7 +27,7 @@ loop-actor-preserved c =
     record {
       written =
           writes-more c.args.draw c.args.actors.now c.loop-actor.actor-index _ c.args.world.now c.loop-actor.world c.turn-done.new.self c.args.text.now.items c.loop-actor.text.items c.extend_from_slice.new.self.items c.turn-done.result c.loop-actor-test.true
-          c.loop-actor.invariant.written c.turn-done.ensures.turned c.turn-done.ensures.chapters (line-joined _ _ _ _ _ c.clear.ensures.items c.in-Ok.ensures.lines more);
+          c.loop-actor.invariant.written c.turn-done.ensures.turned c.turn-done.ensures.chapters c.turn-done.ensures.reasons (line-joined _ _ _ _ _ c.clear.ensures.items c.in-Ok.ensures.lines more);
       workers = c.turn-done.ensures.workers ∙ c.loop-actor.invariant.workers;
       rings = c.turn-done.ensures.rings ∙ c.loop-actor.invariant.rings;
     }

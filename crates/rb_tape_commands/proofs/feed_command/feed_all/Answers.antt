@@ -9,6 +9,7 @@ use Rattle.rb_history.specs.TapeBytes.Item.{Event}
 use Rattle.rb_tape_commands.specs.inner.PayloadSteps.{FeedsOne}
 use Rattle.rb_tape_commands.proofs.ChapterPass.{goes_on, spare_stays}
 use Rattle.rb_tape_commands.proofs.Feeding.{fed_next, fed_one, passes_more, end_of-push}
+use Rattle.rb_tape_commands.proofs.TapeCallRuns.{calls_on, ok_not_device}
 use Rattle.rb_tape_commands.proofs.feed_command.feed_all.Goals as goal
 
 pub returns-in_err-payload-clause-fed : goal.returns-in_err-payload-clause-fed
@@ -49,8 +50,9 @@ loop-payload-preserved g c =
     let count = length_push i.0 payload in
     record {
       size = one.size ∙ l.size;
-      finished = done.finished;
-      fewer = omega (arith, l.fewer, one.fewer);
+      finished = done.finished (ok_not_device c.in_ok-spare.spare);
+      calls = calls_on g.W.Write.contents _ _ _ l.calls one.calls;
+      counted = omega (arith, l.counted, done.each_failure_takes_one (ok_not_device c.in_ok-spare.spare));
       setup = ap (λ (h : Chapter). h.opening.setup) same ∙ turned.setup_same ∙ l.setup;
       spare = spare_stays c.make_chapter_room.new.ring.state.ring c.feed_one.new.ring.state.ring c.make_chapter_room.new.spare same c.make_chapter_room.ensures.spare;
       numbered = omega (arith, l.numbered, turned.numbered, ap (λ (h : Chapter). h.number) same);
@@ -60,3 +62,6 @@ loop-payload-preserved g c =
       high = omega (arith, item.bounded, at);
       passed = (i.0 ++ payload ∷ [], passes_more c.args.size c.args.tape.now.position _ _ _ _ i.0 i.1 _ _ payload found.read item_there wrote_there, omega (arith, i.2, count), at ∙ ap (λ q. q + span (length payload)) i.3 ∙ sym (end_of-push c.args.tape.now.position i.0 payload));
     }
+
+pub returns-in_err-spare-clause-calls : goal.returns-in_err-spare-clause-calls
+returns-in_err-spare-clause-calls g c = calls_on g.W.Write.contents _ _ _ c.loop-payload.invariant.calls c.feed_one.ensures.calls

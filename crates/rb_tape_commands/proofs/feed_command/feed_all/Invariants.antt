@@ -6,6 +6,7 @@ use Rattle.rb_tape_commands.specs.ChapterTurns.{IsSpareOf}
 use Rattle.rb_tape_commands.specs.Feed.{FeedsAll}
 use Rattle.rb_tape_commands.specs.inner.FeedRuns.{feed_run}
 use Rattle.rb_tape_commands.specs.Input.{payload_events}
+use Rattle.rb_tape_commands.specs.Retries.{LeadsByCalls}
 use Rattle.rb_tape_commands.proofs.feed_command.feed_all.Given as goal
 
 -- the payloads so far were read, and their tape was written; in the ring each was taken, and the positions are one; before each at most one
@@ -14,7 +15,8 @@ abbrev pub invariant-loop-payload : goal.invariant-loop-payload
 invariant-loop-payload g l = record {
   size : l.tape.size ≡ l.size;
   finished : l.tape.unfinished ≡ None;
-  fewer : l.retries ≤ l.fn.retries;
+  calls : LeadsByCalls g.W.Write.contents l.fn.tape l.tape;
+  counted : l.tape.failures + l.retries ≡ l.fn.tape.failures + l.fn.retries;
   setup : l.ring.state.ring.chapter.opening.setup ≡ record { size = l.size; start = l.fn.tape.position; workers = 1 };
   spare : IsSpareOf l.ring.state.ring l.spare_chapter;
   numbered : l.ring.state.ring.chapter.number ≤ l.number;

@@ -3,6 +3,7 @@ use Rattle.std.specs.Prelude.{Some}
 use Rattle.std.specs.Io.KnownBytes.{Appends}
 use Rattle.rb_history.specs.TapeBytes.{item_bytes, item_span}
 use Rattle.rb_tape.specs.Items.{item_of}
+use Rattle.rb_tape_commands.specs.Retries.{LeadsByCalls}
 use Rattle.rb_tape_commands.proofs.retries.put_with_retries.Given as goal
 
 -- the bytes of the record that are counted went out, and some are left
@@ -14,6 +15,7 @@ invariant-loop-retries g l = record {
   within : l.tape.sent < item_span (item_of l.item);
   bytes : Appends (g.W.Write.contents l.fn.tape.writer) (g.W.Write.contents l.tape.writer) (take l.tape.sent (item_bytes l.fn.tape.size (item_of l.item)));
   fewer : l.retries ≤ l.fn.retries;
+  calls : LeadsByCalls g.W.Write.contents l.fn.tape l.tape;
   counted : l.tape.failures + l.retries ≡ l.fn.tape.failures + l.fn.retries + 1;
 }
 

@@ -1,4 +1,4 @@
-use Rattle.std.proofs.Common.{false, suc, ap, not, ◌∙◌, subst, arith}
+use Rattle.std.proofs.Common.{suc, ap, not, ◌∙◌, subst, arith}
 use Rattle.std.proofs.KnownBytes.{Keeps-trans}
 use Rattle.rb_tape_commands.proofs.retries.write_out_with_retries.Goals as goal
 

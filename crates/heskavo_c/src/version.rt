@@ -1,0 +1,13 @@
+//! The version of the library.
+
+ghost use Rattle.std.specs.Prelude.{◌≡◌};
+
+use rb_version::VERSION_NUMBER;
+
+/// The version of this library, which is that of `rbhost`: a byte each for its three numbers, the first one the highest.
+#[unsafe(no_mangle)]
+pub extern "C" fn heskavo_version() -> u32
+    ensures version { result ≡ VERSION_NUMBER }
+{
+    VERSION_NUMBER
+}

@@ -1,0 +1,222 @@
+//! The reason of a refusal, in words for people: the one place where each is worded.
+
+use crate::refusal::Cause;
+use crate::request::Request;
+use rb_io::Front;
+use rb_program::DecodeKind;
+use rb_run_commands::TapeFileFault;
+use rb_tape::TapeKind;
+use std::alloc::{AllocError, Global};
+use std::io::Error;
+
+/// What was seen of a command's input and of what it wrote to.
+#[derive(Default, Drop)]
+pub(crate) struct Seen {
+    /// The front of standard input.
+    pub front: Front,
+    /// The error of the last read of standard input, where it failed.
+    pub reading: Option<Error>,
+    /// The error of the last write to standard output, where it failed.
+    pub printing: Option<Error>,
+    /// What failed at the file of a tape.
+    pub file: Option<TapeFileFault>,
+    /// What was expected at a script's line that is refused.
+    pub line: Option<String>,
+}
+
+/// The reason of a refusal: what was asked for, with its bounds, or what was seen.
+pub(crate) fn reason_of(
+    alloc: Global,
+    cause: Cause,
+    request: &Request<'_>,
+    seen: &Seen,
+) -> Result<String, AllocError> {
+    match cause {
+        Cause::Text => text_reason(alloc, seen.front),
+        Cause::Decode(DecodeKind::Length, _) => length_reason(alloc, seen.front),
+        Cause::Decode(kind, unit) => {
+            format!(in alloc; "unit {unit}: {kind}; {}", mending(request))
+        }
+        Cause::Shape(kind, unit) => {
+            format!(in alloc; "unit {unit}: {kind}; {}", mending(request))
+        }
+        Cause::Verify(rule, unit) => {
+            format!(in alloc; "unit {unit} breaks rule V{rule}; {}", mending(request))
+        }
+        Cause::Size => option_reason(
+            alloc,
+            "size",
+            request.size(),
+            "a power of two from 4096 to 67108864",
+        ),
+        Cause::Start => option_reason(
+            alloc,
+            "start",
+            request.start(),
+            "a multiple of 8 up to 2305843009213693952",
+        ),
+        Cause::Workers => option_reason(alloc, "workers", request.workers(), "1 to 256"),
+        Cause::Record(kind, offset) => format!(in alloc;
+            "the record behind {offset} bytes: {}",
+            record_words(kind)
+        ),
+        Cause::Fit(payload) => fit_reason(alloc, payload, request.size()),
+        Cause::Ends(payload) => format!(in alloc;
+            "standard input has {} bytes, and ends inside payload {payload} or the four bytes of its length",
+            seen.front.count
+        ),
+        Cause::Line(line) => match &seen.line {
+            Some(expected) => String::from_str(alloc, expected.as_str()),
+            None => format!(in alloc; "line {line} of the script"),
+        },
+        Cause::Memory => memory_reason(alloc, request),
+        Cause::Device => device_reason(alloc, request, seen),
+    }
+}
+
+// Where a program's author finds more.
+fn mending(request: &Request<'_>) -> &'static str {
+    match request {
+        Request::Explain { .. } => "standard output has what it wants and how programs mend it",
+        _ => "`rbhost explain` says what it wants and how programs mend it",
+    }
+}
+
+// An option with its value and its bounds.
+fn option_reason(
+    alloc: Global,
+    name: &str,
+    value: u64,
+    bounds: &str,
+) -> Result<String, AllocError> {
+    format!(in alloc; "--{name} {value}: {bounds}")
+}
+
+// Why a text is no program in hex.
+fn text_reason(alloc: Global, front: Front) -> Result<String, AllocError> {
+    match front.odd {
+        Some((0, 0x7f)) => String::from_str(
+            alloc,
+            "standard input is an ELF object: `tools/bpf-hex FILE.o` prints its hex",
+        ),
+        Some((at, byte)) if byte.is_ascii_graphic() => format!(in alloc;
+            "byte {at} of standard input is '{}', neither a hex digit nor white space",
+            byte as char
+        ),
+        Some((at, byte)) => format!(in alloc;
+            "byte {at} of standard input is {byte:#04x}: these are raw bytes, and a program is text in hex, as `xxd -p` prints it"
+        ),
+        None if front.digits % 2 == 1 => format!(in alloc;
+            "standard input has {} hex digits, and a byte has two",
+            front.digits
+        ),
+        None => String::from_str(alloc, "standard input is no text in hex"),
+    }
+}
+
+// Why a program has no length.
+fn length_reason(alloc: Global, front: Front) -> Result<String, AllocError> {
+    if front.digits == 0 {
+        return format!(in alloc;
+            "standard input is empty: it has {} bytes and no hex digit",
+            front.count
+        );
+    }
+    format!(in alloc;
+        "the program has {} bytes, and a program has units of 8 bytes, sixteen hex digits each",
+        front.digits / 2
+    )
+}
+
+// Why a payload does not fit into a ring of this size.
+fn fit_reason(alloc: Global, payload: u64, size: u64) -> Result<String, AllocError> {
+    let most = size.saturating_sub(16);
+    format!(in alloc;
+        "payload {payload}: a ring of {size} bytes holds payloads of up to {most} bytes, and positions end at 4611686018427387904"
+    )
+}
+
+// What is wrong with a record of a tape.
+fn record_words(kind: TapeKind) -> &'static str {
+    match kind {
+        TapeKind::Busy => "its header has the busy bit, which no record that was taken has",
+        TapeKind::Page => {
+            "its header names another page than its position has, as with another --size or --start"
+        }
+        TapeKind::Padding => "the bytes that fill it up to eights are not zeros",
+        TapeKind::TooLong => "it has no room in a ring of this --size, or ends past position 2^62",
+        TapeKind::DiscardedBytes => "it was discarded, and its bytes are not zeros",
+        TapeKind::Truncated => "standard input ends inside it",
+        TapeKind::Memory => "there is no memory for it",
+    }
+}
+
+// What memory was for.
+fn memory_reason(alloc: Global, request: &Request<'_>) -> Result<String, AllocError> {
+    match request {
+        Request::Run { jobs, .. } => {
+            let count = jobs.workers.saturating_mul(u64::from(jobs.jobs));
+            format!(in alloc;
+                "there is not enough memory: the list of {count} jobs alone takes {} bytes",
+                count.saturating_mul(52)
+            )
+        }
+        _ => String::from_str(alloc, "there is not enough memory"),
+    }
+}
+
+// Which operation failed at which file, and the system's words.
+fn device_reason(alloc: Global, request: &Request<'_>, seen: &Seen) -> Result<String, AllocError> {
+    if let Some(fault) = seen.file {
+        return file_reason(alloc, request.tape(), fault);
+    }
+    if let Some(error) = seen.reading {
+        let words = words_of(alloc, error)?;
+        return format!(in alloc; "cannot read standard input: {words}");
+    }
+    match seen.printing {
+        Some(error) => {
+            let words = words_of(alloc, error)?;
+            format!(in alloc; "cannot write to standard output: {words}")
+        }
+        None => String::from_str(
+            alloc,
+            "cannot write to standard output: it takes no more bytes",
+        ),
+    }
+}
+
+// What failed at the file of a tape.
+fn file_reason(alloc: Global, path: &str, fault: TapeFileFault) -> Result<String, AllocError> {
+    let path = printable(alloc, path)?;
+    match fault {
+        TapeFileFault::Opening(error) => {
+            let words = words_of(alloc, error)?;
+            format!(in alloc; "cannot open {path}: {words}")
+        }
+        TapeFileFault::Writing(Some(error)) => {
+            let words = words_of(alloc, error)?;
+            format!(in alloc; "cannot write to {path}: {words}")
+        }
+        TapeFileFault::Writing(None) => {
+            format!(in alloc; "cannot write to {path}: it takes no more bytes")
+        }
+    }
+}
+
+// The name of a file, quoted where it has what would break a line.
+fn printable(alloc: Global, path: &str) -> Result<String, AllocError> {
+    if path.chars().any(|c| c.is_control()) {
+        return format!(in alloc; "{path:?}");
+    }
+    String::from_str(alloc, path)
+}
+
+// The system's words for an error, without its number.
+fn words_of(alloc: Global, error: Error) -> Result<String, AllocError> {
+    let text = format!(in alloc; "{error}")?;
+    match text.as_str().split_once(" (os error") {
+        Some((words, _)) => String::from_str(alloc, words),
+        None => String::from_str(alloc, text.as_str()),
+    }
+}

@@ -1,0 +1,175 @@
+//! A refusal of any command, as one value.
+
+use rb_json::{push_field, push_text};
+use rb_loader::ProgramFault;
+use rb_program::{DecodeKind, ShapeFaultKind};
+use rb_run_commands::JobsFault;
+use rb_script::SimFault;
+use rb_tape::TapeKind;
+use rb_tape_commands::{FeedFault, TapeRefusal};
+use std::alloc::{AllocError, Global};
+use thiserror::Error;
+
+/// A refusal of any command, which is told as the command's own is.
+#[derive(Clone, Copy, Debug, PartialEq, Eq, Error)]
+pub(crate) enum Refusal {
+    /// Of `feed`.
+    #[error("{0}")]
+    Feed(FeedFault),
+    /// Of `tape`.
+    #[error("{0}")]
+    Tape(TapeRefusal),
+    /// Of `check` and `explain`.
+    #[error("{0}")]
+    Program(ProgramFault),
+    /// Of `run`.
+    #[error("{0}")]
+    Jobs(JobsFault),
+    /// Of `sim`.
+    #[error("{0}")]
+    Sim(SimFault),
+}
+
+/// What a command was refused for, whichever it is.
+#[derive(Clone, Copy, Debug, PartialEq, Eq)]
+pub(crate) enum Cause {
+    /// The program's text is no hex.
+    Text,
+    /// The program's bytes have a fault at this unit.
+    Decode(DecodeKind, u32),
+    /// The program's shape has a fault at this unit.
+    Shape(ShapeFaultKind, u32),
+    /// The rule of this number is broken at this unit.
+    Verify(u32, u32),
+    /// The ring's size.
+    Size,
+    /// The ring's first position.
+    Start,
+    /// The number of workers.
+    Workers,
+    /// A record of the tape, with how many bytes stand before it.
+    Record(TapeKind, u64),
+    /// The payload of this number does not fit.
+    Fit(u64),
+    /// The input ends inside the payload of this number.
+    Ends(u64),
+    /// The line of this number, counted from 1.
+    Line(usize),
+    /// Out of memory.
+    Memory,
+    /// A read or a write failed, or a file could not be made.
+    Device,
+}
+
+impl Refusal {
+    /// What it is for.
+    pub(crate) fn cause(&self) -> Cause {
+        match *self {
+            Refusal::Feed(fault) => feed_cause(fault),
+            Refusal::Tape(refusal) => tape_cause(refusal),
+            Refusal::Program(fault) => program_cause(fault),
+            Refusal::Jobs(fault) => jobs_cause(fault),
+            Refusal::Sim(fault) => sim_cause(fault),
+        }
+    }
+}
+
+fn feed_cause(fault: FeedFault) -> Cause {
+    match fault {
+        FeedFault::Size => Cause::Size,
+        FeedFault::Start => Cause::Start,
+        FeedFault::Fit(payload) => Cause::Fit(payload),
+        FeedFault::Ends(payload) => Cause::Ends(payload),
+        FeedFault::Memory => Cause::Memory,
+        FeedFault::Device => Cause::Device,
+    }
+}
+
+fn tape_cause(refusal: TapeRefusal) -> Cause {
+    match refusal {
+        TapeRefusal::Size => Cause::Size,
+        TapeRefusal::Start => Cause::Start,
+        TapeRefusal::Record { kind, offset } => Cause::Record(kind, offset),
+        TapeRefusal::Memory => Cause::Memory,
+        TapeRefusal::Device => Cause::Device,
+    }
+}
+
+fn program_cause(fault: ProgramFault) -> Cause {
+    match fault {
+        ProgramFault::Text => Cause::Text,
+        ProgramFault::Decode { kind, unit } => Cause::Decode(kind, unit),
+        ProgramFault::Shape { kind, unit } => Cause::Shape(kind, unit),
+        ProgramFault::Verify { rule, unit } => Cause::Verify(rule, unit),
+        ProgramFault::Memory => Cause::Memory,
+        ProgramFault::Device => Cause::Device,
+    }
+}
+
+fn jobs_cause(fault: JobsFault) -> Cause {
+    match fault {
+        JobsFault::Program(fault) => program_cause(fault),
+        JobsFault::Size => Cause::Size,
+        JobsFault::Start => Cause::Start,
+        JobsFault::Workers => Cause::Workers,
+    }
+}
+
+fn sim_cause(fault: SimFault) -> Cause {
+    match fault {
+        SimFault::Line(line) => Cause::Line(line),
+        SimFault::Memory => Cause::Memory,
+        SimFault::Device => Cause::Device,
+    }
+}
+
+/// The refusal as an object of JSON, with the reason where there is one.
+pub(crate) fn object_of(
+    alloc: Global,
+    cause: Cause,
+    reason: Option<&str>,
+) -> Result<Vec<u8>, AllocError> {
+    let mut line = Vec::new(alloc);
+    line.extend_from_slice(b"{\"refused\":")?;
+    push_fields(alloc, &mut line, cause)?;
+    if let Some(reason) = reason {
+        line.extend_from_slice(b",\"why\":")?;
+        push_text(alloc, &mut line, reason)?;
+    }
+    line.extend_from_slice(b"}\n")?;
+    Ok(line)
+}
+
+// What is refused, and the fields behind it.
+fn push_fields(alloc: Global, line: &mut Vec<u8>, cause: Cause) -> Result<(), AllocError> {
+    match cause {
+        Cause::Text => line.extend_from_slice(b"\"text\""),
+        Cause::Decode(kind, unit) => {
+            let kind = format!(in alloc; "\"decode\",\"kind\":\"{kind:?}\"")?;
+            line.extend_from_slice(kind.as_bytes())?;
+            push_field(line, b",\"unit\":", u64::from(unit))
+        }
+        Cause::Shape(kind, unit) => {
+            let kind = format!(in alloc; "\"shape\",\"kind\":\"{kind:?}\"")?;
+            line.extend_from_slice(kind.as_bytes())?;
+            push_field(line, b",\"unit\":", u64::from(unit))
+        }
+        Cause::Verify(rule, unit) => {
+            push_field(line, b"\"verify\",\"rule\":", u64::from(rule))?;
+            push_field(line, b",\"unit\":", u64::from(unit))
+        }
+        Cause::Size => line.extend_from_slice(b"\"size\""),
+        Cause::Start => line.extend_from_slice(b"\"start\""),
+        Cause::Workers => line.extend_from_slice(b"\"workers\""),
+        Cause::Record(kind, offset) => {
+            let kind = format!(in alloc; "\"tape\",\"kind\":\"{kind:?}\"")?;
+            line.extend_from_slice(kind.as_bytes())?;
+            push_field(line, b",\"offset\":", offset)
+        }
+        Cause::Fit(payload) => push_field(line, b"\"fit\",\"payload\":", payload),
+        Cause::Ends(payload) => push_field(line, b"\"ends\",\"payload\":", payload),
+        Cause::Line(number) => push_field(line, b"\"line\",\"line\":", number as u64),
+        Cause::Memory => line.extend_from_slice(b"\"memory\""),
+        Cause::Device => line.extend_from_slice(b"\"device\""),
+    }
+}

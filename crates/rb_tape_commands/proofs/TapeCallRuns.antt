@@ -1,0 +1,49 @@
+-- Calls of a tape's writer, one run of them behind the other.
+use Rattle.std.proofs.Common.{◌≡◌, ◌≢◌, true≢false, ℕ, ◌+◌, List, [], ◌∷◌, ◌++◌, refl, subst, ap, ◌∙◌, zero-add}
+use Rattle.std.specs.Prelude.{Bool, true, false, Option, None, Some, IfSome, Result, Ok, Err, is_ok}
+use Rattle.rb_tape.specs.TapeCalls.{TapeCall, MakesTapeCall, MakesCalls, fresh_tape}
+use Rattle.rb_tape.specs.TapeOutput.{TapeOutput}
+use Rattle.rb_tape_commands.specs.Retries.{CountsRetries, LeadsByCalls, TriesToWriteOut, WritesOutAtEnd}
+use Rattle.rb_tape_commands.specs.declared.feed_fault.FeedFault.{FeedFault}
+use Rattle.rb_tape_commands.specs.declared.feed_fault.FeedFault.TheVariants.{Device}
+
+module _ {W : Type 0} (contents : W → Option (List ℕ)) where
+  pub no_calls : (t : TapeOutput W) → LeadsByCalls contents t t
+  no_calls t = ([], refl)
+
+  pub one_call : (old new : TapeOutput W) (call : TapeCall) (ok : Bool) → MakesTapeCall contents old call ok new → LeadsByCalls contents old new
+  one_call old new call ok made = ((call, ok) ∷ [], (new, made, refl))
+
+  joined : (calls more : List (TapeCall × Bool)) (a b c : TapeOutput W) → MakesCalls contents a calls b → MakesCalls contents b more c → MakesCalls contents a (calls ++ more) c
+  joined [] more a b c first second = subst (λ t. MakesCalls contents t more c) first second
+  joined ((call, ok) ∷ calls) more a b c (mid, made, rest) second = (mid, made, joined calls more mid b c rest second)
+
+  pub calls_on : (a b c : TapeOutput W) → LeadsByCalls contents a b → LeadsByCalls contents b c → LeadsByCalls contents a c
+  calls_on a b c first second = (first.0 ++ second.0, joined first.0 second.0 a b c first.1 second.1)
+
+-- whatever is unfinished, the answer is Device
+abbrev device : Result (ℕ × ℕ) FeedFault
+device = Err Device
+
+pub device_anyway : {A : Type 0} (unfinished : Option A) → IfSome unfinished (λ item. device ≡ device)
+device_anyway None = tt
+device_anyway (Some item) = refl
+
+-- from a tape of which nothing was written, by calls of its writer, and then by handing on
+module _ {W : Type 0} (contents : W → Option (List ℕ)) (writes_out : W → Bool → W → Type 0) (writer : W) (size start retries : ℕ) (first last : TapeOutput W) (fresh : first ≡ fresh_tape writer size start) where
+  pub ends_so : (answer : Result (ℕ × ℕ) FeedFault) (below new : W) (left : ℕ) (ok : Bool) → LeadsByCalls contents first last → CountsRetries (first.failures + retries) left last
+      → IfSome last.unfinished (λ item. answer ≡ Err Device) → below ≡ last.writer → TriesToWriteOut writes_out left below ok new → (ok ≡ false → answer ≡ Err Device)
+      → WritesOutAtEnd contents writes_out writer size start retries answer new
+  ends_so answer below new left ok calls counts unfinished same tried failed = record {
+    tape = last;
+    written = subst (λ t. LeadsByCalls contents t last) fresh calls;
+    left = left;
+    counted = subst (λ n. CountsRetries n left last) (ap (λ (t : TapeOutput W). t.failures + retries) fresh ∙ zero-add retries) counts;
+    unfinished = unfinished;
+    ok = ok;
+    tried = subst (λ w. TriesToWriteOut writes_out left w ok new) same tried;
+    failed = failed;
+  }
+
+pub ok_not_device : {A : Type 0} (a : A) → Ok a ≢ Err Device
+ok_not_device a e = let no : true ≡ false = ap is_ok e in absurd (true≢false no)

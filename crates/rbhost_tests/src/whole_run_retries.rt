@@ -1,0 +1,69 @@
+//! The retries of a whole run: those of all payloads, and of the last handing on.
+
+use crate::expected::same_of;
+use crate::fakes::{MoreFailures, OneFailure, Source, Trouble};
+use rb_tape_commands::{FeedFault, feed};
+use std::alloc::Global;
+
+// Two payloads of eight bytes, and their tape.
+const TWO: [u8; 24] = [
+    8, 0, 0, 0, 0x2a, 0, 0, 0, 0, 0, 0, 0, 8, 0, 0, 0, 0x2b, 0, 0, 0, 0, 0, 0, 0,
+];
+
+const TWO_TAPES: [u8; 32] = [
+    8, 0, 0, 0, 0, 0, 0, 0, 0x2a, 0, 0, 0, 0, 0, 0, 0, 8, 0, 0, 0, 0, 0, 0, 0, 0x2b, 0, 0, 0, 0, 0,
+    0, 0,
+];
+
+// What `feed` answers of the two payloads over a writer that takes one byte a write, fails at these two writes, and so often where it is called to hand
+// on; how many bytes went out, and whether they are the first ones of the tape.
+fn fed_two(
+    alloc: Global,
+    first: usize,
+    second: usize,
+    closed: u32,
+    retries: u32,
+) -> (Result<(u64, u64), FeedFault>, usize, bool) {
+    let mut reader = Source::new(&TWO, 5);
+    let writer = MoreFailures {
+        inner: OneFailure::new(alloc, first, Trouble::TakesNothing),
+        writes: 0,
+        fails_at: second,
+        closed,
+    };
+    let (answer, writer) = feed(alloc, &mut reader, writer, 4096, 0, retries);
+    let taken = writer.inner.taken.as_slice();
+    (answer, taken.len(), TWO_TAPES.starts_with(taken))
+}
+
+// A failure in each of two payloads: one retry is for the whole run, so the tape ends in the second one; two are enough.
+#[test]
+fn retries_are_for_the_whole_run(rt: HostRuntime) {
+    for (first, second, out) in [(1, 18, 16), (9, 25, 23), (16, 33, 31)] {
+        let cut = fed_two(rt.alloc(), first, second, 0, 1);
+        let whole = fed_two(rt.alloc(), first, second, 0, 2);
+        same_of(
+            &rt,
+            &(cut, whole),
+            &(
+                (Err(FeedFault::Device), out, true),
+                (Ok((32, 32)), 32, true),
+            ),
+            &first,
+        );
+    }
+}
+
+// The last handing on has the retries that the payloads left.
+#[test]
+fn the_last_handing_on_is_tried_again(rt: HostRuntime) {
+    for (closed, retries, is_out) in [(1, 1, false), (1, 2, true), (2, 2, false), (2, 3, true)] {
+        let (answer, out, are_first) = fed_two(rt.alloc(), 9, 0, closed, retries);
+        same_of(
+            &rt,
+            &(answer.is_ok(), out, are_first),
+            &(is_out, 32, true),
+            &(closed, retries),
+        );
+    }
+}
