@@ -66,8 +66,8 @@ def without_unused(paragraph, others):
 class Rounds:
     """The rounds over one crate, and what each of its wrong bodies came to."""
 
-    def __init__(self, base, edits, tell, is_thorough):
-        self.base, self.tell, self.left, self.outcomes, self.is_thorough = base, tell, [], {}, is_thorough
+    def __init__(self, work, edits, tell, is_thorough):
+        self.work, self.tell, self.left, self.outcomes, self.is_thorough = work, tell, [], {}, is_thorough
         self.number = 0
         for edit in edits:
             if edit.fault:
@@ -108,8 +108,7 @@ class Rounds:
 
     def one_round(self, group):
         """Tries these together, and returns how many were decided."""
-        only = sorted({owner.path() for edit in group for owner in edit.owners})
-        answer = self.base.check(edit_files.together(group), only)
+        answer = self.work.check(edit_files.together(group), sorted(set().union(*(edit.paths() for edit in group))))
         before = len(self.left)
         if not answer.reached_the_prover():
             self.without_broken(group, answer)
