@@ -7,8 +7,8 @@
  * A buffer is a pointer and its length in items. A pointer may be null where its length is 0; no other one may. Every pointer is aligned for what it
  * points to. What a call may write, a buffer as well as a single number or struct, overlaps nothing else that the same call is given, and no length is
  * above PTRDIFF_MAX. Memory comes of malloc, and goes back to free before the call returns: so no function is called from a signal handler, or in the
- * child of a fork of a process with threads, and malloc aligns a block to each power of two up to 16 that divides its size. Link with libheskavo.a,
- * which tools/install puts beside this header.
+ * child of a fork of a process with threads, and malloc aligns a block to each power of two up to 16 that divides its size. Link with libheskavo.a:
+ * tools/install puts it into lib, and this header into include, below one folder.
  *
  * A program is its bytes, eight a unit, as RFC 9669 lays them out. bpf-helpers(7) has its calls, Linux Documentation/bpf/ringbuf.rst the rings.
  */
