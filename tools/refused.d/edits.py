@@ -26,9 +26,10 @@ class Owner(NamedTuple):
         return "::".join(it for it in (self.module, block, self.name) if it)
 
     def lines(self, crate, said):
-        """What a check said of the function, and of the closures in it."""
+        """What a check said of the function, and of the closures in it, which it names `MODULE::fn::FUNCTION::CALLED`."""
         path = f"{crate}::{self.path()}"
-        exact = [text for name, text in said.items() if name == path or name.startswith(path + "::")]
+        closures = "::".join(it for it in (crate, self.module, "fn", self.type, self.name) if it) + "::"
+        exact = [text for name, text in said.items() if name == path or name.startswith((path + "::", closures))]
         if exact:
             return exact
         within = "::".join(it for it in (crate, self.module) if it) + "::"
