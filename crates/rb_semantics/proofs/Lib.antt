@@ -4,7 +4,7 @@ mod Held
 mod Values
 mod Places
 mod Changes
-mod Checks
+pub mod Checks
 mod Keeping
 mod Rows
 mod Moves

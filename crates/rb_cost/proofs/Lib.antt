@@ -1,0 +1,4 @@
+pub mod Passing
+pub mod Sizes
+pub mod Agreeing
+pub mod Holding

@@ -1,0 +1,4 @@
+pub mod Paths
+pub mod Asking
+pub mod Cost
+pub mod inner
