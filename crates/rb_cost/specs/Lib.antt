@@ -1,4 +1,5 @@
 pub mod Paths
 pub mod Asking
 pub mod Cost
+pub mod Runs
 pub mod inner

@@ -14,10 +14,12 @@
 
 mod asking;
 mod cost;
+mod cost_laws;
 mod costing;
 mod counted;
 mod held;
 mod pass;
 
 pub use cost::{Cost, RingCost};
+pub use cost_laws::runs_stay_within_their_cost;
 pub use costing::cost_of;

@@ -5,16 +5,16 @@ mod Values
 mod Places
 mod Changes
 pub mod Checks
-mod Keeping
+pub mod Keeping
 mod Rows
 mod Moves
 mod Sums
-mod Accesses
+pub mod Accesses
 mod Stores
 mod MemoryLaws
 mod Branches
 mod Calling
-mod Sound
+pub mod Sound
 mod Running
 mod Worked
 mod PlainPrograms
