@@ -5,3 +5,4 @@ pub mod Agreeing
 pub mod Holding
 pub mod Moving
 pub mod Running
+pub mod RingSizes

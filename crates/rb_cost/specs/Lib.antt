@@ -2,4 +2,5 @@ pub mod Paths
 pub mod Asking
 pub mod Cost
 pub mod Runs
+pub mod RingSize
 pub mod inner

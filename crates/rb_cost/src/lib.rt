@@ -21,5 +21,5 @@ mod held;
 mod pass;
 
 pub use cost::{Cost, RingCost};
-pub use cost_laws::runs_stay_within_their_cost;
+pub use cost_laws::{none_is_refused_behind, room_is_what_is_left, runs_stay_within_their_cost};
 pub use costing::cost_of;
