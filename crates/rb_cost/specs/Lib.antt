@@ -1,0 +1,6 @@
+pub mod Paths
+pub mod Asking
+pub mod Cost
+pub mod Runs
+pub mod RingSize
+pub mod inner
