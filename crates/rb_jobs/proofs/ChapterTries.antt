@@ -18,7 +18,7 @@ use Rattle.rb_jobs.specs.declared.no_record.NoRecord.{NoRecord}
 use Rattle.rb_jobs.specs.declared.no_record.NoRecord.TheVariants.{NoSheet, Refused}
 use Rattle.rb_jobs.specs.SeatCalls.{FindsChapterFullEach, SeatCallsRing, SeatFindsChapterFull, SeatFindsFull, SeatGivesUp, SeatIsGranted, SeatOutputs, chapter_tries}
 use Rattle.rb_jobs.specs.SeatHelpers.{IsAt}
-use Rattle.rb_jobs.specs.inner.CallAnswers.{SeatFails, SeatFailsOnce, SeatReserves, SeatReservesOnce, SeatSends, SeatSendsOnce, without_sheet}
+use Rattle.rb_jobs.specs.inner.CallAnswers.{SeatFails, SeatFailsOnce, SeatReserves, SeatReservesOnce, SeatSends, SeatSendsOnce}
 
 -- the seat, with what it has seen now
 abbrev seen_now : WorkerSeat → Book → ℕ → WorkerSeat
@@ -84,16 +84,16 @@ each-more : (n : ℕ) (b : WorkerSeat) (ms : List WorkerSeat) (m a : WorkerSeat)
 each-more n b [] m a each found = (subst (λ s. SeatFindsChapterFull n s a) each found, refl)
 each-more n b (s ∷ ss) m a each found = (each.0, each-more n s ss m a each.1 found)
 
--- after so many calls, the first of them not among the seats, the chapter was full at each; the seat has hands as before, and is at its ring
+-- after so many calls the chapter was full at each; the seat has hands as before, and is at its ring
 pub record FullSoFar (n calls : ℕ) (entry now : WorkerSeat) : Type 0 where
   pub behind : List WorkerSeat
-  pub as_often : length behind + 1 ≡ calls
+  pub as_often : length behind ≡ calls
   pub each : FindsChapterFullEach n entry behind now
   pub same : IsSameSeat entry now
   pub hands : now.hands ≡ entry.hands
 
-pub first-full : (n : ℕ) (entry : WorkerSeat) → FullSoFar n 1 entry entry
-first-full n entry = record { behind = []; as_often = omega arith; each = refl; same = record { tag_same = refl; ring_same = refl; room_same = refl; worker_same = refl }; hands = refl }
+pub none-so-far : (n : ℕ) (entry : WorkerSeat) → FullSoFar n 0 entry entry
+none-so-far n entry = record { behind = []; as_often = refl; each = refl; same = record { tag_same = refl; ring_same = refl; room_same = refl; worker_same = refl }; hands = refl }
 
 pub same-on : (b m a : WorkerSeat) → IsSameSeat b m → IsSameSeat m a → IsSameSeat b a
 same-on b m a first second = record {
@@ -124,51 +124,53 @@ pub found-full : (n : ℕ) (fault : ReserveFault) (m a : WorkerSeat) → fault �
 found-full n fault m a is fails = subst (λ f. SeatFailsOnce n f m a) is fails
 
 -- it gave up
-pub gave-up : (n calls : ℕ) (entry now : WorkerSeat) → calls ≡ chapter_tries → FullSoFar n calls entry now → (first : WorkerSeat) → SeatFindsChapterFull n first entry → SeatGivesUp n first now
-gave-up n calls entry now last so_far first full =
-    let often = so_far.as_often in
-    record { behind_each = entry ∷ so_far.behind; as_often = omega (arith, often, last); each = (full, so_far.each); at_last = all-full n first entry so_far.behind now full so_far.each }
+pub gave-up : (n calls : ℕ) (entry now : WorkerSeat) → calls ≡ chapter_tries → FullSoFar n calls entry now → SeatGivesUp n entry now
+gave-up n calls entry now last so_far = all-together so_far.behind so_far.as_often so_far.each where
+  all-together : (behind : List WorkerSeat) → length behind ≡ calls → FindsChapterFullEach n entry behind now → SeatGivesUp n entry now
+  all-together [] often each = absurd (omega (arith, often, last))
+  all-together (m ∷ ms) often each = record { behind_each = m ∷ ms; as_often = often ∙ last; each = each; at_last = all-full n entry m ms now each.0 each.1 }
 
 module _ (n calls : ℕ) (entry m : WorkerSeat) (so_far : FullSoFar n calls entry m) where
-  pub granted-at-last : (r : HandGranted) (a : WorkerSeat) → SeatIsGranted n r m a → (first : WorkerSeat) → SeatFindsChapterFull n first entry → SeatIsGranted n r first a
-  granted-at-last r a granted first full = granted-later n first m (all-full n first entry so_far.behind m full so_far.each) r a granted
+  -- what holds from where the last call began holds from the first on
+  from-first : (a : WorkerSeat) (P : WorkerSeat → Type 0) → ((s : WorkerSeat) → SeatFindsChapterFull n s m → P m → P s) → P m → P entry
+  from-first a P later holds = of so_far.behind so_far.each where
+    of : (behind : List WorkerSeat) → FindsChapterFullEach n entry behind m → P entry
+    of [] each = subst P each holds
+    of (s ∷ ss) each = later entry (all-full n entry s ss m each.0 each.1) holds
 
-  pub fails-at-last : (fault : ReserveFault) (a : WorkerSeat) → ¬ AreAllOut entry.hands → fault ≢ ChapterFull → SeatFailsOnce n fault m a → (first : WorkerSeat) → SeatFindsChapterFull n first entry → SeatFails n (Refused fault) first a
-  fails-at-last Full a free other fails first full = full-later n first m (all-full n first entry so_far.behind m full so_far.each) a fails
-  fails-at-last ChapterFull a free other fails first full = absurd (other refl)
-  fails-at-last Flags a free other fails first full = fails
-  fails-at-last Foreign a free other fails first full = fails
-  fails-at-last HandsFull a free other fails first full = absurd (free (subst AreAllOut so_far.hands fails.0))
+  pub granted-at-last : (r : HandGranted) (a : WorkerSeat) → SeatIsGranted n r m a → SeatIsGranted n r entry a
+  granted-at-last r a granted = from-first a (λ s. SeatIsGranted n r s a) (λ s full. granted-later n s m full r a) granted
+
+  pub fails-at-last : (fault : ReserveFault) (a : WorkerSeat) → (0 < calls → ¬ AreAllOut entry.hands) → fault ≢ ChapterFull → SeatFailsOnce n fault m a → SeatFails n (Refused fault) entry a
+  fails-at-last Full a free other fails = from-first a (λ s. SeatFindsFull n s a) (λ s full. full-later n s m full a) fails
+  fails-at-last ChapterFull a free other fails = absurd (other refl)
+  fails-at-last Flags a free other fails = fails
+  fails-at-last Foreign a free other fails = fails
+  fails-at-last HandsFull a free other fails = of so_far.behind so_far.as_often so_far.each where
+    of : (behind : List WorkerSeat) → length behind ≡ calls → FindsChapterFullEach n entry behind m → AreAllOut entry.hands × (a ≡ entry)
+    of [] often each = subst (λ s. AreAllOut s.hands × (a ≡ s)) each fails
+    of (s ∷ ss) often each = absurd (free (omega (arith, often)) (subst AreAllOut so_far.hands fails.0))
 
 pub not-hands : (fault : ReserveFault) → fault ≢ HandsFull → ◌≢◌ {A = NoRecord} (Refused fault) (Refused HandsFull)
 not-hands fault other is = other (cc)
 
 module _ (bytes : List ℕ) (flags calls : ℕ) (entry m : WorkerSeat) (so_far : FullSoFar (length bytes) calls entry m) where
-  pub sent-at-last : (due : Bool) (a : WorkerSeat) → SeatOutputs bytes flags due m a → (first : WorkerSeat) → SeatFindsChapterFull (length bytes) first entry → SeatOutputs bytes flags due first a
-  sent-at-last due a sent first full = output-later (length bytes) first m (all-full (length bytes) first entry so_far.behind m full so_far.each) bytes flags due a sent
+  pub sent-at-last : (due : Bool) (a : WorkerSeat) → SeatOutputs bytes flags due m a → SeatOutputs bytes flags due entry a
+  sent-at-last due a sent = from-first (length bytes) calls entry m so_far a (λ s. SeatOutputs bytes flags due s a) (λ s full. output-later (length bytes) s m full bytes flags due a) sent
 
-  not-sent : (fault : ReserveFault) (a : WorkerSeat) → fault ≢ ChapterFull → SeatFailsOnce (length bytes) fault m a × (fault ≢ HandsFull) → (first : WorkerSeat) → SeatFindsChapterFull (length bytes) first entry → SeatFails (length bytes) (Refused fault) first a
-  not-sent Full a other fails first full = full-later (length bytes) first m (all-full (length bytes) first entry so_far.behind m full so_far.each) a fails.0
-  not-sent ChapterFull a other fails first full = absurd (other refl)
-  not-sent Flags a other fails first full = fails.0
-  not-sent Foreign a other fails first full = fails.0
-  not-sent HandsFull a other fails first full = absurd (fails.1 refl)
+  not-sent : (fault : ReserveFault) (a : WorkerSeat) → fault ≢ ChapterFull → SeatFailsOnce (length bytes) fault m a × (fault ≢ HandsFull) → SeatFails (length bytes) (Refused fault) entry a
+  not-sent Full a other fails = from-first (length bytes) calls entry m so_far a (λ s. SeatFindsFull (length bytes) s a) (λ s full. full-later (length bytes) s m full a) fails.0
+  not-sent ChapterFull a other fails = absurd (other refl)
+  not-sent Flags a other fails = fails.0
+  not-sent Foreign a other fails = fails.0
+  not-sent HandsFull a other fails = absurd (fails.1 refl)
 
-  pub not-sent-at-last : (fault : ReserveFault) (a : WorkerSeat) → fault ≢ ChapterFull → SeatFailsOnce (length bytes) fault m a × (fault ≢ HandsFull) → (first : WorkerSeat) → SeatFindsChapterFull (length bytes) first entry
-      → SeatFails (length bytes) (Refused fault) first a × ◌≢◌ {A = NoRecord} (Refused fault) (Refused HandsFull)
-  not-sent-at-last fault a other fails first full = (not-sent fault a other fails first full, not-hands fault fails.1)
+  pub not-sent-at-last : (fault : ReserveFault) (a : WorkerSeat) → fault ≢ ChapterFull → SeatFailsOnce (length bytes) fault m a × (fault ≢ HandsFull)
+      → SeatFails (length bytes) (Refused fault) entry a × ◌≢◌ {A = NoRecord} (Refused fault) (Refused HandsFull)
+  not-sent-at-last fault a other fails = (not-sent fault a other fails, not-hands fault fails.1)
 
--- ---- the first call
-
-pub fails-first : (n : ℕ) (fault : ReserveFault) (b a : WorkerSeat) → fault ≢ ChapterFull → SeatFailsOnce n fault b a → SeatFails n (Refused fault) b a
-fails-first n Full b a other fails = fails
-fails-first n ChapterFull b a other fails = absurd (other refl)
-fails-first n Flags b a other fails = fails
-fails-first n Foreign b a other fails = fails
-fails-first n HandsFull b a other fails = fails
-
-pub not-sent-first : (n : ℕ) (fault : ReserveFault) (b a : WorkerSeat) → fault ≢ ChapterFull → SeatFailsOnce n fault b a × (fault ≢ HandsFull) → SeatFails n (Refused fault) b a × ◌≢◌ {A = NoRecord} (Refused fault) (Refused HandsFull)
-not-sent-first n fault b a other fails = (fails-first n fault b a other fails.0, not-hands fault fails.1)
+pub gave-up-sending : (n calls : ℕ) (entry now : WorkerSeat) → calls ≡ chapter_tries → FullSoFar n calls entry now → SeatGivesUp n entry now × ◌≢◌ {A = NoRecord} (Refused ChapterFull) (Refused HandsFull)
+gave-up-sending n calls entry now last so_far = (gave-up n calls entry now last so_far, λ is. cc)
 
 -- ---- a sheet that can't be had
 

@@ -29,6 +29,10 @@ pub trait Gate {
     /// finished, which stays at the greatest `u64`. Nothing is promised of what a gate does; the call waits for it. That it is called, and
     /// with which numbers, is tested and not proved.
     fn at(&self, worker: u32, call: u64);
+
+    /// Is called outside every lock behind each of a worker's jobs in a list of jobs, with the number of those that it has run. Nothing is promised of
+    /// it either, and it does nothing where a gate has none of its own.
+    fn after(&self, _worker: u32, _jobs: u64) {}
 }
 
 /// A gate that lets each call pass.

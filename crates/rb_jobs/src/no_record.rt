@@ -22,3 +22,21 @@ pub(crate) fn give_way(fault: ReserveFault) {
         WaitBackoff::new().wait();
     }
 }
+
+#[cold]
+#[inline(never)]
+/// Waits where the ring's chapter had no room at so many calls and one more: some microseconds behind the first, twice as long behind each of the next
+/// three, and then as long as behind the fourth. The processor is given up.
+pub(crate) fn wait_for_keeper(calls: u32) {
+    let times = match calls {
+        0 => 1,
+        1 => 2,
+        2 => 4,
+        _ => 8,
+    };
+    let WaitBackoff { backoffs } = WaitBackoff::new();
+    let mut backoff = WaitBackoff {
+        backoffs: backoffs.saturating_mul(times),
+    };
+    backoff.wait();
+}

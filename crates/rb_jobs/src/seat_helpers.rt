@@ -13,7 +13,7 @@ mod giving_back;
 
 use crate::call_answers::{answer_of, is_due, is_unlogged};
 use crate::no_record::NoRecord;
-use crate::ring_calls::{output_once, output_refused, reserve_once, reserve_refused};
+use crate::ring_calls::{output_at, reserve_at};
 use crate::seat_record::SeatRecord;
 use crate::sheets::{copied_sheet, zero_sheet};
 use crate::stock::Stock;
@@ -170,11 +170,7 @@ impl<'h, R: Wait, S: Stock> SeatHelpers<'h, R, S> {
         let sheet = zero_sheet(self.alloc, self.stock, n).ok_or(NoRecord::NoSheet)?;
         let at = ring as usize;
         let (shared, seat) = (&self.rings[at], &mut self.seats[at]);
-        let refused = match reserve_once(self.rt, shared, seat, n, sheet) {
-            Ok(reservation) => return Ok(reservation),
-            Err(refused) => refused,
-        };
-        reserve_refused(self.rt, self.stock, shared, seat, n, refused)
+        reserve_at(self.rt, self.stock, shared, seat, n, sheet)
     }
 
     // Outputs the bytes at the ring's seat, without noting the call. Its sheet is made before the ring is held.
@@ -191,11 +187,7 @@ impl<'h, R: Wait, S: Stock> SeatHelpers<'h, R, S> {
         let sheet = copied_sheet(self.alloc, self.stock, bytes).ok_or(NoRecord::NoSheet)?;
         let at = ring as usize;
         let (shared, seat) = (&self.rings[at], &mut self.seats[at]);
-        let refused = match output_once(self.rt, shared, seat, sheet, flags) {
-            Ok(notice) => return Ok(notice),
-            Err(refused) => refused,
-        };
-        output_refused(self.rt, self.stock, shared, seat, refused, flags)
+        output_at(self.rt, self.stock, shared, seat, sheet, flags)
     }
 
     // Asks the ring for a number at its seat, without noting the call.

@@ -77,11 +77,12 @@ impl Worker {
         }
     }
 
-    // Runs the worker's jobs in their order, up to the first that finds no memory.
+    // Runs the worker's jobs in their order, up to the first that finds no memory, and comes to the gate behind each.
     fn run_all<'j, R: Wait, G: Gate, K: Stock>(
         &mut self,
         runner: &mut JobRunner<'_, 'j, R, G, K>,
         jobs: &[Job<'j>],
+        gate: &G,
     )
         requires rings { All (λ j. j.program.now.rings ≤ length runner.old.rings) jobs.now }
         requires ready { (self.old.answers.items ≡ []) × (self.old.short ≡ false) }
@@ -97,11 +98,12 @@ impl Worker {
                 self.short = true;
                 break;
             }
+            gate.after(self.number, self.answers.len() as u64);
         }
     }
 
-    /// Runs the worker's jobs in their order and in the room of one machine, up to the first that finds no memory, and comes to the gate once more
-    /// at the end.
+    /// Runs the worker's jobs in their order and in the room of one machine, up to the first that finds no memory, and comes to the gate behind each, and
+    /// once more at the end.
     pub(crate) fn work<R: Wait, G: Gate, K: Stock>(
         &mut self,
         rt: &R,
@@ -117,7 +119,7 @@ impl Worker {
     {
         let seats = mem::replace(&mut self.seats, Vec::new(alloc));
         let mut runner = JobRunner::new(rt, alloc, rings, seats, gate, stock, self.calls);
-        self.run_all(&mut runner, jobs);
+        self.run_all(&mut runner, jobs, gate);
         let (seats, calls) = runner.into_seats();
         self.seats = seats;
         self.calls = calls;

@@ -26,11 +26,6 @@ SeatFailsOnce n Flags b a = ⊥
 SeatFailsOnce n Foreign b a = ⊥
 SeatFailsOnce n HandsFull b a = AreAllOut b.hands × (a ≡ b)
 
--- what the ring answers, without the sheet that it hands back
-abbrev pub without_sheet : {T : Type 0} → Result T (ReserveFault × List ℕ) → Result T NoRecord
-without_sheet (Ok x) = Ok x
-without_sheet (Err e) = Err (Refused e.0)
-
 -- it answered a call to reserve n bytes so
 abbrev pub SeatReservesOnce : ℕ → Result HandGranted (ReserveFault × List ℕ) → WorkerSeat → WorkerSeat → Type 0
 SeatReservesOnce n (Ok r) b a = SeatIsGranted n r b a

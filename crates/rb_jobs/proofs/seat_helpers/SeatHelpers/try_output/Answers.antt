@@ -1,9 +1,7 @@
 use Rattle.std.proofs.Common.{◌≡◌, ◌≢◌, ◌<◌, Ok, Err, None, ap, arith, rules, length, refl, sym, subst, ◌∙◌}
-use Rattle.rb_chapter_ring.specs.declared.faults.ReserveFault.TheVariants.{HandsFull}
 use Rattle.rb_jobs.specs.declared.no_record.NoRecord.TheVariants.{NoSheet}
 use Rattle.rb_jobs.specs.SeatHelpers.{AtSeats}
-use Rattle.rb_jobs.specs.inner.CallAnswers.{SeatFailsOnce}
-use Rattle.rb_jobs.proofs.ChapterTries.{needs-memory, same-on, sheet-not-hands, still-at}
+use Rattle.rb_jobs.proofs.ChapterTries.{needs-memory, sheet-not-hands}
 use Rattle.rb_jobs.proofs.OneSeat.{is_seat, seat_there, stays_at, at_seat, at_same, sends_as}
 use Rattle.rb_jobs.proofs.seat_helpers.SeatHelpers.try_output.Goals as goal
 
@@ -21,35 +19,17 @@ index_mut-requires g c =
     let below : c.args.ring < length c.self.inside.rings.now = search rules in
     let seat = is_seat _ _ c.args.ring c.self.invariant.0 below in omega (arith, seat, c.self.inside.seats.ok.0)
 
-pub output_once-requires-clause-at_ring : goal.output_once-requires-clause-at_ring
-output_once-requires-clause-at_ring g c =
+pub output_at-requires-clause-at_ring : goal.output_at-requires-clause-at_ring
+output_at-requires-clause-at_ring g c =
     let below : c.args.ring < length c.self.inside.rings.now = search rules in
     seat_there _ _ _ _ _ c.self.invariant.0 below c.index_mut.ensures.value
 
 pub invariant_of-self : goal.invariant_of-self
-invariant_of-self g c = (stays_at _ _ _ _ _ c.self.invariant.0 c.index_mut.ensures.value c.output_once.ensures.seat, c.self.invariant.1, c.self.invariant.2, c.self.invariant.3)
-
-pub returns-in-Ok-clause-seat : goal.returns-in-Ok-clause-seat
-returns-in-Ok-clause-seat g c =
-    let below : c.args.ring < length c.self.inside.rings.now = search rules in
-    let copied : c.in_ok-sheet.sheet ≡ c.args.bytes.now = search rules in
-    λ few. sends_as c.args.bytes.now c.in_ok-sheet.sheet c.args.flags _ (Ok c.in-Ok.notice) (Ok c.in-Ok.notice) _ _ copied refl
-    (at_seat _ c.args.self.now _ _ _ _ _ (ap (λ (h : AtSeats). h.seats) c.self.view_is) c.self.invariant.0 below c.index_mut.ensures.value c.in-Ok.ensures.answer)
-
-pub output_refused-requires-clause-at_ring : goal.output_refused-requires-clause-at_ring
-output_refused-requires-clause-at_ring g c =
-    let below : c.args.ring < length c.self.inside.rings.now = search rules in
-    still-at _ _ _ (seat_there _ _ _ _ _ c.self.invariant.0 below c.index_mut.ensures.value) c.output_once.ensures.seat
-
-pub invariant_of-self-2 : goal.invariant_of-self-2
-invariant_of-self-2 g c =
-    (stays_at _ _ _ _ _ c.self.invariant.0 c.index_mut.ensures.value (same-on _ _ _ c.output_once.ensures.seat c.output_refused.ensures.seat), c.self.invariant.1, c.self.invariant.2, c.self.invariant.3)
+invariant_of-self g c = (stays_at _ _ _ _ _ c.self.invariant.0 c.index_mut.ensures.value c.output_at.ensures.seat, c.self.invariant.1, c.self.invariant.2, c.self.invariant.3)
 
 pub returns-clause-seat : goal.returns-clause-seat
 returns-clause-seat g c =
     let below : c.args.ring < length c.self.inside.rings.now = search rules in
     let copied : c.in_ok-sheet.sheet ≡ c.args.bytes.now = search rules in
-    let back = c.in-Err.ensures.handed_back in
-    let fails = subst (λ bytes. SeatFailsOnce (length bytes) c.in-Err.refused.0 c.index_mut.result.now c.output_once.new.seat × (c.in-Err.refused.0 ≢ HandsFull)) (sym back) c.in-Err.ensures.answer in
-    λ few. sends_as c.args.bytes.now c.in-Err.refused.1 c.args.flags _ _ _ _ _ (back ∙ copied) refl
-    (at_seat _ c.args.self.now _ _ _ _ _ (ap (λ (h : AtSeats). h.seats) c.self.view_is) c.self.invariant.0 below c.index_mut.ensures.value (c.output_refused.ensures.answer c.index_mut.result.now fails))
+    λ few. sends_as c.args.bytes.now c.in_ok-sheet.sheet c.args.flags _ _ _ _ _ copied refl
+    (at_seat _ c.args.self.now _ _ _ _ _ (ap (λ (h : AtSeats). h.seats) c.self.view_is) c.self.invariant.0 below c.index_mut.ensures.value c.output_at.ensures.answer)

@@ -1,7 +1,7 @@
 use Rattle.std.proofs.Common.{◌≡◌, ◌<◌, Err, None, ap, arith, rules, length, refl}
 use Rattle.rb_jobs.specs.declared.no_record.NoRecord.TheVariants.{NoSheet}
 use Rattle.rb_jobs.specs.SeatHelpers.{AtSeats}
-use Rattle.rb_jobs.proofs.ChapterTries.{needs-memory, same-on, still-at}
+use Rattle.rb_jobs.proofs.ChapterTries.{needs-memory}
 use Rattle.rb_jobs.proofs.OneSeat.{is_seat, seat_there, stays_at, at_seat, at_same, fails_as}
 use Rattle.rb_jobs.proofs.seat_helpers.SeatHelpers.try_reserve.Goals as goal
 
@@ -18,30 +18,15 @@ index_mut-requires g c =
     let below : c.args.ring < length c.self.inside.rings.now = search rules in
     let seat = is_seat _ _ c.args.ring c.self.invariant.0 below in omega (arith, seat, c.self.inside.seats.ok.0)
 
-pub reserve_once-requires-clause-at_ring : goal.reserve_once-requires-clause-at_ring
-reserve_once-requires-clause-at_ring g c =
+pub reserve_at-requires-clause-at_ring : goal.reserve_at-requires-clause-at_ring
+reserve_at-requires-clause-at_ring g c =
     let below : c.args.ring < length c.self.inside.rings.now = search rules in
     seat_there _ _ _ _ _ c.self.invariant.0 below c.index_mut.ensures.value
 
 pub invariant_of-self : goal.invariant_of-self
-invariant_of-self g c = (stays_at _ _ _ _ _ c.self.invariant.0 c.index_mut.ensures.value c.reserve_once.ensures.seat, c.self.invariant.1, c.self.invariant.2, c.self.invariant.3)
-
-pub returns-in-Ok-clause-seat : goal.returns-in-Ok-clause-seat
-returns-in-Ok-clause-seat g c =
-    let below : c.args.ring < length c.self.inside.rings.now = search rules in
-    λ zero. at_seat _ c.args.self.now _ _ _ _ _ (ap (λ (h : AtSeats). h.seats) c.self.view_is) c.self.invariant.0 below c.index_mut.ensures.value c.in-Ok.ensures.answer
-
-pub reserve_refused-requires-clause-at_ring : goal.reserve_refused-requires-clause-at_ring
-reserve_refused-requires-clause-at_ring g c =
-    let below : c.args.ring < length c.self.inside.rings.now = search rules in
-    still-at _ _ _ (seat_there _ _ _ _ _ c.self.invariant.0 below c.index_mut.ensures.value) c.reserve_once.ensures.seat
-
-pub invariant_of-self-2 : goal.invariant_of-self-2
-invariant_of-self-2 g c =
-    (stays_at _ _ _ _ _ c.self.invariant.0 c.index_mut.ensures.value (same-on _ _ _ c.reserve_once.ensures.seat c.reserve_refused.ensures.seat), c.self.invariant.1, c.self.invariant.2, c.self.invariant.3)
+invariant_of-self g c = (stays_at _ _ _ _ _ c.self.invariant.0 c.index_mut.ensures.value c.reserve_at.ensures.seat, c.self.invariant.1, c.self.invariant.2, c.self.invariant.3)
 
 pub returns-clause-seat : goal.returns-clause-seat
 returns-clause-seat g c =
     let below : c.args.ring < length c.self.inside.rings.now = search rules in
-    λ zero. at_seat _ c.args.self.now _ _ _ _ _ (ap (λ (h : AtSeats). h.seats) c.self.view_is) c.self.invariant.0 below c.index_mut.ensures.value
-    (c.reserve_refused.ensures.answer c.index_mut.result.now c.in-Err.ensures.answer)
+    λ zero. at_seat _ c.args.self.now _ _ _ _ _ (ap (λ (h : AtSeats). h.seats) c.self.view_is) c.self.invariant.0 below c.index_mut.ensures.value c.reserve_at.ensures.answer

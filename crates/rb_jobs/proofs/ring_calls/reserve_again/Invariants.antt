@@ -1,7 +1,0 @@
-use Rattle.std.proofs.Common.{◌≡◌}
-use Rattle.rb_jobs.proofs.ChapterTries.{FullSoFar}
-use Rattle.rb_jobs.proofs.ring_calls.reserve_again.Given as goal
-
--- the chapter was full at each call so far, and the sheet is as it was
-abbrev pub invariant-loop-calls : goal.invariant-loop-calls
-invariant-loop-calls g l = FullSoFar l.fn.n l._calls l.fn.seat l.seat × (l.sheet ≡ l.fn.sheet)
