@@ -6,3 +6,4 @@ pub mod Holding
 pub mod Moving
 pub mod Running
 pub mod RingSizes
+pub mod LeastRings

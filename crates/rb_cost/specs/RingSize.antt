@@ -1,5 +1,5 @@
 -- How large a ring must be: when no record is refused for want of room.
-use Rattle.std.specs.Prelude.{◌≡◌, ℕ, ◌+◌, ◌-◌, ◌*◌, ◌<◌, ◌≤◌, ◌^◌, ◌==◌, List, ◌∷◌, ◌++◌, length, if◌then◌else◌}
+use Rattle.std.specs.Prelude.{◌≡◌, ℕ, ◌+◌, ◌-◌, ◌*◌, ◌<◌, ◌≤◌, ◌^◌, ◌==◌, nat_lt, List, [], ◌∷◌, ◌++◌, length, find, Option, Some, None, if◌then◌else◌}
 use Rattle.std.specs.List.{All, Contains, sum_by, count_by}
 use Rattle.rb_history.specs.declared.entries.Entry.{Entry}
 use Rattle.rb_history.specs.declared.entries.Entry.TheVariants.{Full}
@@ -7,6 +7,7 @@ use Rattle.rb_history.specs.Span.{span}
 use Rattle.rb_history.specs.History.{Shown, records, producer_of}
 use Rattle.rb_history.specs.Counting.{is_refusal_entry}
 use Rattle.rb_history.specs.Legal.{IsLegal}
+use Rattle.rb_history.specs.RingModel.{IsRingSize}
 use Rattle.rb_history.specs.RoomRule.{Setup, HasRoomFor}
 
 -- how many bytes of a ring the records take that were not taken from it: the busy ones, the waiting ones and the discarded ones
@@ -50,3 +51,22 @@ NoneIsRefused =
     → ((before after : List Entry) (w n : ℕ) → h ≡ before ++ Full w n ∷ after
     → (job : Shown → ℕ) × (jobs : List ℕ) × (asking : ℕ) × IsBelowLimit r before n × AreOfJobs job jobs asking most before n × (length jobs ≤ behind + workers))
     → count_by is_refusal_entry h ≡ 0
+
+-- ---- the size to choose
+
+-- the sizes that a ring may have, from the smallest on (ringbuf.rst: a power of two and a multiple of the page; the bounds are own)
+abbrev pub ring_sizes : List ℕ
+ring_sizes =
+    4096 ∷ 8192 ∷ 16384 ∷ 32768 ∷ 65536 ∷ 131072 ∷ 262144 ∷ 524288 ∷ 1048576 ∷ 2097152 ∷ 4194304 ∷ 8388608 ∷ 16777216 ∷ 33554432 ∷ 67108864 ∷ []
+
+-- the smallest ring of more than so many bytes, if there is one
+abbrev pub least_ring : ℕ → Option ℕ
+least_ring n = find (λ size. nat_lt n size) ring_sizes
+
+-- it is the size of a ring, larger than n, and no smaller ring is; where there is none no ring is larger than n
+abbrev pub IsLeastRing : ℕ → Option ℕ → Type 0
+IsLeastRing n (Some size) = IsRingSize size × (n < size) × ((other : ℕ) → IsRingSize other → n < other → size ≤ other)
+IsLeastRing n None = (other : ℕ) → IsRingSize other → n < other → ⊥
+
+abbrev pub LeastRingsAreLeast : Type 0
+LeastRingsAreLeast = (n : ℕ) → IsLeastRing n (least_ring n)

@@ -14,12 +14,16 @@
 
 mod asking;
 mod cost;
+mod cost_lines;
 mod cost_laws;
 mod costing;
 mod counted;
 mod held;
 mod pass;
+mod ring_size;
 
 pub use cost::{Cost, RingCost};
 pub use cost_laws::{none_is_refused_behind, room_is_what_is_left, runs_stay_within_their_cost};
+pub use cost_lines::cost_text;
 pub use costing::cost_of;
+pub use ring_size::{JobsAtOnce, least_ring, least_rings_are_least};
