@@ -36,7 +36,7 @@ const READ_AHEAD: usize = 65_536;
 /// and with `--json` as an object on `out` too; 2 for wrong usage, which goes to `err` before anything is read or written. Help and the version,
 /// where they are asked for, go to `out`.
 ///
-/// With `--progress`, and without it where `is_watched`, as by a person at a terminal, `feed`, `tape` and `run` tell about once a second how far they are,
+/// With `--progress`, and without it where `is_watched`, as by a person at a terminal, `feed`, `tape`, `run` and `sim` tell about once a second how far they are,
 /// on the runtime's standard error and not on `err`, and take it away at the end.
 ///
 /// `feed`, `tape`, `explain` and `sim` wait for nobody. `check` and `run` hold a ring's lock for each call, and `run` starts threads.
@@ -105,7 +105,7 @@ where
     let mut input = NotedReader::new(input);
     let mut out = NotedWriter::new(out);
     let mut seen = Seen::default();
-    let progress = Progress::new(rt, asked.progress);
+    let progress = Progress::new(rt, asked.progress, asked.request.jobs());
     let mut told = Vec::new(alloc);
     let answer = answer(
         rt, alloc, asked, &progress, &mut input, &mut out, &mut told, &mut seen,
@@ -165,10 +165,11 @@ fn tell_refusal<W: Write, E: Write>(
     status
 }
 
-// Checks a program, and tells where Linux refuses it where that is asked for.
-fn checked<T: Wait, R: Read, W: Write>(
+// Checks a program, and tells where Linux refuses it where that is asked for. The gate is that of `run`, which tells nothing here.
+fn checked<T: Wait + Clock + Eprint, R: Read, W: Write>(
     rt: &T,
     alloc: Global,
+    gate: &Progress<'_, T>,
     input: &mut R,
     out: &mut W,
     bounds: Bounds,
@@ -176,9 +177,9 @@ fn checked<T: Wait, R: Read, W: Write>(
     portable: bool,
 ) -> Result<(), ProgramFault> {
     if portable {
-        check_portable(rt, alloc, input, out, bounds, form)
+        check_portable(rt, alloc, input, out, bounds, form, gate)
     } else {
-        check(rt, alloc, input, out, bounds, form)
+        check(rt, alloc, input, out, bounds, form, gate)
     }
 }
 
@@ -230,7 +231,7 @@ where
             bounds,
             form,
             portable,
-        } => of_program(checked(rt, alloc, input, out, bounds, form, portable)),
+        } => of_program(checked(rt, alloc, progress, input, out, bounds, form, portable)),
         Request::Explain {
             bounds,
             form,
@@ -249,7 +250,7 @@ where
             of_jobs(answer)
         }
         Request::Sim { draw, form } => {
-            match sim_told(alloc, input, out, draw, form, asked.why, seen) {
+            match sim_told(alloc, input, out, progress, draw, form, asked.why, seen) {
                 Ok(()) => Ok(None),
                 Err(fault) => Err(Refusal::Sim(fault)),
             }
@@ -308,17 +309,18 @@ fn print_end<E: Write>(err: &mut E, end: (u64, u64), form: LineForm) -> u8
 }
 
 // Runs a script, and says what was expected at a line that is refused, where that is asked for.
-fn sim_told<R: Read, W: Write>(
+fn sim_told<T: Clock + Eprint, R: Read, W: Write>(
     alloc: Global,
     input: &mut R,
     out: &mut W,
+    progress: &Progress<'_, T>,
     draw: bool,
     form: LineForm,
     why: bool,
     seen: &mut Seen,
 ) -> Result<(), SimFault> {
     if !why && form == LineForm::Words {
-        return sim(alloc, input, out, draw);
+        return sim(alloc, input, out, draw, progress);
     }
     let script = match read_all(alloc, input) {
         Ok(script) => script,
@@ -326,8 +328,8 @@ fn sim_told<R: Read, W: Write>(
         Err(_) => return Err(SimFault::Device),
     };
     let answer = match form {
-        LineForm::Words => sim(alloc, &mut script.as_slice(), out, draw),
-        LineForm::Json => sim_objects(alloc, script.as_slice(), out, draw),
+        LineForm::Words => sim(alloc, &mut script.as_slice(), out, draw, progress),
+        LineForm::Json => sim_objects(alloc, script.as_slice(), out, progress, draw),
     };
     if let Err(SimFault::Line(line)) = answer {
         seen.line = line_reason(alloc, script.as_slice(), line).ok();
@@ -336,14 +338,15 @@ fn sim_told<R: Read, W: Write>(
 }
 
 // Runs a script, and prints an object for each line, also of those before memory ran out.
-fn sim_objects<W: Write>(
+fn sim_objects<T: Clock + Eprint, W: Write>(
     alloc: Global,
     mut script: &[u8],
     out: &mut W,
+    progress: &Progress<'_, T>,
     draw: bool,
 ) -> Result<(), SimFault> {
     let mut lines = Vec::new(alloc);
-    let answer = sim(alloc, &mut script, &mut lines, draw);
+    let answer = sim(alloc, &mut script, &mut lines, draw, progress);
     print_objects(alloc, lines.as_slice(), out)?;
     match answer {
         // A list fails for want of memory alone.

@@ -105,7 +105,8 @@ fn sim<'a>(alloc: Global) -> Result<Command<'a>, AllocError> {
         )
         .arg(draw(alloc))?
         .arg(json(alloc))?
-        .arg(why(alloc))
+        .arg(why(alloc))?
+        .arg(progress(alloc))
 }
 
 fn workers<'a>(alloc: Global) -> Arg<'a> {

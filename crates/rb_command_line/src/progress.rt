@@ -1,50 +1,71 @@
 //! How far a long command is, told on standard error about once a second. It goes to the runtime's standard error and not to the command's writer, since
 //! workers tell it while the command waits for them. Tests show what is told; no contract speaks of it.
 
+use rb_script::TurnWatch;
 use rb_workers::Gate;
 use std::io;
 use std::io::{Eprint, Read};
 use std::sync::atomic::{AtomicU64, Ordering};
 use std::time::Clock;
 
-/// How many helper calls of a worker pass before the clock is looked at.
-const CALLS: u64 = 4_096;
+/// How many jobs of a worker pass before they are added to those of all workers, and the clock is looked at.
+const JOBS: u64 = 256;
+
+/// How many turns of a script pass before the clock is looked at.
+const TURNS: u64 = 256;
 
 /// Tells how far a command is, where that is asked for.
 pub(crate) struct Progress<'a, T> {
     rt: &'a T,
     is_on: bool,
+    // How many jobs a run has in all, and how many of them have ended, but for the last few of each worker; or how many turns have.
+    jobs: u64,
+    ended: AtomicU64,
     // When it began, in seconds of the clock, and the last second of which something was told, counted from then.
     began: u64,
     told: AtomicU64,
 }
 
 impl<'a, T: Clock + Eprint> Progress<'a, T> {
-    /// Begins now; nothing is told within the first second, nor where it is off.
-    pub(crate) fn new(rt: &'a T, is_on: bool) -> Progress<'a, T> {
+    /// Begins now, for a command with so many jobs; nothing is told within the first second, nor where it is off.
+    pub(crate) fn new(rt: &'a T, is_on: bool, jobs: u64) -> Progress<'a, T> {
         Progress {
             rt,
             is_on,
+            jobs,
+            ended: AtomicU64::new(0),
             began: seconds(rt),
             told: AtomicU64::new(0),
         }
     }
 
-    // Whether a second has gone by since something was told.
+    // Whether a second has gone by since something was told; of two threads that ask at once it has for one.
     fn is_due(&self) -> bool {
         let second = seconds(self.rt).saturating_sub(self.began);
         second > self.told.load(Ordering::SeqCst)
-            && {
-                self.told.store(second, Ordering::SeqCst);
-                true
-            }
+            && second > self.told.swap(second, Ordering::SeqCst)
     }
 
-    // Tells how much is done, in the place of what was told before.
-    fn tell(&self, count: u64, what: &'static str) {
+    // Tells how many bytes were read, in the place of what was told before.
+    fn tell_bytes(&self, count: u64) {
         if self.is_on && self.is_due() {
-            let _ = eprint!(self.rt; "\r{count} {what}\x1b[K");
+            let _ = eprint!(self.rt; "\r{count} bytes read\x1b[K");
         }
+    }
+
+    // Tells how many of so many parts have ended, likewise.
+    #[cold]
+    #[inline(never)]
+    fn tell_parts(&self, ended: u64, all: u64, what: &'static str) {
+        if self.is_due() {
+            let _ = eprint!(self.rt; "\r{ended} of {all} {what}\x1b[K");
+        }
+    }
+
+    // Counts more parts as ended, and answers how many have.
+    fn add(&self, count: u64) -> u64 {
+        let before = self.ended.fetch_add(count, Ordering::SeqCst);
+        before.saturating_add(count)
     }
 
     /// Takes away what was told last.
@@ -52,6 +73,8 @@ impl<'a, T: Clock + Eprint> Progress<'a, T> {
         let Progress {
             rt,
             is_on: _,
+            jobs: _,
+            ended: _,
             began: _,
             told,
         } = self;
@@ -70,9 +93,24 @@ fn seconds<T: Clock>(rt: &T) -> u64 {
 }
 
 impl<T: Clock + Eprint> Gate for Progress<'_, T> {
-    fn at(&self, worker: u32, call: u64) {
-        if self.is_on && worker == 0 && call % CALLS == 0 {
-            self.tell(call, "helper calls of worker 0");
+    #[inline]
+    fn at(&self, _worker: u32, _call: u64) {}
+
+    #[inline]
+    fn after(&self, _worker: u32, jobs: u64) {
+        if self.is_on && jobs % JOBS == 0 {
+            self.tell_parts(self.add(JOBS), self.jobs, "jobs");
+        }
+    }
+}
+
+impl<T: Clock + Eprint> TurnWatch for Progress<'_, T> {
+    fn turned(&self, all: usize) {
+        if self.is_on {
+            let ended = self.add(1);
+            if ended % TURNS == 0 {
+                self.tell_parts(ended, all as u64, "turns");
+            }
         }
     }
 }
@@ -115,7 +153,7 @@ impl<R: Read, T: Clock + Eprint> Read for Metered<'_, R, T> {
     fn read(&mut self, buf: &mut [u8]) -> io::Result<usize> {
         let count = self.reader.read(buf)?;
         self.count = self.count.saturating_add(count as u64);
-        self.progress.tell(self.count, "bytes read");
+        self.progress.tell_bytes(self.count);
         Ok(count)
     }
 }

@@ -80,6 +80,14 @@ impl Request<'_> {
         }
     }
 
+    /// How many jobs there are in all, and 0 where none are asked for.
+    pub(crate) fn jobs(&self) -> u64 {
+        match *self {
+            Request::Run { jobs, .. } => jobs.workers.saturating_mul(u64::from(jobs.jobs)),
+            _ => 0,
+        }
+    }
+
     /// The name of the file for a tape, and an empty one where none is asked for.
     pub(crate) fn tape(&self) -> &str {
         match *self {
@@ -95,7 +103,7 @@ impl Request<'_> {
     pub(crate) fn is_long(&self) -> bool {
         matches!(
             self,
-            Request::Feed { .. } | Request::Tape { .. } | Request::Run { .. }
+            Request::Feed { .. } | Request::Tape { .. } | Request::Run { .. } | Request::Sim { .. }
         )
     }
 

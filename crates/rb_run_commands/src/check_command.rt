@@ -12,7 +12,7 @@ use crate::run_lines::lines_of_run;
 use crossbeam_queue::ArrayQueue;
 use rb_history::Taken;
 use rb_io::write_whole;
-use rb_jobs::{Job, OpenGate, run_job};
+use rb_jobs::{Gate, Job, run_job};
 use rb_json::LineForm;
 use rb_loader::{Bounds, ProgramFault, accept, read_all, text_of};
 use rb_shared_ring::{Seat, SharedRing};
@@ -33,14 +33,15 @@ pub struct Checked {
 
 /// Verifies the program whose text is the input, runs it once with a context of zeros over fresh rings of 4,096 bytes, and prints
 /// `accepted`, what it ended with, and a line for each record that it left, in this form. Input that is no UTF-8 is `Text`. Nothing is printed where
-/// the program is refused or memory runs out.
-pub fn check<T: Wait, R: Read, W: Write>(
+/// the program is refused or memory runs out. The gate is called before each helper call.
+pub fn check<T: Wait, R: Read, W: Write, G: Gate>(
     rt: &T,
     alloc: Global,
     input: &mut R,
     out: &mut W,
     bounds: Bounds,
     form: LineForm,
+    gate: &G,
 ) -> Result<(), ProgramFault>
     ensures printed { OnOk result (IfSome (R.remaining input.old) (λ text. PrintsCheck text bounds.ctx_len bounds.rings form (W.contents out.old) (W.contents out.new))) }
     ensures refused { IfErr result (λ fault. IfSome (R.remaining input.old) (λ text. IsRightProgramFault text bounds.ctx_len bounds.rings fault)) }
@@ -48,7 +49,7 @@ pub fn check<T: Wait, R: Read, W: Write>(
 {
     let bytes = read_all(alloc, input)?;
     let text = text_of(bytes.as_slice())?;
-    let Checked { value, records } = check_text(rt, alloc, text, bounds)?;
+    let Checked { value, records } = check_text(rt, alloc, text, bounds, gate)?;
     let printed = lines_of_run(alloc, value, records.as_slice(), form)?;
     match write_whole(out, printed.as_slice()) {
         Ok(()) => Ok(()),
@@ -57,11 +58,12 @@ pub fn check<T: Wait, R: Read, W: Write>(
 }
 
 /// Verifies the program of a text in hex, and runs it once with a context of zeros over fresh rings.
-pub fn check_text<T: Wait>(
+pub fn check_text<T: Wait, G: Gate>(
     rt: &T,
     alloc: Global,
     text: &str,
     bounds: Bounds,
+    gate: &G,
 ) -> Result<Checked, ProgramFault>
     ensures checked { IfOk result (λ c. Checks text.now bounds.ctx_len bounds.rings c.value (map (λ ring. ring.items) c.records.items)) }
     ensures refused { IfErr result (IsRightFault text.now bounds.ctx_len bounds.rings) }
@@ -73,7 +75,7 @@ pub fn check_text<T: Wait>(
         seats,
         mut consumers,
     } = fresh_rings(rt, alloc, verified.rings())?;
-    let (value, mut seats) = run_once(rt, alloc, &verified, rings.as_slice(), seats)?;
+    let (value, mut seats) = run_once(rt, alloc, &verified, rings.as_slice(), seats, gate)?;
     let records = drain_rings(
         rt,
         alloc,
@@ -84,14 +86,15 @@ pub fn check_text<T: Wait>(
     Ok(Checked { value, records })
 }
 
-// What a program ends with over a context of zeros, and the seats as the run left them. Its stock is of the kind that the workers of `run` have, so that
-// `rbhost` has one copy of a run's loop for both, and a step stands in line there.
-fn run_once<T: Wait>(
+// What a program ends with over a context of zeros, and the seats as the run left them. Its stock is of the kind that the workers of `run` have, and its
+// gate may be, so that `rbhost` has one copy of a run's loop for both, and a step stands in line there.
+fn run_once<T: Wait, G: Gate>(
     rt: &T,
     alloc: Global,
     verified: &Verified,
     rings: &[SharedRing],
     seats: Vec<Seat>,
+    gate: &G,
 ) -> Result<(u64, Vec<Seat>), AllocError>
     requires rings { verified.now.rings ≤ length rings.now }
     requires seats { AtRings rings.now seats.items }
@@ -110,7 +113,7 @@ fn run_once<T: Wait>(
         sheets: &sheets,
     };
     let mut calls = 0;
-    let (answer, seats) = run_job(rt, alloc, rings, seats, &job, &OpenGate, &stock, &mut calls);
+    let (answer, seats) = run_job(rt, alloc, rings, seats, &job, gate, &stock, &mut calls);
     match answer?.result {
         Ok(value) => Ok((value, seats)),
         Err(_) => unreachable!(),

@@ -7,7 +7,7 @@
 //!
 //! ```text
 //! let bounds = Bounds { ctx_len: 0, rings: 1 };
-//! check(rt, alloc, &mut input, &mut out, bounds, LineForm::Words)?;             // the hex of a program that submits 42, and exits with 0
+//! check(rt, alloc, &mut input, &mut out, bounds, LineForm::Words, &OpenGate)?; // the hex of a program that submits 42, and exits with 0
 //! // accepted
 //! // result 0
 //! // ring 0 pos 0 worker 0 serial 0 len 8 2a00000000000000

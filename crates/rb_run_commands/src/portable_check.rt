@@ -8,6 +8,7 @@ ghost use Rattle.rb_run_commands.specs.PortableCheck.{PrintsPortableCheck};
 use crate::check_command::{Checked, check_text};
 use crate::run_lines::lines_of_run;
 use rb_io::write_whole;
+use rb_jobs::Gate;
 use rb_json::LineForm;
 use rb_loader::{Bounds, ProgramFault, accept, read_all, text_of};
 use rb_portable::findings_text;
@@ -16,14 +17,15 @@ use std::io::{Read, Write};
 use std::sync::Wait;
 
 /// Verifies the program whose text is the input, runs it and prints what came of it, as `check` does, and behind that a line for each unit at which Linux
-/// refuses the program. Nothing is printed where the program is refused here or memory runs out.
-pub fn check_portable<T: Wait, R: Read, W: Write>(
+/// refuses the program. Nothing is printed where the program is refused here or memory runs out. The gate is called before each helper call.
+pub fn check_portable<T: Wait, R: Read, W: Write, G: Gate>(
     rt: &T,
     alloc: Global,
     input: &mut R,
     out: &mut W,
     bounds: Bounds,
     form: LineForm,
+    gate: &G,
 ) -> Result<(), ProgramFault>
     ensures printed { OnOk result (IfSome (R.remaining input.old) (λ text. PrintsPortableCheck text bounds.ctx_len bounds.rings form (W.contents out.old) (W.contents out.new))) }
     ensures refused { IfErr result (λ fault. IfSome (R.remaining input.old) (λ text. IsRightProgramFault text bounds.ctx_len bounds.rings fault)) }
@@ -31,7 +33,7 @@ pub fn check_portable<T: Wait, R: Read, W: Write>(
 {
     let bytes = read_all(alloc, input)?;
     let text = text_of(bytes.as_slice())?;
-    let Checked { value, records } = check_text(rt, alloc, text, bounds)?;
+    let Checked { value, records } = check_text(rt, alloc, text, bounds, gate)?;
     let verified = accept(alloc, text, bounds)?;
     let lines = findings_text(alloc, &verified, form)?;
     let mut printed = lines_of_run(alloc, value, records.as_slice(), form)?;

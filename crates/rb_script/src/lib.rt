@@ -21,8 +21,10 @@ mod script_fault;
 mod script_line;
 mod sim_command;
 mod simulation;
+mod turn_watch;
 
 pub use reasons::line_reason;
 pub use script::{Script, ScriptWorker};
 pub use script_fault::ScriptFault;
 pub use sim_command::{SimFault, sim};
+pub use turn_watch::{NoWatch, TurnWatch};

@@ -6,6 +6,7 @@ ghost use Rattle.rb_script.specs.Simulated.{BreaksOffSim, IsSimFaultOf, IsTold, 
 
 use crate::script::Script;
 use crate::script_fault::ScriptFault;
+use crate::turn_watch::TurnWatch;
 use rb_io::write_whole;
 use rb_loader::{ProgramFault, read_all};
 use std::alloc::Global;
@@ -29,11 +30,13 @@ pub enum SimFault {
 /// Reads a whole script, verifies its programs, runs its turns in a world, and prints a line for each take and each chapter, and then for
 /// each worker and each ring; with `draw` behind each turn each ring as one line. Nothing is printed where a line is at fault or a program is refused, and that is told, unless memory runs out or
 /// the device fails; where memory runs out, the lines of the turns before are printed, and nothing else.
-pub fn sim<R: Read, W: Write>(
+/// The watch is called behind each turn.
+pub fn sim<R: Read, W: Write, V: TurnWatch>(
     alloc: Global,
     input: &mut R,
     out: &mut W,
     draw: bool,
+    watch: &V,
 ) -> Result<(), SimFault>
     ensures printed { OnOk result (IfSome (R.remaining input.old) (λ text. PrintsSim draw text (W.contents out.old) (W.contents out.new))) }
     ensures refused { IfErr result (λ fault. IfSome (R.remaining input.old) (λ text. IsSimFaultOf text fault)) }
@@ -46,11 +49,17 @@ pub fn sim<R: Read, W: Write>(
         Err(ProgramFault::Memory) => return Err(SimFault::Memory),
         Err(_) => return Err(SimFault::Device),
     };
-    sim_text(alloc, bytes.as_slice(), out, draw)
+    sim_text(alloc, bytes.as_slice(), out, draw, watch)
 }
 
 // The same with the text that was read.
-fn sim_text<W: Write>(alloc: Global, text: &[u8], out: &mut W, draw: bool) -> Result<(), SimFault>
+fn sim_text<W: Write, V: TurnWatch>(
+    alloc: Global,
+    text: &[u8],
+    out: &mut W,
+    draw: bool,
+    watch: &V,
+) -> Result<(), SimFault>
     ensures printed { OnOk result (PrintsSim draw text.now (W.contents out.old) (W.contents out.new)) }
     ensures refused { IfErr result (IsSimFaultOf text.now) }
     ensures told { (line : ℕ) → IsSimFaultOf text.now (SimFault.Line line) → IsTold line result }
@@ -63,7 +72,7 @@ fn sim_text<W: Write>(alloc: Global, text: &[u8], out: &mut W, draw: bool) -> Re
         Err(ScriptFault::Memory) => return Err(SimFault::Memory),
     };
     let mut turns = Vec::new(alloc);
-    let ends = match script.simulate(alloc, draw, &mut turns) {
+    let ends = match script.simulate(alloc, draw, &mut turns, watch) {
         Ok(ends) => ends,
         Err(ScriptFault::Line(refused)) => return Err(SimFault::Line(refused)),
         Err(ScriptFault::Memory) => return Err(print_beginning(out, turns.as_slice())),

@@ -14,6 +14,7 @@ use crate::output_lines::{push_at, push_chapter, push_done, push_ring, push_take
 use crate::programs::programs_of;
 use crate::script::{Script, ScriptWorker};
 use crate::script_fault::ScriptFault;
+use crate::turn_watch::TurnWatch;
 use rb_history::{CONS_POS, PROD_POS, Taken};
 use rb_verifier::Verified;
 use rb_world::{Actor, TurnDone, WorkerSetup, World, WorldOpenFault};
@@ -22,12 +23,13 @@ use std::alloc::{AllocError, Global};
 impl<'a> Script<'a> {
     /// Verifies the script's programs, runs its turns, adds a line to the text for each take and each chapter, and with `draw` the rings behind each turn, and answers the lines of the
     /// workers and the rings at the end. A refused program is told by its line, and nothing is run or written then; where memory runs out,
-    /// the lines of the turns before stand, whole, and nothing else. A script that was read may be run.
-    pub fn simulate(
+    /// the lines of the turns before stand, whole, and nothing else. A script that was read may be run. The watch is called behind each turn.
+    pub fn simulate<V: TurnWatch>(
         &self,
         alloc: Global,
         draw: bool,
         text: &mut Vec<u8>,
+        watch: &V,
     ) -> Result<Vec<u8>, ScriptFault>
         requires may_run { MayRunScript self.now }
         ensures ran { IfOk result (λ ends. Simulates draw self.now text.old.items text.new.items ends.items) }
@@ -41,19 +43,20 @@ impl<'a> Script<'a> {
             Ok(programs) => programs,
             Err(fault) => return Err(fault),
         };
-        match self.simulate_with(alloc, programs.as_slice(), draw, text) {
+        match self.simulate_with(alloc, programs.as_slice(), draw, text, watch) {
             Ok(ends) => Ok(ends),
             Err(_) => Err(ScriptFault::Memory),
         }
     }
 
     // The same, with the program of each worker.
-    fn simulate_with(
+    fn simulate_with<V: TurnWatch>(
         &self,
         alloc: Global,
         programs: &[Verified],
         draw: bool,
         text: &mut Vec<u8>,
+        watch: &V,
     ) -> Result<Vec<u8>, AllocError>
         requires may_run { MayRunScript self.now }
         requires accepted { AllZip (IsWorkersProgram (length self.now.rings.items)) (map worker_text self.now.workers.items) programs.now }
@@ -65,7 +68,7 @@ impl<'a> Script<'a> {
             Ok(world) => world,
             Err(fault) => return Err(want_of_memory(fault)),
         };
-        run(alloc, &mut world, self.actors.as_slice(), draw, text)?;
+        run(alloc, &mut world, self.actors.as_slice(), draw, text, watch)?;
         ends_of(alloc, &world)
     }
 }
@@ -101,12 +104,13 @@ fn setups_of<'p>(
 }
 
 // Runs the turns, and adds their lines. Where memory runs out, the lines of the turns before stand.
-fn run(
+fn run<V: TurnWatch>(
     alloc: Global,
     world: &mut World<'_>,
     actors: &[Actor],
     draw: bool,
     text: &mut Vec<u8>,
+    watch: &V,
 ) -> Result<(), AllocError>
     requires there { All (IsThere world.old) actors.now }
     requires few { length world.old.rings ≤ 16 }
@@ -128,6 +132,7 @@ fn run(
         let Ok(()) = text.extend_from_slice(line.as_slice()) else {
             return Err(AllocError);
         };
+        watch.turned(actors.len());
     }
     Ok(())
 }

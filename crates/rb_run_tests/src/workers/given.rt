@@ -95,12 +95,15 @@ impl Sink for Counter {
     }
 }
 
-/// A gate that holds nobody, and tells how often worker 0 and how often the others came, and the sum of what the others had finished.
+/// A gate that holds nobody, and tells how often worker 0 and how often the others came, and the sum of what the others had finished; and how many
+/// jobs have ended, with the sum of their numbers at their workers.
 #[derive(Drop)]
 pub(crate) struct Free {
     pub(crate) first: AtomicU64,
     pub(crate) others: AtomicU64,
     pub(crate) finished: AtomicU64,
+    pub(crate) jobs: AtomicU64,
+    pub(crate) numbers: AtomicU64,
 }
 
 impl Free {
@@ -109,6 +112,8 @@ impl Free {
             first: AtomicU64::new(0),
             others: AtomicU64::new(0),
             finished: AtomicU64::new(0),
+            jobs: AtomicU64::new(0),
+            numbers: AtomicU64::new(0),
         }
     }
 }
@@ -121,6 +126,11 @@ impl Gate for Free {
             self.others.fetch_add(1, Ordering::SeqCst);
             self.finished.fetch_add(call, Ordering::SeqCst);
         }
+    }
+
+    fn after(&self, _worker: u32, jobs: u64) {
+        self.jobs.fetch_add(1, Ordering::SeqCst);
+        self.numbers.fetch_add(jobs, Ordering::SeqCst);
     }
 }
 

@@ -216,6 +216,18 @@ fn a_worker_without_jobs_comes_to_the_gate_once(rt: HostRuntime) {
     same(&rt, &(strays, told_by(&gate)), &(0, (5, 3, 0)));
 }
 
+#[test]
+fn a_worker_comes_to_the_gate_behind_each_job(rt: HostRuntime) {
+    let gate = Free::new();
+    let rings = one_ring(&rt, rt.alloc(), 3, ROOM);
+    let strays = report_of(&rt, rt.alloc(), rings, 30, 3, &gate).strays;
+    let told = (
+        gate.jobs.load(Ordering::SeqCst),
+        gate.numbers.load(Ordering::SeqCst),
+    );
+    same(&rt, &(strays, told), &(0, (30, 3 * 55)));
+}
+
 // A hundred contexts, which begin with their numbers.
 fn contexts<A: Abort>(rt: &A, alloc: Global) -> Vec<[u8; 16]> {
     let mut contexts = Vec::new(alloc);

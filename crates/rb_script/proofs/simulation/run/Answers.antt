@@ -6,15 +6,15 @@ use Rattle.rb_script.proofs.TurnLines.{writes-none, writes-more, line-joined}
 use Rattle.rb_script.proofs.simulation.run.Goals as goal
 
 pub loop-actor-init : goal.loop-actor-init
-loop-actor-init c = record { written = writes-none c.args.draw c.args.world.now c.args.text.now.items; workers = refl; rings = refl }
+loop-actor-init g c = record { written = writes-none c.args.draw c.args.world.now c.args.text.now.items; workers = refl; rings = refl }
 
 pub turn-done-requires : goal.turn-done-requires
-turn-done-requires c = record {
+turn-done-requires g c = record {
   there = there-still c.args.world.now c.loop-actor.world _ c.loop-actor.invariant.workers c.loop-actor.invariant.rings (All-get_or (IsThere c.args.world.now) c.args.actors.now c.loop-actor.actor-index _ c.loop-actor-test.true c.requires.there);
 }
 
 pub push_drawn_turn-requires : goal.push_drawn_turn-requires
-push_drawn_turn-requires c = record {
+push_drawn_turn-requires g c = record {
   there =
       there-still c.args.world.now c.turn-done.new.self _ (c.turn-done.ensures.workers ∙ c.loop-actor.invariant.workers) (c.turn-done.ensures.rings ∙ c.loop-actor.invariant.rings)
       (All-get_or (IsThere c.args.world.now) c.args.actors.now c.loop-actor.actor-index _ c.loop-actor-test.true c.requires.there);
@@ -22,7 +22,7 @@ push_drawn_turn-requires c = record {
 }
 
 pub loop-actor-preserved : goal.loop-actor-preserved
-loop-actor-preserved c =
+loop-actor-preserved g c =
     let more : c.extend_from_slice.new.self.items ≡ c.loop-actor.text.items ++ c.push_drawn_turn.new.text.items = search rules in
     record {
       written =
