@@ -88,8 +88,8 @@ fn cost<'a>(alloc: Global) -> Result<Command<'a>, AllocError> {
         .after_help("Example: tools/bpf-hex examples/c/event.c | rbhost cost --workers 4 --behind 8")
         .arg(ctx(alloc))?
         .arg(rings(alloc))?
-        .arg(at_once(alloc))?
-        .arg(behind(alloc))?
+        .arg(at_once(alloc)?)?
+        .arg(behind(alloc)?)?
         .arg(json(alloc))?
         .arg(why(alloc))
 }
@@ -129,18 +129,18 @@ fn workers<'a>(alloc: Global) -> Arg<'a> {
     )
 }
 
-fn at_once<'a>(alloc: Global) -> Arg<'a> {
+fn at_once<'a>(alloc: Global) -> Result<Arg<'a>, AllocError> {
     option(alloc, "workers")
         .value_name("W")
-        .requires("behind")
-        .help("How many workers run the program at once, to choose a ring's size: 1 to 256")
+        .help("How many workers run the program at once, for the size of a ring: 1 to 256")
+        .requires_arg("behind")
 }
 
-fn behind<'a>(alloc: Global) -> Arg<'a> {
+fn behind<'a>(alloc: Global) -> Result<Arg<'a>, AllocError> {
     option(alloc, "behind")
         .value_name("J")
-        .requires("workers")
-        .help("By how many finished jobs the consumer may be behind: 0 to 1000000")
+        .help("How many finished jobs the consumer may be behind: 0 to 1000000")
+        .requires_arg("workers")
 }
 
 fn jobs<'a>(alloc: Global) -> Arg<'a> {
