@@ -74,10 +74,10 @@ granted_cases (Some (meaning.Output ring bytes flags)) (Some (meaning.Code (pos 
 granted_cases call answer asked h = inl refl
 
 module _ (subject : Subject) (a : Annotation) (valid : IsValid (limits_of subject) subject.program a) where
-  abbrev program : List Insn
+  abbrev pub program : List Insn
   program = subject.program
 
-  abbrev Can : State → Type 0
+  abbrev pub Can : State → Type 0
   Can s = CanStepUnder subject a s
 
   held_at : (s : State) → (u : Can s) → HoldsAt (limits_of subject) a (unit_count program) s.unit u.begins.0
@@ -110,7 +110,7 @@ module _ (subject : Subject) (a : Annotation) (valid : IsValid (limits_of subjec
     moves_here effect is = subst (Moves u.begins.0 s) (sym (step_is subject s u.begins.0 u.begins.1) ∙ is) (moves u.begins.0 s)
 
     -- a call asks for the record that is known, and is made by a CALL
-    call_asks : (effect : StepEffect) → next_step program s ≡ effect → (c : HelperCall) → call_of effect ≡ Some c → (asked_by_call c ≡ asked_at program a s.unit) × IsNamedAt s.unit c × (calls (slot_at program s.unit) ≡ true)
+    pub call_asks : (effect : StepEffect) → next_step program s ≡ effect → (c : HelperCall) → call_of effect ≡ Some c → (asked_by_call c ≡ asked_at program a s.unit) × IsNamedAt s.unit c × (calls (slot_at program s.unit) ≡ true)
     call_asks (Asks call w) is c same =
         let e : call ≡ c = cc in
         let m = moves_here (Asks call w) is in
@@ -124,7 +124,7 @@ module _ (subject : Subject) (a : Annotation) (valid : IsValid (limits_of subjec
     call_asks Stuck is c same = absurd (cc)
 
     -- the next moment's state can step, and an edge leads to its unit
-    leads_on : (effect : StepEffect) → next_step program s ≡ effect → (answer : Option HelperAnswer) (t : State) → LeadsTo effect answer t → ((along : Edge) × HasEdge program s.unit along t.unit) × Can t
+    pub leads_on : (effect : StepEffect) → next_step program s ≡ effect → (answer : Option HelperAnswer) (t : State) → LeadsTo effect answer t → ((along : Edge) × HasEdge program s.unit along t.unit) × Can t
     leads_on (Goes next) is answer t e =
         let m = moves_here (Goes next) is in
         let out = sound_here (Goes next) is in
@@ -142,11 +142,11 @@ module _ (subject : Subject) (a : Annotation) (valid : IsValid (limits_of subjec
   -- ---- rings of what is held
 
   -- the record of a reference was reserved on its ring
-  abbrev HasRing : List Moment → Reference → Type 0
+  abbrev pub HasRing : List Moment → Reference → Type 0
   HasRing before r = ring_of program before r.id ≡ Some r.ring
 
   -- an earlier record is not one that is reserved here
-  ring_kept : (call : Option HelperCall) (unit id : ℕ) (before : Option ℕ) → ((c : HelperCall) → call ≡ Some c → IsNamedAt unit c) → id < unit → ring_by call id before ≡ before
+  pub ring_kept : (call : Option HelperCall) (unit id : ℕ) (before : Option ℕ) → ((c : HelperCall) → call ≡ Some c → IsNamedAt unit c) → id < unit → ring_by call id before ≡ before
   ring_kept None unit id before named lt = refl
   ring_kept (Some (meaning.Reserve reserved ring len flags)) unit id before named lt =
       let here : reserved ≡ unit = named _ refl in
@@ -191,15 +191,15 @@ module _ (subject : Subject) (a : Annotation) (valid : IsValid (limits_of subjec
 
   -- ---- runs
 
-  abbrev units : List Moment → List ℕ
+  abbrev pub units : List Moment → List ℕ
   units moments = map (λ m. m.state.unit) moments
 
   -- how far a run has come
-  record HasCome (m : Moment) (before : List Moment) : Type 0 where
-    can : Can m.state
-    all : AllByRecursion (λ m. Can m.state) before
-    path : IsPath program (units (m ∷ before))
-    rings : AllByRecursion (HasRing before) (a m.state.unit).held
+  pub record HasCome (m : Moment) (before : List Moment) : Type 0 where
+    pub can : Can m.state
+    pub all : AllByRecursion (λ m. Can m.state) before
+    pub path : IsPath program (units (m ∷ before))
+    pub rings : AllByRecursion (HasRing before) (a m.state.unit).held
 
   one_more : (t m : Moment) (before : List Moment) → LeadsTo (next_step program m.state) m.answer t.state → HasCome m before → HasCome t (m ∷ before)
   one_more t m before leads h =
@@ -219,7 +219,7 @@ module _ (subject : Subject) (a : Annotation) (valid : IsValid (limits_of subjec
             (rings_kept m h.can before (a m.state.unit).held h.can.formed.earlier h.rings);
       }
 
-  has_come : (context : List ℕ) → IsWellShaped program → IsInstructionStart program 0 → length context ≡ subject.ctx_len → (m : Moment) (before : List Moment) → AreMoments program (entry_program_state context) (m ∷ before) → HasCome m before
+  pub has_come : (context : List ℕ) → IsWellShaped program → IsInstructionStart program 0 → length context ≡ subject.ctx_len → (m : Moment) (before : List Moment) → AreMoments program (entry_program_state context) (m ∷ before) → HasCome m before
   has_come context shaped first long m [] e =
       let start : Can m.state = subst Can (sym e) (can_start_under subject a context shaped first valid long) in
       let inside : 0 < unit_count program = begins-lt program 0 first.0 first.1 in
