@@ -85,7 +85,9 @@ fn cost<'a>(alloc: Global) -> Result<Command<'a>, AllocError> {
         .about(
             "Verifies a program, given as text in hex, and prints what it can cost at most: steps, calls, and records and bytes of each ring",
         )
-        .after_help("Example: tools/bpf-hex examples/c/event.c | rbhost cost --workers 4 --behind 8")
+        .after_help(
+            "Example: tools/bpf-hex examples/c/event.c | rbhost cost --workers 4 --behind 8",
+        )
         .arg(ctx(alloc))?
         .arg(rings(alloc))?
         .arg(at_once(alloc)?)?
