@@ -1,5 +1,5 @@
 /*
- * Heskavo for C, and for what calls C: verification, explanation and runs of eBPF programs that write into BPF ring buffers, and the records of tapes.
+ * Heskavo for C, and for what calls C: verification, explanation, costs and runs of eBPF programs that write into BPF ring buffers, and the records of tapes.
  *
  * Every function is proved to do what is said here (crates/heskavo_c); the contracts stand at its exports. Nothing is kept between calls, no lock is
  * taken, no thread is started, and nothing aborts. Any number of threads may call at once, with buffers of their own.
@@ -7,8 +7,8 @@
  * A buffer is a pointer and its length in items. A pointer may be null where its length is 0; no other one may. Every pointer is aligned for what it
  * points to. What a call may write, a buffer as well as a single number or struct, overlaps nothing else that the same call is given, and no length is
  * above PTRDIFF_MAX. Memory comes of malloc, and goes back to free before the call returns: so no function is called from a signal handler, or in the
- * child of a fork of a process with threads, and malloc aligns a block to each power of two up to 16 that divides its size. Link with libheskavo.a,
- * which tools/install puts beside this header.
+ * child of a fork of a process with threads, and malloc aligns a block to each power of two up to 16 that divides its size. Link with libheskavo.a:
+ * tools/install puts it into lib, and this header into include, below one folder.
  *
  * A program is its bytes, eight a unit, as RFC 9669 lays them out. bpf-helpers(7) has its calls, Linux Documentation/bpf/ringbuf.rst the rings.
  */
@@ -90,6 +90,20 @@ struct heskavo_verdict {
     uint32_t unit;   /* the unit of eight bytes at which it is wrong, counted from 0 */
 };
 
+/* What a program can cost at most: each number is reached by a path of the program by its jumps, and passed by no run. */
+struct heskavo_cost {
+    uint64_t steps; /* the most instructions that a path executes */
+    uint64_t calls; /* the most helper calls that a path makes */
+};
+
+/* What a program can ask of one ring at most, and hold of it. A record takes its length rounded up to a multiple of eight, and eight for its header. */
+struct heskavo_ring_cost {
+    uint64_t records;      /* the most records for which a path asks, by bpf_ringbuf_reserve and by bpf_ringbuf_output */
+    uint64_t bytes;        /* the most bytes of the ring that the records of a path take */
+    uint64_t held_records; /* the most reservations that are held before one instruction */
+    uint64_t held_bytes;   /* the most bytes of the ring that those take which are held before one instruction */
+};
+
 /* What is wrong with a record of a tape. */
 enum heskavo_tape_fault {
     HESKAVO_TAPE_BUSY = 1,           /* the header has the busy bit */
@@ -119,6 +133,14 @@ uint32_t heskavo_verify(const uint8_t *program, size_t program_len, uint32_t ctx
  * program, HESKAVO_REFUSED of a refused one, HESKAVO_ROOM where `text` is shorter than that. Also answered: HESKAVO_ARGUMENT, HESKAVO_MEMORY.
  */
 uint32_t heskavo_explain(const uint8_t *program, size_t program_len, uint32_t ctx_len, uint32_t rings, uint8_t *text, size_t text_len, uint64_t *wanted);
+
+/*
+ * Tells what a program can cost at most, for a context of ctx_len bytes and so many rings: HESKAVO_DONE with its steps and calls in `cost`, and what it asks
+ * of each ring and holds of it in `ring_costs`, which has a place for each ring. HESKAVO_REFUSED with the verdict. Also answered: HESKAVO_ARGUMENT,
+ * HESKAVO_MEMORY. Nothing is run. A ring of more bytes than the jobs ask for together whose records it may hold refuses none for want of room.
+ */
+uint32_t heskavo_cost(const uint8_t *program, size_t program_len, uint32_t ctx_len, struct heskavo_cost *cost, struct heskavo_ring_cost *ring_costs, size_t rings,
+                      struct heskavo_verdict *verdict);
 
 /*
  * Verifies a program for this context and so many rings, runs it once over fresh rings of `size` bytes, and puts the records that it left in each ring as

@@ -88,9 +88,9 @@ def named_by_edits(crate):
 
 
 def list_uncovered(names):
-    """Prints each clause that says less than an equation and that no wrong body names; the status is 1 where there is one."""
+    """Prints each clause that says less than an equation and that no wrong body names; the status is 1 where there is one. Crates for tests alone have none."""
     lacking = 0
-    for name in names:
+    for name in (it for it in names if not it.endswith("_tests")):
         named = named_by_edits(name)
         for clause in of_public_calls({name}):
             if not clause.is_equation() and clause.label() not in named:

@@ -26,9 +26,10 @@ class Owner(NamedTuple):
         return "::".join(it for it in (self.module, block, self.name) if it)
 
     def lines(self, crate, said):
-        """What a check said of the function, and of the closures in it."""
+        """What a check said of the function, and of the closures in it, which it names `MODULE::fn::FUNCTION::CALLED`."""
         path = f"{crate}::{self.path()}"
-        exact = [text for name, text in said.items() if name == path or name.startswith(path + "::")]
+        closures = "::".join(it for it in (crate, self.module, "fn", self.type, self.name) if it) + "::"
+        exact = [text for name, text in said.items() if name == path or name.startswith((path + "::", closures))]
         if exact:
             return exact
         within = "::".join(it for it in (crate, self.module) if it) + "::"
@@ -91,7 +92,7 @@ class Edit:
 
     def __init__(self, crate, path):
         self.crate, self.path, self.name = crate, path, path.stem
-        self.changes, self.owners, self.is_outside = [], set(), False
+        self.changes, self.owners, self.modules, self.is_outside = [], set(), set(), False
         self.taken_out, self.times_taken_out, self.open_clauses, self.open_goals = {}, 0, set(), []
         noted = OPEN.search(path.read_text())
         self.noted_open = noted[1] if noted else None
@@ -104,11 +105,17 @@ class Edit:
                     self.note_owner(file, was, first)
 
     def note_owner(self, file, lines, at):
-        owner = owner_of(self.crate.folder, file, lines, at) if file.startswith("src/") else None
+        is_code = file.startswith("src/")
+        owner = owner_of(self.crate.folder, file, lines, at) if is_code else None
         if owner:
             self.owners.add(owner)
         else:
             self.is_outside = True
+            self.modules.add(module_of(file) if is_code else "")
+
+    def paths(self):
+        """What a check has to look at: the functions that it changes and the modules in which it changes more; none stands for the whole crate."""
+        return set() if "" in self.modules else {owner.path() for owner in self.owners} | self.modules
 
     def label(self):
         return f"{self.crate.name}/{self.name}"

@@ -29,7 +29,8 @@ rt = load()
 def crates(root):
     """The crates of a repository by their names, lowest first."""
     os.chdir(root)
-    return {crate.name: crate for crate in rt.crates_of(str(root))}
+    found = rt.rtlib.crates_below(str(root))
+    return {crate.name: crate for crate in sorted(found, key=lambda it: len(it.below()))}
 
 
 def build_libraries(crate):
@@ -64,31 +65,29 @@ class Answer:
                 yield at[1], int(at[2]), at[3]
 
 
-class Base:
-    """What a check of a crate as it stands kept; each further check begins with a copy of it."""
+def kept_by_checks(crate):
+    """The folder of what `rt check` kept of the crate, or None where it kept nothing."""
+    folder = pathlib.Path(crate.folder, "out", "incremental")
+    return folder if folder.is_dir() and any(folder.iterdir()) else None
 
-    def __init__(self, crate, only=()):
-        self.crate, self.only = crate, [word for name in only for word in ("--only", name)]
-        self.room = tempfile.mkdtemp(prefix="refused-")
-        self.kept = f"{self.room}/kept"
 
-    def begin(self, start, jobs):
-        """Checks the crate as it stands, begun with what `start` holds where it is given, and tells whether it is proved."""
-        if start and os.path.isdir(start):
-            rt.linked(start, self.kept)
-        else:
-            os.mkdir(self.kept)
-        return Answer(rt.checked(self.crate, {}, ["--jobs", str(jobs), *self.only], self.kept))
+class Work:
+    """A folder of its own in which checks of a crate keep what they checked, each over what those before it kept."""
+
+    def __init__(self, crate):
+        self.crate = crate
+        self.room = pathlib.Path(tempfile.mkdtemp(prefix="refused-"))
+        self.kept = self.room / "kept"
+        self.kept.mkdir()
+
+    def begin_with(self, folder):
+        """Begins with a copy of what earlier checks kept."""
+        shutil.copytree(folder, self.kept, dirs_exist_ok=True)
 
     def check(self, texts, only=()):
-        """What a check says of the crate with these texts in place of its own."""
-        words = [word for name in only for word in ("--only", name)] if self.only else []
-        over = f"{self.room}/over"
-        shutil.rmtree(over, ignore_errors=True)
-        rt.linked(self.kept, over)
-        answer = Answer(rt.checked(self.crate, texts, ["--jobs", "1", *words], over))
-        shutil.rmtree(over, ignore_errors=True)
-        return answer
+        """What a check says of the crate with these texts in place of its own: of the functions that `only` names and what they call, or of all where it names none."""
+        words = [word for name in only for word in ("--only", name)]
+        return Answer(rt.checked(self.crate, texts, ["--jobs", "1", *words], str(self.kept)))
 
     def drop(self):
         shutil.rmtree(self.room, ignore_errors=True)

@@ -3,14 +3,12 @@ import hashlib
 import os
 import pathlib
 
-import kit
-
 STORE = pathlib.Path(os.environ.get("XDG_CACHE_HOME") or pathlib.Path.home() / ".cache") / "heskavo-refused"
 
 
 def stamp(crate, edits):
     """A sum of the crate's files, those of the libraries below it, the kit, and the edits."""
-    sum_of_all = hashlib.sha256(kit.rt.stamp_of(crate, {}).encode())
+    sum_of_all = hashlib.sha256(crate.stamp().encode())
     for edit in edits:
         sum_of_all.update(repr((edit.name, edit.path.read_bytes())).encode())
     return sum_of_all.hexdigest()

@@ -12,6 +12,7 @@ import edits as edit_files
 
 OPEN = re.compile(r"`search` did not prove (.*)$")
 HIDDEN = re.compile(r"it (?:calls|waits)\b")
+MISSING = re.compile(r"\.Goals` has no `([^`]*)`")
 # How often stored answers that no longer fit are taken out of an edit's way.
 TIMES = 3
 
@@ -34,13 +35,16 @@ def names(paragraph, name):
     return re.search(rf"(?<![\w-]){re.escape(name)}(?![\w-])", paragraph)
 
 
-def without_answers(text, lines):
-    """A file of answers without the paragraphs that have one of these lines, counted from 1, and without those that name what such a one defines."""
+def without_answers(text, lines, missing):
+    """A file of answers without the paragraphs that have one of these lines, counted from 1, or name a goal that is not there any more, and without those that
+    name what such a one defines."""
     paragraphs, at, gone = re.split(r"(?<=\n)(?=\n)", text), 1, {}
     heads = [re.match(r"(?:\s*--[^\n]*\n)*\s*(?:pub )?([^\s:]+)[^\n]* :", it) for it in paragraphs]
     for number, paragraph in enumerate(paragraphs):
         end = max(at + 1, at + paragraph.count("\n"))
         if heads[number] and any(at <= line < end for line in lines):
+            gone[number] = heads[number][1]
+        if heads[number] and any(names(paragraph, name) for name in missing):
             gone[number] = heads[number][1]
         at += paragraph.count("\n")
     found = True
@@ -66,8 +70,8 @@ def without_unused(paragraph, others):
 class Rounds:
     """The rounds over one crate, and what each of its wrong bodies came to."""
 
-    def __init__(self, base, edits, tell, is_thorough):
-        self.base, self.tell, self.left, self.outcomes, self.is_thorough = base, tell, [], {}, is_thorough
+    def __init__(self, work, edits, tell, is_thorough):
+        self.work, self.tell, self.left, self.outcomes, self.is_thorough = work, tell, [], {}, is_thorough
         self.number = 0
         for edit in edits:
             if edit.fault:
@@ -108,8 +112,7 @@ class Rounds:
 
     def one_round(self, group):
         """Tries these together, and returns how many were decided."""
-        only = sorted({owner.path() for edit in group for owner in edit.owners})
-        answer = self.base.check(edit_files.together(group), only)
+        answer = self.work.check(edit_files.together(group), sorted(set().union(*(edit.paths() for edit in group))))
         before = len(self.left)
         if not answer.reached_the_prover():
             self.without_broken(group, answer)
@@ -182,7 +185,8 @@ class Rounds:
             lines = [line for file, line, _ in answer.errors() if file == name]
             stored = pathlib.Path(edit.crate.folder, name)
             if lines and stored.is_file():
-                edit.taken_out[name] = without_answers(before.get(name) or stored.read_text(), lines)
+                missing = [goal for file, _, said_there in answer.errors() if file == name for goal in MISSING.findall(said_there)]
+                edit.taken_out[name] = without_answers(before.get(name) or stored.read_text(), lines, missing)
         if edit.taken_out == before or edit.times_taken_out > TIMES:
             self.decide(edit, Outcome.ANSWER, said)
             return 0

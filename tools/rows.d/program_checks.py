@@ -267,6 +267,11 @@ class Verifier:
 
 def verified(code, context, rings):
     """The instructions of a program that is accepted; Fault where the bytes or the shape are refused, Refused where a rule is broken."""
+    return annotated(code, context, rings)[0]
+
+
+def annotated(code, context, rings):
+    """The same, with what is known in front of each."""
     insns = decoded(code)
     shaped(insns)
     states = {0: State()}
@@ -286,4 +291,4 @@ def verified(code, context, rings):
                 differ.add(end)
             else:
                 states[end] = joined(states[end], state) if end in states else state
-    return insns
+    return insns, states

@@ -3,7 +3,7 @@ import collections
 import re
 
 from program_draws import drawn_rows
-from program_rows import answers_compute, answers_run, answers_shape, answers_units, answers_verify
+from program_rows import answers_compute, answers_cost, answers_run, answers_shape, answers_units, answers_verify
 
 # How many drawn programs one run answers, and how many rows are shown that it answers otherwise.
 BATCH = 2000
@@ -65,6 +65,9 @@ def allowed_by_model(line):
             case "verify":
                 context, rings, program = rest.split(" ", 2)
                 return answers_verify(bytes.fromhex(program), int(context), int(rings))
+            case "cost":
+                context, rings, program = rest.split(" ", 2)
+                return answers_cost(bytes.fromhex(program), int(context), int(rings))
             case "run":
                 context, rings, memory, given, program = rest.split(" ", 4)
                 return answers_run(bytes.fromhex(program), (int(context), int(rings)), bytes.fromhex(memory.strip("-")), given)

@@ -3,7 +3,7 @@ import random
 import struct
 
 from program_code import ALU, ALU64, CODES, CONDITIONS, JMP, JMP32
-from program_rows import answers_compute, answers_run, answers_shape, answers_units, answers_verify
+from program_rows import answers_compute, answers_cost, answers_run, answers_shape, answers_units, answers_verify
 
 CONTEXT, RINGS = 24, 2
 NUMBERS = (0, 1, 2, 5, 31, 32, 63, 64, 0x7F, 0x80, 0x7FFF, 0x8000, 2**31 - 1, 2**31, 2**32 - 1, 2**32, 2**63 - 1, 2**63, 2**64 - 1)
@@ -208,6 +208,9 @@ def drawn_rows(seed, number):
     rows = [(f"name program {program}", None), ("units {program}", answers_units(code)), ("shape {program}", answers_shape(code)),
             (f"verify {context} {rings} {{program}}", answers_verify(code, context, rings)),
             (f"run {context} {rings} {memory.hex() or '-'} {given} {{program}}", answers_run(code, (context, rings), memory, given))]
+    costs = answers_cost(code, context, rings)
+    if costs:
+        rows.append((f"cost {context} {rings} {{program}}", costs))
     for _ in range(2):
         dst, src = draw.number(), draw.number()
         insn = draw.arithmetic(1, 2) if draw.chance(0.7) else draw.branch(1, 2, 0)

@@ -1,6 +1,7 @@
-"""The answers of rows over programs: `units`, `shape`, `verify`, `run` and `compute`, by the plain model beside this file."""
+"""The answers of rows over programs: `units`, `shape`, `verify`, `cost`, `run` and `compute`, by the plain model beside this file."""
 from program_checks import Refused, verified
 from program_code import Fault, decoded, insn_at, shaped
+from program_costs import TooManyPaths, cost
 from program_runs import Run, Stray
 from program_values import jumps, value_of
 
@@ -43,6 +44,19 @@ def answers_verify(code, context, rings):
     if insns is None:
         return answers
     return [f"accepted units {len(code) // 8} calls {calls_of(insns)} context {context} rings {rings}"]
+
+
+def answers_cost(code, context, rings):
+    """The one answer of `cost`; none where the program has too many paths to go through."""
+    insns, answers = refusals(code, context, rings)
+    if insns is None:
+        return answers
+    try:
+        steps, calls, costs = cost(code, context, rings)
+    except TooManyPaths:
+        return None
+    each = (f"; ring {ring} records {records} bytes {size} held {held} {held_bytes}" for ring, (records, size, held, held_bytes) in enumerate(costs))
+    return [f"steps {steps} calls {calls}{''.join(each)}"]
 
 
 def answers_run(code, limits, context, given):

@@ -2,5 +2,6 @@ pub mod Verdicts
 pub mod Writing
 pub mod Tapes
 pub mod Explained
+pub mod Costs
 pub mod Runs
 pub mod inner

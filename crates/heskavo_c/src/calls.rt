@@ -1,5 +1,6 @@
 //! Each export, once for what it is for.
 
+use crate::costing::{ProgramCost, ProgramRingCost, heskavo_cost};
 use crate::explaining::heskavo_explain;
 use crate::running::heskavo_run;
 use crate::status::{DONE, FAULT, MORE, REFUSED, ROOM};
@@ -49,6 +50,30 @@ fn programs_are_accepted_and_refused(rt: HostRuntime) {
     assert_eq!(rt;
         (accepted, refused),
         ((DONE, [0; 3]), (REFUSED, [RULES, 1, 0]))
+    );
+}
+
+#[test]
+fn the_cost_is_told(rt: HostRuntime) {
+    let mut cost = ProgramCost { steps: 0, calls: 0 };
+    let mut rings = [ProgramRingCost {
+        records: 0,
+        bytes: 0,
+        held_records: 0,
+        held_bytes: 0,
+    }];
+    let mut verdict = NONE;
+    let alloc = rt.alloc();
+    let told = heskavo_cost(alloc, &SUBMIT_42, 16, &mut cost, &mut rings, &mut verdict);
+    let refused = heskavo_cost(alloc, &EXIT, 16, &mut cost, &mut [], &mut verdict);
+    let [ring] = rings;
+    assert_eq!(rt;
+        (told, cost.steps, cost.calls, refused),
+        (DONE, 11, 2, REFUSED)
+    );
+    assert_eq!(rt;
+        (ring.records, ring.bytes, ring.held_records, ring.held_bytes),
+        (1, 16, 1, 16)
     );
 }
 

@@ -1,4 +1,4 @@
-//! The library for C, and for what calls C: verification, explanation and runs of eBPF programs that write into BPF ring buffers, and the records of
+//! The library for C, and for what calls C: verification, explanation, costs and runs of eBPF programs that write into BPF ring buffers, and the records of
 //! tapes. Each export is a thin call of a proved crate, and says that crate's clauses again; what no C caller can be held to is tested, and told by a
 //! status (`status.rt`). Nothing is kept between calls, no lock is taken, and no thread is started. `include/heskavo_host.h` has the declarations.
 //!
@@ -7,6 +7,7 @@
 
 #[cfg(test)]
 mod calls;
+mod costing;
 mod explaining;
 mod load;
 mod outgoing;
@@ -19,6 +20,7 @@ mod verdict;
 mod verifying;
 mod version;
 
+pub use costing::{ProgramCost, ProgramRingCost, heskavo_cost};
 pub use explaining::heskavo_explain;
 pub use running::heskavo_run;
 pub use status::{ARGUMENT, BROKEN, DONE, FAULT, MEMORY, MORE, REFUSED, ROOM};

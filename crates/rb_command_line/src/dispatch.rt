@@ -16,7 +16,7 @@ use clap::Error;
 use clap::error::ErrorKind;
 use rb_io::{Buffered, NotedReader, NotedWriter, write_whole};
 use rb_json::LineForm;
-use rb_loader::{Bounds, ProgramFault, explain, explain_portable, read_all};
+use rb_loader::{Bounds, ProgramFault, cost, explain, explain_portable, read_all};
 use rb_run_commands::{JobsFault, TapeFile, check, check_portable, run, run_to_file};
 use rb_script::{SimFault, line_reason, sim};
 use rb_tape_commands::{FeedFault, TapeRefusal, feed, tape};
@@ -39,7 +39,7 @@ const READ_AHEAD: usize = 65_536;
 /// With `--progress`, and without it where `is_watched`, as by a person at a terminal, `feed`, `tape`, `run` and `sim` tell about once a second how far they are,
 /// on the runtime's standard error and not on `err`, and take it away at the end.
 ///
-/// `feed`, `tape`, `explain` and `sim` wait for nobody. `check` and `run` hold a ring's lock for each call, and `run` starts threads.
+/// `feed`, `tape`, `explain`, `cost` and `sim` wait for nobody. `check` and `run` hold a ring's lock for each call, and `run` starts threads.
 pub fn command<T, F: Write + Send + Drop, S: AsStr, R: Read, W: Write, E: Write>(
     rt: &T,
     alloc: Global,
@@ -237,6 +237,9 @@ where
             form,
             portable,
         } => of_program(explained(alloc, input, out, bounds, form, portable)),
+        Request::Cost { bounds, form, jobs } => {
+            of_program(cost(alloc, input, out, bounds, form, jobs))
+        }
         Request::Run { jobs, tape: None } => of_jobs(run(
             rt, alloc, input, out, told, jobs, progress,
         )),

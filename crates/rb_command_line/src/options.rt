@@ -16,6 +16,7 @@ pub(crate) fn program<'a>(alloc: Global) -> Result<Command<'a>, AllocError> {
     let program = with(program, tape(alloc))?;
     let program = with(program, check(alloc))?;
     let program = with(program, explain(alloc))?;
+    let program = with(program, cost(alloc))?;
     let program = with(program, run(alloc))?;
     with(program, sim(alloc))
 }
@@ -79,6 +80,22 @@ fn explain<'a>(alloc: Global) -> Result<Command<'a>, AllocError> {
         .arg(why(alloc))
 }
 
+fn cost<'a>(alloc: Global) -> Result<Command<'a>, AllocError> {
+    Command::new(alloc, "cost")
+        .about(
+            "Verifies a program, given as text in hex, and prints what it can cost at most: steps, calls, and records and bytes of each ring",
+        )
+        .after_help(
+            "Example: tools/bpf-hex examples/c/event.c | rbhost cost --workers 4 --behind 8",
+        )
+        .arg(ctx(alloc))?
+        .arg(rings(alloc))?
+        .arg(at_once(alloc)?)?
+        .arg(behind(alloc)?)?
+        .arg(json(alloc))?
+        .arg(why(alloc))
+}
+
 fn run<'a>(alloc: Global) -> Result<Command<'a>, AllocError> {
     Command::new(alloc, "run")
         .about(
@@ -113,6 +130,20 @@ fn workers<'a>(alloc: Global) -> Arg<'a> {
     option(alloc, "workers").value_name("W").required(true).help(
         "How many workers there are, each on a thread of its own: 1 to 256",
     )
+}
+
+fn at_once<'a>(alloc: Global) -> Result<Arg<'a>, AllocError> {
+    option(alloc, "workers")
+        .value_name("W")
+        .help("How many workers run the program at once, for the size of a ring: 1 to 256")
+        .requires_arg("behind")
+}
+
+fn behind<'a>(alloc: Global) -> Result<Arg<'a>, AllocError> {
+    option(alloc, "behind")
+        .value_name("J")
+        .help("How many finished jobs the consumer may be behind: 0 to 1000000")
+        .requires_arg("workers")
 }
 
 fn jobs<'a>(alloc: Global) -> Arg<'a> {

@@ -19,7 +19,7 @@ pub(crate) enum Refusal {
     /// Of `tape`.
     #[error("{0}")]
     Tape(TapeRefusal),
-    /// Of `check` and `explain`.
+    /// Of `check`, `explain` and `cost`.
     #[error("{0}")]
     Program(ProgramFault),
     /// Of `run`.

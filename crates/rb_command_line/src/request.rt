@@ -7,6 +7,7 @@ ghost use Rattle.std.specs.Str.Parse.{IsNumeral, digits_value};
 use crate::options::program;
 use clap::error::ErrorKind;
 use clap::{ArgMatches, Command, Error};
+use rb_cost::JobsAtOnce;
 use rb_json::LineForm;
 use rb_loader::Bounds;
 use rb_run_commands::JobsRequest;
@@ -40,6 +41,12 @@ pub(crate) enum Request<'a> {
         bounds: Bounds,
         form: LineForm,
         portable: bool,
+    },
+    /// Prints what a program can cost at most: how it is printed, and the jobs for which a ring's size is chosen, where that is asked for.
+    Cost {
+        bounds: Bounds,
+        form: LineForm,
+        jobs: Option<JobsAtOnce>,
     },
     /// Verifies a program and runs it as jobs on threads, and writes what they sent as a tape to the file of this name, where there is one.
     Run {
@@ -114,6 +121,7 @@ impl Request<'_> {
             | Request::Tape { form, .. }
             | Request::Check { form, .. }
             | Request::Explain { form, .. }
+            | Request::Cost { form, .. }
             | Request::Sim { form, .. } => form,
             Request::Run { jobs, .. } => jobs.form,
         }
@@ -183,6 +191,11 @@ fn command_request<'a>(
             form: form(options),
             portable: options.get_flag("portable"),
         }),
+        "cost" => Ok(Request::Cost {
+            bounds: bounds(alloc, program, options)?,
+            form: form(options),
+            jobs: jobs_at_once(alloc, program, options)?,
+        }),
         "run" => Ok(Request::Run {
             jobs: jobs_request(alloc, program, options)?,
             tape: options.get_str("tape"),
@@ -244,6 +257,21 @@ fn jobs_request(
         start: number(alloc, program, options, "start")?,
         form: form(options),
     })
+}
+
+// The jobs for which a ring's size is chosen, where that is asked for: the one option comes with the other.
+fn jobs_at_once(
+    alloc: Global,
+    program: &mut Command<'_>,
+    options: &ArgMatches<'_>,
+) -> Result<Option<JobsAtOnce>, Error> {
+    if options.get_str("workers").is_none() {
+        return Ok(None);
+    }
+    Ok(Some(JobsAtOnce {
+        workers: bounded(alloc, program, options, "workers", 1, 256)?,
+        behind: bounded(alloc, program, options, "behind", 0, 1_000_000)?,
+    }))
 }
 
 // How lines of output are written.

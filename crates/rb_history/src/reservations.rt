@@ -27,8 +27,8 @@ impl Model for Reservation {
 
 impl Reservation {
     /// The reservation of a record at a position, of this worker and serial, as long as the sheet. For a ring's `reserve`, which
-    /// calls it once it has logged the grant. A ring hands any other back as `Stray`, unless a busy record has its four
-    /// numbers.
+    /// calls it once it has logged the grant. The ring over a plain list, for tests, hands any other back as `Stray`, unless a
+    /// busy record has its four numbers; rings with hands keep it inside a reservation of their own.
     pub fn new(pos: u64, worker: u32, serial: u64, sheet: Sheet) -> Reservation
         ensures parts { result ≡ record { pos = pos; worker = worker; serial = serial; bytes = sheet } }
     {

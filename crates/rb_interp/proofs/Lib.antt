@@ -13,6 +13,7 @@ mod Forms
 mod RegisterLaws
 mod Renumbering
 pub mod Steady
+mod StackSteps
 mod HeldRecords
 mod Reaching
 mod RunSteps

@@ -61,6 +61,7 @@ mod request;
 mod served;
 mod slot_table;
 mod stack;
+mod stack_operations;
 mod step;
 mod writable_range;
 

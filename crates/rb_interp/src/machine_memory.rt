@@ -1,8 +1,9 @@
 //! The memory that a program reaches: its parts, and the names of the records in them.
 
-ghost use Rattle.std.specs.Prelude.{◌≡◌, ◌≢◌, ℕ, ◌<◌, ◌≤◌, [], ◌∷◌, ◌++◌, None, Some, replicate, length};
+ghost use Rattle.std.specs.Prelude.{◌≡◌, ◌≢◌, ℕ, ◌<◌, ◌≤◌, ◌+◌, [], ◌∷◌, ◌++◌, None, Some, replicate, length, take, drop};
 ghost use Rattle.byteorder.specs.Endian.{little_bytes};
 ghost use Rattle.rb_insn.specs.Sizes.{byte_count};
+ghost use Rattle.rb_lend.specs.Ranges.{written_at};
 ghost use Rattle.rb_semantics.specs.ProgramMemory.{byte_of, place_at, read, write, spill};
 ghost use Rattle.rb_interp.specs.StoredMemory.{StoredMemory, program_memory_of, held_record, others, Rewrites};
 ghost use Rattle.rb_interp.specs.inner.NearOffsets.{IsNear};
@@ -183,5 +184,25 @@ impl<C: Context, R: Lent> MachineMemory<C, R> {
             (Size::Double, MemoryRegion::Stack) => self.pointers.beginning(offset + 512),
             _ => None,
         }
+    }
+
+    /// Lends `len` bytes of the stack from byte `at` on for reading.
+    #[inline(always)]
+    pub(crate) fn stack_bytes(&self, at: usize, len: usize) -> &[u8]
+        requires { at + len ≤ length self.now.stack }
+        ensures bytes { result.now ≡ take len (drop at self.now.stack) }
+        ensures length { length result.now ≡ len }
+    {
+        &self.parts.stack.bytes()[at..at + len]
+    }
+
+    /// Writes the low bytes of a number to the stack from byte `at` on, the lowest first, where no pointer is kept.
+    #[inline(always)]
+    pub(crate) fn store_on_stack(&mut self, at: usize, size: Size, number: u64)
+        requires { at + byte_count size ≤ 512 }
+        ensures { self.new ≡ record self.old { stack = written_at at self.old.stack (little_bytes (byte_count size) number) } }
+    {
+        let bytes = self.parts.stack.range_mut(at, size.bytes());
+        put_number(size, bytes, number);
     }
 }

@@ -45,7 +45,7 @@ whenever-free-by-chapter v views kept pass u at known =
     )
 
 -- what the last of some roles knows
-known-last : (room : ℕ) (handed_out : List Chapter) (ks : List ChapterKnowledge) (k : ChapterKnowledge) → AllKnowHandedOut room handed_out (ks ++ k ∷ []) → k.whole.role ≡ Consumer → k.handed_out ≡ handed_out
+pub known-last : (room : ℕ) (handed_out : List Chapter) (ks : List ChapterKnowledge) (k : ChapterKnowledge) → AllKnowHandedOut room handed_out (ks ++ k ∷ []) → k.whole.role ≡ Consumer → k.handed_out ≡ handed_out
 known-last room handed_out [] k known is = (known.0 is).1
 known-last room handed_out (x ∷ ks) k known is = known-last room handed_out ks k known.1 is
 

@@ -1,6 +1,6 @@
 -- Each step at the lock keeps the rule with hands.
 use Rattle.std.specs.Prelude.{◌==◌, if◌then◌else◌}
-use Rattle.std.proofs.Common.{◌≡◌, ◌≢◌, ℕ, zero, suc, ◌+◌, ◌<◌, ◌≤◌, Bool, true, false, true≢false, cond, List, [], ◌∷◌, ◌++◌, set, map, length, Option, Some, None, inl, inr, sym, refl, ap, ◌∙◌, subst, ⊎_elim, append_assoc, length-append, arith}
+use Rattle.std.proofs.Common.{◌≡◌, ◌≢◌, ℕ, zero, suc, ◌+◌, ◌<◌, ◌≤◌, Bool, true, false, true≢false, cond, List, [], ◌∷◌, ◌++◌, set, map, length, Option, Some, None, inl, inr, sym, refl, ap, ◌∙◌, subst, ⊎_elim, append_assoc, append-nil, length-append, arith}
 use Rattle.std.proofs.lemmas.List.{map-set, map-append, length-map, get_or-replicate}
 use Rattle.std.proofs.lemmas.Grind.{flat_map-append}
 use Rattle.std.proofs.lemmas.Bool.{eq-eqb}
@@ -29,7 +29,9 @@ use Rattle.rb_chapter_ring.specs.declared.out_record.OutRecord.{OutRecord}
 use Rattle.rb_chapter_ring.specs.Hands.{Hands, HandBook, free_hands, free_book, hands_of, hand_at}
 use Rattle.rb_chapter_ring.specs.HandRing.{HandRing, HasHands}
 use Rattle.rb_chapter_ring.proofs.ChangedHands.{other-hands}
-use Rattle.rb_ledger.specs.HandKnowledge.{ChapteredHandRing, hand_ring_of, cut_of, HandKnowledge, HandPassView, hand_view, chapters_out, chapters_known, without_hands, rings_of, KnowsHands, AllKnowHands}
+use Rattle.rb_ledger.specs.HandKnowledge.{ChapteredHandRing, hand_ring_of, HandKnowledge, HandPassView, hand_view, chapters_out, chapters_known, without_hands, rings_of, KnowsHands, AllKnowHands}
+use Rattle.rb_ledger.specs.HandedOut.{IsCutOf}
+use Rattle.rb_ledger.proofs.HandedOut.{cut-behind, cut-now-is}
 use Rattle.rb_ledger.specs.HandLockRule.{HasBook, AllHaveBook, HasBookWhereOut, ShowsHands, KeepsHandLockRule}
 use Rattle.rb_ledger.specs.HandLockSteps.{TakesHandState, hands_known_by, hand_knowledge_after, MayPutHands, PutsHandState, LeavesOtherHands, unopened_hands, opening_hands, opening_worker_hands, opening_hand_roles, OpensHandState, first_hand_role, other_hand_roles}
 use Rattle.rb_ledger.specs.HandLockLaws.{OneHandLeavesOthers}
@@ -58,27 +60,27 @@ set-chapters room handed_out items views pass w x is kept = subst (old.KeepsRule
 
 -- the rule with hands, where the rule without them is about this ring
 with-book : (room : ℕ) (handed_out : List Chapter) (book : HandBook) (items : List HandRing) (views : List HandPassView) → old.KeepsRuleOf room handed_out (rings_of items) (map without_hands views) → AllHaveBook book items
-    → Everyone (ShowsHands room (length (joined handed_out)) book) views → KeepsHandLockRule items views
+    → Everyone (ShowsHands room handed_out book) views → KeepsHandLockRule items views
 with-book room handed_out book items views kept has shows = record {
   book = book;
   chapters = kept.rule;
   queued_has = has;
-  each_shows = subst (λ r. Everyone (ShowsHands r (length (joined kept.rule.handed_out)) book) views) (sym kept.room_is)
-      (subst (λ hs. Everyone (ShowsHands room (length (joined hs)) book) views) (sym kept.handed_out_is) shows);
+  each_shows = subst (λ r. Everyone (ShowsHands r kept.rule.handed_out book) views) (sym kept.room_is)
+      (subst (λ hs. Everyone (ShowsHands room hs book) views) (sym kept.handed_out_is) shows);
 }
 
 -- ---- what passes show
 
-module _ (room cut : ℕ) (book : HandBook) where
-  known-append : (xs ys : List HandKnowledge) → AllKnowHands room cut book xs → AllKnowHands room cut book ys → AllKnowHands room cut book (xs ++ ys)
+module _ (room : ℕ) (handed_out : List Chapter) (book : HandBook) where
+  known-append : (xs ys : List HandKnowledge) → AllKnowHands room handed_out book xs → AllKnowHands room handed_out book ys → AllKnowHands room handed_out book (xs ++ ys)
   known-append [] ys a b = b
   known-append (x ∷ xs) ys a b = (a.0, known-append xs ys a.1 b)
 
-  known-first : (ks : List HandKnowledge) → AllKnowHands room cut book ks → AllKnowHands room cut book (first_hand_role ks)
+  known-first : (ks : List HandKnowledge) → AllKnowHands room handed_out book ks → AllKnowHands room handed_out book (first_hand_role ks)
   known-first [] a = tt
   known-first (k ∷ ks) a = (a.0, tt)
 
-  known-rest : (ks : List HandKnowledge) → AllKnowHands room cut book ks → AllKnowHands room cut book (other_hand_roles ks)
+  known-rest : (ks : List HandKnowledge) → AllKnowHands room handed_out book ks → AllKnowHands room handed_out book (other_hand_roles ks)
   known-rest [] a = tt
   known-rest (k ∷ ks) a = a.1
 
@@ -86,19 +88,29 @@ apart : (b : Bool) (n : ℕ) → cond b 1 0 + n ≡ 0 → (b ≡ false) × (n �
 apart true n e = absurd (omega arith)
 apart false n e = (refl, omega arith)
 
+-- what a role has seen is no longer than the history
+seen-within : (l : Ledger) (k : RoleKnowledge) → FitsLedger l k → length k.seen.history ≤ length l.ring.history
+seen-within l k fit =
+    let is = ap length fit.goes_on.history_is in
+    let sums = length-append k.seen.history fit.goes_on.behind in
+    omega arith
+
+-- of these chapters, what was seen of a history of this length stays known to be handed out
+abbrev StaysCut : List Chapter → List Chapter → ℕ → Type 0
+StaysCut old new long = (cut seen : ℕ) → seen ≤ long → IsCutOf old cut seen → IsCutOf new cut seen
+
 -- roles that are not this one know their hands still
-known-still : (role : Role) (room cut cut' : ℕ) (book new : HandBook) → cut ≤ cut' → LeavesOtherHands role book new → (ks : List HandKnowledge) → role_count role (whole_knowledge (chapters_known ks)) ≡ 0
-    → AllKnowHands room cut book ks → AllKnowHands room cut' new ks
-known-still role room cut cut' book new grows leaves [] none a = tt
-known-still role room cut cut' book new grows leaves (k ∷ ks) none a =
-    let parts = apart (same_role role k.chapter.whole.role) (role_count role (whole_knowledge (chapters_known ks))) none in
-    let within : k.cut ≤ cut = a.0.cut_within in (
+known-still : (role : Role) (room : ℕ) (old_out new_out : List Chapter) (book new : HandBook) (l : Ledger) → StaysCut old_out new_out (length l.ring.history) → LeavesOtherHands role book new → (ks : List HandKnowledge)
+    → role_count role (whole_knowledge (chapters_known ks)) ≡ 0 → AllFit l (whole_knowledge (chapters_known ks)) → AllKnowHands room old_out book ks → AllKnowHands room new_out new ks
+known-still role room old_out new_out book new l stays leaves [] none fit a = tt
+known-still role room old_out new_out book new l stays leaves (k ∷ ks) none fit a =
+    let parts = apart (same_role role k.chapter.whole.role) (role_count role (whole_knowledge (chapters_known ks))) none in (
       record {
         room_is = a.0.room_is;
-        cut_within = omega arith;
+        cut_is = stays k.cut (length k.chapter.whole.seen.history) (seen-within l k.chapter.whole fit.0) a.0.cut_is;
         hands_are = λ w is. a.0.hands_are w is ∙ sym (leaves w (subst (λ x. same_role role x ≡ false) is parts.0));
       },
-      known-still role room cut cut' book new grows leaves ks parts.1 a.1,
+      known-still role room old_out new_out book new l stays leaves ks parts.1 fit.1 a.1,
     )
 
 -- ---- a pass without the state takes it out
@@ -109,14 +121,13 @@ takes pass v none x items views kept at =
     let step = done.2.0 in
     let room = kept.chapters.room in
     let handed_out = kept.chapters.handed_out in
-    let cut = length (joined handed_out) in
     let c : ChapteredHandRing = record { chaptered = step.taken; hands = x.hands } in
     let w = hand_view v.knows (Some c) in
     let mine = kept.each_shows pass v at in
     let has = kept.queued_has.0 in
     let is : hand_ring_of c ≡ x = λ i. record { ring = step.ring_is i; hands = x.hands } in
     let has_book : HasBook kept.book (hand_ring_of c) = record { same = has.same; has = subst HasHands (sym is) has.has } in
-    let shows : Everyone (ShowsHands room cut kept.book) (set views pass w) = everyone-set (ShowsHands room cut kept.book) views pass w (record { where_out = has_book; known = mine.known }) (λ j u _ e. kept.each_shows j u e) in
+    let shows : Everyone (ShowsHands room handed_out kept.book) (set views pass w) = everyone-set (ShowsHands room handed_out kept.book) views pass w (record { where_out = has_book; known = mine.known }) (λ j u _ e. kept.each_shows j u e) in
     let room_is : step.taken.ring.chapter.room ≡ room = ap (λ (r : ChapterRing). r.chapter.room) step.ring_is ∙ kept.chapters.queued_goes_on.0.room_same in (
       w,
       with-book room handed_out kept.book items (set views pass w) (set-chapters room handed_out (rings_of items) views pass w done.0 step.out_is done.1) kept.queued_has.1 shows,
@@ -124,8 +135,8 @@ takes pass v none x items views kept at =
         taken = c;
         ring_is = is;
         has = has_book.has;
-        known = subst (λ r. AllKnowHands r (cut_of c.chaptered) x.hands v.knows) (sym room_is)
-            (subst (λ hs. AllKnowHands room (length (joined hs)) x.hands v.knows) (sym done.2.1) (subst (λ b. AllKnowHands room cut b v.knows) (sym has.same) mine.known));
+        known = subst (λ r. AllKnowHands r c.chaptered.handed_out x.hands v.knows) (sym room_is)
+            (subst (λ hs. AllKnowHands room hs x.hands v.knows) (sym done.2.1) (subst (λ b. AllKnowHands room handed_out b v.knows) (sym has.same) mine.known));
         out_is = refl;
         chapters = subst (TakesChapterState (without_hands v) x.ring) step.out_is step;
       },
@@ -167,13 +178,16 @@ none-out items views pass v c kept has at j u other e =
 same-out : (a b : ChapteredRing) → ◌≡◌ {A = Option ChapteredRing} (Some a) (Some b) → a ≡ b
 same-out a b e = cc
 
--- of what was handed out nothing is taken back
-longer : (out : ChapteredRing) (new : ChapterRing) → length (joined out.handed_out) ≤ cut_of (chaptered_after out new)
-longer out new = by_test (new.chapter.number == out.ring.chapter.number)
+-- what was seen of the ring, as it was before a state was put back, stays known to be handed out
+stays-cut : (out : ChapteredRing) (new : ChapterRing) → StaysCut out.handed_out (handed_out_after out new) (length (whole_of out).history)
+stays-cut out new = by_test (new.chapter.number == out.ring.chapter.number)
   where
-    by_test : (b : Bool) → length (joined out.handed_out) ≤ length (joined (if b then out.handed_out else out.handed_out ++ out.ring.chapter ∷ []))
-    by_test true = omega arith
-    by_test false = let more = ap length (flat_map-append (λ (c : Chapter). c.entries) out.handed_out (out.ring.chapter ∷ [])) ∙ length-append (joined out.handed_out) (joined (out.ring.chapter ∷ [])) in omega arith
+    whole : joined (out.handed_out ++ out.ring.chapter ∷ []) ≡ (whole_of out).history
+    whole = flat_map-append (λ (c : Chapter). c.entries) out.handed_out (out.ring.chapter ∷ []) ∙ ap (λ es. joined out.handed_out ++ es) (append-nil out.ring.chapter.entries)
+
+    by_test : (b : Bool) → StaysCut out.handed_out (if b then out.handed_out else out.handed_out ++ out.ring.chapter ∷ []) (length (whole_of out).history)
+    by_test true cut seen low is = is
+    by_test false cut seen low is = cut-behind out.handed_out out.ring.chapter cut seen (subst (λ es. seen ≤ length es) (sym whole) low) is
 
 module _ (n pass : ℕ) (me : HandKnowledge) (out : ChapteredHandRing) (new : HandRing) (may : MayPutChapter (without_hands (hand_view (me ∷ []) (Some out))) new.ring) (has : HasHands new)
     (others : LeavesOtherHands me.chapter.whole.role out.hands new.hands)
@@ -195,19 +209,29 @@ module _ (n pass : ℕ) (me : HandKnowledge) (out : ChapteredHandRing) (new : Ha
       omega arith
 
   -- what was handed out stays so
-  abbrev cut-now : ℕ
-  cut-now = cut_of (chaptered_after out.chaptered new.ring)
+  abbrev out-now : List Chapter
+  out-now = handed_out_after out.chaptered new.ring
 
   was-on : GoesOnFrom kept.chapters.room kept.chapters.handed_out out.chaptered
   was-on = (kept.chapters.each_knows pass (without_hands (hand_view (me ∷ []) (Some out))) (get-map views pass (hand_view (me ∷ []) (Some out)) at)).goes_on
 
-  grows : length (joined kept.chapters.handed_out) ≤ cut-now
-  grows = subst (λ hs. length (joined hs) ≤ cut-now) was-on.handed_out_same (longer out.chaptered new.ring)
+  -- the ring of the ledger is the one that is out
+  whole-is : kept.chapters.whole.ledger.ring ≡ whole_of out.chaptered
+  whole-is =
+      let v = hand_view (me ∷ []) (Some out) in
+      let queued = map (whole_ring (joined kept.chapters.handed_out)) (rings_of items) in
+      let o = outs_take (whole_views views) pass (whole_view (without_hands v)) (pass_view [] None) (whole_of out.chaptered) (get-whole views pass v at) refl refl in
+      sym (single (queued ++ o.0) o.1 (whole_of out.chaptered) kept.chapters.whole.ledger.ring (append_assoc queued o.0 (whole_of out.chaptered ∷ o.1) ∙ ap (λ os. queued ++ os) (sym o.2) ∙ kept.chapters.whole.one_state)).1
 
-  mine-now : KnowsHands kept.chapters.room cut-now new.hands (hand_knowledge_after out new me)
+  stays : StaysCut kept.chapters.handed_out out-now (length kept.chapters.whole.ledger.ring.history)
+  stays =
+      subst (λ hs. StaysCut hs out-now (length kept.chapters.whole.ledger.ring.history)) was-on.handed_out_same
+      (subst (λ (r : Ring). StaysCut out.chaptered.handed_out out-now (length r.history)) (sym whole-is) (stays-cut out.chaptered new.ring))
+
+  mine-now : KnowsHands kept.chapters.room out-now new.hands (hand_knowledge_after out new me)
   mine-now = record {
     room_is = (kept.each_shows pass (hand_view (me ∷ []) (Some out)) at).known.0.room_is;
-    cut_within = omega arith;
+    cut_is = cut-now-is out-now (length (whole_of (chaptered_after out.chaptered new.ring)).history);
     hands_are = λ w is. known-now me.chapter.whole.role new.hands me.hands w is;
   }
     where
@@ -231,10 +255,11 @@ module _ (n pass : ℕ) (me : HandKnowledge) (out : ChapteredHandRing) (new : Ha
       let queue : rings_of items ++ new.ring ∷ [] ≡ rings_of (items ++ new ∷ []) = sym (map-append (λ (x : HandRing). x.ring) items (new ∷ [])) in
       let rule = subst (λ q. old.KeepsRuleOf kept.chapters.room handed_out q (map without_hands (set views pass w))) queue (set-chapters kept.chapters.room handed_out (rings_of items ++ new.ring ∷ []) views pass w done.0 same done.1) in
       let has_all : AllHaveBook new.hands (items ++ new ∷ []) = subst (λ l. AllHaveBook new.hands (l ++ new ∷ [])) (sym none) (record { same = refl; has = has }, tt) in
-      let shows : Everyone (ShowsHands kept.chapters.room cut-now new.hands) (set views pass w) = everyone-set (ShowsHands kept.chapters.room cut-now new.hands) views pass w (record { where_out = tt; known = (mine-now, tt) })
+      let shows : Everyone (ShowsHands kept.chapters.room out-now new.hands) (set views pass w) = everyone-set (ShowsHands kept.chapters.room out-now new.hands) views pass w (record { where_out = tt; known = (mine-now, tt) })
       (λ j u other e. record {
         where_out = subst (HasBookWhereOut new.hands) (sym (none-out (rings_of items) views pass v out kept.chapters refl at j u other e)) tt;
-        known = known-still me.chapter.whole.role kept.chapters.room (length (joined kept.chapters.handed_out)) cut-now kept.book new.hands grows leaves u.knows (none-mine j u other e) (kept.each_shows j u e).known;
+        known = known-still me.chapter.whole.role kept.chapters.room kept.chapters.handed_out out-now kept.book new.hands kept.chapters.whole.ledger stays leaves u.knows (none-mine j u other e)
+            (kept.chapters.whole.each_saw_a_beginning j (whole_view (without_hands u)) (get-whole views j u e)) (kept.each_shows j u e).known;
       }) in
       (w, with-book kept.chapters.room handed_out new.hands (items ++ new ∷ []) (set views pass w) rule has_all shows, refl)
 
@@ -264,11 +289,11 @@ forks pass v items views kept at =
     (λ i. set (map without_hands views) pass (chapter_view (rest-known v.knows i) (chapters_out v.out)) ++ chapter_view (first-known v.knows i) None ∷ [])
     ∙ ap (λ l. l ++ without_hands right ∷ []) (sym (map-set without_hands views pass left)) ∙ sym (map-append without_hands vs (right ∷ [])) in
     let room = kept.chapters.room in
-    let cut = length (joined kept.chapters.handed_out) in
-    let P = ShowsHands room cut kept.book in
-    let shows : Everyone P vs = everyone-set P views pass left (record { where_out = mine.where_out; known = known-rest room cut kept.book v.knows mine.known }) (λ j u _ e. kept.each_shows j u e) in
+    let handed_out = kept.chapters.handed_out in
+    let P = ShowsHands room handed_out kept.book in
+    let shows : Everyone P vs = everyone-set P views pass left (record { where_out = mine.where_out; known = known-rest room handed_out kept.book v.knows mine.known }) (λ j u _ e. kept.each_shows j u e) in
     with-book room kept.chapters.handed_out kept.book items (vs ++ right ∷ []) (subst (old.KeepsRuleOf room kept.chapters.handed_out (rings_of items)) split done) kept.queued_has
-    (λ j u e. ⊎_elim (λ h. shows j u h) (λ (same : right ≡ u). subst P same (record { where_out = tt; known = known-first room cut kept.book v.knows mine.known })) (at_snoc vs right u j e))
+    (λ j u e. ⊎_elim (λ h. shows j u h) (λ (same : right ≡ u). subst P same (record { where_out = tt; known = known-first room handed_out kept.book v.knows mine.known })) (at_snoc vs right u j e))
 
 pub merges : (pass : ℕ) (v : HandPassView) (other : ℕ) (u : HandPassView) → u.out ≡ None → Merges KeepsHandLockRule pass v other u (hand_view (u.knows ++ v.knows) v.out) (hand_view [] None)
 merges pass v other u none items views kept at ne at' =
@@ -285,9 +310,9 @@ merges pass v other u none items views kept at ne at' =
     let mine = kept.each_shows pass v at in
     let theirs = kept.each_shows other u was in
     let room = kept.chapters.room in
-    let cut = length (joined kept.chapters.handed_out) in
-    let P = ShowsHands room cut kept.book in
-    let shows : Everyone P vs = everyone-set P views pass both (record { where_out = mine.where_out; known = known-append room cut kept.book u.knows v.knows theirs.known mine.known }) (λ j y _ e. kept.each_shows j y e) in
+    let handed_out = kept.chapters.handed_out in
+    let P = ShowsHands room handed_out kept.book in
+    let shows : Everyone P vs = everyone-set P views pass both (record { where_out = mine.where_out; known = known-append room handed_out kept.book u.knows v.knows theirs.known mine.known }) (λ j y _ e. kept.each_shows j y e) in
     with-book room kept.chapters.handed_out kept.book items (set vs other spent) (subst (old.KeepsRuleOf room kept.chapters.handed_out (rings_of items)) all done) kept.queued_has
     (everyone-set P vs other spent (record { where_out = tt; known = tt }) (λ j y _ e. shows j y e))
 
@@ -300,10 +325,10 @@ workers-chapters b room first (suc n) = ap (λ ks. opening_role (Worker first) b
 free-there : (workers w : ℕ) → w < workers → hands_of (free_book workers) w ≡ free_hands
 free-there workers w low = get_or-replicate workers w free_hands [] low
 
-workers-free : (b : Book) (room workers first n : ℕ) → first + n ≤ workers → AllKnowHands room 0 (free_book workers) (opening_worker_hands b room first n)
+workers-free : (b : Book) (room workers first n : ℕ) → first + n ≤ workers → AllKnowHands room [] (free_book workers) (opening_worker_hands b room first n)
 workers-free b room workers first zero le = tt
 workers-free b room workers first (suc n) le =
-    (record { room_is = refl; cut_within = omega arith; hands_are = λ w is. sym (ap (hands_of (free_book workers)) (worker-is first w is) ∙ free-there workers first (omega arith)) }, workers-free b room workers (first + 1) n (omega arith))
+    (record { room_is = refl; cut_is = cut-now-is [] (length b.history); hands_are = λ w is. sym (ap (hands_of (free_book workers)) (worker-is first w is) ∙ free-there workers first (omega arith)) }, workers-free b room workers (first + 1) n (omega arith))
   where
     worker-is : (a b : ℕ) → Worker a ≡ Worker b → b ≡ a
     worker-is a b e = cc
@@ -336,14 +361,14 @@ module _ (n pass : ℕ) (r : HandRing) (is_ring : IsRing (whole_of (chaptered_ri
       let done = old.put-first n pass r.ring is_ring has_chapters nothing (rings_of items) (map without_hands views) kept.chapters (get-map views pass v at) fewer in
       let roles : done.0 ≡ without_hands w = done.2 ∙ ap (λ ks. chapter_view (opening_role Consumer b m ∷ ks) None) (sym (workers-chapters b m 0 workers)) in
       let queue : rings_of items ++ r.ring ∷ [] ≡ rings_of (items ++ r ∷ []) = sym (map-append (λ (x : HandRing). x.ring) items (r ∷ [])) in
-      let all_free : AllKnowHands m 0 r.hands (opening_worker_hands b m 0 workers) = subst (λ x. AllKnowHands m 0 x (opening_worker_hands b m 0 workers)) (sym free) (workers-free b m workers 0 workers (omega arith)) in
-      let consumer : KnowsHands m 0 r.hands (opening_hands (opening_role Consumer b m)) = record { room_is = refl; cut_within = omega arith; hands_are = λ x is. absurd (cc) } in
+      let all_free : AllKnowHands m [] r.hands (opening_worker_hands b m 0 workers) = subst (λ x. AllKnowHands m [] x (opening_worker_hands b m 0 workers)) (sym free) (workers-free b m workers 0 workers (omega arith)) in
+      let consumer : KnowsHands m [] r.hands (opening_hands (opening_role Consumer b m)) = record { room_is = refl; cut_is = cut-now-is [] (length b.history); hands_are = λ x is. absurd (cc) } in
       let rule = subst (λ q. old.KeepsRuleOf m [] q (map without_hands (set views pass w))) queue (set-chapters m [] (rings_of items ++ r.ring ∷ []) views pass w done.0 roles done.1) in
       let has_all : AllHaveBook r.hands (items ++ r ∷ []) = subst (λ l. AllHaveBook r.hands (l ++ r ∷ [])) (sym none) (record { same = refl; has = has }, tt) in
-      let shows : Everyone (ShowsHands m 0 r.hands) (set views pass w) = everyone-set (ShowsHands m 0 r.hands) views pass w (record { where_out = tt; known = (consumer, all_free) })
+      let shows : Everyone (ShowsHands m [] r.hands) (set views pass w) = everyone-set (ShowsHands m [] r.hands) views pass w (record { where_out = tt; known = (consumer, all_free) })
       (λ j u other e. record {
         where_out = subst (HasBookWhereOut r.hands) (sym (none-out (rings_of items) views pass v unopened_hands kept.chapters refl at j u other e)) tt;
-        known = subst (AllKnowHands m 0 r.hands) (sym (no-roles kept.chapters.whole.ledger u.knows unopened-is (kept.chapters.whole.each_saw_a_beginning j (whole_view (without_hands u)) (get-whole views j u e)))) tt;
+        known = subst (AllKnowHands m [] r.hands) (sym (no-roles kept.chapters.whole.ledger u.knows unopened-is (kept.chapters.whole.each_saw_a_beginning j (whole_view (without_hands u)) (get-whole views j u e)))) tt;
       }) in
       (w, with-book m [] r.hands (items ++ r ∷ []) (set views pass w) rule has_all shows, refl)
 
@@ -376,8 +401,8 @@ unopened-has = record {
 pub begins : KeepsHandLockRule [] (hand_view [] (Some unopened_hands) ∷ [])
 begins =
     with-book 8 [] [] [] (hand_view [] (Some unopened_hands) ∷ []) old.begins-of tt
-    (λ j u e. elim j as (λ k. get_elem? (hand_view [] (Some unopened_hands) ∷ []) k ≡ some u → ShowsHands 8 0 [] u) [
-      | zero ↦ (λ h. subst (ShowsHands 8 0 []) (some-injective (hand_view [] (Some unopened_hands)) u h) (record { where_out = record { same = refl; has = unopened-has }; known = tt }))
+    (λ j u e. elim j as (λ k. get_elem? (hand_view [] (Some unopened_hands) ∷ []) k ≡ some u → ShowsHands 8 [] [] u) [
+      | zero ↦ (λ h. subst (ShowsHands 8 [] []) (some-injective (hand_view [] (Some unopened_hands)) u h) (record { where_out = record { same = refl; has = unopened-has }; known = tt }))
       | suc k ↦ (λ h. absurd (some-ne-none u (sym h)))
     ] e)
 

@@ -1,3 +1,4 @@
+pub mod HandedOut
 pub mod HandLock
 pub mod NoStranger
 pub mod HeldRecords

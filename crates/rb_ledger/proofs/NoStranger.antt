@@ -7,24 +7,24 @@ use Rattle.rb_history.specs.declared.entries.Entry.{Entry}
 use Rattle.rb_history.specs.declared.entries.Entry.TheVariants.{Res, Full, Sub, Dis, Take}
 use Rattle.rb_history.specs.WorkerCounts.{is_record_of}
 use Rattle.rb_history.specs.Calls.{IsBusy}
-use Rattle.rb_chapter_ring.specs.Chapters.{joined}
+use Rattle.rb_chapter_ring.specs.Chapters.{Chapter}
 use Rattle.rb_ledger.specs.Roles.{NoneOwn, is_own}
 use Rattle.rb_ledger.specs.Roles.Role.{Worker}
 use Rattle.rb_chapter_ring.specs.declared.out_record.OutRecord.{OutRecord}
 use Rattle.rb_chapter_ring.specs.Hands.{out_record, HandBook, in_hand, hands_of, hand_at}
 use Rattle.rb_chapter_ring.specs.HandRing.{HandRing, HasHands}
 use Rattle.rb_chapter_ring.proofs.BusyEntries.{entry-worker, busy-before, busy-after, is-record}
-use Rattle.rb_ledger.specs.HandKnowledge.{HandKnowledge, hand_ring_of, cut_of, HandPassView, AllKnowHands}
+use Rattle.rb_ledger.specs.HandKnowledge.{HandKnowledge, hand_ring_of, HandPassView, AllKnowHands}
 use Rattle.rb_ledger.specs.HandLockRule.{HasBook, AllHaveBook, HasBookWhereOut}
 use Rattle.rb_ledger.specs.HandLockSteps.{hand_knowledge_after, hands_known_by}
 use Rattle.rb_ledger.specs.NoStranger.{IsOutAt, ShowsOut, NoStranger, TakenAsShown, StaysShown, OwnBusyIsSeen, HandsAreSeen, SeenHandsAreBusy}
 
 -- ---- by the lock's rule
 
-known-of : (room cut : ℕ) (book : HandBook) (ks : List HandKnowledge) (k : HandKnowledge) (w : ℕ) → AllKnowHands room cut book ks → Contains ks k → k.chapter.whole.role ≡ Worker w → k.hands ≡ hands_of book w
-known-of room cut book [] k w all (i, l, is) role = absurd (omega arith)
-known-of room cut book (x ∷ ks) k w all (zero, l, is) role = ap (λ (y : HandKnowledge). y.hands) (sym is) ∙ all.0.hands_are w (ap (λ (y : HandKnowledge). y.chapter.whole.role) is ∙ role)
-known-of room cut book (x ∷ ks) k w all (suc i, l, is) role = known-of room cut book ks k w all.1 (i, omega arith, is) role
+known-of : (room : ℕ) (handed_out : List Chapter) (book : HandBook) (ks : List HandKnowledge) (k : HandKnowledge) (w : ℕ) → AllKnowHands room handed_out book ks → Contains ks k → k.chapter.whole.role ≡ Worker w → k.hands ≡ hands_of book w
+known-of room handed_out book [] k w all (i, l, is) role = absurd (omega arith)
+known-of room handed_out book (x ∷ ks) k w all (zero, l, is) role = ap (λ (y : HandKnowledge). y.hands) (sym is) ∙ all.0.hands_are w (ap (λ (y : HandKnowledge). y.chapter.whole.role) is ∙ role)
+known-of room handed_out book (x ∷ ks) k w all (suc i, l, is) role = known-of room handed_out book ks k w all.1 (i, omega arith, is) role
 
 has-of : (book : HandBook) (vs : List HandRing) (v : HandRing) → AllHaveBook book vs → Contains vs v → HasBook book v
 has-of book [] v all (i, l, is) = absurd (omega arith)
@@ -32,9 +32,9 @@ has-of book (x ∷ vs) v all (zero, l, is) = subst (HasBook book) is all.0
 has-of book (x ∷ vs) v all (suc i, l, is) = has-of book vs v all.1 (i, omega arith, is)
 
 -- a ring with this book has what a pass shows of it
-out-at : (room cut : ℕ) (book : HandBook) (v : HandRing) (x : HandPassView) (w h : ℕ) (o : OutRecord) → v.hands ≡ book → HasHands v → AllKnowHands room cut book x.knows → ShowsOut x w h o → IsOutAt v w h o
-out-at room cut book v x w h o same has known shows =
-    let k = known-of room cut book x.knows shows.knowledge w known shows.among shows.role_is in
+out-at : (room : ℕ) (handed_out : List Chapter) (book : HandBook) (v : HandRing) (x : HandPassView) (w h : ℕ) (o : OutRecord) → v.hands ≡ book → HasHands v → AllKnowHands room handed_out book x.knows → ShowsOut x w h o → IsOutAt v w h o
+out-at room handed_out book v x w h o same has known shows =
+    let k = known-of room handed_out book x.knows shows.knowledge w known shows.among shows.role_is in
     let there : hand_at v.hands w h ≡ Some o = ap (λ b. hand_at b w h) same ∙ ap (λ hs. in_hand hs h) (sym k) ∙ shows.out_is in
     record { in_book = there; busy = has.holds.out_is_busy w h o there }
 
@@ -42,19 +42,19 @@ pub no-stranger : NoStranger
 no-stranger queued views kept pass v at w h o shows =
     let mine = (kept.each_shows pass v at).known in
     let room = kept.chapters.room in
-    let cut = length (joined kept.chapters.handed_out) in
+    let handed_out = kept.chapters.handed_out in
     record {
-      in_queue = λ r is. let b = has-of kept.book queued r kept.queued_has is in out-at room cut kept.book r v w h o b.same b.has mine shows;
+      in_queue = λ r is. let b = has-of kept.book queued r kept.queued_has is in out-at room handed_out kept.book r v w h o b.same b.has mine shows;
       with_pass = λ j u c e has.
           let b : HasBook kept.book (hand_ring_of c) = subst (HasBookWhereOut kept.book) has (kept.each_shows j u e).where_out in
-          out-at room cut kept.book (hand_ring_of c) v w h o b.same b.has mine shows;
+          out-at room handed_out kept.book (hand_ring_of c) v w h o b.same b.has mine shows;
     }
 
 pub taken-as-shown : TakenAsShown
 taken-as-shown v w r took g h shows =
     let c = took.taken in
     let out = subst (λ x. IsOutAt x g.worker h (out_record g.pos g.serial (length g.bytes))) took.ring_is
-    (out-at c.chaptered.ring.chapter.room (cut_of c.chaptered) c.hands (hand_ring_of c) v g.worker h (out_record g.pos g.serial (length g.bytes)) refl took.has took.known shows) in
+    (out-at c.chaptered.ring.chapter.room c.chaptered.handed_out c.hands (hand_ring_of c) v g.worker h (out_record g.pos g.serial (length g.bytes)) refl took.has took.known shows) in
     (out.in_book, out.busy)
 
 pub stays-shown : StaysShown

@@ -1,9 +1,10 @@
 -- What a role and a pass know of a ring with hands under the lock (own).
-use Rattle.std.specs.Prelude.{◌≡◌, ℕ, ◌≤◌, List, [], ◌∷◌, Option, Some, None, map, length}
-use Rattle.rb_chapter_ring.specs.Chapters.{joined}
+use Rattle.std.specs.Prelude.{◌≡◌, ℕ, List, [], ◌∷◌, Option, Some, None, map, length}
+use Rattle.rb_chapter_ring.specs.Chapters.{Chapter, joined}
 use Rattle.rb_chapter_ring.specs.ChapterRing.{ChapterRing}
 use Rattle.rb_ledger.specs.Roles.Role.{Worker}
 use Rattle.rb_ledger.specs.ChapteredRing.{ChapteredRing}
+use Rattle.rb_ledger.specs.HandedOut.{IsCutOf}
 use Rattle.rb_ledger.specs.ChapterKnowledge.{ChapterKnowledge, ChapterPassView, chapter_view}
 use Rattle.rb_chapter_ring.specs.Hands.{Hands, HandBook, hands_of}
 use Rattle.rb_chapter_ring.specs.HandRing.{HandRing, hand_ring}
@@ -52,13 +53,13 @@ rings_of vs = map (λ v. v.ring) vs
 
 -- ---- what roles know of a ring
 
--- of a ring with this room, so many entries handed out and this book: the role knows the room; what it knows to be handed out was; and a worker's
--- hands are the book's
-pub record KnowsHands (room cut : ℕ) (book : HandBook) (k : HandKnowledge) : Type 0 where
+-- of a ring with this room, these chapters handed out and this book: the role knows the room; what it knows to be handed out was, when it saw the ring
+-- last; and a worker's hands are the book's
+pub record KnowsHands (room : ℕ) (handed_out : List Chapter) (book : HandBook) (k : HandKnowledge) : Type 0 where
   pub room_is : k.chapter.room ≡ room
-  pub cut_within : k.cut ≤ cut
+  pub cut_is : IsCutOf handed_out k.cut (length k.chapter.whole.seen.history)
   pub hands_are : (w : ℕ) → k.chapter.whole.role ≡ Worker w → k.hands ≡ hands_of book w
 
-abbrev pub AllKnowHands : ℕ → ℕ → HandBook → List HandKnowledge → Type 0
-AllKnowHands room cut book [] = Unit {0}
-AllKnowHands room cut book (k ∷ ks) = KnowsHands room cut book k × AllKnowHands room cut book ks
+abbrev pub AllKnowHands : ℕ → List Chapter → HandBook → List HandKnowledge → Type 0
+AllKnowHands room handed_out book [] = Unit {0}
+AllKnowHands room handed_out book (k ∷ ks) = KnowsHands room handed_out book k × AllKnowHands room handed_out book ks

@@ -1,10 +1,10 @@
 -- The lock's rule with hands, in three sentences: the lock's rule over chapters holds, without a word of hands; wherever the ring is, in the queue
--- or out with a pass, it has one book of hands, whose records are the busy ones; and each pass knows the ring's room, of what was handed out no more
--- than was, and of a worker's hands what the book has. It holds before and after each step of each thread (own).
-use Rattle.std.specs.Prelude.{◌≡◌, ℕ, List, [], ◌∷◌, Option, Some, None, map, length}
+-- or out with a pass, it has one book of hands, whose records are the busy ones; and each pass knows the ring's room, how much had been handed out when
+-- it saw the ring last, and of a worker's hands what the book has. It holds before and after each step of each thread (own).
+use Rattle.std.specs.Prelude.{◌≡◌, ℕ, List, [], ◌∷◌, Option, Some, None, map}
 use mathlib.Core.Option.{some}
 use lib.ListN.{get_elem?}
-use Rattle.rb_chapter_ring.specs.Chapters.{joined}
+use Rattle.rb_chapter_ring.specs.Chapters.{Chapter}
 use Rattle.rb_ledger.specs.ChapterLockRule.{KeepsChapterLockRule}
 use Rattle.rb_chapter_ring.specs.Hands.{HandBook}
 use Rattle.rb_chapter_ring.specs.HandRing.{HandRing, HasHands}
@@ -26,13 +26,13 @@ HasBookWhereOut book None = Unit {0}
 HasBookWhereOut book (Some c) = HasBook book (hand_ring_of c)
 
 -- what a pass has and knows is of this ring
-pub record ShowsHands (room cut : ℕ) (book : HandBook) (v : HandPassView) : Type 0 where
+pub record ShowsHands (room : ℕ) (handed_out : List Chapter) (book : HandBook) (v : HandPassView) : Type 0 where
   pub where_out : HasBookWhereOut book v.out
-  pub known : AllKnowHands room cut book v.knows
+  pub known : AllKnowHands room handed_out book v.knows
 
 -- the queue of the lock holds `queued`, and the passes, by their numbers, know `views`
 pub record KeepsHandLockRule (queued : List HandRing) (views : List HandPassView) : Type 0 where
   pub book : HandBook
   pub chapters : KeepsChapterLockRule (rings_of queued) (map without_hands views)
   pub queued_has : AllHaveBook book queued
-  pub each_shows : (pass : ℕ) (v : HandPassView) → get_elem? views pass ≡ some v → ShowsHands chapters.room (length (joined chapters.handed_out)) book v
+  pub each_shows : (pass : ℕ) (v : HandPassView) → get_elem? views pass ≡ some v → ShowsHands chapters.room chapters.handed_out book v

@@ -18,7 +18,7 @@ pub record TakesHandState (v : HandPassView) (r : HandRing) (w : HandPassView) :
   pub taken : ChapteredHandRing
   pub ring_is : hand_ring_of taken ≡ r
   pub has : HasHands (hand_ring_of taken)
-  pub known : AllKnowHands taken.chaptered.ring.chapter.room (cut_of taken.chaptered) taken.hands v.knows
+  pub known : AllKnowHands taken.chaptered.ring.chapter.room taken.chaptered.handed_out taken.hands v.knows
   pub out_is : w ≡ hand_view v.knows (Some taken)
   pub chapters : TakesChapterState (without_hands v) r.ring (without_hands w)
 

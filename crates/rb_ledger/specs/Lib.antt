@@ -1,3 +1,4 @@
+pub mod HandedOut
 pub mod HandKnowledge
 pub mod HandLockRule
 pub mod HandLockSteps

@@ -44,7 +44,8 @@
 //! with hands is a layer over it (`specs/HandLockRule.antt`): wherever the ring's state is, it has one book of hands, and what a worker's seat shows of
 //! its hands is the book's. Each step keeps it (`hand_lock_rule_is_kept`). So no reservation is a stranger to the ring that granted it
 //! (`specs/NoStranger.antt`): until its seat gives it back it is busy there, in whatever thread, and giving it back is not refused. A seat also knows
-//! the ring's room and where the chapter that it saw last begins in the whole history, so that it can say whether a chapter was full.
+//! the ring's room and where the chapter that it saw last begins in the whole history, so that it can say whether a chapter was full; and what was handed
+//! out before the last entry that it saw it knows (`handing_out_makes_room`).
 //!
 //! ```text
 //! two workers                             the book            seat 0 shows    seat 1 shows
@@ -63,6 +64,7 @@ mod binding_laws;
 mod call_laws;
 mod chapter_headline;
 mod hand_lock_laws;
+mod handed_out_laws;
 mod headline;
 mod lock_laws;
 mod no_stranger;
@@ -73,6 +75,7 @@ pub use binding_laws::{chapters_may_be_bound, seats_tie_once_bound};
 pub use call_laws::each_locked_call_is_whole;
 pub use chapter_headline::chapter_headline_holds;
 pub use hand_lock_laws::hand_lock_rule_is_kept;
+pub use handed_out_laws::handing_out_makes_room;
 pub use headline::headline_holds;
 pub use lock_laws::{chapter_lock_rule_is_kept, state_may_be_put_back};
 pub use no_stranger::{

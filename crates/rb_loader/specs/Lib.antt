@@ -1,4 +1,5 @@
 pub mod Acceptance
+pub mod CostCommand
 pub mod Explained
 pub mod MachineFaults
 pub mod PortableExplanation

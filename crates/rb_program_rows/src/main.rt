@@ -11,6 +11,7 @@ mod arithmetic;
 mod assembly;
 mod bytes;
 mod command_lines;
+mod costs;
 mod decoded;
 mod explained;
 mod fault;

@@ -3,6 +3,7 @@
 use crate::arithmetic::answer_compute;
 use crate::assembly::answer_assembly;
 use crate::command_lines::answer_command_line;
+use crate::costs::answer_cost;
 use crate::decoded::{answer_at, answer_decode, answer_text, answer_units};
 use crate::explained::{Part, answer_explain};
 use crate::numbers::{number_of, two_numbers_and_rest, unit_and_rest};
@@ -38,6 +39,8 @@ enum Row<'a> {
     Edges(u32, &'a str),
     // `verify CONTEXT RINGS HEX`: verification for a context of so many bytes and so many rings.
     Verify(u64, u64, &'a str),
+    // `cost CONTEXT RINGS HEX`: what a verified program can cost at most.
+    Cost(u64, u64, &'a str),
     // `run CONTEXT RINGS BYTES ANSWERS HEX`: a run over helpers that answer from a list, with this context (`-` where it is empty).
     Run((u64, u64), &'a str, &'a str, &'a str),
     // `compute DST SRC HEX`: what an instruction computes of two numbers.
@@ -90,6 +93,10 @@ fn row_of(line: &str) -> Option<Row<'_>> {
         "verify" => {
             let (ctx_len, rings, hex) = two_numbers_and_rest(rest)?;
             Some(Row::Verify(ctx_len, rings, hex))
+        }
+        "cost" => {
+            let (ctx_len, rings, hex) = two_numbers_and_rest(rest)?;
+            Some(Row::Cost(ctx_len, rings, hex))
         }
         "run" => run_of(rest),
         "assembly" => Some(Row::Assembly(rest)),
@@ -153,6 +160,7 @@ fn answer_row<R: Threads + Wait + Sync + Files<File = File> + Clock + Eprint>(
         Row::Shape(hex) => answer_shape(alloc, hex, out),
         Row::Edges(unit, hex) => answer_edges(alloc, unit, hex, out),
         Row::Verify(ctx_len, rings, hex) => answer_verify(alloc, ctx_len, rings, hex, out),
+        Row::Cost(ctx_len, rings, hex) => answer_cost(alloc, ctx_len, rings, hex, out),
         Row::Run(bounds, context, answers, hex) => {
             answer_run(alloc, bounds, context, answers, hex, out)
         }

@@ -179,7 +179,7 @@ module _ (subject : Subject) (a : AbsState) (s : State) (g : Agrees subject a s)
   ends_inside at len h = let long : length s.memory.stack ≡ 512 = g.stack in omega arith
 
   -- bytes that are known to be data are no pointer's
-  data_plain : (at len : ℕ) → at + len ≤ length s.memory.stack → may_keep at len (known_in a.places) ≡ false → is_pointer_among at len s.memory.pointers ≡ false
+  pub data_plain : (at len : ℕ) → at + len ≤ length s.memory.stack → may_keep at len (known_in a.places) ≡ false → is_pointer_among at len s.memory.pointers ≡ false
   data_plain at len le e =
       among_none at len s.memory.pointers (λ place t.
       let lt : place < 64 = near_place at len place t (ends_inside at len le) in

@@ -4,17 +4,17 @@ mod Held
 mod Values
 mod Places
 mod Changes
-mod Checks
-mod Keeping
+pub mod Checks
+pub mod Keeping
 mod Rows
 mod Moves
 mod Sums
-mod Accesses
+pub mod Accesses
 mod Stores
 mod MemoryLaws
 mod Branches
 mod Calling
-mod Sound
+pub mod Sound
 mod Running
 mod Worked
 mod PlainPrograms

@@ -1,14 +1,18 @@
 -- All seats and the consumer are gathered.
-use Rattle.std.proofs.Common.{◌≡◌, List, [], ◌∷◌, ◌++◌, None, refl, ap, ◌∙◌}
+use Rattle.std.proofs.Common.{◌≡◌, ℕ, List, [], ◌∷◌, ◌++◌, None, length, refl, ap, ◌∙◌, subst}
+use Rattle.rb_chapter_ring.specs.Chapters.{Chapter}
+use Rattle.rb_chapter_ring.specs.Hands.{HandBook}
+use Rattle.rb_ledger.specs.Roles.{Book}
 use Rattle.rb_ledger.specs.Roles.Role.{Worker}
 use Rattle.rb_ledger.specs.RoleKnowledge.{RoleKnowledge, PassView, role_knowledge, pass_view}
 use Rattle.rb_ledger.specs.Seats.{WorkerSeat}
 use Rattle.rb_ledger.specs.SeatRoles.{roles_of}
-use Rattle.rb_ledger.proofs.Gathers.{gather-step}
+use Rattle.rb_ledger.proofs.Gathers.{all-each, gather-step}
 use Rattle.rb_ledger.specs.ChapterKnowledge.{ChapterKnowledge, chapter_view, whole_knowledge}
-use Rattle.rb_ledger.specs.HandKnowledge.{HandPassView, hand_view, without_hands, chapters_known, chapters_out}
+use Rattle.rb_ledger.specs.HandKnowledge.{HandPassView, hand_view, without_hands, chapters_known, chapters_out, AllKnowHands}
+use Rattle.rb_ledger.specs.HandedOut.{IsCutOf, KnewHandedOut}
 use Rattle.rb_shared_ring.specs.inner.SeatPasses.{known_as}
-use Rattle.rb_shared_ring.specs.inner.HandPasses.{seen_with, bytes_with, known_with}
+use Rattle.rb_shared_ring.specs.inner.HandPasses.{seen_with, bytes_with, cut_by, known_with}
 
 -- the pass has the roles of the seats that are gone, in front of those that it had first; with those of the seats that are there they are all
 abbrev pub HasGathered : List WorkerSeat → HandPassView → HandPassView → List RoleKnowledge → Type 0
@@ -29,3 +33,15 @@ gather-more items rest s v own after first all cut is_own seen bytes is_after ol
       chapters ∙ (λ i. chapter_view (k ∷ (old.1 i).knows) (old.1 i).out),
       (λ i. roles_of rest ++ role_knowledge (Worker s.worker) (seen i) (bytes i) ∷ whole_knowledge ks) ∙ ap (λ (y : PassView). y.knows) step ∙ old.2,
     )
+
+-- by what all roles of the pass know, what the seats that are gone knew to be handed out had been, where that is so of those that are there
+abbrev pub HasKnown : List WorkerSeat → HandPassView → List WorkerSeat → Type 0
+HasKnown items v all = (room : ℕ) (handed_out : List Chapter) (book : HandBook) → AllKnowHands room handed_out book v.knows → KnewHandedOut handed_out items → KnewHandedOut handed_out all
+
+pub knew-more : (items rest : List WorkerSeat) (s : WorkerSeat) (v own after : HandPassView) (all : List WorkerSeat) → items ≡ rest ++ s ∷ [] → own ≡ hand_view (known_with (Worker s.worker) own ∷ []) None
+    → seen_with own ≡ s.seen → cut_by own ≡ s.cut → after ≡ hand_view (own.knows ++ v.knows) v.out → HasKnown items v all → HasKnown rest after all
+knew-more items rest s v own after all split is_own seen cut is_after old room handed_out book known rest_knew =
+    let knows : after.knows ≡ known_with (Worker s.worker) own ∷ v.knows = ap (λ (x : HandPassView). x.knows) is_after ∙ ap (λ (x : HandPassView). x.knows ++ v.knows) is_own in
+    let each = subst (AllKnowHands room handed_out book) knows known in
+    let mine : IsCutOf handed_out s.cut (length s.seen.history) = subst (λ (b : Book). IsCutOf handed_out s.cut (length b.history)) seen (subst (λ n. IsCutOf handed_out n (length (seen_with own).history)) cut each.0.cut_is) in
+    old room handed_out book each.1 (all-each (λ x. IsCutOf handed_out x.cut (length x.seen.history)) items rest s split mine rest_knew)

@@ -24,6 +24,7 @@ use Rattle.rb_chapter_ring.proofs.HandCalls.{to-whole}
 use Rattle.rb_ledger.specs.HandKnowledge.{HandPassView, hand_view, without_hands, cut_of, KnowsHands, AllKnowHands}
 use Rattle.rb_ledger.specs.HandLockSteps.{TakesHandState, MayPutHands, PutsHandState, LeavesOtherHands, hand_view_after_put}
 use Rattle.rb_ledger.specs.NoStranger.{HoldsOwnBusy}
+use Rattle.rb_ledger.proofs.HandedOut.{cut-within}
 use Rattle.rb_ledger.proofs.HandLock.{one-hand-leaves}
 use Rattle.rb_ledger.proofs.NoStranger.{hands-are-seen}
 use Rattle.rb_shared_ring.specs.inner.SeatPasses.{IsIdleIn}
@@ -55,8 +56,8 @@ module _ (role : Role) (v : HandPassView) (r : HandRing) (out : HandPassView) (i
   now-is : out ≡ hand_view (known_with role v ∷ []) (Some took.taken)
   now-is = took.out_is ∙ ap (λ (x : HandPassView). hand_view x.knows (Some took.taken)) idle
 
-  pub knows-taken : KnowsHands took.taken.chaptered.ring.chapter.room (cut_of took.taken.chaptered) took.taken.hands (known_with role v)
-  knows-taken = (subst (λ (x : HandPassView). AllKnowHands took.taken.chaptered.ring.chapter.room (cut_of took.taken.chaptered) took.taken.hands x.knows) idle took.known).0
+  pub knows-taken : KnowsHands took.taken.chaptered.ring.chapter.room took.taken.chaptered.handed_out took.taken.hands (known_with role v)
+  knows-taken = (subst (λ (x : HandPassView). AllKnowHands took.taken.chaptered.ring.chapter.room took.taken.chaptered.handed_out took.taken.hands x.knows) idle took.known).0
 
   module _ (new : HandRing) where
     pub may-put : IsKeptHandRing new → MayPutChapter (without_hands out) new.ring → LeavesOtherHands role r.hands new.hands → MayPutHands out new
@@ -168,5 +169,5 @@ module _ (w : ℕ) (v : HandPassView) (r : HandRing) (out : HandPassView) (idle 
       room = e.room;
       hands_are = hands-after ∙ are;
       holds = holds-after;
-      cut = subst (λ n. cut_by v ≤ n) (sym cut-same) (knows-taken (Worker w) v r out idle took).cut_within;
+      cut = subst (λ n. cut_by v ≤ n) (sym cut-same) (cut-within took.taken.chaptered.handed_out (cut_by v) (length (seen_with v).history) (knows-taken (Worker w) v r out idle took).cut_is);
     }

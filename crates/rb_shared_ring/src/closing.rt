@@ -1,6 +1,6 @@
 //! A shared ring over chapters is closed once all its seats are handed in.
 
-ghost use Rattle.std.specs.Prelude.{◌≡◌, ◌↔◌, ◌++◌, ◌∷◌, [], List, IfOk, IfErr, IsOk, IsTrue, All, true};
+ghost use Rattle.std.specs.Prelude.{ℕ, ◌≡◌, ◌↔◌, ◌++◌, ◌∷◌, [], List, IfOk, IfErr, IsOk, IsTrue, All, true};
 ghost use Rattle.crossbeam_queue.specs.Passes.{view, IsPassOf, IsSamePass};
 ghost use Rattle.rb_chapter_ring.specs.ChapterRing.{StandsForChapter};
 ghost use Rattle.rb_chapter_ring.specs.ChapterCalls.{producer_by_chapter, consumer_by_chapter};
@@ -9,7 +9,9 @@ ghost use Rattle.rb_ledger.specs.Seats.{are_tagged, has_seat, HasAll};
 ghost use Rattle.rb_ledger.specs.SeatRoles.{roles_of, HasOwnCounts};
 ghost use Rattle.rb_ledger.specs.ChapterKnowledge.{ChapterKnowledge, chapter_view, whole_knowledge};
 ghost use Rattle.rb_ledger.specs.ChapterClosing.{IsClosedByChapters};
-ghost use Rattle.rb_ledger.specs.HandKnowledge.{without_hands};
+ghost use Rattle.rb_chapter_ring.specs.Hands.{HandBook};
+ghost use Rattle.rb_ledger.specs.HandKnowledge.{AllKnowHands, without_hands};
+ghost use Rattle.rb_ledger.specs.HandedOut.{KnewHandedOut};
 
 use crate::batch_flag::BatchFlag;
 use crate::consumer_seat::ConsumerSeat;
@@ -137,6 +139,7 @@ fn gather(lock: &Lock, pass: &mut RingPass, mut seats: Vec<Seat>)
     ensures knows { (workers : List ChapterKnowledge) × (without_hands (view pass.new) ≡ chapter_view (workers ++ (without_hands (view pass.old)).knows) (without_hands (view pass.old)).out) × (whole_knowledge workers ≡ roles_of seats.items) }
     ensures out { (view pass.new).out ≡ (view pass.old).out }
     ensures ties { All HasOwnCounts seats.items }
+    ensures knew { (room : ℕ) (handed_out : List Chapter) (book : HandBook) → AllKnowHands room handed_out book (view pass.new).knows → KnewHandedOut handed_out seats.items }
 {
     while let Some(seat) = seats.pop() {
         let own = seat.into_pass();
@@ -156,6 +159,7 @@ fn collect<R: Wait>(
     requires seats { All (λ s. s.ring ≡ consumer.ring) seats.items }
     requires all { HasAll consumer.seen.setup.workers seats.items }
     ensures closed { IsClosedByChapters result.value.ring seats.items consumer }
+    ensures knew { KnewHandedOut consumer.handed_out seats.items }
 {
     let mut pass = consumer.into_pass();
     gather(lock, &mut pass, seats);
@@ -164,7 +168,8 @@ fn collect<R: Wait>(
 
 impl SharedRing {
     /// Closes this ring, given all its seats and its consumer, and returns it with its last chapter. If a seat is missing, or a seat or
-    /// the consumer is foreign, all of them are handed back.
+    /// the consumer is foreign, all of them are handed back. Where it is Ok, what each seat knew to be handed out at its last call had been, of the chapters
+    /// that the consumer was handed.
     pub fn close<R: Wait>(
         self,
         rt: &R,
@@ -177,6 +182,7 @@ impl SharedRing {
         ensures back { IfErr result (λ e. (e.ring ≡ self) × (e.seats.items ≡ seats.items) × (e.consumer ≡ consumer)) }
         ensures which { IfOk result (λ c. c.shared ≡ self) }
         ensures closed { IfOk result (λ c. IsClosedByChapters c.at_end seats.items consumer) }
+        ensures knew { IfOk result (λ _. KnewHandedOut consumer.handed_out seats.items) }
     {
         if consumer.tag() != self.tag
             || !are_all_tagged(&seats, self.tag)

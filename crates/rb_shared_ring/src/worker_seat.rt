@@ -11,7 +11,7 @@ ghost use Rattle.rb_ledger.specs.HandKnowledge.{hand_view};
 ghost use Rattle.rb_ledger.specs.HandLockSteps.{first_hand_role, other_hand_roles, opening_hands};
 ghost use Rattle.rb_ledger.specs.NoStranger.{HoldsOwnBusy};
 ghost use Rattle.rb_shared_ring.specs.SharedCalls.{position_of};
-ghost use Rattle.rb_shared_ring.specs.inner.HandPasses.{seen_with, bytes_with, room_with, known_with};
+ghost use Rattle.rb_shared_ring.specs.inner.HandPasses.{seen_with, bytes_with, room_with, cut_by, known_with};
 
 use crate::lock::{Lock, RingPass, SplitFirstRole};
 use rb_chapter_ring::OutRecord;
@@ -139,6 +139,7 @@ impl Seat {
         ensures ring { (result.table_id ≡ self.ring) × (result.me.1 ≡ []) }
         ensures knows { view result ≡ hand_view (known_with (Worker self.worker) (view result) ∷ []) None }
         ensures seen { (seen_with (view result) ≡ self.seen) × (bytes_with (view result) ≡ self.sent) }
+        ensures cut { cut_by (view result) ≡ self.cut }
         ensures ties { Ties self.worker self.tally self.seen }
     {
         self.pass

@@ -16,3 +16,4 @@ mod Noting
 mod Turning
 mod Passing
 pub mod Counting
+mod Choosing

@@ -26,7 +26,7 @@ pub fn verify(alloc: Global, shape: Shape, ctx_len: u32, rings: u32) -> Result<V
 {
     let limits = Limits { ctx_len, rings };
     let annotation = annotate(alloc, limits, &shape)?;
-    let Ok(operations) = operations_of(alloc, shape.program()) else {
+    let Ok(operations) = operations_of(alloc, limits, shape.program(), annotation.as_slice()) else {
         return Err(Refusal::Memory);
     };
     Ok(Verified::new(shape, limits, annotation, operations))

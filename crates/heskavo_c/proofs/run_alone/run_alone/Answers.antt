@@ -1,4 +1,4 @@
-use Rattle.std.proofs.Common.{◌≡◌, ◌∙◌, ap, length}
+use Rattle.std.proofs.Common.{◌∙◌, ap, length}
 use Rattle.std.proofs.lemmas.List.{length-replicate}
 use Rattle.rb_world.proofs.Openings.{length-opened}
 use Rattle.heskavo_c.proofs.run_alone.run_alone.Goals as goal

@@ -1,9 +1,9 @@
-use Rattle.std.proofs.Common.{◌∙◌, ap}
+use Rattle.std.proofs.Common.{◌∙◌, ap, rules}
 use Rattle.rb_ledger.specs.SeatRoles.{HasOwnCounts}
 use Rattle.rb_ledger.proofs.Gathers.{rest-rings, all-each}
 use Rattle.rb_ledger.specs.HandKnowledge.{HandPassView}
 use Rattle.rb_ledger.proofs.HandLock.{merges}
-use Rattle.rb_shared_ring.proofs.GatheredSeats.{gather-more}
+use Rattle.rb_shared_ring.proofs.GatheredSeats.{gather-more, knew-more}
 use Rattle.rb_shared_ring.proofs.closing.gather.Goals as goal
 
 pub absorb-requires-clause-rule : goal.absorb-requires-clause-rule
@@ -20,4 +20,8 @@ loop-seat-preserved c =
       ap (λ (v : HandPassView). v.out) c.absorb.ensures.rule ∙ i.2,
       rest-rings _ _ _ _ cut i.3,
       (λ all. i.4 (all-each HasOwnCounts _ _ _ cut own.ties all)),
+      knew-more _ _ _ _ _ _ _ cut own.knows own.seen.0 own.cut c.absorb.ensures.rule i.5,
     )
+
+pub returns-clause-knew : goal.returns-clause-knew
+returns-clause-knew c = λ room handed_out book known. c.loop-seat.invariant.5 room handed_out book known (search rules)

@@ -1,0 +1,15 @@
+use Rattle.std.proofs.Common.{refl, ◌∙◌, ap, map}
+use Rattle.heskavo_c.specs.Costs.{ring_row}
+use Rattle.heskavo_c.proofs.costing.heskavo_cost.Goals as goal
+
+pub returns-clause-told : goal.returns-clause-told
+returns-clause-told c =
+    λ done. record {
+      subject = c.in-Ok.verified;
+      accepted = c.in-Ok.ensures.accepted;
+      cost = c.in-Ok-cost_of.found;
+      exact = c.in-Ok-cost_of.ensures;
+      steps = refl;
+      calls = refl;
+      rings = c.put_rows.ensures ∙ ap (map ring_row) c.as_slice.ensures.value;
+    }

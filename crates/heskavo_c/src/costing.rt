@@ -1,0 +1,101 @@
+//! What a program can cost at most.
+
+ghost use Rattle.std.specs.Prelude.{◌≡◌, ◌≢◌, ◌≤◌, ◌↔◌, length, map};
+ghost use Rattle.rb_cost.specs.Cost.{IsCost};
+ghost use Rattle.heskavo_c.specs.Costs.{TellsCost, ring_row};
+ghost use Rattle.heskavo_c.specs.Verdicts.{AreBounds, IsRightVerdict};
+
+use crate::load::{are_bounds, load};
+use crate::status::{ARGUMENT, DONE, MEMORY, REFUSED};
+use crate::verdict::{Verdict, verdict_on};
+use rb_cost::{Cost, RingCost, cost_of};
+use rb_verifier::Verified;
+use std::alloc::Global;
+
+/// What a program can cost at most.
+#[repr(C)]
+#[derive(Clone, Copy)]
+pub struct ProgramCost {
+    /// The most instructions that a path executes.
+    pub steps: u64,
+    /// The most helper calls that a path makes.
+    pub calls: u64,
+}
+
+/// What a program can ask of one ring at most, and hold of it.
+#[repr(C)]
+#[derive(Clone, Copy)]
+pub struct ProgramRingCost {
+    /// The most records for which a path asks, by reserve and by output.
+    pub records: u64,
+    /// The most bytes of the ring that the records of a path take.
+    pub bytes: u64,
+    /// The most reservations that are held before one instruction.
+    pub held_records: u64,
+    /// The most bytes of the ring that those take which are held before one instruction.
+    pub held_bytes: u64,
+}
+
+// What is told of a ring.
+fn row_of(cost: RingCost) -> ProgramRingCost
+    ensures { result ≡ ring_row cost }
+{
+    ProgramRingCost {
+        records: cost.records,
+        bytes: cost.bytes,
+        held_records: cost.held_records,
+        held_bytes: cost.held_bytes,
+    }
+}
+
+// Puts what is told of each ring into the caller's places.
+fn put_rows(rows: &mut [ProgramRingCost], costs: &[RingCost])
+    requires { length rows.old ≡ length costs.now }
+    ensures { rows.new ≡ map ring_row costs.now }
+{
+    for (ring, cost) in costs.iter().enumerate() {
+        rows[ring] = row_of(*cost);
+    }
+}
+
+/// Tells what a program can cost at most, over all paths by its jumps, for a context of `ctx_len` bytes and as many rings as `rings` has places: `DONE` with its
+/// steps and calls in `cost`, and what it asks of each ring and holds of it in `rings`. `REFUSED` with the verdict. `ARGUMENT` where the context is longer than
+/// 65,536 bytes or there are more than 16 rings. Nothing is run. Time and memory are linear in the program for each ring.
+#[unsafe(no_mangle)]
+pub extern "C" fn heskavo_cost(
+    alloc: Global,
+    program: &[u8],
+    ctx_len: u32,
+    cost: &mut ProgramCost,
+    rings: &mut [ProgramRingCost],
+    verdict: &mut Verdict,
+) -> u32
+    ensures told { result ≡ DONE → TellsCost program.now ctx_len (length rings.old) cost.new rings.new }
+    ensures refused { result ≡ REFUSED → IsRightVerdict program.now ctx_len (length rings.old) verdict.new }
+    ensures argument { (result ≡ ARGUMENT) ↔ ¬ AreBounds ctx_len (length rings.old) }
+    ensures untold { result ≢ DONE → (cost.new ≡ cost.old) × (rings.new ≡ rings.old) }
+    ensures unchanged { result ≢ REFUSED → verdict.new ≡ verdict.old }
+    ensures answers { result ≤ MEMORY }
+{
+    if rings.len() > 16 || !are_bounds(ctx_len, rings.len() as u32) {
+        return ARGUMENT;
+    }
+    let verified = match load(alloc, program, ctx_len, rings.len() as u32) {
+        Ok(verified) => verified,
+        Err(Some(refused)) => {
+            *verdict = verdict_on(refused);
+            return REFUSED;
+        }
+        Err(None) => return MEMORY,
+    };
+    verified.facts();
+    let Ok(found) = cost_of(alloc, &verified) else {
+        return MEMORY;
+    };
+    put_rows(rings, found.rings.as_slice());
+    *cost = ProgramCost {
+        steps: found.steps,
+        calls: found.calls,
+    };
+    DONE
+}

@@ -1,0 +1,33 @@
+-- What a program can cost at most.
+use Rattle.std.specs.Prelude.{◌≡◌, ℕ, ◌<◌, List, length, count_by, sum_by, slice_index_or}
+use Rattle.rb_insn.specs.declared.insn.Insn.{Insn}
+use Rattle.rb_program.specs.Program.{slot_at}
+use Rattle.rb_program.specs.Shape.{IsInstructionStart}
+use Rattle.rb_verifier.specs.Annotation.{Annotation, IsValid}
+use Rattle.rb_verifier.specs.Subject.{Subject, limits_of, calls}
+use Rattle.rb_cost.specs.declared.cost.Cost.{Cost}
+use Rattle.rb_cost.specs.declared.cost.RingCost.{RingCost}
+use Rattle.rb_cost.specs.Paths.{IsPath, IsMost}
+use Rattle.rb_cost.specs.Asking.{asked_at, is_on, bytes_on, is_of_ring, held_span}
+
+-- of the records of one ring: the most for which the calls of a path ask, their bytes, and the most that are held before one instruction
+pub record IsRingCost (program : List Insn) (a : Annotation) (ring : ℕ) (cost : RingCost) : Type 0 where
+  pub records : IsMost (IsPath program) (λ path. count_by (λ unit. is_on ring (asked_at program a unit)) path) cost.records
+  pub bytes : IsMost (IsPath program) (λ path. sum_by (λ unit. bytes_on ring (asked_at program a unit)) path) cost.bytes
+  pub held_records : IsMost (IsInstructionStart program) (λ unit. count_by (is_of_ring ring) (a unit).held) cost.held_records
+  pub held_bytes : IsMost (IsInstructionStart program) (λ unit. sum_by (held_span ring) (a unit).held) cost.held_bytes
+
+-- no record of a ring
+abbrev pub no_ring_cost : RingCost
+no_ring_cost = record { records = 0; bytes = 0; held_records = 0; held_bytes = 0 }
+
+-- of the paths of a program: the most instructions, the most calls, and what they ask each ring for
+pub record IsCostUnder (program : List Insn) (a : Annotation) (ring_count : ℕ) (cost : Cost) : Type 0 where
+  pub steps : IsMost (IsPath program) (λ path. length path) cost.steps
+  pub calls : IsMost (IsPath program) (λ path. count_by (λ unit. calls (slot_at program unit)) path) cost.calls
+  pub count : length cost.rings.items ≡ ring_count
+  pub rings : (ring : ℕ) → ring < ring_count → IsRingCost program a ring (slice_index_or cost.rings.items ring no_ring_cost)
+
+-- the cost of a verified program: each valid annotation knows the same of what it asks for and holds
+abbrev pub IsCost : Subject → Cost → Type 0
+IsCost subject cost = (a : Annotation) → IsValid (limits_of subject) subject.program a → IsCostUnder subject.program a subject.rings cost

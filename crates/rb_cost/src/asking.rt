@@ -1,0 +1,58 @@
+//! What an instruction asks a ring for.
+
+ghost use Rattle.std.specs.Prelude.{◌≡◌, ◌≤◌, ◌^◌, Some};
+ghost use Rattle.rb_cost.specs.Asking.{asked_by};
+ghost use Rattle.rb_cost.specs.inner.Pass.{IsSmall, weight_in};
+
+use crate::counted::Counted;
+use rb_history::span;
+use rb_insn::Insn;
+use rb_verifier::{Abs, AbsState, Helper};
+
+/// A record of a ring, for which a CALL asks.
+#[derive(Clone, Copy, Debug, PartialEq, Eq)]
+pub(crate) struct Asked {
+    /// The ring's number.
+    pub(crate) ring: u32,
+    /// The record's length in bytes.
+    pub(crate) len: u64,
+}
+
+/// The record for which an instruction asks, by what is known before it: none where it is no reserve and no output.
+fn asked_by(insn: &Insn, state: &AbsState) -> Option<Asked>
+    ensures { result ≡ asked_by insn.now state.now }
+{
+    let Insn::Call { helper } = *insn else {
+        return None;
+    };
+    let [_, ring, second, third, ..] = state.values;
+    let len = match Helper::from_number(helper) {
+        Some(Helper::Reserve) => second,
+        Some(Helper::Output) => third,
+        _ => return None,
+    };
+    match (ring, len) {
+        (Abs::Ring(ring), Abs::Known(len)) => Some(Asked { ring, len }),
+        _ => None,
+    }
+}
+
+/// What an instruction counts on a path.
+pub(crate) fn weight(counted: Counted, insn: &Insn, state: &AbsState) -> u64
+    requires { IsSmall (asked_by insn.now state.now) }
+    ensures value { result ≡ weight_in counted (Some insn.now) state.now }
+    ensures bound { result ≤ 2 ^ 27 }
+{
+    match counted {
+        Counted::Steps => 1,
+        Counted::Calls => u64::from(matches!(insn, Insn::Call { .. })),
+        Counted::Records(ring) => match asked_by(insn, state) {
+            Some(asked) if asked.ring == ring => 1,
+            _ => 0,
+        },
+        Counted::Bytes(ring) => match asked_by(insn, state) {
+            Some(asked) if asked.ring == ring => span(asked.len as u32),
+            _ => 0,
+        },
+    }
+}

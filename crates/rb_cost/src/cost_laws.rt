@@ -1,0 +1,23 @@
+//! The laws on what runs cost, and on how large a ring must be.
+
+ghost use Rattle.rb_cost.specs.RingSize.{NoneIsRefused, NoneIsRefusedBehind, RoomIsLeft};
+ghost use Rattle.rb_cost.specs.Runs.{RunsStayWithin};
+
+/// Every run of a verified program stays within its cost at each of its moments, whatever its calls are answered: it took no more steps and made no more
+/// calls, it was granted no more records and bytes of any ring, by reserve and by output, and it holds no more of any ring.
+pub fn runs_stay_within_their_cost()
+    ensures { RunsStayWithin }
+{}
+
+/// The room rule for those who choose a size. Where no position passes 2^62, a record has room exactly where its span and the bytes that were not taken,
+/// those that wait included, are at most the ring's size less one.
+pub fn room_is_what_is_left()
+    ensures { RoomIsLeft }
+{}
+
+/// No record is refused for want of room where the ring has more bytes than the jobs ask for together whose records it may hold: those that the workers run,
+/// and those that the consumer is behind. Of one record, and of all that a history refuses.
+pub fn none_is_refused_behind()
+    ensures one { NoneIsRefusedBehind }
+    ensures all { NoneIsRefused }
+{}

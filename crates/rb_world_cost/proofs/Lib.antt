@@ -1,0 +1,3 @@
+mod Sums
+mod WorkersCome
+mod BusyBounds
