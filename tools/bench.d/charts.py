@@ -10,7 +10,7 @@ TIMES = {"us", "ns"}
 
 def rows_in(text):
     """The rows of a table, as docs/PERFORMANCE.md has it or as tools/bench prints it: name, unit, our median with its spread, the yardstick's, and the
-    ratio of the medians; the last two may be none."""
+    ratio of the medians (the first where a row has two); the last two may be none."""
     figure = r"(\d+\.\d+) \((\d+\.\d+) to (\d+\.\d+)\)"
     # Behind the table of figures come others, so a name is taken once.
     found = {}

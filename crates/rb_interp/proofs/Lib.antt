@@ -14,6 +14,7 @@ mod RegisterLaws
 mod Renumbering
 pub mod Steady
 mod StackSteps
+mod PartSteps
 mod HeldRecords
 mod Reaching
 mod RunSteps

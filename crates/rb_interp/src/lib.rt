@@ -51,6 +51,7 @@ mod memory_operations;
 mod numbers;
 mod offsets;
 mod operations;
+mod part_operations;
 mod part_range;
 mod parts;
 mod pointer_table;
