@@ -103,9 +103,13 @@ class Edit:
                 if tag != "equal":
                     self.changes.append(Change(file, first, end, now[begin:behind]))
                     self.note_owner(file, was, first)
+        self.is_outside = self.is_outside or not (self.owners or self.fault)
 
     def note_owner(self, file, lines, at):
         is_code = file.startswith("src/")
+        if is_code and lines[at : at + 1] and lines[at].startswith(("use ", "ghost use ", "//")):
+            # what is imported or added here is checked with the functions that call it
+            return
         owner = owner_of(self.crate.folder, file, lines, at) if is_code else None
         if owner:
             self.owners.add(owner)
