@@ -4,7 +4,7 @@ ghost use Rattle.std.specs.Prelude.{◌≡◌, ◌≤◌, length};
 ghost use Rattle.rb_jobs.specs.SeatHelpers.{AtRings, IsAt};
 
 use super::expected::same;
-use super::shared::{SUBMIT_42, counts, is_next, opened, verified};
+use super::shared::{HOLD_FOUR, SUBMIT_42, counts, is_next, opened, verified};
 use rb_history::Taken;
 use rb_interp::RunFault;
 use rb_jobs::{Gate, Job, JobAnswer, NoStock, jobs_give_back, run_job};
@@ -229,5 +229,41 @@ fn a_full_chapter_gives_null_and_is_unlogged(rt: HostRuntime) {
         &rt,
         &told,
         &((ended_with_0(1), Some((2, 0, 0, 0))), (1, 1, false)),
+    );
+}
+
+#[test]
+fn a_job_holds_four_records_and_outputs_a_fifth(rt: HostRuntime) {
+    let alloc = rt.alloc();
+    let (ring, seat, mut consumer) = opened(&rt, alloc, 3, 64);
+    let rings = [ring];
+    let seats = vec![in alloc; seat].expect(&rt, "memory");
+    let told = told_by_job(&rt, alloc, &rings, seats, HOLD_FOUR, &CONTEXT, 0);
+    same(
+        &rt,
+        &told,
+        &((ended_with_0(0), Some((5, 0, 5, 0))), (9, 9, false)),
+    );
+    is_next(&rt, &rings[0], &mut consumer, (0, 0, 0, &[0; 8]));
+    is_next(&rt, &rings[0], &mut consumer, (16, 0, 1, &[0; 8]));
+    is_next(&rt, &rings[0], &mut consumer, (32, 0, 2, &[0; 8]));
+    is_next(&rt, &rings[0], &mut consumer, (48, 0, 3, &[0; 8]));
+    is_next(&rt, &rings[0], &mut consumer, (64, 0, 4, &[0; 8]));
+    same(&rt, &is_empty(&rt, &rings[0], &mut consumer), &true);
+}
+
+// A record that was granted before and never given back keeps its hand, so that the program is granted three.
+#[test]
+fn a_fourth_record_finds_no_hand_where_one_was_dropped(rt: HostRuntime) {
+    let alloc = rt.alloc();
+    let (ring, mut seat, _consumer) = opened(&rt, alloc, 3, 64);
+    reserved(&rt, alloc, &ring, &mut seat, 8);
+    let rings = [ring];
+    let seats = vec![in alloc; seat].expect(&rt, "memory");
+    let told = told_by_job(&rt, alloc, &rings, seats, HOLD_FOUR, &CONTEXT, 0);
+    same(
+        &rt,
+        &told,
+        &((ended_with_0(1), Some((4, 0, 3, 0))), (7, 7, false)),
     );
 }

@@ -1,16 +1,18 @@
 //! Worked calls of helpers over the seats of two rings of 4,096 bytes, whose chapters have room for 8 entries.
 
 ghost use Rattle.std.specs.Prelude.{◌≡◌, ◌+◌, ◌≤◌, ◌<◌, true};
+ghost use Rattle.rb_jobs.specs.SeatHelpers.{IsAt};
 
 use super::expected::same;
 use super::shared::{counts, is_next, len_of, opened, submit_filled};
 use rb_interp::{Done, EAGAIN, EINVAL, Helpers};
 use rb_jobs::{NoStock, SeatHelpers, SeatRecord, Stock};
 use rb_lend::{Lent, Sheet};
-use rb_shared_ring::Seat;
+use rb_shared_ring::{Seat, SharedRing};
 use std::alloc::Global;
 use std::cell::Cell;
 use std::process::Abort;
+use std::sync::Wait;
 
 /// A stock that keeps one sheet.
 #[derive(Drop)]
@@ -197,6 +199,44 @@ fn a_full_chapter_is_unlogged(rt: HostRuntime) {
     same(&rt, &(output, helpers.unlogged()), &(-EAGAIN, 2));
     let counts = counts_of(helpers.into_seats()).0;
     same(&rt, &counts, &Some((2, 1, 0, 0)));
+}
+
+// Drops a record of eight bytes that was granted at the seat, whose hand stays out.
+fn drop_one<R: Wait + Abort>(rt: &R, alloc: Global, ring: &SharedRing, seat: &mut Seat)
+    requires { IsAt ring.now seat.old }
+    ensures { IsAt ring.now seat.new }
+{
+    let sheet = Sheet::new(alloc, 8).expect(rt, "memory");
+    let is_granted = ring.reserve(rt, seat, 8, sheet).is_ok();
+    same(rt, &is_granted, &true);
+}
+
+#[test]
+fn a_seat_with_all_hands_out_is_granted_none_and_outputs(rt: HostRuntime) {
+    let (ring, mut seat, mut consumer) = opened(&rt, rt.alloc(), 0, 64);
+    drop_one(&rt, rt.alloc(), &ring, &mut seat);
+    let rings = [ring];
+    let seats = vec![in rt.alloc(); seat].expect(&rt, "memory");
+    let opened = SeatHelpers::new(&rt, rt.alloc(), rings.as_slice(), seats, 5, &NoStock);
+    let mut helpers = opened.ok().expect(&rt, "memory");
+    let granted = [
+        is_granted(&mut helpers, 8),
+        is_granted(&mut helpers, 8),
+        is_granted(&mut helpers, 8),
+    ];
+    let used = rings[0].used(&rt, &mut consumer);
+    same(
+        &rt,
+        &(granted, helpers.unlogged(), used),
+        &([true, true, true], 0, Ok((4, 8))),
+    );
+    let fourth = (is_granted(&mut helpers, 8), helpers.unlogged());
+    let used = rings[0].used(&rt, &mut consumer);
+    same(&rt, &(fourth, used), &((false, 1), Ok((4, 8))));
+    let output = helpers.output(0, [5, 6].as_slice(), 0);
+    same(&rt, &(output, helpers.unlogged()), &(0, 1));
+    let counts = counts_of(helpers.into_seats()).0;
+    same(&rt, &counts, &Some((5, 0, 1, 0)));
 }
 
 // The record, under the number of another ring.
