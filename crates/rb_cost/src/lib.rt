@@ -14,8 +14,8 @@
 
 mod asking;
 mod cost;
-mod cost_lines;
 mod cost_laws;
+mod cost_lines;
 mod costing;
 mod counted;
 mod held;

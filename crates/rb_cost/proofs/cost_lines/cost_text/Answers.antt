@@ -1,4 +1,4 @@
-use Rattle.std.proofs.Common.{◌≡◌, ℕ, List, Option, ◌++◌, ◌+◌, suc, sym, ◌∙◌, ap, subst, append_assoc, arith}
+use Rattle.std.proofs.Common.{◌≡◌, ℕ, List, Option, ◌++◌, ◌+◌, suc, ◌∙◌, ap, subst, append_assoc, arith}
 use Rattle.std.specs.Prelude.{string_bytes, slice_index_or}
 use Rattle.rb_json.specs.declared.form.LineForm.{LineForm}
 use Rattle.rb_cost.specs.declared.cost.RingCost.{RingCost}
@@ -24,8 +24,8 @@ loop-ring-preserved c =
     let costs = c.args.cost.now.rings.items in
     let cost = slice_index_or costs ring no_ring_cost in
     let first : string_bytes c.push_ring.new.text ≡ string_bytes c.loop-ring.text ++ ring_text form ring cost =
-        subst (λ items. string_bytes c.push_ring.new.text ≡ string_bytes c.loop-ring.text ++ ring_text form ring (slice_index_or items ring no_ring_cost)) c.deref-ring_cost-items.ensures.value c.in_ok-push_ring.ensures.added in
+    subst (λ items. string_bytes c.push_ring.new.text ≡ string_bytes c.loop-ring.text ++ ring_text form ring (slice_index_or items ring no_ring_cost)) c.deref-ring_cost-items.ensures.value c.in_ok-push_ring.ensures.added in
     let second : string_bytes c.push_chosen.new.text ≡ string_bytes c.push_ring.new.text ++ chosen_text form jobs ring cost =
-        subst (λ items. string_bytes c.push_chosen.new.text ≡ string_bytes c.push_ring.new.text ++ chosen_text form jobs ring (slice_index_or items ring no_ring_cost)) c.deref-ring_cost-items.ensures.value c.in_ok-push_chosen.ensures.added in
+    subst (λ items. string_bytes c.push_chosen.new.text ≡ string_bytes c.push_ring.new.text ++ chosen_text form jobs ring (slice_index_or items ring no_ring_cost)) c.deref-ring_cost-items.ensures.value c.in_ok-push_chosen.ensures.added in
     two_more (front_text form c.args.cost.now) (rings_text form jobs costs ring) (string_bytes c.loop-ring.text) (string_bytes c.push_ring.new.text) (string_bytes c.push_chosen.new.text) (ring_text form ring cost) (chosen_text form jobs ring cost) c.loop-ring.invariant first second
     ∙ ap (λ x. front_text form c.args.cost.now ++ x) (next_rings form jobs costs ring)
