@@ -7,3 +7,4 @@ pub mod Moving
 pub mod Running
 pub mod RingSizes
 pub mod LeastRings
+pub mod Unasked

@@ -6,7 +6,8 @@ ghost use Rattle.rb_program.specs.Shape.{IsWellShaped};
 ghost use Rattle.rb_verifier.specs.Annotation.{state_at};
 ghost use Rattle.rb_cost.specs.Asking.{asked_at};
 ghost use Rattle.rb_cost.specs.Cost.{IsCost, IsCostUnder, IsRingCost};
-ghost use Rattle.rb_cost.specs.inner.Pass.{IsSmall};
+ghost use Rattle.rb_cost.specs.Paths.{IsMost, IsPath};
+ghost use Rattle.rb_cost.specs.inner.Pass.{IsSmall, total, weight_at};
 
 use crate::cost::{Cost, RingCost};
 use crate::counted::Counted;
@@ -15,6 +16,26 @@ use crate::pass::most_on_path;
 use rb_program::Program;
 use rb_verifier::{AbsState, Verified};
 use std::alloc::{AllocError, Global};
+
+/// The most bytes of a ring for which a path asks, by the most records: none where no path asks for any, which spares a pass.
+fn most_bytes(
+    alloc: Global,
+    program: &Program,
+    states: &[AbsState],
+    ring: u32,
+    records: u64,
+) -> Result<u64, AllocError>
+    requires count { length states.now ≡ unit_count program.now }
+    requires well_shaped { IsWellShaped program.now }
+    requires small { (unit : ℕ) → IsSmall (asked_at program.now (state_at states.now) unit) }
+    requires records { IsMost (IsPath program.now) (total (weight_at (Counted.Records ring) program.now (state_at states.now))) records }
+    ensures { IfOk result (λ bytes. IsMost (IsPath program.now) (total (weight_at (Counted.Bytes ring) program.now (state_at states.now))) bytes) }
+{
+    if records == 0 {
+        return Ok(0);
+    }
+    most_on_path(alloc, program, states, Counted::Bytes(ring))
+}
 
 /// What a program asks of one ring.
 fn ring_cost(
@@ -30,7 +51,7 @@ fn ring_cost(
 {
     program.facts();
     let records = most_on_path(alloc, program, states, Counted::Records(ring))?;
-    let bytes = most_on_path(alloc, program, states, Counted::Bytes(ring))?;
+    let bytes = most_bytes(alloc, program, states, ring, records)?;
     let held = most_held(program, states, ring);
     Ok(RingCost {
         records,
@@ -67,7 +88,8 @@ fn cost_under(
 /// of a path ask and that are held before one instruction. None of the numbers can pass 2^64, since a path has at most 4,096 units and a record at most
 /// 67,108,864 bytes. `Err` where memory was refused.
 ///
-/// Two passes over the program, and three more for each ring that it knows; each takes eight bytes for a unit and gives them back.
+/// Two passes over the program, and for each ring that it knows two more, or three where it asks for a record of it; a pass takes eight bytes for a unit and
+/// gives them back.
 pub fn cost_of(alloc: Global, verified: &Verified) -> Result<Cost, AllocError>
     ensures { IfOk result (IsCost verified.now) }
 {

@@ -1,4 +1,4 @@
-use Rattle.std.proofs.Common.{◌≡◌, ℕ, List, Option, ◌++◌, ◌+◌, suc, sym, ◌∙◌, ap, subst, append_assoc, arith}
+use Rattle.std.proofs.Common.{◌≡◌, ℕ, List, Option, ◌++◌, ◌+◌, suc, ◌∙◌, ap, subst, append_assoc, arith}
 use Rattle.std.specs.Prelude.{string_bytes, slice_index_or}
 use Rattle.rb_json.specs.declared.form.LineForm.{LineForm}
 use Rattle.rb_cost.specs.declared.cost.RingCost.{RingCost}
