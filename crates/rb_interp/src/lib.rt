@@ -31,6 +31,7 @@
 //! ```
 #![tactic(auto)]
 
+mod arithmetic_operations;
 mod branch_operations;
 mod byte_numbers;
 mod context;
