@@ -8,7 +8,8 @@ from typing import NamedTuple, Optional
 import kit
 
 FUNCTION = re.compile(r"^( *)(?:pub(?:\([a-z]+\))? )?(?:const )?(?:unsafe )?(?:extern \"C\" )?fn (\w+)")
-IMPL = re.compile(r"^impl(?:<.*?>)? (?:(?:\w+::)*(?P<trait>\w+)(?:<(?P<of>.*)>)? for )?(?P<type>\w+)")
+IMPL = re.compile(r"^impl(?:<.*?>)? (?:(?:\w+::)*(?P<trait>\w+)(?:<(?P<of>.*)>)? for )?(?P<type>&(?:'\w+ )?\[\w+\]|\w+)")
+SLICE = re.compile(r"&(?:'\w+ )?\[(\w)(\w*)\]")
 OPEN = re.compile(r"^# open without its stored answer: (.*)$", re.M)
 DECLARED = re.compile(r"^(?:pub(?:\([a-z]+\))? )?(?:struct|enum) (\w+)", re.M)
 
@@ -52,6 +53,12 @@ class Change(NamedTuple):
     lines: list
 
 
+def name_of(type_text):
+    """A type's name as a check prints it: of a slice lent, RefSlice and the name of what is in it."""
+    found = SLICE.fullmatch(type_text)
+    return f"RefSlice{found[1].upper()}{found[2]}" if found else type_text
+
+
 def module_of(file):
     inside = pathlib.PurePosixPath(file).relative_to("src").with_suffix("")
     parts = [it for it in inside.parts if it != "mod"]
@@ -84,7 +91,7 @@ def owner_of(folder, file, lines, at):
         return Owner(module_of(file), None, None, name)
     module = module_of(file) if block["trait"] else modules_of_types(folder).get(block["type"], module_of(file))
     trait = block["trait"] and block["trait"] + "".join(re.findall(r"\w+", block["of"] or ""))
-    return Owner(module, block["type"], trait, name)
+    return Owner(module, name_of(block["type"]), trait, name)
 
 
 class Edit:
