@@ -7,7 +7,7 @@ import definition_files
 from definition_files import CRATES, Origin, origins_in
 
 BLOCK = re.compile(r"(?:pub )?(impl|trait)\b.*\{$")
-FUNCTION = re.compile(r"( *)(pub )?(?:const )?fn (\w+)")
+FUNCTION = re.compile(r"( *)(pub )?(?:const )?(?:extern \"C\" )?fn (\w+)")
 CLAUSE = re.compile(r"\s*(requires|ensures)\b")
 IMPL = re.compile(r"impl(?:<.*?>)? (?:(?P<trait>\w+)(?:<.*>)? for )?(?P<type>\w+)")
 TYPE = re.compile(r"(?:pub(?:\([^)]*\))? )?(enum|struct|const) (\w+)")

@@ -58,10 +58,10 @@ fn put_rows(rows: &mut [ProgramRingCost], costs: &[RingCost])
     }
 }
 
+#[unsafe(no_mangle)]
 /// Tells what a program can cost at most, over all paths by its jumps, for a context of `ctx_len` bytes and as many rings as `rings` has places: `DONE` with its
 /// steps and calls in `cost`, and what it asks of each ring and holds of it in `rings`. `REFUSED` with the verdict. `ARGUMENT` where the context is longer than
 /// 65,536 bytes or there are more than 16 rings. Nothing is run. Time and memory are linear in the program for each ring.
-#[unsafe(no_mangle)]
 pub extern "C" fn heskavo_cost(
     alloc: Global,
     program: &[u8],

@@ -12,10 +12,10 @@ use rb_explain::{Explanation, explain_bytes};
 use rb_json::LineForm;
 use std::alloc::Global;
 
+#[unsafe(no_mangle)]
 /// Puts the explanation of a program to the front of `text`, and tells in `wanted` how many bytes it has: `DONE` of a program that is accepted for a
 /// context of `ctx_len` bytes and so many rings, each instruction behind what is known there; `REFUSED` of one that is refused, the units around its
 /// first fault, and what mends it. `ROOM` where `text` is shorter than `wanted`. Time and memory are linear in the program.
-#[unsafe(no_mangle)]
 pub extern "C" fn heskavo_explain(
     alloc: Global,
     program: &[u8],

@@ -65,12 +65,12 @@ fn run_once(alloc: Global, program: &Verified, context: &[u8], size: u64) -> Res
     })
 }
 
+#[unsafe(no_mangle)]
 /// Verifies a program for `context` and as many rings as `written` has places, runs it once over fresh rings of `size` bytes, and puts what it left in
 /// each ring as a tape into `tapes`, the rings' tapes one after the other: `DONE` with what it ended with in `value`, and each tape's length in
 /// `written`. `REFUSED` with the verdict; `ROOM` where the tapes are longer than `tapes`, with their lengths told; `ARGUMENT` where the context is longer
 /// than 65,536 bytes, there are more than 16 rings, or no ring has this size. Where there is no memory for a record of more than 16 bytes that the program
 /// asks for, it goes on as where the ring has no room; that is not `MEMORY`. Time and memory are linear in the program and in what it writes.
-#[unsafe(no_mangle)]
 pub extern "C" fn heskavo_run(
     alloc: Global,
     program: &[u8],

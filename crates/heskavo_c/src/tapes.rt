@@ -58,10 +58,10 @@ fn number_of_fault(kind: TapeKind) -> u32
     }
 }
 
+#[unsafe(no_mangle)]
 /// What the bytes begin with, of a tape of a ring of `size` bytes, where the next record stands at `position`: `DONE` with the record, `MORE` where they
 /// show neither a whole record nor a fault, or `FAULT` with its number. `ARGUMENT` where no ring has this size, or the position is no multiple of 8 or
 /// above 2^61. Nothing is kept, so a reader goes on behind `span` bytes, at a position that is `span` higher. In time linear in the record.
-#[unsafe(no_mangle)]
 pub extern "C" fn heskavo_tape_next(
     bytes: &[u8],
     size: u64,
@@ -125,10 +125,10 @@ fn header_at(size: u64, position: u64, len: u32, discard: bool) -> [u8; 8]
     .to_bytes()
 }
 
+#[unsafe(no_mangle)]
 /// Puts a submitted record with these bytes to the front of `tape`, as it stands on the tape of a ring of `size` bytes at `position`, and tells how many
 /// bytes it takes. `ROOM` where `tape` is shorter; `written` tells then how many are wanted. `ARGUMENT` where no ring has this size, the position is no
 /// multiple of 8 or above 2^61, or the record has no room in the ring. In time linear in the record.
-#[unsafe(no_mangle)]
 pub extern "C" fn heskavo_tape_put(
     payload: &[u8],
     size: u64,
@@ -157,8 +157,8 @@ pub extern "C" fn heskavo_tape_put(
     DONE
 }
 
-/// Puts a discarded record of `len` bytes to the front of `tape`, with zeros in the place of its bytes, and answers as `heskavo_tape_put` does.
 #[unsafe(no_mangle)]
+/// Puts a discarded record of `len` bytes to the front of `tape`, with zeros in the place of its bytes, and answers as `heskavo_tape_put` does.
 pub extern "C" fn heskavo_tape_put_discarded(
     len: u32,
     size: u64,

@@ -9,9 +9,9 @@ use crate::status::{ARGUMENT, DONE, MEMORY, REFUSED};
 use crate::verdict::{Verdict, verdict_on};
 use std::alloc::Global;
 
+#[unsafe(no_mangle)]
 /// Whether a program would be accepted for a context of `ctx_len` bytes and so many rings: `DONE`, or `REFUSED` with the verdict. `ARGUMENT` where the
 /// context is longer than 65,536 bytes or there are more than 16 rings. Time and memory are linear in the program.
-#[unsafe(no_mangle)]
 pub extern "C" fn heskavo_verify(
     alloc: Global,
     program: &[u8],

@@ -4,8 +4,8 @@ ghost use Rattle.std.specs.Prelude.{◌≡◌};
 
 use rb_version::VERSION_NUMBER;
 
-/// The version of this library, which is that of `rbhost`: a byte each for its three numbers, the first one the highest.
 #[unsafe(no_mangle)]
+/// The version of this library, which is that of `rbhost`: a byte each for its three numbers, the first one the highest.
 pub extern "C" fn heskavo_version() -> u32
     ensures version { result ≡ VERSION_NUMBER }
 {

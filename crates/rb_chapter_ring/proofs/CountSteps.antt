@@ -18,7 +18,8 @@ use Rattle.rb_chapter_ring.proofs.Weights.{weigh-full, weigh-res, weigh-end, wei
 use Rattle.rb_chapter_ring.specs.OpenedRing.{capped, capped_counts}
 use Rattle.rb_chapter_ring.specs.declared.record_end.RecordEnd.{RecordEnd}
 use Rattle.rb_chapter_ring.specs.declared.record_end.RecordEnd.TheVariants.{Submit, Discard}
-use Rattle.rb_chapter_ring.specs.inner.EndSteps.{discards_by_end, entry_of_end, status_of_end}
+use Rattle.rb_chapter_ring.specs.inner.EndSteps.{discards_by_end}
+use Rattle.rb_chapter_ring.specs.RecordEnds.{entry_of_end, status_of_end}
 
 abbrev pub zero_counts : Counts
 zero_counts = record { made = 0; refused = 0; consumed = 0; discarded = 0; waiting = 0; busy = 0 }

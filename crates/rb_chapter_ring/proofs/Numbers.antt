@@ -7,7 +7,7 @@ use Rattle.rb_chapter_ring.specs.Standing.{Standing, no_record, record_in}
 use Rattle.rb_chapter_ring.specs.inner.StandingSteps.{with_refusal, next_record, with_grant, with_end, with_take, events_by, skips_by}
 use Rattle.rb_chapter_ring.specs.inner.Ordinals.{HasOrdinal, KeepsOrdinals, taken_before}
 use Rattle.rb_chapter_ring.specs.declared.record_end.RecordEnd.{RecordEnd}
-use Rattle.rb_chapter_ring.specs.inner.EndSteps.{status_of_end}
+use Rattle.rb_chapter_ring.specs.RecordEnds.{status_of_end}
 
 -- one call after the other
 pub ordinals-on : (old mid new : Standing) → KeepsOrdinals old mid → KeepsOrdinals mid new → KeepsOrdinals old new

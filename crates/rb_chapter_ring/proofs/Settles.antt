@@ -19,11 +19,11 @@ use Rattle.rb_chapter_ring.specs.Standing.{Standing, no_record, record_in}
 use Rattle.rb_chapter_ring.specs.Chapters.{Chapter, closing_of}
 use Rattle.rb_chapter_ring.specs.ChapterRing.{ChapterRing}
 use Rattle.rb_chapter_ring.specs.ChapterCalls.{HoldsReservationFrom, LogsByChapter}
-use Rattle.rb_chapter_ring.specs.inner.RecordEnds.{Ends}
+use Rattle.rb_chapter_ring.specs.RecordEnds.{Ends, entry_of_end, status_of_end}
 use Rattle.rb_chapter_ring.specs.ChapterRoom.{owed, record_now, IsBusyNow, with_entry}
 use Rattle.rb_chapter_ring.specs.declared.record_end.RecordEnd.{RecordEnd}
 use Rattle.rb_chapter_ring.specs.declared.record_end.RecordEnd.TheVariants.{Submit, Discard}
-use Rattle.rb_chapter_ring.specs.inner.EndSteps.{contents_with_end, entry_of_end, status_of_end}
+use Rattle.rb_chapter_ring.specs.inner.EndSteps.{contents_with_end}
 use Rattle.rb_chapter_ring.specs.inner.StandingSteps.{with_end}
 use Rattle.rb_chapter_ring.proofs.Settling.{ended}
 use Rattle.rb_chapter_ring.specs.inner.ChapterRingBody.{ring_of, IsStored, IsRingOf}

@@ -31,7 +31,7 @@ use Rattle.rb_chapter_ring.specs.WholeHistory.{IsKept}
 use Rattle.rb_chapter_ring.specs.inner.ChapterBody.{IsBehindTakes}
 use Rattle.rb_chapter_ring.specs.declared.record_end.RecordEnd.{RecordEnd}
 use Rattle.rb_chapter_ring.specs.declared.record_end.RecordEnd.TheVariants.{Submit, Discard}
-use Rattle.rb_chapter_ring.specs.inner.EndSteps.{entry_of_end, status_of_end, tally_with_end}
+use Rattle.rb_chapter_ring.specs.RecordEnds.{entry_of_end, status_of_end, tally_with_end}
 use Rattle.rb_chapter_ring.specs.inner.StandingSteps.{with_end, with_take, events_by, skips_by}
 use Rattle.rb_chapter_ring.proofs.ChapterNumbers.{map-below, tally-at}
 use Rattle.rb_chapter_ring.proofs.Keeping.{one-kept}

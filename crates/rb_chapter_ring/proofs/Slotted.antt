@@ -16,7 +16,8 @@ use Rattle.rb_chapter_ring.specs.ChapterRoom.{MayGrant, MayRefuse, record_now, w
 use Rattle.rb_chapter_ring.specs.inner.StandingSteps.{next_record, with_end}
 use Rattle.rb_chapter_ring.specs.declared.record_end.RecordEnd.{RecordEnd}
 use Rattle.rb_chapter_ring.specs.declared.record_end.RecordEnd.TheVariants.{Submit, Discard}
-use Rattle.rb_chapter_ring.specs.inner.EndSteps.{entry_of_end, slots_with_end}
+use Rattle.rb_chapter_ring.specs.RecordEnds.{entry_of_end}
+use Rattle.rb_chapter_ring.specs.inner.EndSteps.{slots_with_end}
 use Rattle.rb_chapter_ring.proofs.Running.{closing-fits}
 use Rattle.rb_chapter_ring.specs.inner.Ordinals.{taken_before}
 use Rattle.rb_chapter_ring.specs.inner.ChapterRingBody.{stored_at, stored_from, stored_in, stored_of, ring_of, IsRingOf}

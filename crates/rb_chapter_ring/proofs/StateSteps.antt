@@ -24,8 +24,7 @@ use Rattle.rb_chapter_ring.proofs.Ordinals.{busy-at-ordinal, opened-ordinals, or
 use Rattle.rb_chapter_ring.specs.declared.out_record.OutRecord.{OutRecord}
 use Rattle.rb_chapter_ring.specs.Hands.{HandBook, free_book, hand_at, hands_of, out_record, with_hand}
 use Rattle.rb_chapter_ring.specs.HandRing.{HandRing, hand_ring, HasHands, HasInHand, GrantsToHand}
-use Rattle.rb_chapter_ring.specs.HandEnds.{EndsFromHand}
-use Rattle.rb_chapter_ring.specs.inner.RecordEnds.{Ends}
+use Rattle.rb_chapter_ring.specs.RecordEnds.{EndsFromHand, Ends}
 use Rattle.rb_chapter_ring.specs.declared.record_end.RecordEnd.{RecordEnd}
 use Rattle.rb_chapter_ring.specs.declared.record_end.RecordEnd.TheVariants.{Submit, Discard}
 use Rattle.rb_chapter_ring.proofs.BusyEntries.{in-ring, below-four}

@@ -17,7 +17,7 @@ use Rattle.rb_history.proofs.Kept.{kept-res, kept-sub, kept-dis, kept-take, name
 use Rattle.rb_history.proofs.Standing.{grant-stands}
 use Rattle.rb_chapter_ring.specs.declared.record_end.RecordEnd.{RecordEnd}
 use Rattle.rb_chapter_ring.specs.declared.record_end.RecordEnd.TheVariants.{Submit, Discard}
-use Rattle.rb_chapter_ring.specs.inner.EndSteps.{entry_of_end, status_of_end}
+use Rattle.rb_chapter_ring.specs.RecordEnds.{entry_of_end, status_of_end}
 
 -- each record counted by its status
 abbrev pub weight : (Status → ℕ) → List Shown → ℕ

@@ -1,6 +1,6 @@
 pub mod Hands
 pub mod HandRing
-pub mod HandEnds
+pub mod RecordEnds
 pub mod HandLaws
 pub mod Standing
 pub mod StandingValue

@@ -2,7 +2,6 @@ pub mod StandingNumbers
 pub mod StandingBody
 pub mod ChapterBody
 pub mod EndSteps
-pub mod RecordEnds
 pub mod StandingSteps
 pub mod Ordinals
 pub mod ChapterRingBody

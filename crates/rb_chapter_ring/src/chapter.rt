@@ -9,16 +9,16 @@ ghost use Rattle.rb_chapter_ring.specs.Chapters.{IsChapterRoom, empty_chapter, f
 ghost use Rattle.rb_chapter_ring.specs.ChapterRoom.{used, owed, MayGrant, MayRefuse, record_now, IsBusyNow, HasSettledFront, with_entry};
 ghost use Rattle.rb_chapter_ring.specs.CountedFrom.{HasRoomFrom, grants_from, producer_from, consumer_from};
 ghost use Rattle.rb_chapter_ring.specs.WholeHistory.{IsKept};
-ghost use Rattle.rb_chapter_ring.specs.inner.EndSteps.{entry_of_end};
+ghost use Rattle.rb_chapter_ring.specs.RecordEnds.{entry_of_end};
 
 use crate::record_end::RecordEnd;
 use crate::standing::Standing;
-use rb_history::{Entry, span};
+use rb_history::{Entry, POSITION_LIMIT, span};
 use std::alloc::{AllocError, Global};
 use std::marker::Model;
 
-// No position lies beyond it, and no worker is refused more often: so that positions and totals fit 64 bits.
-const LIMIT: u64 = 1 << 62;
+/// The highest number of a chapter, and of a worker's refusals: as high as positions go, so that totals fit 64 bits.
+pub const COUNT_LIMIT: u64 = POSITION_LIMIT;
 
 /// One chapter of a ring's history. It has the memory for as many entries as it has room for, and takes none after `new`.
 #[derive(Drop)]
@@ -293,7 +293,7 @@ fn fits(producer: u64, consumer: u64, size: u64, len: u32) -> bool
     ensures exact { IsTrue result ↔ ((producer + span len ≤ consumer + (size - 1)) × (producer + span len ≤ 2 ^ 62)) }
 {
     let bytes = span(len);
-    if producer > LIMIT - bytes {
+    if producer > POSITION_LIMIT - bytes {
         return false;
     }
     if producer - consumer + bytes >= size {
@@ -306,7 +306,7 @@ fn fits(producer: u64, consumer: u64, size: u64, len: u32) -> bool
 fn is_countable(taken: u32, room: u32, refused: u64) -> bool
     ensures exact { IsTrue result ↔ ((taken < room) × (refused < 2 ^ 62)) }
 {
-    if refused >= LIMIT {
+    if refused >= COUNT_LIMIT {
         return false;
     }
     if taken >= room {

@@ -12,22 +12,22 @@ ghost use Rattle.rb_chapter_ring.specs.ChapterRing.{StandsForChapter};
 ghost use Rattle.rb_chapter_ring.specs.ChapterCalls.{producer_by_chapter, consumer_by_chapter, ChapterRingHasRoom, IsSameChapter, LogsByChapter, HoldsReservationFrom, HasBusyFrontByChapter, AllTakenByChapter, GrantsByChapter, OutputsByChapter, TakesByChapter};
 ghost use Rattle.rb_chapter_ring.specs.WholeHistory.{IsKept};
 ghost use Rattle.rb_chapter_ring.specs.OpenedRing.{opened_ring, told_counts, IsChapterRingWithin};
-ghost use Rattle.rb_chapter_ring.specs.inner.RecordEnds.{Ends};
+ghost use Rattle.rb_chapter_ring.specs.RecordEnds.{Ends, entry_of_end};
 ghost use Rattle.rb_chapter_ring.specs.RingFaults.{RefusesInChapter};
 ghost use Rattle.rb_chapter_ring.specs.inner.Ordinals.{HasOrdinal, KeepsNumbers, taken_before};
-ghost use Rattle.rb_chapter_ring.specs.inner.EndSteps.{contents_with_end, entry_of_end};
+ghost use Rattle.rb_chapter_ring.specs.inner.EndSteps.{contents_with_end};
 
 mod handing_out;
 
 use crate::counting::{count_discard, count_refusal};
 use crate::faults::{OpenFault, ReserveFault};
-use crate::finding::{front_of, keep_bytes, slot_in};
+use crate::finding::{find_front, keep_bytes, slot_in};
+use crate::grant::Grant;
 use crate::record_end::RecordEnd;
 use crate::setup::{check_setup, empty_sheets, made_by, slots_for};
 use crate::{Chapter, UntakenStatus};
 use rb_history::{
-    AVAIL_DATA, CONS_POS, Counts, KNOWN_FLAGS, Notice, PROD_POS, RING_SIZE, Reservation, Taken,
-    notice_for,
+    AVAIL_DATA, CONS_POS, Counts, KNOWN_FLAGS, Notice, PROD_POS, RING_SIZE, Taken, notice_for,
 };
 use rb_lend::Sheet;
 use std::alloc::Global;
@@ -160,7 +160,7 @@ impl ChapterState {
         worker: u32,
         n: u32,
         sheet: Sheet,
-    ) -> Result<Reservation, (ReserveFault, Sheet)>
+    ) -> Result<Grant, (ReserveFault, Sheet)>
         requires worker { worker < self.old.chapter.opening.setup.workers }
         requires sized { length sheet ≡ n }
         ensures same_chapter { IsSameChapter self.old self.new }
@@ -178,32 +178,32 @@ impl ChapterState {
             Err(fault) => Err((fault, sheet)),
             Ok((pos, serial)) => {
                 sheet.clear();
-                Ok(Reservation::new(pos, worker, serial, sheet))
+                Ok(Grant::new(pos, worker, serial, sheet))
             }
         }
     }
 
     #[inline(always)]
-    /// The reservation's record, which stands at the index, comes to this end: its bytes are handed to the consumer, or the consumer passes over it.
+    /// The granted record, which stands at the index, comes to this end: its bytes are handed to the consumer, or the consumer passes over it.
     /// It is busy, so there is no refusal. Of the flags only bits 0 and 1 are looked at. In constant time, and without memory. (bpf-helpers(7),
     /// bpf_ringbuf_submit and bpf_ringbuf_discard.)
     pub(crate) fn settle(
         &mut self,
         index: usize,
-        reservation: Reservation,
+        grant: Grant,
         end: RecordEnd,
         flags: u64,
     ) -> Notice
-        requires busy { HoldsReservationFrom self.old reservation }
-        requires here { IsBusyAt self.old.shown index reservation.pos (length reservation.bytes) }
+        requires busy { HoldsReservationFrom self.old grant }
+        requires here { IsBusyAt self.old.shown index grant.pos (length grant.bytes) }
         ensures same_chapter { IsSameChapter self.old self.new }
-        ensures ended { Ends end reservation self.old self.new }
-        ensures notice { (result ≡ Notice.Due) ↔ IsDue (consumer_by_chapter self.old) reservation.pos flags }
+        ensures ended { Ends end grant self.old self.new }
+        ensures notice { (result ≡ Notice.Due) ↔ IsDue (consumer_by_chapter self.old) grant.pos flags }
         ensures numbers { KeepsNumbers self.old.chapter self.new.chapter }
     {
-        let pos = reservation.pos();
+        let pos = grant.pos();
         let notice = self.notice(pos, flags);
-        self.log_end(index, pos, reservation.into_sheet(), end);
+        self.log_end(index, pos, grant.into_sheet(), end);
         notice
     }
 
@@ -252,7 +252,7 @@ impl ChapterState {
         ensures empty { (result ≡ Taken.Empty) ↔ AllTakenByChapter self.old }
         ensures numbers { KeepsNumbers self.old.chapter self.new.chapter }
     {
-        let Some(front) = front_of(self.chapter.closing().records()) else {
+        let Some(front) = find_front(self.chapter.closing().records()) else {
             return Taken::Empty;
         };
         match front.status {

@@ -22,7 +22,7 @@ pub(crate) fn slot_in(slots: usize, ordinal: u64) -> usize
 
 #[inline(always)]
 /// The record at the front, if there is one.
-pub(crate) fn front_of(records: &[UntakenRecord]) -> Option<UntakenRecord>
+pub(crate) fn find_front(records: &[UntakenRecord]) -> Option<UntakenRecord>
     ensures front { IfSome result (λ r. (0 < length records.now) × (untaken_shown r ≡ slice_index_or (map untaken_shown records.now) 0 no_record)) }
     ensures none { IfNone result (length records.now ≡ 0) }
 {

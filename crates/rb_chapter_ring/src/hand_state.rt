@@ -19,15 +19,16 @@ ghost use Rattle.rb_chapter_ring.specs.OpenedRing.{IsChapterRingWithin, MayGoOnI
 ghost use Rattle.rb_chapter_ring.specs.ManyTakes.{TakesManyInChapter};
 ghost use Rattle.rb_chapter_ring.specs.Hands.{AreAllOut, IsFree, IsLowestFree, free_book, hands_of};
 ghost use Rattle.rb_chapter_ring.specs.HandRing.{hand_ring, HasHands, HasInHand, GrantsToHand};
-ghost use Rattle.rb_chapter_ring.specs.HandEnds.{EndsFromHand};
+ghost use Rattle.rb_chapter_ring.specs.RecordEnds.{EndsFromHand};
 
 use crate::chapter_state::ChapterState;
 use crate::faults::{OpenFault, ReserveFault};
+use crate::grant::Grant;
 use crate::hand_table::{free_table, no_ordinals, set_hand, set_ordinal};
 use crate::record_end::RecordEnd;
 use crate::reservation::Reservation;
 use crate::{Chapter, OutRecord, lowest_free};
-use rb_history::{Counts, Notice, Reservation as Record, Taken};
+use rb_history::{Counts, Notice, Taken};
 use rb_lend::Sheet;
 use std::alloc::Global;
 use std::marker::Model;
@@ -259,7 +260,7 @@ impl HandState {
 
     #[inline(always)]
     // The index of the record that is out in the hand, among those that are there.
-    fn index_in(&self, hand: u32, grant: &Record) -> usize
+    fn index_in(&self, hand: u32, grant: &Grant) -> usize
         requires out { HasInHand self.now hand grant.now }
         ensures here { IsBusyAt self.now.ring.shown result grant.now.pos (length grant.now.bytes) }
     {

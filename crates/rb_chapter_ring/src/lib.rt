@@ -66,6 +66,7 @@ mod chapter_state;
 mod counting;
 mod faults;
 mod finding;
+mod grant;
 mod hand_laws;
 mod hand_state;
 mod hand_table;
@@ -79,7 +80,7 @@ mod setup;
 mod standing;
 mod standing_lists;
 
-pub use chapter::Chapter;
+pub use chapter::{COUNT_LIMIT, Chapter};
 pub use chapter_laws::{calls_are_alike, chapters_join, counted_from_the_opening, room_is_kept};
 pub use faults::{OpenFault, ReserveFault};
 pub use hand_laws::{book_goes_on, each_call_keeps_hands, one_hand_changes};

@@ -2,7 +2,7 @@
 
 ghost use Rattle.std.specs.Prelude.{◌≡◌};
 ghost use Rattle.rb_chapter_ring.specs.UntakenRecords.{status_shown};
-ghost use Rattle.rb_chapter_ring.specs.inner.EndSteps.{entry_of_end, status_of_end};
+ghost use Rattle.rb_chapter_ring.specs.RecordEnds.{entry_of_end, status_of_end};
 
 use crate::UntakenStatus;
 use rb_history::Entry;

@@ -4,7 +4,7 @@ ghost use Rattle.std.specs.Prelude.{◌≡◌, ◌↔◌, IsTrue, Some, length};
 ghost use Rattle.rb_chapter_ring.specs.Hands.{in_hand, out_record};
 
 use crate::OutRecord;
-use rb_history::Reservation as Record;
+use crate::grant::Grant;
 use rb_lend::Lent;
 use std::marker::Model;
 
@@ -15,7 +15,7 @@ use std::marker::Model;
 pub struct Reservation {
     pub(crate) tag: u64,
     pub(crate) hand: u32,
-    pub(crate) grant: Record,
+    pub(crate) grant: Grant,
 }
 
 impl Model for Reservation {
@@ -104,17 +104,17 @@ impl Lent for Reservation {
 
     #[inline(always)]
     fn bytes(&self) -> &[u8] {
-        self.grant.bytes()
+        self.grant.sheet.bytes()
     }
 
     #[inline(always)]
     fn bytes_mut(&mut self) -> &mut [u8] {
-        self.grant.bytes_mut()
+        self.grant.sheet.bytes_mut()
     }
 
     #[inline(always)]
     fn range_mut(&mut self, at: usize, len: usize) -> &mut [u8] {
-        self.grant.range_mut(at, len)
+        self.grant.sheet.range_mut(at, len)
     }
 
     ghost rewritten = { λ s w e. rewritten_in_place s.granted.bytes w e };

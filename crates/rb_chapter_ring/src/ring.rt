@@ -17,6 +17,7 @@ ghost use Rattle.rb_chapter_ring.specs.ManyTakes.{TakesManyInChapter};
 ghost use Rattle.rb_chapter_ring.specs.OpenedRing.{IsChapterRingWithin, MayGoOnIn, opened_ring, told_counts};
 ghost use Rattle.rb_chapter_ring.specs.RingFaults.{RefusesInChapter};
 ghost use Rattle.rb_chapter_ring.specs.Hands.{AreAllOut, IsFree, IsLowestFree, free_book, hands_of};
+ghost use Rattle.rb_chapter_ring.specs.RecordEnds.{EndsFromHand};
 ghost use Rattle.rb_chapter_ring.specs.HandRing.{hand_ring, HasHands, HasInHand, GrantsToHand, SubmitsFromHand, DiscardsFromHand};
 
 use crate::Chapter;
@@ -194,6 +195,19 @@ impl RingState {
         ensures notice { (result ≡ Due) ↔ IsDue (consumer_by_chapter self.old.state.ring) reservation.granted.pos flags }
     {
         self.state.settle(reservation, RecordEnd::Discard, flags)
+    }
+
+    #[inline(always)]
+    /// Ends the reservation's record as `submit` or as `discard`, and frees its hand. It is out in that hand, so it is busy: there is no refusal. Of
+    /// the flags only bits 0 and 1 are looked at. In constant time, and without memory. (Linux kernel/bpf/ringbuf.c, bpf_ringbuf_commit.)
+    pub fn settle(&mut self, reservation: Reservation, end: RecordEnd, flags: u64) -> Notice
+        requires out { HasInHand self.old.state reservation.hand reservation.granted }
+        ensures same_tag { self.new.tag ≡ self.old.tag }
+        ensures same_chapter { IsSameChapter self.old.state.ring self.new.state.ring }
+        ensures ended { EndsFromHand end reservation.hand reservation.granted self.old.state self.new.state }
+        ensures notice { (result ≡ Due) ↔ IsDue (consumer_by_chapter self.old.state.ring) reservation.granted.pos flags }
+    {
+        self.state.settle(reservation, end, flags)
     }
 
     #[inline(always)]

@@ -6,7 +6,7 @@ ghost use Rattle.rb_history.specs.RingModel.{IsRingSize, IsStartPosition, IsWork
 ghost use Rattle.rb_chapter_ring.specs.Standing.{no_tally};
 ghost use Rattle.rb_chapter_ring.specs.Chapters.{IsChapterRoom};
 
-use crate::Chapter;
+use crate::chapter::{COUNT_LIMIT, Chapter};
 use crate::faults::OpenFault;
 use rb_history::{Tally, is_size, is_start, is_worker_count};
 use rb_lend::Sheet;
@@ -69,7 +69,7 @@ pub(crate) fn is_fit(chapter: &Chapter, empty: &Chapter) -> bool
     empty.used() == 0
         && empty.room() == chapter.room()
         && empty.opening().numbers().workers == chapter.opening().numbers().workers
-        && chapter.number() < 1 << 62
+        && chapter.number() < COUNT_LIMIT
 }
 
 /// How many records a worker was granted.

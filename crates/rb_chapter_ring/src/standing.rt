@@ -13,7 +13,7 @@ mod numbers;
 use crate::record_end::RecordEnd;
 use crate::standing_lists::{
     are_same_records, are_same_tallies, copy, count_end, count_made, count_refused, forget,
-    front_of, settle, tally_of,
+    front_of, set_end, tally_of,
 };
 pub use numbers::StandingNumbers;
 use rb_history::{Tally, span};
@@ -178,7 +178,7 @@ impl Standing {
         ensures passed { self.new.passed ≡ self.old.passed }
         ensures position { result ≡ (record_in self.old.opening index).pos }
     {
-        let record = settle(self.records.as_mut_slice(), self.first, index, end);
+        let record = set_end(self.records.as_mut_slice(), self.first, index, end);
         count_end(self.tallies.as_mut_slice(), record.worker, end);
         record.pos
     }

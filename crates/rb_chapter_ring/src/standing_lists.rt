@@ -3,7 +3,7 @@
 ghost use Rattle.std.specs.Prelude.{◌≡◌, ◌+◌, ◌<◌, ◌^◌, ◌↔◌, IsTrue, drop, length, map, replicate, slice_index_or, slice_set};
 ghost use Rattle.rb_chapter_ring.specs.Standing.{no_record, no_tally};
 ghost use Rattle.rb_chapter_ring.specs.UntakenRecords.{untaken_shown};
-ghost use Rattle.rb_chapter_ring.specs.inner.EndSteps.{status_of_end, tally_with_end};
+ghost use Rattle.rb_chapter_ring.specs.RecordEnds.{status_of_end, tally_with_end};
 
 use crate::record_end::RecordEnd;
 use crate::standing::UntakenRecord;
@@ -46,8 +46,8 @@ pub(crate) fn tally_of(tallies: &[Tally], worker: u32) -> Tally
     tallies[worker as usize]
 }
 
-/// Counts a record that the worker was granted, and returns how many it was granted before.
 #[inline(always)]
+/// Counts a record that the worker was granted, and returns how many it was granted before.
 pub(crate) fn count_made(tallies: &mut [Tally], worker: u32) -> u64
     requires worker { worker < length tallies.old }
     requires total { (slice_index_or tallies.old worker no_tally).made < 2 ^ 62 }
@@ -60,8 +60,8 @@ pub(crate) fn count_made(tallies: &mut [Tally], worker: u32) -> u64
     before
 }
 
-/// Counts a refusal of the worker.
 #[inline(always)]
+/// Counts a refusal of the worker.
 pub(crate) fn count_refused(tallies: &mut [Tally], worker: u32)
     requires worker { worker < length tallies.old }
     requires total { (slice_index_or tallies.old worker no_tally).refused < 2 ^ 62 }
@@ -70,8 +70,8 @@ pub(crate) fn count_refused(tallies: &mut [Tally], worker: u32)
     tallies[worker as usize].refused += 1;
 }
 
-/// Counts the end of a record of the worker.
 #[inline(always)]
+/// Counts the end of a record of the worker.
 pub(crate) fn count_end(tallies: &mut [Tally], worker: u32, end: RecordEnd)
     requires worker { worker < length tallies.old }
     requires total { (slice_index_or tallies.old worker no_tally).submitted + (slice_index_or tallies.old worker no_tally).discarded < 2 ^ 62 }
@@ -86,7 +86,7 @@ pub(crate) fn count_end(tallies: &mut [Tally], worker: u32, end: RecordEnd)
 
 #[inline(always)]
 /// The record at an index, from the first on, comes to this end. Returns it as it was.
-pub(crate) fn settle(
+pub(crate) fn set_end(
     records: &mut [UntakenRecord],
     first: usize,
     index: usize,

@@ -9,8 +9,8 @@ ghost use Rattle.rb_tape_commands.specs.TapeText.{IsTape};
 
 use crate::progress::{Metered, Progress};
 use crate::reasons::{Seen, reason_of};
-use crate::refusal::{Refusal, object_of};
-use crate::request::{Asked, Request, parse};
+use crate::refusal::{CommandRefusal, object_of};
+use crate::request::{CommandLine, Subcommand, parse};
 use crate::sim_objects::print_objects;
 use clap::Error;
 use clap::error::ErrorKind;
@@ -69,10 +69,13 @@ fn print_usage<W: Write, E: Write>(error: &Error, out: &mut W, err: &mut E) -> u
     ensures usage { result ≡ 2 → Keeps (W.contents out.old) (W.contents out.new) }
 {
     match error.kind() {
-        ErrorKind::OutOfMemory => print_refusal(&Refusal::Program(ProgramFault::Memory), err),
+        ErrorKind::OutOfMemory => print_refusal(
+            &CommandRefusal::Program(ProgramFault::Memory),
+            err,
+        ),
         ErrorKind::DisplayHelp | ErrorKind::DisplayVersion => match write!(out, "{error}") {
             Ok(()) => 0,
-            Err(_) => print_refusal(&Refusal::Program(ProgramFault::Device), err),
+            Err(_) => print_refusal(&CommandRefusal::Program(ProgramFault::Device), err),
         },
         _ => {
             let _ = write!(err, "{error}");
@@ -82,7 +85,7 @@ fn print_usage<W: Write, E: Write>(error: &Error, out: &mut W, err: &mut E) -> u
 }
 
 // The line of a refusal.
-fn print_refusal<E: Write>(refusal: &Refusal, err: &mut E) -> u8
+fn print_refusal<E: Write>(refusal: &CommandRefusal, err: &mut E) -> u8
     ensures { result ≡ 1 }
 {
     let _ = writeln!(err, "refused {refusal}");
@@ -93,7 +96,7 @@ fn print_refusal<E: Write>(refusal: &Refusal, err: &mut E) -> u8
 fn carry_out<T, F: Write + Send + Drop, R: Read, W: Write, E: Write>(
     rt: &T,
     alloc: Global,
-    asked: &Asked<'_>,
+    asked: &CommandLine<'_>,
     input: &mut R,
     out: &mut W,
     err: &mut E,
@@ -125,21 +128,21 @@ where
 
 // What a command answers, once what it told beside its output is written.
 fn and_told<E: Write>(
-    answer: Result<Option<(u64, u64)>, Refusal>,
+    answer: Result<Option<(u64, u64)>, CommandRefusal>,
     told: &[u8],
     err: &mut E,
-) -> Result<Option<(u64, u64)>, Refusal> {
+) -> Result<Option<(u64, u64)>, CommandRefusal> {
     if told.is_empty() || write_whole(err, told).is_ok() || answer.is_err() {
         return answer;
     }
-    Err(Refusal::Jobs(JobsFault::Program(ProgramFault::Device)))
+    Err(CommandRefusal::Jobs(JobsFault::Program(ProgramFault::Device)))
 }
 
 // Tells a refusal: its reason and its object where they are asked for, and its line.
 fn tell_refusal<W: Write, E: Write>(
     alloc: Global,
-    refusal: &Refusal,
-    asked: &Asked<'_>,
+    refusal: &CommandRefusal,
+    asked: &CommandLine<'_>,
     seen: &Seen,
     out: &mut W,
     err: &mut E,
@@ -203,47 +206,47 @@ fn explained<R: Read, W: Write>(
 fn answer<T, F: Write + Send + Drop, R: Read, W: Write>(
     rt: &T,
     alloc: Global,
-    asked: &Asked<'_>,
+    asked: &CommandLine<'_>,
     progress: &Progress<'_, T>,
     input: &mut R,
     out: &mut W,
     told: &mut Vec<u8>,
     seen: &mut Seen,
-) -> Result<Option<(u64, u64)>, Refusal>
+) -> Result<Option<(u64, u64)>, CommandRefusal>
 where
     T: Threads + Wait + Sync + Files<File = F> + Clock + Eprint,
 {
     match asked.request {
-        Request::Feed {
+        Subcommand::Feed {
             size,
             start,
             retries,
             ..
         } => feed_metered(alloc, input, out, progress, size, start, retries),
-        Request::Tape { size, start, form } => {
+        Subcommand::Tape { size, start, form } => {
             let mut input = Metered::new(input, progress);
             match tape_buffered(alloc, &mut input, out, size, start, form) {
                 Ok(()) => Ok(None),
-                Err(refusal) => Err(Refusal::Tape(refusal)),
+                Err(refusal) => Err(CommandRefusal::Tape(refusal)),
             }
         }
-        Request::Check {
+        Subcommand::Check {
             bounds,
             form,
             portable,
         } => of_program(checked(rt, alloc, progress, input, out, bounds, form, portable)),
-        Request::Explain {
+        Subcommand::Explain {
             bounds,
             form,
             portable,
         } => of_program(explained(alloc, input, out, bounds, form, portable)),
-        Request::Cost { bounds, form, jobs } => {
+        Subcommand::Cost { bounds, form, jobs } => {
             of_program(cost(alloc, input, out, bounds, form, jobs))
         }
-        Request::Run { jobs, tape: None } => of_jobs(run(
+        Subcommand::Run { jobs, tape: None } => of_jobs(run(
             rt, alloc, input, out, told, jobs, progress,
         )),
-        Request::Run {
+        Subcommand::Run {
             jobs,
             tape: Some(path),
         } => {
@@ -252,10 +255,10 @@ where
             seen.file = file.fault;
             of_jobs(answer)
         }
-        Request::Sim { draw, form } => {
+        Subcommand::Sim { draw, form } => {
             match sim_told(alloc, input, out, progress, draw, form, asked.why, seen) {
                 Ok(()) => Ok(None),
-                Err(fault) => Err(Refusal::Sim(fault)),
+                Err(fault) => Err(CommandRefusal::Sim(fault)),
             }
         }
     }
@@ -270,29 +273,29 @@ fn feed_metered<T: Clock + Eprint, R: Read, W: Write>(
     size: u64,
     start: u64,
     retries: u32,
-) -> Result<Option<(u64, u64)>, Refusal>
+) -> Result<Option<(u64, u64)>, CommandRefusal>
     ensures whole { OnOk result (IsRingSize size × IsStartPosition start × IsWholeInput size start (R.remaining input.old)) }
 {
     let mut input = Metered::new(input, progress);
     match feed_buffered(alloc, &mut input, out, size, start, retries) {
         Ok(end) => Ok(Some(end)),
-        Err(fault) => Err(Refusal::Feed(fault)),
+        Err(fault) => Err(CommandRefusal::Feed(fault)),
     }
 }
 
 // The answer of a command over a program.
-fn of_program(answer: Result<(), ProgramFault>) -> Result<Option<(u64, u64)>, Refusal> {
+fn of_program(answer: Result<(), ProgramFault>) -> Result<Option<(u64, u64)>, CommandRefusal> {
     match answer {
         Ok(()) => Ok(None),
-        Err(fault) => Err(Refusal::Program(fault)),
+        Err(fault) => Err(CommandRefusal::Program(fault)),
     }
 }
 
 // The answer of a run.
-fn of_jobs(answer: Result<(), JobsFault>) -> Result<Option<(u64, u64)>, Refusal> {
+fn of_jobs(answer: Result<(), JobsFault>) -> Result<Option<(u64, u64)>, CommandRefusal> {
     match answer {
         Ok(()) => Ok(None),
-        Err(fault) => Err(Refusal::Jobs(fault)),
+        Err(fault) => Err(CommandRefusal::Jobs(fault)),
     }
 }
 

@@ -1,7 +1,7 @@
 //! The reason of a refusal, in words for people: the one place where each is worded.
 
 use crate::refusal::Cause;
-use crate::request::Request;
+use crate::request::Subcommand;
 use rb_io::Front;
 use rb_program::DecodeKind;
 use rb_run_commands::TapeFileFault;
@@ -28,7 +28,7 @@ pub(crate) struct Seen {
 pub(crate) fn reason_of(
     alloc: Global,
     cause: Cause,
-    request: &Request<'_>,
+    request: &Subcommand<'_>,
     seen: &Seen,
 ) -> Result<String, AllocError> {
     match cause {
@@ -75,9 +75,9 @@ pub(crate) fn reason_of(
 }
 
 // Where a program's author finds more.
-fn mending(request: &Request<'_>) -> &'static str {
+fn mending(request: &Subcommand<'_>) -> &'static str {
     match request {
-        Request::Explain { .. } => "standard output has what it wants and how programs mend it",
+        Subcommand::Explain { .. } => "standard output has what it wants and how programs mend it",
         _ => "`rbhost explain` says what it wants and how programs mend it",
     }
 }
@@ -152,9 +152,9 @@ fn record_words(kind: TapeKind) -> &'static str {
 }
 
 // What memory was for.
-fn memory_reason(alloc: Global, request: &Request<'_>) -> Result<String, AllocError> {
+fn memory_reason(alloc: Global, request: &Subcommand<'_>) -> Result<String, AllocError> {
     match request {
-        Request::Run { jobs, .. } => {
+        Subcommand::Run { jobs, .. } => {
             let count = jobs.workers.saturating_mul(u64::from(jobs.jobs));
             format!(in alloc;
                 "there is not enough memory: the list of {count} jobs alone takes {} bytes",
@@ -166,7 +166,11 @@ fn memory_reason(alloc: Global, request: &Request<'_>) -> Result<String, AllocEr
 }
 
 // Which operation failed at which file, and the system's words.
-fn device_reason(alloc: Global, request: &Request<'_>, seen: &Seen) -> Result<String, AllocError> {
+fn device_reason(
+    alloc: Global,
+    request: &Subcommand<'_>,
+    seen: &Seen,
+) -> Result<String, AllocError> {
     if let Some(fault) = seen.file {
         return file_reason(alloc, request.tape(), fault);
     }

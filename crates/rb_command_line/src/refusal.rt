@@ -12,7 +12,7 @@ use thiserror::Error;
 
 /// A refusal of any command, which is told as the command's own is.
 #[derive(Clone, Copy, Debug, PartialEq, Eq, Error)]
-pub(crate) enum Refusal {
+pub(crate) enum CommandRefusal {
     /// Of `feed`.
     #[error("{0}")]
     Feed(FeedFault),
@@ -61,15 +61,15 @@ pub(crate) enum Cause {
     Device,
 }
 
-impl Refusal {
+impl CommandRefusal {
     /// What it is for.
     pub(crate) fn cause(&self) -> Cause {
         match *self {
-            Refusal::Feed(fault) => feed_cause(fault),
-            Refusal::Tape(refusal) => tape_cause(refusal),
-            Refusal::Program(fault) => program_cause(fault),
-            Refusal::Jobs(fault) => jobs_cause(fault),
-            Refusal::Sim(fault) => sim_cause(fault),
+            CommandRefusal::Feed(fault) => feed_cause(fault),
+            CommandRefusal::Tape(refusal) => tape_cause(refusal),
+            CommandRefusal::Program(fault) => program_cause(fault),
+            CommandRefusal::Jobs(fault) => jobs_cause(fault),
+            CommandRefusal::Sim(fault) => sim_cause(fault),
         }
     }
 }

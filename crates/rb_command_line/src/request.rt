@@ -16,7 +16,7 @@ use std::convert::AsStr;
 
 /// A command with its options.
 #[derive(Clone, Copy)]
-pub(crate) enum Request<'a> {
+pub(crate) enum Subcommand<'a> {
     /// Writes the tape of payloads: the ring's size and its first position, how often writing goes on after a write that failed, and how its end is told.
     Feed {
         size: u64,
@@ -60,12 +60,12 @@ pub(crate) enum Request<'a> {
     },
 }
 
-impl Request<'_> {
+impl Subcommand<'_> {
     /// The size that is asked for, and 0 where none is.
     pub(crate) fn size(&self) -> u64 {
         match *self {
-            Request::Feed { size, .. } | Request::Tape { size, .. } => size,
-            Request::Run { jobs, .. } => jobs.size,
+            Subcommand::Feed { size, .. } | Subcommand::Tape { size, .. } => size,
+            Subcommand::Run { jobs, .. } => jobs.size,
             _ => 0,
         }
     }
@@ -73,8 +73,8 @@ impl Request<'_> {
     /// The first position that is asked for, and 0 where none is.
     pub(crate) fn start(&self) -> u64 {
         match *self {
-            Request::Feed { start, .. } | Request::Tape { start, .. } => start,
-            Request::Run { jobs, .. } => jobs.start,
+            Subcommand::Feed { start, .. } | Subcommand::Tape { start, .. } => start,
+            Subcommand::Run { jobs, .. } => jobs.start,
             _ => 0,
         }
     }
@@ -82,7 +82,7 @@ impl Request<'_> {
     /// How many workers are asked for, and 0 where none are.
     pub(crate) fn workers(&self) -> u64 {
         match *self {
-            Request::Run { jobs, .. } => jobs.workers,
+            Subcommand::Run { jobs, .. } => jobs.workers,
             _ => 0,
         }
     }
@@ -90,7 +90,7 @@ impl Request<'_> {
     /// How many jobs there are in all, and 0 where none are asked for.
     pub(crate) fn jobs(&self) -> u64 {
         match *self {
-            Request::Run { jobs, .. } => jobs.workers.saturating_mul(u64::from(jobs.jobs)),
+            Subcommand::Run { jobs, .. } => jobs.workers.saturating_mul(u64::from(jobs.jobs)),
             _ => 0,
         }
     }
@@ -98,7 +98,7 @@ impl Request<'_> {
     /// The name of the file for a tape, and an empty one where none is asked for.
     pub(crate) fn tape(&self) -> &str {
         match *self {
-            Request::Run {
+            Subcommand::Run {
                 tape: Some(path),
                 ..
             } => path,
@@ -110,34 +110,37 @@ impl Request<'_> {
     pub(crate) fn is_long(&self) -> bool {
         matches!(
             self,
-            Request::Feed { .. } | Request::Tape { .. } | Request::Run { .. } | Request::Sim { .. }
+            Subcommand::Feed { .. }
+                | Subcommand::Tape { .. }
+                | Subcommand::Run { .. }
+                | Subcommand::Sim { .. }
         )
     }
 
     /// How what is found is printed.
     pub(crate) fn form(&self) -> LineForm {
         match *self {
-            Request::Feed { form, .. }
-            | Request::Tape { form, .. }
-            | Request::Check { form, .. }
-            | Request::Explain { form, .. }
-            | Request::Cost { form, .. }
-            | Request::Sim { form, .. } => form,
-            Request::Run { jobs, .. } => jobs.form,
+            Subcommand::Feed { form, .. }
+            | Subcommand::Tape { form, .. }
+            | Subcommand::Check { form, .. }
+            | Subcommand::Explain { form, .. }
+            | Subcommand::Cost { form, .. }
+            | Subcommand::Sim { form, .. } => form,
+            Subcommand::Run { jobs, .. } => jobs.form,
         }
     }
 
     /// Whether a refusal is printed as an object too: where lines are, but not among the bytes of a tape that `feed` writes.
     pub(crate) fn prints_object(&self) -> bool {
-        self.form() == LineForm::Json && !matches!(self, Request::Feed { .. })
+        self.form() == LineForm::Json && !matches!(self, Subcommand::Feed { .. })
     }
 }
 
 /// What the command line asks for.
 #[derive(Clone, Copy)]
-pub(crate) struct Asked<'a> {
+pub(crate) struct CommandLine<'a> {
     /// The command.
-    pub request: Request<'a>,
+    pub request: Subcommand<'a>,
     /// Whether the reason of a refusal is printed.
     pub why: bool,
     /// Whether it is told how far a long command is.
@@ -146,7 +149,7 @@ pub(crate) struct Asked<'a> {
 
 /// The command that these words name, which follow the program's name on the command line. An error is help or the version that was
 /// asked for, wrong usage, or out of memory.
-pub(crate) fn parse<'a, S: AsStr>(alloc: Global, words: &'a [S]) -> Result<Asked<'a>, Error> {
+pub(crate) fn parse<'a, S: AsStr>(alloc: Global, words: &'a [S]) -> Result<CommandLine<'a>, Error> {
     let mut program = program(alloc)?;
     request_of(alloc, &mut program, words)
 }
@@ -156,12 +159,12 @@ fn request_of<'a, S: AsStr>(
     alloc: Global,
     program: &mut Command<'a>,
     words: &'a [S],
-) -> Result<Asked<'a>, Error> {
+) -> Result<CommandLine<'a>, Error> {
     let matches = program.try_get_matches_from_mut(words)?;
     match matches.subcommand() {
         Some((name, options)) => {
             let request = command_request(alloc, program, name, options)?;
-            Ok(Asked {
+            Ok(CommandLine {
                 request,
                 why: options.get_flag("why"),
                 progress: request.is_long() && options.get_flag("progress"),
@@ -177,30 +180,30 @@ fn command_request<'a>(
     program: &mut Command<'_>,
     name: &str,
     options: &ArgMatches<'a>,
-) -> Result<Request<'a>, Error> {
+) -> Result<Subcommand<'a>, Error> {
     match name {
         "feed" => feed_request(alloc, program, options),
         "tape" => tape_request(alloc, program, options),
-        "check" => Ok(Request::Check {
+        "check" => Ok(Subcommand::Check {
             bounds: bounds(alloc, program, options)?,
             form: form(options),
             portable: options.get_flag("portable"),
         }),
-        "explain" => Ok(Request::Explain {
+        "explain" => Ok(Subcommand::Explain {
             bounds: bounds(alloc, program, options)?,
             form: form(options),
             portable: options.get_flag("portable"),
         }),
-        "cost" => Ok(Request::Cost {
+        "cost" => Ok(Subcommand::Cost {
             bounds: bounds(alloc, program, options)?,
             form: form(options),
             jobs: jobs_at_once(alloc, program, options)?,
         }),
-        "run" => Ok(Request::Run {
+        "run" => Ok(Subcommand::Run {
             jobs: jobs_request(alloc, program, options)?,
             tape: options.get_str("tape"),
         }),
-        _ => Ok(Request::Sim {
+        _ => Ok(Subcommand::Sim {
             draw: options.get_flag("draw"),
             form: form(options),
         }),
@@ -211,8 +214,8 @@ fn feed_request<'a>(
     alloc: Global,
     program: &mut Command<'_>,
     options: &ArgMatches<'_>,
-) -> Result<Request<'a>, Error> {
-    Ok(Request::Feed {
+) -> Result<Subcommand<'a>, Error> {
+    Ok(Subcommand::Feed {
         size: number(alloc, program, options, "size")?,
         start: number(alloc, program, options, "start")?,
         retries: bounded(alloc, program, options, "retry", 0, 100)?,
@@ -224,8 +227,8 @@ fn tape_request<'a>(
     alloc: Global,
     program: &mut Command<'_>,
     options: &ArgMatches<'_>,
-) -> Result<Request<'a>, Error> {
-    Ok(Request::Tape {
+) -> Result<Subcommand<'a>, Error> {
+    Ok(Subcommand::Tape {
         size: number(alloc, program, options, "size")?,
         start: number(alloc, program, options, "start")?,
         form: form(options),

@@ -7,7 +7,7 @@ ghost use Rattle.rb_shared_ring.specs.declared.chapters.HandFault.TheVariants as
 ghost use Rattle.rb_consumer.specs.Turns.{IsTurnDue, IsOfRing, TurnsChapter, chapters_lent};
 ghost use Rattle.rb_consumer.specs.inner.KeeperTurns.{chapters_handed};
 
-use rb_chapter_ring::Chapter;
+use rb_chapter_ring::{COUNT_LIMIT, Chapter};
 use rb_shared_ring::{ConsumerSeat, HandFault, SharedRing};
 use std::marker::Model;
 use std::sync::Wait;
@@ -130,11 +130,11 @@ impl Keeper {
     {
         match &self.kept {
             Some(chapter) => {
-                let ring = seat.ring();
+                let ring = seat.numbers();
                 (self.is_lent || chapter.used() == 0)
                     && chapter.room() == ring.room
                     && chapter.opening().numbers().workers == ring.workers
-                    && seat.chapters() < 1 << 62
+                    && seat.chapters() < COUNT_LIMIT
             }
             None => unreachable!(),
         }
@@ -169,7 +169,7 @@ fn hand_out_due<R: Wait>(
         Ok(told) => told,
         Err(_) => unreachable!(),
     };
-    if !is_due(margin, seat.ring().room, entries, more) {
+    if !is_due(margin, seat.numbers().room, entries, more) {
         return Err(kept);
     }
     let mut empty = kept;

@@ -16,8 +16,8 @@ use rb_program::{Program, jump_target, next_unit};
 use rb_verifier::AbsState;
 use std::alloc::{AllocError, Global};
 
-/// A number becomes the most so far at the unit to which an edge leads, where there is one and it was less there.
 #[inline(always)]
+/// A number becomes the most so far at the unit to which an edge leads, where there is one and it was less there.
 fn raise(before: &mut Vec<u64>, target: Option<u32>, n: u64)
     requires { (to : ℕ) → target ≡ Some to → to < vec_len before.old }
     ensures { Raises target n before.old.items before.new.items }

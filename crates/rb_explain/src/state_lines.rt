@@ -194,8 +194,8 @@ fn push_references(text: &mut String, held: &[Reference]) -> Result<(), AllocErr
     Ok(())
 }
 
-/// What is known before an instruction.
 #[tactic(auto, using(crate::proofs::Joining::five))]
+/// What is known before an instruction.
 pub(crate) fn push_state(text: &mut String, state: &AbsState) -> Result<(), AllocError>
     ensures added { OnOk result (string_bytes text.new ≡ string_bytes text.old ++ state_text state.now) }
 {

@@ -74,8 +74,8 @@ fn push_near(
     }
 }
 
-/// The lines around a unit, in words with the mark under it.
 #[tactic(auto, using(crate::proofs::Joining::joins))]
+/// The lines around a unit, in words with the mark under it.
 pub(crate) fn push_window(
     alloc: Global,
     text: &mut String,

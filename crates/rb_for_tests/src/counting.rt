@@ -7,7 +7,8 @@ ghost use Rattle.rb_history.specs.StoredRecords.{is_reserved_state, is_submitted
 use crate::entry_kinds::{
     is_discarding, is_grant, is_refusal, is_reserved, is_reserved_by, is_submitted,
 };
-use rb_history::{Entry, Reservation, StoredRecord};
+use crate::plain_reservation::PlainReservation;
+use rb_history::{Entry, StoredRecord};
 use std::collections::VecDeque;
 
 /// How many records a history grants. In time linear in the history, as the next two.
@@ -48,7 +49,7 @@ pub(crate) fn reserved_in(records: &VecDeque<StoredRecord>) -> u64
 /// The place of the busy record that has the reservation's four numbers, where there is one.
 pub(crate) fn busy_index(
     records: &VecDeque<StoredRecord>,
-    reservation: &Reservation,
+    reservation: &PlainReservation,
 ) -> Option<usize>
     ensures index { result ≡ position (is_reserved_by reservation.now) records.now.items }
 {

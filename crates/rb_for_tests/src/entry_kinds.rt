@@ -5,7 +5,8 @@ ghost use Rattle.rb_history.specs.History.{is_grant_of};
 ghost use Rattle.rb_history.specs.Counting.{is_grant_entry, is_refusal_entry, is_discard_entry};
 ghost use Rattle.rb_history.specs.StoredRecords.{is_reserved_state, is_submitted_state, is_reserved_by};
 
-use rb_history::{Entry, RecordState, Reservation, StoredRecord};
+use crate::plain_reservation::PlainReservation;
+use rb_history::{Entry, RecordState, StoredRecord};
 
 /// Whether the entry grants a record.
 pub fn is_grant(entry: &Entry) -> bool
@@ -50,7 +51,7 @@ pub fn is_submitted(kept: &StoredRecord) -> bool
 }
 
 /// Whether the record is busy and has the reservation's position, worker, serial and length.
-pub fn is_reserved_by(reservation: &Reservation, kept: &StoredRecord) -> bool
+pub fn is_reserved_by(reservation: &PlainReservation, kept: &StoredRecord) -> bool
     ensures test { result ≡ is_reserved_by reservation.now kept.now }
 {
     is_reserved(kept)

@@ -1,6 +1,6 @@
 //! What tests and programs of trials share. No library uses it.
 //!
-//! `RingState` is the plain twin of `rb_chapter_ring`'s: a BPF ring buffer for one thread (Linux Documentation/bpf/ringbuf.rst) that keeps its whole
+//! `PlainRing` is the plain twin of `rb_chapter_ring`'s `RingState`: a BPF ring buffer for one thread (Linux Documentation/bpf/ringbuf.rst) that keeps its whole
 //! history, and whose records are a plain list. Its contracts are the definitions of `rb_history` over whole histories, and its body is short: tests
 //! give both the same calls and compare the answers.
 //!
@@ -15,8 +15,10 @@ mod entry_kinds;
 mod many_takes;
 mod open_ring;
 mod outputs;
+mod plain_faults;
+mod plain_reservation;
+mod plain_ring;
 mod producing;
-mod ring;
 
 pub use consuming::{Consumer, Found};
 pub use entry_kinds::{
@@ -24,6 +26,7 @@ pub use entry_kinds::{
 };
 pub use open_ring::OpenRing;
 pub use outputs::{Outputs, output, sheet};
+pub use plain_faults::{PlainOpenFault, Stray};
+pub use plain_reservation::PlainReservation;
+pub use plain_ring::PlainRing;
 pub use producing::Producer;
-pub use rb_history::{Counts, Entry, Notice, OpenFault, Reservation, ReserveFault, Stray, Taken};
-pub use ring::RingState;

@@ -3,10 +3,10 @@
 ghost use Rattle.std.specs.Prelude.{◌≡◌, ◌+◌, ◌≤◌, ◌++◌, length, vec_len, vec_capacity};
 ghost use Rattle.rb_history.specs.ManyTakes.{TakesMany, pushed};
 
-use crate::ring::RingState;
+use crate::plain_ring::PlainRing;
 use rb_history::Taken;
 
-impl RingState {
+impl PlainRing {
     /// Takes up to `n` records, as so many calls of `take`, pushes each that was handed out or passed over onto `out`, and returns how
     /// many they are. It stops before the first take that finds a busy record or none, so it pushes neither `BusyFront` nor `Empty`. It
     /// takes no memory, and constant time for each record. (Linux Documentation/bpf/ringbuf.rst: records are consumed in the order of their

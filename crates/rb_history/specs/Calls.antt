@@ -6,8 +6,8 @@ use Rattle.rb_history.specs.declared.entries.Entry.{Entry}
 use Rattle.rb_history.specs.declared.entries.Entry.TheVariants.{Res, Full, Sub, Dis, Take}
 use Rattle.rb_history.specs.declared.answers.Taken.{Taken}
 use Rattle.rb_history.specs.declared.answers.Taken.TheVariants.{Event, Skipped, BusyFront, Empty}
-use Rattle.rb_history.specs.declared.answers.ReserveFault.{ReserveFault}
-use Rattle.rb_history.specs.declared.answers.ReserveFault.TheVariants.{Full as FaultFull, Memory as FaultMemory, Flags as FaultFlags, Foreign as FaultForeign}
+use Rattle.rb_history.specs.declared.answers.NoGrant.{NoGrant}
+use Rattle.rb_history.specs.declared.answers.NoGrant.TheVariants.{Full as FaultFull, Memory as FaultMemory, Flags as FaultFlags}
 use Rattle.rb_history.specs.History.{status_of, is_granted_at, grants, producer_of, consumer_of}
 use Rattle.rb_history.specs.History.Status.{Busy, Waiting, Discarded}
 use Rattle.rb_history.specs.ReservationModel.{Granted}
@@ -70,12 +70,11 @@ pub record Outputs (old new : Ring) (w : ℕ) (bytes : List ℕ) : Type 0 where
   pub logged : Logs old new (Res w (grants w old.history) (length bytes) (producer_now old) ∷ Sub (producer_now old) ∷ [])
   pub contents_are : new.contents ≡ insert old.contents (producer_now old) bytes
 
--- why no record of n bytes was granted; a ring of one thread has no foreign seats
-abbrev pub Refuses : Ring → Ring → ℕ → ℕ → ReserveFault → Type 0
+-- why no record of n bytes was granted
+abbrev pub Refuses : Ring → Ring → ℕ → ℕ → NoGrant → Type 0
 Refuses old new w n FaultFull = FindsFull old new w n
 Refuses old new w n FaultMemory = new ≡ old
 Refuses old new w n FaultFlags = new ≡ old
-Refuses old new w n FaultForeign = ⊥
 
 -- ---- submit and discard
 

@@ -1,25 +1,7 @@
 //! What the calls of a ring answer.
 
-use crate::reservations::Reservation;
 use rb_lend::Sheet;
 use thiserror::Error;
-
-/// Why a ring can't be made: the first of these that applies, in this order.
-#[derive(Clone, Copy, Debug, Error, PartialEq, Eq)]
-pub enum OpenFault {
-    /// The size in bytes is no power of two from 4,096 to 67,108,864.
-    #[error("the size is no power of two from 4096 to 67108864")]
-    Size,
-    /// The start is no multiple of 8, or above 2^61.
-    #[error("the start is no multiple of 8 up to 2^61")]
-    Start,
-    /// The number of workers is not 1 to 256.
-    #[error("the number of workers is not 1 to 256")]
-    Workers,
-    /// A growth was refused: there is no memory for the ring.
-    #[error("out of memory")]
-    Memory,
-}
 
 /// Whether a notice of a record is due to the consumer (bpf-helpers(7): the notification of new data availability).
 #[derive(Clone, Copy, Debug, PartialEq, Eq)]
@@ -30,9 +12,9 @@ pub enum Notice {
     NotDue,
 }
 
-/// Why no record was granted. A refusal hands the sheet back.
+/// Why a ring that keeps its whole history grants no record. A refusal hands the sheet back.
 #[derive(Clone, Copy, Debug, Error, PartialEq, Eq)]
-pub enum ReserveFault {
+pub enum NoGrant {
     /// The ring has no room for the record. The refusal is logged.
     #[error("the ring has no room")]
     Full,
@@ -42,16 +24,6 @@ pub enum ReserveFault {
     /// The flags of an `output` are above 3. Nothing changed.
     #[error("unknown flags")]
     Flags,
-    /// The seat is another ring's. Nothing changed. A ring of one thread never answers so.
-    #[error("the seat is another ring's")]
-    Foreign,
-}
-
-/// A reservation that agrees with no busy record of the ring in position, worker, serial and length. It is handed back whole.
-#[derive(Drop)]
-pub struct Stray {
-    /// The reservation that was handed in.
-    pub reservation: Reservation,
 }
 
 /// What a take found at the consumer position.

@@ -7,7 +7,7 @@
 //! (`each_entry_is_one_call`), so the rules allow what calls can do, and nothing else. There is no ring in this crate.
 //!
 //! ```text
-//! assert_eq!(rt; check_setup(4096, 4, 1), Err(OpenFault::Start));
+//! assert_eq!(rt; check_setup(4096, 4, 1), Err(SetupFault::Start));
 //! assert_eq!(rt; notice_for(0, 0, NO_WAKEUP), Notice::NotDue);
 //! assert_eq!(rt; notice_for(0, 16, FORCE_WAKEUP), Notice::Due);
 //! ```
@@ -37,14 +37,13 @@ mod headers;
 mod notices_and_queries;
 mod one_call;
 mod pages;
-mod reservations;
 mod spans;
 mod stored_records;
 mod tally;
 mod tapes;
 
-pub use answers::{Counts, Notice, OpenFault, ReserveFault, Stray, Taken};
-pub use bounds::{POSITION_LIMIT, check_setup, is_size, is_start, is_worker_count};
+pub use answers::{Counts, NoGrant, Notice, Taken};
+pub use bounds::{POSITION_LIMIT, SetupFault, check_setup, is_size, is_start, is_worker_count};
 pub use entries::Entry;
 pub use headers::{BUSY_BIT, DISCARD_BIT, Header, HeaderFault};
 pub use notices_and_queries::{
@@ -52,7 +51,6 @@ pub use notices_and_queries::{
 };
 pub use one_call::each_entry_is_one_call;
 pub use pages::page_of;
-pub use reservations::Reservation;
 pub use spans::span;
 pub use stored_records::{RecordState, StoredRecord};
 pub use tally::Tally;

@@ -52,18 +52,18 @@ pub fn value(insn: &Insn, dst: u64, src: u64) -> u64
     }
 }
 
+#[inline(always)]
 /// Arithmetic on the low bits of two numbers, as many as the width has. Callers name the width, so that each gets code for it
 /// alone.
-#[inline(always)]
 fn binary_at(width: Width, op: BinaryOp, dst: u64, src: u64) -> u64
     ensures { result ≡ binary_of (bits_of width) op (low_bits (bits_of width) dst) (low_bits (bits_of width) src) }
 {
     binary(width, op, low_bits(width, dst), low_bits(width, src))
 }
 
-/// Arithmetic on two numbers of the width.
 #[inline(always)]
 #[tactic(auto, unfolding(crate::specs::WholeNumbers::binary_of))]
+/// Arithmetic on two numbers of the width.
 fn binary(width: Width, op: BinaryOp, a: u64, b: u64) -> u64
     requires first { a < 2 ^ bits_of width }
     requires second { b < 2 ^ bits_of width }
@@ -85,8 +85,8 @@ fn binary(width: Width, op: BinaryOp, a: u64, b: u64) -> u64
     }
 }
 
-/// A division of two numbers of the width, or its remainder.
 #[tactic(auto, unfolding(crate::specs::WholeNumbers::unsigned_division, crate::specs::WholeNumbers::signed_division, crate::specs::ArithmeticAndJumps::division_of))]
+/// A division of two numbers of the width, or its remainder.
 fn division(sign: Signedness, width: Width, op: DivisionOp, a: u64, b: u64) -> u64
     requires first { a < 2 ^ bits_of width }
     requires second { b < 2 ^ bits_of width }
@@ -108,8 +108,8 @@ fn division(sign: Signedness, width: Width, op: DivisionOp, a: u64, b: u64) -> u
     }
 }
 
-/// The low bits, sign-extended to 32 bits.
 #[tactic(auto, unfolding(crate::specs::ArithmeticAndJumps::sign_extended))]
+/// The low bits, sign-extended to 32 bits.
 fn extended_to_32(from: Extend32, number: u64) -> u64
     ensures { result ≡ sign_extended (extend32_bits from) 32 number }
 {
@@ -133,8 +133,8 @@ pub fn sign_extended(from: Extend64, number: u64) -> u64
     extended.cast_unsigned()
 }
 
-/// The low bytes, in the order asked for; all bits above them are zero.
 #[tactic(auto, unfolding(crate::specs::ArithmeticAndJumps::reordered))]
+/// The low bytes, in the order asked for; all bits above them are zero.
 fn reordered(order: ByteOrder, width: SwapWidth, number: u64) -> u64
     ensures { result ≡ reordered order (swap_bytes_of width) number }
 {
@@ -155,8 +155,8 @@ fn low_bytes(width: SwapWidth, number: u64) -> u64
     }
 }
 
-/// The low bytes, in reverse order.
 #[tactic(auto, unfolding(crate::specs::WholeNumbers::reversed_bytes))]
+/// The low bytes, in reverse order.
 fn swapped(width: SwapWidth, number: u64) -> u64
     ensures { result ≡ reversed_bytes (swap_bytes_of width) number }
 {

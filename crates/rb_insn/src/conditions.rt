@@ -33,18 +33,18 @@ pub fn jumps(insn: &Insn, dst: u64, src: u64) -> bool
     }
 }
 
+#[inline(always)]
 /// Whether the condition holds of the low bits of two numbers, as many as the width has. Callers name the width, so that each
 /// gets code for it alone.
-#[inline(always)]
 fn holds_at(width: Width, condition: Condition, dst: u64, src: u64) -> bool
     ensures { result ≡ condition_holds (bits_of width) condition (low_bits (bits_of width) dst) (low_bits (bits_of width) src) }
 {
     holds(width, condition, low_bits(width, dst), low_bits(width, src))
 }
 
-/// Whether the condition holds of two numbers of the width.
 #[inline(always)]
 #[tactic(auto, unfolding(crate::specs::WholeNumbers::condition_holds))]
+/// Whether the condition holds of two numbers of the width.
 fn holds(width: Width, condition: Condition, a: u64, b: u64) -> bool
     requires first { a < 2 ^ bits_of width }
     requires second { b < 2 ^ bits_of width }

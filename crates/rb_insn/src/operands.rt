@@ -6,8 +6,8 @@ ghost use Rattle.rb_insn.specs.ArithmeticAndJumps.{bits_of, operand_of};
 
 use crate::{Operand, Width};
 
-/// The second operand as a number of 64 bits: the immediate, sign-extended, or the source register.
 #[inline(always)]
+/// The second operand as a number of 64 bits: the immediate, sign-extended, or the source register.
 pub(crate) fn operand_value(operand: Operand, src: u64) -> u64
     ensures { result ≡ operand_of operand src }
 {
@@ -17,8 +17,8 @@ pub(crate) fn operand_value(operand: Operand, src: u64) -> u64
     }
 }
 
-/// A shift's count: the operand modulo the number of the width's bits.
 #[inline(always)]
+/// A shift's count: the operand modulo the number of the width's bits.
 pub(crate) fn shift_count(width: Width, operand: u64) -> u32
     ensures { result ≡ operand % bits_of width }
 {
@@ -28,8 +28,8 @@ pub(crate) fn shift_count(width: Width, operand: u64) -> u32
     }
 }
 
-/// The low bits, as many as the width has.
 #[inline(always)]
+/// The low bits, as many as the width has.
 pub(crate) fn low_bits(width: Width, number: u64) -> u64
     ensures { result ≡ low_bits (bits_of width) number }
 {
@@ -39,8 +39,8 @@ pub(crate) fn low_bits(width: Width, number: u64) -> u64
     }
 }
 
-/// A number of the width, read as signed.
 #[inline(always)]
+/// A number of the width, read as signed.
 pub(crate) fn signed(width: Width, number: u64) -> i64
     requires { number < 2 ^ bits_of width }
     ensures { result ≡ signed_of (bits_of width) number }

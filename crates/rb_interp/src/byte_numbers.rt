@@ -8,8 +8,8 @@ ghost use Rattle.rb_semantics.specs.Instructions.{signed_number};
 use byteorder::{ByteOrder, LittleEndian};
 use rb_insn::{Extend64, SignedSize, Size, sign_extended};
 
-/// The number in some bytes.
 #[inline(always)]
+/// The number in some bytes.
 pub(crate) fn number_in(size: Size, bytes: &[u8]) -> u64
     requires { length bytes.now ≡ byte_count size }
     ensures { result ≡ little_number (byte_count size) bytes.now }
@@ -38,8 +38,8 @@ pub(crate) fn signed_number_in(size: SignedSize, bytes: &[u8]) -> u64
     }
 }
 
-/// Writes the low bytes of a number, the lowest first.
 #[inline(always)]
+/// Writes the low bytes of a number, the lowest first.
 pub(crate) fn put_number(size: Size, bytes: &mut [u8], number: u64)
     requires { length bytes.old ≡ byte_count size }
     ensures { bytes.new ≡ little_bytes (byte_count size) number }

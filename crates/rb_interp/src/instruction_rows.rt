@@ -25,8 +25,8 @@ use rb_program::next_unit;
 use rb_semantics::{MemoryRegion, Value};
 
 impl<C: Context, R: Lent> Cpu<C, R> {
-    /// A move of what a register holds: a number, a pointer or a ring.
     #[inline(always)]
+    /// A move of what a register holds: a number, a pointer or a ring.
     pub(crate) fn execute_copy(&mut self, insn: &Insn, dst: Reg, src: Reg)
         requires unit { self.old.unit < 2 ^ 31 }
         requires meant { let s = state_of R.bytes_of C.shown self.old in execute_copy insn.now dst (register s src.number) s ≢ Stuck }
@@ -36,8 +36,8 @@ impl<C: Context, R: Lent> Cpu<C, R> {
         self.copies(insn, dst, src);
     }
 
-    /// Arithmetic on two numbers.
     #[inline(always)]
+    /// Arithmetic on two numbers.
     pub(crate) fn execute_compute(&mut self, insn: &Insn, dst: Reg, a: Value, b: Value)
         requires unit { self.old.unit < 2 ^ 31 }
         requires arithmetic { IsArithmetic insn.now }
@@ -56,9 +56,9 @@ impl<C: Context, R: Lent> Cpu<C, R> {
         }
     }
 
+    #[inline(always)]
     /// A sum or a difference that moves a pointer's offset, or arithmetic on two numbers: the register's number changes, and its
     /// kind is not looked at.
-    #[inline(always)]
     pub(crate) fn execute_arithmetic(
         &mut self,
         insn: &Insn,
@@ -79,8 +79,8 @@ impl<C: Context, R: Lent> Cpu<C, R> {
         self.renumbers(insn, dst, value(insn, a, b));
     }
 
-    /// A load that zero-extends, or one of a pointer that is kept on the stack.
     #[inline(always)]
+    /// A load that zero-extends, or one of a pointer that is kept on the stack.
     pub(crate) fn execute_load(
         &mut self,
         insn: &Insn,
@@ -142,8 +142,8 @@ impl<C: Context, R: Lent> Cpu<C, R> {
         }
     }
 
-    /// A store of a register: of a number, or of a pointer that the stack keeps.
     #[inline(always)]
+    /// A store of a register: of a number, or of a pointer that the stack keeps.
     pub(crate) fn store_register(
         &mut self,
         insn: &Insn,
@@ -196,8 +196,8 @@ impl<C: Context, R: Lent> Cpu<C, R> {
         }
     }
 
-    /// A store of a number.
     #[inline(always)]
+    /// A store of a number.
     pub(crate) fn store(&mut self, insn: &Insn, size: Size, base: Value, offset: i16, from: Value)
         requires unit { self.old.unit < 2 ^ 31 }
         requires near { IsNearValue base }
@@ -223,8 +223,8 @@ impl<C: Context, R: Lent> Cpu<C, R> {
         }
     }
 
-    /// A conditional jump on two numbers, or a test of a pointer to a record against null.
     #[inline(always)]
+    /// A conditional jump on two numbers, or a test of a pointer to a record against null.
     pub(crate) fn execute_compare(
         &mut self,
         insn: &Insn,
@@ -273,9 +273,9 @@ impl<C: Context, R: Lent> Cpu<C, R> {
         }
     }
 
+    #[inline(always)]
     /// A conditional jump on two numbers: the kinds of what the registers hold are not looked at. The caller names the distance, so that
     /// it is not looked for in the instruction.
-    #[inline(always)]
     pub(crate) fn execute_number_compare(
         &mut self,
         insn: &Insn,

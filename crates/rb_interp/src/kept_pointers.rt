@@ -63,8 +63,8 @@ fn first_touched(entries: &[KeptPointer], at: usize, len: usize) -> Option<usize
     None
 }
 
-/// Removes the entries whose places have one of the `len` bytes from byte `at` on.
 #[inline(always)]
+/// Removes the entries whose places have one of the `len` bytes from byte `at` on.
 fn remove_touched(entries: &mut ArrayVec<KeptPointer, 64>, at: usize, len: usize)
     ensures { entries.new.items ≡ filter (entry_left at len) entries.old.items }
 {
@@ -73,8 +73,8 @@ fn remove_touched(entries: &mut ArrayVec<KeptPointer, 64>, at: usize, len: usize
     }
 }
 
-/// Looks at each of the entries, and removes those whose places have one of the `len` bytes from byte `at` on.
 #[inline(never)]
+/// Looks at each of the entries, and removes those whose places have one of the `len` bytes from byte `at` on.
 fn remove_each_touched(entries: &mut ArrayVec<KeptPointer, 64>, at: usize, len: usize)
     ensures { entries.new.items ≡ filter (entry_left at len) entries.old.items }
 {
@@ -116,8 +116,8 @@ impl KeptPointers {
         self.entries.clear();
     }
 
-    /// The pointer at the place that begins at a byte of the stack, where one does.
     #[inline(always)]
+    /// The pointer at the place that begins at a byte of the stack, where one does.
     pub(crate) fn beginning(&self, byte: i64) -> Option<Value>
         ensures { result ≡ beginning_at byte self.now }
     {
@@ -127,8 +127,8 @@ impl KeptPointers {
         self.beginning_among(byte)
     }
 
-    /// The same, where some are kept.
     #[inline(never)]
+    /// The same, where some are kept.
     fn beginning_among(&self, byte: i64) -> Option<Value>
         ensures { result ≡ beginning_at byte self.now }
     {
@@ -138,8 +138,8 @@ impl KeptPointers {
         kept_at(self.entries.as_slice(), (byte / 8) as usize)
     }
 
-    /// The `len` bytes from byte `at` of a part on are written: no place of the stack that has one of them has a pointer then.
     #[inline(always)]
+    /// The `len` bytes from byte `at` of a part on are written: no place of the stack that has one of them has a pointer then.
     pub(crate) fn write(&mut self, part: MemoryRegion, at: usize, len: usize)
         ensures { self.new ≡ pointers_written part at len self.old }
     {

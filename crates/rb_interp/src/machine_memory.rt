@@ -174,8 +174,8 @@ impl<C: Context, R: Lent> MachineMemory<C, R> {
         self.pointers.keep(place_beginning(offset), value);
     }
 
-    /// The pointer that a load finds at an offset of a part.
     #[inline(always)]
+    /// The pointer that a load finds at an offset of a part.
     pub(crate) fn found(&self, size: Size, place: MemoryRegion, offset: i64) -> Option<Value>
         requires { IsNear offset }
         ensures { result ≡ filled size (program_memory_of R.bytes_of C.shown self.now) place offset }
@@ -186,8 +186,8 @@ impl<C: Context, R: Lent> MachineMemory<C, R> {
         }
     }
 
-    /// Lends `len` bytes of the stack from byte `at` on for reading.
     #[inline(always)]
+    /// Lends `len` bytes of the stack from byte `at` on for reading.
     pub(crate) fn stack_bytes(&self, at: usize, len: usize) -> &[u8]
         requires { at + len ≤ length self.now.stack }
         ensures bytes { result.now ≡ take len (drop at self.now.stack) }
@@ -196,8 +196,8 @@ impl<C: Context, R: Lent> MachineMemory<C, R> {
         &self.parts.stack.bytes()[at..at + len]
     }
 
-    /// Writes the low bytes of a number to the stack from byte `at` on, the lowest first, where no pointer is kept.
     #[inline(always)]
+    /// Writes the low bytes of a number to the stack from byte `at` on, the lowest first, where no pointer is kept.
     pub(crate) fn store_on_stack(&mut self, at: usize, size: Size, number: u64)
         requires { at + byte_count size ≤ 512 }
         ensures { self.new ≡ record self.old { stack = written_at at self.old.stack (little_bytes (byte_count size) number) } }

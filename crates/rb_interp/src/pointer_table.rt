@@ -32,8 +32,8 @@ impl PointerTable {
         PointerTable { table: None }
     }
 
-    /// No pointers from here on. A table that was made stays.
     #[inline(always)]
+    /// No pointers from here on. A table that was made stays.
     pub(crate) fn clear(&mut self)
         ensures { self.new ≡ [] }
     {
@@ -43,9 +43,9 @@ impl PointerTable {
         }
     }
 
-    /// The pointer at the place that begins at a byte of the stack, where one does.
     #[inline(always)]
     #[tactic(auto, using(crate::proofs::KeptEntries::none_beginning))]
+    /// The pointer at the place that begins at a byte of the stack, where one does.
     pub(crate) fn beginning(&self, byte: i64) -> Option<Value>
         ensures { result ≡ beginning_at byte self.now }
     {
@@ -55,9 +55,9 @@ impl PointerTable {
         }
     }
 
-    /// The `len` bytes from byte `at` of a part on are written: no place of the stack that has one of them has a pointer then.
     #[inline(always)]
     #[tactic(auto, using(crate::proofs::KeptEntries::none_written))]
+    /// The `len` bytes from byte `at` of a part on are written: no place of the stack that has one of them has a pointer then.
     pub(crate) fn write(&mut self, part: MemoryRegion, at: usize, len: usize)
         ensures { self.new ≡ pointers_written part at len self.old }
     {

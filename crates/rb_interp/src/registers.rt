@@ -69,8 +69,8 @@ impl Registers {
         self.set(Reg::R10, Value::Pointer(MemoryRegion::Stack, 0));
     }
 
-    /// What all registers are: they are eleven. For the proofs of callers; it does nothing.
     #[inline(always)]
+    /// What all registers are: they are eleven. For the proofs of callers; it does nothing.
     pub(crate) fn facts(&self)
         ensures { length self.now ≡ 11 }
     {

@@ -11,12 +11,12 @@ use Rattle.rb_history.specs.Calls.{producer_now}
 use Rattle.rb_chapter_ring.specs.declared.faults.ReserveFault.{ReserveFault}
 use Rattle.rb_chapter_ring.specs.declared.faults.ReserveFault.TheVariants.{Full, Flags, ChapterFull, Foreign, HandsFull}
 use Rattle.rb_chapter_ring.specs.declared.record_end.RecordEnd.{RecordEnd}
-use Rattle.rb_chapter_ring.specs.inner.EndSteps.{tally_with_end}
+use Rattle.rb_chapter_ring.specs.RecordEnds.{tally_with_end}
 use Rattle.rb_ledger.specs.Seats.{Shared, WorkerSeat, IsSameSeat}
 use Rattle.rb_chapter_ring.specs.Hands.{Hands, out_record, in_hand, IsLowestFree, AreAllOut}
 use Rattle.rb_chapter_ring.specs.HandGranted.{HandGranted}
 use Rattle.rb_ledger.specs.LockedCalls.{Queries, output_by, sent_by_output}
-use Rattle.rb_ledger.specs.inner.RecordEnds.{EndsAt, sent_by_end}
+use Rattle.rb_ledger.specs.RecordEnds.{EndsAt, sent_by_end}
 use Rattle.rb_shared_ring.specs.SharedCalls.{RefusesInRoom, ReservesInRoom, OutputsInRoom, IsInSeatsHand, IsRefusedInRoomAs, granted_in, hands_after_reserve, reserved_in_room_by, refused_in_room_by, output_in_room_by, sent_by_output_in_room}
 use Rattle.rb_jobs.specs.declared.no_record.NoRecord.{NoRecord}
 use Rattle.rb_jobs.specs.SeatCalls.{AtSeat, IsOutAtSeat, RecordAnswered, SeatCallsRing, SeatIsGranted, SeatQueries}
@@ -131,15 +131,6 @@ ended_at end ring r flags (Err x) b a tag same released exact back call tally ha
   takes = λ e. absurd (cc);
   hands_back = λ e. (refl, back);
 }
-
--- what holds whatever was answered
-pub on_ok : {T E P : Type 0} (answer : Result T E) → P → OnOk answer P
-on_ok (Ok x) is = is
-on_ok (Err e) is = tt
-
--- the end was this one
-pub ends_as : (end said : RecordEnd) (r : HandGranted) (flags : ℕ) (taken due : Bool) (b a : WorkerSeat) → end ≡ said → SeatEnds said r flags taken due b a → SeatEnds end r flags taken due b a
-ends_as end said r flags taken due b a is did = subst (λ x. SeatEnds x r flags taken due b a) (sym is) did
 
 -- ---- output
 

@@ -26,7 +26,6 @@ mod job;
 mod job_laws;
 mod job_run;
 mod no_record;
-mod record_end;
 mod ring_calls;
 mod seat_helpers;
 mod seat_laws;

@@ -297,7 +297,7 @@ impl<'h, R: Wait, S: Stock> Helpers for SeatHelpers<'h, R, S> {
         ensures called { Leads self.old (Submitted owned flags (is_ok result) ∷ []) self.new }
         ensures call { CallsHelpers (Submitted owned flags (is_ok result)) self.old self.new }
     {
-        self.settle(owned, RecordEnd::Submit, flags)
+        self.give_back(owned, RecordEnd::Submit, flags)
     }
 
     /// Takes each record that these helpers granted and that was not given back since. Hands one back where its ring is none of these, or where it
@@ -311,7 +311,7 @@ impl<'h, R: Wait, S: Stock> Helpers for SeatHelpers<'h, R, S> {
         ensures called { Leads self.old (Discarded owned flags (is_ok result) ∷ []) self.new }
         ensures call { CallsHelpers (Discarded owned flags (is_ok result)) self.old self.new }
     {
-        self.settle(owned, RecordEnd::Discard, flags)
+        self.give_back(owned, RecordEnd::Discard, flags)
     }
 
     /// `-EINVAL` where flags are above 3, without memory and without a step of the ring; `-EAGAIN` where the ring has no room, which its

@@ -8,8 +8,8 @@ use Rattle.rb_history.specs.declared.entries.Entry.TheVariants.{Res, Full, Sub, 
 use Rattle.rb_history.specs.declared.answers.Notice.{Notice}
 use Rattle.rb_history.specs.declared.answers.Taken.{Taken}
 use Rattle.rb_history.specs.declared.answers.Taken.TheVariants.{Event, Skipped, BusyFront, Empty}
-use Rattle.rb_history.specs.declared.answers.ReserveFault.{ReserveFault}
-use Rattle.rb_history.specs.declared.answers.ReserveFault.TheVariants.{Full as FaultFull, Memory, Flags, Foreign}
+use Rattle.rb_history.specs.declared.answers.NoGrant.{NoGrant}
+use Rattle.rb_history.specs.declared.answers.NoGrant.TheVariants.{Full as FaultFull, Memory, Flags}
 use Rattle.rb_history.specs.ReservationModel.{Granted}
 use Rattle.rb_history.specs.History.{status_by, status_of, is_submitted_at, is_discarded_at, is_taken_at, is_submit, grants, producer_of}
 use Rattle.rb_history.specs.History.Status.{Busy, Waiting, Discarded}
@@ -28,7 +28,7 @@ use Rattle.rb_ledger.specs.RoleKnowledge.{RoleKnowledge, role_knowledge}
 use Rattle.rb_ledger.specs.Ledger.{Ledger, IsRing, FitsLedger}
 use Rattle.rb_ledger.specs.LockSteps.{RoleStep, knowledge_after}
 use Rattle.rb_ledger.specs.LockedCalls.{Reserves, OutputsAt}
-use Rattle.rb_ledger.specs.inner.RecordEnds.{EndsAt}
+use Rattle.rb_ledger.specs.RecordEnds.{EndsAt}
 use Rattle.rb_history.proofs.RecordWorkers.{record-from, back-any, front-any}
 use Rattle.rb_history.proofs.WorkerCounts.{submitted-granted}
 use Rattle.rb_ledger.proofs.Histories.{AllOwn}
@@ -83,13 +83,12 @@ module _ (w : ℕ) (seen : Book) (bytes : Contents) where
   put-full : (old new : Ring) (n : ℕ) → FindsFull old new w n → IsRing new → StepIn (role_knowledge (Worker w) seen bytes) old new (knowledge_after old new (role_knowledge (Worker w) seen bytes))
   put-full old new n f is_ring = put-quiet old new (Full w n) (λ h e. (eq-eqb w w refl, tt)) (λ r. refl) f.logged f.contents_same is_ring
 
-  put-refused : (old new : Ring) (n : ℕ) (f : ReserveFault) → Refuses old new w n f → IsRing new → StepIn (role_knowledge (Worker w) seen bytes) old new (knowledge_after old new (role_knowledge (Worker w) seen bytes))
+  put-refused : (old new : Ring) (n : ℕ) (f : NoGrant) → Refuses old new w n f → IsRing new → StepIn (role_knowledge (Worker w) seen bytes) old new (knowledge_after old new (role_knowledge (Worker w) seen bytes))
   put-refused old new n FaultFull refused is_ring = put-full old new n refused is_ring
   put-refused old new n Memory refused is_ring = put-same (Worker w) seen bytes old new refused is_ring
   put-refused old new n Flags refused is_ring = put-same (Worker w) seen bytes old new refused is_ring
-  put-refused old new n Foreign refused is_ring = absurd refused
 
-  pub put-reserved : (old new : Ring) (n : ℕ) (answer : Result Granted (ReserveFault × List ℕ)) → Reserves w n answer old new → IsRing new → StepIn (role_knowledge (Worker w) seen bytes) old new (knowledge_after old new (role_knowledge (Worker w) seen bytes))
+  pub put-reserved : (old new : Ring) (n : ℕ) (answer : Result Granted (NoGrant × List ℕ)) → Reserves w n answer old new → IsRing new → StepIn (role_knowledge (Worker w) seen bytes) old new (knowledge_after old new (role_knowledge (Worker w) seen bytes))
   put-reserved old new n (Ok r) call is_ring = put-quiet old new (Res w r.serial n r.pos) (λ h e. (eq-eqb w w refl, tt)) (λ r. refl) call.0.logged call.0.contents_same is_ring
   put-reserved old new n (Err e) call is_ring = put-refused old new n e.0 call.0 is_ring
 
@@ -140,7 +139,7 @@ module _ (w : ℕ) (seen : Book) (bytes : Contents) where
       (sent-once new p b (sent-there s.ring new p b call.contents_are))
       (sends-bytes s new two call.logged.setup_same call.logged.history_is fit.sound is_ring w p b own call.contents_are after was_not is_now bytes fit.bytes_fit)
 
-  pub put-output : (old new : Ring) (b : List ℕ) (flags : ℕ) (answer : Result Notice (ReserveFault × List ℕ)) → OutputsAt w b flags answer old new → IsRing new → StepIn (role_knowledge (Worker w) seen bytes) old new (knowledge_after old new (role_knowledge (Worker w) seen bytes))
+  pub put-output : (old new : Ring) (b : List ℕ) (flags : ℕ) (answer : Result Notice (NoGrant × List ℕ)) → OutputsAt w b flags answer old new → IsRing new → StepIn (role_knowledge (Worker w) seen bytes) old new (knowledge_after old new (role_knowledge (Worker w) seen bytes))
   put-output old new b flags (Ok _) call is_ring = step-from (role_knowledge (Worker w) seen bytes) old new (λ x. Outputs x new w b) call.0 (λ s c fit. outputs-done s new b c is_ring fit)
   put-output old new b flags (Err e) call is_ring = put-refused old new (length b) e.0 call.0 is_ring
 

@@ -13,7 +13,7 @@ use Rattle.rb_ledger.specs.Roles.{Role, Book, book_of}
 use Rattle.rb_ledger.specs.Roles.Role.{Consumer, Worker}
 use Rattle.rb_ledger.specs.RoleKnowledge.{RoleKnowledge, PassView, role_knowledge, pass_view, same_role, role_count, states_out, state_list, total}
 use Rattle.rb_ledger.specs.Ledger.{Ledger, IsRing, FitsLedger}
-use Rattle.rb_ledger.specs.LockRule.{AllFit, KeepsLockRule}
+use Rattle.rb_ledger.specs.LockRule.{AllFit, KeepsLockRule, GoesOnFrom, AllGoOn, GoesOnWhereOut, KnowsChapters, KeepsChapterLockRule}
 use Rattle.rb_ledger.specs.LockSteps.{TakesState, RoleStep, knowledge_after}
 use Rattle.rb_ledger.specs.inner.OpenedLock.{unopened_ring, worker_roles, first_role, other_roles}
 use Rattle.rb_ledger.proofs.Views.{total_two, outs_take, single}
@@ -21,7 +21,6 @@ use Rattle.rb_ledger.proofs.Opens.{open-step}
 use Rattle.rb_ledger.proofs.LockRule as old
 use Rattle.rb_ledger.specs.ChapteredRing.{ChapteredRing, chaptered_ring, whole_of, HasChapters}
 use Rattle.rb_ledger.specs.ChapterKnowledge.{ChapterKnowledge, ChapterPassView, chapter_view, whole_out, whole_knowledge, whole_view, KnowsHandedOut, AllKnowHandedOut}
-use Rattle.rb_ledger.specs.ChapterLockRule.{GoesOnFrom, AllGoOn, GoesOnWhereOut, KnowsChapters, KeepsChapterLockRule}
 use Rattle.rb_ledger.specs.ChapterLockSteps.{TakesChapterState, handed_out_after, chaptered_after, handed_out_known_by, chapter_knowledge_after, MayPutChapter, PutsChapterState, unopened_chapters, opening_role, opening_workers, OpensChapterState, first_chapter_role, other_chapter_roles}
 use Rattle.rb_chapter_ring.proofs.Chain.{handed-out-bind}
 use Rattle.rb_chapter_ring.specs.Chapters.{first_chapter}

@@ -16,13 +16,11 @@ use Rattle.rb_ledger.specs.Roles.{Role, Book, book_of}
 use Rattle.rb_ledger.specs.Roles.Role.{Consumer, Worker}
 use Rattle.rb_ledger.specs.RoleKnowledge.{RoleKnowledge, PassView, pass_view, same_role, role_count, total, states_out, state_list}
 use Rattle.rb_ledger.specs.Ledger.{Ledger, IsRing, FitsLedger}
-use Rattle.rb_ledger.specs.LockRule.{AllFit}
+use Rattle.rb_ledger.specs.LockRule.{AllFit, KeepsChapterLockRule, GoesOnFrom, HasBook, AllHaveBook, HasBookWhereOut, ShowsHands, KeepsHandLockRule}
 use Rattle.rb_ledger.specs.inner.OpenedLock.{unopened_ring}
 use Rattle.rb_ledger.proofs.Views.{total_two, outs_take, single, same_role-refl}
 use Rattle.rb_ledger.specs.ChapteredRing.{ChapteredRing, chaptered_ring, whole_of, HasChapters}
 use Rattle.rb_ledger.specs.ChapterKnowledge.{ChapterPassView, chapter_view, whole_out, whole_knowledge, whole_view}
-use Rattle.rb_ledger.specs.ChapterLockRule.{KeepsChapterLockRule}
-use Rattle.rb_ledger.specs.ChapterLockRule.{GoesOnFrom}
 use Rattle.rb_ledger.specs.ChapterLockSteps.{TakesChapterState, MayPutChapter, handed_out_after, chaptered_after, opening_role, opening_workers, first_chapter_role, other_chapter_roles}
 use Rattle.rb_ledger.proofs.ChapterLock as old
 use Rattle.rb_chapter_ring.specs.declared.out_record.OutRecord.{OutRecord}
@@ -32,7 +30,6 @@ use Rattle.rb_chapter_ring.proofs.ChangedHands.{other-hands}
 use Rattle.rb_ledger.specs.HandKnowledge.{ChapteredHandRing, hand_ring_of, HandKnowledge, HandPassView, hand_view, chapters_out, chapters_known, without_hands, rings_of, KnowsHands, AllKnowHands}
 use Rattle.rb_ledger.specs.HandedOut.{IsCutOf}
 use Rattle.rb_ledger.proofs.HandedOut.{cut-behind, cut-now-is}
-use Rattle.rb_ledger.specs.HandLockRule.{HasBook, AllHaveBook, HasBookWhereOut, ShowsHands, KeepsHandLockRule}
 use Rattle.rb_ledger.specs.HandLockSteps.{TakesHandState, hands_known_by, hand_knowledge_after, MayPutHands, PutsHandState, LeavesOtherHands, unopened_hands, opening_hands, opening_worker_hands, opening_hand_roles, OpensHandState, first_hand_role, other_hand_roles}
 use Rattle.rb_ledger.specs.HandLockLaws.{OneHandLeavesOthers}
 

@@ -5,7 +5,6 @@ use Rattle.std.proofs.lemmas.Bool.{ne_eqb}
 use Rattle.rb_history.specs.declared.entries.Entry.{Entry}
 use Rattle.rb_history.specs.declared.entries.Entry.TheVariants.{Res, Full, Sub, Dis}
 use Rattle.rb_history.specs.declared.answers.Notice.{Notice}
-use Rattle.rb_history.specs.declared.answers.Stray.{Stray}
 use Rattle.rb_history.specs.History.{is_submit, is_discard}
 use Rattle.rb_history.specs.Legal.{IsLegal}
 use Rattle.rb_history.specs.Calls.{IsBusy, Logs, HoldsReservation, Grants, Outputs}
@@ -105,22 +104,22 @@ module _ (w : ℕ) (before after : Book) where
     busy = after-output w before after _ call _ _ _ _ call.called.logged r.worker r.pos r.serial (length r.bytes) held.worker_is held.busy;
   }
 
-  submit-taken : (r : Granted) (flags : ℕ) (answer : Result Notice Stray) → SeatCall w before after (SubmitsAt r flags answer) → IsHeld w before r → is_ok answer ≡ true
+  submit-taken : (r : Granted) (flags : ℕ) (answer : Result Notice Granted) → SeatCall w before after (SubmitsAt r flags answer) → IsHeld w before r → is_ok answer ≡ true
   submit-taken r flags (Ok _) call held = refl
   submit-taken r flags (Err s) call held = absurd (call.called.not_busy (held-there _ call r held))
 
-  discard-taken : (r : Granted) (flags : ℕ) (answer : Result Notice Stray) → SeatCall w before after (DiscardsAt r flags answer) → IsHeld w before r → is_ok answer ≡ true
+  discard-taken : (r : Granted) (flags : ℕ) (answer : Result Notice Granted) → SeatCall w before after (DiscardsAt r flags answer) → IsHeld w before r → is_ok answer ≡ true
   discard-taken r flags (Ok _) call held = refl
   discard-taken r flags (Err s) call held = absurd (call.called.not_busy (held-there _ call r held))
 
-  leaves-submits : (r : Granted) (flags : ℕ) (answer : Result Notice Stray) → SeatCall w before after (SubmitsAt r flags answer) → LeavesHeldElsewhere w before after r.pos
+  leaves-submits : (r : Granted) (flags : ℕ) (answer : Result Notice Granted) → SeatCall w before after (SubmitsAt r flags answer) → LeavesHeldElsewhere w before after r.pos
   leaves-submits r flags (Ok _) call s apart held = record {
     worker_is = held.worker_is;
     busy = after-entry w before after _ call (Sub r.pos) call.called.0.logged s.worker s.pos s.serial (length s.bytes) held.worker_is (ne_eqb r.pos s.pos (λ e. apart (sym e))) refl held.busy;
   }
   leaves-submits r flags (Err back) call s apart held = leaves-same _ call call.called.same s held
 
-  leaves-discards : (r : Granted) (flags : ℕ) (answer : Result Notice Stray) → SeatCall w before after (DiscardsAt r flags answer) → LeavesHeldElsewhere w before after r.pos
+  leaves-discards : (r : Granted) (flags : ℕ) (answer : Result Notice Granted) → SeatCall w before after (DiscardsAt r flags answer) → LeavesHeldElsewhere w before after r.pos
   leaves-discards r flags (Ok _) call s apart held = record {
     worker_is = held.worker_is;
     busy = after-entry w before after _ call (Dis r.pos) call.called.0.logged s.worker s.pos s.serial (length s.bytes) held.worker_is refl (ne_eqb r.pos s.pos (λ e. apart (sym e))) held.busy;

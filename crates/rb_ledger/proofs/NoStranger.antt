@@ -15,7 +15,7 @@ use Rattle.rb_chapter_ring.specs.Hands.{out_record, HandBook, in_hand, hands_of,
 use Rattle.rb_chapter_ring.specs.HandRing.{HandRing, HasHands}
 use Rattle.rb_chapter_ring.proofs.BusyEntries.{entry-worker, busy-before, busy-after, is-record}
 use Rattle.rb_ledger.specs.HandKnowledge.{HandKnowledge, hand_ring_of, HandPassView, AllKnowHands}
-use Rattle.rb_ledger.specs.HandLockRule.{HasBook, AllHaveBook, HasBookWhereOut}
+use Rattle.rb_ledger.specs.LockRule.{HasBook, AllHaveBook, HasBookWhereOut}
 use Rattle.rb_ledger.specs.HandLockSteps.{hand_knowledge_after, hands_known_by}
 use Rattle.rb_ledger.specs.NoStranger.{IsOutAt, ShowsOut, NoStranger, TakenAsShown, StaysShown, OwnBusyIsSeen, HandsAreSeen, SeenHandsAreBusy}
 

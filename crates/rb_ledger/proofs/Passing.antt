@@ -6,8 +6,8 @@ use Rattle.rb_history.specs.declared.entries.Entry.TheVariants.{Res, Full, Sub, 
 use Rattle.rb_history.specs.declared.answers.Notice.{Notice}
 use Rattle.rb_history.specs.declared.answers.Taken.{Taken}
 use Rattle.rb_history.specs.declared.answers.Taken.TheVariants.{Event, Skipped, BusyFront, Empty}
-use Rattle.rb_history.specs.declared.answers.ReserveFault.{ReserveFault}
-use Rattle.rb_history.specs.declared.answers.ReserveFault.TheVariants.{Full as FaultFull, Memory, Flags, Foreign}
+use Rattle.rb_history.specs.declared.answers.NoGrant.{NoGrant}
+use Rattle.rb_history.specs.declared.answers.NoGrant.TheVariants.{Full as FaultFull, Memory, Flags}
 use Rattle.rb_history.specs.ReservationModel.{Granted}
 use Rattle.rb_history.specs.RingModel.{Ring, Contents}
 use Rattle.rb_history.specs.Calls.{Refuses, producer_now}
@@ -22,7 +22,7 @@ use Rattle.rb_ledger.specs.LockRule.{AllFit}
 use Rattle.rb_ledger.specs.LockSteps.{TakesState}
 use Rattle.rb_ledger.specs.inner.SeatPasses.{seen_in, pass_bytes, IsIdle}
 use Rattle.rb_ledger.specs.LockedCalls.{Reserves, OutputsAt, TakesAt, sent_by_output, got_by}
-use Rattle.rb_ledger.specs.inner.RecordEnds.{EndsAt, sent_by_end}
+use Rattle.rb_ledger.specs.RecordEnds.{EndsAt, sent_by_end}
 use Rattle.rb_ledger.proofs.Calls.{no-bytes, sent-there, skipped-none}
 
 -- what one role's pass knows once it has the state out
@@ -60,13 +60,12 @@ module _ (seen : Book) (m : Contents) (old new : Ring) where
   after-same role same = after-entries role [] (ap (λ (r : Ring). r.history) same ∙ sym (append-nil old.history)) ∙ no-bytes role old new m
 
   module _ (w : ℕ) where
-    after-refused : (n : ℕ) (f : ReserveFault) → Refuses old new w n f → after_of (Worker w) ≡ m
+    after-refused : (n : ℕ) (f : NoGrant) → Refuses old new w n f → after_of (Worker w) ≡ m
     after-refused n FaultFull refused = after-entries (Worker w) (Full w n ∷ []) refused.logged.history_is
     after-refused n Memory refused = after-same (Worker w) refused
     after-refused n Flags refused = after-same (Worker w) refused
-    after-refused n Foreign refused = absurd refused
 
-    pub after-reserve : (n : ℕ) (answer : Result Granted (ReserveFault × List ℕ)) → Reserves w n answer old new → after_of (Worker w) ≡ m
+    pub after-reserve : (n : ℕ) (answer : Result Granted (NoGrant × List ℕ)) → Reserves w n answer old new → after_of (Worker w) ≡ m
     after-reserve n (Ok r) call = after-entries (Worker w) (Res w r.serial n r.pos ∷ []) call.0.logged.history_is
     after-reserve n (Err e) call = after-refused n e.0 call.0
 
@@ -74,7 +73,7 @@ module _ (seen : Book) (m : Contents) (old new : Ring) where
     after-end Submit r flags n call = after-entries (Worker w) (Sub r.pos ∷ []) call.0.logged.history_is ∙ ap (λ o. put_at r.pos o m) (sent-there old new r.pos r.bytes call.0.contents_are)
     after-end Discard r flags n call = after-entries (Worker w) (Dis r.pos ∷ []) call.0.logged.history_is
 
-    pub after-output : (b : List ℕ) (flags : ℕ) (answer : Result Notice (ReserveFault × List ℕ)) → OutputsAt w b flags answer old new → after_of (Worker w) ≡ sent_by_output m (producer_now old) b answer
+    pub after-output : (b : List ℕ) (flags : ℕ) (answer : Result Notice (NoGrant × List ℕ)) → OutputsAt w b flags answer old new → after_of (Worker w) ≡ sent_by_output m (producer_now old) b answer
     after-output b flags (Ok _) call = after-entries (Worker w) (_ ∷ Sub (producer_now old) ∷ []) call.0.logged.history_is ∙ ap (λ o. put_at (producer_now old) o m) (sent-there old new (producer_now old) b call.0.contents_are)
     after-output b flags (Err e) call = after-refused (length b) e.0 call.0
 

@@ -9,8 +9,8 @@ use Rattle.rb_history.specs.declared.entries.Entry.TheVariants.{Res, Full, Sub, 
 use Rattle.rb_history.specs.declared.answers.Notice.{Notice}
 use Rattle.rb_history.specs.declared.answers.Taken.{Taken}
 use Rattle.rb_history.specs.declared.answers.Taken.TheVariants.{Event, Skipped, BusyFront, Empty}
-use Rattle.rb_history.specs.declared.answers.ReserveFault.{ReserveFault}
-use Rattle.rb_history.specs.declared.answers.ReserveFault.TheVariants.{Full as FaultFull, Memory, Flags, Foreign}
+use Rattle.rb_history.specs.declared.answers.NoGrant.{NoGrant}
+use Rattle.rb_history.specs.declared.answers.NoGrant.TheVariants.{Full as FaultFull, Memory, Flags}
 use Rattle.rb_history.specs.ReservationModel.{Granted}
 use Rattle.rb_history.specs.History.{grants, is_submitted_at, is_discarded_at, is_taken_at, consumer_of}
 use Rattle.rb_history.specs.RoomRule.{Setup}
@@ -21,14 +21,14 @@ use Rattle.rb_history.proofs.Laws.{legal-front}
 use Rattle.rb_history.specs.declared.tally.Tally.{Tally}
 use Rattle.rb_chapter_ring.specs.declared.record_end.RecordEnd.{RecordEnd}
 use Rattle.rb_chapter_ring.specs.declared.record_end.RecordEnd.TheVariants.{Submit, Discard}
-use Rattle.rb_chapter_ring.specs.inner.EndSteps.{tally_with_end}
+use Rattle.rb_chapter_ring.specs.RecordEnds.{tally_with_end}
 use Rattle.rb_ledger.specs.Roles.{Book, book_of, ExtendsSeen}
 use Rattle.rb_history.specs.WorkerCounts.{is_record_of, tally_of, events_of, skips_of}
 use Rattle.rb_ledger.specs.Roles.Role.{Consumer, Worker}
 use Rattle.rb_ledger.specs.Ledger.{IsRing}
 use Rattle.rb_ledger.specs.Seats.{IsBook, Ties, ConsumerTies}
 use Rattle.rb_ledger.specs.LockedCalls.{LockedCall, Reserves, OutputsAt, TakesAt, Queries, refused_by, reserved_by, output_by, submitted_by, events_in, skips_in, span_in, IsTakenAt}
-use Rattle.rb_ledger.specs.inner.RecordEnds.{EndsAt}
+use Rattle.rb_ledger.specs.RecordEnds.{EndsAt}
 use Rattle.rb_history.proofs.RecordWorkers.{bit, granted-once, record-from}
 use Rattle.rb_history.proofs.WorkerCounts.{tally-res, tally-full, tally-sub, tally-dis, events-next, skips-next}
 use Rattle.rb_ledger.proofs.Tallies.{tally-goes, taker-goes}
@@ -60,13 +60,12 @@ module _ (w : ℕ) (t : Tally) (old new : Ring) (is_ring : IsRing new) (ties : T
   ties-same : new ≡ old → Ties w t (book_of new)
   ties-same e = subst (λ r. Ties w t (book_of r)) (sym e) ties
 
-  ties-refused : (n : ℕ) (f : ReserveFault) → Refuses old new w n f → Ties w (refused_by t f) (book_of new)
+  ties-refused : (n : ℕ) (f : NoGrant) → Refuses old new w n f → Ties w (refused_by t f) (book_of new)
   ties-refused n FaultFull c = ties-by (Full w n ∷ []) (refused_by t FaultFull) c.logged.setup_same c.logged.history_is (λ l. tally-full old.setup w n old.history l ∙ ap (λ u. refused_by u FaultFull) (sym ties.counted))
   ties-refused n Memory c = ties-same c
   ties-refused n Flags c = ties-same c
-  ties-refused n Foreign c = absurd c
 
-  ties-reserved : (n : ℕ) (a : Result Granted (ReserveFault × List ℕ)) → Reserves w n a old new → Ties w (reserved_by t a) (book_of new)
+  ties-reserved : (n : ℕ) (a : Result Granted (NoGrant × List ℕ)) → Reserves w n a old new → Ties w (reserved_by t a) (book_of new)
   ties-reserved n (Ok r) c = ties-by (Res w r.serial n r.pos ∷ []) (reserved_by t (Ok r)) c.0.logged.setup_same c.0.logged.history_is (λ l. tally-res old.setup w r.serial n r.pos old.history l ∙ ap (λ u. reserved_by u (Ok r)) (sym ties.counted))
   ties-reserved n (Err e) c = ties-refused n e.0 c.0
 
@@ -80,7 +79,7 @@ module _ (w : ℕ) (t : Tally) (old new : Ring) (is_ring : IsRing new) (ties : T
   ties-ended Discard r flags n mine c =
       ties-by (Dis r.pos ∷ []) (tally_with_end Discard t) c.0.logged.setup_same c.0.logged.history_is (λ l. tally-dis old.setup w r.pos old.history l (own-record r mine c.0.was_busy.granted_is) ∙ ap (λ u. tally_with_end Discard u) (sym ties.counted))
 
-  ties-output : (b : List ℕ) (flags : ℕ) (a : Result Notice (ReserveFault × List ℕ)) → OutputsAt w b flags a old new → Ties w (output_by t a) (book_of new)
+  ties-output : (b : List ℕ) (flags : ℕ) (a : Result Notice (NoGrant × List ℕ)) → OutputsAt w b flags a old new → Ties w (output_by t a) (book_of new)
   ties-output b flags (Ok n) c =
       let h = old.history in
       let p = producer_now old in
@@ -101,24 +100,24 @@ module _ (w : ℕ) (t : Tally) (b a : Book) where
   at-point : (Call : Ring → Ring → Type 0) → LockedCall (Worker w) b a Call → Ties w t b → (u : Tally) → ((old new : Ring) → IsRing new → Ties w t (book_of old) → Call old new → Ties w u (book_of new)) → Ties w u a
   at-point Call turn ties u call = subst (Ties w u) (sym turn.seen) (call turn.point turn.left turn.is_ring (ties-goes w t b (book_of turn.point) turn.goes_on turn.was_ring.legal ties) turn.called)
 
-  pub reserve-ties : (n : ℕ) (r : Result Granted (ReserveFault × List ℕ)) → LockedCall (Worker w) b a (Reserves w n r) → Ties w t b → Ties w (reserved_by t r) a
+  pub reserve-ties : (n : ℕ) (r : Result Granted (NoGrant × List ℕ)) → LockedCall (Worker w) b a (Reserves w n r) → Ties w t b → Ties w (reserved_by t r) a
   reserve-ties n r turn ties = at-point (Reserves w n r) turn ties (reserved_by t r) (λ old new i k c. ties-reserved w t old new i k n r c)
 
   pub end-ties : (end : RecordEnd) (g : Granted) (flags : ℕ) (n : Notice) → g.worker ≡ w → LockedCall (Worker w) b a (EndsAt end g flags n) → Ties w t b → Ties w (tally_with_end end t) a
   end-ties end g flags n mine turn ties = at-point (EndsAt end g flags n) turn ties (tally_with_end end t) (λ old new i k c. ties-ended w t old new i k end g flags n mine c)
 
-  pub output-ties : (bytes : List ℕ) (flags : ℕ) (r : Result Notice (ReserveFault × List ℕ)) (More : Ring → Type 0) → LockedCall (Worker w) b a (λ old new. OutputsAt w bytes flags r old new × More old) → Ties w t b → Ties w (output_by t r) a
+  pub output-ties : (bytes : List ℕ) (flags : ℕ) (r : Result Notice (NoGrant × List ℕ)) (More : Ring → Type 0) → LockedCall (Worker w) b a (λ old new. OutputsAt w bytes flags r old new × More old) → Ties w t b → Ties w (output_by t r) a
   output-ties bytes flags r More turn ties = at-point (λ old new. OutputsAt w bytes flags r old new × More old) turn ties (output_by t r) (λ old new i k c. ties-output w t old new i k bytes flags r c.0)
 
   pub query-ties : (what n : ℕ) → LockedCall (Worker w) b a (Queries what n) → Ties w t b → Ties w t a
   query-ties what n turn ties = at-point (Queries what n) turn ties t (λ old new i k c. ties-same w t old new i k c.0)
 
   -- the serial of a new reservation is how many the seat had made
-  serial-at : (n : ℕ) (r : Result Granted (ReserveFault × List ℕ)) (old new : Ring) → Ties w t (book_of old) → Reserves w n r old new → IfOk r (λ g. g.serial ≡ t.made)
+  serial-at : (n : ℕ) (r : Result Granted (NoGrant × List ℕ)) (old new : Ring) → Ties w t (book_of old) → Reserves w n r old new → IfOk r (λ g. g.serial ≡ t.made)
   serial-at n (Ok g) old new ties c = c.0.serial ∙ ap (λ (u : Tally). u.made) (sym ties.counted)
   serial-at n (Err e) old new ties c = tt
 
-  pub serial-is : (n : ℕ) (r : Result Granted (ReserveFault × List ℕ)) → LockedCall (Worker w) b a (Reserves w n r) → Ties w t b → IfOk r (λ g. g.serial ≡ t.made)
+  pub serial-is : (n : ℕ) (r : Result Granted (NoGrant × List ℕ)) → LockedCall (Worker w) b a (Reserves w n r) → Ties w t b → IfOk r (λ g. g.serial ≡ t.made)
   serial-is n r turn ties = serial-at n r turn.point turn.left (ties-goes w t b (book_of turn.point) turn.goes_on turn.was_ring.legal ties) turn.called
 
 -- ---- the consumer's

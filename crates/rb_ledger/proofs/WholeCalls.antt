@@ -22,9 +22,9 @@ use Rattle.rb_ledger.specs.Roles.Role.{Consumer}
 use Rattle.rb_ledger.specs.LockedCalls.{LockedCall, TakesAt, Queries}
 use Rattle.rb_ledger.specs.ChapteredRing.{chaptered_ring, whole_of}
 use Rattle.rb_ledger.specs.LockedChapterCalls.{LockedChapterCall, InOneChapter, InKnownChapter, HandsOutNext, EachCallIsWhole}
-use Rattle.rb_ledger.specs.inner.ChapterAnswers.{TakesInChapter, QueriesInChapter}
+use Rattle.rb_ledger.specs.inner.ChapterAnswers.{TakesInChapter, QueriesInChapter, EndsInChapter}
 use Rattle.rb_ledger.specs.inner.ChapterRooms.{InRoomAt}
-use Rattle.rb_ledger.specs.inner.RecordEnds.{EndsInChapter, EndsAt}
+use Rattle.rb_ledger.specs.RecordEnds.{EndsAt}
 use Rattle.rb_chapter_ring.proofs.Chain.{binds-continue, binds-number}
 use Rattle.rb_ledger.proofs.ChapterSteps.{handed-out-whole}
 

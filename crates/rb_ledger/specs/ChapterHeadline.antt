@@ -18,7 +18,7 @@ use Rattle.rb_ledger.specs.Seats.{WorkerSeat}
 use Rattle.rb_ledger.specs.Headline.{IsRunFrom, IsClosed, IsGathered}
 use Rattle.rb_ledger.specs.ChapteredRing.{chaptered_ring, whole_of}
 use Rattle.rb_ledger.specs.ChapterKnowledge.{ChapterPassView, AllKnowHandedOut}
-use Rattle.rb_ledger.specs.ChapterLockRule.{KeepsChapterLockRule}
+use Rattle.rb_ledger.specs.LockRule.{KeepsChapterLockRule}
 use Rattle.rb_ledger.specs.ChapterSeats.{ChapterConsumerSeat, whole_consumer}
 use Rattle.rb_ledger.specs.ChapterClosing.{MayBind, IsGatheredByChapters, IsClosedByChapters, AreTied, bound_book}
 

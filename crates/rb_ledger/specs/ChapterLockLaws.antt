@@ -14,7 +14,7 @@ use Rattle.rb_ledger.specs.Ledger.{IsRing}
 use Rattle.rb_ledger.specs.LockSteps.{RoleStep, knowledge_after}
 use Rattle.rb_ledger.specs.ChapteredRing.{ChapteredRing, chaptered_ring, whole_of, HasChapters, IsChapteredRing}
 use Rattle.rb_ledger.specs.ChapterKnowledge.{ChapterKnowledge, ChapterPassView, chapter_view}
-use Rattle.rb_ledger.specs.ChapterLockRule.{KeepsChapterLockRule}
+use Rattle.rb_ledger.specs.LockRule.{KeepsChapterLockRule}
 use Rattle.rb_ledger.specs.ChapterLockSteps.{TakesChapterState, MayPutChapter, PutsChapterState, unopened_chapters, OpensChapterState, first_chapter_role, other_chapter_roles}
 
 -- ---- when a state may be put back

@@ -9,7 +9,7 @@ use Rattle.rb_chapter_ring.specs.declared.out_record.OutRecord.{OutRecord}
 use Rattle.rb_chapter_ring.specs.Hands.{HandBook, free_book, with_hand}
 use Rattle.rb_chapter_ring.specs.HandRing.{HandRing, HasHands}
 use Rattle.rb_ledger.specs.HandKnowledge.{ChapteredHandRing, HandPassView, hand_view}
-use Rattle.rb_ledger.specs.HandLockRule.{KeepsHandLockRule}
+use Rattle.rb_ledger.specs.LockRule.{KeepsHandLockRule}
 use Rattle.rb_ledger.specs.HandLockSteps.{TakesHandState, MayPutHands, PutsHandState, LeavesOtherHands, unopened_hands, OpensHandState, first_hand_role, other_hand_roles}
 
 -- a change of one worker's hand leaves the hands of all others

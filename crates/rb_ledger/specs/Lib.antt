@@ -1,12 +1,10 @@
 pub mod HandedOut
 pub mod HandKnowledge
-pub mod HandLockRule
 pub mod HandLockSteps
 pub mod HandLockLaws
 pub mod NoStranger
 pub mod ChapteredRing
 pub mod ChapterKnowledge
-pub mod ChapterLockRule
 pub mod ChapterLockSteps
 pub mod ChapterLockLaws
 pub mod ChapterSeats
@@ -22,6 +20,7 @@ pub mod LockRule
 pub mod AddedBytes
 pub mod LockSteps
 pub mod LockedCalls
+pub mod RecordEnds
 pub mod ManyTakes
 pub mod Seats
 pub mod SeatRoles

@@ -4,9 +4,8 @@ use Rattle.std.specs.FinMap.{insert}
 use Rattle.rb_history.specs.Span.{span}
 use Rattle.rb_history.specs.declared.answers.Notice.{Notice}
 use Rattle.rb_history.specs.declared.answers.Notice.TheVariants.{Due}
-use Rattle.rb_history.specs.declared.answers.ReserveFault.{ReserveFault}
-use Rattle.rb_history.specs.declared.answers.ReserveFault.TheVariants.{Full, Memory, Flags, Foreign}
-use Rattle.rb_history.specs.declared.answers.Stray.{Stray}
+use Rattle.rb_history.specs.declared.answers.NoGrant.{NoGrant}
+use Rattle.rb_history.specs.declared.answers.NoGrant.TheVariants.{Full, Memory, Flags}
 use Rattle.rb_history.specs.declared.answers.Taken.{Taken}
 use Rattle.rb_history.specs.declared.answers.Taken.TheVariants.{Event, Skipped, BusyFront, Empty}
 use Rattle.rb_history.specs.ReservationModel.{Granted}
@@ -31,19 +30,19 @@ pub record LockedCall (role : Role) (before after : Book) (call : Ring → Ring 
 
 -- ---- the calls, as their worker, arguments and answer say
 
-abbrev pub Reserves : ℕ → ℕ → Result Granted (ReserveFault × List ℕ) → Ring → Ring → Type 0
+abbrev pub Reserves : ℕ → ℕ → Result Granted (NoGrant × List ℕ) → Ring → Ring → Type 0
 Reserves w n (Ok r) old new = Grants old new w n r.pos r.serial × (r.worker ≡ w) × (r.bytes ≡ replicate n 0)
 Reserves w n (Err e) old new = Refuses old new w n e.0 × (e.0 ≢ Flags)
 
-abbrev pub SubmitsAt : Granted → ℕ → Result Notice Stray → Ring → Ring → Type 0
+abbrev pub SubmitsAt : Granted → ℕ → Result Notice Granted → Ring → Ring → Type 0
 SubmitsAt r flags (Ok notice) old new = Submits old new r × ((notice ≡ Due) ↔ IsDue (consumer_now old) r.pos flags)
 SubmitsAt r flags (Err s) old new = Strays old new r
 
-abbrev pub DiscardsAt : Granted → ℕ → Result Notice Stray → Ring → Ring → Type 0
+abbrev pub DiscardsAt : Granted → ℕ → Result Notice Granted → Ring → Ring → Type 0
 DiscardsAt r flags (Ok notice) old new = Discards old new r × ((notice ≡ Due) ↔ IsDue (consumer_now old) r.pos flags)
 DiscardsAt r flags (Err s) old new = Strays old new r
 
-abbrev pub OutputsAt : ℕ → List ℕ → ℕ → Result Notice (ReserveFault × List ℕ) → Ring → Ring → Type 0
+abbrev pub OutputsAt : ℕ → List ℕ → ℕ → Result Notice (NoGrant × List ℕ) → Ring → Ring → Type 0
 OutputsAt w bytes flags (Ok notice) old new = Outputs old new w bytes × ((notice ≡ Due) ↔ IsDue (consumer_now old) (producer_now old) flags) × (flags ≤ 3)
 OutputsAt w bytes flags (Err e) old new = Refuses old new w (length bytes) e.0 × ((e.0 ≡ Flags) ↔ (3 < flags))
 
@@ -55,30 +54,29 @@ Queries what answer old new = (new ≡ old) × (answer ≡ query_answer old.setu
 
 -- ---- what an answer adds to a seat's numbers and bytes
 
-abbrev pub refused_by : Tally → ReserveFault → Tally
+abbrev pub refused_by : Tally → NoGrant → Tally
 refused_by t Full = record t { refused = t.refused + 1 }
 refused_by t Memory = t
 refused_by t Flags = t
-refused_by t Foreign = t
 
-abbrev pub reserved_by : Tally → Result Granted (ReserveFault × List ℕ) → Tally
+abbrev pub reserved_by : Tally → Result Granted (NoGrant × List ℕ) → Tally
 reserved_by t (Ok r) = record t { made = t.made + 1 }
 reserved_by t (Err e) = refused_by t e.0
 
-abbrev pub output_by : Tally → Result Notice (ReserveFault × List ℕ) → Tally
+abbrev pub output_by : Tally → Result Notice (NoGrant × List ℕ) → Tally
 output_by t (Ok _) = record t { made = t.made + 1; submitted = t.submitted + 1 }
 output_by t (Err e) = refused_by t e.0
 
-abbrev pub submitted_by : Tally → Result Notice Stray → Tally
+abbrev pub submitted_by : Tally → Result Notice Granted → Tally
 submitted_by t (Ok _) = record t { submitted = t.submitted + 1 }
 submitted_by t (Err s) = t
 
-abbrev pub discarded_by : Tally → Result Notice Stray → Tally
+abbrev pub discarded_by : Tally → Result Notice Granted → Tally
 discarded_by t (Ok _) = record t { discarded = t.discarded + 1 }
 discarded_by t (Err s) = t
 
 -- an output adds its bytes, at the position where its record stands
-abbrev pub sent_by_output : Contents → ℕ → List ℕ → Result Notice (ReserveFault × List ℕ) → Contents
+abbrev pub sent_by_output : Contents → ℕ → List ℕ → Result Notice (NoGrant × List ℕ) → Contents
 sent_by_output sent p bytes (Ok _) = insert sent p bytes
 sent_by_output sent p bytes (Err e) = sent
 

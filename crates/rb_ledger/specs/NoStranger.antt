@@ -7,7 +7,6 @@ use mathlib.Core.Option.{some}
 use lib.ListN.{get_elem?}
 use Rattle.rb_history.specs.declared.entries.Entry.{Entry}
 use Rattle.rb_history.specs.declared.answers.Notice.{Notice}
-use Rattle.rb_history.specs.declared.answers.Stray.{Stray}
 use Rattle.rb_history.specs.Calls.{IsBusy, Grants, FindsFull, Outputs}
 use Rattle.rb_history.specs.ReservationModel.{Granted}
 use Rattle.rb_history.specs.RingModel.{Ring}
@@ -19,7 +18,7 @@ use Rattle.rb_chapter_ring.specs.declared.out_record.OutRecord.{OutRecord}
 use Rattle.rb_chapter_ring.specs.Hands.{out_record, Hands, HandBook, in_hand, hands_of, hand_at, IsBookOf}
 use Rattle.rb_chapter_ring.specs.HandRing.{HandRing, HasInHand}
 use Rattle.rb_ledger.specs.HandKnowledge.{ChapteredHandRing, hand_ring_of, HandKnowledge, HandPassView, hand_view}
-use Rattle.rb_ledger.specs.HandLockRule.{KeepsHandLockRule}
+use Rattle.rb_ledger.specs.LockRule.{KeepsHandLockRule}
 use Rattle.rb_ledger.specs.HandLockSteps.{TakesHandState, PutsHandState}
 
 -- ---- at the calls of a seat
@@ -50,10 +49,10 @@ pub record CallsKeepHeld (w : ℕ) (before after : Book) : Type 0 where
   pub finds_full : (n : ℕ) → SeatCall w before after (λ old new. FindsFull old new w n) → LeavesHeld w before after
   pub outputs : (bytes : List ℕ) → SeatCall w before after (λ old new. Outputs old new w bytes) → LeavesHeld w before after
   pub no_change : SeatCall w before after (λ old new. new ≡ old) → LeavesHeld w before after
-  pub submit_taken : (r : Granted) (flags : ℕ) (answer : Result Notice Stray) → SeatCall w before after (SubmitsAt r flags answer) → IsHeld w before r → is_ok answer ≡ true
-  pub submits : (r : Granted) (flags : ℕ) (answer : Result Notice Stray) → SeatCall w before after (SubmitsAt r flags answer) → LeavesHeldElsewhere w before after r.pos
-  pub discard_taken : (r : Granted) (flags : ℕ) (answer : Result Notice Stray) → SeatCall w before after (DiscardsAt r flags answer) → IsHeld w before r → is_ok answer ≡ true
-  pub discards : (r : Granted) (flags : ℕ) (answer : Result Notice Stray) → SeatCall w before after (DiscardsAt r flags answer) → LeavesHeldElsewhere w before after r.pos
+  pub submit_taken : (r : Granted) (flags : ℕ) (answer : Result Notice Granted) → SeatCall w before after (SubmitsAt r flags answer) → IsHeld w before r → is_ok answer ≡ true
+  pub submits : (r : Granted) (flags : ℕ) (answer : Result Notice Granted) → SeatCall w before after (SubmitsAt r flags answer) → LeavesHeldElsewhere w before after r.pos
+  pub discard_taken : (r : Granted) (flags : ℕ) (answer : Result Notice Granted) → SeatCall w before after (DiscardsAt r flags answer) → IsHeld w before r → is_ok answer ≡ true
+  pub discards : (r : Granted) (flags : ℕ) (answer : Result Notice Granted) → SeatCall w before after (DiscardsAt r flags answer) → LeavesHeldElsewhere w before after r.pos
 
 abbrev pub HeldUntilGivenBack : Type 0
 HeldUntilGivenBack = (w : ℕ) (before after : Book) → CallsKeepHeld w before after

@@ -3,4 +3,3 @@ pub mod OpenedLock
 pub mod SeatPasses
 pub mod ChapterRooms
 pub mod ChapterAnswers
-pub mod RecordEnds

@@ -21,7 +21,7 @@
 //! The ring under the lock keeps one chapter of its history; the consumer has full chapters handed out and keeps them or lets them go, and
 //! `bind_chapters` joins chapters that were kept to one history. The one history's older part is in the chapters that were handed out
 //! (`specs/ChapteredRing.antt` has a drawing). What each seat has seen is of that whole history, and the consumer also knows the chapters.
-//! The lock's rule says so at every moment (`specs/ChapterLockRule.antt`), and each step keeps it (`chapter_lock_rule_is_kept`,
+//! The lock's rule says so at every moment (the rule over chapters in `specs/LockRule.antt`), and each step keeps it (`chapter_lock_rule_is_kept`,
 //! `state_may_be_put_back`). Each call is told of the ring that keeps all entries, with its room for them (`specs/EntryRoom.antt`), and handing a
 //! chapter out changes nothing of that ring (`each_locked_call_is_whole`). Once all seats are gathered and the chapters are bound,
 //! `chapter_headline_holds` says what `headline_holds` says.
@@ -41,7 +41,7 @@
 //! # With hands
 //!
 //! To the ring over chapters comes the book of hands: what each worker holds. The rule of the lock over chapters stays, word for word, and the rule
-//! with hands is a layer over it (`specs/HandLockRule.antt`): wherever the ring's state is, it has one book of hands, and what a worker's seat shows of
+//! with hands is a layer over it (`specs/LockRule.antt` has all three): wherever the ring's state is, it has one book of hands, and what a worker's seat shows of
 //! its hands is the book's. Each step keeps it (`hand_lock_rule_is_kept`). So no reservation is a stranger to the ring that granted it
 //! (`specs/NoStranger.antt`): until its seat gives it back it is busy there, in whatever thread, and giving it back is not refused. A seat also knows
 //! the ring's room and where the chapter that it saw last begins in the whole history, so that it can say whether a chapter was full; and what was handed

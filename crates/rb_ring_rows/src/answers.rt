@@ -2,20 +2,19 @@
 
 use crate::text::Text;
 use rb_chapter_ring::{Chapter, OpenFault, ReserveFault};
-use rb_history::{
-    Counts, Entry, Notice, OpenFault as SetupFault, Reservation, Stray, Taken, Tally,
-};
+use rb_for_tests::{PlainReservation, Stray};
+use rb_history::{Counts, Entry, Notice, SetupFault, Taken, Tally};
 use rb_ledger::BindFault;
 use rb_lend::{Lent, Sheet};
 
 /// A granted record: its four numbers and its bytes.
-pub(crate) fn tell_granted(out: &mut Text, record: &Reservation) {
+pub(crate) fn tell_granted(out: &mut Text, record: &PlainReservation) {
     out.word("granted");
     tell_record(out, record);
     out.contents(record.bytes());
 }
 
-fn tell_record(out: &mut Text, record: &Reservation) {
+fn tell_record(out: &mut Text, record: &PlainReservation) {
     tell_numbers(
         out,
         record.pos(),
@@ -127,7 +126,7 @@ fn tell_reserve(out: &mut Text, worker: u32, serial: u64, len: u32, pos: u64) {
 }
 
 /// What a submit or a discard answered; the reservation that was handed back, where it was stray.
-pub(crate) fn tell_end(answer: Result<Notice, Stray>, out: &mut Text) -> Option<Reservation> {
+pub(crate) fn tell_end(answer: Result<Notice, Stray>, out: &mut Text) -> Option<PlainReservation> {
     match answer {
         Ok(notice) => {
             tell_notice(out, notice);
@@ -153,7 +152,6 @@ pub(crate) fn setup_word(fault: SetupFault) -> &'static str {
         SetupFault::Size => "refused size",
         SetupFault::Start => "refused start",
         SetupFault::Workers => "refused workers",
-        SetupFault::Memory => "refused memory",
     }
 }
 

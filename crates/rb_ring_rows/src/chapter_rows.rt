@@ -4,7 +4,7 @@ use crate::answers::{tell_entries, tell_handed_out, tell_numbers, tell_tally};
 use crate::row::Row;
 use crate::script::{Script, WRONG_WORDS, keep, narrow};
 use crate::text::Text;
-use rb_chapter_ring::{Chapter, Standing, UntakenRecord, UntakenStatus};
+use rb_chapter_ring::{COUNT_LIMIT, Chapter, Standing, UntakenRecord, UntakenStatus};
 use rb_consumer::Keeper;
 
 /// The verbs of rows on chapters.
@@ -110,7 +110,7 @@ fn open_behind(chapter: &mut Chapter, earlier: &Chapter, out: &mut Text) {
     if chapter.entries().is_empty()
         && chapter.room() == earlier.room()
         && chapter.opening().numbers().workers == earlier.opening().numbers().workers
-        && earlier.number() < 1 << 62
+        && earlier.number() < COUNT_LIMIT
     {
         chapter.open_after(earlier);
         out.field("chapter", chapter.number());

@@ -152,7 +152,7 @@ impl SharedPlace {
     pub(crate) fn tell_consumer(&self, out: &mut Text) {
         let seat = &self.consumer;
         out.field("tag", seat.tag());
-        let ring = seat.ring();
+        let ring = seat.numbers();
         out.field("workers", u64::from(ring.workers));
         out.field("room", u64::from(ring.room));
         out.field("position", seat.position());

@@ -7,7 +7,7 @@ ghost use Rattle.rb_tape.specs.Items.{item_of as item_in};
 
 use crate::answers::setup_word;
 use crate::text::Text;
-use rb_history::{Taken, is_size, is_start, span};
+use rb_history::{POSITION_LIMIT, Taken, is_size, is_start, span};
 use rb_lend::Lent;
 use rb_tape::{Event, Feed, Item, Record, Tape, TapeFault, TapeKind, TapeWriter, count_records};
 use std::alloc::Global;
@@ -163,9 +163,9 @@ fn fits(pos: u64, len: u64, size: u64, position: u64) -> bool
     ensures has_fitted { IsTrue result → span len < size }
     ensures bounded { IsTrue result → position + span len ≤ 2 ^ 62 }
 {
-    if pos != position || len >= 1 << 30 || position > 1 << 62 {
+    if pos != position || len >= 1 << 30 || position > POSITION_LIMIT {
         return false;
     }
     let span = span(len as u32);
-    span < size && span <= (1 << 62) - position
+    span < size && span <= POSITION_LIMIT - position
 }

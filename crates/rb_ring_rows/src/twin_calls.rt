@@ -8,8 +8,8 @@ use crate::answers::{
 use crate::shared_answers::{tell_record, tell_reserved};
 use crate::text::Text;
 use rb_chapter_ring::{Reservation, ReserveFault, RingState};
-use rb_for_tests::RingState as ListState;
-use rb_history::{Reservation as ListReservation, ReserveFault as ListFault};
+use rb_for_tests::{PlainOpenFault, PlainReservation, PlainRing};
+use rb_history::NoGrant;
 use rb_lend::Sheet;
 use std::alloc::Global;
 
@@ -76,12 +76,12 @@ pub(crate) fn end_in_chapter(
 
 /// Submits a record to the list or gives it up, which is asked whether or not it has the record.
 pub(crate) fn end_in_list(
-    list: &mut ListState,
-    record: ListReservation,
+    list: &mut PlainRing,
+    record: PlainReservation,
     ending: Ending,
     flags: u64,
     out: &mut Text,
-) -> Option<ListReservation>
+) -> Option<PlainReservation>
     ensures { list.new.setup ≡ list.old.setup }
 {
     let answer = match ending {
@@ -115,7 +115,7 @@ pub(crate) fn output_in_chapter(
 
 /// Outputs a sheet.
 pub(crate) fn output_in_list(
-    list: &mut ListState,
+    list: &mut PlainRing,
     worker: u32,
     sheet: Sheet,
     flags: u64,
@@ -132,12 +132,12 @@ pub(crate) fn output_in_list(
 
 /// Reserves a record of `n` bytes in this sheet.
 pub(crate) fn reserve_in_list(
-    list: &mut ListState,
+    list: &mut PlainRing,
     worker: u32,
     n: u32,
     sheet: Sheet,
     out: &mut Text,
-) -> Option<ListReservation>
+) -> Option<PlainReservation>
     requires worker { worker < list.old.setup.workers }
     requires sized { length sheet ≡ n }
     ensures { list.new.setup ≡ list.old.setup }
@@ -183,20 +183,20 @@ pub(crate) fn opened_list(
     size: u64,
     start: u64,
     workers: u32,
-) -> (Option<ListState>, &'static str)
+) -> (Option<PlainRing>, &'static str)
     ensures { IfSome result.0 (λ list. list.setup.workers ≡ workers) }
 {
-    match ListState::new(alloc, size, start, workers) {
+    match PlainRing::new(alloc, size, start, workers) {
         Ok(list) => (Some(list), "opened"),
-        Err(fault) => (None, setup_word(fault)),
+        Err(PlainOpenFault::Setup(fault)) => (None, setup_word(fault)),
+        Err(PlainOpenFault::Memory) => (None, "refused memory"),
     }
 }
 
-fn list_word(fault: ListFault) -> &'static str {
+fn list_word(fault: NoGrant) -> &'static str {
     match fault {
-        ListFault::Full => "full",
-        ListFault::Flags => "flags",
-        ListFault::Memory => "memory",
-        ListFault::Foreign => "foreign",
+        NoGrant::Full => "full",
+        NoGrant::Flags => "flags",
+        NoGrant::Memory => "memory",
     }
 }

@@ -15,8 +15,8 @@ use crate::twin_calls::{
     output_in_list, reserve_in_chapter, reserve_in_list, tell_opened,
 };
 use rb_chapter_ring::{Chapter, Reservation, RingState, UntakenStatus};
-use rb_for_tests::RingState as ListState;
-use rb_history::{Reservation as ListReservation, Taken};
+use rb_for_tests::{PlainReservation, PlainRing};
+use rb_history::Taken;
 use rb_ledger::bind_chapters;
 use rb_lend::Lent;
 use std::alloc::Global;
@@ -28,7 +28,7 @@ pub(crate) struct TwinRings {
     start: u64,
     workers: u32,
     ring: RingState,
-    list: ListState,
+    list: PlainRing,
     // How many entries the chapters have that were handed out.
     handed_out: u64,
     // All that was taken, in order.
@@ -40,7 +40,7 @@ pub(crate) struct TwinRings {
 #[derive(Drop)]
 pub(crate) struct TwinRecord {
     ring: Reservation,
-    list: ListReservation,
+    list: PlainReservation,
 }
 
 impl TwinRecord {
@@ -232,7 +232,7 @@ impl TwinRings {
     }
 
     // Whether a busy record has the reservation's four numbers.
-    fn has_busy(&self, record: &ListReservation) -> bool {
+    fn has_busy(&self, record: &PlainReservation) -> bool {
         for untaken in self.ring.chapter().closing().records() {
             if matches!(untaken.status, UntakenStatus::Busy)
                 && untaken.pos == record.pos()
@@ -282,7 +282,7 @@ impl TwinRings {
 }
 
 // The reservations of a record, where both rings have it.
-fn twin_record(ring: Option<Reservation>, list: Option<ListReservation>) -> Option<TwinRecord> {
+fn twin_record(ring: Option<Reservation>, list: Option<PlainReservation>) -> Option<TwinRecord> {
     Some(TwinRecord {
         ring: ring?,
         list: list?,

@@ -7,9 +7,10 @@ use crate::closing::closed;
 use crate::expected::{same, sheet};
 use crate::rings_with_seats::{granted, one_seat, submitted};
 use rb_chapter_ring::{Chapter, RingState};
-use rb_for_tests::{RingState as ListState, is_grant_of, is_refusal};
+use rb_for_tests::{PlainRing, is_grant_of, is_refusal};
 use rb_history::{
-    Entry, FORCE_WAKEUP, Header, NO_WAKEUP, Notice, OpenFault, Taken, check_setup, notice_for, span,
+    Entry, FORCE_WAKEUP, Header, NO_WAKEUP, Notice, SetupFault, Taken, check_setup, notice_for,
+    span,
 };
 use rb_interp::{Part, Parts, Slot};
 use rb_lend::{Lent, Sheet};
@@ -56,7 +57,7 @@ fn example_of_the_parts_of_memory(rt: HostRuntime) {
 
 #[test]
 fn example_of_rb_history(rt: HostRuntime) {
-    same(&rt, &check_setup(4096, 4, 1), &Err(OpenFault::Start));
+    same(&rt, &check_setup(4096, 4, 1), &Err(SetupFault::Start));
     let history = [Entry::Res(0, 0, 8, 0), Entry::Sub(0), Entry::Full(0, 4096)];
     let told = [is_grant_of(0, &history[0]), is_refusal(&history[2])];
     same(&rt, &told, &[true, true]);
@@ -71,7 +72,7 @@ fn is_first_event(taken: &Taken) -> bool {
 
 #[test]
 fn example_of_the_plain_ring(rt: HostRuntime) {
-    let mut ring = ListState::new(rt.alloc(), 4096, 0, 1).expect(&rt, "a ring");
+    let mut ring = PlainRing::new(rt.alloc(), 4096, 0, 1).expect(&rt, "a ring");
     let reserved = ring.reserve(0, 4, sheet(&rt, rt.alloc(), 4));
     let mut record = reserved.ok().expect(&rt, "a record");
     record.bytes_mut().fill(42);

@@ -4,11 +4,10 @@ ghost use Rattle.std.specs.Prelude.{◌≡◌, length};
 
 use crate::expected::{same, same_bytes, same_of, sheet};
 use rb_for_tests::{
-    is_discarding, is_grant, is_grant_of, is_refusal, is_reserved, is_reserved_by, is_submitted,
+    PlainReservation, is_discarding, is_grant, is_grant_of, is_refusal, is_reserved,
+    is_reserved_by, is_submitted,
 };
-use rb_history::{
-    Entry, POSITION_LIMIT, RecordState, Reservation, StoredRecord, Taken, each_entry_is_one_call,
-};
+use rb_history::{Entry, POSITION_LIMIT, RecordState, StoredRecord, Taken, each_entry_is_one_call};
 use rb_lend::Lent;
 use std::alloc::Global;
 use std::process::Abort;
@@ -46,10 +45,10 @@ fn reservation(
     worker: u32,
     serial: u64,
     n: u32,
-) -> Reservation
+) -> PlainReservation
     ensures { length result.bytes ≡ n }
 {
-    Reservation::new(pos, worker, serial, sheet(rt, alloc, n))
+    PlainReservation::new(pos, worker, serial, sheet(rt, alloc, n))
 }
 
 // A record of four bytes at position 48, the sixth of worker 3.

@@ -16,7 +16,7 @@ use Rattle.rb_workers.specs.Reports.{IsReport}
 use Rattle.rb_workers.specs.SeatRows.{seat_rows}
 use Rattle.rb_workers.specs.Sink.{SinkItem}
 use Rattle.rb_workers.specs.Settled.{EachSettled, EndsSettled}
-use Rattle.rb_workers.specs.declared.opened.Report.{Report}
+use Rattle.rb_workers.specs.declared.opened.JobsReport.{JobsReport}
 use Rattle.rb_workers.proofs.Numbered.{seats_length}
 use Rattle.rb_workers.proofs.Settling.{settled_together}
 use Rattle.rb_loader.specs.Acceptance.{IsAccepted, IsRightFault}
@@ -44,7 +44,7 @@ one_settled one opened is settled =
     (settled_together (length one.seats.items) (one.seats.items ∷ []) (All-cons (All HasSettledAll) one.seats.items [] settled (All-nil (All HasSettledAll))))
 
 -- what such a run is, put together of what its calls say
-module _ {S : Type 0} (position : S → ℕ) (takes : S → SinkItem → S → Type 0) (sink : S) (subject : Subject) (request : JobsRequest) (workers room margin : ℕ) (one : Opened S) (opened : List (Opened S)) (jobs : List Job) (report : Report S) where
+module _ {S : Type 0} (position : S → ℕ) (takes : S → SinkItem → S → Type 0) (sink : S) (subject : Subject) (request : JobsRequest) (workers room margin : ℕ) (one : Opened S) (opened : List (Opened S)) (jobs : List Job) (report : JobsReport S) where
   pub ran_workers :
       workers ≡ request.workers → room ≡ room_of request.size → margin ≡ margin_of request.size → opened ≡ one ∷ []
       → one.seats.items ≡ fresh_seats 0 one.ring.ring room (fresh_book request.size request.start workers) 0 workers

@@ -3,17 +3,22 @@ use Rattle.std.proofs.Common.{◌≡◌, ℕ, ◌+◌, ◌<◌, ◌≤◌, Bool,
 use Rattle.std.specs.Prelude.{◌≢◌, ◌⊎◌, ◌&&◌, All, not, Result, Ok, Err, OnOk, OnErr, is_err}
 use Rattle.std.proofs.lemmas.Bool.{true≢false}
 use Rattle.std.proofs.lemmas.List.{length-drop, drop_all}
-use Rattle.std.proofs.lemmas.List.Elements.{All-nil, All-cons, filter_map-append}
+use Rattle.std.proofs.lemmas.List.Elements.{All-nil, All-cons}
 use Rattle.std.specs.Io.KnownBytes.{Appends, Keeps}
 use Rattle.std.proofs.KnownBytes.{Appends-nil, Appends-trans, Appends-kept}
 use Rattle.rb_history.specs.TapeBytes.{Item, item_bytes, item_span, tape}
 use Rattle.rb_history.proofs.HeaderLaws.{length-item_bytes, tape-append}
 use Rattle.rb_verifier.specs.Subject.{Subject}
 use Rattle.rb_workers.specs.Reports.{RingEnds, RingsEnd}
-use Rattle.rb_workers.specs.Sink.{SinkItem, TakesAll, positions_among, tape_item, takes_in}
+use Rattle.rb_history.specs.declared.answers.Taken.TheVariants.{Event, Skipped, BusyFront, Empty}
+use Rattle.rb_tape.specs.Items.{item_of, item_taken}
+use Rattle.rb_tape.specs.declared.item.Item.{Item as Lent}
+use Rattle.rb_tape.specs.declared.item.Item.TheVariants as kinds
+use Rattle.rb_workers.specs.Sink.{SinkItem, TakesAll, positions_among, takes_in}
+use Rattle.rb_workers.specs.Sink.SinkItem.{Record, Chapter}
 use Rattle.rb_workers.specs.declared.opened.Ended.{Ended}
 use Rattle.rb_workers.specs.declared.opened.Opened.{Opened}
-use Rattle.rb_workers.specs.declared.opened.Report.{Report}
+use Rattle.rb_workers.specs.declared.opened.JobsReport.{JobsReport}
 use Rattle.rb_ledger.specs.Seats.{WorkerSeat}
 use Rattle.rb_run_commands.specs.RunCommand.{RunsWorkers}
 use Rattle.rb_run_commands.specs.TapedRun.{SinkTape, TapesRing, WritesOn, first_tape, sink_tape_items, tape_position, tape_takes}
@@ -30,6 +35,18 @@ one_tape size item = append-nil (item_bytes size item)
 
 some_bytes : (size : ℕ) (item : Item) → tape size (item ∷ []) ≢ []
 some_bytes size item e = let l = ap length (sym (one_tape size item) ∙ e) in let n = length-item_bytes size item in absurd (omega (arith, l, n))
+
+-- what a record that is lent is for the tape
+pub lent_is : (item : Lent) → sink_tape_items (Record (item_taken item) ∷ []) ≡ item_of item ∷ []
+lent_is (kinds.Event e) = refl
+lent_is (kinds.Skip pos n) = refl
+
+first_of : (item : SinkItem) (items : List SinkItem) → sink_tape_items (item ∷ items) ≡ sink_tape_items (item ∷ []) ++ sink_tape_items items
+first_of (Record (Event p w k bytes)) items = refl
+first_of (Record (Skipped p n)) items = refl
+first_of (Record BusyFront) items = refl
+first_of (Record Empty) items = refl
+first_of (Chapter c) items = refl
 
 -- a sink's tape, by its parts
 abbrev pub sink_tape : {W : Type 0} → W → ℕ → ℕ → Bool → SinkTape W
@@ -141,7 +158,7 @@ module _ {W : Type 0} (contents : W → Option (List ℕ)) where
   the_tape_of_what_is_given : (items : List SinkItem) (old new : SinkTape W) → TakesAll (tape_takes contents) old items new → WritesOn contents old (sink_tape_items items) new
   the_tape_of_what_is_given [] old new same = subst (λ s. WritesOn contents old [] s) (sym same) (nothing_yet old)
   the_tape_of_what_is_given (item ∷ items) old new given =
-      subst (λ l. WritesOn contents old l new) (sym (filter_map-append tape_item (item ∷ []) items))
+      subst (λ l. WritesOn contents old l new) (sym (first_of item items))
       (goes_on old given.0 new (sink_tape_items (item ∷ [])) (sink_tape_items items) given.1 (the_tape_of_what_is_given items given.0 new given.2))
 
 -- ---- the run
@@ -176,7 +193,7 @@ by_part : {A B C : Type 0} → A ⊎ B → (A → C) → C ⊎ B
 by_part (inl a) f = inl (f a)
 by_part (inr b) f = inr b
 
-module _ {W : Type 0} (contents : W → Option (List ℕ)) (writer left : W) (subject : Subject) (request : JobsRequest) (report : Report (SinkTape W)) (ran : RunsWorkers tape_position (tape_takes contents) (first_tape writer request) subject request report) where
+module _ {W : Type 0} (contents : W → Option (List ℕ)) (writer left : W) (subject : Subject) (request : JobsRequest) (report : JobsReport (SinkTape W)) (ran : RunsWorkers tape_position (tape_takes contents) (first_tape writer request) subject request report) where
   ending : (e : Ended (SinkTape W)) × (row : List WorkerSeat) × (report.rings.items ≡ e ∷ []) × RingEnds tape_position (tape_takes contents) ran.opened e row
   ending = one_ended tape_position (tape_takes contents) ran.opened report.rings.items ran.reported.seats ran.reported.rings_end
 

@@ -10,7 +10,7 @@ use Rattle.rb_verifier.specs.Subject.{Subject}
 use Rattle.rb_loader.specs.Acceptance.{IsAccepted}
 use Rattle.rb_run_commands.specs.DrainedRings.{DrainsRings}
 use Rattle.rb_run_commands.specs.FreshRings.{AreNumbered, fresh_worker, fresh_taker}
-use Rattle.rb_run_commands.specs.Printed.{run_lines}
+use Rattle.rb_run_commands.specs.Printed.{check_lines}
 use Rattle.rb_json.specs.declared.form.LineForm.{LineForm}
 
 -- ---- the run
@@ -45,4 +45,4 @@ pub record PrintsCheck (input : List ℕ) (ctx_len ring_count : ℕ) (form : Lin
   pub value : ℕ
   pub records : List (List Taken)
   pub checked : Checks input ctx_len ring_count value records
-  pub printed : Appends before after (run_lines form value records)
+  pub printed : Appends before after (check_lines form value records)

@@ -7,7 +7,7 @@ use Rattle.rb_loader.specs.Acceptance.{IsAccepted}
 use Rattle.rb_portable.specs.Findings.{TellsFindings}
 use Rattle.rb_verifier.specs.Subject.{Subject}
 use Rattle.rb_run_commands.specs.Check.{Checks}
-use Rattle.rb_run_commands.specs.Printed.{run_lines}
+use Rattle.rb_run_commands.specs.Printed.{check_lines}
 
 -- the program that the input spells was checked, and what `check` prints of it and the lines of its units that Linux refuses were printed, and nothing else
 pub record PrintsPortableCheck (input : List ℕ) (ctx_len ring_count : ℕ) (form : LineForm) (before after : Option (List ℕ)) : Type 0 where
@@ -18,4 +18,4 @@ pub record PrintsPortableCheck (input : List ℕ) (ctx_len ring_count : ℕ) (fo
   pub accepted : IsAccepted input ctx_len ring_count subject
   pub lines : List ℕ
   pub found : TellsFindings form subject lines
-  pub printed : Appends before after (run_lines form value records ++ lines)
+  pub printed : Appends before after (check_lines form value records ++ lines)

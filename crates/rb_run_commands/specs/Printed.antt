@@ -57,6 +57,6 @@ abbrev pub run_objects : ℕ → List (List Taken) → List ℕ
 run_objects value records = line (codes "{\"accepted\":true,\"result\":" ++ json_number value ++ codes "}") ++ objects_from 0 records
 
 -- in the form that is asked for
-abbrev pub run_lines : LineForm → ℕ → List (List Taken) → List ℕ
-run_lines Words value records = run_text value records
-run_lines Json value records = run_objects value records
+abbrev pub check_lines : LineForm → ℕ → List (List Taken) → List ℕ
+check_lines Words value records = run_text value records
+check_lines Json value records = run_objects value records

@@ -6,7 +6,7 @@ use Rattle.rb_history.specs.declared.answers.Counts.{Counts}
 use Rattle.rb_history.specs.declared.tally.Tally.{Tally}
 use Rattle.rb_chapter_ring.specs.OpenedRing.{told_counts}
 use Rattle.rb_workers.specs.declared.opened.Ended.{Ended}
-use Rattle.rb_workers.specs.declared.opened.Report.{Report}
+use Rattle.rb_workers.specs.declared.opened.JobsReport.{JobsReport}
 use Rattle.rb_io.specs.Lines.{line}
 use Rattle.rb_json.specs.Json.{json_number}
 use Rattle.rb_json.specs.declared.form.LineForm.{LineForm}
@@ -34,7 +34,7 @@ abbrev pub closing_lines : {S : Type 0} → Ended S → List ℕ
 closing_lines ended = tally_lines_from 0 ended.tallies.items ++ counts_line (told_counts ended.closing.at_end)
 
 -- the lines of each ring, and how many jobs ended with a record handed back
-abbrev pub report_text : {S : Type 0} → Report S → List ℕ
+abbrev pub report_text : {S : Type 0} → JobsReport S → List ℕ
 report_text report = flat_map closing_lines report.rings.items ++ line (codes "strays " ++ decimal report.strays)
 
 -- ---- the same as objects of JSON, one a line
@@ -77,7 +77,7 @@ abbrev pub closing_objects_from : {S : Type 0} → ℕ → List (Ended S) → Li
 closing_objects_from ring [] = []
 closing_objects_from ring (ended ∷ more) = closing_objects ring ended ++ closing_objects_from (ring + 1) more
 
-abbrev pub report_objects : {S : Type 0} → Report S → List ℕ
+abbrev pub report_objects : {S : Type 0} → JobsReport S → List ℕ
 report_objects report =
     closing_objects_from 0 report.rings.items ++ line (codes "{\"strays\":" ++ json_number report.strays ++ codes ",\"unlogged\":" ++ json_number report.unlogged ++ codes "}")
 
@@ -90,6 +90,6 @@ unlogged_text unlogged =
 
 -- ---- the report in the form that is asked for
 
-abbrev pub report_lines : {S : Type 0} → LineForm → Report S → List ℕ
+abbrev pub report_lines : {S : Type 0} → LineForm → JobsReport S → List ℕ
 report_lines Words report = report_text report
 report_lines Json report = report_objects report

@@ -16,7 +16,7 @@ use Rattle.rb_workers.specs.Reports.{IsReport}
 use Rattle.rb_workers.specs.Settled.{EndsSettled}
 use Rattle.rb_workers.specs.Sink.{SinkItem, sink_span}
 use Rattle.rb_workers.specs.declared.opened.Opened.{Opened}
-use Rattle.rb_workers.specs.declared.opened.Report.{Report}
+use Rattle.rb_workers.specs.declared.opened.JobsReport.{JobsReport}
 use Rattle.rb_loader.specs.Acceptance.{IsAccepted, IsRightProgramFault}
 use Rattle.rb_run_commands.specs.ReportLines.{report_lines, unlogged_text}
 use Rattle.rb_run_commands.specs.WorkerJobs.{tasks_of_workers}
@@ -57,7 +57,7 @@ pub record IsJustOpened {S : Type 0} (sink : S) (request : JobsRequest) (o : Ope
 
 -- each worker ran the program as often as is asked for, over one ring that was just opened with this sink, and this is the report on these jobs
 -- and this ring; no job had a record handed back, and the ring ends with none that is busy
-pub record RunsWorkers {S : Type 0} (position : S → ℕ) (takes : S → SinkItem → S → Type 0) (sink : S) (subject : Subject) (request : JobsRequest) (report : Report S) : Type 0 where
+pub record RunsWorkers {S : Type 0} (position : S → ℕ) (takes : S → SinkItem → S → Type 0) (sink : S) (subject : Subject) (request : JobsRequest) (report : JobsReport S) : Type 0 where
   pub opened : Opened S
   pub jobs : List Job
   pub just_opened : IsJustOpened sink request opened
@@ -72,7 +72,7 @@ pub record RunsWorkers {S : Type 0} (position : S → ℕ) (takes : S → SinkIt
 -- else; and beside it was told, and nothing else, how many reservations and outputs are neither granted nor refused in the ring's history
 pub record PrintsRun (input : Option (List ℕ)) (request : JobsRequest) (before after told_before told_after : Option (List ℕ)) : Type 0 where
   pub subject : Subject
-  pub report : Report NullSink
+  pub report : JobsReport NullSink
   pub accepted : IfSome input (λ text. IsAccepted text 16 1 subject)
   pub ran : RunsWorkers null_position null_takes (first_null request) subject request report
   pub printed : Appends before after (report_lines request.form report)

@@ -1,7 +1,6 @@
 -- What `run --tape` writes: the tape of all that the ring's consumer took, up to the first write that fails (own; the tape's bytes are
 -- rb_history's).
 use Rattle.std.specs.Prelude.{◌≡◌, ◌≢◌, ◌⊎◌, ℕ, Bool, true, false, All, IfSome, List, [], ◌∷◌, ◌++◌, Option}
-use Rattle.std.specs.List.{filter_map}
 use Rattle.std.specs.Io.KnownBytes.{Appends, append_known}
 use Rattle.rb_history.specs.TapeBytes.{Item, tape}
 use Rattle.rb_ledger.specs.Seats.{WorkerSeat}
@@ -9,9 +8,10 @@ use Rattle.rb_ledger.specs.ChapterClosing.{IsClosedByChapters}
 use Rattle.rb_ledger.specs.ChapterSeats.{ChapterConsumerSeat}
 use Rattle.rb_verifier.specs.Subject.{Subject}
 use Rattle.rb_workers.specs.Reports.{ring_at_end}
-use Rattle.rb_workers.specs.Sink.{SinkItem, IsRecordIn, positions_among, takes_in, tape_item}
+use Rattle.rb_tape.specs.Items.{tape_items}
+use Rattle.rb_workers.specs.Sink.{SinkItem, IsRecordIn, positions_among, records_among, takes_in}
 use Rattle.rb_workers.specs.declared.opened.Ended.{Ended}
-use Rattle.rb_workers.specs.declared.opened.Report.{Report}
+use Rattle.rb_workers.specs.declared.opened.JobsReport.{JobsReport}
 use Rattle.rb_loader.specs.Acceptance.{IsAccepted}
 use Rattle.rb_run_commands.specs.ReportLines.{report_lines, unlogged_text}
 use Rattle.rb_run_commands.specs.RunCommand.{RunsWorkers}
@@ -49,7 +49,7 @@ pub record WritesOn {W : Type 0} (contents : W → Option (List ℕ)) (old : Sin
 
 -- the records among items, as those of a tape
 abbrev pub sink_tape_items : List SinkItem → List Item
-sink_tape_items items = filter_map tape_item items
+sink_tape_items items = tape_items (records_among items)
 
 -- what taking one item makes of such a sink; a chapter has nothing for the tape
 abbrev pub tape_takes : {W : Type 0} → (W → Option (List ℕ)) → SinkTape W → SinkItem → SinkTape W → Type 0
@@ -80,7 +80,7 @@ pub record TapesRing {W : Type 0} (contents : W → Option (List ℕ)) (writes_o
 -- the program was run with such a sink, what the report says was printed, and nothing else, what is unlogged was told, and nothing else, and what the
 -- ring's consumer took was written as a tape
 pub record TapesRun {W : Type 0} (contents : W → Option (List ℕ)) (writes_out : W → Bool → W → Type 0) (writer : W) (subject : Subject) (request : JobsRequest) (before after told_before told_after : Option (List ℕ)) (whole : Bool) (left : W) : Type 0 where
-  pub report : Report (SinkTape W)
+  pub report : JobsReport (SinkTape W)
   pub ran : RunsWorkers tape_position (tape_takes contents) (first_tape writer request) subject request report
   pub printed : Appends before after (report_lines request.form report)
   pub told : Appends told_before told_after (unlogged_text report.unlogged)

@@ -6,9 +6,9 @@ ghost use Rattle.rb_jobs.specs.SeatHelpers.{AtRings};
 ghost use Rattle.rb_loader.specs.Acceptance.{IsRightFault, IsRightProgramFault};
 ghost use Rattle.rb_run_commands.specs.Check.{Checks, PrintsCheck, RunsOnce};
 
+use crate::check_lines::lines_of_check;
 use crate::drain::drain_rings;
 use crate::fresh_rings::{Fresh, fresh_rings};
-use crate::run_lines::lines_of_run;
 use crossbeam_queue::ArrayQueue;
 use rb_history::Taken;
 use rb_io::write_whole;
@@ -50,7 +50,7 @@ pub fn check<T: Wait, R: Read, W: Write, G: Gate>(
     let bytes = read_all(alloc, input)?;
     let text = text_of(bytes.as_slice())?;
     let Checked { value, records } = check_text(rt, alloc, text, bounds, gate)?;
-    let printed = lines_of_run(alloc, value, records.as_slice(), form)?;
+    let printed = lines_of_check(alloc, value, records.as_slice(), form)?;
     match write_whole(out, printed.as_slice()) {
         Ok(()) => Ok(()),
         Err(_) => Err(ProgramFault::Device),

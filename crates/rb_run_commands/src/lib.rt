@@ -15,6 +15,7 @@
 #![tactic(auto)]
 
 mod check_command;
+mod check_lines;
 mod drain;
 mod fresh_rings;
 mod jobs_fault;
@@ -25,7 +26,6 @@ mod report;
 mod report_lines;
 mod report_objects;
 mod run_command;
-mod run_lines;
 mod tape_sink;
 mod taped_run;
 mod worker_jobs;

@@ -6,7 +6,7 @@ ghost use Rattle.rb_loader.specs.Acceptance.{IsRightProgramFault};
 ghost use Rattle.rb_run_commands.specs.PortableCheck.{PrintsPortableCheck};
 
 use crate::check_command::{Checked, check_text};
-use crate::run_lines::lines_of_run;
+use crate::check_lines::lines_of_check;
 use rb_io::write_whole;
 use rb_jobs::Gate;
 use rb_json::LineForm;
@@ -36,7 +36,7 @@ pub fn check_portable<T: Wait, R: Read, W: Write, G: Gate>(
     let Checked { value, records } = check_text(rt, alloc, text, bounds, gate)?;
     let verified = accept(alloc, text, bounds)?;
     let lines = findings_text(alloc, &verified, form)?;
-    let mut printed = lines_of_run(alloc, value, records.as_slice(), form)?;
+    let mut printed = lines_of_check(alloc, value, records.as_slice(), form)?;
     printed.extend_from_slice(lines.as_bytes())?;
     match write_whole(out, printed.as_slice()) {
         Ok(()) => Ok(()),

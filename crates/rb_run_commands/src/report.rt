@@ -6,13 +6,13 @@ ghost use Rattle.rb_run_commands.specs.ReportLines.{report_lines};
 use crate::report_lines::text_of_report;
 use crate::report_objects::objects_of_report;
 use rb_json::LineForm;
-use rb_workers::Report;
+use rb_workers::JobsReport;
 use std::alloc::{AllocError, Global};
 
 /// The lines of a report. `AllocError` where there is no memory for them.
 pub(crate) fn lines_of_report<S>(
     alloc: Global,
-    report: &Report<S>,
+    report: &JobsReport<S>,
     form: LineForm,
 ) -> Result<Vec<u8>, AllocError>
     ensures lines { IfOk result (λ lines. lines.items ≡ report_lines form report.now) }

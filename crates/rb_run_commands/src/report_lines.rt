@@ -5,12 +5,12 @@ ghost use Rattle.std.specs.Prelude.{◌≡◌, ◌++◌, IfOk, OnOk, string_byte
 ghost use Rattle.rb_run_commands.specs.ReportLines.{closing_lines, counts_line, report_text, tally_line, tally_lines_from, unlogged_text};
 
 use rb_history::{Counts, Tally};
-use rb_workers::{Ended, Report};
+use rb_workers::{Ended, JobsReport};
 use std::alloc::{AllocError, Global};
 
 /// The text of a report: for each ring a line `worker W made M refused R submitted S discarded D` for each worker, from worker 0 on, and
 /// `ring made M consumed C discarded D waiting W busy B`; then `strays N`. `AllocError` where there is no memory for it.
-pub(crate) fn text_of_report<S>(alloc: Global, report: &Report<S>) -> Result<String, AllocError>
+pub(crate) fn text_of_report<S>(alloc: Global, report: &JobsReport<S>) -> Result<String, AllocError>
     ensures text { IfOk result (λ text. string_bytes text ≡ report_text report.now) }
 {
     let mut text = String::new(alloc);

@@ -8,13 +8,16 @@ ghost use Rattle.rb_run_commands.specs.ReportLines.{closing_objects, closing_obj
 
 use rb_history::{Counts, Tally};
 use rb_json::{push_field, push_wide_number};
-use rb_workers::{Ended, Report};
+use rb_workers::{Ended, JobsReport};
 use std::alloc::{AllocError, Global};
 
 /// The objects of a report: for each ring, from ring 0 on, one with `ring`, `worker`, `made`, `refused`, `submitted` and `discarded` for each worker, from
 /// worker 0 on, and one with `ring`, `made`, `consumed`, `discarded`, `waiting` and `busy`; then one with `strays` and
 /// `unlogged`. `AllocError` where there is no memory for them.
-pub(crate) fn objects_of_report<S>(alloc: Global, report: &Report<S>) -> Result<Vec<u8>, AllocError>
+pub(crate) fn objects_of_report<S>(
+    alloc: Global,
+    report: &JobsReport<S>,
+) -> Result<Vec<u8>, AllocError>
     ensures objects { IfOk result (λ lines. lines.items ≡ report_objects report.now) }
 {
     let mut lines = Vec::new(alloc);
@@ -75,8 +78,8 @@ fn push_tally(
     lines.extend_from_slice(b"}\n")
 }
 
-#[tactic(auto, unfolding(crate::specs::ReportLines::grant_fields))]
 // A worker's seat at a ring, and how many records it was granted, more.
+#[tactic(auto, unfolding(crate::specs::ReportLines::grant_fields))]
 fn push_grants(
     lines: &mut Vec<u8>,
     ring: usize,
@@ -90,8 +93,8 @@ fn push_grants(
     push_field(lines, b",\"made\":", tally.made)
 }
 
-#[tactic(auto, unfolding(crate::specs::ReportLines::outcome_fields))]
 // How often it was refused one, and what became of those that it was granted, more.
+#[tactic(auto, unfolding(crate::specs::ReportLines::outcome_fields))]
 fn push_outcome(lines: &mut Vec<u8>, tally: Tally) -> Result<(), AllocError>
     ensures fields { OnOk result (lines.new.items ≡ lines.old.items ++ outcome_fields tally) }
 {
@@ -109,8 +112,8 @@ fn push_counts(lines: &mut Vec<u8>, ring: usize, counts: Counts) -> Result<(), A
     lines.extend_from_slice(b"}\n")
 }
 
-#[tactic(auto, unfolding(crate::specs::ReportLines::consumed_fields))]
 // A ring, and how many of its records were made and consumed, more.
+#[tactic(auto, unfolding(crate::specs::ReportLines::consumed_fields))]
 fn push_consumed(lines: &mut Vec<u8>, ring: usize, counts: Counts) -> Result<(), AllocError>
     ensures fields { OnOk result (lines.new.items ≡ lines.old.items ++ consumed_fields ring counts) }
 {
@@ -119,8 +122,8 @@ fn push_consumed(lines: &mut Vec<u8>, ring: usize, counts: Counts) -> Result<(),
     push_field(lines, b",\"consumed\":", counts.consumed)
 }
 
-#[tactic(auto, unfolding(crate::specs::ReportLines::other_fields))]
 // What became of the others more.
+#[tactic(auto, unfolding(crate::specs::ReportLines::other_fields))]
 fn push_others(lines: &mut Vec<u8>, counts: Counts) -> Result<(), AllocError>
     ensures fields { OnOk result (lines.new.items ≡ lines.old.items ++ other_fields counts) }
 {

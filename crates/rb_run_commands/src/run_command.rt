@@ -13,14 +13,14 @@ use crate::jobs_fault::JobsFault;
 use crate::report::lines_of_report;
 use crate::report_lines::text_of_unlogged;
 use crate::worker_jobs::{CONTEXT, contexts_of, jobs_of};
-use rb_history::{OpenFault as SetupFault, check_setup};
+use rb_history::{SetupFault, check_setup};
 use rb_io::write_whole;
 use rb_json::LineForm;
 use rb_loader::{Bounds, ProgramFault, read_program};
 use rb_shared_ring::OpenFault;
 use rb_verifier::Verified;
 use rb_workers::{
-    Gate, Job, JobFault, NullSink, Opened, Report, Sink, chapter_margin, chapter_room, run_jobs,
+    Gate, Job, JobFault, JobsReport, NullSink, Opened, Sink, chapter_margin, chapter_room, run_jobs,
 };
 use std::alloc::{AllocError, Global};
 use std::io::{Read, Write};
@@ -109,7 +109,7 @@ pub(crate) fn run_and_print<
     request: JobsRequest,
     sink: S,
     gate: &G,
-) -> Result<Report<S>, JobsFault>
+) -> Result<JobsReport<S>, JobsFault>
     requires one_ring { program.now.rings ≡ 1 }
     requires tasks { map task_of jobs.now ≡ tasks_of_workers program.now request.workers request.jobs }
     requires begins { S.position_of sink ≡ request.start }
@@ -142,7 +142,7 @@ fn run_program<T: Threads + Wait + Sync, S: Sink + Send + Drop, G: Gate + Sync>(
     request: JobsRequest,
     sink: S,
     gate: &G,
-) -> Result<Report<S>, JobsFault>
+) -> Result<JobsReport<S>, JobsFault>
     requires one_ring { program.now.rings ≡ 1 }
     requires tasks { map task_of jobs.now ≡ tasks_of_workers program.now request.workers request.jobs }
     requires begins { S.position_of sink ≡ request.start }
@@ -212,6 +212,5 @@ fn setup_fault(fault: SetupFault) -> JobsFault
         SetupFault::Size => JobsFault::Size,
         SetupFault::Start => JobsFault::Start,
         SetupFault::Workers => JobsFault::Workers,
-        SetupFault::Memory => JobsFault::Program(ProgramFault::Memory),
     }
 }

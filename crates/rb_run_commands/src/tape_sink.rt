@@ -1,8 +1,7 @@
 //! A sink that writes a tape.
 
 use rb_chapter_ring::Chapter;
-use rb_history::span;
-use rb_tape::{Event, Item, TapeWriter};
+use rb_tape::{Item, TapeWriter};
 use rb_workers::Sink;
 use std::io::Write;
 use std::marker::Model;
@@ -30,11 +29,8 @@ impl<W> Model for TapeSink<W> {
 }
 
 impl<W: Write> TapeSink<W> {
-    ghost use Rattle.std.specs.Prelude.{◌≡◌, ◌+◌, ◌<◌, ◌≤◌, ◌^◌, [], ◌∷◌, false};
-    ghost use Rattle.rb_history.specs.TapeBytes.{item_len, item_position, item_span};
+    ghost use Rattle.std.specs.Prelude.{◌≡◌, false};
     ghost use Rattle.rb_history.specs.RingModel.{IsRingSize, IsStartPosition};
-    ghost use Rattle.rb_tape.specs.Items.{item_of};
-    ghost use Rattle.rb_run_commands.specs.TapedRun.{WritesOn};
 
     /// A tape of a ring of `size` bytes, whose first record stands at `start`. Nothing is written yet.
     pub(crate) fn new(writer: W, size: u64, start: u64) -> TapeSink<W>
@@ -48,26 +44,6 @@ impl<W: Write> TapeSink<W> {
             position: start,
             failed: false,
         }
-    }
-
-    // Writes the record, unless the tape has ended. A record as long as the ring ends it too: no ring grants one.
-    fn write(&mut self, item: &Item<'_>, len: u32)
-        requires here { item_position (item_of item.now) ≡ self.old.position }
-        requires len { item_len (item_of item.now) ≡ len }
-        requires end { self.old.position + item_span (item_of item.now) ≤ 2 ^ 62 }
-        ensures moved { self.new.position ≡ self.old.position + item_span (item_of item.now) }
-        ensures wrote { WritesOn W.contents self.old (item_of item.now ∷ []) self.new }
-    {
-        let span = span(len);
-        self.position += span;
-        if self.failed {
-            return;
-        }
-        if span >= self.size {
-            self.failed = true;
-            return;
-        }
-        self.failed = self.tape.put(item).is_err();
     }
 
     /// Whether the tape ended with a record that did not go out whole.
@@ -96,18 +72,18 @@ impl<W: Write> Sink for TapeSink<W> {
         self.position
     }
 
-    fn event(&mut self, pos: u64, worker: u32, serial: u64, bytes: &[u8]) {
-        let item = Item::Event(Event {
-            pos,
-            worker,
-            serial,
-            bytes,
-        });
-        self.write(&item, bytes.len() as u32);
-    }
-
-    fn skipped(&mut self, pos: u64, n: u32) {
-        self.write(&Item::Skip(pos, n), n);
+    // A record as long as the ring ends the tape too: no ring grants one.
+    fn record(&mut self, item: &Item<'_>) {
+        let span = item.span();
+        self.position += span;
+        if self.failed {
+            return;
+        }
+        if span >= self.size {
+            self.failed = true;
+            return;
+        }
+        self.failed = self.tape.put(item).is_err();
     }
 
     fn chapter(&mut self, _chapter: &Chapter) {}

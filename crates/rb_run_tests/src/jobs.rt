@@ -66,7 +66,7 @@ fn job<'j>(program: &'j Verified, context: &'j [u8]) -> Job<'j>
     }
 }
 
-type Counts = Option<(u64, u64, u64, u64)>;
+type SeatCounts = Option<(u64, u64, u64, u64)>;
 
 // What worker 7 answers to a job with the program, and its seats after it with the counts of the first.
 fn ran<R: Wait>(
@@ -77,7 +77,7 @@ fn ran<R: Wait>(
     job: &Job<'_>,
     gate: &CallOrder,
     calls: &mut u64,
-) -> ((Result<JobAnswer, AllocError>, Counts), Vec<Seat>)
+) -> ((Result<JobAnswer, AllocError>, SeatCounts), Vec<Seat>)
     requires rings { job.now.program.now.rings ≤ length rings.now }
     requires seats { AtRings rings.now seats.items }
     ensures seats { AtRings rings.now result.1.items }
@@ -126,7 +126,10 @@ fn jobs_submit_42_and_come_to_the_gate_at_each_call(rt: HostRuntime) {
 
 // What a job at a ring tells: its answer, the seat's counts, the number of the next call, and what its gate tells: how often it was come to,
 // and whether by another call than its next.
-type Told = ((Result<JobAnswer, AllocError>, Counts), (u64, u64, bool));
+type Told = (
+    (Result<JobAnswer, AllocError>, SeatCounts),
+    (u64, u64, bool),
+);
 
 // What a job of worker 7 with the program and this context tells, whose first call has this number.
 fn told_by_job<R: Wait + Abort>(

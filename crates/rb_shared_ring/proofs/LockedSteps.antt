@@ -6,7 +6,7 @@ use Rattle.rb_ledger.specs.ChapteredRing.{chaptered_ring, IsChapteredRing}
 use Rattle.rb_chapter_ring.specs.Hands.{free_book}
 use Rattle.rb_chapter_ring.specs.HandRing.{HandRing, HasHands}
 use Rattle.rb_ledger.specs.HandKnowledge.{HandPassView, hand_view}
-use Rattle.rb_ledger.specs.HandLockRule.{KeepsHandLockRule}
+use Rattle.rb_ledger.specs.LockRule.{KeepsHandLockRule}
 use Rattle.rb_ledger.specs.HandLockSteps.{MayPutHands, PutsHandState, OpensHandState, unopened_hands}
 use Rattle.rb_ledger.proofs.HandLock.{puts, opens, away}
 

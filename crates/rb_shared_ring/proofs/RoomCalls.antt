@@ -21,10 +21,10 @@ use Rattle.rb_ledger.specs.Roles.{Book}
 use Rattle.rb_ledger.specs.Roles.Role.{Worker}
 use Rattle.rb_ledger.specs.LockedCalls.{LockedCall, Queries}
 use Rattle.rb_ledger.specs.LockedChapterCalls.{LockedChapterCall}
-use Rattle.rb_ledger.specs.inner.ChapterAnswers.{QueriesInChapter}
+use Rattle.rb_ledger.specs.inner.ChapterAnswers.{QueriesInChapter, EndsInChapter}
 use Rattle.rb_ledger.specs.EntryRoom.{InRoom}
 use Rattle.rb_ledger.specs.inner.ChapterRooms.{InRoomAt}
-use Rattle.rb_ledger.specs.inner.RecordEnds.{EndsInChapter, EndsAt}
+use Rattle.rb_ledger.specs.RecordEnds.{EndsAt}
 use Rattle.rb_ledger.proofs.WholeCalls.{said, due-same, ends-whole, queries-whole}
 use Rattle.rb_ledger.proofs.EntryRoom.{totals-are, grants-in-room, full-in-room, none-in-room, outputs-in-room, call-in-room}
 use Rattle.rb_shared_ring.specs.declared.audit.Audit.{Audit}

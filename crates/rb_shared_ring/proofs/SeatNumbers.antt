@@ -16,7 +16,7 @@ use Rattle.rb_chapter_ring.specs.declared.faults.ReserveFault.{ReserveFault}
 use Rattle.rb_chapter_ring.specs.declared.faults.ReserveFault.TheVariants.{Full, Flags, ChapterFull, Foreign, HandsFull}
 use Rattle.rb_chapter_ring.specs.RingFaults.{RefusesInChapter}
 use Rattle.rb_chapter_ring.specs.declared.record_end.RecordEnd.{RecordEnd}
-use Rattle.rb_chapter_ring.specs.inner.EndSteps.{tally_with_end}
+use Rattle.rb_chapter_ring.specs.RecordEnds.{tally_with_end}
 use Rattle.rb_shared_ring.specs.declared.audit.Audit.{Audit}
 use Rattle.rb_ledger.specs.Roles.{Role, Book, book_of}
 use Rattle.rb_ledger.specs.Roles.Role.{Worker}
@@ -25,8 +25,8 @@ use Rattle.rb_ledger.specs.LockedCalls.{LockedCall, Reserves, OutputsAt, Queries
 use Rattle.rb_ledger.proofs.Seated.{ring-book, ties-goes, reserve-ties, end-ties, output-ties, query-ties, serial-is}
 use Rattle.rb_ledger.specs.ChapteredRing.{ChapteredRing, chaptered_ring, whole_of}
 use Rattle.rb_ledger.specs.LockedChapterCalls.{LockedChapterCall, InOneChapter}
-use Rattle.rb_ledger.specs.inner.ChapterAnswers.{QueriesInChapter}
-use Rattle.rb_ledger.specs.inner.RecordEnds.{EndsInChapter, EndsAt}
+use Rattle.rb_ledger.specs.inner.ChapterAnswers.{QueriesInChapter, EndsInChapter}
+use Rattle.rb_ledger.specs.RecordEnds.{EndsAt}
 use Rattle.rb_chapter_ring.proofs.Chain.{binds-continue}
 use Rattle.rb_ledger.proofs.WholeCalls.{call-whole, with-worker, ends-whole, queries-whole}
 use Rattle.rb_ledger.proofs.EntryRoom.{totals-are}

@@ -4,15 +4,14 @@ use Rattle.rb_history.specs.declared.answers.Notice.{Notice}
 use Rattle.rb_chapter_ring.specs.ChapterCalls.{producer_by_chapter}
 use Rattle.rb_chapter_ring.specs.declared.faults.ReserveFault.{ReserveFault}
 use Rattle.rb_ledger.specs.Roles.Role.{Worker}
-use Rattle.rb_ledger.specs.inner.ChapterAnswers.{QueriesInChapter}
-use Rattle.rb_ledger.specs.inner.RecordEnds.{EndsInChapter, sent_by_end}
+use Rattle.rb_ledger.specs.inner.ChapterAnswers.{QueriesInChapter, EndsInChapter}
+use Rattle.rb_ledger.specs.RecordEnds.{sent_by_end}
 use Rattle.rb_chapter_ring.specs.Hands.{out_record, Hands, hands_of, with_hand, IsFree}
 use Rattle.rb_chapter_ring.specs.HandRing.{HandRing}
-use Rattle.rb_chapter_ring.specs.HandEnds.{EndsFromHand}
+use Rattle.rb_chapter_ring.specs.RecordEnds.{EndsFromHand, Ends}
 use Rattle.rb_chapter_ring.specs.HandGranted.{HandGranted}
 use Rattle.rb_chapter_ring.specs.declared.record_end.RecordEnd.{RecordEnd}
 use Rattle.rb_chapter_ring.specs.declared.record_end.RecordEnd.TheVariants.{Submit, Discard}
-use Rattle.rb_chapter_ring.specs.inner.RecordEnds.{Ends}
 use Rattle.rb_ledger.specs.HandKnowledge.{HandPassView, without_hands}
 use Rattle.rb_ledger.specs.HandLockSteps.{TakesHandState, MayPutHands, PutsHandState}
 use Rattle.rb_shared_ring.specs.declared.audit.Audit.{Audit}

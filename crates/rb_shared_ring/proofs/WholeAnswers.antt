@@ -6,7 +6,7 @@ use Rattle.rb_history.specs.declared.answers.Notice.TheVariants.{Due}
 use Rattle.rb_history.specs.NoticesAndQueries.{IsDue}
 use Rattle.rb_history.specs.declared.answers.Taken.{Taken}
 use Rattle.rb_history.specs.declared.answers.Taken.TheVariants.{Event, Skipped, BusyFront, Empty}
-use Rattle.rb_history.specs.declared.answers.ReserveFault.TheVariants.{Full as WholeFull, Memory, Flags as WholeFlags, Foreign as WholeForeign}
+use Rattle.rb_history.specs.declared.answers.NoGrant.TheVariants.{Full as WholeFull, Memory, Flags as WholeFlags}
 use Rattle.rb_history.specs.declared.tally.Tally.{Tally}
 use Rattle.rb_history.specs.ReservationModel.{Granted}
 use Rattle.rb_history.specs.RingModel.{Contents}
@@ -23,7 +23,7 @@ use Rattle.rb_chapter_ring.specs.RingFaults.{RefusesInChapter}
 use Rattle.rb_chapter_ring.specs.declared.record_end.RecordEnd.{RecordEnd}
 use Rattle.rb_chapter_ring.specs.declared.record_end.RecordEnd.TheVariants.{Submit, Discard}
 use Rattle.rb_ledger.specs.LockedCalls.{Reserves, OutputsAt, reserved_by, output_by, sent_by_output}
-use Rattle.rb_ledger.specs.inner.RecordEnds.{EndsInChapter}
+use Rattle.rb_ledger.specs.inner.ChapterAnswers.{EndsInChapter}
 use Rattle.rb_ledger.proofs.WholeCalls.{said, due-same}
 use Rattle.rb_shared_ring.specs.AnswersOverAll.{whole_fault, whole_answer}
 use Rattle.rb_shared_ring.specs.SharedCalls.{reserved_in_room_by, output_in_room_by, sent_by_output_in_room}
@@ -54,15 +54,15 @@ pub flags-not : (f : ReserveFault) → f ≢ Flags → whole_fault f ≢ WholeFl
 flags-not Full off e = let no_way : WholeFull ≡ WholeFlags = e in cc
 flags-not Flags off e = absurd (off refl)
 flags-not ChapterFull off e = let no_way : Memory ≡ WholeFlags = e in cc
-flags-not Foreign off e = let no_way : WholeForeign ≡ WholeFlags = e in cc
-flags-not HandsFull off e = let no_way : WholeForeign ≡ WholeFlags = e in cc
+flags-not Foreign off e = let no_way : Memory ≡ WholeFlags = e in cc
+flags-not HandsFull off e = let no_way : Memory ≡ WholeFlags = e in cc
 
 pub flags-exact : (f : ReserveFault) (X : Type 0) → (f ≡ Flags) ↔ X → (whole_fault f ≡ WholeFlags) ↔ X
 flags-exact Full X is = ((λ e. let no_way : WholeFull ≡ WholeFlags = e in cc), (λ x. let no_way : Full ≡ Flags = is.1 x in cc))
 flags-exact Flags X is = ((λ e. is.0 refl), (λ x. refl))
 flags-exact ChapterFull X is = ((λ e. let no_way : Memory ≡ WholeFlags = e in cc), (λ x. let no_way : ChapterFull ≡ Flags = is.1 x in cc))
-flags-exact Foreign X is = ((λ e. let no_way : WholeForeign ≡ WholeFlags = e in cc), (λ x. let no_way : Foreign ≡ Flags = is.1 x in cc))
-flags-exact HandsFull X is = ((λ e. let no_way : WholeForeign ≡ WholeFlags = e in cc), (λ x. let no_way : HandsFull ≡ Flags = is.1 x in cc))
+flags-exact Foreign X is = ((λ e. let no_way : Memory ≡ WholeFlags = e in cc), (λ x. let no_way : Foreign ≡ Flags = is.1 x in cc))
+flags-exact HandsFull X is = ((λ e. let no_way : Memory ≡ WholeFlags = e in cc), (λ x. let no_way : HandsFull ≡ Flags = is.1 x in cc))
 
 -- ---- the same chapter
 

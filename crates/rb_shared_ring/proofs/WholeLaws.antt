@@ -17,8 +17,8 @@ refuses-over-all : (room cut w n : ℕ) (f : ReserveFault) (old new : Ring) → 
 refuses-over-all room cut w n Full old new a = a.0
 refuses-over-all room cut w n Flags old new a = a
 refuses-over-all room cut w n ChapterFull old new a = a.same
-refuses-over-all room cut w n Foreign old new a = a
-refuses-over-all room cut w n HandsFull old new a = a
+refuses-over-all room cut w n Foreign old new a = absurd a
+refuses-over-all room cut w n HandsFull old new a = absurd a
 
 reserves-over-all : (room cut w n : ℕ) (a : Result Granted (ReserveFault × List ℕ)) (old new : Ring) → ReservesInRoom room cut w n a old new → Reserves w n (whole_answer a) old new
 reserves-over-all room cut w n (Ok r) old new a = (a.0, a.2, a.3)

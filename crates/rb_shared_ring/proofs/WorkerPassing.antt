@@ -21,9 +21,9 @@ use Rattle.rb_ledger.specs.ChapteredRing.{ChapteredRing, chaptered_ring, whole_o
 use Rattle.rb_ledger.specs.ChapterKnowledge.{ChapterPassView}
 use Rattle.rb_ledger.specs.ChapterLockSteps.{TakesChapterState, MayPutChapter, PutsChapterState}
 use Rattle.rb_ledger.specs.LockedChapterCalls.{LockedChapterCall}
-use Rattle.rb_ledger.specs.inner.ChapterAnswers.{QueriesInChapter}
+use Rattle.rb_ledger.specs.inner.ChapterAnswers.{QueriesInChapter, EndsInChapter}
 use Rattle.rb_ledger.specs.inner.ChapterRooms.{InRoomAt}
-use Rattle.rb_ledger.specs.inner.RecordEnds.{EndsInChapter, sent_by_end}
+use Rattle.rb_ledger.specs.RecordEnds.{sent_by_end}
 use Rattle.rb_chapter_ring.proofs.Chain.{binds-continue}
 use Rattle.rb_ledger.proofs.WholeCalls.{ends-whole, queries-whole}
 use Rattle.rb_shared_ring.specs.inner.SeatPasses.{seen_by, bytes_by, room_by, IsIdleIn}

@@ -1,8 +1,8 @@
 -- The calls on a shared ring, by their answers, are those of a ring that keeps its whole history (own).
 use Rattle.std.specs.Prelude.{ℕ, List, Result, Ok, Err}
 use Rattle.rb_history.specs.declared.answers.Notice.{Notice}
-use Rattle.rb_history.specs.declared.answers.ReserveFault.{ReserveFault as WholeFault}
-use Rattle.rb_history.specs.declared.answers.ReserveFault.TheVariants.{Full as WholeFull, Memory, Flags as WholeFlags, Foreign as WholeForeign}
+use Rattle.rb_history.specs.declared.answers.NoGrant.{NoGrant}
+use Rattle.rb_history.specs.declared.answers.NoGrant.TheVariants.{Full as WholeFull, Memory, Flags as WholeFlags}
 use Rattle.rb_history.specs.ReservationModel.{Granted}
 use Rattle.rb_chapter_ring.specs.declared.faults.ReserveFault.{ReserveFault}
 use Rattle.rb_chapter_ring.specs.declared.faults.ReserveFault.TheVariants.{Full, Flags, ChapterFull, Foreign, HandsFull}
@@ -12,15 +12,16 @@ use Rattle.rb_ledger.specs.LockedCalls.{LockedCall, Reserves, OutputsAt}
 use Rattle.rb_ledger.specs.EntryRoom.{InRoom}
 use Rattle.rb_shared_ring.specs.SharedCalls.{ReservesInRoom, OutputsInRoom}
 
--- to a ring that keeps its whole history want of room for entries is a refusal that is not logged and changes nothing, as want of memory is
-abbrev pub whole_fault : ReserveFault → WholeFault
+-- to a ring that keeps its whole history a refusal that is not logged and changes nothing is as want of memory is: want of room for entries, a foreign seat
+-- (its call is none of the ring) and want of a free hand
+abbrev pub whole_fault : ReserveFault → NoGrant
 whole_fault Full = WholeFull
 whole_fault Flags = WholeFlags
 whole_fault ChapterFull = Memory
-whole_fault Foreign = WholeForeign
-whole_fault HandsFull = WholeForeign
+whole_fault Foreign = Memory
+whole_fault HandsFull = Memory
 
-abbrev pub whole_answer : {A : Type 0} → Result A (ReserveFault × List ℕ) → Result A (WholeFault × List ℕ)
+abbrev pub whole_answer : {A : Type 0} → Result A (ReserveFault × List ℕ) → Result A (NoGrant × List ℕ)
 whole_answer (Ok a) = Ok a
 whole_answer (Err e) = Err (whole_fault e.0, e.1)
 

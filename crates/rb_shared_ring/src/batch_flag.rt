@@ -1,10 +1,8 @@
 //! What a ring's consumer tells its workers of a batch that it takes.
 
+use crate::wait_backoff::LONGEST;
 use crossbeam_utils::Backoff;
 use std::sync::atomic::{AtomicBool, Ordering};
-
-// How often a worker backs off at most while a batch is taken: some thirty microseconds. From the eighth time on a back-off yields the processor.
-const LONGEST: u32 = 88;
 
 /// Whether the consumer has the ring's state out for a batch of records. It has it for longer than a worker has, and for nothing else meanwhile, so a
 /// worker that finds the lock taken then looks at this often, and does not wait for long as it does where another worker has the state. It is a hint: who looks
@@ -27,7 +25,7 @@ impl BatchFlag {
         self.is_up.store(is_up, Ordering::SeqCst);
     }
 
-    /// Waits where a batch is taken, until it is over, but not for long. Answers whether one was taken.
+    /// Waits where a batch is taken, until it is over, for as long as a thread waits at most. Answers whether one was taken.
     pub(crate) fn wait_out(&self) -> bool {
         let backoff = Backoff::new();
         for count in 0..LONGEST {

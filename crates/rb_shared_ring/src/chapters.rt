@@ -16,7 +16,7 @@ use crate::consumer_seat::ConsumerSeat;
 use crate::lock::{Lock, RingPass};
 use crate::locked_calls::with_state;
 use crate::shared::{Foreign, SharedRing};
-use rb_chapter_ring::{Chapter, HandState};
+use rb_chapter_ring::{COUNT_LIMIT, Chapter, HandState};
 use std::sync::Wait;
 use thiserror::Error;
 
@@ -110,7 +110,7 @@ impl ConsumerSeat {
         empty.used() == 0
             && empty.room() == self.room
             && empty.opening().numbers().workers == self.workers
-            && self.chapters < 1 << 62
+            && self.chapters < COUNT_LIMIT
     }
 }
 

@@ -186,7 +186,7 @@ impl SharedRing {
     {
         if consumer.tag() != self.tag
             || !are_all_tagged(&seats, self.tag)
-            || !has_all(&seats, consumer.ring().workers)
+            || !has_all(&seats, consumer.numbers().workers)
         {
             return Err(NotAll {
                 ring: self,

@@ -86,7 +86,7 @@ impl ConsumerSeat {
 
     #[inline(always)]
     /// What its ring was opened with.
-    pub fn ring(&self) -> RingNumbers
+    pub fn numbers(&self) -> RingNumbers
         ensures size { result.size ≡ self.now.seen.setup.size }
         ensures workers { result.workers ≡ self.now.seen.setup.workers }
         ensures room { result.room ≡ self.now.room }

@@ -53,7 +53,7 @@ pub use closing::{Closing, NotAll};
 pub use consumer_seat::ConsumerSeat;
 pub use kept_reservations::reservations_are_kept;
 pub use opening::open;
-pub use rb_chapter_ring::{OpenFault, Reservation, ReserveFault};
+pub use rb_chapter_ring::{OpenFault, RecordEnd, Reservation, ReserveFault};
 pub use rb_ledger::BindFault;
 pub use ring_numbers::RingNumbers;
 pub use shared::{Foreign, SharedRing};

@@ -65,7 +65,7 @@ pub struct LockRule;
 impl Protocol<LockedState, PassKnowledge> for LockRule {
     ghost use Rattle.std.specs.Prelude.{[], Some};
     ghost use Rattle.rb_ledger.specs.HandKnowledge.{hand_view};
-    ghost use Rattle.rb_ledger.specs.HandLockRule.{KeepsHandLockRule};
+    ghost use Rattle.rb_ledger.specs.LockRule.{KeepsHandLockRule};
     ghost use Rattle.rb_ledger.specs.HandLockSteps.{unopened_hands};
 
     ghost holds = { KeepsHandLockRule };

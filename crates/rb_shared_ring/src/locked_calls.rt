@@ -6,9 +6,9 @@ ghost use Rattle.crossbeam_queue.specs.Passes.{view, IsPassOf, IsSamePass, ruled
 ghost use Rattle.rb_chapter_ring.specs.ChapterCalls.{producer_by_chapter};
 ghost use Rattle.rb_ledger.specs.Roles.Role.{Worker};
 ghost use Rattle.rb_ledger.specs.LockedChapterCalls.{LockedChapterCall};
-ghost use Rattle.rb_ledger.specs.inner.ChapterAnswers.{QueriesInChapter};
+ghost use Rattle.rb_ledger.specs.inner.ChapterAnswers.{QueriesInChapter, EndsInChapter};
 ghost use Rattle.rb_ledger.specs.inner.ChapterRooms.{InRoomAt};
-ghost use Rattle.rb_ledger.specs.inner.RecordEnds.{EndsInChapter, sent_by_end};
+ghost use Rattle.rb_ledger.specs.RecordEnds.{sent_by_end};
 ghost use Rattle.rb_chapter_ring.specs.Hands.{out_record, in_hand, IsFree};
 ghost use Rattle.rb_ledger.specs.NoStranger.{HoldsOwnBusy};
 ghost use Rattle.rb_shared_ring.specs.inner.HandPasses.{seen_with, bytes_with, room_with, hands_by, cut_by, IsIdleWith};

@@ -5,12 +5,12 @@ ghost use Rattle.std.specs.FinMap.{insert};
 ghost use Rattle.rb_chapter_ring.specs.declared.faults.ReserveFault.TheVariants.{Foreign as FaultForeign, HandsFull};
 ghost use Rattle.rb_history.specs.Calls.{producer_now};
 ghost use Rattle.rb_chapter_ring.specs.Hands.{AreAllOut, IsLowestFree};
-ghost use Rattle.rb_chapter_ring.specs.inner.EndSteps.{tally_with_end};
+ghost use Rattle.rb_chapter_ring.specs.RecordEnds.{tally_with_end};
 ghost use Rattle.rb_ledger.specs.Roles.Role.{Worker};
 ghost use Rattle.rb_ledger.specs.Seats.{IsSameSeat};
 ghost use Rattle.rb_ledger.specs.LockedCalls.{LockedCall, SubmitsAt, DiscardsAt, Queries, submitted_by, discarded_by};
 ghost use Rattle.rb_ledger.specs.EntryRoom.{InRoom};
-ghost use Rattle.rb_ledger.specs.inner.RecordEnds.{EndsAt, sent_by_end};
+ghost use Rattle.rb_ledger.specs.RecordEnds.{EndsAt, sent_by_end};
 ghost use Rattle.rb_shared_ring.specs.SharedCalls.{ReservesInRoom, OutputsInRoom, IsInSeatsHand, IsRefusedInRoomAs, granted_in, hands_after_reserve, reserved_in_room_by, output_in_room_by, sent_by_output_in_room};
 
 use crate::batch_flag::BatchFlag;
@@ -190,8 +190,8 @@ impl SharedRing {
     }
 
     #[inline(always)]
-    // The reservation's record comes to this end, and the seat's hand is free; or it is handed back, as `submit` has it.
-    fn settle<R: Wait>(
+    /// Ends the reservation's record as `submit` or as `discard`, and frees the seat's hand. It is handed back as in `submit`.
+    pub fn settle<R: Wait>(
         &self,
         rt: &R,
         seat: &mut Seat,

@@ -2,7 +2,7 @@
 
 ghost use Rattle.std.specs.Prelude.{◌≡◌, ◌<◌, ◌≤◌, ◌^◌};
 ghost use Rattle.rb_chapter_ring.specs.declared.faults.ReserveFault.TheVariants.{Full as FaultFull};
-ghost use Rattle.rb_chapter_ring.specs.inner.EndSteps.{tally_with_end};
+ghost use Rattle.rb_chapter_ring.specs.RecordEnds.{tally_with_end};
 ghost use Rattle.rb_shared_ring.specs.SharedCalls.{IsRefusedInRoomAs, granted_in, refused_in_room_by, reserved_in_room_by, output_in_room_by};
 
 use rb_chapter_ring::{RecordEnd, Reservation, ReserveFault};

@@ -8,8 +8,8 @@ use crossbeam_utils::Backoff;
 // times, 127 in all, and the other four yield the processor.
 const FIRST: u32 = 11;
 
-// The back-offs of the longest wait, after three doublings: 8 * FIRST.
-const LONGEST: u32 = 88;
+/// The back-offs of the longest wait, after three doublings: some thirty microseconds.
+pub(crate) const LONGEST: u32 = 8 * FIRST;
 
 /// How long a thread waits that finds nothing to do: a microsecond or two at first, and twice as long each time, up to some thirty.
 ///

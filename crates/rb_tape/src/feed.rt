@@ -5,7 +5,7 @@ ghost use Rattle.std.specs.Prelude.{◌≡◌, ◌≤◌, drop, length};
 use crate::fault::{TapeFault, TapeKind};
 use crate::front::{look, record_at_front};
 use crate::record::Record;
-use rb_history::{OpenFault, is_size, is_start, span};
+use rb_history::{SetupFault, is_size, is_start, span};
 use std::alloc::Global;
 use std::marker::Model;
 
@@ -51,26 +51,25 @@ impl Feed {
     ghost use Rattle.std.specs.Prelude.{◌≡◌, ◌≢◌, ◌↔◌, [], IsErrOf, IfOk, OnOk, Err};
     ghost use Rattle.std.specs.Borrow.{sem};
     ghost use Rattle.std.specs.Io.BufRead.{Rests};
-    ghost use Rattle.rb_history.specs.declared.answers.OpenFault.TheVariants as OpenFault;
+    ghost use Rattle.rb_history.specs.declared.bounds.SetupFault.TheVariants as SetupFault;
     ghost use Rattle.rb_history.specs.RingModel.{IsRingSize, IsStartPosition};
     ghost use Rattle.rb_tape.specs.TapeReading.{reading_from, AddsPiece, ReadsSoFar, EndsInput};
     ghost use Rattle.rb_tape.specs.contracts.feed.Feed.{the_row};
 
-    /// A reader of what will be fed, as the tape of a ring of `size` bytes whose first record stands at `start`; or `OpenFault`'s `Size` or
+    /// A reader of what will be fed, as the tape of a ring of `size` bytes whose first record stands at `start`; or `SetupFault`'s `Size` or
     /// `Start` where no ring has these numbers. It takes no memory yet. In constant time.
-    pub fn new(alloc: Global, size: u64, start: u64) -> Result<Feed, OpenFault>
+    pub fn new(alloc: Global, size: u64, start: u64) -> Result<Feed, SetupFault>
         ensures opened { IfOk result (λ f. f ≡ reading_from size start []) }
-        ensures size { IsErrOf result OpenFault.Size ↔ ¬ IsRingSize size }
-        ensures start { IsErrOf result OpenFault.Start ↔ (IsRingSize size × ¬ IsStartPosition start) }
+        ensures size { IsErrOf result SetupFault.Size ↔ ¬ IsRingSize size }
+        ensures start { IsErrOf result SetupFault.Start ↔ (IsRingSize size × ¬ IsStartPosition start) }
         ensures allowed { OnOk result (IsRingSize size × IsStartPosition start) }
-        ensures workers { result ≢ Err OpenFault.Workers }
-        ensures memory { result ≢ Err OpenFault.Memory }
+        ensures workers { result ≢ Err SetupFault.Workers }
     {
         if !is_size(size) {
-            return Err(OpenFault::Size);
+            return Err(SetupFault::Size);
         }
         if !is_start(start) {
-            return Err(OpenFault::Start);
+            return Err(SetupFault::Start);
         }
         Ok(Feed {
             bytes: Vec::new(alloc),

@@ -1,9 +1,11 @@
 //! A record that was taken.
 
 ghost use Rattle.std.specs.Prelude.{◌≡◌, ◌<◌, ◌^◌};
-ghost use Rattle.rb_history.specs.TapeBytes.{item_len, item_position};
+ghost use Rattle.rb_history.specs.TapeBytes.{item_len, item_position, item_span};
 ghost use Rattle.rb_tape.specs.Items.{item_of};
 ghost use Rattle.rb_tape.specs.inner.RecordParts.{bytes_before_zeros};
+
+use rb_history::span;
 
 /// A submitted record that was taken, with its bytes.
 #[derive(Clone, Copy, Debug, PartialEq, Eq)]
@@ -40,13 +42,21 @@ impl Item<'_> {
 
     // How many bytes the record has.
     pub(crate) fn len(&self) -> u32
-        requires { item_len (item_of self.now) < 2 ^ 30 }
+        requires { item_len (item_of self.now) < 2 ^ 32 }
         ensures { result ≡ item_len (item_of self.now) }
     {
         match self {
             Item::Event(event) => event.bytes.len() as u32,
             Item::Skip(_, n) => *n,
         }
+    }
+
+    /// How far the record moves the positions of a ring and of its tape, in bytes.
+    pub fn span(&self) -> u64
+        requires len { item_len (item_of self.now) < 2 ^ 32 }
+        ensures value { result ≡ item_span (item_of self.now) }
+    {
+        span(self.len())
     }
 
     // The bytes that stand behind the record's header before zeros do: none of a discarded record.

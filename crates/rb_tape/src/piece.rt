@@ -28,8 +28,8 @@ fn header_of_item(size: u64, item: &Item<'_>) -> [u8; 8]
     .to_bytes()
 }
 
-// Writes the record's header from its byte `at` on, and returns how many bytes went out.
 #[inline(always)]
+// Writes the record's header from its byte `at` on, and returns how many bytes went out.
 fn write_header<W: Write>(writer: &mut W, size: u64, item: &Item<'_>, at: u64) -> usize
     requires size { IsRingSize size }
     requires stands { IsItemAt size (item_position (item_of item.now)) (item_of item.now) }
@@ -41,8 +41,8 @@ fn write_header<W: Write>(writer: &mut W, size: u64, item: &Item<'_>, at: u64) -
     write_out(writer, &header[at as usize..])
 }
 
-// Writes the bytes that stand behind the header before zeros do, from the record's byte `at` on, and returns how many went out.
 #[inline(always)]
+// Writes the bytes that stand behind the header before zeros do, from the record's byte `at` on, and returns how many went out.
 fn write_payload<W: Write>(writer: &mut W, size: u64, item: &Item<'_>, at: u64) -> usize
     requires stands { IsItemAt size (item_position (item_of item.now)) (item_of item.now) }
     requires behind { 8 ≤ at }
@@ -77,8 +77,8 @@ fn write_zeros<W: Write>(writer: &mut W, size: u64, item: &Item<'_>, at: u64) ->
     sent
 }
 
-// Writes what stands behind the record's header from its byte `from` on, as `write_from` does.
 #[inline(always)]
+// Writes what stands behind the record's header from its byte `from` on, as `write_from` does.
 fn write_behind_header<W: Write>(writer: &mut W, size: u64, item: &Item<'_>, from: u64) -> u64
     requires stands { IsItemAt size (item_position (item_of item.now)) (item_of item.now) }
     requires behind { 8 ≤ from }

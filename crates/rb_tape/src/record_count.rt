@@ -1,13 +1,13 @@
 //! A whole run over a tape.
 
 ghost use Rattle.std.specs.Prelude.{◌↔◌, IfOk, IsErrOf, OnOk, ◌≢◌, Err};
-ghost use Rattle.rb_history.specs.declared.answers.OpenFault.TheVariants as OpenFault;
+ghost use Rattle.rb_history.specs.declared.bounds.SetupFault.TheVariants as SetupFault;
 ghost use Rattle.rb_history.specs.RingModel.{IsRingSize, IsStartPosition};
 ghost use Rattle.rb_tape.specs.LongestTape.{IsReadThrough};
 
 use crate::fault::TapeFault;
 use crate::tape::Tape;
-use rb_history::OpenFault;
+use rb_history::SetupFault;
 
 /// How many records a tape has, and what is wrong behind them, `None` where nothing is: so whether bytes are a whole tape. Refusals are
 /// those of `Tape::new`. It takes no memory, and time linear in the bytes.
@@ -15,12 +15,11 @@ pub fn count_records(
     bytes: &[u8],
     size: u64,
     start: u64,
-) -> Result<(usize, Option<TapeFault>), OpenFault>
+) -> Result<(usize, Option<TapeFault>), SetupFault>
     ensures counted { IfOk result (λ r. IsReadThrough size start bytes.now r.0 r.1) }
-    ensures size { IsErrOf result OpenFault.Size ↔ ¬ IsRingSize size }
-    ensures start { IsErrOf result OpenFault.Start ↔ (IsRingSize size × ¬ IsStartPosition start) }
-    ensures workers { result ≢ Err OpenFault.Workers }
-    ensures memory { result ≢ Err OpenFault.Memory }
+    ensures size { IsErrOf result SetupFault.Size ↔ ¬ IsRingSize size }
+    ensures start { IsErrOf result SetupFault.Start ↔ (IsRingSize size × ¬ IsStartPosition start) }
+    ensures workers { result ≢ Err SetupFault.Workers }
 {
     let mut tape = Tape::new(bytes, size, start)?;
     let mut count = 0;

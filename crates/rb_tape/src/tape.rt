@@ -3,7 +3,7 @@
 use crate::fault::{TapeFault, TapeKind};
 use crate::front::{look, record_at_front};
 use crate::record::Record;
-use rb_history::{OpenFault, is_size, is_start, span};
+use rb_history::{SetupFault, is_size, is_start, span};
 use std::marker::Model;
 
 /// Reads the records of a tape in order, and then what is wrong behind them; after a fault it gives `None`. It takes no memory, and the
@@ -30,25 +30,24 @@ impl<'a> Model for Tape<'a> {
 
 impl<'a> Tape<'a> {
     ghost use Rattle.std.specs.Prelude.{◌≡◌, ◌≢◌, ◌↔◌, IsErrOf, IfOk, OnOk, Err};
-    ghost use Rattle.rb_history.specs.declared.answers.OpenFault.TheVariants as OpenFault;
+    ghost use Rattle.rb_history.specs.declared.bounds.SetupFault.TheVariants as SetupFault;
     ghost use Rattle.rb_history.specs.RingModel.{IsRingSize, IsStartPosition};
     ghost use Rattle.rb_tape.specs.TapeReading.{reading_from};
 
-    /// A reader of these bytes, as the tape of a ring of `size` bytes whose first record stands at `start`; or `OpenFault`'s `Size` or
+    /// A reader of these bytes, as the tape of a ring of `size` bytes whose first record stands at `start`; or `SetupFault`'s `Size` or
     /// `Start` where no ring has these numbers. In constant time.
-    pub fn new(bytes: &'a [u8], size: u64, start: u64) -> Result<Tape<'a>, OpenFault>
+    pub fn new(bytes: &'a [u8], size: u64, start: u64) -> Result<Tape<'a>, SetupFault>
         ensures opened { IfOk result (λ t. t ≡ reading_from size start bytes.now) }
-        ensures size { IsErrOf result OpenFault.Size ↔ ¬ IsRingSize size }
-        ensures start { IsErrOf result OpenFault.Start ↔ (IsRingSize size × ¬ IsStartPosition start) }
+        ensures size { IsErrOf result SetupFault.Size ↔ ¬ IsRingSize size }
+        ensures start { IsErrOf result SetupFault.Start ↔ (IsRingSize size × ¬ IsStartPosition start) }
         ensures allowed { OnOk result (IsRingSize size × IsStartPosition start) }
-        ensures workers { result ≢ Err OpenFault.Workers }
-        ensures memory { result ≢ Err OpenFault.Memory }
+        ensures workers { result ≢ Err SetupFault.Workers }
     {
         if !is_size(size) {
-            return Err(OpenFault::Size);
+            return Err(SetupFault::Size);
         }
         if !is_start(start) {
-            return Err(OpenFault::Start);
+            return Err(SetupFault::Start);
         }
         Ok(Tape {
             rest: bytes,

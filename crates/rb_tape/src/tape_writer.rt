@@ -126,8 +126,8 @@ impl<W: Write> TapeWriter<W> {
         self.write_on(item, self.sent)
     }
 
-    // Writes the record from its byte `from` on.
     #[inline(always)]
+    // Writes the record from its byte `from` on.
     fn write_on(&mut self, item: &Item<'_>, from: u64) -> Result<(), DeviceFault>
         requires stands { IsItemAt self.old.size self.old.position (item_of item.now) }
         requires from { from < item_span (item_of item.now) }

@@ -9,7 +9,7 @@ ghost use Rattle.rb_tape_commands.specs.TapeText.{TapeAnswer};
 use crate::lines::Lines;
 use crate::tape_lines::gather_lines;
 use crate::tape_refusal::TapeRefusal;
-use rb_history::OpenFault;
+use rb_history::SetupFault;
 use rb_io::{Outgoing, write_out};
 use rb_json::LineForm;
 use rb_tape::Feed;
@@ -41,10 +41,9 @@ pub fn tape<R: Read, W: Outgoing>(
 {
     let mut feed = match Feed::new(alloc, size, start) {
         Ok(feed) => feed,
-        Err(OpenFault::Size) => return Err(TapeRefusal::Size),
-        Err(OpenFault::Start) => return Err(TapeRefusal::Start),
-        Err(OpenFault::Workers) => unreachable!(),
-        Err(OpenFault::Memory) => unreachable!(),
+        Err(SetupFault::Size) => return Err(TapeRefusal::Size),
+        Err(SetupFault::Start) => return Err(TapeRefusal::Start),
+        Err(SetupFault::Workers) => unreachable!(),
     };
     let mut lines = Lines::new(alloc);
     let printed = print_pieces(alloc, &mut feed, input, out, &mut lines, form);

@@ -11,7 +11,7 @@ mod plan;
 mod runs;
 
 use crate::fault::TrialFault;
-use plan::Plan;
+use plan::OrdersPlan;
 use std::alloc::Global;
 use std::io::{BufWriter, Write};
 
@@ -21,11 +21,11 @@ pub(crate) fn run<W: Write>(
     words: &[String],
     out: &mut W,
 ) -> Result<(), TrialFault> {
-    let plan = Plan::read(alloc, words)?;
+    let plan = OrdersPlan::read(alloc, words)?;
     write_lines(alloc, &plan, out)
 }
 
-fn write_lines<W: Write>(alloc: Global, plan: &Plan, out: &mut W) -> Result<(), TrialFault> {
+fn write_lines<W: Write>(alloc: Global, plan: &OrdersPlan, out: &mut W) -> Result<(), TrialFault> {
     let mut out = BufWriter::new(alloc, out)?;
     runs::run_orders(alloc, plan, &mut out)?;
     out.flush()?;

@@ -15,13 +15,13 @@ mod sums;
 mod worker;
 
 use crate::fault::TrialFault;
-use plan::Plan;
+use plan::SoakPlan;
 use ring_round::round;
 use std::alloc::Global;
 use std::io::{Eprint, Print};
 use std::sync::Wait;
 use std::thread::{Threads, map_indices};
-use sums::Sums;
+use sums::SoakSums;
 
 /// Runs all rings of a plan side by side, and prints what came of them.
 pub(crate) fn run<R: Threads + Wait + Sync + Print + Eprint>(
@@ -46,17 +46,19 @@ fn sums_of<R: Threads + Wait + Sync>(
     rt: &R,
     alloc: Global,
     words: &[String],
-) -> Result<Sums, TrialFault> {
-    let plan = Plan::read(words)?;
-    let work = move |tag: usize| -> Result<Sums, TrialFault> { round(rt, alloc, plan, tag as u64) };
+) -> Result<SoakSums, TrialFault> {
+    let plan = SoakPlan::read(words)?;
+    let work = move |tag: usize| -> Result<SoakSums, TrialFault> {
+        round(rt, alloc, plan, tag as u64)
+    };
     let Ok(rounds) = map_indices(rt, alloc, plan.rings, &work) else {
         return Err(TrialFault::Memory);
     };
     sum_of(rounds.as_slice())
 }
 
-fn sum_of(rounds: &[Result<Sums, TrialFault>]) -> Result<Sums, TrialFault> {
-    let mut sums = Sums::none();
+fn sum_of(rounds: &[Result<SoakSums, TrialFault>]) -> Result<SoakSums, TrialFault> {
+    let mut sums = SoakSums::none();
     for one in rounds {
         match one {
             Ok(ring) => sums.add(ring),
@@ -67,8 +69,8 @@ fn sum_of(rounds: &[Result<Sums, TrialFault>]) -> Result<Sums, TrialFault> {
 }
 
 // Prints what was counted, which depends on the schedule.
-fn tell<R: Eprint>(rt: &R, sums: &Sums) {
-    let Sums {
+fn tell<R: Eprint>(rt: &R, sums: &SoakSums) {
+    let SoakSums {
         made,
         refused,
         submitted,

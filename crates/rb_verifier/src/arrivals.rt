@@ -19,8 +19,8 @@ pub(crate) enum Arrival {
     Differ,
 }
 
-/// One more state is noted, beside the least above those that arrived. It stands apart from the common case, the first arrival.
 #[inline(never)]
+/// One more state is noted, beside the least above those that arrived. It stands apart from the common case, the first arrival.
 fn joined(least: &AbsState, state: AbsState) -> Result<Arrival, AllocError>
     ensures { IfOk result (IsMerged (Arrival.Least least.now) state) }
 {
@@ -31,8 +31,8 @@ fn joined(least: &AbsState, state: AbsState) -> Result<Arrival, AllocError>
     }
 }
 
-/// Notes a state at the unit to which it flows, where there is one.
 #[inline(always)]
+/// Notes a state at the unit to which it flows, where there is one.
 pub(crate) fn flow(
     arrivals: &mut Vec<Arrival>,
     target: Option<u32>,
@@ -55,9 +55,9 @@ pub(crate) fn flow(
     Ok(())
 }
 
+#[inline(always)]
 /// Notes the state along a jump's edge at the unit to which it leads, where there is one: the one that is given, else a copy of
 /// the state along the other edge.
-#[inline(always)]
 pub(crate) fn flow_jump(
     arrivals: &mut Vec<Arrival>,
     target: Option<u32>,
@@ -74,8 +74,8 @@ pub(crate) fn flow_jump(
     }
 }
 
-/// Takes out what was noted at a unit.
 #[inline(always)]
+/// Takes out what was noted at a unit.
 pub(crate) fn take(arrivals: &mut Vec<Arrival>, unit: u32) -> Arrival
     requires { unit < vec_len arrivals.old }
     ensures noted { result ≡ noted_at arrivals.old.items unit }

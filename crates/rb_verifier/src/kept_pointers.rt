@@ -18,8 +18,8 @@ use crate::value_checks::{check_number, check_readable};
 /// The length of the stack in bytes.
 const STACK_LEN: i64 = 512;
 
-/// The offset `by` behind another, where so many bytes from there on lie on the stack.
 #[tactic(auto, using(crate::proofs::Numbers::on_stack))]
+/// The offset `by` behind another, where so many bytes from there on lie on the stack.
 fn offset_behind(offset: i64, by: i64, len: u64) -> i64
     requires { contains_range stack_extent (offset +ℤ by) len ≡ true }
     ensures { result ≡ offset +ℤ by }
@@ -28,8 +28,8 @@ fn offset_behind(offset: i64, by: i64, len: u64) -> i64
     offset + by
 }
 
-/// The byte of the stack that an offset names, counted from the stack's first, where so many bytes from there on lie on it.
 #[tactic(auto, using(crate::proofs::Numbers::on_stack, crate::proofs::Numbers::byte_on_stack))]
+/// The byte of the stack that an offset names, counted from the stack's first, where so many bytes from there on lie on it.
 fn stack_byte(offset: i64, len: u64) -> u64
     requires { contains_range stack_extent offset len ≡ true }
     ensures byte { stack_byte offset ≡ Some result }
@@ -103,8 +103,8 @@ fn keep_at(place: Option<u64>, value: Abs, places: &mut Places) -> Result<(), St
     }
 }
 
-/// What a store of `len` bytes of a value leaves of the places, to a byte of the stack or to another part.
 #[tactic(auto, using(crate::proofs::Numbers::whole_inside))]
+/// What a store of `len` bytes of a value leaves of the places, to a byte of the stack or to another part.
 pub(crate) fn store_to(
     byte: Option<u64>,
     len: u64,

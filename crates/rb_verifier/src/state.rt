@@ -66,8 +66,8 @@ impl AbsState {
         self.values[usize::from(register.number)]
     }
 
-    /// A register gets a value.
     #[inline(always)]
+    /// A register gets a value.
     pub(crate) fn put(&mut self, register: Reg, value: Abs)
         ensures { self.new ≡ put self.old register.number value }
     {

@@ -14,8 +14,8 @@ use rb_insn::Insn;
 use rb_program::{Shape, jump_target, next_unit};
 use std::alloc::Global;
 
-/// Keeps a copy of a state, which is put together where it is kept.
 #[inline(always)]
+/// Keeps a copy of a state, which is put together where it is kept.
 fn keep(states: &mut Vec<AbsState>, state: &AbsState) -> Result<(), Refusal>
     ensures pushed { OnOk result (states.new.items ≡ states.old.items ++ state.now ∷ []) }
     ensures memory { IfErr result (λ refusal. refusal ≡ Refusal.Memory) }

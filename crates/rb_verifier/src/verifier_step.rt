@@ -171,8 +171,8 @@ fn check_exit(state: &mut AbsState) -> Result<Option<AbsState>, Rule>
     Ok(None)
 }
 
-/// One abstract step of an arithmetic instruction.
 #[tactic(auto, unfolding(crate::specs::VerifierChecks::abstract_step))]
+/// One abstract step of an arithmetic instruction.
 fn step_arithmetic(insn: &Insn, state: &mut AbsState) -> Result<Option<AbsState>, Rule>
     requires { IsArithmetic insn.now }
     ensures effect { (limits : Limits) (unit : ℕ) → effect_left result state.new ≡ abstract_step limits unit insn.now state.old }
@@ -208,8 +208,8 @@ fn step_arithmetic(insn: &Insn, state: &mut AbsState) -> Result<Option<AbsState>
     }
 }
 
-/// One abstract step of a load or a store.
 #[tactic(auto, unfolding(crate::specs::VerifierChecks::abstract_step))]
+/// One abstract step of a load or a store.
 fn step_load_or_store(
     limits: Limits,
     insn: &Insn,

@@ -19,7 +19,7 @@ use Rattle.rb_jobs.specs.declared.job.Job.{Job}
 use Rattle.rb_jobs.specs.declared.job.JobAnswer.{JobAnswer}
 use Rattle.rb_workers.specs.declared.opened.Opened.{Opened}
 use Rattle.rb_workers.specs.declared.opened.Ended.{Ended}
-use Rattle.rb_workers.specs.declared.opened.Report.{Report}
+use Rattle.rb_workers.specs.declared.opened.JobsReport.{JobsReport}
 use Rattle.rb_workers.specs.declared.workers.Worker.{Worker}
 use Rattle.rb_workers.specs.inner.RingEnds.{Closes}
 use Rattle.rb_workers.specs.JobRuns.{JobRun, own_jobs, is_stray}
@@ -157,7 +157,7 @@ each_told count jobs answers old new workers len ran merged k below =
 
 -- ---- the whole
 
-pub reported : {S : Type 0} (position : S → ℕ) (takes : S → SinkItem → S → Type 0) (opened back : List (Opened S)) (jobs : List Job) (answers : List JobAnswer) (report : Report S) → AreOpened position opened → IsHandedBack position takes opened jobs back
+pub reported : {S : Type 0} (position : S → ℕ) (takes : S → SinkItem → S → Type 0) (opened back : List (Opened S)) (jobs : List Job) (answers : List JobAnswer) (report : JobsReport S) → AreOpened position opened → IsHandedBack position takes opened jobs back
     → length answers ≡ length jobs → All (λ j. j.worker < workers_of opened) jobs
     → ((k : ℕ) → k < workers_of opened → RunsJobs (own_jobs k jobs) (own_answers k jobs answers) (worker_column k (seat_rows opened)) (worker_column k (seat_rows back)))
     → AllZip Closes back report.rings.items → report.answers.items ≡ map (λ a. a.result) answers → report.strays ≡ 0 → report.unlogged ≡ sum_by (λ a. a.unlogged) answers

@@ -20,7 +20,7 @@ use Rattle.rb_jobs.specs.SeatHelpers.{made_in, submitted_in, discarded_in}
 use Rattle.rb_jobs.specs.declared.job.Job.{Job}
 use Rattle.rb_workers.specs.declared.opened.Opened.{Opened}
 use Rattle.rb_workers.specs.declared.opened.Ended.{Ended}
-use Rattle.rb_workers.specs.declared.opened.Report.{Report}
+use Rattle.rb_workers.specs.declared.opened.JobsReport.{JobsReport}
 use Rattle.rb_workers.specs.Opened.{AreOpened, IsOpened, workers_of}
 use Rattle.rb_workers.specs.Reports.{IsReport, RingsEnd, ring_at_end}
 use Rattle.rb_workers.specs.SeatRows.{worker_column, seat_rows}
@@ -150,11 +150,11 @@ rows_at_end position takes count (o ∷ os) (e ∷ es) (row ∷ more) each ends 
     All-cons (λ (row : List WorkerSeat). length row ≡ count) row more (same ∙ here) (rows_at_end position takes count os es more (All-tail (IsOpened position count) o os each) ends.1)
 
 -- no run ended with a stray record
-pub no_strays : {S : Type 0} (position : S → ℕ) (takes : S → SinkItem → S → Type 0) (opened : List (Opened S)) (jobs : List Job) (report : Report S) → IsReport position takes opened jobs report → report.strays ≡ 0
+pub no_strays : {S : Type 0} (position : S → ℕ) (takes : S → SinkItem → S → Type 0) (opened : List (Opened S)) (jobs : List Job) (report : JobsReport S) → IsReport position takes opened jobs report → report.strays ≡ 0
 no_strays position takes opened jobs report told = told.strays_are ∙ ap (count_by is_stray) told.answers_are ∙ none_strays told.runs told.runs_match
 
 -- where each worker's seats were settled before, each ring ends settled
-pub all_settled : {S : Type 0} (position : S → ℕ) (takes : S → SinkItem → S → Type 0) (opened : List (Opened S)) (jobs : List Job) (report : Report S) → AreOpened position opened → IsReport position takes opened jobs report
+pub all_settled : {S : Type 0} (position : S → ℕ) (takes : S → SinkItem → S → Type 0) (opened : List (Opened S)) (jobs : List Job) (report : JobsReport S) → AreOpened position opened → IsReport position takes opened jobs report
     → EachSettled (workers_of opened) (seat_rows opened) → All EndsSettled report.rings.items
 all_settled position takes opened jobs report each told settled =
     let count = workers_of opened in

@@ -32,7 +32,7 @@ use Rattle.rb_consumer.specs.Keepers.{KeeperValue}
 use Rattle.rb_history.specs.RoomRule.{Setup}
 use Rattle.rb_workers.specs.Opened.{IsKeeperFor}
 use Rattle.rb_workers.specs.Sink.{SinkItem, GetsTaken, IsRecordIn, TakesAll, sink_position, sink_chapter, positions_among, chapters_among, takes_in, take_of}
-use Rattle.rb_workers.specs.Sink.SinkItem.{Event, Skip, Chapter}
+use Rattle.rb_workers.specs.Sink.SinkItem.{Record, Chapter}
 use Rattle.rb_workers.specs.inner.ConsumerTasks.{Consumed, HasGiven, IsBefore, IsSameConsumer, items_among}
 
 -- ---- a longer history
@@ -45,9 +45,11 @@ discarded_on h more p is = list_any-append (is_discard p) h more ∙ ap (λ b. b
 
 -- a record of a history is one of each longer history, where the bytes there are the same
 record_on : (h more : List Entry) (got now : Contents) (at : ℕ) (item : SinkItem) → IsBefore at item → ((p : ℕ) → p < at → get now p ≡ get got p) → IsRecordIn h got item → IsRecordIn (h ++ more) now item
-record_on h more got now at (Event p w k bytes) before same is = (Contains-append_left h more (Res w k (length bytes) p) is.0, submitted_on h more p is.1, same p before ∙ is.2)
+record_on h more got now at (Record (TakenEvent p w k bytes)) before same is = (Contains-append_left h more (Res w k (length bytes) p) is.0, submitted_on h more p is.1, same p before ∙ is.2)
+record_on h more got now at (Record BusyFront) before same is = absurd is
+record_on h more got now at (Record Empty) before same is = absurd is
 record_on h more got now at (Chapter c) before same is = tt
-record_on h more got now at (Skip p n) before same is = ((is.0.0, (is.0.1.0, Contains-append_left h more (Res is.0.0 is.0.1.0 n p) is.0.1.1)), discarded_on h more p is.1)
+record_on h more got now at (Record (Skipped p n)) before same is = ((is.0.0, (is.0.1.0, Contains-append_left h more (Res is.0.0 is.0.1.0 n p) is.0.1.1)), discarded_on h more p is.1)
 
 -- entries that are not the consumer's take nothing
 none_taken : (before behind : List Entry) → NoneOwn Consumer before behind → takes_in behind ≡ []
@@ -91,8 +93,10 @@ records_on h more now got kept at (item ∷ items) is below keeps records =
 
 -- what stands before a position stands before each later one
 before_later : (at end : ℕ) → at ≤ end → (item : SinkItem) → IsBefore at item → IsBefore end item
-before_later at end later (Event p w k bytes) before = omega (arith, later, before)
-before_later at end later (Skip p n) before = omega (arith, later, before)
+before_later at end later (Record (TakenEvent p w k bytes)) before = omega (arith, later, before)
+before_later at end later (Record (Skipped p n)) before = omega (arith, later, before)
+before_later at end later (Record BusyFront) before = tt
+before_later at end later (Record Empty) before = tt
 before_later at end later (Chapter c) before = tt
 
 -- what was given, and then more
@@ -172,7 +176,7 @@ given_by : {S : Type 0} (takes : S → SinkItem → S → Type 0) (t : Taken) (o
 given_by takes (TakenEvent p w k bytes) old new point left x y goes taken found seen place position got chapters given =
     let now : new.seen.history ≡ point.history ++ Take p ∷ [] = ap (λ (b : Book). b.history) seen ∙ taken.logged.history_is in
     let moved : old.position < new.position = omega (arith, position, wide (length bytes)) in
-    let item = Event p w k bytes in
+    let item = Record (TakenEvent p w k bytes) in
     let submitted = waiting_submitted (is_submitted_at point.history p) (is_discarded_at point.history p) (is_taken_at point.history p) taken.waiting in
     record {
       gets = record {
@@ -194,7 +198,7 @@ given_by takes (TakenEvent p w k bytes) old new point left x y goes taken found 
 given_by takes (Skipped p n) old new point left x y goes taken found seen place position got chapters given =
     let now : new.seen.history ≡ point.history ++ Take p ∷ [] = ap (λ (b : Book). b.history) seen ∙ taken.logged.history_is in
     let moved : old.position < new.position = omega (arith, position, wide n) in
-    let item = Skip p n in
+    let item = Record (Skipped p n) in
     let discarded = status_discarded (is_submitted_at point.history p) (is_discarded_at point.history p) (is_taken_at point.history p) taken.discarded in
     let granted = taken.granted_is in
     record {
@@ -229,13 +233,6 @@ nothing_behind r = record { setup_same = refl; behind = []; history_is = sym (ap
 each_begins : (old new : Ring) (ts : List Taken) → TakesEach old ts new → BeginsWith (book_of new) (book_of old)
 each_begins old new ts each = logged_begins old new (takes_of ts) (logs-each old new ts each)
 
--- the sink took the items of the first answer, and then those of the others
-split_first : {S : Type 0} (takes : S → SinkItem → S → Type 0) (t : Taken) (ts : List Taken) (x z : S) → HasRecord t → TakesAll takes x (items_among (t ∷ ts)) z → (mid : S) × TakesAll takes x (items_among (t ∷ [])) mid × TakesAll takes mid (items_among ts) z
-split_first takes (TakenEvent p w k bytes) ts x z found given = (given.0, (given.0, given.1, refl), given.2)
-split_first takes (Skipped p n) ts x z found given = (given.0, (given.0, given.1, refl), given.2)
-split_first takes BusyFront ts x z found given = absurd found
-split_first takes Empty ts x z found given = absurd found
-
 each_given : {S : Type 0} (takes : S → SinkItem → S → Type 0) (ts : List Taken) (old new : ChapterConsumerSeat) (point left : Ring) (x y : S) → ExtendsSeen Consumer old.seen (book_of point) → TakesEach point ts left
     → new.seen ≡ book_of left → AreTakenFrom old.position ts → new.position ≡ old.position + span_among ts → new.got ≡ got_by_all old.got ts → new.handed_out ≡ old.handed_out → TakesAll takes x (items_among ts) y → HasGiven takes old new x y
 each_given takes [] old new point left x y goes each seen place position got chapters given =
@@ -243,11 +240,10 @@ each_given takes [] old new point left x y goes each seen place position got cha
 each_given takes (t ∷ ts) old new point left x y goes each seen place position got chapters given =
     let next = each.0 in
     let mid = seat_after old next t in
-    let cut = split_first takes t ts x y each.2 given in
-    given_on takes old mid new x cut.0 y
+    given_on takes old mid new x given.0 y
     (subst (λ b. BeginsWith b (book_of next)) (sym seen) (each_begins next left ts each.3))
-    (given_by takes t old mid point next x cut.0 goes each.1 each.2 refl place.0 refl refl refl cut.1)
-    (each_given takes ts mid new next left cut.0 y (nothing_behind next) each.3 seen place.1 (omega (arith, position, sum_by-cons span_in t ts)) got chapters cut.2)
+    (given_by takes t old mid point next x given.0 goes each.1 each.2 refl place.0 refl refl refl (given.0, given.1, refl))
+    (each_given takes ts mid new next left given.0 y (nothing_behind next) each.3 seen place.1 (omega (arith, position, sum_by-cons span_in t ts)) got chapters given.2)
 
 -- ---- consumers' threads
 
@@ -306,8 +302,10 @@ gets_same takes c c' d d' x x' y y' ec ed ex ey gets =
     (subst (λ (v : ChapterConsumerSeat). GetsTaken takes c v v.seen.history x y) (sym ed) gets)))
 
 record_in_longer : (h more : List Entry) (got : Contents) (item : SinkItem) → IsRecordIn h got item → IsRecordIn (h ++ more) got item
-record_in_longer h more got (Event p w k bytes) is = record_on h more got got (p + 1) (Event p w k bytes) (omega arith) (λ q below. refl) is
-record_in_longer h more got (Skip p n) is = record_on h more got got (p + 1) (Skip p n) (omega arith) (λ q below. refl) is
+record_in_longer h more got (Record (TakenEvent p w k bytes)) is = record_on h more got got (p + 1) (Record (TakenEvent p w k bytes)) (omega arith) (λ q below. refl) is
+record_in_longer h more got (Record (Skipped p n)) is = record_on h more got got (p + 1) (Record (Skipped p n)) (omega arith) (λ q below. refl) is
+record_in_longer h more got (Record BusyFront) is = absurd is
+record_in_longer h more got (Record Empty) is = absurd is
 record_in_longer h more got (Chapter c) is = tt
 
 -- what no take adds to, the sink keeps

@@ -19,7 +19,7 @@ use Rattle.rb_jobs.specs.SeatHelpers.{makes, submits, discards, fails, call_tota
 use Rattle.rb_jobs.specs.declared.job.Job.{Job}
 use Rattle.rb_workers.specs.declared.opened.Opened.{Opened}
 use Rattle.rb_workers.specs.declared.opened.Ended.{Ended}
-use Rattle.rb_workers.specs.declared.opened.Report.{Report}
+use Rattle.rb_workers.specs.declared.opened.JobsReport.{JobsReport}
 use Rattle.rb_workers.specs.declared.opened.JobFault.{JobFault}
 use Rattle.rb_workers.specs.JobRuns.{JobRun, RunsInTurn, own_jobs, own_runs, is_stray}
 use Rattle.rb_workers.specs.Opened.{AreOpened, IsKeeperFor, SinkGetsTaken, workers_of}
@@ -113,7 +113,7 @@ refused_by_all seats = sum_by refused_in seats
 -- its row; each worker's runs, one after another in the order of the list, took its seats from what they were to what they are; each run
 -- is the meaning's under its calls; the answers, the strays and the unlogged failures are those of the runs; each worker's seats rose by the
 -- calls of its own runs; and each null for flags 0 and each answer -EAGAIN is refused in a ring's history, or unlogged.
-pub record IsReport {S : Type 0} (position : S → ℕ) (takes : S → SinkItem → S → Type 0) (opened : List (Opened S)) (jobs : List Job) (report : Report S) : Type 0 where
+pub record IsReport {S : Type 0} (position : S → ℕ) (takes : S → SinkItem → S → Type 0) (opened : List (Opened S)) (jobs : List Job) (report : JobsReport S) : Type 0 where
   pub seats : List (List WorkerSeat)
   pub runs : List JobRun
   pub jobs_are : map (λ run. run.job) runs ≡ jobs

@@ -2,39 +2,42 @@
 use Rattle.std.specs.Prelude.{◌≡◌, ℕ, true, List, [], ◌∷◌, ◌++◌, All, Option, Some, None, length}
 use Rattle.std.specs.List.{Contains, filter_map}
 use Rattle.std.specs.FinMap.{get}
-use Rattle.rb_history.specs.Span.{span}
-use Rattle.rb_history.specs.TapeBytes.{Item}
-use Rattle.rb_history.specs.TapeBytes.Item.{Event as TapeEvent, Skip as TapeSkip}
+use Rattle.rb_history.specs.declared.answers.Taken.{Taken}
+use Rattle.rb_history.specs.declared.answers.Taken.TheVariants.{Event, Skipped, BusyFront, Empty}
 use Rattle.rb_history.specs.declared.entries.Entry.{Entry}
 use Rattle.rb_history.specs.declared.entries.Entry.TheVariants.{Res, Take}
 use Rattle.rb_history.specs.History.{is_submitted_at, is_discarded_at}
 use Rattle.rb_history.specs.RingModel.{Contents, HasLength}
 use Rattle.rb_chapter_ring.specs.Chapters.{Chapter as RingChapter}
 use Rattle.rb_ledger.specs.ChapterSeats.{ChapterConsumerSeat}
+use Rattle.rb_ledger.specs.LockedCalls.{span_in}
 
--- an event that was taken, with the worker that made its record, the record's number among that worker's, and its bytes; a discarded
--- record that was passed over, with its length; or a chapter that the ring handed out
+-- a record as the `take` that found it answered: an event with the worker that made it, the record's number among that worker's, and its
+-- bytes, or a discarded record that was passed over, with its length; or a chapter that the ring handed out
 pub data SinkItem : Type 0 where
-  Event : (position worker serial : ℕ) (bytes : List ℕ) → SinkItem
-  Skip : (position len : ℕ) → SinkItem
+  Record : (taken : Taken) → SinkItem
   Chapter : (chapter : RingChapter) → SinkItem
 
--- the item as a record of the tape, where it is a record
-abbrev pub tape_item : SinkItem → Option Item
-tape_item (Event position worker serial bytes) = Some (TapeEvent position bytes)
-tape_item (Skip position len) = Some (TapeSkip position len)
-tape_item (Chapter chapter) = None
+-- the record that the item is, where it is one
+abbrev pub sink_record : SinkItem → Option Taken
+sink_record (Record taken) = Some taken
+sink_record (Chapter chapter) = None
+
+-- the records among the items, in their order
+abbrev pub records_among : List SinkItem → List Taken
+records_among items = filter_map sink_record items
 
 -- how far the item moves a sink's position
 abbrev pub sink_span : SinkItem → ℕ
-sink_span (Event position worker serial bytes) = span (length bytes)
-sink_span (Skip position len) = span len
+sink_span (Record taken) = span_in taken
 sink_span (Chapter chapter) = 0
 
 -- where the item's record stands, where it is a record
 abbrev pub sink_position : SinkItem → Option ℕ
-sink_position (Event position worker serial bytes) = Some position
-sink_position (Skip position len) = Some position
+sink_position (Record (Event position worker serial bytes)) = Some position
+sink_position (Record (Skipped position len)) = Some position
+sink_position (Record BusyFront) = None
+sink_position (Record Empty) = None
 sink_position (Chapter chapter) = None
 
 -- the positions of the records among the items, in their order
@@ -43,8 +46,7 @@ positions_among items = filter_map sink_position items
 
 -- the chapter that the item is, where it is one
 abbrev pub sink_chapter : SinkItem → Option RingChapter
-sink_chapter (Event position worker serial bytes) = None
-sink_chapter (Skip position len) = None
+sink_chapter (Record taken) = None
 sink_chapter (Chapter chapter) = Some chapter
 
 -- the chapters among the items, in their order
@@ -68,8 +70,10 @@ takes_in h = filter_map take_of h
 -- Where the item is a record, it is one of the history: an event one that was submitted, with the worker, the serial and the length that it
 -- was granted with, and its bytes are those that the consumer got there; a skip a discarded one, with the length that it was granted with.
 abbrev pub IsRecordIn : List Entry → Contents → SinkItem → Type 0
-IsRecordIn h got (Event p w k bytes) = Contains h (Res w k (length bytes) p) × (is_submitted_at h p ≡ true) × (get got p ≡ Some bytes)
-IsRecordIn h got (Skip p n) = HasLength h p n × (is_discarded_at h p ≡ true)
+IsRecordIn h got (Record (Event p w k bytes)) = Contains h (Res w k (length bytes) p) × (is_submitted_at h p ≡ true) × (get got p ≡ Some bytes)
+IsRecordIn h got (Record (Skipped p n)) = HasLength h p n × (is_discarded_at h p ≡ true)
+IsRecordIn h got (Record BusyFront) = ⊥
+IsRecordIn h got (Record Empty) = ⊥
 IsRecordIn h got (Chapter chapter) = Unit {0}
 
 -- Where the consumer's seat went on from `before` to `after`, and the whole history to this one, the sink was given just the records that

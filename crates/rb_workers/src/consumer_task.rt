@@ -12,7 +12,7 @@ use crate::sink::Sink;
 use rb_consumer::{Batch, Keeper};
 use rb_jobs::{SHORT, Stock};
 use rb_shared_ring::{ConsumerSeat, Foreign, Seat, SharedRing};
-use rb_tape::{Item, Items};
+use rb_tape::Items;
 use std::sync::Wait;
 use std::sync::atomic::{AtomicBool, Ordering};
 
@@ -105,10 +105,7 @@ fn pass_items<S: Sink>(sink: &mut S, mut items: Items<'_>)
     ensures given { TakesAll S.takes sink.old (items_among items.entry) sink.new }
 {
     while let Some(item) = items.next() {
-        match item {
-            Item::Event(event) => sink.event(event.pos, event.worker, event.serial, event.bytes),
-            Item::Skip(pos, n) => sink.skipped(pos, n),
-        }
+        sink.record(&item);
     }
 }
 
@@ -123,7 +120,7 @@ pub(crate) fn consume<R: Wait, S: Sink, K: Stock>(
     requires ready { IsConsumerTaskOf S.position_of ring.now task.old }
     ensures returned { Consumed S.position_of S.takes task.old task.new }
 {
-    let numbers = task.consumer.ring();
+    let numbers = task.consumer.numbers();
     let mut pace = Pace::new(numbers.size, numbers.room);
     for _ in rt.forever() {
         let over = ended.load(Ordering::SeqCst);

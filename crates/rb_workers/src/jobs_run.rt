@@ -15,7 +15,7 @@ ghost use Rattle.rb_workers.specs.inner.WorkerRuns.{HasRun, IsNew};
 use crate::consumer_task::ConsumerTask;
 use crate::distribution::{merge, split};
 use crate::job_answers::{Gathered, gather_answers, is_any_short};
-use crate::opened::{Ended, JobFault, Opened, Report};
+use crate::opened::{Ended, JobFault, JobsReport, Opened};
 use crate::ring_close::close_all;
 use crate::run_buffers::{RunBuffers, make_buffers, zero_counts};
 use crate::sink::Sink;
@@ -117,7 +117,7 @@ fn report_on<S: Drop>(
     jobs: &[Job<'_>],
     workers: &mut [Worker],
     results: Vec<Result<u64, RunFault>>,
-) -> Report<S>
+) -> JobsReport<S>
     requires known { All (λ j. j.worker < length workers.old) jobs.now }
     requires each { (k : ℕ) (d : _) → k < length workers.old → length (slice_index_or workers.old k d).answers.items ≡ length (own_jobs k jobs.now) }
     requires room { IsEmptyFor (length jobs.now) results }
@@ -125,7 +125,7 @@ fn report_on<S: Drop>(
     ensures answers { ReportMatches jobs.now workers.old result }
 {
     let Gathered { results, unlogged } = gather_answers(jobs, workers, results);
-    Report {
+    JobsReport {
         rings,
         answers: results,
         strays: 0,
@@ -141,7 +141,7 @@ fn run_known<R: Threads + Wait + Sync, S: Sink + Send + Drop, G: Gate + Sync>(
     jobs: &[Job<'_>],
     gate: &G,
     buffers: RunBuffers<S>,
-) -> Result<Report<S>, Vec<Opened<S>>>
+) -> Result<JobsReport<S>, Vec<Opened<S>>>
     requires opened { AreOpened S.position_of opened.items }
     requires rings { has_unknown_ring (vec_len opened) jobs.now ≡ false }
     requires workers { has_unknown_worker (workers_of opened.items) jobs.now ≡ false }
@@ -204,7 +204,7 @@ pub fn run_jobs<R: Threads + Wait + Sync, S: Sink + Send + Drop, G: Gate + Sync>
     opened: Vec<Opened<S>>,
     jobs: &[Job<'_>],
     gate: &G,
-) -> Result<Report<S>, (JobFault, Vec<Opened<S>>)>
+) -> Result<JobsReport<S>, (JobFault, Vec<Opened<S>>)>
     requires opened { AreOpened S.position_of opened.items }
     ensures unknown_ring { IsRefusedFor JobFault.UnknownRing result ↔ (has_unknown_ring (vec_len opened) jobs.now ≡ true) }
     ensures unknown_worker { IsRefusedFor JobFault.UnknownWorker result ↔ ((has_unknown_ring (vec_len opened) jobs.now ≡ false) × (has_unknown_worker (workers_of opened.items) jobs.now ≡ true)) }

@@ -2,7 +2,7 @@
 
 use crate::sink::Sink;
 use rb_chapter_ring::Chapter;
-use rb_history::span;
+use rb_tape::Item;
 
 /// Gives up all records and chapters that it is given, for whoever wants a run's counts alone.
 #[derive(Clone, Copy, Debug, Drop)]
@@ -23,12 +23,8 @@ impl Sink for NullSink {
         self.position
     }
 
-    fn event(&mut self, pos: u64, _worker: u32, _serial: u64, bytes: &[u8]) {
-        self.position = pos + span(bytes.len() as u32);
-    }
-
-    fn skipped(&mut self, pos: u64, n: u32) {
-        self.position = pos + span(n);
+    fn record(&mut self, item: &Item<'_>) {
+        self.position += item.span();
     }
 
     fn chapter(&mut self, _chapter: &Chapter) {}

@@ -112,7 +112,7 @@ pub struct Ended<S> {
 
 /// What jobs came to.
 #[derive(Drop)]
-pub struct Report<S> {
+pub struct JobsReport<S> {
     /// The rings that were opened, closed, in their order.
     pub rings: Vec<Ended<S>>,
     /// What each job's run answered, in the order of the jobs.

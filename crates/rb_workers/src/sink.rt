@@ -1,11 +1,13 @@
 //! What records and chapters are given to.
 
-ghost use Rattle.std.specs.Prelude.{◌≡◌, ◌+◌, ◌<◌, ◌≤◌, ◌^◌, ℕ, length};
-ghost use Rattle.rb_history.specs.Span.{span};
+ghost use Rattle.std.specs.Prelude.{◌≡◌, ◌+◌, ◌<◌, ◌≤◌, ◌^◌, ℕ};
+ghost use Rattle.rb_history.specs.TapeBytes.{item_len, item_position, item_span};
+ghost use Rattle.rb_tape.specs.Items.{item_of, item_taken};
 ghost use Rattle.rb_workers.specs.Sink.{SinkItem};
-ghost use Rattle.rb_workers.specs.Sink.SinkItem.{Event, Skip, Chapter as ChapterItem};
+ghost use Rattle.rb_workers.specs.Sink.SinkItem.{Chapter as ChapterItem, Record as RecordItem};
 
 use rb_chapter_ring::Chapter;
+use rb_tape::Item;
 
 /// What a ring's consumer gives its records to, one by one and in the order of their positions, and each chapter that the ring hands out. It
 /// has a position, which moves with the consumer's.
@@ -19,20 +21,13 @@ pub trait Sink {
     fn position(&self) -> u64
         ensures position { result ≡ position_of self.now };
 
-    /// Takes the event at its position: the worker that made the record, the record's number among that worker's, and its bytes.
-    fn event(&mut self, pos: u64, worker: u32, serial: u64, bytes: &[u8])
-        requires next { pos ≡ position_of self.old }
-        requires len { length bytes.now < 2 ^ 32 }
-        requires end { pos + span (length bytes.now) ≤ 2 ^ 62 }
-        ensures moved { position_of self.new ≡ position_of self.old + span (length bytes.now) }
-        ensures took { takes self.old (Event pos worker serial bytes.now) self.new };
-
-    /// Passes over a discarded record of `n` bytes at its position.
-    fn skipped(&mut self, pos: u64, n: u32)
-        requires next { pos ≡ position_of self.old }
-        requires end { pos + span n ≤ 2 ^ 62 }
-        ensures moved { position_of self.new ≡ position_of self.old + span n }
-        ensures took { takes self.old (Skip pos n) self.new };
+    /// Takes the record at its position: an event, or a discarded record that was passed over.
+    fn record(&mut self, item: &Item<'_>)
+        requires next { item_position (item_of item.now) ≡ position_of self.old }
+        requires len { item_len (item_of item.now) < 2 ^ 32 }
+        requires end { position_of self.old + item_span (item_of item.now) ≤ 2 ^ 62 }
+        ensures moved { position_of self.new ≡ position_of self.old + item_span (item_of item.now) }
+        ensures took { takes self.old (RecordItem (item_taken item.now)) self.new };
 
     /// Looks at a chapter that the ring handed out, whole, which is cleared and used again after the call. The chapters come in the order of
     /// their numbers; with the last one, which the closed ring has, they bind to the ring's whole history.

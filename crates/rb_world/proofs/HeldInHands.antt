@@ -1,6 +1,5 @@
 -- What workers hold stays out in their hands, turn after turn.
-use Rattle.std.proofs.Common.{◌≡◌, ℕ, ◌<◌, List, [], ◌∷◌, Some, None, length, map, get_or, set, refl, sym, ap, subst, ◌∙◌, inl, inr, get_or-set_same, get_or-set_other}
-use Rattle.std.specs.Prelude.{Option}
+use Rattle.std.proofs.Common.{◌≡◌, ℕ, ◌<◌, List, [], ◌∷◌, Some, length, map, get_or, set, refl, sym, ap, subst, ◌∙◌, inl, inr, get_or-set_same, get_or-set_other}
 use Rattle.std.proofs.lemmas.Bool.{cases_eq}
 use Rattle.rb_history.specs.Calls.{IsBusy}
 use Rattle.rb_history.specs.declared.entries.Entry.{Entry}
@@ -9,9 +8,8 @@ use Rattle.rb_chapter_ring.specs.Chapters.{Chapter, joined}
 use Rattle.rb_chapter_ring.specs.WholeHistory.{IsKept}
 use Rattle.rb_chapter_ring.proofs.FreedHands.{freed-stays}
 use Rattle.rb_chapter_ring.proofs.StateSteps.{out-below}
-use Rattle.rb_chapter_ring.specs.declared.out_record.OutRecord.{OutRecord}
 use Rattle.rb_chapter_ring.specs.Hands.{hand_at, out_record}
-use Rattle.rb_chapter_ring.specs.HandRing.{HandRing, HasHands, HasInHand}
+use Rattle.rb_chapter_ring.specs.HandRing.{HandRing, HasHands}
 use Rattle.rb_chapter_ring.proofs.BusyEntries.{some-out}
 use Rattle.rb_chapter_ring.proofs.HandCalls.{to-whole}
 use Rattle.rb_interp.specs.MachineState.{MachineState}
@@ -22,11 +20,11 @@ use Rattle.rb_chapter_ring.specs.declared.record_end.RecordEnd.TheVariants.{Subm
 use Rattle.rb_world.specs.declared.turn_done.TurnDone.{TurnDone}
 use Rattle.rb_world.specs.declared.turn_done.TurnDone.TheVariants as turn
 use Rattle.rb_world.specs.declared.world_record.WorldRecord.{WorldRecord}
-use Rattle.rb_world.specs.WorldValue.{KeptRing, WorldValue, no_kept_ring, ring_at, whole_world, world_of, world_ring}
+use Rattle.rb_world.specs.WorldValue.{KeptRing, WorldValue, no_kept_ring, ring_at, whole_world, world_ring}
 use Rattle.rb_world.specs.TurnsDone.{chapters_of}
 use Rattle.rb_world.specs.inner.FittingWorlds.{IsSoundWorld}
-use Rattle.rb_world.specs.inner.HeldInHands.{AllInHand, AreTagged, HoldsEachOldOrOut, HoldsOldOrOut, IsHeldWorld, IsOutIn, KeepsEachInHand, KeepsInHand, Mark, StaysOut, WasHeld, books_of, hands_shown, mark_of}
-use Rattle.rb_chapter_ring.specs.HandEnds.{EndsFromHand}
+use Rattle.rb_world.specs.inner.HeldInHands.{AllInHand, AreTagged, HoldsEachOldOrOut, HoldsOldOrOut, IsHeldWorld, IsOutIn, KeepsEachInHand, KeepsInHand, Mark, StaysOut, books_of, hands_shown, mark_of}
+use Rattle.rb_chapter_ring.specs.RecordEnds.{EndsFromHand}
 use Rattle.rb_world.specs.inner.WorkerTurn.{KeepsChapter, TakesOnce}
 use Rattle.rb_world.proofs.MachineAnswers.{set-length}
 use Rattle.rb_world.proofs.SoundWorlds.{busy-held}

@@ -11,7 +11,7 @@ use Rattle.rb_chapter_ring.proofs.Chain.{handed-out-bind, binds-continue, binds-
 use Rattle.rb_chapter_ring.proofs.Empty.{empty-kept}
 use Rattle.rb_chapter_ring.proofs.Keeping.{calls-keep}
 use Rattle.rb_world.specs.Worlds.{WorldRing}
-use Rattle.rb_world.specs.WorldValue.{KeptRing, WorldValue, world_of, world_ring, ring_at}
+use Rattle.rb_world.specs.WorldValue.{KeptRing, WorldValue, world_of, ring_at}
 use Rattle.rb_world.specs.inner.KeptChapters.{KeepsChapters}
 use Rattle.rb_world.proofs.WholeTurns.{ring-shown}
 

@@ -7,6 +7,10 @@ mod KeptWorlds
 mod TurnsOfWorkers
 mod ActorTurns
 pub mod WholeRuns
+mod RingTurns
+pub mod RingRuns
+pub mod TakenTapes
+pub mod AllTaken
 mod WholeCalls
 mod WholeLists
 mod ShownWorlds
@@ -14,7 +18,7 @@ mod HeldByWorkers
 mod MachineAnswers
 mod WorkerTurns
 mod SoundWorlds
-mod ListSteps
+pub mod ListSteps
 mod WholeTurns
 mod KeptChapters
 mod HeldInHands

@@ -12,7 +12,7 @@ use Rattle.rb_world.specs.declared.opening.WorkerSetup.{WorkerSetup}
 use Rattle.rb_world.specs.declared.world_record.WorldRecord.{WorldRecord}
 use Rattle.rb_world.specs.WorldValue.{world_ring, WorldValue, whole_world, worker_of, no_worker, no_ring, no_kept_ring, world_of}
 use Rattle.rb_world.specs.OpenedWorlds.{HaveRings, opened_kept_ring, opened_rings, IsStarted, IsOpenedWorld}
-use Rattle.rb_world.specs.inner.FittingWorlds.{AreFor, setups_of, IsFitting, IsSoundWorld}
+use Rattle.rb_world.specs.inner.FittingWorlds.{AreFor, setups_of, IsSoundWorld}
 use Rattle.rb_world.specs.inner.HeldInHands.{Mark, AllHeld, IsHeldWorld, IsOutIn, books_of}
 use Rattle.rb_world.proofs.ListSteps.{zip-long}
 use Rattle.rb_world.proofs.WholeLists.{map-length}

@@ -1,5 +1,5 @@
 -- The calls of a ring that keeps a chapter, as calls of the ring with its whole history.
-use Rattle.std.proofs.Common.{◌≡◌, ◌≢◌, ℕ, ◌<◌, ◌≤◌, List, [], ◌∷◌, ◌++◌, Some, None, length, map, replicate, refl, sym, ap, subst, ◌∙◌, append-nil, append_assoc}
+use Rattle.std.proofs.Common.{◌≡◌, ◌≢◌, ℕ, ◌<◌, ◌≤◌, List, [], ◌∷◌, ◌++◌, Some, None, length, replicate, refl, sym, ap, subst, ◌∙◌, append-nil, append_assoc}
 use Rattle.std.specs.Prelude.{pos, negsuc}
 use Rattle.rb_history.specs.declared.entries.Entry.{Entry}
 use Rattle.rb_history.specs.declared.answers.Taken.{Taken}
@@ -21,13 +21,12 @@ use Rattle.rb_chapter_ring.specs.TaggedRing.{TaggedRing}
 use Rattle.rb_chapter_ring.specs.declared.faults.ReserveFault.{ReserveFault}
 use Rattle.rb_chapter_ring.specs.declared.faults.ReserveFault.TheVariants.{Full, Flags, ChapterFull, Foreign, HandsFull}
 use Rattle.rb_semantics.specs.HelperCalls.{Taken as TakenAnswer}
-use Rattle.rb_world.specs.Worlds.{WorldRing}
 use Rattle.rb_world.specs.CallsInWorld.{RingSteps, BadFlags, Unlogged, NoRoom, Made}
 use Rattle.rb_chapter_ring.specs.declared.record_end.RecordEnd.{RecordEnd}
 use Rattle.rb_chapter_ring.specs.declared.record_end.RecordEnd.TheVariants.{Submit, Discard}
 use Rattle.rb_world.specs.WorldValue.{KeptRing, world_ring}
 use Rattle.rb_world.specs.TurnsDone.{HandsChapterOut, chapters_of}
-use Rattle.rb_chapter_ring.specs.HandEnds.{EndsFromHand}
+use Rattle.rb_chapter_ring.specs.RecordEnds.{EndsFromHand}
 use Rattle.rb_world.specs.inner.RecordEnds.{WorkerEnds}
 use Rattle.rb_world.specs.inner.RingAnswers.{untaken_ring, IsReserved, IsOutput, IsWholeAnswer}
 

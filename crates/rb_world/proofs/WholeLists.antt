@@ -2,7 +2,6 @@
 use Rattle.std.proofs.Common.{◌≡◌, ℕ, ◌<◌, List, [], ◌∷◌, length, map, get_or, set, refl, sym, ap, subst, ◌∙◌, arith}
 use Rattle.rb_history.specs.RoomRule.{Setup}
 use Rattle.rb_chapter_ring.specs.Chapters.{Chapter}
-use Rattle.rb_world.specs.Worlds.{WorldRing}
 use Rattle.rb_world.specs.WorldValue.{KeptRing, world_ring}
 use Rattle.rb_world.specs.TurnsDone.{chapters_of}
 use Rattle.rb_world.specs.inner.FittingWorlds.{setups_of}

@@ -60,7 +60,7 @@ opening-book workers b f =
     nothing : (p : ℕ) → ◌≡◌ {A = Option (List ℕ)} (get {R = nat_cmp} empty p) None
     nothing p = get-empty nat_cmp p
 
-opening : (world : World) → IsOpeningWorld world → IsKept (λ r. []) world
+pub opening : (world : World) → IsOpeningWorld world → IsKept (λ r. []) world
 opening world o = record {
   workers = λ w inside.
       let x = world.workers w in
@@ -77,12 +77,12 @@ opening world o = record {
 
 -- ---- runs
 
-record AfterRun (actors : List Actor) (old : World) (handed : ℕ → Handed) (new : World) : Type 0 where
-  kept : IsKept handed new
-  count : new.worker_count ≡ old.worker_count
-  advances : (v : ℕ) → Advances (turns_of v actors) (old.workers v) (new.workers v)
+pub record AfterRun (actors : List Actor) (old : World) (handed : ℕ → Handed) (new : World) : Type 0 where
+  pub kept : IsKept handed new
+  pub count : new.worker_count ≡ old.worker_count
+  pub advances : (v : ℕ) → Advances (turns_of v actors) (old.workers v) (new.workers v)
 
-run : (handed : ℕ → Handed) (old new : World) (actors : List Actor) (events : List TurnEvent) → IsKept handed old → All (IsActor old.worker_count) actors → WorldRun old actors events new → AfterRun actors old (λ r. handed r ++ handed_at r events) new
+pub run : (handed : ℕ → Handed) (old new : World) (actors : List Actor) (events : List TurnEvent) → IsKept handed old → All (IsActor old.worker_count) actors → WorldRun old actors events new → AfterRun actors old (λ r. handed r ++ handed_at r events) new
 run handed old new [] [] kept all e = subst (AfterRun [] old (λ r. handed r ++ [])) (sym e) (record { kept = subst (λ f. IsKept f old) (λ i r. sym (append-nil (handed r)) i) kept; count = refl; advances = λ v runs. (runs, omega arith) })
 run handed old new [] (event ∷ events) kept all h = absurd h
 run handed old new (actor ∷ actors) [] kept all h = absurd h
@@ -169,8 +169,11 @@ run-push old mid new [] (e ∷ events) actor event run step = absurd run
 run-push old mid new (a ∷ actors) [] actor event run step = absurd run
 run-push old mid new (a ∷ actors) (e ∷ events) actor event run step = (run.0, run.1, run-push run.0 mid new actors events actor event run.2 step)
 
-after-reached : (world : World) (x : IsReachedWorld world) → AfterRun x.actors x.first (λ r. handed_at r x.events) world
+pub after-reached : (world : World) (x : IsReachedWorld world) → AfterRun x.actors x.first (λ r. handed_at r x.events) world
 after-reached world x = run (λ r. []) x.first world x.actors x.events (opening x.first x.opens) x.there x.run
+
+pub count-stays : (old new : World) (actor : Actor) (event : TurnEvent) → IsReachedWorld old → IsActor old.worker_count actor → WorldStep old actor event new → new.worker_count ≡ old.worker_count
+count-stays old new actor event x inside step = (turn (λ r. handed_at r x.events) old new actor event (after-reached old x).kept inside step).count
 
 pub leads-on : TurnsLeadOn
 leads-on old new actor event x inside step =

@@ -1,11 +1,11 @@
 -- The turns of consumers and keepers, in a world whose rings keep chapters.
-use Rattle.std.proofs.Common.{◌≡◌, ℕ, ◌<◌, List, [], ◌∷◌, ◌++◌, length, map, get_or, set, refl, sym, ap, subst, ◌∙◌}
+use Rattle.std.proofs.Common.{◌≡◌, ℕ, ◌<◌, length, map, get_or, set, refl, sym, ap, subst, ◌∙◌}
 use Rattle.rb_world.specs.Worlds.{WorldRing}
 use Rattle.rb_world.specs.Turns.{HandedChapter, NoMemory}
 use Rattle.rb_world.specs.declared.actor.Actor.TheVariants.{Consumer, Keeper}
 use Rattle.rb_world.specs.declared.turn_done.TurnDone.{TurnDone}
 use Rattle.rb_world.specs.declared.turn_done.TurnDone.TheVariants as turn
-use Rattle.rb_world.specs.WorldValue.{KeptRing, world_ring, WorldValue, WholeWorld, whole_world, shown_world, no_ring, no_kept_ring, ring_at, world_of}
+use Rattle.rb_world.specs.WorldValue.{KeptRing, world_ring, WorldValue, whole_world, shown_world, no_ring, no_kept_ring, ring_at, world_of}
 use Rattle.rb_world.specs.TurnsDone.{IsWholeTurn, IsTurnOf, HandsChapterOut, TurnsChaptersOf, chapters_of}
 use Rattle.rb_world.specs.inner.WorkerTurn.{TakesOnce, KeepsChapter}
 use Rattle.rb_world.specs.inner.FittingWorlds.{IsSoundWorld}

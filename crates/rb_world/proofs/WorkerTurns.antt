@@ -16,7 +16,6 @@ use Rattle.rb_world.specs.CallsInWorld.{RecordOutcome, BadFlags, NoRoom, Made, W
 use Rattle.rb_world.specs.Turns.{TurnEvent, Went, Ended, Idle, GivingBack, output_event, worker_after, event_of, GetsAnswer, GivesRecordBack, MakesCall, ExecutesStep, TakesWorkerTurn, WorldStep}
 use Rattle.rb_world.specs.declared.actor.Actor.TheVariants.{Worker}
 use Rattle.rb_world.specs.declared.world_record.WorldRecord.{WorldRecord}
-use Rattle.rb_world.specs.declared.turn_done.TurnDone.{TurnDone}
 use Rattle.rb_world.specs.declared.turn_done.TurnDone.TheVariants as turn
 use Rattle.rb_world.specs.WorldValue.{WholeWorld, place_of, status_of_phase, held_by, worker_of, no_worker, no_ring, shown_world}
 use Rattle.rb_world.specs.TurnsDone.{TellsEvent}

@@ -3,6 +3,7 @@ pub mod CallsInWorld
 pub mod Turns
 pub mod OpeningWorld
 pub mod EveryInterleaving
+pub mod TakenTapes
 pub mod WorldValue
 pub mod TurnsDone
 pub mod OpenedWorlds

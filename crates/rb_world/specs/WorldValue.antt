@@ -1,5 +1,5 @@
 -- What contracts see of a world, and the world of the definitions that it shows (own).
-use Rattle.std.specs.Prelude.{ℕ, ◌<◌, List, [], Some, None, Option, option_map, length, map}
+use Rattle.std.specs.Prelude.{ℕ, ◌<◌, List, [], None, option_map, length, map}
 use Rattle.std.specs.List.{slice_index_or}
 use Rattle.rb_history.specs.declared.answers.Taken.{Taken}
 use Rattle.rb_history.specs.RingModel.{fresh}

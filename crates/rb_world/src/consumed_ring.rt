@@ -1,6 +1,5 @@
 //! A ring of a world, the chapters that it handed out, and what its consumer took of it.
 
-use crate::record_end::end_record;
 use crate::ring_answers;
 use crate::turn_done::TurnDone;
 use crate::world_record::WorldRecord;
@@ -128,7 +127,7 @@ impl ConsumedRing {
         ensures chapters { chapters_of self.new ≡ chapters_of self.old }
     {
         self.ring.facts();
-        end_record(ending, &mut self.ring, owned.reservation, flags);
+        self.ring.settle(owned.reservation, ending, flags);
         self.ring.facts();
         machine.answer(Answer::Taken);
     }

@@ -1,6 +1,7 @@
 //! The law of all interleavings.
 
 ghost use Rattle.rb_world.specs.EveryInterleaving.{EveryInterleavingIsWell, ReachedWorldsAreWell, TurnsLeadOn};
+ghost use Rattle.rb_world.specs.TakenTapes.{EnoughTakesLeaveNone, TakenStandOnTapes};
 
 /// For every list of actors: no worker is ever stuck, and no record is ever handed back; a worker that had as many turns as
 /// its program has units is finished; the busy records of each ring are exactly those that the unfinished workers hold, each
@@ -15,4 +16,11 @@ pub fn every_interleaving_is_well()
 pub fn reached_worlds_are_well()
     ensures well { ReachedWorldsAreWell }
     ensures leads_on { TurnsLeadOn }
+{}
+
+/// What was taken of a ring stands on a tape, in every world that turns lead to; and where each worker has finished, a ring's consumer that
+/// has as many turns after that as all actors had before leaves nothing in the ring, if memory for none of them is refused.
+pub fn taken_records_are_tapes()
+    ensures stand { TakenStandOnTapes }
+    ensures none_left { EnoughTakesLeaveNone }
 {}

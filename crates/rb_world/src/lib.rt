@@ -32,7 +32,6 @@ mod actor;
 mod consumed_ring;
 mod interleaving_laws;
 mod opening;
-mod record_end;
 mod ring_answers;
 mod run;
 mod turn_done;
@@ -42,7 +41,9 @@ mod world_fault;
 mod world_record;
 
 pub use actor::Actor;
-pub use interleaving_laws::{every_interleaving_is_well, reached_worlds_are_well};
+pub use interleaving_laws::{
+    every_interleaving_is_well, reached_worlds_are_well, taken_records_are_tapes,
+};
 pub use opening::{RingSetup, WorkerSetup};
 pub use run::Report;
 pub use turn_done::TurnDone;

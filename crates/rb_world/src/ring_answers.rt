@@ -9,6 +9,8 @@ ghost use Rattle.rb_world.specs.RecordReasons.{OutputsOrHasReason, ReservesOrHas
 ghost use Rattle.rb_world.specs.inner.RingAnswers.{IsReserved, IsOutput, IsWholeAnswer};
 
 use rb_chapter_ring::{Reservation, ReserveFault, RingState};
+use rb_history::KNOWN_FLAGS;
+use rb_interp::{EAGAIN, EINVAL};
 use rb_lend::{Lent, Sheet};
 use std::alloc::Global;
 
@@ -46,7 +48,7 @@ pub(crate) fn reserve(
     }
 }
 
-// Puts a copy of some bytes into the ring: -22 for flags above 3, -11 where no record could be made, else 0.
+// Puts a copy of some bytes into the ring: `-EINVAL` for flags above 3, `-EAGAIN` where no record could be made, else 0.
 pub(crate) fn output(
     ring: &mut RingState,
     alloc: Global,
@@ -61,11 +63,11 @@ pub(crate) fn output(
     ensures same_hands { ring.new.state.hands ≡ ring.old.state.hands }
     ensures reason { flags ≤ 3 → OutputsOrHasReason worker bytes.now ring.old.state ring.new.state }
 {
-    if flags > 3 {
-        return -22;
+    if flags > KNOWN_FLAGS {
+        return -EINVAL;
     }
     let Some(sheet) = copy_of(alloc, bytes) else {
-        return -11;
+        return -EAGAIN;
     };
     match ring.output(worker, sheet, flags) {
         Ok(_) => {
@@ -73,20 +75,20 @@ pub(crate) fn output(
             return 0;
         }
         Err((fault, _)) => {
-            let code = refused(ring, fault);
+            let code = code_of_refusal(ring, fault);
             return code;
         }
     }
 }
 
 // The code of an output that a ring refused.
-fn refused(ring: &RingState, fault: ReserveFault) -> i64
+fn code_of_refusal(ring: &RingState, fault: ReserveFault) -> i64
     ensures code { result ≡ negsuc 10 }
     ensures stands { StandsForChapter ring.now.state.ring }
 {
     let _ = fault;
     ring.facts();
-    -11
+    -EAGAIN
 }
 
 // A sheet with a copy of these bytes; none for more than a sheet can have, and where memory is refused.

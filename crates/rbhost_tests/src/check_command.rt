@@ -2,7 +2,7 @@
 
 use crate::endings::ending;
 use crate::expected::same_of;
-use crate::fakes::{Sink, Source, Trouble};
+use crate::fakes::{FakeReader, FakeWriter, Trouble};
 use rb_command_line::command;
 use std::alloc::Global;
 use std::fs::File;
@@ -20,11 +20,11 @@ const EXIT_ZERO: &str = "b700000000000000 9500000000000000";
 fn told_of_trouble<T: Abort + Threads + Wait + Sync + Files<File = File> + Clock + Eprint>(
     rt: &T,
     alloc: Global,
-    mut reader: Source<'_>,
+    mut reader: FakeReader<'_>,
     room: usize,
     flush_fails: bool,
 ) -> String {
-    let mut writer = Sink::new(alloc, room, 100, Trouble::TakesNothing);
+    let mut writer = FakeWriter::new(alloc, room, 100, Trouble::TakesNothing);
     writer.flush_fails = flush_fails;
     let mut told = Vec::new(alloc);
     let status = command(
@@ -56,7 +56,7 @@ fn check_with_devices_that_fail(rt: HostRuntime) {
         (None, 100, false, "0 accepted\nresult 0\n"),
     ];
     for (fault, room, flush_fails, wanted) in &rows {
-        let mut reader = Source::new(EXIT_ZERO.as_bytes(), 100);
+        let mut reader = FakeReader::new(EXIT_ZERO.as_bytes(), 100);
         reader.fault = *fault;
         let told = told_of_trouble(&rt, rt.alloc(), reader, *room, *flush_fails);
         same_of(&rt, &told.as_str(), wanted, room);

@@ -2,7 +2,7 @@
 
 use crate::endings::{ended, ending};
 use crate::expected::{same, same_of};
-use crate::fakes::{Sink, Source, Trouble};
+use crate::fakes::{FakeReader, FakeWriter, Trouble};
 use rb_command_line::command;
 use std::alloc::Global;
 use std::fs::File;
@@ -22,7 +22,7 @@ fn is_help<T: Threads + Wait + Sync + Files<File = File> + Clock + Eprint>(
     alloc: Global,
     words: &[&str],
 ) -> bool {
-    let mut reader = Source::new(&[1], 5);
+    let mut reader = FakeReader::new(&[1], 5);
     let mut text = Vec::new(alloc);
     let mut told = Vec::new(alloc);
     let status = command(rt, alloc, words, false, &mut reader, &mut text, &mut told);
@@ -47,9 +47,9 @@ fn help(rt: HostRuntime) {
 fn fed_with<T: Abort + Threads + Wait + Sync + Files<File = File> + Clock + Eprint>(
     rt: &T,
     alloc: Global,
-    mut reader: Source<'_>,
-    mut tape: Sink,
-    mut told: Sink,
+    mut reader: FakeReader<'_>,
+    mut tape: FakeWriter,
+    mut told: FakeWriter,
 ) -> (String, usize) {
     let words = ["feed", "--size", "4096"];
     let status = command(rt, alloc, &words, false, &mut reader, &mut tape, &mut told);
@@ -63,8 +63,14 @@ fn fed_with<T: Abort + Threads + Wait + Sync + Files<File = File> + Clock + Epri
 fn readers_that_fail_are_told(rt: HostRuntime) {
     let alloc = rt.alloc();
     for kind in &[ErrorKind::BrokenPipe, ErrorKind::Interrupted] {
-        let reader = Source::failing(&TWO, *kind);
-        let (ending, written) = fed_with(&rt, alloc, reader, Sink::open(alloc), Sink::open(alloc));
+        let reader = FakeReader::failing(&TWO, *kind);
+        let (ending, written) = fed_with(
+            &rt,
+            alloc,
+            reader,
+            FakeWriter::open(alloc),
+            FakeWriter::open(alloc),
+        );
         same(
             &rt,
             &(ending.as_str(), written),
@@ -78,9 +84,9 @@ fn writers_that_fail_are_told(rt: HostRuntime) {
     let alloc = rt.alloc();
     for trouble in &[Trouble::TakesNothing, Trouble::Fails(ErrorKind::BrokenPipe)] {
         for room in &[0, 1, 23] {
-            let tape = Sink::new(alloc, *room, 100, *trouble);
-            let reader = Source::new(&TWO, 100);
-            let (ending, written) = fed_with(&rt, alloc, reader, tape, Sink::open(alloc));
+            let tape = FakeWriter::new(alloc, *room, 100, *trouble);
+            let reader = FakeReader::new(&TWO, 100);
+            let (ending, written) = fed_with(&rt, alloc, reader, tape, FakeWriter::open(alloc));
             same(
                 &rt,
                 &(ending.as_str(), written),
@@ -93,9 +99,9 @@ fn writers_that_fail_are_told(rt: HostRuntime) {
 #[test]
 fn positions_that_cannot_be_told(rt: HostRuntime) {
     let alloc = rt.alloc();
-    let told = Sink::new(alloc, 3, 100, Trouble::TakesNothing);
-    let reader = Source::new(&TWO, 100);
-    let (ending, written) = fed_with(&rt, alloc, reader, Sink::open(alloc), told);
+    let told = FakeWriter::new(alloc, 3, 100, Trouble::TakesNothing);
+    let reader = FakeReader::new(&TWO, 100);
+    let (ending, written) = fed_with(&rt, alloc, reader, FakeWriter::open(alloc), told);
     same(&rt, &(ending.as_str(), written), &("1 pro", 24));
 }
 
@@ -103,8 +109,8 @@ fn positions_that_cannot_be_told(rt: HostRuntime) {
 fn fed_with_reason<T: Abort + Threads + Wait + Sync + Files<File = File> + Clock + Eprint>(
     rt: &T,
     alloc: Global,
-    mut reader: Source<'_>,
-    mut tape: Sink,
+    mut reader: FakeReader<'_>,
+    mut tape: FakeWriter,
 ) -> String {
     let words = ["feed", "--size", "4096", "--why"];
     let mut told = Vec::new(alloc);
@@ -115,12 +121,12 @@ fn fed_with_reason<T: Abort + Threads + Wait + Sync + Files<File = File> + Clock
 #[test]
 fn what_failed_is_told_in_front(rt: HostRuntime) {
     let alloc = rt.alloc();
-    let reader = Source::failing(&TWO, ErrorKind::BrokenPipe);
-    let read = fed_with_reason(&rt, alloc, reader, Sink::open(alloc));
-    let fails = Sink::new(alloc, 1, 100, Trouble::Fails(ErrorKind::StorageFull));
-    let written = fed_with_reason(&rt, alloc, Source::new(&TWO, 100), fails);
-    let full = Sink::new(alloc, 1, 100, Trouble::TakesNothing);
-    let taken = fed_with_reason(&rt, alloc, Source::new(&TWO, 100), full);
+    let reader = FakeReader::failing(&TWO, ErrorKind::BrokenPipe);
+    let read = fed_with_reason(&rt, alloc, reader, FakeWriter::open(alloc));
+    let fails = FakeWriter::new(alloc, 1, 100, Trouble::Fails(ErrorKind::StorageFull));
+    let written = fed_with_reason(&rt, alloc, FakeReader::new(&TWO, 100), fails);
+    let full = FakeWriter::new(alloc, 1, 100, Trouble::TakesNothing);
+    let taken = fed_with_reason(&rt, alloc, FakeReader::new(&TWO, 100), full);
     same(
         &rt,
         &(read.as_str(), written.as_str(), taken.as_str()),

@@ -1,6 +1,6 @@
 //! What commands end with, as one text or one answer.
 
-use crate::fakes::Source;
+use crate::fakes::FakeReader;
 use rb_command_line::command;
 use std::alloc::Global;
 use std::fs::File;
@@ -18,7 +18,7 @@ pub(crate) fn ended<T: Abort + Threads + Wait + Sync + Files<File = File> + Cloc
     words: &[&str],
     input: &[u8],
 ) -> String {
-    ended_over(rt, alloc, words, Source::new(input, 7))
+    ended_over(rt, alloc, words, FakeReader::new(input, 7))
 }
 
 /// The same, over this reader.
@@ -26,7 +26,7 @@ pub(crate) fn ended_over<T: Abort + Threads + Wait + Sync + Files<File = File> +
     rt: &T,
     alloc: Global,
     words: &[&str],
-    mut reader: Source<'_>,
+    mut reader: FakeReader<'_>,
 ) -> String {
     let mut printed = Vec::new(alloc);
     let mut told = Vec::new(alloc);

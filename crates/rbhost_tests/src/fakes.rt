@@ -6,23 +6,23 @@ use std::io::{BufRead, Error, ErrorKind, Read, Result, Write};
 
 /// Gives its bytes, at most `most` at a time, and then the end, or fails if it has a `fault`.
 #[derive(Drop)]
-pub struct Source<'a> {
+pub struct FakeReader<'a> {
     pub rest: &'a [u8],
     pub most: usize,
     pub fault: Option<ErrorKind>,
 }
 
-impl<'a> Source<'a> {
-    pub(crate) fn new(bytes: &'a [u8], most: usize) -> Source<'a> {
-        Source {
+impl<'a> FakeReader<'a> {
+    pub(crate) fn new(bytes: &'a [u8], most: usize) -> FakeReader<'a> {
+        FakeReader {
             rest: bytes,
             most,
             fault: None,
         }
     }
 
-    pub(crate) fn failing(bytes: &'a [u8], fault: ErrorKind) -> Source<'a> {
-        Source {
+    pub(crate) fn failing(bytes: &'a [u8], fault: ErrorKind) -> FakeReader<'a> {
+        FakeReader {
             rest: bytes,
             most: 3,
             fault: Some(fault),
@@ -30,7 +30,7 @@ impl<'a> Source<'a> {
     }
 }
 
-impl Read for Source<'_> {
+impl Read for FakeReader<'_> {
     fn read(&mut self, buf: &mut [u8]) -> Result<usize> {
         if self.rest.is_empty() {
             return match self.fault {
@@ -46,7 +46,7 @@ impl Read for Source<'_> {
     }
 }
 
-impl BufRead for Source<'_> {
+impl BufRead for FakeReader<'_> {
     fn fill_buf(&mut self) -> Result<&[u8]> {
         match self.fault {
             Some(kind) if self.rest.is_empty() => Err(Error::from(kind)),
@@ -59,7 +59,7 @@ impl BufRead for Source<'_> {
     }
 }
 
-/// What a `Sink` does when its room is used up.
+/// What a `FakeWriter` does when its room is used up.
 #[derive(Clone, Copy)]
 pub enum Trouble {
     TakesNothing,
@@ -68,7 +68,7 @@ pub enum Trouble {
 
 /// Takes bytes, at most `most` at a time, until `room` is used up.
 #[derive(Drop)]
-pub struct Sink {
+pub struct FakeWriter {
     pub taken: Vec<u8>,
     pub flushed: usize,
     pub room: usize,
@@ -77,9 +77,9 @@ pub struct Sink {
     pub flush_fails: bool,
 }
 
-impl Sink {
-    pub(crate) fn new(alloc: Global, room: usize, most: usize, trouble: Trouble) -> Sink {
-        Sink {
+impl FakeWriter {
+    pub(crate) fn new(alloc: Global, room: usize, most: usize, trouble: Trouble) -> FakeWriter {
+        FakeWriter {
             taken: Vec::new(alloc),
             flushed: 0,
             room,
@@ -90,12 +90,12 @@ impl Sink {
     }
 
     /// One that takes all.
-    pub(crate) fn open(alloc: Global) -> Sink {
-        Sink::new(alloc, usize::MAX, usize::MAX, Trouble::TakesNothing)
+    pub(crate) fn open(alloc: Global) -> FakeWriter {
+        FakeWriter::new(alloc, usize::MAX, usize::MAX, Trouble::TakesNothing)
     }
 }
 
-impl Write for Sink {
+impl Write for FakeWriter {
     fn write(&mut self, buf: &[u8]) -> Result<usize> {
         let n = buf.len().min(self.most).min(self.room);
         if n == 0 && !buf.is_empty() {
@@ -118,7 +118,7 @@ impl Write for Sink {
     }
 }
 
-impl Outgoing for Sink {
+impl Outgoing for FakeWriter {
     ghost use Rattle.std.specs.Prelude.{[], None, ⊤, refl};
 
     ghost went = { λ _. None };

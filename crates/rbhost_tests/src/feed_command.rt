@@ -3,7 +3,7 @@
 ghost use Rattle.std.specs.Prelude.{◌≤◌};
 
 use crate::expected::same_of;
-use crate::fakes::{Sink, Source, Trouble};
+use crate::fakes::{FakeReader, FakeWriter, Trouble};
 use rb_tape_commands::{FeedFault, feed};
 use std::alloc::Global;
 use std::io::ErrorKind;
@@ -20,7 +20,7 @@ const TWO_TAPE: [u8; 24] = [
 // What is answered of a feed of these payloads, what was written, and how much of it was flushed.
 type Fed = (Result<(u64, u64), FeedFault>, Vec<u8>, usize);
 
-fn feed_to(alloc: Global, mut reader: Source<'_>, sink: Sink) -> Fed {
+fn feed_to(alloc: Global, mut reader: FakeReader<'_>, sink: FakeWriter) -> Fed {
     let (answer, writer) = feed(alloc, &mut reader, sink, 4096, 0, 0);
     (answer, writer.taken, writer.flushed)
 }
@@ -30,8 +30,12 @@ fn feed_to(alloc: Global, mut reader: Source<'_>, sink: Sink) -> Fed {
 fn readers_that_fail(rt: HostRuntime) {
     for kind in &[ErrorKind::BrokenPipe, ErrorKind::Interrupted] {
         for end in 0..10usize {
-            let reader = Source::failing(&TWO[..end], *kind);
-            let (answer, taken, flushed) = feed_to(rt.alloc(), reader, Sink::open(rt.alloc()));
+            let reader = FakeReader::failing(&TWO[..end], *kind);
+            let (answer, taken, flushed) = feed_to(
+                rt.alloc(),
+                reader,
+                FakeWriter::open(rt.alloc()),
+            );
             let tape = match end {
                 0..5 => 0,
                 5..9 => 16,
@@ -51,8 +55,8 @@ fn readers_that_fail(rt: HostRuntime) {
 fn stops(rt: &impl Abort, alloc: Global, room: usize, most: usize, trouble: Trouble)
     requires { room ≤ 24 }
 {
-    let sink = Sink::new(alloc, room, most, trouble);
-    let (answer, taken, _) = feed_to(alloc, Source::new(&TWO, 100), sink);
+    let sink = FakeWriter::new(alloc, room, most, trouble);
+    let (answer, taken, _) = feed_to(alloc, FakeReader::new(&TWO, 100), sink);
     let wanted = if room < 24 {
         Err(FeedFault::Device)
     } else {
@@ -84,14 +88,14 @@ fn writers_that_stop(rt: HostRuntime) {
 
 // How many bytes of the input's tape are flushed.
 fn flushed(alloc: Global, input: &[u8]) -> usize {
-    feed_to(alloc, Source::new(input, 100), Sink::open(alloc)).2
+    feed_to(alloc, FakeReader::new(input, 100), FakeWriter::open(alloc)).2
 }
 
 // What is answered where the flush fails, and how much was written.
 fn unflushed(alloc: Global, input: &[u8]) -> (Result<(u64, u64), FeedFault>, usize) {
-    let mut failing = Sink::open(alloc);
+    let mut failing = FakeWriter::open(alloc);
     failing.flush_fails = true;
-    let (answer, taken, _) = feed_to(alloc, Source::new(input, 100), failing);
+    let (answer, taken, _) = feed_to(alloc, FakeReader::new(input, 100), failing);
     (answer, taken.len())
 }
 

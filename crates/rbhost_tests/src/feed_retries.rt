@@ -2,7 +2,7 @@
 
 use crate::endings::ending;
 use crate::expected::same_of;
-use crate::fakes::{OneFailure, Sink, Source, Trouble};
+use crate::fakes::{FakeReader, FakeWriter, OneFailure, Trouble};
 use rb_command_line::command;
 use rb_tape_commands::{FeedFault, feed};
 use std::alloc::Global;
@@ -26,7 +26,7 @@ fn fed(
     trouble: Trouble,
     retries: u32,
 ) -> (Result<(u64, u64), FeedFault>, Vec<u8>) {
-    let mut reader = Source::new(&ONE, 5);
+    let mut reader = FakeReader::new(&ONE, 5);
     let writer = OneFailure::new(alloc, fails_at, trouble);
     let (answer, writer) = feed(alloc, &mut reader, writer, 4096, 0, retries);
     (answer, writer.taken)
@@ -79,7 +79,7 @@ fn told<T: Abort + Threads + Wait + Sync + Files<File = File> + Clock + Eprint>(
     retries: &str,
 ) -> (String, Vec<u8>) {
     let words = ["feed", "--size", "4096", "--retry", retries];
-    let mut reader = Source::new(&ONE, 5);
+    let mut reader = FakeReader::new(&ONE, 5);
     let mut writer = OneFailure::new(alloc, fails_at, trouble);
     let mut told = Vec::new(alloc);
     let status = command(
@@ -131,8 +131,8 @@ fn one_write_of_the_command_is_tried_again(rt: HostRuntime) {
 
 // What is answered of a hundred retries of a writer that has room for so many bytes and then fails again and again, and what went out.
 fn retried(alloc: Global, room: usize) -> (Result<(u64, u64), FeedFault>, Vec<u8>) {
-    let mut reader = Source::new(&ONE, 5);
-    let sink = Sink::new(alloc, room, 3, Trouble::TakesNothing);
+    let mut reader = FakeReader::new(&ONE, 5);
+    let sink = FakeWriter::new(alloc, room, 3, Trouble::TakesNothing);
     let (answer, sink) = feed(alloc, &mut reader, sink, 4096, 0, 100);
     (answer, sink.taken)
 }

@@ -2,6 +2,14 @@
 
 use crate::endings::ended;
 use crate::expected::same_of;
+use std::alloc::Global;
+use std::fs::File;
+use std::io::Eprint;
+use std::process::Abort;
+use std::rt::Files;
+use std::sync::Wait;
+use std::thread::Threads;
+use std::time::Clock;
 
 const SUBMIT_42: &str = "1851000000000000 0000000000000000
     b702000008000000 b703000000000000 8500000083000000
@@ -17,9 +25,22 @@ const TEXT_TAPE: [u8; 32] = [
 // A byte that is no UTF-8.
 const BYTE_TAPE: [u8; 16] = [1, 0, 0, 0, 0, 0, 0, 0, 0xff, 0, 0, 0, 0, 0, 0, 0];
 
+// Looks whether each command line ends, over its input, with what begins so.
+fn each_ends_so<T: Abort + Threads + Wait + Sync + Files<File = File> + Clock + Eprint>(
+    rt: &T,
+    alloc: Global,
+    rows: &[(&[&str], &[u8], &str)],
+) {
+    for (words, input, wanted) in rows {
+        let ending = ended(rt, alloc, words, input);
+        let starts_so = ending.as_str().starts_with(*wanted);
+        same_of(rt, &starts_so, &true, &(words, ending.as_str()));
+    }
+}
+
 #[test]
 fn objects_of_records_and_runs(rt: HostRuntime) {
-    let rows: [(&[&str], &[u8], &str); 12] = [
+    let rows: [(&[&str], &[u8], &str); 7] = [
         (
             &["tape", "--json", "--size", "4096"],
             &TEXT_TAPE,
@@ -78,6 +99,13 @@ fn objects_of_records_and_runs(rt: HostRuntime) {
             SUBMIT_42.as_bytes(),
             "0 {\"ring\":0,\"worker\":0,\"made\":3,\"refused\":0,\"submitted\":3,\"discarded\":0}\n{\"ring\":0,\"worker\":1,\"made\":3,\"refused\":0,\"submitted\":3,\"discarded\":0}\n{\"ring\":0,\"made\":6,\"consumed\":6,\"discarded\":0,\"waiting\":0,\"busy\":0}\n{\"strays\":0,\"unlogged\":0}\n",
         ),
+    ];
+    each_ends_so(&rt, rt.alloc(), &rows);
+}
+
+#[test]
+fn objects_of_explanations(rt: HostRuntime) {
+    let rows: [(&[&str], &[u8], &str); 5] = [
         (
             &["explain", "--json"],
             b"b7000000ffffffff 9500000000000000",
@@ -104,9 +132,5 @@ fn objects_of_records_and_runs(rt: HostRuntime) {
             "1 refused verify V15 unit 0\n{\"unit\":0,\"bytes\":\"85000000ffffffff\",\"assembly\":\"call -1\",\"helper\":null}\n{\"unit\":1,\"bytes\":\"9500000000000000\",\"assembly\":\"exit\"}\n{\"layer\":\"verify\",\"fault\":\"V15\",\"unit\":0,\"advice\":\"",
         ),
     ];
-    for (words, input, wanted) in &rows {
-        let ending = ended(&rt, rt.alloc(), words, input);
-        let starts_so = ending.as_str().starts_with(*wanted);
-        same_of(&rt, &starts_so, &true, &(words, ending.as_str()));
-    }
+    each_ends_so(&rt, rt.alloc(), &rows);
 }

@@ -2,7 +2,7 @@
 
 use crate::endings::ended_over;
 use crate::expected::{same, same_of};
-use crate::fakes::{Sink, Source, Trouble};
+use crate::fakes::{FakeReader, FakeWriter, Trouble};
 use rb_json::LineForm;
 use rb_tape::TapeKind;
 use rb_tape_commands::{TapeRefusal, tape};
@@ -19,7 +19,7 @@ const WORDS: [&str; 3] = ["tape", "--size", "4096"];
 fn reads_that_fail(rt: HostRuntime) {
     for kind in &[ErrorKind::BrokenPipe, ErrorKind::Interrupted] {
         for end in &[0usize, 5, 15, 16] {
-            let reader = Source::failing(&ONE_RECORD[..*end], *kind);
+            let reader = FakeReader::failing(&ONE_RECORD[..*end], *kind);
             let wanted = if *end < 16 {
                 "1 refused device\n"
             } else {
@@ -33,8 +33,8 @@ fn reads_that_fail(rt: HostRuntime) {
 
 // What `tape` answers over these bytes and a writer with so much room, and what was printed.
 fn printed(alloc: Global, bytes: &[u8], room: usize) -> (Result<(), TapeRefusal>, Vec<u8>) {
-    let mut reader = Source::new(bytes, 5);
-    let mut sink = Sink::new(alloc, room, 3, Trouble::TakesNothing);
+    let mut reader = FakeReader::new(bytes, 5);
+    let mut sink = FakeWriter::new(alloc, room, 3, Trouble::TakesNothing);
     let answer = tape(alloc, &mut reader, &mut sink, 4096, 0, LineForm::Words);
     (answer, sink.taken)
 }

@@ -4,7 +4,7 @@ ghost use Rattle.std.specs.Prelude.{◌≡◌};
 
 use crate::endings::{ended, number};
 use crate::expected::{same, same_of};
-use crate::fakes::{Sink, Trouble};
+use crate::fakes::{FakeWriter, Trouble};
 use rb_json::LineForm;
 use rb_loader::read_program;
 use rb_run_commands::{JOB_BOUNDS, JobsRequest, WrittenTape, check_ring, run_taped};
@@ -38,8 +38,8 @@ fn run_over<T: Abort + AllocGlobal + Threads + Wait + Sync + Files<File = File> 
     workers: u64,
     jobs: u32,
     size: u64,
-    tape: Sink,
-) -> (String, WrittenTape<Sink>) {
+    tape: FakeWriter,
+) -> (String, WrittenTape<FakeWriter>) {
     let request = JobsRequest {
         workers,
         jobs,
@@ -87,7 +87,7 @@ fn counted_on_tape(rt: &(impl Abort + AllocGlobal), printed: &str, lines: &str) 
 
 #[test]
 fn each_record_that_was_taken_is_on_the_tape(rt: HostRuntime) {
-    let (printed, written) = run_over(&rt, 4, 1000, 65_536, Sink::open(rt.alloc()));
+    let (printed, written) = run_over(&rt, 4, 1000, 65_536, FakeWriter::open(rt.alloc()));
     let words = ["tape", "--size", "65536", "--start", "8"];
     let lines = ended(&rt, rt.alloc(), &words, written.writer.taken.as_slice());
     let counted = counted_on_tape(&rt, printed.as_str(), lines.as_str());
@@ -116,7 +116,7 @@ fn writes_that_fail(rt: HostRuntime) {
         Trouble::Fails(ErrorKind::StorageFull),
     ] {
         for room in 0..49usize {
-            let tape = Sink::new(rt.alloc(), room, 3, *trouble);
+            let tape = FakeWriter::new(rt.alloc(), room, 3, *trouble);
             let (printed, written) = run_over(&rt, 1, 3, 4096, tape);
             same_of(
                 &rt,
@@ -134,7 +134,7 @@ fn writes_that_fail(rt: HostRuntime) {
 
 #[test]
 fn a_flush_that_fails(rt: HostRuntime) {
-    let mut tape = Sink::open(rt.alloc());
+    let mut tape = FakeWriter::open(rt.alloc());
     tape.flush_fails = true;
     let (printed, written) = run_over(&rt, 1, 3, 4096, tape);
     same(

@@ -1,7 +1,7 @@
 //! The retries of a whole run: those of all payloads, and of the last handing on.
 
 use crate::expected::same_of;
-use crate::fakes::{MoreFailures, OneFailure, Source, Trouble};
+use crate::fakes::{FakeReader, MoreFailures, OneFailure, Trouble};
 use rb_tape_commands::{FeedFault, feed};
 use std::alloc::Global;
 
@@ -24,7 +24,7 @@ fn fed_two(
     closed: u32,
     retries: u32,
 ) -> (Result<(u64, u64), FeedFault>, usize, bool) {
-    let mut reader = Source::new(&TWO, 5);
+    let mut reader = FakeReader::new(&TWO, 5);
     let writer = MoreFailures {
         inner: OneFailure::new(alloc, first, Trouble::TakesNothing),
         writes: 0,

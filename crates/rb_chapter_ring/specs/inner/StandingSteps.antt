@@ -7,7 +7,7 @@ use Rattle.rb_history.specs.History.{Shown, Status}
 use Rattle.rb_history.specs.History.Status.{Busy, Waiting, Discarded}
 use Rattle.rb_chapter_ring.specs.Standing.{Standing, tally_at, record_in}
 use Rattle.rb_chapter_ring.specs.declared.record_end.RecordEnd.{RecordEnd}
-use Rattle.rb_chapter_ring.specs.inner.EndSteps.{status_of_end, tally_with_end}
+use Rattle.rb_chapter_ring.specs.RecordEnds.{status_of_end, tally_with_end}
 
 -- the worker has these totals now
 abbrev pub with_tally : ℕ → Tally → Standing → Standing

@@ -1,7 +1,7 @@
 -- The ring whose records are a plain list: what it means, and what it keeps from call to call.
 use Rattle.std.specs.Prelude.{◌≡◌, ◌+◌, ◌-◌, ◌≤◌, ◌^◌, map, vec_len, vec_capacity}
 use Rattle.std.specs.List.{sum_by, All}
-use Rattle.rb_for_tests.specs.declared.ring.RingState.TheInside.{Inside}
+use Rattle.rb_for_tests.specs.declared.plain_ring.PlainRing.TheInside.{Inside}
 use Rattle.rb_history.specs.RoomRule.{Setup}
 use Rattle.rb_history.specs.RingModel.{Ring, IsRingSize, IsStartPosition, IsWorkerCount}
 use Rattle.rb_history.specs.inner.RecordRows.{HistoryFacts}

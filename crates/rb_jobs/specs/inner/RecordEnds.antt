@@ -3,9 +3,9 @@ use Rattle.std.specs.Prelude.{◌≡◌, ◌↔◌, ℕ, Bool, true, false, None
 use Rattle.rb_chapter_ring.specs.HandGranted.{HandGranted}
 use Rattle.rb_chapter_ring.specs.declared.record_end.RecordEnd.{RecordEnd}
 use Rattle.rb_chapter_ring.specs.declared.record_end.RecordEnd.TheVariants.{Submit, Discard}
-use Rattle.rb_chapter_ring.specs.inner.EndSteps.{tally_with_end}
+use Rattle.rb_chapter_ring.specs.RecordEnds.{tally_with_end}
 use Rattle.rb_ledger.specs.Seats.{WorkerSeat}
-use Rattle.rb_ledger.specs.inner.RecordEnds.{EndsAt, sent_by_end}
+use Rattle.rb_ledger.specs.RecordEnds.{EndsAt, sent_by_end}
 use Rattle.rb_interp.specs.declared.done.Done.{Done}
 use Rattle.rb_interp.specs.declared.done.Done.TheVariants.{Submit as SubmitNote, Discard as DiscardNote}
 use Rattle.rb_interp.specs.AnsweredCalls.{AnsweredCall, Submitted, Discarded}

@@ -7,12 +7,12 @@ ghost use Rattle.rb_jobs.specs.inner.CallAnswers.{due_in};
 ghost use Rattle.rb_jobs.specs.inner.RecordEnds.{SeatEnds, ended_call, ended_note};
 
 use crate::call_answers::is_due;
-use crate::record_end::{note_of_end, settle_at};
 use crate::seat_helpers::SeatHelpers;
 use crate::seat_record::SeatRecord;
 use crate::stock::Stock;
 use rb_chapter_ring::RecordEnd;
 use rb_history::Notice;
+use rb_interp::Done;
 use rb_shared_ring::Reservation;
 use std::sync::Wait;
 
@@ -20,7 +20,7 @@ impl<'h, R: Wait, S: Stock> SeatHelpers<'h, R, S> {
     #[inline(always)]
     // Gives the record back at the seat of its ring, and notes the call. Hands it back where its ring is none of these, or where it is out in no hand
     // of the seat there.
-    pub(crate) fn settle(
+    pub(crate) fn give_back(
         &mut self,
         owned: SeatRecord,
         end: RecordEnd,
@@ -35,7 +35,7 @@ impl<'h, R: Wait, S: Stock> SeatHelpers<'h, R, S> {
         ensures call { CallsHelpers (ended_call end owned flags (is_ok result)) self.old self.new }
     {
         let SeatRecord { ring, reservation } = owned;
-        let answer = self.try_settle(ring, reservation, end, flags);
+        let answer = self.try_give_back(ring, reservation, end, flags);
         let due = is_due(&answer);
         match answer {
             Ok(_) => {
@@ -51,7 +51,7 @@ impl<'h, R: Wait, S: Stock> SeatHelpers<'h, R, S> {
 
     #[inline(always)]
     // Gives the reservation back at the ring's seat, without noting the call. One of no ring here is handed back.
-    fn try_settle(
+    fn try_give_back(
         &mut self,
         ring: u32,
         reservation: Reservation,
@@ -67,13 +67,17 @@ impl<'h, R: Wait, S: Stock> SeatHelpers<'h, R, S> {
             return Err(reservation);
         }
         let shared = &self.rings[at];
-        settle_at(
-            self.rt,
-            shared,
-            &mut self.seats[at],
-            reservation,
-            end,
-            flags,
-        )
+        shared.settle(self.rt, &mut self.seats[at], reservation, end, flags)
+    }
+}
+
+#[inline(always)]
+// The note of the call.
+fn note_of_end(end: RecordEnd, flags: u64, taken: bool) -> Done
+    ensures { result ≡ ended_note end flags taken }
+{
+    match end {
+        RecordEnd::Submit => Done::Submit { flags, taken },
+        RecordEnd::Discard => Done::Discard { flags, taken },
     }
 }

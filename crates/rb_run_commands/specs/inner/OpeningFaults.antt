@@ -1,12 +1,10 @@
 -- Why a ring was not opened, as the fault of a run.
-use Rattle.rb_history.specs.declared.answers.OpenFault.{OpenFault}
-use Rattle.rb_history.specs.declared.answers.OpenFault.TheVariants as opening
+use Rattle.rb_history.specs.declared.bounds.SetupFault.{SetupFault}
+use Rattle.rb_history.specs.declared.bounds.SetupFault.TheVariants as setup
 use Rattle.rb_run_commands.specs.declared.jobs_fault.JobsFault.{JobsFault}
-use Rattle.rb_run_commands.specs.declared.jobs_fault.JobsFault.TheVariants.{Program, Size, Start, Workers}
-use Rattle.rb_loader.specs.declared.program.ProgramFault.TheVariants.{Memory}
+use Rattle.rb_run_commands.specs.declared.jobs_fault.JobsFault.TheVariants.{Size, Start, Workers}
 
-abbrev pub fault_of_opening : OpenFault → JobsFault
-fault_of_opening opening.Size = Size
-fault_of_opening opening.Start = Start
-fault_of_opening opening.Workers = Workers
-fault_of_opening opening.Memory = Program Memory
+abbrev pub fault_of_opening : SetupFault → JobsFault
+fault_of_opening setup.Size = Size
+fault_of_opening setup.Start = Start
+fault_of_opening setup.Workers = Workers

@@ -9,7 +9,7 @@ use rb_history::span;
 use rb_interp::RunFault;
 use rb_shared_ring::Closing;
 use rb_verifier::Verified;
-use rb_workers::{Chapter, Ended, Job, Opened, Report, Sink, run_jobs};
+use rb_workers::{Chapter, Ended, Event, Item, Job, JobsReport, Opened, Sink, run_jobs};
 use std::alloc::Global;
 use std::process::Abort;
 use std::sync::Wait;
@@ -52,17 +52,27 @@ impl Binder {
         }
     }
 
-    // Looks at a record, and remembers what its worker's next one has to be.
-    fn look(&mut self, worker: u32, serial: u64, number: u64) -> bool
+    // Looks at an event, and remembers what its worker's next one has to be.
+    fn look(&mut self, event: &Event<'_>)
         ensures { self.new.position ≡ self.old.position }
     {
-        let at = worker as usize;
-        if at >= WORKERS || worker >= self.workers {
+        if !self.is_next(event) {
+            self.wrong = self.wrong.saturating_add(1);
+        }
+        self.records = self.records.saturating_add(1);
+    }
+
+    fn is_next(&mut self, event: &Event<'_>) -> bool
+        ensures { self.new.position ≡ self.old.position }
+    {
+        let at = event.worker as usize;
+        if at >= WORKERS || event.worker >= self.workers {
             return false;
         }
-        let is_own = number % u64::from(self.workers) == u64::from(worker);
-        let is_next = serial == self.serials[at] && number >= self.jobs[at];
-        self.serials[at] = serial.saturating_add(1);
+        let number = number_of(event.bytes);
+        let is_own = number % u64::from(self.workers) == u64::from(event.worker);
+        let is_next = event.serial == self.serials[at] && number >= self.jobs[at];
+        self.serials[at] = event.serial.saturating_add(1);
         self.jobs[at] = number.saturating_add(1);
         is_own && is_next
     }
@@ -93,17 +103,17 @@ impl Sink for Binder {
         self.position
     }
 
-    fn event(&mut self, pos: u64, worker: u32, serial: u64, bytes: &[u8]) {
-        if !self.look(worker, serial, number_of(bytes)) {
-            self.wrong = self.wrong.saturating_add(1);
+    fn record(&mut self, item: &Item<'_>) {
+        match item {
+            Item::Event(event) => {
+                self.look(event);
+                self.position += span(event.bytes.len() as u32);
+            }
+            Item::Skip(_, n) => {
+                self.wrong = self.wrong.saturating_add(1);
+                self.position += span(*n);
+            }
         }
-        self.records = self.records.saturating_add(1);
-        self.position = pos + span(bytes.len() as u32);
-    }
-
-    fn skipped(&mut self, pos: u64, n: u32) {
-        self.wrong = self.wrong.saturating_add(1);
-        self.position = pos + span(n);
     }
 
     fn chapter(&mut self, chapter: &Chapter) {
@@ -177,7 +187,7 @@ fn run<R: Threads + Wait + Sync + Abort>(
     alloc: Global,
     room: u32,
     workers: u32,
-) -> Report<Binder>
+) -> JobsReport<Binder>
     requires { 0 < workers }
 {
     let program = verified(rt, alloc, OUTPUT_CONTEXT, 1);

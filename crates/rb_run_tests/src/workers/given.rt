@@ -6,7 +6,7 @@ ghost use Rattle.rb_workers.specs.Opened.{AreOpened, IsOpened};
 use crate::shared;
 use rb_history::span;
 use rb_verifier::Verified;
-use rb_workers::{Chapter, Gate, Job, Opened, Report, Sink, run_jobs};
+use rb_workers::{Chapter, Gate, Item, Job, JobsReport, Opened, Sink, run_jobs};
 use std::alloc::Global;
 use std::process::Abort;
 use std::sync::Wait;
@@ -51,6 +51,18 @@ impl Counter {
             chapters: 0,
         }
     }
+
+    // Counts an event of these bytes.
+    fn count(&mut self, bytes: &[u8])
+        ensures { self.new.position ≡ self.old.position }
+    {
+        if bytes.is_empty() || !are_zeros(&bytes[1..]) {
+            self.others = self.others.saturating_add(1);
+        } else {
+            let at = bytes[0] as usize;
+            self.events[at] = self.events[at].saturating_add(1);
+        }
+    }
 }
 
 // Whether all of these are zeros.
@@ -75,19 +87,17 @@ impl Sink for Counter {
         self.position
     }
 
-    fn event(&mut self, pos: u64, _: u32, _: u64, bytes: &[u8]) {
-        if bytes.is_empty() || !are_zeros(&bytes[1..]) {
-            self.others = self.others.saturating_add(1);
-        } else {
-            let at = bytes[0] as usize;
-            self.events[at] = self.events[at].saturating_add(1);
+    fn record(&mut self, item: &Item<'_>) {
+        match item {
+            Item::Event(event) => {
+                self.count(event.bytes);
+                self.position += span(event.bytes.len() as u32);
+            }
+            Item::Skip(_, n) => {
+                self.others = self.others.saturating_add(1);
+                self.position += span(*n);
+            }
         }
-        self.position = pos + span(bytes.len() as u32);
-    }
-
-    fn skipped(&mut self, pos: u64, n: u32) {
-        self.others = self.others.saturating_add(1);
-        self.position = pos + span(n);
     }
 
     fn chapter(&mut self, _: &Chapter) {
@@ -137,14 +147,14 @@ impl Gate for Free {
 /// A gate that holds worker 1 at its first call until worker 0 has come to its second, and worker 0 there until worker 1 has finished two
 /// calls. It tells how often somebody waited too long.
 #[derive(Drop)]
-pub(crate) struct Holding {
+pub(crate) struct HoldingGate {
     seen: [AtomicU64; 2],
     pub(crate) late: AtomicU64,
 }
 
-impl Holding {
-    pub(crate) fn new() -> Holding {
-        Holding {
+impl HoldingGate {
+    pub(crate) fn new() -> HoldingGate {
+        HoldingGate {
             seen: [AtomicU64::new(0), AtomicU64::new(0)],
             late: AtomicU64::new(0),
         }
@@ -161,7 +171,7 @@ impl Holding {
     }
 }
 
-impl Gate for Holding {
+impl Gate for HoldingGate {
     fn at(&self, worker: u32, call: u64) {
         if worker > 1 {
             return;
@@ -255,7 +265,7 @@ pub(crate) fn report<R: Threads + Wait + Sync + Abort, G: Gate + Sync>(
     rings: Vec<Opened<Counter>>,
     jobs: &[Job<'_>],
     gate: &G,
-) -> Report<Counter>
+) -> JobsReport<Counter>
     requires { AreOpened (λ c. c.position) rings.items }
 {
     match run_jobs(rt, alloc, rings, jobs, gate) {

@@ -4,14 +4,14 @@ ghost use Rattle.std.specs.Prelude.{◌<◌};
 ghost use Rattle.rb_workers.specs.Opened.{AreOpened};
 
 use super::given::{
-    Counter, Free, Holding, OUTPUT_CONTEXT, OUTPUT_TO_SECOND, ROOM, job, one_ring, report,
+    Counter, Free, HoldingGate, OUTPUT_CONTEXT, OUTPUT_TO_SECOND, ROOM, job, one_ring, report,
     two_rings, verified,
 };
 use crate::expected::{same, same_of};
 use crate::shared::SUBMIT_42;
 use rb_interp::RunFault;
 use rb_verifier::Verified;
-use rb_workers::{Ended, Gate, Job, Opened, Report};
+use rb_workers::{Ended, Gate, Job, JobsReport, Opened};
 use std::alloc::Global;
 use std::process::Abort;
 use std::sync::Wait;
@@ -59,7 +59,7 @@ fn is_taken<A: Abort>(rt: &A, ended: &Ended<Counter>, made: u64, events: u64) {
 }
 
 // The first ring of a report.
-fn first_ring<'r, A: Abort>(rt: &A, report: &'r Report<Counter>) -> &'r Ended<Counter> {
+fn first_ring<'r, A: Abort>(rt: &A, report: &'r JobsReport<Counter>) -> &'r Ended<Counter> {
     match report.rings.first() {
         Some(ended) => ended,
         None => rt.panic("no ring"),
@@ -92,7 +92,7 @@ fn report_of<R: Threads + Wait + Sync + Abort, G: Gate + Sync>(
     count: u32,
     workers: u32,
     gate: &G,
-) -> Report<Counter>
+) -> JobsReport<Counter>
     requires rings { AreOpened (λ c. c.position) rings.items }
     requires workers { 0 < workers }
 {
@@ -102,7 +102,7 @@ fn report_of<R: Threads + Wait + Sync + Abort, G: Gate + Sync>(
 }
 
 // Ends the test where an answer is not 0, or a worker was not granted or refused a record a hundred times, and submitted each that it made.
-fn all_submitted<A: Abort>(rt: &A, report: &Report<Counter>) {
+fn all_submitted<A: Abort>(rt: &A, report: &JobsReport<Counter>) {
     for answer in &report.answers {
         same(rt, answer, &Ok(0));
     }
@@ -133,7 +133,7 @@ fn four_workers_submit_a_hundred_times_each(rt: HostRuntime) {
 
 // Two workers of which one holds its record while the other submits one, over chapters of this room.
 fn hold_a_reservation<R: Threads + Wait + Sync + Abort>(rt: &R, alloc: Global, room: u32) {
-    let gate = Holding::new();
+    let gate = HoldingGate::new();
     let rings = one_ring(rt, alloc, 2, room);
     let report = report_of(rt, alloc, rings, 2, 2, &gate);
     same(
@@ -179,7 +179,7 @@ fn jobs_with_short_ones<'j, A: Abort>(
 fn report_with_short_ones<R: Threads + Wait + Sync + Abort>(
     rt: &R,
     alloc: Global,
-) -> Report<Counter> {
+) -> JobsReport<Counter> {
     let program = verified(rt, alloc, SUBMIT_42, 1);
     let jobs = jobs_with_short_ones(rt, alloc, &program);
     report(rt, alloc, one_ring(rt, alloc, 3, ROOM), &jobs, &Free::new())
@@ -266,7 +266,7 @@ fn has_each_once<A: Abort>(rt: &A, ended: &Ended<Counter>, at: usize) {
 }
 
 // The report of a job of each context, over two rings.
-fn report_of_two<R: Threads + Wait + Sync + Abort>(rt: &R, alloc: Global) -> Report<Counter> {
+fn report_of_two<R: Threads + Wait + Sync + Abort>(rt: &R, alloc: Global) -> JobsReport<Counter> {
     let first = verified(rt, alloc, OUTPUT_CONTEXT, 2);
     let second = verified(rt, alloc, OUTPUT_TO_SECOND, 2);
     let contexts = contexts(rt, alloc);

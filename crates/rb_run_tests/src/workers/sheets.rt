@@ -10,7 +10,7 @@ use rb_jobs::Stock;
 use rb_lend::Sheet;
 use rb_verifier::Verified;
 use rb_workers::used_sheets::{PLACES, UsedSheets};
-use rb_workers::{Ended, Job, Report};
+use rb_workers::{Ended, Job, JobsReport};
 use std::alloc::Global;
 use std::process::Abort;
 use std::sync::Wait;
@@ -77,7 +77,7 @@ fn jobs_in_turn<'j, A: Abort>(
 }
 
 // What the runs of the jobs in turn come to.
-fn report_in_turn<R: Threads + Wait + Sync + Abort>(rt: &R, alloc: Global) -> Report<Counter> {
+fn report_in_turn<R: Threads + Wait + Sync + Abort>(rt: &R, alloc: Global) -> JobsReport<Counter> {
     let full = verified(rt, alloc, SUBMIT_FULL, 1);
     let long = verified(rt, alloc, SUBMIT_42_LONG, 1);
     let jobs = jobs_in_turn(rt, alloc, &full, &long);

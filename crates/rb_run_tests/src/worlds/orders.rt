@@ -20,7 +20,7 @@ enum Status {
 }
 
 #[derive(Clone, Copy)]
-struct Record {
+struct PlainRecord {
     worker: u32,
     status: Status,
 }
@@ -32,7 +32,7 @@ struct PlainRing {
     producer: u64,
     consumer: u64,
     refused: u64,
-    records: Vec<Record>,
+    records: Vec<PlainRecord>,
     /// The workers whose records were taken, in order.
     taken: Vec<u32>,
 }
@@ -57,7 +57,7 @@ impl PlainRing {
         }
         self.producer = end;
         self.records
-            .push(Record {
+            .push(PlainRecord {
                 worker,
                 status: Status::Busy,
             })

@@ -10,7 +10,7 @@ use Rattle.rb_chapter_ring.specs.declared.faults.ReserveFault.TheVariants.{Flags
 use Rattle.rb_chapter_ring.specs.RingFaults.{RefusesInChapter}
 use Rattle.rb_chapter_ring.specs.declared.record_end.RecordEnd.{RecordEnd}
 use Rattle.rb_chapter_ring.specs.HandRing.{HandRing, GrantsToHand}
-use Rattle.rb_chapter_ring.specs.HandEnds.{EndsFromHand}
+use Rattle.rb_chapter_ring.specs.RecordEnds.{EndsFromHand}
 use Rattle.rb_chapter_ring.specs.HandGranted.{HandGranted}
 
 abbrev pub ReservesToHand : ℕ → ℕ → ℕ → Result HandGranted (ReserveFault × List ℕ) → HandRing → HandRing → Type 0

@@ -21,12 +21,12 @@ const MARGIN: u32 = ROOM / 2;
 
 // What the consumer has beside its seat: the records that it took last, and what hands the ring's chapters out.
 #[derive(Drop)]
-struct Desk {
+struct BenchDesk {
     batch: Batch,
     keeper: Keeper,
 }
 
-impl Consumer for Desk {
+impl Consumer for BenchDesk {
     // Hands the ring's chapter out where it is due, and takes a batch.
     fn look<R: Wait>(&mut self, rt: &R, ring: &SharedRing, seat: &mut ConsumerSeat) -> Found {
         let _turned = self.keeper.turn(rt, ring, seat);
@@ -76,7 +76,7 @@ fn run_threads<R: Threads + Wait + Sync>(
     requires workers { IsWorkerCount producers }
     ensures { HasOwnSeats opened.new }
 {
-    let mut desk = Desk {
+    let mut desk = BenchDesk {
         batch: Batch::with_capacity(alloc, BATCH)?,
         keeper: Keeper::with_margin(Chapter::new(alloc, ROOM, producers)?, MARGIN),
     };

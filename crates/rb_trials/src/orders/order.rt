@@ -2,17 +2,17 @@
 
 ghost use Rattle.std.specs.Prelude.{◌<◌, IfSome, length};
 
-use super::plan::Plan;
+use super::plan::OrdersPlan;
 use std::alloc::{AllocError, Global};
 
 /// The first order: each worker once for each of its steps, then the consumer, whose letter follows those of the workers.
-pub(crate) fn first_order(alloc: Global, plan: &Plan) -> Result<Vec<u32>, AllocError> {
+pub(crate) fn first_order(alloc: Global, plan: &OrdersPlan) -> Result<Vec<u32>, AllocError> {
     let mut order = Vec::new(alloc);
     push_first(&mut order, plan)?;
     Ok(order)
 }
 
-fn push_first(order: &mut Vec<u32>, plan: &Plan) -> Result<(), AllocError> {
+fn push_first(order: &mut Vec<u32>, plan: &OrdersPlan) -> Result<(), AllocError> {
     let mut letter: u32 = 0;
     for worker in &plan.workers {
         for _ in 0..worker.steps.len() {

@@ -15,7 +15,7 @@ pub(crate) struct PlannedWorker {
 
 /// Workers, and the takes of the consumer.
 #[derive(Drop)]
-pub(crate) struct Plan {
+pub(crate) struct OrdersPlan {
     pub(crate) workers: Vec<PlannedWorker>,
     /// How many takes stand among the steps.
     pub(crate) takes: u32,
@@ -25,9 +25,9 @@ pub(crate) struct Plan {
     pub(crate) last: u32,
 }
 
-impl Plan {
+impl OrdersPlan {
     /// The plan that some words spell.
-    pub(crate) fn read(alloc: Global, words: &[String]) -> Result<Plan, TrialFault> {
+    pub(crate) fn read(alloc: Global, words: &[String]) -> Result<OrdersPlan, TrialFault> {
         let [takes, after, last, rest @ ..] = words else {
             return Err(TrialFault::Usage);
         };
@@ -36,7 +36,7 @@ impl Plan {
             number(after.as_str())?,
             number(last.as_str())?,
         );
-        Ok(Plan {
+        Ok(OrdersPlan {
             workers: workers_of(alloc, rest)?,
             takes,
             after,

@@ -2,7 +2,7 @@
 
 use super::end_line::write_end;
 use super::order::{advance, first_order};
-use super::plan::Plan;
+use super::plan::OrdersPlan;
 use crate::fault::TrialFault;
 use rb_world::{Actor, RingSetup, WorkerSetup, World};
 use std::alloc::Global;
@@ -18,7 +18,7 @@ const RING: RingSetup = RingSetup {
 /// Runs every order of a plan, and writes the line of its end.
 pub(crate) fn run_orders<W: Write>(
     alloc: Global,
-    plan: &Plan,
+    plan: &OrdersPlan,
     out: &mut W,
 ) -> Result<(), TrialFault> {
     let workers = setups_of(alloc, plan)?;
@@ -26,7 +26,7 @@ pub(crate) fn run_orders<W: Write>(
     run_from(alloc, plan, workers.as_slice(), order.as_mut_slice(), out)
 }
 
-fn setups_of(alloc: Global, plan: &Plan) -> Result<Vec<WorkerSetup<'_>>, TrialFault> {
+fn setups_of(alloc: Global, plan: &OrdersPlan) -> Result<Vec<WorkerSetup<'_>>, TrialFault> {
     let mut workers = Vec::new(alloc);
     for worker in &plan.workers {
         workers.push(WorkerSetup {
@@ -40,7 +40,7 @@ fn setups_of(alloc: Global, plan: &Plan) -> Result<Vec<WorkerSetup<'_>>, TrialFa
 // Runs this order and those that come after it.
 fn run_from<W: Write>(
     alloc: Global,
-    plan: &Plan,
+    plan: &OrdersPlan,
     workers: &[WorkerSetup<'_>],
     order: &mut [u32],
     out: &mut W,
@@ -58,7 +58,7 @@ fn run_from<W: Write>(
 // Runs an order in a world of its own, and writes the line of its end.
 fn run_one<W: Write>(
     alloc: Global,
-    plan: &Plan,
+    plan: &OrdersPlan,
     workers: &[WorkerSetup<'_>],
     order: &[u32],
     steps: &mut Vec<usize>,
@@ -75,7 +75,7 @@ fn run_one<W: Write>(
 }
 
 // Runs the steps of an order.
-fn run_order(plan: &Plan, world: &mut World<'_>, order: &[u32], done: &mut [usize]) {
+fn run_order(plan: &OrdersPlan, world: &mut World<'_>, order: &[u32], done: &mut [usize]) {
     for letter in order {
         let place = *letter as usize;
         match (plan.workers.get(place), done.get_mut(place)) {

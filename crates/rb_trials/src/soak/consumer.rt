@@ -3,7 +3,7 @@
 ghost use Rattle.std.specs.Prelude.{◌≡◌};
 ghost use Rattle.rb_shared_ring.specs.SharedSeats.{IsSameChapterConsumer};
 
-use super::seen::Seen;
+use super::seen::SeenRecords;
 use rb_chapter_ring::Chapter;
 use rb_consumer::{Batch, Keeper};
 use rb_for_tests::{Consumer, Found};
@@ -16,18 +16,18 @@ pub(crate) const BATCH: usize = 64;
 
 /// What a consumer has beside its seat.
 #[derive(Drop)]
-pub(crate) struct Desk {
+pub(crate) struct SoakDesk {
     pub(crate) alloc: Global,
     pub(crate) batch: Batch,
     pub(crate) keeper: Keeper,
-    pub(crate) seen: Seen,
+    pub(crate) seen: SeenRecords,
     /// Whether each chapter is copied.
     pub(crate) is_bound: bool,
     /// The chapters, copied.
     pub(crate) chapters: Vec<Chapter>,
 }
 
-impl Consumer for Desk {
+impl Consumer for SoakDesk {
     // Turns the ring's chapter, takes a batch, and looks at each of its records.
     fn look<R: Wait>(&mut self, rt: &R, ring: &SharedRing, seat: &mut ConsumerSeat) -> Found {
         self.turn(rt, ring, seat);
@@ -39,7 +39,7 @@ impl Consumer for Desk {
     }
 }
 
-impl Desk {
+impl SoakDesk {
     // Hands the ring's chapter out where it is due, and keeps a copy where the chapters are to be bound, which looks at their numbers.
     fn turn<R: Wait>(&mut self, rt: &R, ring: &SharedRing, seat: &mut ConsumerSeat)
         requires { seat.old.ring ≡ ring.now.ring }

@@ -11,7 +11,7 @@ const BOUND_STEPS: u64 = 20_000;
 
 /// Rings of one kind, each with so many workers of its own, of which each makes so many steps.
 #[derive(Clone, Copy)]
-pub(crate) struct Plan {
+pub(crate) struct SoakPlan {
     pub(crate) workers: u32,
     pub(crate) rings: usize,
     pub(crate) size: u64,
@@ -20,13 +20,13 @@ pub(crate) struct Plan {
     pub(crate) seed: u64,
 }
 
-impl Plan {
+impl SoakPlan {
     /// The plan that some words spell.
-    pub(crate) fn read(words: &[String]) -> Result<Plan, TrialFault> {
+    pub(crate) fn read(words: &[String]) -> Result<SoakPlan, TrialFault> {
         let [workers, rings, size, room, steps, seed] = words else {
             return Err(TrialFault::Usage);
         };
-        let plan = Plan {
+        let plan = SoakPlan {
             workers: small(workers.as_str()),
             rings: (small(rings.as_str()) as usize).min(MOST_RINGS),
             size: number(size.as_str()),

@@ -4,10 +4,10 @@ ghost use Rattle.rb_history.specs.RingModel.{IsWorkerCount};
 ghost use Rattle.rb_chapter_ring.specs.Chapters.{IsChapterRoom};
 ghost use Rattle.rb_for_tests.specs.OwnSeats.{HasOwnSeats};
 
-use super::consumer::{BATCH, Desk};
-use super::plan::Plan;
-use super::seen::Seen;
-use super::sums::Sums;
+use super::consumer::{BATCH, SoakDesk};
+use super::plan::SoakPlan;
+use super::seen::SeenRecords;
+use super::sums::SoakSums;
 use super::worker::Steps;
 use crate::fault::TrialFault;
 use rb_chapter_ring::Chapter;
@@ -22,9 +22,9 @@ use std::thread::Threads;
 pub(crate) fn round<R: Threads + Wait + Sync>(
     rt: &R,
     alloc: Global,
-    plan: Plan,
+    plan: SoakPlan,
     tag: u64,
-) -> Result<Sums, TrialFault> {
+) -> Result<SoakSums, TrialFault> {
     let Ok(mut open) = OpenRing::open(rt, alloc, tag, plan.size, plan.workers, plan.room) else {
         return Err(TrialFault::Ring);
     };
@@ -34,23 +34,28 @@ pub(crate) fn round<R: Threads + Wait + Sync>(
 }
 
 // What the consumer has at the beginning.
-fn desk_for(alloc: Global, plan: &Plan) -> Result<Desk, AllocError>
+fn desk_for(alloc: Global, plan: &SoakPlan) -> Result<SoakDesk, AllocError>
     requires room { IsChapterRoom plan.now.room }
     requires workers { IsWorkerCount plan.now.workers }
 {
     let chapter = Chapter::new(alloc, plan.room, plan.workers)?;
-    Ok(Desk {
+    Ok(SoakDesk {
         alloc,
         batch: Batch::with_capacity(alloc, BATCH)?,
         keeper: Keeper::with_margin(chapter, plan.room / 4),
-        seen: Seen::new(alloc, plan.workers)?,
+        seen: SeenRecords::new(alloc, plan.workers)?,
         is_bound: plan.is_bound(),
         chapters: Vec::new(alloc),
     })
 }
 
 // Closes the ring, and tells what its seats, its consumer and it itself counted.
-fn close<R: Wait>(rt: &R, alloc: Global, opened: OpenRing, desk: Desk) -> Result<Sums, TrialFault>
+fn close<R: Wait>(
+    rt: &R,
+    alloc: Global,
+    opened: OpenRing,
+    desk: SoakDesk,
+) -> Result<SoakSums, TrialFault>
     requires { HasOwnSeats opened }
 {
     let mut sums = sums_of(opened.seats.as_slice(), &opened.consumer, &desk.seen);
@@ -65,8 +70,8 @@ fn close<R: Wait>(rt: &R, alloc: Global, opened: OpenRing, desk: Desk) -> Result
 }
 
 // What the seats counted, and whether it is what the consumer saw of each worker.
-fn sums_of(seats: &[Seat], consumer: &ConsumerSeat, seen: &Seen) -> Sums {
-    let mut sums = Sums::none();
+fn sums_of(seats: &[Seat], consumer: &ConsumerSeat, seen: &SeenRecords) -> SoakSums {
+    let mut sums = SoakSums::none();
     for seat in seats {
         add_seat(&mut sums, seat, seen);
     }
@@ -74,7 +79,7 @@ fn sums_of(seats: &[Seat], consumer: &ConsumerSeat, seen: &Seen) -> Sums {
     sums
 }
 
-fn add_seat(sums: &mut Sums, seat: &Seat, seen: &Seen) {
+fn add_seat(sums: &mut SoakSums, seat: &Seat, seen: &SeenRecords) {
     let (made, submitted, discarded) = (seat.made(), seat.submitted(), seat.discarded());
     sums.expect(made == submitted.wrapping_add(discarded));
     sums.expect(submitted == seen.events_of(seat.worker()));
@@ -84,7 +89,7 @@ fn add_seat(sums: &mut Sums, seat: &Seat, seen: &Seen) {
     sums.discarded = sums.discarded.wrapping_add(discarded);
 }
 
-fn add_consumer(sums: &mut Sums, consumer: &ConsumerSeat, seen: &Seen) {
+fn add_consumer(sums: &mut SoakSums, consumer: &ConsumerSeat, seen: &SeenRecords) {
     let (skipped, position) = (seen.skipped, seen.position);
     sums.expect(consumer.skipped() == skipped);
     sums.expect(consumer.position() == position);
@@ -95,7 +100,7 @@ fn add_consumer(sums: &mut Sums, consumer: &ConsumerSeat, seen: &Seen) {
 }
 
 // Whether the closed ring counted what its seats and its consumer did.
-fn check_closing(closing: &Closing, sums: &mut Sums) {
+fn check_closing(closing: &Closing, sums: &mut SoakSums) {
     let counts = closing.counts();
     sums.expect(counts.made == sums.made && counts.refused == sums.refused);
     sums.expect(counts.consumed == sums.submitted && counts.consumed == sums.consumed);
@@ -106,7 +111,7 @@ fn check_closing(closing: &Closing, sums: &mut Sums) {
 }
 
 // Binds the chapters: the history has an entry for each grant, each refusal, each end and each take.
-fn bind(alloc: Global, closing: Closing, chapters: Vec<Chapter>, sums: &mut Sums) {
+fn bind(alloc: Global, closing: Closing, chapters: Vec<Chapter>, sums: &mut SoakSums) {
     match closing.bind(alloc, chapters) {
         Ok(whole) => {
             sums.bound = whole.history().len() as u64;

@@ -15,7 +15,7 @@ struct SeenWorker {
 
 /// What was seen of a ring's records, and how many things were wrong with them.
 #[derive(Drop)]
-pub(crate) struct Seen {
+pub(crate) struct SeenRecords {
     workers: Vec<SeenWorker>,
     /// The position of the next record.
     pub(crate) position: u64,
@@ -24,11 +24,11 @@ pub(crate) struct Seen {
     pub(crate) wrong: u64,
 }
 
-impl Seen {
+impl SeenRecords {
     /// Nothing, of so many workers.
-    pub(crate) fn new(alloc: Global, workers: u32) -> Result<Seen, AllocError> {
+    pub(crate) fn new(alloc: Global, workers: u32) -> Result<SeenRecords, AllocError> {
         let none = SeenWorker { next: 0, events: 0 };
-        Ok(Seen {
+        Ok(SeenRecords {
             workers: vec![in alloc; none; workers as usize]?,
             position: 0,
             skipped: 0,

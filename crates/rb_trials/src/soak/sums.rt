@@ -2,7 +2,7 @@
 
 /// What the seats and the consumers of some rings counted, and how many things were wrong.
 #[derive(Clone, Copy)]
-pub(crate) struct Sums {
+pub(crate) struct SoakSums {
     pub(crate) made: u64,
     pub(crate) refused: u64,
     pub(crate) submitted: u64,
@@ -16,10 +16,10 @@ pub(crate) struct Sums {
     pub(crate) wrong: u64,
 }
 
-impl Sums {
+impl SoakSums {
     /// Of no ring.
-    pub(crate) fn none() -> Sums {
-        Sums {
+    pub(crate) fn none() -> SoakSums {
+        SoakSums {
             made: 0,
             refused: 0,
             submitted: 0,
@@ -33,7 +33,7 @@ impl Sums {
     }
 
     /// Adds those of other rings.
-    pub(crate) fn add(&mut self, other: &Sums) {
+    pub(crate) fn add(&mut self, other: &SoakSums) {
         self.made = self.made.wrapping_add(other.made);
         self.refused = self.refused.wrapping_add(other.refused);
         self.submitted = self.submitted.wrapping_add(other.submitted);

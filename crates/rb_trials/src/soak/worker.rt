@@ -5,7 +5,7 @@ ghost use Rattle.rb_ledger.specs.Seats.{IsSameSeat};
 
 use super::bytes::write;
 use super::draw::Draw;
-use super::plan::Plan;
+use super::plan::SoakPlan;
 use rb_for_tests::{Producer, output, sheet};
 use rb_lend::Lent;
 use rb_shared_ring::{Reservation, Seat, SharedRing, WaitBackoff};
@@ -16,7 +16,7 @@ use std::sync::Wait;
 #[derive(Clone, Copy)]
 pub(crate) struct Steps {
     pub(crate) alloc: Global,
-    pub(crate) plan: Plan,
+    pub(crate) plan: SoakPlan,
 }
 
 impl Producer for Steps {

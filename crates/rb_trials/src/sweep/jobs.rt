@@ -11,7 +11,7 @@ use crate::listing::listed;
 use rb_interp::RunFault;
 use rb_shared_ring::OpenFault;
 use rb_verifier::Verified;
-use rb_workers::{Job, JobFault, NullSink, OpenGate, Opened, Report, run_jobs};
+use rb_workers::{Job, JobFault, JobsReport, NullSink, OpenGate, Opened, run_jobs};
 use std::alloc::Global;
 use std::fmt::Display;
 use std::io::Print;
@@ -75,7 +75,7 @@ fn tell_answer<R: Print, T: Display>(rt: &R, answer: &T) {
 }
 
 // How many records found no memory that no entry tells of, and where each ring stands at its end.
-fn tell_report<R: Print>(rt: &R, report: &Report<NullSink>) {
+fn tell_report<R: Print>(rt: &R, report: &JobsReport<NullSink>) {
     let (unlogged, strays) = (report.unlogged, report.strays);
     let _ = println!(rt; "unlogged {unlogged} strays {strays}");
     for ended in &report.rings {
@@ -90,7 +90,7 @@ fn report<R: Threads + Wait + Sync + Print>(
     alloc: Global,
     rings: Vec<Opened<NullSink>>,
     jobs: &[Job<'_>],
-) -> Result<Report<NullSink>, TrialFault>
+) -> Result<JobsReport<NullSink>, TrialFault>
     requires { AreOpened (λ s. s.position) rings.items }
 {
     let mut rings = rings;

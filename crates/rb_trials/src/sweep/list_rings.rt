@@ -4,10 +4,10 @@ ghost use Rattle.std.specs.Prelude.{◌≡◌, IfOk};
 
 use super::memory::{TRIES, tell_memory};
 use super::sheets::{LONG, is_filled};
-use super::standing::{Standing, Stands, sheet_beside, tell};
+use super::standing::{RingStanding, Stands, sheet_beside, tell};
 use crate::fault::TrialFault;
-use rb_for_tests::RingState;
-use rb_history::{CONS_POS, OpenFault, PROD_POS, Reservation, ReserveFault, Taken};
+use rb_for_tests::{PlainOpenFault, PlainReservation, PlainRing};
+use rb_history::{CONS_POS, NoGrant, PROD_POS, Taken};
 use rb_lend::Sheet;
 use std::alloc::Global;
 use std::io::Print;
@@ -15,9 +15,9 @@ use std::io::Print;
 // How often two records are sent.
 const ROUNDS: u32 = 4;
 
-impl Stands for RingState {
-    fn standing(&self) -> Standing {
-        Standing {
+impl Stands for PlainRing {
+    fn standing(&self) -> RingStanding {
+        RingStanding {
             chapters: 0,
             entries: self.history().len() as u64,
             producer: self.query(PROD_POS),
@@ -36,7 +36,7 @@ pub(crate) fn run<R: Print>(rt: &R, alloc: Global) -> Result<(), TrialFault> {
 }
 
 // Sends the records of all rounds.
-fn send_all<R: Print>(rt: &R, alloc: Global, ring: &mut RingState) -> Result<(), TrialFault>
+fn send_all<R: Print>(rt: &R, alloc: Global, ring: &mut PlainRing) -> Result<(), TrialFault>
     requires { ring.old.setup.workers ≡ 1 }
 {
     for _ in 0..ROUNDS {
@@ -48,7 +48,7 @@ fn send_all<R: Print>(rt: &R, alloc: Global, ring: &mut RingState) -> Result<(),
 }
 
 // Reserves a record and submits it.
-fn submit<R: Print>(rt: &R, alloc: Global, ring: &mut RingState) -> Result<(), TrialFault>
+fn submit<R: Print>(rt: &R, alloc: Global, ring: &mut PlainRing) -> Result<(), TrialFault>
     requires { ring.old.setup.workers ≡ 1 }
     ensures { ring.new.setup ≡ ring.old.setup }
 {
@@ -62,13 +62,13 @@ fn submit<R: Print>(rt: &R, alloc: Global, ring: &mut RingState) -> Result<(), T
 }
 
 // A ring of 4,096 bytes with one worker.
-fn opened<R: Print>(rt: &R, alloc: Global) -> Result<RingState, TrialFault>
+fn opened<R: Print>(rt: &R, alloc: Global) -> Result<PlainRing, TrialFault>
     ensures { IfOk result (λ ring. ring.setup.workers ≡ 1) }
 {
     for _ in 0..TRIES {
-        match RingState::new(alloc, 4096, 0, 1) {
+        match PlainRing::new(alloc, 4096, 0, 1) {
             Ok(ring) => return Ok(ring),
-            Err(OpenFault::Memory) => tell_memory(rt, "open"),
+            Err(PlainOpenFault::Memory) => tell_memory(rt, "open"),
             Err(_) => return Err(TrialFault::Otherwise("open")),
         }
     }
@@ -76,7 +76,11 @@ fn opened<R: Print>(rt: &R, alloc: Global) -> Result<RingState, TrialFault>
 }
 
 // Reserves a record in a long sheet.
-fn reserve<R: Print>(rt: &R, alloc: Global, ring: &mut RingState) -> Result<Reservation, TrialFault>
+fn reserve<R: Print>(
+    rt: &R,
+    alloc: Global,
+    ring: &mut PlainRing,
+) -> Result<PlainReservation, TrialFault>
     requires { ring.old.setup.workers ≡ 1 }
     ensures { ring.new.setup ≡ ring.old.setup }
 {
@@ -92,7 +96,7 @@ fn reserve<R: Print>(rt: &R, alloc: Global, ring: &mut RingState) -> Result<Rese
 }
 
 // Outputs a long sheet.
-fn output<R: Print>(rt: &R, alloc: Global, ring: &mut RingState) -> Result<(), TrialFault>
+fn output<R: Print>(rt: &R, alloc: Global, ring: &mut PlainRing) -> Result<(), TrialFault>
     requires { ring.old.setup.workers ≡ 1 }
     ensures { ring.new.setup ≡ ring.old.setup }
 {
@@ -108,17 +112,17 @@ fn output<R: Print>(rt: &R, alloc: Global, ring: &mut RingState) -> Result<(), T
 }
 
 // The sheet as it was, from a call that found no memory.
-fn handed_back(call: &'static str, fault: ReserveFault, sheet: Sheet) -> Result<Sheet, TrialFault>
+fn handed_back(call: &'static str, fault: NoGrant, sheet: Sheet) -> Result<Sheet, TrialFault>
     ensures { IfOk result (λ back. back ≡ sheet) }
 {
     match fault {
-        ReserveFault::Memory if is_filled(&sheet, LONG) => Ok(sheet),
+        NoGrant::Memory if is_filled(&sheet, LONG) => Ok(sheet),
         _ => Err(TrialFault::Otherwise(call)),
     }
 }
 
 // Takes the records of all rounds.
-fn take_all<R: Print>(rt: &R, ring: &mut RingState) -> Result<(), TrialFault> {
+fn take_all<R: Print>(rt: &R, ring: &mut PlainRing) -> Result<(), TrialFault> {
     for _ in 0..2 * ROUNDS {
         let Taken::Event(_, _, _, _) = ring.take() else {
             return Err(TrialFault::Otherwise("take"));

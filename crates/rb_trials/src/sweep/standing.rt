@@ -11,7 +11,7 @@ use std::alloc::Global;
 use std::io::Print;
 
 /// Where a ring stands: how many chapters of its history were handed out, how many entries stand behind those, its positions and its counts.
-pub(crate) struct Standing {
+pub(crate) struct RingStanding {
     pub(crate) chapters: u64,
     pub(crate) entries: u64,
     pub(crate) producer: u64,
@@ -22,12 +22,12 @@ pub(crate) struct Standing {
 /// A ring of one thread.
 pub(crate) trait Stands {
     /// Where it stands.
-    fn standing(&self) -> Standing;
+    fn standing(&self) -> RingStanding;
 }
 
 /// Prints where a ring stands after a call.
 pub(crate) fn tell<R: Print, T: Stands>(rt: &R, call: &str, ring: &T) {
-    let Standing {
+    let RingStanding {
         chapters,
         entries,
         producer,

@@ -1,13 +1,12 @@
 -- What becomes of consumers and sinks.
-use Rattle.std.specs.Prelude.{◌≡◌, ℕ, ◌<◌, ◌≤◌, List, [], ◌∷◌, All, length, vec_capacity}
+use Rattle.std.specs.Prelude.{◌≡◌, ℕ, ◌<◌, ◌≤◌, List, [], All, IfSome, length, map, vec_capacity}
 use Rattle.std.specs.FinMap.{get}
 use Rattle.rb_history.specs.declared.answers.Taken.{Taken}
-use Rattle.rb_history.specs.declared.answers.Taken.TheVariants.{Event as TakenEvent, Skipped, BusyFront, Empty}
 use Rattle.rb_ledger.specs.Roles.{BeginsWith}
 use Rattle.rb_ledger.specs.Seats.{Shared}
 use Rattle.rb_ledger.specs.ChapterSeats.{ChapterConsumerSeat}
-use Rattle.rb_workers.specs.Sink.{SinkItem, GetsTaken}
-use Rattle.rb_workers.specs.Sink.SinkItem.{Event, Skip, Chapter}
+use Rattle.rb_workers.specs.Sink.{SinkItem, GetsTaken, sink_position}
+use Rattle.rb_workers.specs.Sink.SinkItem.{Record}
 use Rattle.rb_workers.specs.declared.opened.Opened.{Opened}
 use Rattle.rb_workers.specs.declared.consumer_task.ConsumerTask.{ConsumerTask}
 use Rattle.rb_workers.specs.Opened.{IsKeeperFor, SinkGetsTaken}
@@ -26,17 +25,11 @@ IsConsumerTaskOf position ring task =
 
 -- what these answers of `take` give to a sink
 abbrev pub items_among : List Taken → List SinkItem
-items_among [] = []
-items_among (TakenEvent p w k bytes ∷ ts) = Event p w k bytes ∷ items_among ts
-items_among (Skipped p n ∷ ts) = Skip p n ∷ items_among ts
-items_among (BusyFront ∷ ts) = items_among ts
-items_among (Empty ∷ ts) = items_among ts
+items_among taken = map Record taken
 
 -- where the item is a record, it stands before this position
 abbrev pub IsBefore : ℕ → SinkItem → Type 0
-IsBefore at (Event p w k bytes) = p < at
-IsBefore at (Skip p n) = p < at
-IsBefore at (Chapter chapter) = Unit {0}
+IsBefore at item = IfSome (sink_position item) (λ p. p < at)
 
 -- the sink was given what the consumer took and handed out; its records stand before the consumer's position, and what the consumer had
 -- got stays

@@ -1,5 +1,5 @@
 -- Why a world is not opened or not run: the first refusal that applies.
-use Rattle.std.specs.Prelude.{ℕ, List, All, length}
+use Rattle.std.specs.Prelude.{List, All, length}
 use Rattle.rb_history.specs.RingModel.{IsWorkerCount}
 use Rattle.rb_world.specs.declared.actor.Actor.{Actor}
 use Rattle.rb_world.specs.declared.opening.RingSetup.{RingSetup}

@@ -1,6 +1,6 @@
 use Rattle.std.proofs.Common.{◌∙◌, ap, map, subst}
 use Rattle.std.specs.Io.KnownBytes.{Appends}
-use Rattle.rb_run_commands.specs.Printed.{run_lines}
+use Rattle.rb_run_commands.specs.Printed.{check_lines}
 use Rattle.rb_loader.proofs.InputText.{holds_of_input}
 use Rattle.rb_run_commands.proofs.check_command.check.Goals as goal
 
@@ -11,5 +11,5 @@ returns-in-Ok-clause-printed g c =
       value = c.in_ok-value.field-0.value;
       records = map (λ ring. ring.items) c.in_ok-value.field-0.records.items;
       checked = c.in_ok-value.ensures.checked;
-      printed = subst (Appends _ _) (c.as_slice-3.ensures.value ∙ c.in_ok-printed.ensures.lines ∙ ap (λ rings. run_lines c.args.form c.in_ok-value.field-0.value (map (λ ring. ring.items) rings)) c.as_slice-2.ensures.value) c.in-Ok.ensures.whole;
+      printed = subst (Appends _ _) (c.as_slice-3.ensures.value ∙ c.in_ok-printed.ensures.lines ∙ ap (λ rings. check_lines c.args.form c.in_ok-value.field-0.value (map (λ ring. ring.items) rings)) c.as_slice-2.ensures.value) c.in-Ok.ensures.whole;
     })

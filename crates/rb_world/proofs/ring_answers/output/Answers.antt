@@ -4,11 +4,11 @@ use Rattle.rb_world.specs.inner.RingAnswers.{IsOutput, IsWholeAnswer}
 use Rattle.rb_world.proofs.WholeCalls.{output-bad, output-unlogged, output-made, output-refused}
 use Rattle.rb_world.proofs.ring_answers.output.Goals as goal
 
-pub returns-then-flags-gt3-clause-given : goal.returns-then-flags-gt3-clause-given
-returns-then-flags-gt3-clause-given c = output-bad c.args.ring.now.state.ring c.args.ring.now.state.ring c.args.worker c.args.bytes.now c.args.flags c.if-flags-gt3.true refl
+pub returns-then-flags-gt-KNOWN_FLAGS-clause-given : goal.returns-then-flags-gt-KNOWN_FLAGS-clause-given
+returns-then-flags-gt-KNOWN_FLAGS-clause-given c = output-bad c.args.ring.now.state.ring c.args.ring.now.state.ring c.args.worker c.args.bytes.now c.args.flags c.if-flags-gt-KNOWN_FLAGS.true refl
 
 pub returns-in_default-clause-given : goal.returns-in_default-clause-given
-returns-in_default-clause-given c = output-unlogged c.args.ring.now.state.ring c.args.ring.now.state.ring c.args.worker c.args.bytes.now c.args.flags c.if-flags-gt3.false refl
+returns-in_default-clause-given c = output-unlogged c.args.ring.now.state.ring c.args.ring.now.state.ring c.args.worker c.args.bytes.now c.args.flags c.if-flags-gt-KNOWN_FLAGS.false refl
 
 pub returns-in-Ok-clause-given : goal.returns-in-Ok-clause-given
 returns-in-Ok-clause-given c =
@@ -17,5 +17,5 @@ returns-in-Ok-clause-given c =
 
 pub returns-in-Err-clause-given : goal.returns-in-Err-clause-given
 returns-in-Err-clause-given c =
-    subst (λ code. IsWholeAnswer (λ v v'. IsOutput v v' c.args.worker c.args.bytes.now c.args.flags (to_z w64 (of_z w64 code))) c.args.ring.now.state.ring c.output.new.self.state.ring) (sym c.refused-code.ensures.code)
-    (output-refused c.args.ring.now.state.ring c.output.new.self.state.ring c.args.worker (length c.in-Some.sheet) c.args.bytes.now c.args.flags c.in-Err.fault c.requires.worker c.if-flags-gt3.false (ap length c.in-Some.ensures.copied) c.refused-code.ensures.stands c.in-Err.ensures.refused)
+    subst (λ code. IsWholeAnswer (λ v v'. IsOutput v v' c.args.worker c.args.bytes.now c.args.flags (to_z w64 (of_z w64 code))) c.args.ring.now.state.ring c.output.new.self.state.ring) (sym c.code_of_refusal-code.ensures.code)
+    (output-refused c.args.ring.now.state.ring c.output.new.self.state.ring c.args.worker (length c.in-Some.sheet) c.args.bytes.now c.args.flags c.in-Err.fault c.requires.worker c.if-flags-gt-KNOWN_FLAGS.false (ap length c.in-Some.ensures.copied) c.code_of_refusal-code.ensures.stands c.in-Err.ensures.refused)

@@ -4,7 +4,7 @@ use Rattle.rb_chapter_ring.specs.Standing.{Standing, record_in}
 use Rattle.rb_chapter_ring.specs.Chapters.{Chapter, closing_of}
 use Rattle.rb_chapter_ring.specs.ChapterRoom.{IsBusyNow, record_now, with_entry}
 use Rattle.rb_chapter_ring.specs.inner.ChapterBody.{chapter_shown, IsBehindTakes}
-use Rattle.rb_chapter_ring.specs.inner.EndSteps.{entry_of_end, status_of_end}
+use Rattle.rb_chapter_ring.specs.RecordEnds.{entry_of_end, status_of_end}
 use Rattle.rb_chapter_ring.proofs.Running.{records-owe}
 use Rattle.rb_chapter_ring.proofs.Settling.{index-fits, worker-fits, few, same-now, ended}
 use Rattle.rb_chapter_ring.proofs.chapter.Chapter.log_end.Goals as goal

@@ -6,7 +6,8 @@ use Rattle.rb_chapter_ring.specs.Chapters.{Chapter, closing_of}
 use Rattle.rb_chapter_ring.specs.ChapterRing.{ChapterRing}
 use Rattle.rb_chapter_ring.specs.ChapterRoom.{record_now, with_entry}
 use Rattle.rb_chapter_ring.specs.inner.Ordinals.{KeepsNumbers, KeepsOrdinals, taken_before}
-use Rattle.rb_chapter_ring.specs.inner.EndSteps.{contents_with_end, discards_by_end, entry_of_end, slots_with_end}
+use Rattle.rb_chapter_ring.specs.inner.EndSteps.{contents_with_end, discards_by_end, slots_with_end}
+use Rattle.rb_chapter_ring.specs.RecordEnds.{entry_of_end}
 use Rattle.rb_chapter_ring.specs.inner.ChapterRingBody.{IsRingOf, stored_of}
 use Rattle.rb_chapter_ring.proofs.CountSteps.{counting_end, countable}
 use Rattle.rb_chapter_ring.proofs.Numbers.{ordinals-end}

@@ -5,7 +5,7 @@ use Rattle.rb_history.specs.inner.RecordRows.{IsBusyAt}
 use Rattle.rb_chapter_ring.specs.ChapterCalls.{consumer_by_chapter}
 use Rattle.rb_chapter_ring.specs.Hands.{with_hand}
 use Rattle.rb_chapter_ring.specs.HandRing.{HandRing, hand_ring, HasInHand}
-use Rattle.rb_chapter_ring.specs.HandEnds.{EndsFromHand}
+use Rattle.rb_chapter_ring.specs.RecordEnds.{EndsFromHand}
 use Rattle.rb_chapter_ring.specs.HandGranted.{HandGranted}
 use Rattle.rb_chapter_ring.proofs.HandCalls.{in-hand-is-busy}
 use Rattle.rb_chapter_ring.proofs.StateSteps.{out-below, ends-from, ended-holds}

@@ -5,7 +5,7 @@ use Rattle.rb_ledger.specs.Roles.Role.{Worker}
 use Rattle.rb_ledger.specs.Seats.{WorkerSeat, Ties}
 use Rattle.rb_ledger.specs.LockedCalls.{LockedCall}
 use Rattle.rb_ledger.specs.EntryRoom.{InRoom}
-use Rattle.rb_ledger.specs.inner.RecordEnds.{EndsAt}
+use Rattle.rb_ledger.specs.RecordEnds.{EndsAt}
 use Rattle.rb_ledger.proofs.WholeCalls.{in-one-chapter}
 use Rattle.rb_shared_ring.specs.inner.HandPasses.{seen_with, cut_by}
 use Rattle.rb_shared_ring.proofs.SeatNumbers.{book-in, tied-low, end-tied, keeps-hands}

@@ -1,4 +1,4 @@
-use Rattle.std.proofs.Common.{ap, sym, subst, ◌∙◌}
+use Rattle.std.proofs.Common.{ap, subst, ◌∙◌}
 use Rattle.rb_semantics.specs.HelperCalls.{Told, resume}
 use Rattle.rb_semantics.specs.declared.pending_call.PendingCall.TheVariants as asked
 use Rattle.rb_history.specs.NoticesAndQueries.{query_answer}

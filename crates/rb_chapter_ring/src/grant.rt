@@ -1,0 +1,74 @@
+//! A record that the ring granted.
+
+ghost use Rattle.std.specs.Prelude.{◌≡◌, length};
+ghost use Rattle.rb_history.specs.ReservationModel.{Granted};
+
+use rb_lend::Sheet;
+use std::marker::Model;
+
+/// A granted record's numbers, and its bytes. A reservation has it, with the ring's tag and the worker's hand.
+#[derive(Drop)]
+pub(crate) struct Grant {
+    pub(crate) pos: u64,
+    pub(crate) worker: u32,
+    pub(crate) serial: u64,
+    pub(crate) sheet: Sheet,
+}
+
+impl Model for Grant {
+    ghost use Rattle.rb_history.specs.ReservationModel.{Granted};
+
+    ghost Value = { Granted };
+
+    ghost view = { λ g. record { pos = g.pos; worker = g.worker; serial = g.serial; bytes = g.sheet } };
+}
+
+impl Grant {
+    /// The grant of a record at a position, to this worker under this serial, as long as the sheet.
+    pub(crate) fn new(pos: u64, worker: u32, serial: u64, sheet: Sheet) -> Grant
+        ensures parts { result ≡ record { pos = pos; worker = worker; serial = serial; bytes = sheet } }
+    {
+        Grant {
+            pos,
+            worker,
+            serial,
+            sheet,
+        }
+    }
+
+    /// The record's position, in bytes.
+    pub(crate) fn pos(&self) -> u64
+        ensures value { result ≡ self.now.pos }
+    {
+        self.pos
+    }
+
+    /// The number of the worker that the record was granted to.
+    pub(crate) fn worker(&self) -> u32
+        ensures value { result ≡ self.now.worker }
+    {
+        self.worker
+    }
+
+    /// How many records this ring granted that worker before.
+    pub(crate) fn serial(&self) -> u64
+        ensures value { result ≡ self.now.serial }
+    {
+        self.serial
+    }
+
+    /// The record's length in bytes.
+    pub(crate) fn len(&self) -> u32
+        ensures value { result ≡ length self.now.bytes }
+    {
+        self.sheet.len()
+    }
+
+    /// The record's sheet, with the bytes that were written.
+    pub(crate) fn into_sheet(self) -> Sheet
+        ensures value { result ≡ self.bytes }
+    {
+        let Grant { sheet, .. } = self;
+        sheet
+    }
+}

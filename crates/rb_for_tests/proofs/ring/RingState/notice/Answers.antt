@@ -1,4 +1,0 @@
-use Rattle.rb_for_tests.proofs.ring.RingState.notice.Goals as goal
-
-pub returns : goal.returns
-returns c = record { due = rw (← c.self.view_is, ← c.self.invariant.kept.consumer_is) c.notice_for.ensures.due }
