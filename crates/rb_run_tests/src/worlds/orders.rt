@@ -27,7 +27,7 @@ struct PlainRecord {
 
 /// A ring of 4,096 bytes with records of one span, as the rules have it.
 #[derive(Drop)]
-struct PlainRing {
+struct OneSpanRing {
     span: u64,
     producer: u64,
     consumer: u64,
@@ -37,9 +37,9 @@ struct PlainRing {
     taken: Vec<u32>,
 }
 
-impl PlainRing {
-    fn new(alloc: Global, span: u64) -> PlainRing {
-        PlainRing {
+impl OneSpanRing {
+    fn new(alloc: Global, span: u64) -> OneSpanRing {
+        OneSpanRing {
             span,
             producer: 0,
             consumer: 0,
@@ -149,7 +149,7 @@ fn takers(rt: &impl Abort, alloc: Global, world: &World<'_>) -> Vec<u32> {
 fn go_on(
     rt: &impl Abort,
     world: &mut World<'_>,
-    plain: &mut PlainRing,
+    plain: &mut OneSpanRing,
     reserved: &mut [bool; 4],
     digit: u32,
     ends: Status,
@@ -169,7 +169,7 @@ fn go_on(
 }
 
 // Whether the world's ring stands as the plain one.
-fn is_alike(rt: &impl Abort, alloc: Global, world: &World<'_>, plain: &PlainRing) -> bool {
+fn is_alike(rt: &impl Abort, alloc: Global, world: &World<'_>, plain: &OneSpanRing) -> bool {
     let found = ring_0(rt, world);
     let taken = takers(rt, alloc, world);
     found == (plain.producer, plain.consumer, plain.counts())
@@ -186,7 +186,7 @@ fn runs_as_planned(
     ends: Status,
 ) -> bool {
     let mut world = opened(rt, alloc, workers);
-    let mut plain = PlainRing::new(alloc, span);
+    let mut plain = OneSpanRing::new(alloc, span);
     let mut reserved = [false; 4];
     let mut rest = code;
     for _ in 0..8 {
