@@ -152,7 +152,6 @@ fn record_words(kind: TapeKind) -> &'static str {
     }
 }
 
-// What memory was for.
 fn memory_reason(alloc: Global, request: &Subcommand<'_>) -> Result<String, AllocError> {
     match request {
         Subcommand::Run { jobs, .. } => {

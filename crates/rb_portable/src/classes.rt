@@ -130,7 +130,6 @@ fn sub_class(dst: Abs, by: Option<i64>) -> Option<LinuxClass>
     }
 }
 
-// How many bits a width has.
 fn bit_count(width: Width) -> i32
     ensures { result ≡ portability.bit_count width }
 {
@@ -140,7 +139,6 @@ fn bit_count(width: Width) -> i32
     }
 }
 
-// A shift.
 fn shift_class(width: Width, operand: Operand) -> Option<LinuxClass>
     ensures { result ≡ portability.shift_class width operand }
 {
@@ -170,7 +168,6 @@ fn binary_class(
     }
 }
 
-// A division.
 fn division_class(operand: Operand) -> Option<LinuxClass>
     ensures { result ≡ portability.division_class operand }
 {

@@ -64,7 +64,6 @@ fn answer_all<
     Ok(())
 }
 
-// Answers one line.
 fn answer_line<R: Threads + Wait + Sync + Files<File = File> + Clock + Eprint, W: Write>(
     rt: &R,
     alloc: Global,

@@ -22,7 +22,6 @@ use std::sync::Wait;
 use std::thread::Threads;
 use std::time::Clock;
 
-// A row.
 #[derive(Clone, Copy)]
 enum ProgramRow<'a> {
     // `units HEX`: bytes to a program and back.

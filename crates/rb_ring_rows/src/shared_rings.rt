@@ -254,7 +254,6 @@ fn put_back(ring: &SharedRing, seats: &mut Vec<Seat>, last: Option<Seat>)
     }
 }
 
-// A call at a ring, by a seat.
 fn work<R: Wait>(
     rt: &R,
     ring: &SharedRing,

@@ -183,7 +183,6 @@ fn call_by<R: Wait>(
     }
 }
 
-// A call of the consumer.
 fn consume<R: Wait>(rt: &R, script: &mut RowScript, row: &RingRow<'_>, out: &mut Text) {
     let Some(call) = consumer_call(row) else {
         return out.word(WRONG_WORDS);

@@ -92,7 +92,6 @@ impl OneSpanRing {
         }
     }
 
-    // How many records have this status.
     fn count(&self, status: Status) -> u64 {
         let mut count: u64 = 0;
         for record in self.records.iter() {
@@ -222,9 +221,9 @@ fn orders_that_run(
     orders
 }
 
+#[test]
 // Two workers over a ring with room for one record: each comes to both its calls twice at most, and the consumer takes the rest
 // of the eight places.
-#[test]
 fn every_order_of_two_workers_over_room_for_one_record(rt: HostRuntime) {
     let program = verified(&rt, rt.alloc(), SUBMIT_WIDE_42, 0, 1);
     let workers = [worker(&program); 2];
