@@ -14,16 +14,16 @@ const ROOM: u32 = 16_384;
 
 /// Why a run came to no end.
 #[derive(Clone, Copy)]
-pub(crate) enum RunFault {
+pub(crate) enum LoneRunFault {
     /// There was no memory.
     Memory,
     /// What the run left is no tape, or not all of it came out.
     Broken,
 }
 
-impl From<AllocError> for RunFault {
-    fn from(_error: AllocError) -> RunFault {
-        RunFault::Memory
+impl From<AllocError> for LoneRunFault {
+    fn from(_error: AllocError) -> LoneRunFault {
+        LoneRunFault::Memory
     }
 }
 
@@ -80,7 +80,7 @@ pub(crate) fn run_alone<'p>(
     program: &'p Verified,
     context: &'p [u8],
     size: u64,
-) -> Result<World<'p>, RunFault>
+) -> Result<World<'p>, LoneRunFault>
     requires context { length context.now ≡ program.now.ctx_len }
     requires size { IsRingSize size }
     ensures ran { IfOk result (RunsAlone program.now context.now size) }
@@ -91,17 +91,17 @@ pub(crate) fn run_alone<'p>(
     let workers = [WorkerSetup { program, context }];
     let mut world = match World::new(alloc, setups.as_slice(), &workers) {
         Ok(world) => world,
-        Err(WorldOpenFault::Memory) => return Err(RunFault::Memory),
-        Err(_) => return Err(RunFault::Broken),
+        Err(WorldOpenFault::Memory) => return Err(LoneRunFault::Memory),
+        Err(_) => return Err(LoneRunFault::Broken),
     };
     match world.run(turns.as_slice()) {
         Ok(report) => {
             if !remembered(report.turns.as_slice()) {
-                return Err(RunFault::Memory);
+                return Err(LoneRunFault::Memory);
             }
         }
-        Err(WorldFault::Memory) => return Err(RunFault::Memory),
-        Err(WorldFault::UnknownActor(_)) => return Err(RunFault::Broken),
+        Err(WorldFault::Memory) => return Err(LoneRunFault::Memory),
+        Err(WorldFault::UnknownActor(_)) => return Err(LoneRunFault::Broken),
     }
     Ok(world)
 }

@@ -5,7 +5,7 @@ ghost use Rattle.rb_history.specs.TapeBytes.{AreItemsFrom, IsItemAt, end_of, ite
 ghost use Rattle.rb_history.specs.TapeBytes.Item.{Event, Skip};
 ghost use Rattle.heskavo_c.specs.Runs.{IsDrained, LeavesTapes, taken_items};
 
-use crate::run_alone::RunFault;
+use crate::run_alone::LoneRunFault;
 use crate::status::DONE;
 use crate::tapes::{heskavo_tape_put, heskavo_tape_put_discarded};
 use rb_history::{CONS_POS, PROD_POS, Taken, span};
@@ -20,7 +20,7 @@ fn push_event(
     position: u64,
     payload: &[u8],
     len: u32,
-) -> Result<(), RunFault>
+) -> Result<(), LoneRunFault>
     requires len { len ≡ length payload.now }
     ensures stands { OnOk result (IsItemAt size position (Event position payload.now)) }
     ensures bytes { OnOk result (bytes.new.items ≡ bytes.old.items ++ item_bytes size (Event position payload.now)) }
@@ -30,12 +30,17 @@ fn push_event(
     let mut written = 0;
     match heskavo_tape_put(payload, size, position, &mut bytes[at..], &mut written) {
         DONE => Ok(()),
-        _ => Err(RunFault::Broken),
+        _ => Err(LoneRunFault::Broken),
     }
 }
 
 // Adds a discarded record at the end of a tape, where it may stand.
-fn push_discarded(bytes: &mut Vec<u8>, size: u64, position: u64, len: u32) -> Result<(), RunFault>
+fn push_discarded(
+    bytes: &mut Vec<u8>,
+    size: u64,
+    position: u64,
+    len: u32,
+) -> Result<(), LoneRunFault>
     ensures stands { OnOk result (IsItemAt size position (Skip position len)) }
     ensures bytes { OnOk result (bytes.new.items ≡ bytes.old.items ++ item_bytes size (Skip position len)) }
 {
@@ -44,7 +49,7 @@ fn push_discarded(bytes: &mut Vec<u8>, size: u64, position: u64, len: u32) -> Re
     let mut written = 0;
     match heskavo_tape_put_discarded(len, size, position, &mut bytes[at..], &mut written) {
         DONE => Ok(()),
-        _ => Err(RunFault::Broken),
+        _ => Err(LoneRunFault::Broken),
     }
 }
 
@@ -54,7 +59,7 @@ fn push_record(
     size: u64,
     position: u64,
     taken: &Taken,
-) -> Result<u64, RunFault>
+) -> Result<u64, LoneRunFault>
     ensures follow { IfOk result (λ end. AreItemsFrom size position (taken_items (taken.now ∷ []))) }
     ensures end { IfOk result (λ end. end ≡ end_of position (taken_items (taken.now ∷ []))) }
     ensures bytes { OnOk result (bytes.new.items ≡ bytes.old.items ++ tape size (taken_items (taken.now ∷ []))) }
@@ -62,14 +67,14 @@ fn push_record(
     match taken {
         Taken::Event(pos, _, _, sheet) => {
             if *pos != position {
-                return Err(RunFault::Broken);
+                return Err(LoneRunFault::Broken);
             }
             push_event(bytes, size, position, sheet.bytes(), sheet.len())?;
             Ok(position + span(sheet.len()))
         }
         Taken::Skipped(pos, len) => {
             if *pos != position {
-                return Err(RunFault::Broken);
+                return Err(LoneRunFault::Broken);
             }
             push_discarded(bytes, size, position, *len)?;
             Ok(position + span(*len))
@@ -79,7 +84,7 @@ fn push_record(
 }
 
 // Adds the tape of the records that were taken of a ring, each of which begins where the one before it ends.
-fn push_tape(bytes: &mut Vec<u8>, size: u64, records: &[Taken]) -> Result<(), RunFault>
+fn push_tape(bytes: &mut Vec<u8>, size: u64, records: &[Taken]) -> Result<(), LoneRunFault>
     ensures follow { OnOk result (AreItemsFrom size 0 (taken_items records.now)) }
     ensures bytes { OnOk result (bytes.new.items ≡ bytes.old.items ++ tape size (taken_items records.now)) }
 {
@@ -91,13 +96,13 @@ fn push_tape(bytes: &mut Vec<u8>, size: u64, records: &[Taken]) -> Result<(), Ru
 }
 
 // Whether nothing is left in the ring of this number.
-fn check_drained(world: &World<'_>, ring: u32) -> Result<(), RunFault>
+fn check_drained(world: &World<'_>, ring: u32) -> Result<(), LoneRunFault>
     requires ring { ring < length world.now.rings }
     ensures { OnOk result (IsDrained world.now ring) }
 {
     let left = world.ring(ring);
     if left.query(PROD_POS) != left.query(CONS_POS) {
-        return Err(RunFault::Broken);
+        return Err(LoneRunFault::Broken);
     }
     Ok(())
 }
@@ -108,7 +113,7 @@ pub(crate) fn tapes_of(
     world: &World<'_>,
     size: u64,
     rings: u32,
-) -> Result<(Vec<u8>, Vec<u64>), RunFault>
+) -> Result<(Vec<u8>, Vec<u64>), LoneRunFault>
     requires rings { rings ≡ length world.now.rings }
     ensures left { IfOk result (λ left. LeavesTapes world.now size rings left.0.items left.1.items) }
 {
@@ -118,7 +123,7 @@ pub(crate) fn tapes_of(
         let before = bytes.len();
         push_tape(&mut bytes, size, world.taken(ring))?;
         let Ok(()) = lengths.push((bytes.len() - before) as u64) else {
-            return Err(RunFault::Memory);
+            return Err(LoneRunFault::Memory);
         };
         check_drained(world, ring)?;
     }

@@ -9,7 +9,7 @@ ghost use Rattle.heskavo_c.specs.Verdicts.{IsRightVerdict};
 
 use crate::load::{are_bounds, load};
 use crate::outgoing::put_front;
-use crate::run_alone::{RunFault, run_alone};
+use crate::run_alone::{LoneRunFault, run_alone};
 use crate::run_tapes::tapes_of;
 use crate::status::{ARGUMENT, BROKEN, DONE, MEMORY, REFUSED, ROOM};
 use crate::verdict::{Verdict, verdict_on};
@@ -37,20 +37,25 @@ fn may_run(context: usize, rings: usize, size: u64) -> bool
 }
 
 // What the program of the world's one worker ended with.
-fn value_of(world: &World<'_>) -> Result<u64, RunFault>
+fn value_of(world: &World<'_>) -> Result<u64, LoneRunFault>
     ensures { IfOk result (λ value. result_of ((world_of world.now).workers 0) ≡ Some value) }
 {
     if !world.has(Actor::Worker(0)) {
-        return Err(RunFault::Broken);
+        return Err(LoneRunFault::Broken);
     }
     match world.result(0) {
         Some(value) => Ok(value),
-        None => Err(RunFault::Broken),
+        None => Err(LoneRunFault::Broken),
     }
 }
 
 // Runs a program once, and takes what it left.
-fn run_once(alloc: Global, program: &Verified, context: &[u8], size: u64) -> Result<Left, RunFault>
+fn run_once(
+    alloc: Global,
+    program: &Verified,
+    context: &[u8],
+    size: u64,
+) -> Result<Left, LoneRunFault>
     requires context { length context.now ≡ program.now.ctx_len }
     requires size { IsRingSize size }
     ensures { IfOk result (λ left. LeavesOnce program.now context.now size left.value left.bytes.items left.lengths.items) }
@@ -103,8 +108,8 @@ pub extern "C" fn heskavo_run(
     };
     let left = match ran {
         Ok(left) => left,
-        Err(RunFault::Memory) => return MEMORY,
-        Err(RunFault::Broken) => return BROKEN,
+        Err(LoneRunFault::Memory) => return MEMORY,
+        Err(LoneRunFault::Broken) => return BROKEN,
     };
     written.copy_from_slice(left.lengths.as_slice());
     if tapes.len() < left.bytes.len() {

@@ -53,9 +53,9 @@ impl<'a, T: Clock + Eprint> Progress<'a, T> {
         }
     }
 
-    // Tells how many of so many parts have ended, likewise.
     #[cold]
     #[inline(never)]
+    // Tells how many of so many parts have ended, likewise.
     fn tell_parts(&self, ended: u64, all: u64, what: &'static str) {
         if self.is_due() {
             let _ = eprint!(self.rt; "\r{ended} of {all} {what}\x1b[K");

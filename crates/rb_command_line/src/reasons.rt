@@ -2,6 +2,7 @@
 
 use crate::refusal::Cause;
 use crate::request::Subcommand;
+use rb_history::POSITION_LIMIT;
 use rb_io::Front;
 use rb_program::DecodeKind;
 use rb_run_commands::TapeFileFault;
@@ -132,7 +133,7 @@ fn length_reason(alloc: Global, front: Front) -> Result<String, AllocError> {
 fn fit_reason(alloc: Global, payload: u64, size: u64) -> Result<String, AllocError> {
     let most = size.saturating_sub(16);
     format!(in alloc;
-        "payload {payload}: a ring of {size} bytes holds payloads of up to {most} bytes, and positions end at 4611686018427387904"
+        "payload {payload}: a ring of {size} bytes holds payloads of up to {most} bytes, and positions end at {POSITION_LIMIT}"
     )
 }
 
@@ -151,7 +152,6 @@ fn record_words(kind: TapeKind) -> &'static str {
     }
 }
 
-// What memory was for.
 fn memory_reason(alloc: Global, request: &Subcommand<'_>) -> Result<String, AllocError> {
     match request {
         Subcommand::Run { jobs, .. } => {

@@ -6,7 +6,7 @@ ghost use Rattle.rb_explain.specs.Assembly.{assembly_of};
 ghost use Rattle.rb_explain.specs.AssemblyParts.{register_text, operand_text};
 ghost use Rattle.rb_explain.specs.inner.InsnForms.{IsOperation, IsMove, IsLoad, IsStore, IsJumpForm};
 
-use crate::parts::{Access, Distance, Place, Register, Ring, Source};
+use crate::parts::{Access, Distance, Place, Register, Ring, SecondOperand};
 use crate::symbols::{
     binary_symbol, byte_order_name, condition_symbol, division_symbol, extend32_type,
     extend64_type, signed_size_type, size_type, swap_width_name,
@@ -55,7 +55,7 @@ pub(crate) fn write_operation<W: fmt::Write>(insn: Insn, f: &mut fmt::Formatter<
 fn write_update<W: fmt::Write>(
     dst: Register,
     symbol: &'static str,
-    source: Source,
+    source: SecondOperand,
     f: &mut fmt::Formatter<W>,
 ) -> fmt::Result
     ensures writes { WritesOnOk W.write_str_gives f.old result
@@ -198,10 +198,10 @@ fn register(width: Width, reg: Reg) -> Register
     Register { width, reg }
 }
 
-fn source(width: Width, operand: Operand) -> Source
+fn source(width: Width, operand: Operand) -> SecondOperand
     ensures { result ≡ record { width = width; operand = operand } }
 {
-    Source { width, operand }
+    SecondOperand { width, operand }
 }
 
 fn access(type_name: &'static str, base: Reg, offset: i16) -> Access

@@ -7,7 +7,7 @@ ghost use Rattle.rb_explain.specs.Objects.{bytes_object, fault_object, held_valu
 
 use crate::Assembly;
 use crate::lines::helper_name;
-use crate::state_lines::{Kept, Value, is_data, is_readable};
+use crate::state_lines::{Kept, RegisterValue, is_data, is_readable};
 use rb_insn::Insn;
 use rb_verifier::{Abs, AbsState, Held, Helper, Reference};
 use std::alloc::{AllocError, Global};
@@ -120,7 +120,7 @@ impl fmt::Display for HeldValue<'_> {
     fn fmt<W: fmt::Write>(&self, f: &mut fmt::Formatter<W>) -> fmt::Result {
         let HeldValue { held, value } = *self;
         if is_readable(value) {
-            write!(f, "\"{}\"", Value { held, value })
+            write!(f, "\"{}\"", RegisterValue { held, value })
         } else {
             f.write_str("null")
         }

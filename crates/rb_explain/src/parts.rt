@@ -27,12 +27,12 @@ impl fmt::Display for Register {
 
 /// The second operand at a width: `r2`, `w2`, `-5`.
 #[derive(Clone, Copy)]
-pub(crate) struct Source {
+pub(crate) struct SecondOperand {
     pub(crate) width: Width,
     pub(crate) operand: Operand,
 }
 
-impl fmt::Display for Source {
+impl fmt::Display for SecondOperand {
     ghost output = { λ s. Some (operand_text s.width s.operand) };
 
     fn fmt<W: fmt::Write>(&self, f: &mut fmt::Formatter<W>) -> fmt::Result {

@@ -13,9 +13,9 @@ use std::fmt::Write;
 
 // How long a record is, where it is held.
 #[derive(Clone, Copy)]
-struct Size(Option<Reference>);
+struct RecordSize(Option<Reference>);
 
-impl fmt::Display for Size {
+impl fmt::Display for RecordSize {
     ghost output = { λ size. Some (size_text size.0) };
 
     fn fmt<W: fmt::Write>(&self, f: &mut fmt::Formatter<W>) -> fmt::Result {
@@ -28,12 +28,12 @@ impl fmt::Display for Size {
 
 /// What a register holds.
 #[derive(Clone, Copy)]
-pub(crate) struct Value<'a> {
+pub(crate) struct RegisterValue<'a> {
     pub(crate) held: &'a Held,
     pub(crate) value: Abs,
 }
 
-impl fmt::Display for Value<'_> {
+impl fmt::Display for RegisterValue<'_> {
     ghost output = { λ shown. Some (value_text shown.held.now shown.value) };
 
     fn fmt<W: fmt::Write>(&self, f: &mut fmt::Formatter<W>) -> fmt::Result {
@@ -44,11 +44,11 @@ impl fmt::Display for Value<'_> {
             Abs::Ctx(offset) => write!(f, "context{offset:+}"),
             Abs::Stack(offset) => write!(f, "stack{offset:+}"),
             Abs::Ring(ring) => write!(f, "ring {ring}"),
-            Abs::Perhaps(id) => write!(f, "null or record {id}{}", Size(self.held.get(id))),
+            Abs::Perhaps(id) => write!(f, "null or record {id}{}", RecordSize(self.held.get(id))),
             Abs::Record(id, offset) => write!(
                 f,
                 "record {id}{offset:+}{}",
-                Size(self.held.get(id))
+                RecordSize(self.held.get(id))
             ),
         }
     }
@@ -72,7 +72,7 @@ fn push_register(text: &mut String, state: &AbsState, register: usize) -> Result
     let value = state.values[register];
     let held = &state.held;
     if is_readable(value) {
-        write!(text, "  r{register} = {}", Value { held, value })
+        write!(text, "  r{register} = {}", RegisterValue { held, value })
     } else {
         text.push_str("")
     }
@@ -92,7 +92,7 @@ impl fmt::Display for Kept<'_> {
         let Kept { held, value } = *self;
         match value {
             Abs::Unreadable => f.write_str("mixed"),
-            _ => Value { held, value }.fmt(f),
+            _ => RegisterValue { held, value }.fmt(f),
         }
     }
 }

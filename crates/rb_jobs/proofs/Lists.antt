@@ -35,9 +35,6 @@ get_set_other (x ∷ xs) zero (suc j) y other = refl
 get_set_other (x ∷ xs) (suc i) zero y other = refl
 get_set_other (x ∷ xs) (suc i) (suc j) y other = get_set_other xs i j y (λ e. other (ap suc e))
 
-pub zip_here : {A B : Type 0} (R : A → B → Type 0) (xs : List A) (ys : List B) (i : ℕ) (a : A) (b : B) → AllZip R xs ys → i < length xs → a ≡ get_or xs i a → b ≡ get_or ys i b → R a b
-zip_here R xs ys i a b all below ea eb = subst (λ x. R x b) (sym ea) (subst (λ y. R (get_or xs i a) y) (sym eb) (zip_at R xs ys i a b all below))
-
 -- ---- a list beside itself, and beside one that follows
 
 pub zip_self : {A : Type 0} (R : A → A → Type 0) → ((x : A) → R x x) → (xs : List A) → AllZip R xs xs

@@ -8,7 +8,6 @@ use rb_history::Notice;
 use rb_interp::{EAGAIN, EINVAL};
 use rb_shared_ring::ReserveFault;
 
-// Whether a notice is due.
 pub(crate) fn is_due<E>(answer: &Result<Notice, E>) -> bool
     ensures { result ≡ due_in answer.now }
 {
@@ -28,7 +27,6 @@ pub(crate) fn is_unlogged<T>(answer: &Result<T, NoRecord>) -> bool
     )
 }
 
-// The answer of an output.
 pub(crate) fn answer_of(answer: &Result<Notice, NoRecord>) -> i64
     ensures { result ≡ output_number answer.now }
 {

@@ -18,7 +18,7 @@ use crate::seat_record::SeatRecord;
 use crate::sheets::{copied_sheet, zero_sheet};
 use crate::stock::Stock;
 use rb_chapter_ring::RecordEnd;
-use rb_history::Notice;
+use rb_history::{KNOWN_FLAGS, Notice};
 use rb_interp::{Done, Helpers};
 use rb_shared_ring::{Foreign, Reservation, Seat, SharedRing};
 use std::alloc::{AllocError, Global};
@@ -181,7 +181,7 @@ impl<'h, R: Wait, S: Stock> SeatHelpers<'h, R, S> {
         ensures no_step { 3 < flags → self.new.seats ≡ self.old.seats }
         ensures seat { flags ≤ 3 → AtSeat ring (SeatSends bytes.now flags result) self.old.seats self.new.seats }
     {
-        if flags > 3 {
+        if flags > KNOWN_FLAGS {
             return Err(NoRecord::BadFlags);
         }
         let sheet = copied_sheet(self.alloc, self.stock, bytes).ok_or(NoRecord::NoSheet)?;

@@ -5,7 +5,3 @@ use Rattle.std.specs.Prelude.{IfSome, OnOk}
 pub holds_of_input : (Holds : List ℕ → Type 0) (input : Option (List ℕ)) (bytes text : List ℕ) → IfSome input (λ unread. bytes ≡ unread) → text ≡ bytes → Holds text → IfSome input Holds
 holds_of_input Holds None bytes text read same holds = tt
 holds_of_input Holds (Some unread) bytes text read same holds = subst Holds (same ∙ read) holds
-
-pub on_ok : {A B X : Type 0} (answer : Result A B) → X → OnOk answer X
-on_ok (Ok a) x = x
-on_ok (Err e) x = tt

@@ -130,7 +130,6 @@ pub fn text_of(bytes: &[u8]) -> Result<&str, ProgramFault>
     }
 }
 
-// The fault of a text as one of a program.
 fn text_fault(fault: TextFault) -> ProgramFault
     ensures { result ≡ fault_of_text fault }
 {

@@ -31,8 +31,8 @@ fn find_at(
     Ok(())
 }
 
-// The findings of a program by what is known at its units.
 #[tactic(auto, using(crate::proofs::Collecting::finds))]
+// The findings of a program by what is known at its units.
 fn findings_of(
     alloc: Global,
     program: &Program,
@@ -56,8 +56,8 @@ pub fn findings(alloc: Global, verified: &Verified) -> Result<Vec<Finding>, Allo
     findings_of(alloc, verified.program(), verified.states())
 }
 
-// The lines of findings.
 #[tactic(auto, using(crate::proofs::Collecting::tells))]
+// The lines of findings.
 fn text_of(alloc: Global, form: LineForm, found: &[Finding]) -> Result<String, AllocError>
     ensures text { IfOk result (λ text. string_bytes text ≡ flat_map (finding_text form) found.now) }
 {

@@ -130,7 +130,6 @@ fn sub_class(dst: Abs, by: Option<i64>) -> Option<LinuxClass>
     }
 }
 
-// How many bits a width has.
 fn bit_count(width: Width) -> i32
     ensures { result ≡ portability.bit_count width }
 {
@@ -140,7 +139,6 @@ fn bit_count(width: Width) -> i32
     }
 }
 
-// A shift.
 fn shift_class(width: Width, operand: Operand) -> Option<LinuxClass>
     ensures { result ≡ portability.shift_class width operand }
 {
@@ -170,7 +168,6 @@ fn binary_class(
     }
 }
 
-// A division.
 fn division_class(operand: Operand) -> Option<LinuxClass>
     ensures { result ≡ portability.division_class operand }
 {
@@ -201,6 +198,15 @@ fn call_class(helper: Option<Helper>, bytes: Abs) -> Option<LinuxClass>
     }
 }
 
+// A load or a store of so many bytes, from an offset behind what a register points to on.
+fn access_class_at(state: &AbsState, base: Reg, offset: i16, size: usize) -> Option<LinuxClass>
+    requires positive { 0 < size }
+    requires short { size ≤ 8 }
+    ensures { result ≡ portability.access_class (value_in state.now base.number) offset size }
+{
+    access_class(value_of(state, base), i64::from(offset), size as u64)
+}
+
 /// Why Linux refuses an instruction in front of which this is known, by an instruction of an accepted program; none where it does not.
 pub fn class_of(state: &AbsState, insn: &Insn) -> Option<LinuxClass>
     ensures { result ≡ portability.class_of state.now insn.now }
@@ -211,41 +217,25 @@ pub fn class_of(state: &AbsState, insn: &Insn) -> Option<LinuxClass>
             base,
             offset,
             ..
-        } => access_class(
-            value_of(state, base),
-            i64::from(offset),
-            size.bytes() as u64,
-        ),
+        } => access_class_at(state, base, offset, size.bytes()),
         Insn::LoadSigned {
             size,
             base,
             offset,
             ..
-        } => access_class(
-            value_of(state, base),
-            i64::from(offset),
-            size.bytes() as u64,
-        ),
+        } => access_class_at(state, base, offset, size.bytes()),
         Insn::StoreImmediate {
             size,
             base,
             offset,
             ..
-        } => access_class(
-            value_of(state, base),
-            i64::from(offset),
-            size.bytes() as u64,
-        ),
+        } => access_class_at(state, base, offset, size.bytes()),
         Insn::StoreRegister {
             size,
             base,
             offset,
             ..
-        } => access_class(
-            value_of(state, base),
-            i64::from(offset),
-            size.bytes() as u64,
-        ),
+        } => access_class_at(state, base, offset, size.bytes()),
         Insn::Binary {
             width,
             op,

@@ -12,7 +12,7 @@ use std::fmt::Write;
 
 /// Which part of an explanation is told.
 #[derive(Clone, Copy)]
-pub(crate) enum Part {
+pub(crate) enum ExplainedPart {
     /// The lines of its units, each in front of a line feed.
     Listing,
     /// The assembly of its instructions.
@@ -25,7 +25,7 @@ pub(crate) enum Part {
 pub(crate) fn answer_explain(
     alloc: Global,
     (ctx_len, rings): (u64, u64),
-    part: Part,
+    part: ExplainedPart,
     hex: &str,
     out: &mut String,
 ) -> Result<(), AllocError> {
@@ -51,12 +51,16 @@ fn tell_reason(reason: Option<Reason>, out: &mut String) -> Result<(), AllocErro
     }
 }
 
-fn tell_part(explanation: &Explanation, part: Part, out: &mut String) -> Result<(), AllocError> {
+fn tell_part(
+    explanation: &Explanation,
+    part: ExplainedPart,
+    out: &mut String,
+) -> Result<(), AllocError> {
     let text = explanation.text.as_str();
     match part {
-        Part::Listing => tell_listing(text, out),
-        Part::Assembly => tell_assembly(text, out),
-        Part::Advice(count) => tell_advice(text, count, out),
+        ExplainedPart::Listing => tell_listing(text, out),
+        ExplainedPart::Assembly => tell_assembly(text, out),
+        ExplainedPart::Advice(count) => tell_advice(text, count, out),
     }
 }
 

@@ -6,7 +6,7 @@ use thiserror::Error;
 
 /// Why the rows were not answered.
 #[derive(Clone, Copy, Debug, PartialEq, Eq, Error)]
-pub(crate) enum RowsFault {
+pub(crate) enum ProgramRowsFault {
     /// There was no memory.
     #[error("no memory")]
     Memory,
@@ -15,20 +15,20 @@ pub(crate) enum RowsFault {
     Device,
 }
 
-impl From<AllocError> for RowsFault {
-    fn from(_: AllocError) -> RowsFault {
-        RowsFault::Memory
+impl From<AllocError> for ProgramRowsFault {
+    fn from(_: AllocError) -> ProgramRowsFault {
+        ProgramRowsFault::Memory
     }
 }
 
-impl<T: Drop> From<AllocFailed<T>> for RowsFault {
-    fn from(_: AllocFailed<T>) -> RowsFault {
-        RowsFault::Memory
+impl<T: Drop> From<AllocFailed<T>> for ProgramRowsFault {
+    fn from(_: AllocFailed<T>) -> ProgramRowsFault {
+        ProgramRowsFault::Memory
     }
 }
 
-impl From<io::Error> for RowsFault {
-    fn from(_: io::Error) -> RowsFault {
-        RowsFault::Device
+impl From<io::Error> for ProgramRowsFault {
+    fn from(_: io::Error) -> ProgramRowsFault {
+        ProgramRowsFault::Device
     }
 }

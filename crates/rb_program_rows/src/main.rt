@@ -26,7 +26,7 @@ mod told_states;
 mod verified;
 mod witness;
 
-use fault::RowsFault;
+use fault::ProgramRowsFault;
 use names::Names;
 use std::alloc::Global;
 use std::fs::File;
@@ -52,7 +52,7 @@ fn answer_all<
     R: Threads + Wait + Sync + Files<File = File> + Clock + Eprint,
     I: Read + Drop,
     W: Write,
->(rt: &R, alloc: Global, input: I, out: &mut W) -> Result<(), RowsFault> {
+>(rt: &R, alloc: Global, input: I, out: &mut W) -> Result<(), ProgramRowsFault> {
     let mut names = Names::new(alloc);
     let mut number: u64 = 0;
     let mut out = BufWriter::new(alloc, out)?;
@@ -64,7 +64,6 @@ fn answer_all<
     Ok(())
 }
 
-// Answers one line.
 fn answer_line<R: Threads + Wait + Sync + Files<File = File> + Clock + Eprint, W: Write>(
     rt: &R,
     alloc: Global,
@@ -72,7 +71,7 @@ fn answer_line<R: Threads + Wait + Sync + Files<File = File> + Clock + Eprint, W
     number: u64,
     line: &str,
     out: &mut W,
-) -> Result<(), RowsFault> {
+) -> Result<(), ProgramRowsFault> {
     let mut text = String::new(alloc);
     if line.is_empty() || line.starts_with('#') {
         text.push_str(line)?;

@@ -1,6 +1,6 @@
 //! Texts that have a name.
 
-use crate::fault::RowsFault;
+use crate::fault::ProgramRowsFault;
 use std::alloc::{AllocError, Global};
 use std::collections::BTreeMap;
 
@@ -19,7 +19,7 @@ impl Names {
     }
 
     /// Keeps the text of a line `name WORD TEXT` or `repeat WORD COUNT TEXT`; false where the line is neither.
-    pub(crate) fn keep(&mut self, alloc: Global, line: &str) -> Result<bool, RowsFault> {
+    pub(crate) fn keep(&mut self, alloc: Global, line: &str) -> Result<bool, ProgramRowsFault> {
         let Some((name, count, text)) = kept(line) else {
             return Ok(false);
         };

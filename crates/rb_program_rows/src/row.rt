@@ -5,7 +5,7 @@ use crate::assembly::answer_assembly;
 use crate::command_lines::answer_command_line;
 use crate::costs::answer_cost;
 use crate::decoded::{answer_at, answer_decode, answer_text, answer_units};
-use crate::explained::{Part, answer_explain};
+use crate::explained::{ExplainedPart, answer_explain};
 use crate::numbers::{number_of, two_numbers_and_rest, unit_and_rest};
 use crate::runs::answer_run;
 use crate::shapes::{answer_edges, answer_shape};
@@ -22,9 +22,8 @@ use std::sync::Wait;
 use std::thread::Threads;
 use std::time::Clock;
 
-// A row.
 #[derive(Clone, Copy)]
-enum Row<'a> {
+enum ProgramRow<'a> {
     // `units HEX`: bytes to a program and back.
     Units(&'a str),
     // `decode HEX`: the instructions of a program.
@@ -48,7 +47,7 @@ enum Row<'a> {
     // `assembly HEX`: a program as assembly.
     Assembly(&'a str),
     // `listing CONTEXT RINGS HEX`, `explained ..` and `advice CONTEXT RINGS COUNT HEX`: a part of what is explained of a program.
-    Explain((u64, u64), Part, &'a str),
+    Explain((u64, u64), ExplainedPart, &'a str),
     // `step CONTEXT RINGS UNIT STATE HEX` and `step-in-place ..`: a step of the verifier.
     Step((Way, Limits, u32), &'a str, &'a str),
     // `join STATE STATE`: what two states have in common.
@@ -75,103 +74,103 @@ pub(crate) fn answer<R: Threads + Wait + Sync + Files<File = File> + Clock + Epr
     }
 }
 
-fn row_of(line: &str) -> Option<Row<'_>> {
+fn row_of(line: &str) -> Option<ProgramRow<'_>> {
     let (word, rest) = line.split_once(' ')?;
     match word {
-        "units" => Some(Row::Units(rest)),
-        "decode" => Some(Row::Decode(rest)),
+        "units" => Some(ProgramRow::Units(rest)),
+        "decode" => Some(ProgramRow::Decode(rest)),
         "at" => {
             let (unit, hex) = unit_and_rest(rest)?;
-            Some(Row::At(unit, hex))
+            Some(ProgramRow::At(unit, hex))
         }
-        "text" => Some(Row::Text(rest)),
-        "shape" => Some(Row::Shape(rest)),
+        "text" => Some(ProgramRow::Text(rest)),
+        "shape" => Some(ProgramRow::Shape(rest)),
         "edges" => {
             let (unit, hex) = unit_and_rest(rest)?;
-            Some(Row::Edges(unit, hex))
+            Some(ProgramRow::Edges(unit, hex))
         }
         "verify" => {
             let (ctx_len, rings, hex) = two_numbers_and_rest(rest)?;
-            Some(Row::Verify(ctx_len, rings, hex))
+            Some(ProgramRow::Verify(ctx_len, rings, hex))
         }
         "cost" => {
             let (ctx_len, rings, hex) = two_numbers_and_rest(rest)?;
-            Some(Row::Cost(ctx_len, rings, hex))
+            Some(ProgramRow::Cost(ctx_len, rings, hex))
         }
         "run" => run_of(rest),
-        "assembly" => Some(Row::Assembly(rest)),
+        "assembly" => Some(ProgramRow::Assembly(rest)),
         "listing" => {
             let (ctx_len, rings, hex) = two_numbers_and_rest(rest)?;
-            Some(Row::Explain((ctx_len, rings), Part::Listing, hex))
+            Some(ProgramRow::Explain((ctx_len, rings), ExplainedPart::Listing, hex))
         }
         "explained" => {
             let (ctx_len, rings, hex) = two_numbers_and_rest(rest)?;
-            Some(Row::Explain((ctx_len, rings), Part::Assembly, hex))
+            Some(ProgramRow::Explain((ctx_len, rings), ExplainedPart::Assembly, hex))
         }
         "advice" => {
             let (ctx_len, rings, rest) = two_numbers_and_rest(rest)?;
             let (count, hex) = unit_and_rest(rest)?;
-            Some(Row::Explain((ctx_len, rings), Part::Advice(count), hex))
+            Some(ProgramRow::Explain((ctx_len, rings), ExplainedPart::Advice(count), hex))
         }
         "compute" => {
             let (dst, src, hex) = two_numbers_and_rest(rest)?;
-            Some(Row::Compute(dst, src, hex))
+            Some(ProgramRow::Compute(dst, src, hex))
         }
         "step" => step_of(Way::Copied, rest),
         "step-in-place" => step_of(Way::InPlace, rest),
         "join" => {
             let (first, second) = rest.split_once(' ')?;
-            Some(Row::Join(first, second))
+            Some(ProgramRow::Join(first, second))
         }
-        "rbhost" => Some(Row::CommandLine(rest)),
-        "helper" => Some(Row::Helper(number_of(rest)?)),
-        "register" => Some(Row::Register(number_of(rest)?)),
+        "rbhost" => Some(ProgramRow::CommandLine(rest)),
+        "helper" => Some(ProgramRow::Helper(number_of(rest)?)),
+        "register" => Some(ProgramRow::Register(number_of(rest)?)),
         _ => None,
     }
 }
 
-fn run_of(words: &str) -> Option<Row<'_>> {
+fn run_of(words: &str) -> Option<ProgramRow<'_>> {
     let (ctx_len, rings, rest) = two_numbers_and_rest(words)?;
     let (context, rest) = rest.split_once(' ')?;
     let (answers, hex) = rest.split_once(' ')?;
     let context = if context == "-" { "" } else { context };
-    Some(Row::Run((ctx_len, rings), context, answers, hex))
+    Some(ProgramRow::Run((ctx_len, rings), context, answers, hex))
 }
 
-fn step_of(way: Way, words: &str) -> Option<Row<'_>> {
+fn step_of(way: Way, words: &str) -> Option<ProgramRow<'_>> {
     let (ctx_len, rest) = unit_and_rest(words)?;
     let (rings, rest) = unit_and_rest(rest)?;
     let (unit, rest) = unit_and_rest(rest)?;
     let (state, hex) = rest.split_once(' ')?;
-    Some(Row::Step((way, Limits { ctx_len, rings }, unit), state, hex))
+    Some(ProgramRow::Step((way, Limits { ctx_len, rings }, unit), state, hex))
 }
 
 fn answer_row<R: Threads + Wait + Sync + Files<File = File> + Clock + Eprint>(
     rt: &R,
     alloc: Global,
-    row: Row<'_>,
+    row: ProgramRow<'_>,
     out: &mut String,
 ) -> Result<(), AllocError> {
     match row {
-        Row::Units(hex) => answer_units(alloc, hex, out),
-        Row::Decode(hex) => answer_decode(alloc, hex, out),
-        Row::At(unit, hex) => answer_at(alloc, unit, hex, out),
-        Row::Text(text) => answer_text(alloc, text, out),
-        Row::Shape(hex) => answer_shape(alloc, hex, out),
-        Row::Edges(unit, hex) => answer_edges(alloc, unit, hex, out),
-        Row::Verify(ctx_len, rings, hex) => answer_verify(alloc, ctx_len, rings, hex, out),
-        Row::Cost(ctx_len, rings, hex) => answer_cost(alloc, ctx_len, rings, hex, out),
-        Row::Run(bounds, context, answers, hex) => {
+        ProgramRow::Units(hex) => answer_units(alloc, hex, out),
+        ProgramRow::Decode(hex) => answer_decode(alloc, hex, out),
+        ProgramRow::At(unit, hex) => answer_at(alloc, unit, hex, out),
+        ProgramRow::Text(text) => answer_text(alloc, text, out),
+        ProgramRow::Shape(hex) => answer_shape(alloc, hex, out),
+        ProgramRow::Edges(unit, hex) => answer_edges(alloc, unit, hex, out),
+        ProgramRow::Verify(ctx_len, rings, hex) => answer_verify(alloc, ctx_len, rings, hex, out),
+        ProgramRow::Cost(ctx_len, rings, hex) => answer_cost(alloc, ctx_len, rings, hex, out),
+        ProgramRow::Run(bounds, context, answers, hex) => {
             answer_run(alloc, bounds, context, answers, hex, out)
         }
-        Row::Assembly(hex) => answer_assembly(alloc, hex, out),
-        Row::Explain(bounds, part, hex) => answer_explain(alloc, bounds, part, hex, out),
-        Row::Compute(dst, src, hex) => answer_compute(alloc, dst, src, hex, out),
-        Row::Step(step, state, hex) => answer_step(alloc, step, state, hex, out),
-        Row::Join(first, second) => answer_join(alloc, first, second, out),
-        Row::CommandLine(line) => answer_command_line(rt, alloc, line, out),
-        Row::Helper(number) => answer_helper(number, out),
-        Row::Register(number) => answer_register(number, out),
+        ProgramRow::Assembly(hex) => answer_assembly(alloc, hex, out),
+        ProgramRow::Explain(bounds, part, hex) => answer_explain(alloc, bounds, part, hex, out),
+        ProgramRow::Compute(dst, src, hex) => answer_compute(alloc, dst, src, hex, out),
+        ProgramRow::Step(step, state, hex) => answer_step(alloc, step, state, hex, out),
+        ProgramRow::Join(first, second) => answer_join(alloc, first, second, out),
+        ProgramRow::CommandLine(line) => answer_command_line(rt, alloc, line, out),
+        ProgramRow::Helper(number) => answer_helper(number, out),
+        ProgramRow::Register(number) => answer_register(number, out),
     }
 }
 

@@ -1,8 +1,8 @@
 //! Rows on chapters, which a ring keeps or a script has by name.
 
 use crate::answers::{tell_entries, tell_handed_out, tell_numbers, tell_tally};
-use crate::row::Row;
-use crate::script::{Script, WRONG_WORDS, keep, narrow};
+use crate::row::RingRow;
+use crate::script::{RowScript, WRONG_WORDS, keep, narrow};
 use crate::text::Text;
 use rb_chapter_ring::{COUNT_LIMIT, Chapter, Standing, UntakenRecord, UntakenStatus};
 use rb_consumer::Keeper;
@@ -13,7 +13,7 @@ pub(crate) const VERBS: [&str; 10] = [
 ];
 
 /// What a row on chapters answers.
-pub(crate) fn answer(script: &mut Script, row: &Row<'_>, out: &mut Text) {
+pub(crate) fn answer(script: &mut RowScript, row: &RingRow<'_>, out: &mut Text) {
     let (first, second) = (row.name(0), row.name(1));
     match row.form() {
         "chapter x 0 0" => make(script, row, out),
@@ -27,7 +27,7 @@ pub(crate) fn answer(script: &mut Script, row: &Row<'_>, out: &mut Text) {
     }
 }
 
-fn clear(script: &mut Script, name: &str, out: &mut Text) {
+fn clear(script: &mut RowScript, name: &str, out: &mut Text) {
     match script.chapters.get_mut(name) {
         Some(chapter) => {
             chapter.clear();
@@ -38,7 +38,7 @@ fn clear(script: &mut Script, name: &str, out: &mut Text) {
 }
 
 // Whether a chapter meets the next one.
-fn compare(script: &Script, name: &str, next: &str, out: &mut Text) {
+fn compare(script: &RowScript, name: &str, next: &str, out: &mut Text) {
     match (script.chapters.get(name), script.chapters.get(next)) {
         (Some(chapter), Some(next)) => out.word(yes_or_no(chapter.meets(next))),
         _ => out.word("fault: no such chapter"),
@@ -50,7 +50,7 @@ fn yes_or_no(answer: bool) -> &'static str {
 }
 
 // Makes an empty chapter.
-fn make(script: &mut Script, row: &Row<'_>, out: &mut Text) {
+fn make(script: &mut RowScript, row: &RingRow<'_>, out: &mut Text) {
     let (room, workers) = (narrow(row.number(0)), narrow(row.number(1)));
     if room < 8 || room > 1_048_576 || workers == 0 || workers > 256 {
         return out.word("fault: out of bounds");
@@ -71,7 +71,7 @@ fn make(script: &mut Script, row: &Row<'_>, out: &mut Text) {
 }
 
 // Makes a keeper of a chapter, which has no name then.
-fn make_keeper(script: &mut Script, row: &Row<'_>, out: &mut Text) {
+fn make_keeper(script: &mut RowScript, row: &RingRow<'_>, out: &mut Text) {
     match script.chapters.remove(row.name(1)) {
         Some(chapter) => {
             out.word("made");
@@ -83,7 +83,7 @@ fn make_keeper(script: &mut Script, row: &Row<'_>, out: &mut Text) {
 }
 
 // Gives the chapter of a keeper a name. The keeper is gone then.
-fn end_keeper(script: &mut Script, name: &str, chapter: &str, out: &mut Text) {
+fn end_keeper(script: &mut RowScript, name: &str, chapter: &str, out: &mut Text) {
     match script.keepers.remove(name) {
         Some(keeper) => {
             let kept = keeper.into_chapter();
@@ -95,7 +95,7 @@ fn end_keeper(script: &mut Script, name: &str, chapter: &str, out: &mut Text) {
 }
 
 // Opens a chapter after another, where it may.
-fn open_after(script: &mut Script, name: &str, earlier: &str, out: &mut Text) {
+fn open_after(script: &mut RowScript, name: &str, earlier: &str, out: &mut Text) {
     let Some(mut chapter) = script.chapters.remove(name) else {
         return out.word("fault: no such chapter");
     };
@@ -120,7 +120,7 @@ fn open_behind(chapter: &mut Chapter, earlier: &Chapter, out: &mut Text) {
 }
 
 // Tells of the chapter that a ring keeps, or of that which has the name.
-fn show(script: &Script, verb: &str, name: &str, out: &mut Text) {
+fn show(script: &RowScript, verb: &str, name: &str, out: &mut Text) {
     if let Some(twins) = script.rings.get(name) {
         tell(verb, twins.chapter(), out);
     } else if let Some(chapter) = script.chapters.get(name) {

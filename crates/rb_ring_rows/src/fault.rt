@@ -5,7 +5,7 @@ use thiserror::Error;
 
 /// Why the rows were not answered.
 #[derive(Clone, Copy, Debug, Error)]
-pub(crate) enum RowsFault {
+pub(crate) enum RingRowsFault {
     /// There was no memory.
     #[error("no memory")]
     Memory,
@@ -14,8 +14,8 @@ pub(crate) enum RowsFault {
     Device,
 }
 
-impl From<io::Error> for RowsFault {
-    fn from(_: io::Error) -> RowsFault {
-        RowsFault::Device
+impl From<io::Error> for RingRowsFault {
+    fn from(_: io::Error) -> RingRowsFault {
+        RingRowsFault::Device
     }
 }

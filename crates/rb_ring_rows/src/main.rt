@@ -44,8 +44,8 @@ mod twin_calls;
 mod twin_rings;
 mod value_rows;
 
-use fault::RowsFault;
-use script::Script;
+use fault::RingRowsFault;
+use script::RowScript;
 use std::alloc::Global;
 use std::io::{self, Read, Write};
 use std::process::ExitCode;
@@ -68,7 +68,7 @@ fn run<T: Wait, R: Read, W: Write>(
     alloc: Global,
     input: &mut R,
     out: &mut W,
-) -> Result<(), RowsFault> {
+) -> Result<(), RingRowsFault> {
     let bytes = read(alloc, input)?;
     let answers = answers_of(rt, alloc, bytes.as_slice());
     out.write_all(answers.as_str().as_bytes())?;
@@ -76,7 +76,7 @@ fn run<T: Wait, R: Read, W: Write>(
     if answers.is_complete() {
         Ok(())
     } else {
-        Err(RowsFault::Memory)
+        Err(RingRowsFault::Memory)
     }
 }
 
@@ -88,7 +88,7 @@ fn read<R: Read>(alloc: Global, input: &mut R) -> io::Result<Vec<u8>> {
 
 fn answers_of<T: Wait>(rt: &T, alloc: Global, bytes: &[u8]) -> Text {
     let mut answers = Text::new(alloc);
-    let mut script = Script::new(alloc);
+    let mut script = RowScript::new(alloc);
     let lines = bytes.strip_suffix(b"\n").unwrap_or(bytes);
     for line in lines.split(|byte| *byte == b'\n') {
         answer_line(rt, &mut script, line, &mut answers);
@@ -97,7 +97,7 @@ fn answers_of<T: Wait>(rt: &T, alloc: Global, bytes: &[u8]) -> Text {
 }
 
 // Repeats a line, with its answer behind it where it is a row.
-fn answer_line<T: Wait>(rt: &T, script: &mut Script, line: &[u8], answers: &mut Text) {
+fn answer_line<T: Wait>(rt: &T, script: &mut RowScript, line: &[u8], answers: &mut Text) {
     let line = str::from_utf8(line).unwrap_or("fault: no text");
     answers.push(line);
     if line.is_empty() {

@@ -20,7 +20,7 @@ const NO_MEMORY: &str = "fault: no memory";
 /// A line in its parts: its first word, the names and the numbers behind it, each in their order, and the bytes behind a colon. A name begins with
 /// a letter, a number with a digit. Bytes are runs: `2a` or `2a*8`.
 #[derive(Drop)]
-pub(crate) struct Row<'a> {
+pub(crate) struct RingRow<'a> {
     pub(crate) verb: &'a str,
     pub(crate) names: Vec<&'a str>,
     pub(crate) numbers: Vec<u64>,
@@ -30,10 +30,10 @@ pub(crate) struct Row<'a> {
     fault: Option<&'static str>,
 }
 
-impl<'a> Row<'a> {
+impl<'a> RingRow<'a> {
     /// The row that a line spells, or what is said of a line that is none.
-    pub(crate) fn read(alloc: Global, line: &'a str) -> Result<Row<'a>, &'static str> {
-        let mut row = Row {
+    pub(crate) fn read(alloc: Global, line: &'a str) -> Result<RingRow<'a>, &'static str> {
+        let mut row = RingRow {
             verb: "",
             names: Vec::new(alloc),
             numbers: Vec::new(alloc),

@@ -2,15 +2,14 @@
 
 ghost use Rattle.std.specs.Prelude.{◌≡◌, ◌<◌, IfSome};
 
-use crate::row::Row;
+use crate::row::RingRow;
 use crate::shared_answers::write_record;
 use crate::shared_rings::SharedPlace;
 use crate::sheet_rows::write_sheet;
 use crate::text::Text;
-use crate::twin_calls::Ending;
 use crate::twin_rings::{TwinRecord, TwinRings};
 use crate::{chapter_rows, shared_rows, sheet_rows, value_rows};
-use rb_chapter_ring::Chapter;
+use rb_chapter_ring::{Chapter, RecordEnd};
 use rb_consumer::Keeper;
 use rb_lend::Sheet;
 use rb_shared_ring::{Closing, Reservation};
@@ -37,7 +36,7 @@ pub(crate) const WRONG_WORDS: &str = "fault: wrong words";
 
 /// The numbers with which a ring is opened: its size, its start, how many workers it has, and the room of its chapters.
 #[derive(Clone, Copy)]
-pub(crate) struct RingNumbers {
+pub(crate) struct OpeningNumbers {
     pub(crate) size: u64,
     pub(crate) start: u64,
     pub(crate) workers: u32,
@@ -46,7 +45,7 @@ pub(crate) struct RingNumbers {
 
 /// What has a name in a script.
 #[derive(Drop)]
-pub(crate) struct Script {
+pub(crate) struct RowScript {
     pub(crate) alloc: Global,
     pub(crate) rings: BTreeMap<String, TwinRings>,
     pub(crate) records: BTreeMap<String, TwinRecord>,
@@ -60,10 +59,10 @@ pub(crate) struct Script {
     pub(crate) tags: u64,
 }
 
-impl Script {
+impl RowScript {
     /// A script in which nothing has a name yet.
-    pub(crate) fn new(alloc: Global) -> Script {
-        Script {
+    pub(crate) fn new(alloc: Global) -> RowScript {
+        RowScript {
             alloc,
             rings: BTreeMap::new(alloc),
             records: BTreeMap::new(alloc),
@@ -79,13 +78,13 @@ impl Script {
 
     /// Forgets all names.
     pub(crate) fn clear(&mut self) {
-        *self = Script::new(self.alloc);
+        *self = RowScript::new(self.alloc);
     }
 
     /// What a row answers.
     pub(crate) fn answer<R: Wait>(&mut self, rt: &R, line: &str) -> Text {
         let mut out = Text::new(self.alloc);
-        match Row::read(self.alloc, line) {
+        match RingRow::read(self.alloc, line) {
             Ok(row) => self.answer_row(rt, &row, &mut out),
             Err(fault) => out.word(fault),
         }
@@ -93,7 +92,7 @@ impl Script {
     }
 
     // A name of a shared ring stands for that ring, and of a closed one for it, before it stands for anything else.
-    fn answer_row<R: Wait>(&mut self, rt: &R, row: &Row<'_>, out: &mut Text) {
+    fn answer_row<R: Wait>(&mut self, rt: &R, row: &RingRow<'_>, out: &mut Text) {
         let first = row.name(0);
         if row.verb == "share" {
             shared_rows::share(rt, self, row, out);
@@ -108,7 +107,7 @@ impl Script {
         }
     }
 
-    fn answer_other(&mut self, row: &Row<'_>, out: &mut Text) {
+    fn answer_other(&mut self, row: &RingRow<'_>, out: &mut Text) {
         if RING_VERBS.contains(&row.verb) {
             self.call(row, out);
         } else if ASKING_VERBS.contains(&row.verb) {
@@ -122,27 +121,27 @@ impl Script {
         }
     }
 
-    fn call(&mut self, row: &Row<'_>, out: &mut Text) {
+    fn call(&mut self, row: &RingRow<'_>, out: &mut Text) {
         match row.form() {
             "open x 0 0 0 0" => self.open(row, out),
             "reserve x x 0 0" => self.reserve(row, out),
             "write x 0" => self.write(row, out),
-            "submit x x 0" => self.end(Ending::Submit, row, out),
-            "discard x x 0" => self.end(Ending::Discard, row, out),
+            "submit x x 0" => self.end(RecordEnd::Submit, row, out),
+            "discard x x 0" => self.end(RecordEnd::Discard, row, out),
             "output x 0 0" => self.output(row, out),
             "handout x x" => self.hand_out(row, out),
             _ => out.word(WRONG_WORDS),
         }
     }
 
-    fn open(&mut self, row: &Row<'_>, out: &mut Text) {
+    fn open(&mut self, row: &RingRow<'_>, out: &mut Text) {
         let setup = ring_numbers(row);
         if let Some(twins) = TwinRings::open(self.alloc, setup, out) {
             keep(self.alloc, &mut self.rings, row.name(0), twins, out);
         }
     }
 
-    fn reserve(&mut self, row: &Row<'_>, out: &mut Text) {
+    fn reserve(&mut self, row: &RingRow<'_>, out: &mut Text) {
         let (worker, n) = (narrow(row.number(0)), row.number(1));
         if n > LONGEST {
             return out.word(WRONG_WORDS);
@@ -155,7 +154,7 @@ impl Script {
         }
     }
 
-    fn write(&mut self, row: &Row<'_>, out: &mut Text) {
+    fn write(&mut self, row: &RingRow<'_>, out: &mut Text) {
         let (name, at, bytes) = (row.name(0), row.number(0), row.bytes.as_slice());
         if let Some(held) = self.records.get_mut(name) {
             held.write(at, bytes, out);
@@ -168,7 +167,7 @@ impl Script {
         }
     }
 
-    fn end(&mut self, ending: Ending, row: &Row<'_>, out: &mut Text) {
+    fn end(&mut self, end: RecordEnd, row: &RingRow<'_>, out: &mut Text) {
         let (name, flags) = (row.name(1), row.number(0));
         let Some(twins) = self.rings.get_mut(row.name(0)) else {
             return out.word("fault: no such ring");
@@ -176,12 +175,12 @@ impl Script {
         let Some(held) = self.records.remove(name) else {
             return out.word("fault: no such record");
         };
-        if let Some(stray) = twins.end(self.alloc, held, ending, flags, out) {
+        if let Some(stray) = twins.end(self.alloc, held, end, flags, out) {
             keep(self.alloc, &mut self.records, name, stray, out);
         }
     }
 
-    fn output(&mut self, row: &Row<'_>, out: &mut Text) {
+    fn output(&mut self, row: &RingRow<'_>, out: &mut Text) {
         let (worker, flags) = (narrow(row.number(0)), row.number(1));
         match self.rings.get_mut(row.name(0)) {
             Some(twins) => twins.output(self.alloc, worker, row.bytes.as_slice(), flags, out),
@@ -190,7 +189,7 @@ impl Script {
     }
 
     // Takes records, or asks for numbers.
-    fn ask(&mut self, row: &Row<'_>, out: &mut Text) {
+    fn ask(&mut self, row: &RingRow<'_>, out: &mut Text) {
         if row.names.len() != 1 {
             return out.word(WRONG_WORDS);
         }
@@ -200,7 +199,7 @@ impl Script {
         }
     }
 
-    fn hand_out(&mut self, row: &Row<'_>, out: &mut Text) {
+    fn hand_out(&mut self, row: &RingRow<'_>, out: &mut Text) {
         let name = row.name(1);
         let Some(twins) = self.rings.get_mut(row.name(0)) else {
             return out.word("fault: no such ring");
@@ -214,7 +213,7 @@ impl Script {
         }
     }
 
-    fn bind(&mut self, row: &Row<'_>, out: &mut Text) {
+    fn bind(&mut self, row: &RingRow<'_>, out: &mut Text) {
         let ([ring, names @ ..], []) = (row.names.as_slice(), row.numbers.as_slice()) else {
             return out.word(WRONG_WORDS);
         };
@@ -232,7 +231,7 @@ impl Script {
 }
 
 // Takes records of a ring, or asks it for numbers.
-fn ask(alloc: Global, twins: &mut TwinRings, row: &Row<'_>, out: &mut Text) {
+fn ask(alloc: Global, twins: &mut TwinRings, row: &RingRow<'_>, out: &mut Text) {
     let number = row.number(0);
     match row.form() {
         "take x" => twins.take(alloc, out),
@@ -245,8 +244,8 @@ fn ask(alloc: Global, twins: &mut TwinRings, row: &Row<'_>, out: &mut Text) {
 }
 
 /// The numbers of a row that opens a ring.
-pub(crate) fn ring_numbers(row: &Row<'_>) -> RingNumbers {
-    RingNumbers {
+pub(crate) fn ring_numbers(row: &RingRow<'_>) -> OpeningNumbers {
+    OpeningNumbers {
         size: row.number(0),
         start: row.number(1),
         workers: narrow(row.number(2)),
@@ -274,7 +273,7 @@ pub(crate) fn collect(
 
 /// Gives chapters their names again.
 pub(crate) fn keep_chapters(
-    script: &mut Script,
+    script: &mut RowScript,
     names: &[&str],
     chapters: Vec<Chapter>,
     out: &mut Text,

@@ -6,7 +6,7 @@ ghost use Rattle.rb_ring_rows.specs.SharedPlaces.{AreOwnSeats, IsOwnSeat};
 
 use crate::answers::{open_word, reserve_word, tell_counts, tell_notice, tell_refusal, tell_tally};
 use crate::consumer_calls::{ConsumerCall, consume};
-use crate::script::RingNumbers;
+use crate::script::OpeningNumbers;
 use crate::shared_answers::{tell_given_back, tell_hands, tell_reserved};
 use crate::text::Text;
 use rb_chapter_ring::Chapter;
@@ -57,10 +57,10 @@ impl SharedPlace {
         rt: &R,
         alloc: Global,
         tag: u64,
-        setup: RingNumbers,
+        setup: OpeningNumbers,
         out: &mut Text,
     ) -> Option<SharedPlace> {
-        let RingNumbers {
+        let OpeningNumbers {
             size,
             start,
             workers,
@@ -254,7 +254,6 @@ fn put_back(ring: &SharedRing, seats: &mut Vec<Seat>, last: Option<Seat>)
     }
 }
 
-// A call at a ring, by a seat.
 fn work<R: Wait>(
     rt: &R,
     ring: &SharedRing,

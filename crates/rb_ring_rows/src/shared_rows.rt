@@ -2,9 +2,9 @@
 
 use crate::answers::{bind_word, tell_counts, tell_entries};
 use crate::consumer_calls::ConsumerCall;
-use crate::row::Row;
+use crate::row::RingRow;
 use crate::script::{
-    LONGEST, MOST_TAKEN, Script, WRONG_WORDS, collect, keep, keep_chapters, ring_numbers,
+    LONGEST, MOST_TAKEN, RowScript, WRONG_WORDS, collect, keep, keep_chapters, ring_numbers,
 };
 use crate::shared_rings::{Load, SharedPlace, WorkerCall};
 use crate::sheets::{copied, filled};
@@ -25,7 +25,7 @@ const SEAT_VERBS: [&str; 3] = ["output", "query", "audit"];
 const CONSUMER_VERBS: [&str; 3] = ["take", "used", "fill"];
 
 /// What a row answers whose first name is that of a shared ring.
-pub(crate) fn answer<R: Wait>(rt: &R, script: &mut Script, row: &Row<'_>, out: &mut Text) {
+pub(crate) fn answer<R: Wait>(rt: &R, script: &mut RowScript, row: &RingRow<'_>, out: &mut Text) {
     if RECORD_VERBS.contains(&row.verb) {
         work(rt, script, row, 2, out);
     } else if SEAT_VERBS.contains(&row.verb) {
@@ -37,7 +37,7 @@ pub(crate) fn answer<R: Wait>(rt: &R, script: &mut Script, row: &Row<'_>, out: &
     }
 }
 
-fn answer_other<R: Wait>(rt: &R, script: &mut Script, row: &Row<'_>, out: &mut Text) {
+fn answer_other<R: Wait>(rt: &R, script: &mut RowScript, row: &RingRow<'_>, out: &mut Text) {
     match row.verb {
         "handout" => hand_out(rt, script, row, out),
         "turn" => turn(rt, script, row, out),
@@ -48,7 +48,7 @@ fn answer_other<R: Wait>(rt: &R, script: &mut Script, row: &Row<'_>, out: &mut T
 }
 
 /// Opens a shared ring.
-pub(crate) fn share<R: Wait>(rt: &R, script: &mut Script, row: &Row<'_>, out: &mut Text) {
+pub(crate) fn share<R: Wait>(rt: &R, script: &mut RowScript, row: &RingRow<'_>, out: &mut Text) {
     if row.form() != "share x 0 0 0 0" {
         return out.word(WRONG_WORDS);
     }
@@ -60,7 +60,7 @@ pub(crate) fn share<R: Wait>(rt: &R, script: &mut Script, row: &Row<'_>, out: &m
 }
 
 // The ring by whose seat a row's call is made: it has the name at this place, or where there is none the first.
-fn home_of<'a>(row: &Row<'a>, place: usize) -> &'a str {
+fn home_of<'a>(row: &RingRow<'a>, place: usize) -> &'a str {
     if row.names.len() > place {
         row.name(place)
     } else {
@@ -69,14 +69,14 @@ fn home_of<'a>(row: &Row<'a>, place: usize) -> &'a str {
 }
 
 // Whether a row of a worker's call has its words, where the name of a home is at this place.
-fn has_words(row: &Row<'_>, place: usize) -> bool {
+fn has_words(row: &RingRow<'_>, place: usize) -> bool {
     let numbers = if row.verb == "audit" { 1 } else { 2 };
     let names = row.names.len();
     names >= place && names - place <= 1 && row.numbers.len() == numbers
 }
 
 // A call of a worker.
-fn work<R: Wait>(rt: &R, script: &mut Script, row: &Row<'_>, place: usize, out: &mut Text) {
+fn work<R: Wait>(rt: &R, script: &mut RowScript, row: &RingRow<'_>, place: usize, out: &mut Text) {
     if !has_words(row, place) {
         return out.word(WRONG_WORDS);
     }
@@ -96,7 +96,7 @@ fn work<R: Wait>(rt: &R, script: &mut Script, row: &Row<'_>, place: usize, out: 
 }
 
 // The call that a row's words ask for.
-fn worker_call(row: &Row<'_>) -> WorkerCall {
+fn worker_call(row: &RingRow<'_>) -> WorkerCall {
     let number = row.number(1);
     match row.verb {
         "reserve" => WorkerCall::Reserve,
@@ -109,7 +109,7 @@ fn worker_call(row: &Row<'_>) -> WorkerCall {
 }
 
 // What a row's call is made with, or what is wrong with its words.
-fn loaded(script: &mut Script, row: &Row<'_>) -> Result<Load, &'static str> {
+fn loaded(script: &mut RowScript, row: &RingRow<'_>) -> Result<Load, &'static str> {
     match row.verb {
         "reserve" => sheet_of(script.alloc, row.number(1)),
         "output" => with_sheet(copied(script.alloc, row.bytes.as_slice())),
@@ -153,8 +153,8 @@ fn with_record(record: Option<Reservation>) -> Result<Load, &'static str> {
 // Makes a worker's call at a row's ring, by its seat of the home, and keeps the record that is there then.
 fn work_by<R: Wait>(
     rt: &R,
-    script: &mut Script,
-    row: &Row<'_>,
+    script: &mut RowScript,
+    row: &RingRow<'_>,
     home: &str,
     load: Load,
     out: &mut Text,
@@ -170,8 +170,8 @@ fn work_by<R: Wait>(
 // The home is out of the map meanwhile, so that another ring alone is found there.
 fn call_by<R: Wait>(
     rt: &R,
-    script: &mut Script,
-    row: &Row<'_>,
+    script: &mut RowScript,
+    row: &RingRow<'_>,
     home: &str,
     load: &mut Load,
     out: &mut Text,
@@ -183,8 +183,7 @@ fn call_by<R: Wait>(
     }
 }
 
-// A call of the consumer.
-fn consume<R: Wait>(rt: &R, script: &mut Script, row: &Row<'_>, out: &mut Text) {
+fn consume<R: Wait>(rt: &R, script: &mut RowScript, row: &RingRow<'_>, out: &mut Text) {
     let Some(call) = consumer_call(row) else {
         return out.word(WRONG_WORDS);
     };
@@ -204,7 +203,7 @@ fn consume<R: Wait>(rt: &R, script: &mut Script, row: &Row<'_>, out: &mut Text) 
 }
 
 // The call that a row's words ask for, where they are those of one.
-fn consumer_call(row: &Row<'_>) -> Option<ConsumerCall<'static>> {
+fn consumer_call(row: &RingRow<'_>) -> Option<ConsumerCall<'static>> {
     let n = row.number(0);
     match (row.verb, row.numbers.len()) {
         ("take", 0) => Some(ConsumerCall::Take),
@@ -232,7 +231,7 @@ fn consume_by<R: Wait>(
 }
 
 // What is wrong with the words of a row that names a chapter or a keeper behind the ring, and maybe a home behind that; nothing where they are right.
-fn wrong_words(script: &Script, row: &Row<'_>) -> Option<&'static str> {
+fn wrong_words(script: &RowScript, row: &RingRow<'_>) -> Option<&'static str> {
     let names = row.names.len();
     if names < 2 || names > 3 || !row.numbers.is_empty() {
         return Some(WRONG_WORDS);
@@ -245,7 +244,7 @@ fn wrong_words(script: &Script, row: &Row<'_>) -> Option<&'static str> {
 }
 
 // The consumer hands the ring's chapter out, by its own seat or by that of another ring.
-fn hand_out<R: Wait>(rt: &R, script: &mut Script, row: &Row<'_>, out: &mut Text) {
+fn hand_out<R: Wait>(rt: &R, script: &mut RowScript, row: &RingRow<'_>, out: &mut Text) {
     if let Some(fault) = wrong_words(script, row) {
         return out.word(fault);
     }
@@ -262,7 +261,7 @@ fn hand_out<R: Wait>(rt: &R, script: &mut Script, row: &Row<'_>, out: &mut Text)
 }
 
 // A keeper looks at the ring's chapter, by the ring's own consumer or by that of another ring.
-fn turn<R: Wait>(rt: &R, script: &mut Script, row: &Row<'_>, out: &mut Text) {
+fn turn<R: Wait>(rt: &R, script: &mut RowScript, row: &RingRow<'_>, out: &mut Text) {
     if let Some(fault) = wrong_words(script, row) {
         return out.word(fault);
     }
@@ -275,7 +274,7 @@ fn turn<R: Wait>(rt: &R, script: &mut Script, row: &Row<'_>, out: &mut Text) {
 }
 
 // What a seat counted.
-fn tell_seats(script: &Script, row: &Row<'_>, out: &mut Text) {
+fn tell_seats(script: &RowScript, row: &RingRow<'_>, out: &mut Text) {
     let Some(place) = script.shared.get(row.name(0)) else {
         return out.word(WRONG_WORDS);
     };
@@ -287,7 +286,7 @@ fn tell_seats(script: &Script, row: &Row<'_>, out: &mut Text) {
 }
 
 // Closes a ring with all its seats; where there is a number, with all but the last; where there is another ring, with that one's.
-fn close<R: Wait>(rt: &R, script: &mut Script, row: &Row<'_>, out: &mut Text) {
+fn close<R: Wait>(rt: &R, script: &mut RowScript, row: &RingRow<'_>, out: &mut Text) {
     match row.form() {
         "close x" => close_own(rt, script, row.name(0), true, out),
         "close x 0" => close_own(rt, script, row.name(0), false, out),
@@ -296,7 +295,7 @@ fn close<R: Wait>(rt: &R, script: &mut Script, row: &Row<'_>, out: &mut Text) {
     }
 }
 
-fn close_own<R: Wait>(rt: &R, script: &mut Script, ring: &str, all: bool, out: &mut Text) {
+fn close_own<R: Wait>(rt: &R, script: &mut RowScript, ring: &str, all: bool, out: &mut Text) {
     let Some(place) = script.shared.remove(ring) else {
         return out.word("fault: no such ring");
     };
@@ -313,7 +312,7 @@ fn close_own<R: Wait>(rt: &R, script: &mut Script, ring: &str, all: bool, out: &
     }
 }
 
-fn close_with<R: Wait>(rt: &R, script: &mut Script, ring: &str, other: &str, out: &mut Text) {
+fn close_with<R: Wait>(rt: &R, script: &mut RowScript, ring: &str, other: &str, out: &mut Text) {
     if ring == other || !script.shared.contains_key(other) {
         return out.word("fault: no such ring");
     }
@@ -347,7 +346,7 @@ fn tell_closing(closing: &Closing, out: &mut Text) {
 }
 
 /// Binds chapters to the history of a ring that was closed. Then the ring and the chapters are gone.
-pub(crate) fn bind(script: &mut Script, row: &Row<'_>, out: &mut Text) {
+pub(crate) fn bind(script: &mut RowScript, row: &RingRow<'_>, out: &mut Text) {
     let ([ring, names @ ..], []) = (row.names.as_slice(), row.numbers.as_slice()) else {
         return out.word(WRONG_WORDS);
     };

@@ -1,7 +1,7 @@
 //! Rows on sheets, the bytes of records.
 
-use crate::row::Row;
-use crate::script::{LONGEST, Script, WRONG_WORDS, keep};
+use crate::row::RingRow;
+use crate::script::{LONGEST, RowScript, WRONG_WORDS, keep};
 use crate::sheets::write_at;
 use crate::text::Text;
 use rb_lend::{Lent, Sheet};
@@ -10,7 +10,7 @@ use rb_lend::{Lent, Sheet};
 pub(crate) const VERBS: [&str; 3] = ["sheet", "renew", "wipe"];
 
 /// What a row on sheets answers.
-pub(crate) fn answer(script: &mut Script, row: &Row<'_>, out: &mut Text) {
+pub(crate) fn answer(script: &mut RowScript, row: &RingRow<'_>, out: &mut Text) {
     match row.form() {
         "sheet x 0" => make(script, row.name(0), row.number(0), out),
         "renew x 0" => renew(script, row.name(0), row.number(0), out),
@@ -19,7 +19,7 @@ pub(crate) fn answer(script: &mut Script, row: &Row<'_>, out: &mut Text) {
     }
 }
 
-fn wipe(script: &mut Script, name: &str, out: &mut Text) {
+fn wipe(script: &mut RowScript, name: &str, out: &mut Text) {
     match script.sheets.get_mut(name) {
         Some(sheet) => {
             sheet.clear();
@@ -30,7 +30,7 @@ fn wipe(script: &mut Script, name: &str, out: &mut Text) {
 }
 
 // Makes a sheet.
-fn make(script: &mut Script, name: &str, n: u64, out: &mut Text) {
+fn make(script: &mut RowScript, name: &str, n: u64, out: &mut Text) {
     if n > LONGEST {
         return out.word(WRONG_WORDS);
     }
@@ -44,7 +44,7 @@ fn make(script: &mut Script, name: &str, n: u64, out: &mut Text) {
 }
 
 // Renews a sheet for another length.
-fn renew(script: &mut Script, name: &str, n: u64, out: &mut Text) {
+fn renew(script: &mut RowScript, name: &str, n: u64, out: &mut Text) {
     if n > LONGEST {
         return out.word(WRONG_WORDS);
     }

@@ -7,21 +7,14 @@ use crate::answers::{
 };
 use crate::shared_answers::{tell_record, tell_reserved};
 use crate::text::Text;
-use rb_chapter_ring::{Reservation, ReserveFault, RingState};
+use rb_chapter_ring::{RecordEnd, Reservation, ReserveFault, RingState};
 use rb_for_tests::{PlainOpenFault, PlainReservation, PlainRing};
 use rb_history::NoGrant;
 use rb_lend::Sheet;
 use std::alloc::Global;
 
-/// How a record is ended.
-#[derive(Clone, Copy)]
-pub(crate) enum Ending {
-    Submit,
-    Discard,
-}
-
 /// What a ring over chapters answered to a reservation.
-pub(crate) enum Asked {
+pub(crate) enum ChapterAnswer {
     /// The record that it granted, or none.
     Answered(Option<Reservation>),
     /// The chapter has no room, or the worker no free hand: the list knows neither.
@@ -35,21 +28,21 @@ pub(crate) fn reserve_in_chapter(
     n: u32,
     sheet: Sheet,
     out: &mut Text,
-) -> Asked
+) -> ChapterAnswer
     requires worker { worker < ring.old.state.ring.chapter.opening.setup.workers }
     requires sized { length sheet ≡ n }
 {
     let Some(hand) = ring.free_hand(worker) else {
         out.word("fault: no free hand");
-        return Asked::Unknown;
+        return ChapterAnswer::Unknown;
     };
     let answer = ring.reserve(worker, hand, n, sheet);
     let is_chapter_full = matches!(&answer, Err((ReserveFault::ChapterFull, _)));
     let record = tell_reserved(answer, out);
     if is_chapter_full {
-        Asked::Unknown
+        ChapterAnswer::Unknown
     } else {
-        Asked::Answered(record)
+        ChapterAnswer::Answered(record)
     }
 }
 
@@ -57,7 +50,7 @@ pub(crate) fn reserve_in_chapter(
 pub(crate) fn end_in_chapter(
     ring: &mut RingState,
     record: Reservation,
-    ending: Ending,
+    end: RecordEnd,
     flags: u64,
     out: &mut Text,
 ) -> Option<Reservation> {
@@ -66,9 +59,9 @@ pub(crate) fn end_in_chapter(
         tell_record(&record, out);
         return Some(record);
     }
-    let notice = match ending {
-        Ending::Submit => ring.submit(record, flags),
-        Ending::Discard => ring.discard(record, flags),
+    let notice = match end {
+        RecordEnd::Submit => ring.submit(record, flags),
+        RecordEnd::Discard => ring.discard(record, flags),
     };
     tell_notice(out, notice);
     None
@@ -78,15 +71,15 @@ pub(crate) fn end_in_chapter(
 pub(crate) fn end_in_list(
     list: &mut PlainRing,
     record: PlainReservation,
-    ending: Ending,
+    end: RecordEnd,
     flags: u64,
     out: &mut Text,
 ) -> Option<PlainReservation>
     ensures { list.new.setup ≡ list.old.setup }
 {
-    let answer = match ending {
-        Ending::Submit => list.submit(record, flags),
-        Ending::Discard => list.discard(record, flags),
+    let answer = match end {
+        RecordEnd::Submit => list.submit(record, flags),
+        RecordEnd::Discard => list.discard(record, flags),
     };
     tell_end(answer, out)
 }

@@ -5,16 +5,16 @@ ghost use Rattle.std.specs.Prelude.{◌≡◌, ◌+◌, ◌<◌, ◌≤◌, IfSo
 use crate::answers::{
     bind_word, tell_all_taken, tell_counts, tell_entries, tell_handed_out, tell_taken,
 };
-use crate::script::RingNumbers;
+use crate::script::OpeningNumbers;
 use crate::shared_answers::tell_contents;
 use crate::sheets::{copied_twice, filled_twice, write_at};
 use crate::tape_rows::tell_written;
 use crate::text::Text;
 use crate::twin_calls::{
-    Asked, Ending, end_in_chapter, end_in_list, opened_list, opened_ring, output_in_chapter,
+    ChapterAnswer, end_in_chapter, end_in_list, opened_list, opened_ring, output_in_chapter,
     output_in_list, reserve_in_chapter, reserve_in_list, tell_opened,
 };
-use rb_chapter_ring::{Chapter, Reservation, RingState, UntakenStatus};
+use rb_chapter_ring::{Chapter, RecordEnd, Reservation, RingState, UntakenStatus};
 use rb_for_tests::{PlainReservation, PlainRing};
 use rb_history::Taken;
 use rb_ledger::bind_chapters;
@@ -56,8 +56,8 @@ impl TwinRecord {
 
 impl TwinRings {
     /// Opens both rings, unless they are refused. The list has no chapters, so it is not asked where the chapters' room is refused.
-    pub(crate) fn open(alloc: Global, setup: RingNumbers, out: &mut Text) -> Option<TwinRings> {
-        let RingNumbers {
+    pub(crate) fn open(alloc: Global, setup: OpeningNumbers, out: &mut Text) -> Option<TwinRings> {
+        let OpeningNumbers {
             size,
             start,
             workers,
@@ -98,13 +98,13 @@ impl TwinRings {
             return None;
         };
         match reserve_in_chapter(&mut self.ring, worker, n, sheet, out) {
-            Asked::Answered(ring) => {
+            ChapterAnswer::Answered(ring) => {
                 let mut told = Text::new(alloc);
                 let list = reserve_in_list(&mut self.list, worker, n, other, &mut told);
                 self.compare(out, &told);
                 twin_record(ring, list)
             }
-            Asked::Unknown => None,
+            ChapterAnswer::Unknown => None,
         }
     }
 
@@ -114,17 +114,17 @@ impl TwinRings {
         &mut self,
         alloc: Global,
         record: TwinRecord,
-        ending: Ending,
+        end: RecordEnd,
         flags: u64,
         out: &mut Text,
     ) -> Option<TwinRecord> {
         let TwinRecord { ring, list } = record;
-        let ring = end_in_chapter(&mut self.ring, ring, ending, flags, out);
+        let ring = end_in_chapter(&mut self.ring, ring, end, flags, out);
         if ring.is_some() && self.has_busy(&list) {
             return twin_record(ring, Some(list));
         }
         let mut told = Text::new(alloc);
-        let list = end_in_list(&mut self.list, list, ending, flags, &mut told);
+        let list = end_in_list(&mut self.list, list, end, flags, &mut told);
         self.compare(out, &told);
         twin_record(ring, list)
     }

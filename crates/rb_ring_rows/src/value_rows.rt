@@ -1,7 +1,7 @@
 //! Rows that need no ring.
 
 use crate::answers::{setup_word, tell_notice};
-use crate::row::Row;
+use crate::row::RingRow;
 use crate::script::{WRONG_WORDS, narrow};
 use crate::tape_rows::tell_tape;
 use crate::text::Text;
@@ -9,7 +9,7 @@ use rb_history::{Header, check_setup, is_size, is_start, is_worker_count, notice
 use std::alloc::Global;
 
 /// What a row answers that needs no ring.
-pub(crate) fn answer(alloc: Global, row: &Row<'_>, out: &mut Text) {
+pub(crate) fn answer(alloc: Global, row: &RingRow<'_>, out: &mut Text) {
     let (first, second, third) = (row.number(0), row.number(1), row.number(2));
     match (row.verb, row.numbers.len()) {
         ("span", 1) => out.number(span(narrow(first))),
@@ -41,7 +41,7 @@ fn tell_whether(is_right: bool, word: &str, out: &mut Text) {
 }
 
 // The bytes of a header.
-fn encode(row: &Row<'_>, out: &mut Text) {
+fn encode(row: &RingRow<'_>, out: &mut Text) {
     let header = Header {
         len: narrow(row.number(0)),
         busy: row.number(1) != 0,

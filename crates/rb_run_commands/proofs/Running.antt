@@ -72,13 +72,6 @@ module _ {S : Type 0} (position : S → ℕ) (takes : S → SinkItem → S → T
     settled = settled (one_settled one opened is nothing_made);
   }
 
--- an accepted program is refused for what its ring is refused for
-pub ring_refused : (text : List ℕ) (request : JobsRequest) (fault : JobsFault) (subject : Subject) → IsAccepted text 16 1 subject → IsRightRingFault request fault → IsRightJobsFault text request fault
-ring_refused text request (Program fault) subject accepted right = inr (subst (IsRightFault text 16 1) (sym right) tt)
-ring_refused text request Size subject accepted right = ((subject, accepted), right)
-ring_refused text request Start subject accepted right = ((subject, accepted), right)
-ring_refused text request Workers subject accepted right = ((subject, accepted), right)
-
 -- a number that was cut to 32 bits, and is small, was not cut
 pub same_number : {E : Type 0} (cut : Result ℕ E) (Fits : Type 0) (whole got : ℕ) → OkIff cut Fits whole → got ≡ result_unwrap_or cut 4294967295 → got ≤ 256 → got ≡ whole
 same_number (Ok n) Fits whole got is unwrapped few = unwrapped ∙ is.1

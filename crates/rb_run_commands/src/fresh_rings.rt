@@ -53,7 +53,6 @@ pub(crate) fn fresh_rings<T: Wait>(rt: &T, alloc: Global, number: u32) -> Result
     })
 }
 
-// A ring for one worker.
 #[tactic(auto, using(crate::proofs::Sizes::least_size, crate::proofs::Sizes::first_start, crate::proofs::Sizes::one_worker, crate::proofs::Sizes::default_room))]
 fn fresh_ring<T: Wait>(
     rt: &T,

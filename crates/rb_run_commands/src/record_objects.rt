@@ -41,8 +41,8 @@ fn push_ring(
     Ok(())
 }
 
-// The fields of a record that was granted to a worker more.
 #[tactic(auto, unfolding(crate::specs::Printed::grant_fields))]
+// The fields of a record that was granted to a worker more.
 fn push_grant(
     lines: &mut Vec<u8>,
     ring: usize,

@@ -78,8 +78,8 @@ fn push_tally(
     lines.extend_from_slice(b"}\n")
 }
 
-// A worker's seat at a ring, and how many records it was granted, more.
 #[tactic(auto, unfolding(crate::specs::ReportLines::grant_fields))]
+// A worker's seat at a ring, and how many records it was granted, more.
 fn push_grants(
     lines: &mut Vec<u8>,
     ring: usize,
@@ -93,8 +93,8 @@ fn push_grants(
     push_field(lines, b",\"made\":", tally.made)
 }
 
-// How often it was refused one, and what became of those that it was granted, more.
 #[tactic(auto, unfolding(crate::specs::ReportLines::outcome_fields))]
+// How often it was refused one, and what became of those that it was granted, more.
 fn push_outcome(lines: &mut Vec<u8>, tally: Tally) -> Result<(), AllocError>
     ensures fields { OnOk result (lines.new.items ≡ lines.old.items ++ outcome_fields tally) }
 {
@@ -112,8 +112,8 @@ fn push_counts(lines: &mut Vec<u8>, ring: usize, counts: Counts) -> Result<(), A
     lines.extend_from_slice(b"}\n")
 }
 
-// A ring, and how many of its records were made and consumed, more.
 #[tactic(auto, unfolding(crate::specs::ReportLines::consumed_fields))]
+// A ring, and how many of its records were made and consumed, more.
 fn push_consumed(lines: &mut Vec<u8>, ring: usize, counts: Counts) -> Result<(), AllocError>
     ensures fields { OnOk result (lines.new.items ≡ lines.old.items ++ consumed_fields ring counts) }
 {
@@ -122,8 +122,8 @@ fn push_consumed(lines: &mut Vec<u8>, ring: usize, counts: Counts) -> Result<(),
     push_field(lines, b",\"consumed\":", counts.consumed)
 }
 
-// What became of the others more.
 #[tactic(auto, unfolding(crate::specs::ReportLines::other_fields))]
+// What became of the others more.
 fn push_others(lines: &mut Vec<u8>, counts: Counts) -> Result<(), AllocError>
     ensures fields { OnOk result (lines.new.items ≡ lines.old.items ++ other_fields counts) }
 {

@@ -255,8 +255,8 @@ fn a_job_holds_four_records_and_outputs_a_fifth(rt: HostRuntime) {
     same(&rt, &is_empty(&rt, &rings[0], &mut consumer), &true);
 }
 
-// A record that was granted before and never given back keeps its hand, so that the program is granted three.
 #[test]
+// A record that was granted before and never given back keeps its hand, so that the program is granted three.
 fn a_fourth_record_finds_no_hand_where_one_was_dropped(rt: HostRuntime) {
     let alloc = rt.alloc();
     let (ring, mut seat, _consumer) = opened(&rt, alloc, 3, 64);

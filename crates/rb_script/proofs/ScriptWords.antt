@@ -143,9 +143,6 @@ worker-of-one words program e some = record {
       (said.1, no-context ∙ ap Ok (sym said.2));
 }
 
-pub no-worker-of-one : (words : List (List ℕ)) (program : List ℕ) → words ≡ program ∷ [] → (length program == 0) ≡ true → (other context : List ℕ) → SaysWorker words other context → ⊥
-no-worker-of-one words program e none other context says = let said = subst (λ (l : List (List ℕ)). SaysWorker l other context) e says in said.0 (is-empty program none)
-
 two-words : (program other context : List ℕ) (hex : List ℕ) (words : List (List ℕ)) → words_of hex ≡ words → SaysWorker (program ∷ words) other context
     → (program ≢ []) × (other ≡ program) × (hex ≢ []) × (decode_of hex ≡ Ok context)
 two-words program other context hex [] e h = absurd (some-word hex e)
@@ -163,11 +160,6 @@ module _ (words : List (List ℕ)) (program hex : List ℕ) (e : words ≡ progr
         let said = two-words program other context hex (words_of hex) refl (subst (λ (l : List (List ℕ)). SaysWorker l other context) e says) in
         (said.1, said.3);
   }
-
-  pub no-program : (length program == 0) ≡ true → (other context : List ℕ) → SaysWorker words other context → ⊥
-  no-program none other context says =
-      let said = two-words program other context hex (words_of hex) refl (subst (λ (l : List (List ℕ)). SaysWorker l other context) e says) in
-      said.0 (is-empty program none)
 
   pub no-hex : (length hex == 0) ≡ true → (other context : List ℕ) → SaysWorker words other context → ⊥
   no-hex none other context says =

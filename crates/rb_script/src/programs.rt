@@ -35,7 +35,6 @@ pub(crate) fn programs_of(
     Ok(programs)
 }
 
-// The program of one worker.
 fn program_of(
     alloc: Global,
     worker: &ScriptWorker<'_>,

@@ -8,7 +8,7 @@ use std::alloc::{AllocError, Global};
 
 // What the lines in front of a line have.
 #[derive(Clone, Copy, Default)]
-struct Front {
+struct EarlierLines {
     rings: u64,
     workers: u64,
     turns: u64,
@@ -17,7 +17,7 @@ struct Front {
 /// Says what was expected at a line of a script, counted from 1, that was refused: its form and bounds, or where it may stand, or why its program
 /// is refused. It is for people, and tests show what it says.
 pub fn line_reason(alloc: Global, script: &[u8], line: usize) -> Result<String, AllocError> {
-    let mut front = Front::default();
+    let mut front = EarlierLines::default();
     let mut rest = script;
     for before in 0..script.len() {
         if rest.is_empty() {
@@ -34,7 +34,7 @@ pub fn line_reason(alloc: Global, script: &[u8], line: usize) -> Result<String, 
     format!(in alloc; "line {line} is behind the last one: a script has at least one worker")
 }
 
-impl Front {
+impl EarlierLines {
     // The same with one line more.
     fn add(&mut self, line: Option<ScriptLine<'_>>) {
         match line {
@@ -48,7 +48,7 @@ impl Front {
 
 // How many rings these lines have.
 fn rings_in(lines: &[u8]) -> u64 {
-    let mut found = Front::default();
+    let mut found = EarlierLines::default();
     let mut rest = lines;
     for _ in 0..lines.len() {
         if rest.is_empty() {
@@ -64,7 +64,7 @@ fn rings_in(lines: &[u8]) -> u64 {
 // Why this line is refused behind those, in a script with so many rings.
 fn reason_at(
     alloc: Global,
-    front: &Front,
+    front: &EarlierLines,
     rings: u64,
     bytes: &[u8],
     line: usize,
@@ -118,7 +118,7 @@ fn worker_reason(
 // Why a line of turns is refused.
 fn turns_reason(
     alloc: Global,
-    front: &Front,
+    front: &EarlierLines,
     actor: Actor,
     count: u64,
     line: usize,

@@ -77,7 +77,6 @@ impl<'a> Script<'a> {
         Ok(script)
     }
 
-    // Adds a line.
     fn add(&mut self, alloc: Global, number: usize, line: &'a [u8]) -> Result<(), ScriptFault>
         requires limits { IsWithinLimits self.old }
         ensures limits { OnOk result (IsWithinLimits self.new) }
@@ -94,7 +93,6 @@ impl<'a> Script<'a> {
         }
     }
 
-    // Adds a ring.
     fn add_ring(&mut self, number: usize, setup: RingSetup) -> Result<(), ScriptFault>
         requires limits { IsWithinLimits self.old }
         ensures limits { OnOk result (IsWithinLimits self.new) }
@@ -110,7 +108,6 @@ impl<'a> Script<'a> {
         }
     }
 
-    // Adds a worker.
     fn add_worker(
         &mut self,
         alloc: Global,
@@ -145,7 +142,6 @@ impl<'a> Script<'a> {
         }
     }
 
-    // Whether the actor is there.
     fn has(&self, actor: Actor) -> bool
         ensures { IsTrue result ↔ IsAmong (length self.now.rings.items) (length self.now.workers.items) actor }
     {
@@ -155,7 +151,6 @@ impl<'a> Script<'a> {
         }
     }
 
-    // Adds turns of an actor.
     fn add_turns(&mut self, number: usize, actor: Actor, count: u64) -> Result<(), ScriptFault>
         requires limits { IsWithinLimits self.old }
         ensures limits { OnOk result (IsWithinLimits self.new) }

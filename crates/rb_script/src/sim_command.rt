@@ -94,7 +94,6 @@ fn print_beginning<W: Write>(out: &mut W, lines: &[u8]) -> SimFault
     }
 }
 
-// Prints lines.
 fn print<W: Write>(out: &mut W, lines: &[u8]) -> Result<(), SimFault>
     ensures printed { OnOk result (Appends (W.contents out.old) (W.contents out.new) lines.now) }
     ensures fault { IfErr result (λ fault. fault ≡ SimFault.Device) }

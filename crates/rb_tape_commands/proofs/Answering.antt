@@ -106,10 +106,6 @@ pub only_known : (size start : ℕ) (u v h g : Option (List ℕ)) (r : Result (�
 only_known size start None v h g r n d = tt
 only_known size start (Some input) v h g r n d = λ qs f p q t. only_answer size start input v h g r n d qs f t
 
-pub only_device : (size start : ℕ) (u : Option (List ℕ)) → AnswersAlone size start u (Err Device)
-only_device size start None = tt
-only_device size start (Some input) = λ qs f p q t. inr (inr refl)
-
 -- an answer says what the input says
 pub tells : (size start : ℕ) (u v h g : Option (List ℕ)) (r : Result (ℕ × ℕ) FeedFault) → (r ≢ Err Size) × (r ≢ Err Start) → FeedResult (feed_run size start u v h g) r → FeedAnswerMatches size start u r
 tells size start None v h g (Ok ends) n d = tt

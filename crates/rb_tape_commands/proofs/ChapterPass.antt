@@ -95,13 +95,6 @@ module _ (earlier : List Entry) (old mid new : ChapterRing) (bytes : List ℕ) (
         };
       }
 
--- a payload that the ring has room for when it is empty is refused only past the last position
-pub too_far : (old : ChapterRing) (n : ℕ) → AllTakenByChapter old → span n < old.chapter.opening.setup.size → ¬ ChapterRingHasRoom old n → 2 ^ 62 < producer_by_chapter old + span n
-too_far old n at room none = elim (cases_lt (2 ^ 62) (producer_by_chapter old + span n)) [
-  | inl past ↦ past
-  | inr within ↦ absurd (none (record { space = omega (arith, at); limit = within }))
-]
-
 -- ---- the next chapter
 
 -- the ring stands where it stood, in a chapter of the same room and setup, whose number is at most one more

@@ -52,10 +52,6 @@ module _ (size start : ℕ) (u v h g : Option (List ℕ)) (ps : List (List ℕ))
     wrote = rw (events_from-push start ps p, tape-push size (payload_events start ps) (Event (end_of start (payload_events start ps)) p)) (Appends-trans h g f _ _ so_far.wrote wrote);
   }
 
-  -- nothing more came
-  pub fed_whole : (w : Option (List ℕ)) (ends : ℕ × ℕ) → FindsEnd v w → ends ≡ ends_of start ps → FeedResult (feed_run size start u w h g) (Ok ends)
-  fed_whole w ends end same = record { payloads = ps; fed = record { more = []; passes = passes_and w [] end.read; goes_on = refl; read_to = end.at_end }; ends_are = same }
-
   -- no payload was read
   pub fed_next : (w : Option (List ℕ)) (number : ℕ) → number ≡ length ps → (e : FeedFault) → FindsNext size number v w (Err e) → FeedResult (feed_run size start u w h g) (Err e)
   fed_next w number count Size f = absurd f

@@ -13,9 +13,6 @@ module _ (form : LineForm) where
   passes_more old mid new [] item same passes = (new, subst (λ (r : Reading). PassesItem r item new) same passes, refl)
   passes_more old mid new (first ∷ items) item all passes = (all.0, all.1, passes_more all.0 mid new items item all.2 passes)
 
-  pub none_read : (r : Reading) → ReadsLines form r r []
-  none_read r = record { items = []; passes = refl; text = refl }
-
   module _ (old mid new : Reading) (before after : List ℕ) (reads : ReadsLines form old mid before) where
     one_more : (item : Item) → PassesItem mid item new → after ≡ before ++ (tape_line_as form) item → ReadsLines form old new after
     one_more item passes added = record {

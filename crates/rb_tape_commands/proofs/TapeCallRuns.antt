@@ -8,9 +8,6 @@ use Rattle.rb_tape_commands.specs.declared.feed_fault.FeedFault.{FeedFault}
 use Rattle.rb_tape_commands.specs.declared.feed_fault.FeedFault.TheVariants.{Device}
 
 module _ {W : Type 0} (contents : W → Option (List ℕ)) where
-  pub no_calls : (t : TapeOutput W) → LeadsByCalls contents t t
-  no_calls t = ([], refl)
-
   pub one_call : (old new : TapeOutput W) (call : TapeCall) (ok : Bool) → MakesTapeCall contents old call ok new → LeadsByCalls contents old new
   one_call old new call ok made = ((call, ok) ∷ [], (new, made, refl))
 

@@ -138,9 +138,6 @@ module _ (form : LineForm) where
   shows_stays size position bytes more kind s =
       (s.0, s.1 ++ more, record { fields = s.2.fields; text = ap (λ x. x ++ more) s.2.text ∙ append_assoc (header_bytes s.0) s.1 more }, fault_stays size position s.0 s.1 more kind s.3)
 
-  starts_stays : (size position : ℕ) (bytes more : List ℕ) (item : Item) (rest : List ℕ) → StartsWithItem size position bytes item rest → StartsWithItem size position (bytes ++ more) item (rest ++ more)
-  starts_stays size position bytes more item rest s = record { stands = s.stands; text = ap (λ x. x ++ more) s.text ∙ append_assoc (item_bytes size item) rest more }
-
   -- ---- what an answer says of the whole input
 
   module _ (size start : ℕ) (ring : IsRingSize size) (input left : List ℕ) (h g : Option (List ℕ)) (r : Reading) (so_far : PrintsSoFar form size start (Some input) (Some left) h g r) where

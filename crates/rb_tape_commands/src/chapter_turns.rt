@@ -23,9 +23,9 @@ pub(crate) fn make_chapter_room(ring: &mut RingState, spare: &mut Option<Chapter
     }
 }
 
-// Hands the ring's chapter out for the spare one.
 #[cold]
 #[inline(never)]
+// Hands the ring's chapter out for the spare one.
 fn turn_chapter(ring: &mut RingState, spare: &mut Option<Chapter>)
     requires all_taken { AllTakenByChapter ring.old.state.ring }
     requires full { ¬ MayGrant ring.old.state.ring.chapter }

@@ -18,8 +18,8 @@ pub(crate) fn write_digits(bytes: &[u8], out: &mut [u8])
     }
 }
 
-// The digit of a number below sixteen.
 #[inline(always)]
+// The digit of a number below sixteen.
 fn digit(number: u8) -> u8
     requires below { number < 16 }
     ensures value { result ≡ digit_code number }

@@ -64,9 +64,9 @@ impl Lines {
         self.grow(more)
     }
 
-    // The same, where there is no such room yet.
     #[cold]
     #[inline(never)]
+    // The same, where there is no such room yet.
     fn grow(&mut self, more: usize) -> Result<(), AllocError>
         requires fits { more < 2 ^ 34 }
         ensures text { self.new.text ≡ self.old.text }

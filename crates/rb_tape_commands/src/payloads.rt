@@ -48,9 +48,9 @@ fn sheet_of(spare: Sheet, len: u32) -> Result<Sheet, AllocError>
     }
 }
 
-// Reads the payload of this number, its length and then its bytes, each until it is whole or the input ends.
 #[cold]
 #[inline(never)]
+// Reads the payload of this number, its length and then its bytes, each until it is whole or the input ends.
 fn read_payload<R: Read>(
     reader: &mut R,
     spare: Sheet,
@@ -77,8 +77,8 @@ fn read_payload<R: Read>(
     Ok(Some(sheet))
 }
 
-// The payload that stands whole at the front of these bytes, behind its length, where a ring of `size` bytes has room for its record.
 #[inline]
+// The payload that stands whole at the front of these bytes, behind its length, where a ring of `size` bytes has room for its record.
 fn whole_payload(seen: &[u8], size: u64) -> Option<&[u8]>
     ensures seen { IfSome result (λ payload. IsSeenWhole size seen.now payload.now) }
 {
@@ -90,8 +90,8 @@ fn whole_payload(seen: &[u8], size: u64) -> Option<&[u8]>
     Some(&rest[..len as usize])
 }
 
-// The sheet with these bytes in place of its own, as many.
 #[inline(always)]
+// The sheet with these bytes in place of its own, as many.
 fn filled(sheet: Sheet, bytes: &[u8]) -> Sheet
     requires sized { length sheet ≡ length bytes.now }
     ensures filled { result ≡ bytes.now }
@@ -101,8 +101,8 @@ fn filled(sheet: Sheet, bytes: &[u8]) -> Sheet
     sheet
 }
 
-// The same as `next_payload`, where the sheet has another length than the payload.
 #[inline(never)]
+// The same as `next_payload`, where the sheet has another length than the payload.
 fn next_of_other_length<R: BufRead>(
     reader: &mut R,
     spare: Sheet,

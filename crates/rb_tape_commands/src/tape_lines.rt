@@ -100,7 +100,6 @@ fn push_object(alloc: Global, lines: &mut Lines, found: &Record<'_>) -> Result<(
     Ok(())
 }
 
-// The object of a record.
 fn object_of(alloc: Global, found: &Record<'_>) -> Result<Vec<u8>, AllocError>
     requires length { HasItsLength found.now }
     ensures object { IfOk result (λ object. object.items ≡ tape_object (item_read found.now)) }

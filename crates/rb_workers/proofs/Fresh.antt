@@ -60,13 +60,6 @@ all_opened position count [] all = λ k d below. absurd (omega arith)
 all_opened position count (o ∷ more) all =
     subst (λ n. All (IsOpened position n) (o ∷ more)) (sym (seats_length position count o (all_first (IsOpened position count) (o ∷ more) more o refl all))) all
 
--- a room that is not out of bounds
-pub room_within : (room : ℕ) → ((IsChapterRoom room → ⊥) → ⊥) → IsChapterRoom room
-room_within room not_out = (at_most 8 room (λ low. not_out (λ is. low is.0)), at_most room 1048576 (λ high. not_out (λ is. high is.1)))
-  where
-    at_most : (a b : ℕ) → ((a ≤ b → ⊥) → ⊥) → a ≤ b
-    at_most a b never = ⊎_elim (λ is. is.1) (λ above. absurd (never (λ le. omega (arith, above.1, le)))) (leb_tells a b)
-
 -- seats that have made nothing
 pub fresh_settled : (tag : ℕ) (ring : TableId) (room : ℕ) (seen : Book) (first n : ℕ) → All HasSettledAll (fresh_seats tag ring room seen first n)
 fresh_settled tag ring room seen first zero = λ k d below. absurd (omega arith)

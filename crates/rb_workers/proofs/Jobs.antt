@@ -25,8 +25,3 @@ own_more w js i d below same = let e = filter_more (λ (j : Job). j.worker == w)
 pub worked_short : (w : ℕ) (js : List Job) (i : ℕ) (short : Bool) (given : List JobAnswer) (old new : List WorkerSeat) → short ≡ true → RunsJobs (own_jobs w (take i js)) given old new → RunsOwnJobs (own_jobs w js) short given old new
 worked_short w js i short given old new e ran =
     (own_jobs w (take i js), own_jobs w (drop i js), ap (own_jobs w) (sym (take-append-drop i js)) ∙ filter-append (λ (j : Job). j.worker == w) (take i js) (drop i js), (λ no. absurd (true≢false (sym e ∙ no))), ran)
-
--- it ran all of them
-pub worked_all : (w : ℕ) (js : List Job) (i : ℕ) (short : Bool) (given : List JobAnswer) (old new : List WorkerSeat) → i ≡ length js → RunsJobs (own_jobs w (take i js)) given old new → RunsOwnJobs (own_jobs w js) short given old new
-worked_all w js i short given old new e ran =
-    (own_jobs w js, [], sym (append-nil (own_jobs w js)), (λ _. refl), subst (λ (l : List Job). RunsJobs (own_jobs w l) given old new) (ap (λ (n : ℕ). take n js) e ∙ take-length js) ran)

@@ -59,7 +59,6 @@ fn find_unknown(jobs: &[Job<'_>], rings: usize, count: u32, counts: &mut [usize]
     Unknown { ring, worker }
 }
 
-// How many workers there are.
 fn count_workers<S: Sink>(opened: &[Opened<S>]) -> u32
     requires opened { AreOpened S.position_of opened.now }
     ensures { result ≡ workers_of opened.now }

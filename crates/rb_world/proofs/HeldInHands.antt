@@ -86,9 +86,6 @@ module _ (rings : List KeptRing) (r : ℕ) (s s' : KeptRing) (there : s ≡ get_
   pub holds-each : (old new : Held) → HoldsOldOrOut r (hands_shown s') old new → HoldsEachOldOrOut (books_of (set rings r s')) old new
   holds-each old new holds id x held = elim (holds id x held) [ inl was ↦ inl was | inr here ↦ inr (out-here (mark_of x) here.0 here.1) ]
 
-pub keeps-each-same : (rings : List KeptRing) → KeepsEachInHand rings rings
-keeps-each-same rings r low w h o n at busy = at
-
 -- ---- a world
 
 module _ (old new : WorldValue) (sound : IsSoundWorld (whole_world new)) (long : length new.rings ≡ length old.rings) (each : KeepsEachInHand old.rings new.rings) where

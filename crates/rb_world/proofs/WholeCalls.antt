@@ -43,9 +43,6 @@ stands-whole earlier v kept stands = (stands-alike earlier v kept.continues).0 s
 -- ---- a record is asked for
 
 module _ (old new : ChapterRing) (w : ℕ) where
-  pub reserve-bad : (len flags : ℕ) → flags ≢ 0 → new ≡ old → IsWholeAnswer (λ v v'. IsReserved v v' w len flags None) old new
-  reserve-bad len flags bad same = λ earlier kept. (subst (λ (v : ChapterRing). IsKept earlier v.chapter) (sym same) kept, (BadFlags, tt, (bad, ap (λ v. untaken_ring (whole_ring earlier v)) same)))
-
   pub reserve-unlogged : (len flags : ℕ) → flags ≡ 0 → new ≡ old → IsWholeAnswer (λ v v'. IsReserved v v' w len flags None) old new
   reserve-unlogged len flags none same = λ earlier kept. (subst (λ (v : ChapterRing). IsKept earlier v.chapter) (sym same) kept, (Unlogged, tt, (none, ap (λ v. untaken_ring (whole_ring earlier v)) same)))
 
@@ -137,10 +134,6 @@ joined-more [] c = append-nil c.entries
 joined-more (d ∷ cs) c = ap (λ l. d.entries ++ l) (joined-more cs c) ∙ sym (append_assoc d.entries (joined cs) c.entries)
 
 module _ (s : KeptRing) (new : TaggedRing) (kept : IsKept (joined s.chapters) s.ring.state.ring.chapter) (out : Chapter) (h : HandsOut s.ring.state.ring new.state.ring out) where
-  pub out-same : world_ring (record s { ring = new; chapters = s.chapters ++ out ∷ [] }) ≡ world_ring s
-  out-same = ap (λ (v : Ring). record { ring = v; taken = s.taken })
-      (ap (λ l. whole_ring l new.state.ring) (joined-more s.chapters out) ∙ (((calls-alike (joined s.chapters) s.ring.state.ring new.state.ring kept.continues).hands_out out).0 h).1)
-
   pub out-turned : new.tag ≡ s.ring.tag → new.state.hands ≡ s.ring.state.hands → HandsChapterOut out.number s (record s { ring = new; chapters = s.chapters ++ out ∷ [] })
   out-turned tag hands = record {
     number_is = ap (λ (c : Chapter). c.number) h.next.out_is;

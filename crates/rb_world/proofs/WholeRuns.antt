@@ -131,9 +131,6 @@ module _ (world : World) (events : List TurnEvent) (kept : IsKept (λ r. handed_
       let same : w ≡ v = (one-record (world.rings r).ring.setup (world.rings r).ring.history p w j (length a.0) v k (length b.0) (kept.rings r).legal a.2 b.2).0 in
       (same, (runs-of w id r p j inside h).once id other r p j k h (subst (λ i. HoldsRecord (world.workers i) other r p k) (sym same) g))
 
-  not-in : (w : ℕ) (status other : WorkerStatus) → (world.workers w).status ≡ other → IsIn status world.rings w (world.workers w) → (world.workers w).status ≡ status → (IsIn other world.rings w (world.workers w) → ⊥) → ⊥
-  not-in w status other is sound at no_way = no_way (subst (λ st. IsIn st world.rings w (world.workers w)) (sym at ∙ is) sound)
-
   finished-by : (w n : ℕ) (status : WorkerStatus) → (world.workers w).status ≡ status → IsIn status world.rings w (world.workers w) → unit_count (world.workers w).subject.program ≤ n → ((world.workers w).status ≡ Running → n ≤ (world.workers w).state.unit) → HasFinished (world.workers w)
   finished-by w n Running is sound enough on =
       let low : (world.workers w).state.unit < unit_count (world.workers w).subject.program = unit_inside (world.workers w).subject (world.workers w).state sound.can_step in

@@ -1,12 +1,13 @@
 -- What a ring of a world answers to a call of a program, and how it changes (bpf-helpers(7): bpf_ringbuf_reserve,
 -- bpf_ringbuf_submit, bpf_ringbuf_discard, bpf_ringbuf_output). A call is answered as the ring of one thread answers it.
-use Rattle.std.specs.Prelude.{ℕ, ◌≡◌, ◌≢◌, ◌<◌, ◌≤◌, pos, negsuc, List, [], ◌++◌, Some, length}
+use Rattle.std.specs.Prelude.{ℕ, ◌≡◌, ◌≢◌, ◌<◌, ◌≤◌, pos, neg_ℤ, List, [], ◌++◌, Some, length}
 use Rattle.rb_history.specs.declared.answers.Taken.{Taken}
 use Rattle.rb_history.specs.ReservationModel.{Granted}
 use Rattle.rb_history.specs.History.{grants}
 use Rattle.rb_history.specs.RingModel.{Ring, StandsFor}
 use Rattle.rb_history.specs.Calls as ring
 use Rattle.rb_semantics.specs.HelperCalls.{HelperAnswer, Granted as GrantedAnswer, Null, Taken as TakenAnswer, HandedBack, Code}
+use Rattle.rb_interp.specs.ErrorNumbers.{EAGAIN, EINVAL}
 use Rattle.rb_world.specs.Worlds.{RecordPlace, HeldRecords, WorldRing, table_with}
 
 -- The ring made a step and stands for its longer history, and these were taken.
@@ -49,11 +50,11 @@ WorkerOutputs w bytes flags (Made p k) old new =
     (flags ≤ 3) × (p ≡ ring.producer_now old.ring) × (k ≡ grants w old.ring.history)
     × RingSteps (λ v v'. ring.Outputs v v' w bytes) [] old new
 
--- -22 for other flags, -11 where no record was made, else 0
+-- -EINVAL for other flags, -EAGAIN where no record was made, else 0
 abbrev pub answer_to_output : RecordOutcome → HelperAnswer
-answer_to_output BadFlags = Code (negsuc 21)
-answer_to_output Unlogged = Code (negsuc 10)
-answer_to_output NoRoom = Code (negsuc 10)
+answer_to_output BadFlags = Code (neg_ℤ EINVAL)
+answer_to_output Unlogged = Code (neg_ℤ EAGAIN)
+answer_to_output NoRoom = Code (neg_ℤ EAGAIN)
 answer_to_output (Made p k) = Code (pos 0)
 
 -- a worker's record, with the bytes that it has in the worker's memory

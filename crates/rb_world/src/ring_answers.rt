@@ -1,6 +1,7 @@
 //! The answers of one ring to the calls of a program.
 
-ghost use Rattle.std.specs.Prelude.{◌<◌, ◌≤◌, ◌≡◌, negsuc, IfNone, IfSome, option_map, length};
+ghost use Rattle.std.specs.Prelude.{◌<◌, ◌≤◌, ◌≡◌, neg_ℤ, IfNone, IfSome, option_map, length};
+ghost use Rattle.rb_interp.specs.ErrorNumbers.{EAGAIN};
 ghost use Rattle.rb_chapter_ring.specs.ChapterCalls.{IsSameChapter};
 ghost use Rattle.rb_chapter_ring.specs.ChapterRing.{StandsForChapter};
 ghost use Rattle.rb_chapter_ring.specs.HandRing.{HasInHand};
@@ -83,7 +84,7 @@ pub(crate) fn output(
 
 // The code of an output that a ring refused.
 fn code_of_refusal(ring: &RingState, fault: ReserveFault) -> i64
-    ensures code { result ≡ negsuc 10 }
+    ensures code { result ≡ neg_ℤ EAGAIN }
     ensures stands { StandsForChapter ring.now.state.ring }
 {
     let _ = fault;

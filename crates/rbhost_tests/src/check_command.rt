@@ -39,8 +39,8 @@ fn told_of_trouble<T: Abort + Threads + Wait + Sync + Files<File = File> + Clock
     ending(rt, alloc, status, &told, &writer.taken)
 }
 
-// A beginning of the text was printed where a write fails, and nothing where a read does.
 #[test]
+// A beginning of the text was printed where a write fails, and nothing where a read does.
 fn check_with_devices_that_fail(rt: HostRuntime) {
     let rows = [
         (

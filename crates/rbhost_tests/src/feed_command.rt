@@ -25,8 +25,8 @@ fn feed_to(alloc: Global, mut reader: FakeReader<'_>, sink: FakeWriter) -> Fed {
     (answer, writer.taken, writer.flushed)
 }
 
-// Wherever a read fails, the tape of the payloads that were read was written and flushed.
 #[test]
+// Wherever a read fails, the tape of the payloads that were read was written and flushed.
 fn readers_that_fail(rt: HostRuntime) {
     for kind in &[ErrorKind::BrokenPipe, ErrorKind::Interrupted] {
         for end in 0..10usize {
@@ -70,8 +70,8 @@ fn stops(rt: &impl Abort, alloc: Global, room: usize, most: usize, trouble: Trou
     );
 }
 
-// Wherever a write fails or takes nothing, what went out is a beginning of the tape.
 #[test]
+// Wherever a write fails or takes nothing, what went out is a beginning of the tape.
 fn writers_that_stop(rt: HostRuntime) {
     for trouble in &[
         Trouble::TakesNothing,

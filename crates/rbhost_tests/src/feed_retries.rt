@@ -38,8 +38,8 @@ const TROUBLES: [Trouble; 3] = [
     Trouble::Fails(ErrorKind::Interrupted),
 ];
 
-// At each write, without a retry the bytes before went out.
 #[test]
+// At each write, without a retry the bytes before went out.
 fn one_write_fails(rt: HostRuntime) {
     for trouble in &TROUBLES {
         for k in 1..17usize {
@@ -54,8 +54,8 @@ fn one_write_fails(rt: HostRuntime) {
     }
 }
 
-// At each write, with a retry all bytes went out.
 #[test]
+// At each write, with a retry all bytes went out.
 fn one_write_is_tried_again(rt: HostRuntime) {
     for trouble in &TROUBLES {
         for k in 1..17usize {

@@ -39,8 +39,8 @@ fn each_ends_so<T: Abort + Threads + Wait + Sync + Files<File = File> + Clock + 
 }
 
 #[test]
-fn objects_of_records_and_runs(rt: HostRuntime) {
-    let rows: [(&[&str], &[u8], &str); 7] = [
+fn objects_of_tapes(rt: HostRuntime) {
+    let rows: [(&[&str], &[u8], &str); 4] = [
         (
             &["tape", "--json", "--size", "4096"],
             &TEXT_TAPE,
@@ -75,6 +75,13 @@ fn objects_of_records_and_runs(rt: HostRuntime) {
             &BYTE_TAPE[..9],
             "1 refused Truncated at 0\n{\"refused\":\"tape\",\"kind\":\"Truncated\",\"offset\":0}\n",
         ),
+    ];
+    each_ends_so(&rt, rt.alloc(), &rows);
+}
+
+#[test]
+fn objects_of_runs(rt: HostRuntime) {
+    let rows: [(&[&str], &[u8], &str); 3] = [
         (
             &["check", "--json"],
             SUBMIT_42.as_bytes(),

@@ -37,8 +37,8 @@ fn refused_with<
 
 const KEPT: &[u8] = b"what was there";
 
-// Each refusal of the program and the ring comes before the file is touched: one that is there stays as it was.
 #[test]
+// Each refusal of the program and the ring comes before the file is touched: one that is there stays as it was.
 fn a_refused_run_leaves_the_file_that_is_there(rt: HostRuntime) {
     let path = "kept_by_refused_runs";
     let fine = ["4096", "8", "1"];

@@ -14,8 +14,8 @@ const ONE_RECORD: [u8; 16] = [8, 0, 0, 0, 0, 0, 0, 0, 0x2a, 0, 0, 0, 0, 0, 0, 0]
 
 const WORDS: [&str; 3] = ["tape", "--size", "4096"];
 
-// Wherever a read fails, the lines of the records before were printed.
 #[test]
+// Wherever a read fails, the lines of the records before were printed.
 fn reads_that_fail(rt: HostRuntime) {
     for kind in &[ErrorKind::BrokenPipe, ErrorKind::Interrupted] {
         for end in &[0usize, 5, 15, 16] {

@@ -108,8 +108,8 @@ ring made 3 consumed 3 discarded 0 waiting 0 busy 0
 strays 0
 ";
 
-// Wherever a write fails, the tape ends there, and the run goes on.
 #[test]
+// Wherever a write fails, the tape ends there, and the run goes on.
 fn writes_that_fail(rt: HostRuntime) {
     for trouble in &[
         Trouble::TakesNothing,
@@ -175,9 +175,9 @@ fn is_told(rt: &impl Abort, ending: &String, wanted: &str, path: &str) {
     assert_eq!(rt; ending.as_str(), wanted, "of {path}");
 }
 
+#[test]
 // A file that can't be made is told behind the refusals of the program and the ring, and before anything is printed; one that can't be written
 // behind what is printed.
-#[test]
 fn files_of_tapes(rt: HostRuntime) {
     let whole = before_three(&rt, "0 ");
     let not_whole = before_three(&rt, "1 refused device\n");

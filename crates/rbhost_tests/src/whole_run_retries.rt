@@ -36,8 +36,8 @@ fn fed_two(
     (answer, taken.len(), TWO_TAPES.starts_with(taken))
 }
 
-// A failure in each of two payloads: one retry is for the whole run, so the tape ends in the second one; two are enough.
 #[test]
+// A failure in each of two payloads: one retry is for the whole run, so the tape ends in the second one; two are enough.
 fn retries_are_for_the_whole_run(rt: HostRuntime) {
     for (first, second, out) in [(1, 18, 16), (9, 25, 23), (16, 33, 31)] {
         let cut = fed_two(rt.alloc(), first, second, 0, 1);
@@ -54,8 +54,8 @@ fn retries_are_for_the_whole_run(rt: HostRuntime) {
     }
 }
 
-// The last handing on has the retries that the payloads left.
 #[test]
+// The last handing on has the retries that the payloads left.
 fn the_last_handing_on_is_tried_again(rt: HostRuntime) {
     for (closed, retries, is_out) in [(1, 1, false), (1, 2, true), (2, 2, false), (2, 3, true)] {
         let (answer, out, are_first) = fed_two(rt.alloc(), 9, 0, closed, retries);

@@ -58,7 +58,6 @@ fn is_taken<A: Abort>(rt: &A, ended: &Ended<Counter>, made: u64, events: u64) {
     );
 }
 
-// The first ring of a report.
 fn first_ring<'r, A: Abort>(rt: &A, report: &'r JobsReport<Counter>) -> &'r Ended<Counter> {
     match report.rings.first() {
         Some(ended) => ended,

@@ -18,7 +18,6 @@ use std::thread::Threads;
 
 const CONTEXT: [u8; 16] = [0; 16];
 
-// A sheet of so many bytes.
 fn sheet<A: Abort>(rt: &A, alloc: Global, n: u32) -> Sheet {
     Sheet::new(alloc, n).expect(rt, "memory")
 }

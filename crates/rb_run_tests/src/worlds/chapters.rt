@@ -103,8 +103,8 @@ const TWO_BUSY: Counts = Counts {
     busy: 2,
 };
 
-// With two busy records a chapter of room 8 is full: the third worker gets null, which is not logged.
 #[test]
+// With two busy records a chapter of room 8 is full: the third worker gets null, which is not logged.
 fn a_full_chapter_gives_no_record(rt: HostRuntime) {
     let program = verified(&rt, rt.alloc(), SUBMIT_42, 0, 1);
     let mut world = opened_with(&rt, rt.alloc(), &[worker(&program); 3], 8);

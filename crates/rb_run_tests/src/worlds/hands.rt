@@ -33,8 +33,8 @@ const ALL_SENT: Counts = Counts {
     busy: 0,
 };
 
-// A worker is granted four records; and an output goes through with four of them out.
 #[test]
+// A worker is granted four records; and an output goes through with four of them out.
 fn a_worker_holds_four_records(rt: HostRuntime) {
     let program = verified(&rt, rt.alloc(), HOLD_FOUR, 0, 1);
     let mut world = opened(&rt, rt.alloc(), &[worker(&program)]);

@@ -27,7 +27,7 @@ struct PlainRecord {
 
 /// A ring of 4,096 bytes with records of one span, as the rules have it.
 #[derive(Drop)]
-struct PlainRing {
+struct OneSpanRing {
     span: u64,
     producer: u64,
     consumer: u64,
@@ -37,9 +37,9 @@ struct PlainRing {
     taken: Vec<u32>,
 }
 
-impl PlainRing {
-    fn new(alloc: Global, span: u64) -> PlainRing {
-        PlainRing {
+impl OneSpanRing {
+    fn new(alloc: Global, span: u64) -> OneSpanRing {
+        OneSpanRing {
             span,
             producer: 0,
             consumer: 0,
@@ -92,7 +92,6 @@ impl PlainRing {
         }
     }
 
-    // How many records have this status.
     fn count(&self, status: Status) -> u64 {
         let mut count: u64 = 0;
         for record in self.records.iter() {
@@ -149,7 +148,7 @@ fn takers(rt: &impl Abort, alloc: Global, world: &World<'_>) -> Vec<u32> {
 fn go_on(
     rt: &impl Abort,
     world: &mut World<'_>,
-    plain: &mut PlainRing,
+    plain: &mut OneSpanRing,
     reserved: &mut [bool; 4],
     digit: u32,
     ends: Status,
@@ -169,7 +168,7 @@ fn go_on(
 }
 
 // Whether the world's ring stands as the plain one.
-fn is_alike(rt: &impl Abort, alloc: Global, world: &World<'_>, plain: &PlainRing) -> bool {
+fn is_alike(rt: &impl Abort, alloc: Global, world: &World<'_>, plain: &OneSpanRing) -> bool {
     let found = ring_0(rt, world);
     let taken = takers(rt, alloc, world);
     found == (plain.producer, plain.consumer, plain.counts())
@@ -186,7 +185,7 @@ fn runs_as_planned(
     ends: Status,
 ) -> bool {
     let mut world = opened(rt, alloc, workers);
-    let mut plain = PlainRing::new(alloc, span);
+    let mut plain = OneSpanRing::new(alloc, span);
     let mut reserved = [false; 4];
     let mut rest = code;
     for _ in 0..8 {
@@ -222,9 +221,9 @@ fn orders_that_run(
     orders
 }
 
+#[test]
 // Two workers over a ring with room for one record: each comes to both its calls twice at most, and the consumer takes the rest
 // of the eight places.
-#[test]
 fn every_order_of_two_workers_over_room_for_one_record(rt: HostRuntime) {
     let program = verified(&rt, rt.alloc(), SUBMIT_WIDE_42, 0, 1);
     let workers = [worker(&program); 2];

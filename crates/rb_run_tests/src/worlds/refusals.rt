@@ -38,8 +38,8 @@ fn ring(size: u64, room: u32) -> RingSetup {
     }
 }
 
-// The first refusal that applies is told, and that of a chapter's room after all others but memory.
 #[test]
+// The first refusal that applies is told, and that of a chapter's room after all others but memory.
 fn the_first_refusal_is_told(rt: HostRuntime) {
     let one = verified(&rt, rt.alloc(), SUBMIT_42, 0, 1);
     let two = verified(&rt, rt.alloc(), SUBMIT_42, 0, 2);

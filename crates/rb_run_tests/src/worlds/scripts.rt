@@ -24,7 +24,6 @@ fn script(n: usize) -> (Actor, TurnDone) {
     }
 }
 
-// The actors of the script.
 fn actors() -> [Actor; 26] {
     let mut actors = [Actor::Consumer(0); 26];
     for n in 0..26 {
@@ -77,8 +76,8 @@ fn turned(rt: &impl Abort, world: &mut World<'_>) -> [TurnDone; 26] {
     answers
 }
 
-// A run answers what the turns of its actors answer, one by one.
 #[test]
+// A run answers what the turns of its actors answer, one by one.
 fn a_run_answers_as_its_turns_do(rt: HostRuntime) {
     let program = verified(&rt, rt.alloc(), SUBMIT_42, 0, 1);
     let mut world = opened(&rt, rt.alloc(), &[worker(&program); 2]);
