@@ -130,7 +130,8 @@ uint32_t heskavo_verify(const uint8_t *program, size_t program_len, uint32_t ctx
 
 /*
  * Puts the explanation of a program into `text`, and tells in `wanted` how many bytes it has (no zero byte stands behind it): HESKAVO_DONE of an accepted
- * program, HESKAVO_REFUSED of a refused one, HESKAVO_ROOM where `text` is shorter than that. Also answered: HESKAVO_ARGUMENT, HESKAVO_MEMORY.
+ * program, HESKAVO_REFUSED of a refused one, HESKAVO_ROOM where `text` is shorter than that. That of an accepted program ends with what it can cost at most,
+ * as `rbhost cost` prints it. Also answered: HESKAVO_ARGUMENT, HESKAVO_MEMORY.
  */
 uint32_t heskavo_explain(const uint8_t *program, size_t program_len, uint32_t ctx_len, uint32_t rings, uint8_t *text, size_t text_len, uint64_t *wanted);
 

@@ -89,11 +89,12 @@ fn programs_are_explained(rt: HostRuntime) {
     let mut text = [0; 2048];
     let accepted = explained(rt.alloc(), &SUBMIT_42, &mut text);
     let is_begun = text.starts_with(b"      #  r1 ");
+    let has_cost = text[..1408].ends_with(b"ring 0 records 1 bytes 16 held 16\n");
     let (refused, _) = explained(rt.alloc(), &EXIT, &mut text);
     let (too_long, _) = explained(rt.alloc(), &EXIT, &mut []);
     assert_eq!(rt;
-        (accepted, is_begun, refused, too_long),
-        ((DONE, 1348), true, REFUSED, ROOM)
+        (accepted, is_begun && has_cost, refused, too_long),
+        ((DONE, 1408), true, REFUSED, ROOM)
     );
 }
 

@@ -14,8 +14,9 @@ use std::alloc::Global;
 
 #[unsafe(no_mangle)]
 /// Puts the explanation of a program to the front of `text`, and tells in `wanted` how many bytes it has: `DONE` of a program that is accepted for a
-/// context of `ctx_len` bytes and so many rings, each instruction behind what is known there; `REFUSED` of one that is refused, the units around its
-/// first fault, and what mends it. `ROOM` where `text` is shorter than `wanted`. Time and memory are linear in the program.
+/// context of `ctx_len` bytes and so many rings, each instruction behind what is known there, and then what the program can cost at most; `REFUSED` of one
+/// that is refused, the units around its first fault, and what mends it. `ROOM` where `text` is shorter than `wanted`. Time and memory are linear in the
+/// program, the time for each ring.
 pub extern "C" fn heskavo_explain(
     alloc: Global,
     program: &[u8],

@@ -70,7 +70,7 @@ fn check<'a>(alloc: Global) -> Result<Command<'a>, AllocError> {
 fn explain<'a>(alloc: Global) -> Result<Command<'a>, AllocError> {
     Command::new(alloc, "explain")
         .about(
-            "Explains a program, given as text in hex: what is known before each instruction, or what is wrong and how to mend it",
+            "Explains a program, given as text in hex: what is known before each instruction and what it can cost at most, or what is wrong and how to mend it",
         )
         .after_help("Example: tools/bpf-hex examples/c/event.c | rbhost explain")
         .arg(ctx(alloc))?

@@ -1,4 +1,5 @@
--- The explanation of a program: of an accepted one each instruction with what is known before it, of a refused one the units around its first fault.
+-- The explanation of a program: of an accepted one each instruction with what is known before it, and then what the program can cost at most; of a
+-- refused one the units around its first fault.
 use Rattle.std.specs.Prelude.{◌≡◌, ℕ, ◌+◌, ◌*◌, ◌&&◌, ◌==◌, nat_le, nat_lt, Bool, List, [], ◌++◌, codes, length, take, drop, string_bytes, Option, Some, None, if◌then◌else◌}
 use Rattle.rb_insn.specs.declared.insn.Insn.{Insn}
 use Rattle.rb_insn.specs.Spelling.{SpellsAll}
@@ -16,6 +17,10 @@ use Rattle.rb_verifier.specs.declared.limits.Limits.{Limits}
 use Rattle.rb_verifier.specs.declared.rule.Rule.{Rule}
 use Rattle.rb_verifier.specs.Annotation.{Annotation, state_at, IsLeast, HasNoValid, IsFirstBrokenRule}
 use Rattle.rb_verifier.specs.declared.state.AbsState.{AbsState}
+use Rattle.rb_verifier.specs.Subject.{Subject, limits_of}
+use Rattle.rb_cost.specs.declared.cost.Cost.{Cost}
+use Rattle.rb_cost.specs.Cost.{IsCost}
+use Rattle.rb_cost.specs.CostLines.{cost_text}
 use Rattle.rb_explain.specs.Joined.{joined_below}
 use Rattle.rb_explain.specs.Lines.{line_text, unit_text, bytes_column}
 use Rattle.rb_explain.specs.StateTexts.{state_text}
@@ -48,6 +53,14 @@ pub record IsListing (form : LineForm) (limits : Limits) (program : List Insn) (
   pub states : List AbsState
   pub least : IsLeast limits program (state_at states)
   pub text_is : text ≡ listing form program (state_at states)
+
+-- the text is the listing of a verified program, and behind it the lines of its cost
+pub record IsListingWithCost (form : LineForm) (subject : Subject) (text : List ℕ) : Type 0 where
+  pub lines : List ℕ
+  pub listed : IsListing form (limits_of subject) subject.program lines
+  pub cost : Cost
+  pub exact : IsCost subject cost
+  pub text_is : text ≡ lines ++ cost_text form None cost
 
 -- ---- a refused program: the lines from four units before the fault to four behind it, a mark under the fault's own, and what is said of it
 
@@ -138,7 +151,8 @@ pub record IsShapedProgramOf (bytes : List ℕ) (program : List Insn) : Type 0 w
 
 -- why bytes are refused, or that they are not, with the text that explains it
 abbrev pub ExplainsBytes : LineForm → List ℕ → Limits → Option Reason → List ℕ → Type 0
-ExplainsBytes form bytes limits None text = (program : List Insn) × IsShapedProgramOf bytes program × IsListing form limits program text
+ExplainsBytes form bytes limits None text =
+    (program : List Insn) × IsShapedProgramOf bytes program × IsListingWithCost form (record { program = program; ctx_len = limits.ctx_len; rings = limits.rings }) text
 ExplainsBytes form bytes limits (Some Text) text = ⊥
 ExplainsBytes form bytes limits (Some (Decode fault)) text = IsFirstDecodeFault bytes fault × ShowsDecodeFault form bytes fault.unit fault.kind text
 ExplainsBytes form bytes limits (Some (Shape fault)) text =

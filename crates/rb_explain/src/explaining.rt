@@ -9,7 +9,7 @@ ghost use Rattle.rb_explain.specs.Explanations.{ExplainsBytes, Explains, IsNoHex
 
 use crate::advice::{decode_advice, rule_advice, shape_advice};
 use crate::explanation::{Explanation, Reason};
-use crate::listing::listing_text;
+use crate::listing::listing_with_cost;
 use crate::saying::{decode_name, named_advice, push_rule_said, push_said, shape_name};
 use crate::windows::{decode_again, push_window, units_text};
 use rb_json::LineForm;
@@ -20,11 +20,11 @@ use rb_verifier::{Refusal, Rule, verify};
 use std::alloc::{AllocError, Global};
 
 /// Explains the program of a text in hex, with ASCII white space anywhere, for a context of so many bytes and so many rings. The text answered is, of
-/// an accepted program, each instruction with what the verifier knows before it; of a refused one, the units around its first fault with a mark
-/// under the fault's own, and what is wrong and how programs mend it; or the same as objects of JSON, one a line. A refusal is the first fault of the first
-/// layer that has one. An error is out of memory, and says nothing of the program.
+/// an accepted program, each instruction with what the verifier knows before it, and then what the program can cost at most, as `rb_cost::cost_text` has it;
+/// of a refused one, the units around its first fault with a mark under the fault's own, and what is wrong and how programs mend it; or the same as objects
+/// of JSON, one a line. A refusal is the first fault of the first layer that has one. An error is out of memory, and says nothing of the program.
 ///
-/// The time and the memory are linear in the length of the text.
+/// The time is linear in the length of the text for each ring, the memory in the length of the text.
 pub fn explain(
     alloc: Global,
     text: &str,
@@ -206,7 +206,7 @@ fn explain_shaped(
 {
     match verify(alloc, shape, ctx_len, rings) {
         Ok(verified) => Ok(Explanation {
-            text: listing_text(alloc, form, &verified)?,
+            text: listing_with_cost(alloc, form, &verified)?,
             reason: None,
         }),
         Err(Refusal::Memory) => Err(AllocError),

@@ -1,6 +1,6 @@
 //! Explanations of programs, for people who write them. `explain` takes a program's text in hex and answers what the verifier knows before each
-//! instruction of an accepted program, and for a refused one the units around its first fault, the rule, what the rule wants, and how programs mend it.
-//! Instructions stand in the syntax of LLVM's disassembler, with the names of bpf-helpers(7).
+//! instruction of an accepted program and what the program can cost at most, and for a refused one the units around its first fault, the rule, what the
+//! rule wants, and how programs mend it. Instructions stand in the syntax of LLVM's disassembler, with the names of bpf-helpers(7).
 //!
 //! `Assembly(insn)` displays one instruction so, and a ring as RFC 9669 names it (section 5.4: `map_by_idx`). What is displayed is proved to be the
 //! text of `specs/Assembly.antt`.

@@ -1,14 +1,15 @@
-//! The listing of an accepted program.
+//! The listing of an accepted program, and what the program can cost at most.
 
 ghost use Rattle.std.specs.Prelude.{◌≡◌, ◌<◌, ◌++◌, IfOk, OnOk, length, string_bytes};
 ghost use Rattle.rb_program.specs.Program.{unit_count};
 ghost use Rattle.rb_verifier.specs.Annotation.{state_at};
 ghost use Rattle.rb_verifier.specs.Subject.{limits_of};
-ghost use Rattle.rb_explain.specs.Explanations.{known_line, known_text, listing, IsListing};
+ghost use Rattle.rb_explain.specs.Explanations.{known_line, known_text, listing, IsListing, IsListingWithCost};
 
 use crate::lines::push_line;
 use crate::objects::push_known_object;
 use crate::state_lines::push_state;
+use rb_cost::{cost_of, cost_text};
 use rb_insn::Insn;
 use rb_json::LineForm;
 use rb_program::Program;
@@ -71,13 +72,24 @@ fn listing_of(
     Ok(text)
 }
 
-/// The listing of a verified program, by the annotation that verified it.
-pub(crate) fn listing_text(
+// The listing of a verified program, by the annotation that verified it.
+fn listing_text(alloc: Global, form: LineForm, verified: &Verified) -> Result<String, AllocError>
+    ensures listed { IfOk result (λ text. IsListing form (limits_of verified.now) verified.now.program (string_bytes text)) }
+{
+    listing_of(alloc, form, verified.program(), verified.states())
+}
+
+/// The listing of a verified program, and behind it the lines of its cost.
+pub(crate) fn listing_with_cost(
     alloc: Global,
     form: LineForm,
     verified: &Verified,
 ) -> Result<String, AllocError>
-    ensures listed { IfOk result (λ text. IsListing form (limits_of verified.now) verified.now.program (string_bytes text)) }
+    ensures listed { IfOk result (λ text. IsListingWithCost form verified.now (string_bytes text)) }
 {
-    listing_of(alloc, form, verified.program(), verified.states())
+    let mut text = listing_text(alloc, form, verified)?;
+    let cost = cost_of(alloc, verified)?;
+    let lines = cost_text(alloc, &cost, form, None)?;
+    text.push_str(lines.as_str())?;
+    Ok(text)
 }

@@ -20,7 +20,7 @@ module _ (form : LineForm) (text : List ℕ) (ctx_len rings : ℕ) where
   accepted_of reason told none explained =
       let e = subst (λ r. ExplainsAs form text (record { ctx_len = ctx_len; rings = rings }) r told) none explained in (
         record { program = e.2.0; ctx_len = ctx_len; rings = rings },
-        record { bytes = e.0; hex = e.1; spelled = e.2.1.program_of.spelled; bounds = e.2.1.program_of.bounds; well_shaped = e.2.1.well_shaped; context = refl; known = refl; valid = (state_at e.2.2.states, e.2.2.least.valid) },
+        record { bytes = e.0; hex = e.1; spelled = e.2.1.program_of.spelled; bounds = e.2.1.program_of.bounds; well_shaped = e.2.1.well_shaped; context = refl; known = refl; valid = (state_at e.2.2.listed.states, e.2.2.listed.least.valid) },
       )
 
   module _ (before after : Option (List ℕ)) where

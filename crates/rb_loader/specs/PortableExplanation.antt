@@ -9,15 +9,15 @@ use Rattle.rb_verifier.specs.Subject.{Subject}
 use Rattle.rb_verifier.specs.declared.limits.Limits.{Limits}
 use Rattle.rb_loader.specs.Acceptance.{IsAccepted}
 
--- the text is one of an accepted program, and this is its listing, with the lines of its units that Linux refuses behind it
+-- the text is one of an accepted program, and this is its explanation, with the lines of its units that Linux refuses behind it
 pub record ExplainsAccepted (form : LineForm) (text : List ℕ) (limits : Limits) (told : List ℕ) : Type 0 where
   pub subject : Subject
   pub accepted : IsAccepted text limits.ctx_len limits.rings subject
-  pub listing : List ℕ
-  pub explained : ExplainsAs form text limits None listing
+  pub explanation : List ℕ
+  pub explained : ExplainsAs form text limits None explanation
   pub lines : List ℕ
   pub found : TellsFindings form subject lines
-  pub told_is : told ≡ listing ++ lines
+  pub told_is : told ≡ explanation ++ lines
 
 -- what is told of a text: of a refused one its explanation
 abbrev pub ExplainsPortably : LineForm → List ℕ → Limits → Option Reason → List ℕ → Type 0

@@ -13,9 +13,9 @@ use rb_program::DecodeFault;
 use std::alloc::Global;
 use std::io::{Read, Write};
 
-/// Explains the program whose text is the input: of an accepted one each instruction with what the verifier knows before it, of a
-/// refused one the units around its first fault, and how programs mend it, in words or as objects of JSON. The explanation is printed before a refusal is answered.
-/// Input that is no UTF-8 is `Text`, without an explanation.
+/// Explains the program whose text is the input: of an accepted one each instruction with what the verifier knows before it, and then what the program can
+/// cost at most, as `cost` prints it; of a refused one the units around its first fault, and how programs mend it; in words or as objects of JSON. The
+/// explanation is printed before a refusal is answered. Input that is no UTF-8 is `Text`, without an explanation.
 pub fn explain<R: Read, W: Write>(
     alloc: Global,
     input: &mut R,

@@ -13,7 +13,7 @@ use rb_portable::findings_text;
 use std::alloc::{AllocError, Global};
 use std::io::{Read, Write};
 
-/// Explains the program whose text is the input, as `explain` does, and behind an accepted one prints a line for each unit at which Linux refuses it.
+/// Explains the program whose text is the input, as `explain` does, and behind that of an accepted one prints a line for each unit at which Linux refuses it.
 pub fn explain_portable<R: Read, W: Write>(
     alloc: Global,
     input: &mut R,

@@ -74,11 +74,11 @@ fn tell_listing(text: &str, out: &mut String) -> Result<(), AllocError> {
     Ok(())
 }
 
-// Tells the instruction of each line that is none of what is known, without a helper's name.
+// Tells the instruction of each line of a unit, without a helper's name.
 fn tell_assembly(text: &str, out: &mut String) -> Result<(), AllocError> {
     let mut is_first = true;
     for line in text.lines() {
-        if !line.starts_with("      #") {
+        if line.starts_with(' ') && !line.starts_with("      #") {
             out.push_str(if is_first { ": " } else { " ; " })?;
             out.push_str(insn_in(line))?;
             is_first = false;

@@ -116,7 +116,7 @@ fn objects_of_explanations(rt: HostRuntime) {
         (
             &["explain", "--json"],
             b"b7000000ffffffff 9500000000000000",
-            "0 {\"unit\":0,\"bytes\":\"b7000000ffffffff\",\"assembly\":\"r0 = -1\",\"known\":{\"r0\":null,\"r1\":\"context+0\",\"r2\":null,\"r3\":null,\"r4\":null,\"r5\":null,\"r6\":null,\"r7\":null,\"r8\":null,\"r9\":null,\"r10\":\"stack+0\"}}\n{\"unit\":1,\"bytes\":\"9500000000000000\",\"assembly\":\"exit\",\"known\":{\"r0\":\"-1\",\"r1\":\"context+0\",\"r2\":null,\"r3\":null,\"r4\":null,\"r5\":null,\"r6\":null,\"r7\":null,\"r8\":null,\"r9\":null,\"r10\":\"stack+0\"}}\n",
+            "0 {\"unit\":0,\"bytes\":\"b7000000ffffffff\",\"assembly\":\"r0 = -1\",\"known\":{\"r0\":null,\"r1\":\"context+0\",\"r2\":null,\"r3\":null,\"r4\":null,\"r5\":null,\"r6\":null,\"r7\":null,\"r8\":null,\"r9\":null,\"r10\":\"stack+0\"}}\n{\"unit\":1,\"bytes\":\"9500000000000000\",\"assembly\":\"exit\",\"known\":{\"r0\":\"-1\",\"r1\":\"context+0\",\"r2\":null,\"r3\":null,\"r4\":null,\"r5\":null,\"r6\":null,\"r7\":null,\"r8\":null,\"r9\":null,\"r10\":\"stack+0\"}}\n{\"accepted\":true,\"steps\":2,\"calls\":0}\n{\"ring\":0,\"records\":0,\"bytes\":0,\"held\":0}\n",
         ),
         (
             &["explain", "--json"],

@@ -1,26 +1,35 @@
-/* Verifies a program, and counts the records of the tape that it wrote by their length: agent PROGRAM SIZE < TAPE */
+/*
+ * Verifies a program, prints what it can cost at most and of how many jobs a ring of SIZE bytes has room for the records, and counts those of the tape that
+ * it wrote by their length: agent PROGRAM SIZE < TAPE
+ */
 #include "heskavo_host.h"
 #include <inttypes.h>
 #include <stdio.h>
 #include <stdlib.h>
 #include <string.h>
 
-static int is_accepted(const char *path) {
+static int is_accepted(const char *path, uint64_t size) {
     static uint8_t program[8 * 4096 + 8]; /* a unit more than a program may have */
     FILE *file = fopen(path, "rb");
     if (!file) return 0;
     size_t len = fread(program, 1, sizeof program, file);
     fclose(file);
+    struct heskavo_cost cost;
+    struct heskavo_ring_cost ring;
     struct heskavo_verdict verdict;
-    uint32_t status = heskavo_verify(program, len, 16, 1, &verdict);
+    uint32_t status = heskavo_cost(program, len, 16, &cost, &ring, 1, &verdict);
     if (status == HESKAVO_REFUSED)
         printf("refused layer %" PRIu32 " number %" PRIu32 " unit %" PRIu32 "\n", verdict.layer, verdict.number, verdict.unit);
-    return status == HESKAVO_DONE;
+    if (status != HESKAVO_DONE) return 0;
+    printf("steps %" PRIu64 " calls %" PRIu64 "\n", cost.steps, cost.calls);
+    printf("ring 0 records %" PRIu64 " bytes %" PRIu64 " held %" PRIu64 "\n", ring.records, ring.bytes, ring.held_bytes);
+    if (size && ring.bytes) printf("jobs %" PRIu64 "\n", (size - 1) / ring.bytes); /* together they ask for fewer bytes than the ring has */
+    return 1;
 }
 
 int main(int argc, char **argv) {
-    if (argc != 3 || !is_accepted(argv[1])) return 1;
-    uint64_t size = strtoull(argv[2], NULL, 10), position = 0, discarded = 0, counts[33] = {0};
+    uint64_t size = argc == 3 ? strtoull(argv[2], NULL, 10) : 0, position = 0, discarded = 0, counts[33] = {0};
+    if (argc != 3 || !is_accepted(argv[1], size)) return 1;
     uint8_t *bytes = malloc(size); /* each record is shorter than the ring */
     size_t have = 0, got;
     struct heskavo_record record;

@@ -1,4 +1,5 @@
-// Verifies a program, and counts the records of the tape that it wrote by their length: agent PROGRAM SIZE < TAPE
+// Verifies a program, prints what it can cost at most and of how many jobs a ring of SIZE bytes has room for the records, and counts those of the tape that
+// it wrote by their length: agent PROGRAM SIZE < TAPE
 package main
 
 // #cgo LDFLAGS: -lheskavo
@@ -22,21 +23,38 @@ func front(bytes []byte) *C.uint8_t {
 	return (*C.uint8_t)(unsafe.Pointer(&bytes[0]))
 }
 
-func isAccepted(path string) bool {
+func isAccepted(path string, size uint64) bool {
 	program, err := os.ReadFile(path)
+	if err != nil {
+		return false
+	}
+	var cost C.struct_heskavo_cost
+	var ring C.struct_heskavo_ring_cost
 	var verdict C.struct_heskavo_verdict
-	status := C.heskavo_verify(front(program), C.size_t(len(program)), 16, 1, &verdict)
-	if err == nil && status == C.HESKAVO_REFUSED {
+	status := C.heskavo_cost(front(program), C.size_t(len(program)), 16, &cost, &ring, 1, &verdict)
+	if status == C.HESKAVO_REFUSED {
 		fmt.Println("refused layer", verdict.layer, "number", verdict.number, "unit", verdict.unit)
 	}
-	return err == nil && status == C.HESKAVO_DONE
+	if status != C.HESKAVO_DONE {
+		return false
+	}
+	fmt.Println("steps", cost.steps, "calls", cost.calls)
+	fmt.Println("ring 0 records", ring.records, "bytes", ring.bytes, "held", ring.held_bytes)
+	if size > 0 && ring.bytes > 0 {
+		// Together they ask for fewer bytes than the ring has.
+		fmt.Println("jobs", (size-1)/uint64(ring.bytes))
+	}
+	return true
 }
 
 func main() {
-	if len(os.Args) != 3 || !isAccepted(os.Args[1]) {
+	if len(os.Args) != 3 {
 		os.Exit(1)
 	}
 	size, _ := strconv.ParseUint(os.Args[2], 10, 64)
+	if !isAccepted(os.Args[1], size) {
+		os.Exit(1)
+	}
 	var position, discarded uint64
 	var counts [33]uint64
 	var record C.struct_heskavo_record

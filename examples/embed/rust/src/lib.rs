@@ -10,6 +10,22 @@ pub struct Verdict {
 
 #[repr(C)]
 #[derive(Clone, Copy, Debug, Default, PartialEq, Eq)]
+pub struct Cost {
+    pub steps: u64,
+    pub calls: u64,
+}
+
+#[repr(C)]
+#[derive(Clone, Copy, Debug, Default, PartialEq, Eq)]
+pub struct RingCost {
+    pub records: u64,
+    pub bytes: u64,
+    pub held_records: u64,
+    pub held_bytes: u64,
+}
+
+#[repr(C)]
+#[derive(Clone, Copy, Debug, Default, PartialEq, Eq)]
 pub struct Record {
     pub offset: u64,
     pub span: u64,
@@ -24,16 +40,25 @@ pub const MORE: u32 = 5;
 pub const FAULT: u32 = 6;
 
 extern "C" {
-    fn heskavo_verify(program: *const u8, program_len: usize, ctx_len: u32, rings: u32, verdict: *mut Verdict) -> u32;
+    fn heskavo_cost(
+        program: *const u8,
+        program_len: usize,
+        ctx_len: u32,
+        cost: *mut Cost,
+        ring_costs: *mut RingCost,
+        rings: usize,
+        verdict: *mut Verdict,
+    ) -> u32;
     fn heskavo_tape_next(bytes: *const u8, bytes_len: usize, size: u64, position: u64, record: *mut Record) -> u32;
 }
 
-/// The status of a program for a context of `ctx_len` bytes and so many rings, and the verdict where it is `REFUSED`.
-pub fn verify(program: &[u8], ctx_len: u32, rings: u32) -> (u32, Verdict) {
-    let mut verdict = Verdict::default();
-    // SAFETY: the pointer and the length are those of one slice, which is borrowed for the call, and the verdict is this function's own.
-    let status = unsafe { heskavo_verify(program.as_ptr(), program.len(), ctx_len, rings, &mut verdict) };
-    (status, verdict)
+/// The status of a program for a context of `ctx_len` bytes and as many rings as `rings` has places; where it is `DONE` also what it can cost at most, what it
+/// asks of each ring in its place, and where it is `REFUSED` the verdict.
+pub fn cost(program: &[u8], ctx_len: u32, rings: &mut [RingCost]) -> (u32, Cost, Verdict) {
+    let (mut cost, mut verdict) = (Cost::default(), Verdict::default());
+    // SAFETY: each pointer and length are those of one slice, which is borrowed for the call, and the cost and the verdict are this function's own.
+    let status = unsafe { heskavo_cost(program.as_ptr(), program.len(), ctx_len, &mut cost, rings.as_mut_ptr(), rings.len(), &mut verdict) };
+    (status, cost, verdict)
 }
 
 /// What the bytes begin with, of a tape of a ring of `size` bytes, where the next record stands at `position`.

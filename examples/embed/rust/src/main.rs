@@ -1,27 +1,42 @@
-//! Verifies a program, and counts the records of the tape that it wrote by their length: agent PROGRAM SIZE < TAPE
+//! Verifies a program, prints what it can cost at most and of how many jobs a ring of SIZE bytes has room for the records, and counts those of the tape that
+//! it wrote by their length: agent PROGRAM SIZE < TAPE
 
-use heskavo_sys::{tape_next, verify, DONE, FAULT, MORE, REFUSED};
+use heskavo_sys::{cost, tape_next, RingCost, DONE, FAULT, MORE, REFUSED};
 use std::io::Read;
 use std::process::ExitCode;
 
-fn is_accepted(path: &str) -> bool {
+fn is_accepted(path: &str, size: u64) -> bool {
     let program = match std::fs::read(path) {
         Ok(program) => program,
         Err(_) => return false,
     };
-    let (status, verdict) = verify(&program, 16, 1);
+    let mut rings = [RingCost::default()];
+    let (status, cost, verdict) = cost(&program, 16, &mut rings);
     if status == REFUSED {
         println!("refused layer {} number {} unit {}", verdict.layer, verdict.number, verdict.unit);
     }
-    status == DONE
+    if status != DONE {
+        return false;
+    }
+    let [ring] = rings;
+    println!("steps {} calls {}", cost.steps, cost.calls);
+    println!("ring 0 records {} bytes {} held {}", ring.records, ring.bytes, ring.held_bytes);
+    if size > 0 && ring.bytes > 0 {
+        // Together they ask for fewer bytes than the ring has.
+        println!("jobs {}", (size - 1) / ring.bytes);
+    }
+    true
 }
 
 fn main() -> ExitCode {
     let words: Vec<String> = std::env::args().collect();
-    let size = match words.as_slice() {
-        [_, program, size] if is_accepted(program) => size.parse().unwrap_or(0),
-        _ => return ExitCode::FAILURE,
+    let [_, program, size] = words.as_slice() else {
+        return ExitCode::FAILURE;
     };
+    let size = size.parse().unwrap_or(0);
+    if !is_accepted(program, size) {
+        return ExitCode::FAILURE;
+    }
     let (mut position, mut discarded, mut counts) = (0, 0u64, [0u64; 33]);
     let (mut status, mut fault) = (MORE, 0);
     let mut bytes = Vec::new();
