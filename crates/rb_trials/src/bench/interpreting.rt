@@ -23,10 +23,10 @@ pub(crate) fn load(alloc: Global, bytes: &[u8], rings: u32) -> Result<Verified, 
     }
 }
 
-/// The program of so many units of this kind, verified for no ring.
+/// The program of so many units of this kind, verified for one ring.
 pub(crate) fn loaded(alloc: Global, body: Body, units: u32) -> Result<Verified, TrialFault> {
     let bytes = program_of(alloc, body, units)?;
-    load(alloc, bytes.as_slice(), 0)
+    load(alloc, bytes.as_slice(), 1)
 }
 
 /// Loads a program for no ring `times` times, and answers how many units it had in all.

@@ -20,40 +20,84 @@ pub(crate) const RESERVING: [u8; 112] = [
     0x95, 0, 0, 0, 0, 0, 0, 0, // exit
 ];
 
+// r6 gets the context, r7 a record of eight bytes of ring 0, and r0 is 7. Where there is no record the program ends with 1.
+const RECORD_RESERVED: [u8; 88] = [
+    0xbf, 0x16, 0, 0, 0, 0, 0, 0, // r6 = r1
+    0x18, 0x51, 0, 0, 0, 0, 0, 0, 0, 0, 0, 0, 0, 0, 0, 0, // r1 = map_by_idx(0)
+    0xb7, 0x02, 0, 0, 8, 0, 0, 0, // r2 = 8
+    0xb7, 0x03, 0, 0, 0, 0, 0, 0, // r3 = 0
+    0x85, 0, 0, 0, 131, 0, 0, 0, // call bpf_ringbuf_reserve
+    0x55, 0, 2, 0, 0, 0, 0, 0, // if r0 != 0 goto +2
+    0xb7, 0, 0, 0, 1, 0, 0, 0, // r0 = 1
+    0x95, 0, 0, 0, 0, 0, 0, 0, // exit
+    0xbf, 0x07, 0, 0, 0, 0, 0, 0, // r7 = r0
+    0xb7, 0, 0, 0, 7, 0, 0, 0, // r0 = 7
+];
+
+// Discards the record in r7, and ends with what r0 holds.
+const RECORD_DISCARDED: [u8; 48] = [
+    0xbf, 0x08, 0, 0, 0, 0, 0, 0, // r8 = r0
+    0xbf, 0x71, 0, 0, 0, 0, 0, 0, // r1 = r7
+    0xb7, 0x02, 0, 0, 0, 0, 0, 0, // r2 = 0
+    0x85, 0, 0, 0, 133, 0, 0, 0, // call bpf_ringbuf_discard
+    0xbf, 0x80, 0, 0, 0, 0, 0, 0, // r0 = r8
+    0x95, 0, 0, 0, 0, 0, 0, 0, // exit
+];
+
 /// What a program does between its first unit and its exit.
 #[derive(Clone, Copy)]
 pub(crate) enum Body {
     /// It adds, excludes, multiplies, shifts and adds in turn.
     Arithmetic,
     /// It stores and loads eight bytes on the stack in turn.
+    Stack,
+    /// It stores and loads eight bytes on the stack, loads eight of the context, and stores and loads eight in a record, in turn.
     Memory,
     /// It keeps a pointer at each of the stack's 64 places in turn, round and round.
     Spilling,
 }
 
-/// A program of `units` units of this kind and an exit.
+/// A program of this kind that executes `units` instructions and an exit.
 pub(crate) fn program_of(alloc: Global, body: Body, units: u32) -> Result<Vec<u8>, AllocError> {
     let mut bytes = Vec::new(alloc);
-    push_program(&mut bytes, body, units)?;
+    let beside = push_start(&mut bytes, body)?;
+    for unit in beside..units {
+        push(&mut bytes, &unit_of(body, unit))?;
+    }
+    push_end(&mut bytes, body)?;
     Ok(bytes)
 }
 
-fn push_program(bytes: &mut Vec<u8>, body: Body, units: u32) -> Result<(), AllocError> {
-    push(bytes, &set(Reg::R0, 7))?;
-    let mut first = 1;
-    if let Body::Arithmetic = body {
-        push(bytes, &set(Reg::R2, 12_345))?;
-        first = 2;
+// Adds what stands before the units, and answers how many instructions are executed beside them and the exit.
+fn push_start(bytes: &mut Vec<u8>, body: Body) -> Result<u32, AllocError> {
+    match body {
+        Body::Arithmetic => {
+            push(bytes, &set(Reg::R0, 7))?;
+            push(bytes, &set(Reg::R2, 12_345))?;
+            Ok(2)
+        }
+        Body::Stack | Body::Spilling => {
+            push(bytes, &set(Reg::R0, 7))?;
+            Ok(1)
+        }
+        Body::Memory => {
+            bytes.extend_from_slice(RECORD_RESERVED.as_slice())?;
+            Ok(13)
+        }
     }
-    for unit in first..units {
-        push(bytes, &unit_of(body, unit))?;
+}
+
+fn push_end(bytes: &mut Vec<u8>, body: Body) -> Result<(), AllocError> {
+    match body {
+        Body::Memory => bytes.extend_from_slice(RECORD_DISCARDED.as_slice()),
+        _ => push(bytes, &Insn::Exit),
     }
-    push(bytes, &Insn::Exit)
 }
 
 fn unit_of(body: Body, unit: u32) -> Insn {
     match body {
         Body::Arithmetic => arithmetic_unit(unit),
+        Body::Stack => stack_unit(unit),
         Body::Memory => memory_unit(unit),
         Body::Spilling => spill_unit(unit),
     }
@@ -75,29 +119,43 @@ fn arithmetic_unit(unit: u32) -> Insn {
     }
 }
 
-fn memory_unit(unit: u32) -> Insn {
+fn stack_unit(unit: u32) -> Insn {
     if unit % 2 == 1 {
-        return Insn::StoreRegister {
-            size: Size::Double,
-            base: Reg::R10,
-            offset: -8,
-            src: Reg::R0,
-        };
+        store(Reg::R10, -8, Reg::R0)
+    } else {
+        load(Reg::R0, Reg::R10, -8)
     }
-    Insn::Load {
-        size: Size::Double,
-        dst: Reg::R0,
-        base: Reg::R10,
-        offset: -8,
+}
+
+fn memory_unit(unit: u32) -> Insn {
+    match unit % 5 {
+        0 => store(Reg::R10, -8, Reg::R0),
+        1 => load(Reg::R0, Reg::R10, -8),
+        2 => load(Reg::R1, Reg::R6, 0),
+        3 => store(Reg::R7, 0, Reg::R0),
+        _ => load(Reg::R0, Reg::R7, 0),
     }
 }
 
 fn spill_unit(unit: u32) -> Insn {
+    store(Reg::R10, -8 - (unit % 64) as i16 * 8, Reg::R10)
+}
+
+fn load(dst: Reg, base: Reg, offset: i16) -> Insn {
+    Insn::Load {
+        size: Size::Double,
+        dst,
+        base,
+        offset,
+    }
+}
+
+fn store(base: Reg, offset: i16, src: Reg) -> Insn {
     Insn::StoreRegister {
         size: Size::Double,
-        base: Reg::R10,
-        offset: -8 - (unit % 64) as i16 * 8,
-        src: Reg::R10,
+        base,
+        offset,
+        src,
     }
 }
 

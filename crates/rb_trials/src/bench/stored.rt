@@ -30,7 +30,14 @@ pub(crate) fn run<R: Threads + Wait + Sync + Print>(
             share(rt, alloc, 2, 500)?.consumed,
         ),
         ("arithmetic ends with", end_of(alloc, Body::Arithmetic)?),
-        ("loads and stores end with", end_of(alloc, Body::Memory)?),
+        (
+            "loads and stores of the stack end with",
+            end_of(alloc, Body::Stack)?,
+        ),
+        (
+            "loads and stores of each part end with",
+            end_of(alloc, Body::Memory)?,
+        ),
         ("jobs refused", jobs_refused(rt, alloc)?),
     ];
     for (what, value) in told {

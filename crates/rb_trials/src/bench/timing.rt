@@ -59,6 +59,7 @@ fn one_round<R: Threads + Wait + Sync + Clock>(
         Workload::Load { units } => loads(rt, alloc, Body::Arithmetic, units),
         Workload::Spill => loads(rt, alloc, Body::Spilling, 4095),
         Workload::Arithmetic => runs(rt, alloc, Body::Arithmetic),
+        Workload::Stack => runs(rt, alloc, Body::Stack),
         Workload::Memory => runs(rt, alloc, Body::Memory),
         Workload::Jobs { workers, each } => jobs(rt, alloc, workers, each),
     }

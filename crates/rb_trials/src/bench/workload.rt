@@ -18,7 +18,9 @@ pub(crate) enum Workload {
     Spill,
     /// A program of 4,000 arithmetic units runs.
     Arithmetic,
-    /// A program of 4,000 loads and stores runs.
+    /// A program of 4,000 loads and stores of the stack runs.
+    Stack,
+    /// A program of 4,000 loads and stores of the stack, the context and a record runs.
     Memory,
     /// Some workers run so many jobs each, each of which reserves a record of eight bytes, writes and submits it.
     Jobs { workers: u32, each: u32 },
@@ -67,6 +69,7 @@ fn workload_of_programs(name: &str, units: u32) -> Result<Workload, TrialFault> 
         "load" => Ok(Workload::Load { units }),
         "spill" => Ok(Workload::Spill),
         "arithmetic" => Ok(Workload::Arithmetic),
+        "stack" => Ok(Workload::Stack),
         "memory" => Ok(Workload::Memory),
         _ => Err(TrialFault::Usage),
     }
