@@ -4,22 +4,18 @@ ghost use Rattle.std.specs.Prelude.{IfOk};
 ghost use Rattle.rb_workers.specs.Opened.{AreOpened};
 
 use super::interpreting::load;
-use super::one_thread::ROOM;
 use super::programs::RESERVING;
 use crate::fault::TrialFault;
 use crate::listing::listed;
 use rb_interp::RunFault;
 use rb_verifier::Verified;
-use rb_workers::{Job, NullSink, OpenGate, Opened, run_jobs};
+use rb_workers::{Job, NullSink, OpenGate, Opened, chapter_margin, chapter_room, run_jobs};
 use std::alloc::Global;
 use std::sync::Wait;
 use std::thread::Threads;
 
 // The size of the ring of jobs, in bytes.
 const JOBS_SIZE: u64 = 1_048_576;
-
-// A chapter is handed out when half of its room is left, as `rbhost run` has it.
-const MARGIN: u32 = ROOM / 2;
 
 // Each job's context.
 static CONTEXT: [u8; 16] = [0; 16];
@@ -59,7 +55,7 @@ fn push_jobs<'j>(
     Ok(())
 }
 
-/// An empty ring for so many workers, whose records nobody keeps.
+/// An empty ring for so many workers, whose records nobody keeps. Its chapters have the room that `rbhost run` gives them.
 pub(crate) fn opened<R: Wait>(
     rt: &R,
     alloc: Global,
@@ -68,7 +64,8 @@ pub(crate) fn opened<R: Wait>(
     ensures { IfOk result (λ rings. AreOpened (λ s. s.position) rings.items) }
 {
     let sink = NullSink { position: 0 };
-    match Opened::open(rt, alloc, 0, JOBS_SIZE, 0, workers, ROOM, MARGIN, sink) {
+    let (room, margin) = (chapter_room(JOBS_SIZE), chapter_margin(JOBS_SIZE));
+    match Opened::open(rt, alloc, 0, JOBS_SIZE, 0, workers, room, margin, sink) {
         Ok(one) => listed(alloc, workers, one),
         Err(_) => Err(TrialFault::Memory),
     }
