@@ -86,10 +86,10 @@ fn explained(alloc: Global, program: &[u8], text: &mut [u8]) -> (u32, u64) {
 
 #[test]
 fn programs_are_explained(rt: HostRuntime) {
-    let mut text = [0; 2048];
+    let mut text = [0; 1408];
     let accepted = explained(rt.alloc(), &SUBMIT_42, &mut text);
     let is_begun = text.starts_with(b"      #  r1 ");
-    let has_cost = text[..1408].ends_with(b"ring 0 records 1 bytes 16 held 16\n");
+    let has_cost = text.ends_with(b"ring 0 records 1 bytes 16 held 16\n");
     let (refused, _) = explained(rt.alloc(), &EXIT, &mut text);
     let (too_long, _) = explained(rt.alloc(), &EXIT, &mut []);
     assert_eq!(rt;
