@@ -34,7 +34,7 @@ enum heskavo_status {
     HESKAVO_ROOM = 4,     /* what is to be written does not fit; how much it is was told, and nothing else written */
     HESKAVO_MORE = 5,     /* the bytes show no whole record yet, and no fault; nothing was written */
     HESKAVO_FAULT = 6,    /* the bytes show a fault */
-    HESKAVO_BROKEN = 7    /* what a run left is no tape, or not all of it came out: a fault of the library; nothing was written */
+    HESKAVO_BROKEN = 7    /* it is never answered: what a run leaves is always a tape, and all of it comes out; the number stays taken */
 };
 
 /* The layers of a verdict. */
@@ -147,8 +147,8 @@ uint32_t heskavo_cost(const uint8_t *program, size_t program_len, uint32_t ctx_l
  * Verifies a program for this context and so many rings, runs it once over fresh rings of `size` bytes, and puts the records that it left in each ring as
  * a tape into `tapes`, the tape of ring 0 first, each from position 0 on: HESKAVO_DONE with what the program ended with in `value`, and the length of each
  * ring's tape in `written`, which has a place for each ring. HESKAVO_REFUSED with the verdict; HESKAVO_ROOM where all tapes together are longer than
- * `tapes`, with their lengths told. Also answered: HESKAVO_ARGUMENT, HESKAVO_MEMORY, HESKAVO_BROKEN. Where there is no memory for a record of more than 16
- * bytes that the program asks for, the program goes on as where the ring has no room for it, with null or -EAGAIN: that is no HESKAVO_MEMORY.
+ * `tapes`, with their lengths told. Also answered: HESKAVO_ARGUMENT, HESKAVO_MEMORY. Where there is no memory for a record of more than 16 bytes that the
+ * program asks for, the program goes on as where the ring has no room for it, with null or -EAGAIN: that is no HESKAVO_MEMORY.
  */
 uint32_t heskavo_run(const uint8_t *program, size_t program_len, const uint8_t *context, size_t context_len, uint64_t size, uint8_t *tapes, size_t tapes_len,
                      uint64_t *written, size_t rings, uint64_t *value, struct heskavo_verdict *verdict);

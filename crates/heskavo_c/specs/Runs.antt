@@ -1,17 +1,14 @@
 -- What a run of one program over fresh rings leaves (own).
-use Rattle.std.specs.Prelude.{◌≡◌, ◌≢◌, ℕ, zero, suc, ◌<◌, List, [], ◌∷◌, ◌++◌, All, Some, length, replicate}
-use Rattle.std.specs.List.{flat_map}
+use Rattle.std.specs.Prelude.{◌≡◌, ◌≢◌, ℕ, zero, suc, ◌<◌, List, [], ◌∷◌, ◌++◌, All, Some, IsSome, length, replicate}
 use Rattle.rb_program.specs.Program.{unit_count}
 use Rattle.rb_explain.specs.Joined.{joined_below}
 use Rattle.rb_history.specs.Calls.{AllTaken}
 use Rattle.rb_history.specs.TapeBytes.{Item, AreItemsFrom, tape}
-use Rattle.rb_history.specs.TapeBytes.Item.{Event, Skip}
-use Rattle.rb_history.specs.declared.answers.Taken.{Taken}
-use Rattle.rb_history.specs.declared.answers.Taken.TheVariants as answers
 use Rattle.rb_world.specs.declared.actor.Actor.{Actor}
 use Rattle.rb_world.specs.declared.actor.Actor.TheVariants.{Consumer, Worker}
 use Rattle.rb_verifier.specs.Subject.{Subject}
 use Rattle.rb_world.specs.OpenedWorlds.{IsOpenedWorld}
+use Rattle.rb_world.specs.TakenTapes.{taken_items}
 use Rattle.rb_world.specs.WorldRuns.{IsRunOf, TakesTurns, result_of}
 use Rattle.rb_world.specs.WorldValue.{WorldValue, world_of}
 use Rattle.rb_world.specs.declared.opening.RingSetup.{RingSetup}
@@ -52,17 +49,7 @@ pub record RunsAlone (subject : Subject) (context : List ℕ) (size : ℕ) (last
 
 -- ---- what it left
 
--- what was taken, as the records of a tape
-abbrev pub taken_item : Taken → List Item
-taken_item (answers.Event position worker serial bytes) = Event position bytes ∷ []
-taken_item (answers.Skipped position len) = Skip position len ∷ []
-taken_item answers.BusyFront = []
-taken_item answers.Empty = []
-
-abbrev pub taken_items : List Taken → List Item
-taken_items records = flat_map taken_item records
-
--- those of the ring of this number
+-- what was taken of the ring of this number, as the records of a tape
 abbrev pub items_left : WorldValue → ℕ → List Item
 items_left world ring = taken_items ((world_of world).rings ring).taken
 
@@ -72,6 +59,13 @@ tape_left world size ring = tape size (items_left world ring)
 -- nothing is left in the ring of this number: its producer and its consumer stand at one position
 abbrev pub IsDrained : WorldValue → ℕ → Type 0
 IsDrained world ring = AllTaken ((world_of world).rings ring).ring
+
+-- a run has come to its end: its one worker's program ended with a value, and what it left in each of its rings was taken, and stands on a tape from position 0 on
+pub record RunEnds (subject : Subject) (size : ℕ) (last : WorldValue) : Type 0 where
+  pub there : 0 < length last.machines
+  pub ended : IsSome (result_of ((world_of last).workers 0))
+  pub follow : (ring : ℕ) → ring < subject.rings → AreItemsFrom size 0 (items_left last ring)
+  pub drained : (ring : ℕ) → ring < subject.rings → IsDrained last ring
 
 -- the lengths of the tapes of the rings below this number
 abbrev pub lengths_below : (ℕ → List ℕ) → ℕ → List ℕ

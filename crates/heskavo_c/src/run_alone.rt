@@ -12,21 +12,6 @@ use std::alloc::{AllocError, Global};
 /// The room of each ring's one chapter, in entries: a unit of a program logs three at most, and a program has 4,096 units at most.
 const ROOM: u32 = 16_384;
 
-/// Why a run came to no end.
-#[derive(Clone, Copy)]
-pub(crate) enum LoneRunFault {
-    /// There was no memory.
-    Memory,
-    /// What the run left is no tape, or not all of it came out.
-    Broken,
-}
-
-impl From<AllocError> for LoneRunFault {
-    fn from(_error: AllocError) -> LoneRunFault {
-        LoneRunFault::Memory
-    }
-}
-
 // Adds so many turns of an actor.
 fn push_turns(
     alloc: Global,
@@ -74,34 +59,45 @@ fn fresh_rings(alloc: Global, size: u64, rings: u32) -> Result<Vec<RingSetup>, A
     Ok(setups)
 }
 
-/// Runs the program over the context and fresh rings of this size, as many as it was verified for, and takes what it left in them.
+// A world that may be opened is refused for memory alone.
+fn want_of_memory(fault: WorldOpenFault) -> AllocError
+    requires memory { fault ≡ WorldOpenFault.Memory }
+{
+    match fault {
+        WorldOpenFault::Memory => AllocError,
+        _ => unreachable!(),
+    }
+}
+
+/// Runs the program over the context and fresh rings of this size, as many as it was verified for, and takes what it left in them. `AllocError` where there
+/// is no memory for the world, for its turns or for what is taken.
 pub(crate) fn run_alone<'p>(
     alloc: Global,
     program: &'p Verified,
     context: &'p [u8],
     size: u64,
-) -> Result<World<'p>, LoneRunFault>
+) -> Result<World<'p>, AllocError>
     requires context { length context.now ≡ program.now.ctx_len }
     requires size { IsRingSize size }
     ensures ran { IfOk result (RunsAlone program.now context.now size) }
     ensures rings { IfOk result (λ world. length world.rings ≡ program.now.rings) }
 {
+    program.facts();
     let setups = fresh_rings(alloc, size, program.rings())?;
     let turns = turns_of(alloc, program.program().units(), program.rings())?;
     let workers = [WorkerSetup { program, context }];
     let mut world = match World::new(alloc, setups.as_slice(), &workers) {
         Ok(world) => world,
-        Err(WorldOpenFault::Memory) => return Err(LoneRunFault::Memory),
-        Err(_) => return Err(LoneRunFault::Broken),
+        Err(fault) => return Err(want_of_memory(fault)),
     };
     match world.run(turns.as_slice()) {
         Ok(report) => {
             if !remembered(report.turns.as_slice()) {
-                return Err(LoneRunFault::Memory);
+                return Err(AllocError);
             }
         }
-        Err(WorldFault::Memory) => return Err(LoneRunFault::Memory),
-        Err(WorldFault::UnknownActor(_)) => return Err(LoneRunFault::Broken),
+        Err(WorldFault::Memory) => return Err(AllocError),
+        Err(WorldFault::UnknownActor(_)) => unreachable!(),
     }
     Ok(world)
 }

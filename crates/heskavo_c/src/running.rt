@@ -1,6 +1,6 @@
 //! A run of a program.
 
-ghost use Rattle.std.specs.Prelude.{◌≡◌, ◌≢◌, ◌≤◌, ◌↔◌, IfErr, IfOk, IsTrue, Some, length};
+ghost use Rattle.std.specs.Prelude.{◌≡◌, ◌≢◌, ◌<◌, ◌≤◌, ◌↔◌, IfOk, IsSome, IsTrue, Some, length};
 ghost use Rattle.rb_history.specs.RingModel.{IsRingSize};
 ghost use Rattle.rb_world.specs.WorldRuns.{result_of};
 ghost use Rattle.rb_world.specs.WorldValue.{world_of};
@@ -9,14 +9,14 @@ ghost use Rattle.heskavo_c.specs.Verdicts.{IsRightVerdict};
 
 use crate::load::{are_bounds, load};
 use crate::outgoing::put_front;
-use crate::run_alone::{LoneRunFault, run_alone};
+use crate::run_alone::run_alone;
 use crate::run_tapes::tapes_of;
-use crate::status::{ARGUMENT, BROKEN, DONE, MEMORY, REFUSED, ROOM};
+use crate::status::{ARGUMENT, DONE, MEMORY, REFUSED, ROOM};
 use crate::verdict::{Verdict, verdict_on};
 use rb_history::is_size;
 use rb_verifier::Verified;
-use rb_world::{Actor, World};
-use std::alloc::Global;
+use rb_world::World;
+use std::alloc::{AllocError, Global};
 
 // What a run left: what its program ended with, and the tapes of its rings with their lengths.
 #[derive(Drop)]
@@ -37,15 +37,14 @@ fn may_run(context: usize, rings: usize, size: u64) -> bool
 }
 
 // What the program of the world's one worker ended with.
-fn value_of(world: &World<'_>) -> Result<u64, LoneRunFault>
-    ensures { IfOk result (λ value. result_of ((world_of world.now).workers 0) ≡ Some value) }
+fn value_of(world: &World<'_>) -> u64
+    requires there { 0 < length world.now.machines }
+    requires ended { IsSome (result_of ((world_of world.now).workers 0)) }
+    ensures value { result_of ((world_of world.now).workers 0) ≡ Some result }
 {
-    if !world.has(Actor::Worker(0)) {
-        return Err(LoneRunFault::Broken);
-    }
     match world.result(0) {
-        Some(value) => Ok(value),
-        None => Err(LoneRunFault::Broken),
+        Some(value) => value,
+        None => unreachable!(),
     }
 }
 
@@ -55,13 +54,13 @@ fn run_once(
     program: &Verified,
     context: &[u8],
     size: u64,
-) -> Result<Left, LoneRunFault>
+) -> Result<Left, AllocError>
     requires context { length context.now ≡ program.now.ctx_len }
     requires size { IsRingSize size }
     ensures { IfOk result (λ left. LeavesOnce program.now context.now size left.value left.bytes.items left.lengths.items) }
 {
     let world = run_alone(alloc, program, context, size)?;
-    let value = value_of(&world)?;
+    let value = value_of(&world);
     let (bytes, lengths) = tapes_of(alloc, &world, size, program.rings())?;
     Ok(Left {
         value,
@@ -93,7 +92,7 @@ pub extern "C" fn heskavo_run(
     ensures unwritten { result ≢ DONE → (tapes.new ≡ tapes.old) × (value.new ≡ value.old) }
     ensures untold { result ≢ DONE → result ≢ ROOM → written.new ≡ written.old }
     ensures unchanged { result ≢ REFUSED → verdict.new ≡ verdict.old }
-    ensures answers { result ≤ BROKEN }
+    ensures answers { result ≤ ROOM }
 {
     if !may_run(context.len(), written.len(), size) {
         return ARGUMENT;
@@ -106,10 +105,8 @@ pub extern "C" fn heskavo_run(
         }
         Err(None) => return MEMORY,
     };
-    let left = match ran {
-        Ok(left) => left,
-        Err(LoneRunFault::Memory) => return MEMORY,
-        Err(LoneRunFault::Broken) => return BROKEN,
+    let Ok(left) = ran else {
+        return MEMORY;
     };
     written.copy_from_slice(left.lengths.as_slice());
     if tapes.len() < left.bytes.len() {

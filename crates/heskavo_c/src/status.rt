@@ -21,5 +21,5 @@ pub const MORE: u32 = 5;
 /// The bytes show a fault.
 pub const FAULT: u32 = 6;
 
-/// What a run left is no tape, or not all of it came out. It tells a fault of this library. Nothing was written.
+/// It is never answered: what a run leaves is always a tape, and all of it comes out. The number stays taken.
 pub const BROKEN: u32 = 7;

@@ -1,7 +1,8 @@
 //! The records of tapes.
 
-ghost use Rattle.std.specs.Prelude.{◌≡◌, ◌≢◌, ◌/◌, ◌%◌, ◌<◌, ◌↔◌, ◌⊎◌, IsTrue, false, length, if◌then◌else◌};
+ghost use Rattle.std.specs.Prelude.{◌≡◌, ◌≢◌, ◌/◌, ◌%◌, ◌^◌, ◌<◌, ◌≤◌, ◌↔◌, ◌⊎◌, IsTrue, false, length, if◌then◌else◌};
 ghost use Rattle.rb_history.specs.Header.{header_bytes};
+ghost use Rattle.rb_history.specs.RingModel.{IsRingSize};
 ghost use Rattle.rb_history.specs.Span as spans;
 ghost use Rattle.rb_history.specs.TapeBytes.{header_of, item_bytes, item_len, item_position, IsItemAt};
 ghost use Rattle.rb_history.specs.TapeBytes.Item.{Event, Skip};
@@ -113,7 +114,8 @@ fn has_room_at(size: u64, position: u64, len: u64) -> bool
 
 // The header of a taken record.
 fn header_at(size: u64, position: u64, len: u32, discard: bool) -> [u8; 8]
-    requires room { HasRoomAt size position len }
+    requires size { IsRingSize size }
+    requires len { len < 2 ^ 30 }
     ensures { result ≡ header_bytes (record { len = len; busy = false; discard = discard; page = position % size / 4096 }) }
 {
     Header {
@@ -123,6 +125,30 @@ fn header_at(size: u64, position: u64, len: u32, discard: bool) -> [u8; 8]
         page: page_of(size, position) as u32,
     }
     .to_bytes()
+}
+
+/// Puts a submitted record with these bytes to the front of the buffer, as it stands on the tape of a ring of `size` bytes at `position`.
+pub(crate) fn put_event(payload: &[u8], size: u64, position: u64, tape: &mut [u8])
+    requires size { IsRingSize size }
+    requires len { length payload.now < 2 ^ 30 }
+    requires fits { spans.span (length payload.now) ≤ length tape.old }
+    ensures { WritesFront (item_bytes size (Event position payload.now)) tape.old tape.new }
+{
+    let len = payload.len() as u32;
+    let header = header_at(size, position, len, false);
+    let zeros = span(len) as usize - 8 - payload.len();
+    put_parts(tape, &header, payload, zeros);
+}
+
+/// Puts a discarded record of `len` bytes to the front of the buffer, likewise.
+pub(crate) fn put_discarded(len: u32, size: u64, position: u64, tape: &mut [u8])
+    requires size { IsRingSize size }
+    requires len { len < 2 ^ 30 }
+    requires fits { spans.span len ≤ length tape.old }
+    ensures { WritesFront (item_bytes size (Skip position len)) tape.old tape.new }
+{
+    let header = header_at(size, position, len, true);
+    put_parts(tape, &header, &[], span(len) as usize - 8);
 }
 
 #[unsafe(no_mangle)]
@@ -146,14 +172,11 @@ pub extern "C" fn heskavo_tape_put(
     if !has_room_at(size, position, payload.len() as u64) {
         return ARGUMENT;
     }
-    let len = payload.len() as u32;
-    *written = span(len);
+    *written = span(payload.len() as u32);
     if (tape.len() as u64) < *written {
         return ROOM;
     }
-    let header = header_at(size, position, len, false);
-    let zeros = span(len) as usize - 8 - payload.len();
-    put_parts(tape, &header, payload, zeros);
+    put_event(payload, size, position, tape);
     DONE
 }
 
@@ -180,7 +203,6 @@ pub extern "C" fn heskavo_tape_put_discarded(
     if (tape.len() as u64) < *written {
         return ROOM;
     }
-    let header = header_at(size, position, len, true);
-    put_parts(tape, &header, &[], span(len) as usize - 8);
+    put_discarded(len, size, position, tape);
     DONE
 }
