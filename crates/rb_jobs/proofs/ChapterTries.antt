@@ -1,7 +1,6 @@
 -- A ring that was called again and again, since its chapter had no room: all calls together are the last one.
-use Rattle.std.proofs.Common.{◌≡◌, ◌≢◌, ℕ, ◌+◌, ◌<◌, ◌≤◌, Bool, List, [], ◌∷◌, ◌++◌, length, Option, Some, None, Result, Ok, Err, IfErr, refl, ap, sym, ◌∙◌, subst, arith, length-append}
+use Rattle.std.proofs.Common.{◌≡◌, ◌≢◌, ℕ, ◌+◌, ◌<◌, ◌≤◌, Bool, List, [], ◌∷◌, ◌++◌, length, Option, Some, None, refl, ap, sym, ◌∙◌, subst, arith, length-append}
 use Rattle.std.specs.Prelude.{IsSome}
-use Rattle.rb_history.specs.declared.answers.Notice.{Notice}
 use Rattle.rb_history.specs.RingModel.{Ring}
 use Rattle.rb_chapter_ring.specs.declared.faults.ReserveFault.{ReserveFault}
 use Rattle.rb_chapter_ring.specs.declared.faults.ReserveFault.TheVariants.{Full, Flags, ChapterFull, Foreign, HandsFull}
@@ -11,14 +10,12 @@ use Rattle.rb_ledger.specs.Roles.{Book, book_of, ExtendsSeen}
 use Rattle.rb_ledger.specs.Roles.Role.{Worker}
 use Rattle.rb_ledger.specs.Seats.{Shared, WorkerSeat, IsSameSeat}
 use Rattle.rb_ledger.specs.LockedCalls.{LockedCall}
-use Rattle.rb_ledger.specs.EntryRoom.{InRoom}
 use Rattle.rb_ledger.proofs.Histories.{goes-further}
-use Rattle.rb_shared_ring.specs.SharedCalls.{RefusesInRoom}
 use Rattle.rb_jobs.specs.declared.no_record.NoRecord.{NoRecord}
 use Rattle.rb_jobs.specs.declared.no_record.NoRecord.TheVariants.{NoSheet, Refused}
-use Rattle.rb_jobs.specs.SeatCalls.{FindsChapterFullEach, SeatCallsRing, SeatFindsChapterFull, SeatFindsFull, SeatGivesUp, SeatIsGranted, SeatOutputs, chapter_tries}
+use Rattle.rb_jobs.specs.SeatCalls.{FindsChapterFullEach, SeatFindsChapterFull, SeatFindsFull, SeatGivesUp, SeatIsGranted, SeatOutputs, chapter_tries}
 use Rattle.rb_jobs.specs.SeatHelpers.{IsAt}
-use Rattle.rb_jobs.specs.inner.CallAnswers.{SeatFails, SeatFailsOnce, SeatReserves, SeatReservesOnce, SeatSends, SeatSendsOnce}
+use Rattle.rb_jobs.specs.inner.CallAnswers.{SeatFails, SeatFailsOnce}
 
 -- the seat, with what it has seen now
 abbrev seen_now : WorkerSeat → Book → ℕ → WorkerSeat

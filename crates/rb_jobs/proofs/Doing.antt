@@ -1,6 +1,6 @@
 -- What a run of the helpers over seats shows of a job.
-use Rattle.std.proofs.Common.{false, ◌≡◌, ◌≢◌, Err, ℕ, ◌+◌, ◌^◌, ◌<◌, ◌≤◌, List, [], ◌∷◌, ◌++◌, length, ap, sym, ◌∙◌, subst, arith}
-use Rattle.std.proofs.lemmas.List.{length_push}
+use Rattle.std.proofs.Common.{false, ◌≡◌, ◌≢◌, Err, ℕ, ◌+◌, ◌≤◌, List, [], ◌∷◌, ◌++◌, length, ap, sym, ◌∙◌, subst, arith}
+use Rattle.std.proofs.lemmas.List.{length_push, length-map}
 use Rattle.std.proofs.lemmas.List.Sums.{count_by-le-length}
 use Rattle.std.specs.Prelude.{OnOk}
 use Rattle.rb_program.specs.Program.{unit_count, units_of}
@@ -18,7 +18,6 @@ use Rattle.rb_jobs.proofs.Leading.{all_may_answer, leads_seats}
 use Rattle.rb_jobs.proofs.Totals.{totals_rise}
 use Rattle.rb_jobs.specs.declared.job.JobAnswer.{JobAnswer}
 use Rattle.rb_jobs.specs.Jobs.{Task, JobRan, JobRanCounted, counted_on}
-use Rattle.rb_jobs.specs.inner.CallCount.{CountsCalls}
 
 -- the calls led from the one state of the seats to the other
 abbrev ran_by : (task : Task) (answer : JobAnswer) (calls : List (AnsweredCall SeatRecord)) (old new : List WorkerSeat)
@@ -42,13 +41,12 @@ ran_by task answer calls old new told shows kept balanced led =
     }
 
 -- the helpers were new, and came to be so
-pub did_counted : (task : Task) (answer : JobAnswer) (calls : List (AnsweredCall SeatRecord)) (start now : AtSeats) (rings : List Shared) (room : ℕ) (count counted : ℕ)
-    (old new : List WorkerSeat) (before after : ℕ) → start ≡ record { rings = rings; seats = old; trace = []; room = room; unlogged = 0; due = false }
-    → answer.unlogged ≡ now.unlogged → new ≡ now.seats → count ≡ before → after ≡ counted → before < 2 ^ 64
+pub did_counted : (task : Task) (answer : JobAnswer) (calls : List (AnsweredCall SeatRecord)) (start now : AtSeats) (rings : List Shared) (room : ℕ)
+    (old new : List WorkerSeat) (before mid after : ℕ) → start ≡ record { rings = rings; seats = old; trace = []; room = room; unlogged = 0; due = false }
+    → answer.unlogged ≡ now.unlogged → new ≡ now.seats → mid ≡ before → after ≡ counted_on mid (length now.trace)
     → TellsLength task.program task.context answer.result → RunMatches reserved_bytes with_record_bytes task.program task.context calls answer.result
-    → answer.result ≢ Err Stray → OnOk answer.result (TraceBalances start.trace now.trace) → Leads start calls now → CountsCalls count (length calls) counted
-    → JobRanCounted task answer old new before after
-did_counted task answer calls start now rings room count counted old new before after fresh unlogged new_is before_is after_is fits told shows kept balanced leads counts =
+    → answer.result ≢ Err Stray → OnOk answer.result (TraceBalances start.trace now.trace) → Leads start calls now → JobRanCounted task answer old new before after
+did_counted task answer calls start now rings room old new before mid after fresh unlogged new_is mid_is after_is told shows kept balanced leads =
     let led = leads_seats start now calls leads in
     let old_is : start.seats ≡ old = ap (λ (h : AtSeats). h.seats) fresh in
     let empty : start.trace ≡ [] = ap (λ (h : AtSeats). h.trace) fresh in
@@ -60,7 +58,7 @@ did_counted task answer calls start now rings room count counted old new before 
     subst (λ u. SeatsLead old calls u new) failed (subst (λ xs. SeatsLead old calls led.unlogged xs) (sym new_is) (subst (λ xs. SeatsLead xs calls led.unlogged now.seats) old_is led.seats_led)) in (
       ran_by task answer calls old new told shows kept
           (subst (λ t. OnOk answer.result (TraceBalances [] t)) trace (subst (λ t. OnOk answer.result (TraceBalances t now.trace)) empty balanced)) seats,
-      after_is ∙ counts (omega (arith, before_is, fits)) ∙ ap (λ n. counted_on n (length calls)) before_is,
+      after_is ∙ ap (λ n. counted_on n (length now.trace)) mid_is ∙ ap (counted_on before) (ap length trace ∙ length-map calls note_of),
     )
 
 -- each call is noted, and takes a place of the room

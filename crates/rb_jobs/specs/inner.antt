@@ -1,5 +1,4 @@
 pub mod CallAnswers
 pub mod Chains
 pub mod WrittenRecords
-pub mod CallCount
 pub mod RecordEnds

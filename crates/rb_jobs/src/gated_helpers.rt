@@ -1,21 +1,23 @@
 //! Helpers with a gate before each call.
 
-ghost use Rattle.std.specs.Prelude.{◌≡◌, ℕ, ◌+◌, ◌<◌, List, [], ◌∷◌, ◌++◌, length, replicate, IfErr, IfSome, is_some, is_ok, true};
+ghost use Rattle.std.specs.Prelude.{◌≡◌, ℕ, ◌+◌, ◌<◌, List, [], ◌∷◌, ◌++◌, length, replicate, refl, IfErr, IfSome, is_some, is_ok, true};
+ghost use Rattle.std.proofs.Common.{◌∙◌};
 ghost use Rattle.rb_interp.specs.declared.done.Done.{Done};
 ghost use Rattle.rb_interp.specs.declared.done.Done.TheVariants.{Reserve, Submit, Discard, Output, Query};
 ghost use Rattle.rb_jobs.specs.Jobs.{counted_on};
-ghost use Rattle.rb_jobs.specs.inner.CallCount.{CountsCalls, both_counted, none_counted};
 
 use crate::job::Gate;
 use rb_interp::{Done, Helpers};
 use rb_lend::Lent;
 
-/// Helpers of which each call goes through a worker's gate first, and is counted. They answer as the inner helpers do.
+/// Helpers of which each call goes through a worker's gate first. They answer as the inner helpers do. A call is counted by their trace alone, so a
+/// gate that looks at no number costs nothing.
 #[derive(Drop)]
 pub(crate) struct GatedHelpers<'g, H, G> {
     pub(crate) inner: H,
     pub(crate) worker: u32,
     gate: &'g G,
+    /// How many calls the worker had finished before those of the trace.
     pub(crate) calls: u64,
 }
 
@@ -40,13 +42,16 @@ impl<'g, H: Helpers + Drop, G: Gate> GatedHelpers<'g, H, G> {
         self.inner
     }
 
-    // Calls the gate with the number of calls that were finished, and counts the one that comes.
-    fn pass_gate(&mut self)
-        ensures inner { self.new.inner ≡ self.old.inner }
-        ensures calls { self.new.calls ≡ counted_on self.old.calls 1 }
+    /// How many calls the worker has finished.
+    pub(crate) fn finished(&self) -> u64
+        ensures { result ≡ counted_on self.now.calls (length (H.trace_of self.now.inner)) }
     {
-        self.gate.at(self.worker, self.calls);
-        self.calls = self.calls.saturating_add(1);
+        self.calls.saturating_add(self.inner.trace().len() as u64)
+    }
+
+    // Calls the gate with the number of calls that were finished.
+    fn pass_gate(&self) {
+        self.gate.at(self.worker, self.finished());
     }
 }
 
@@ -59,7 +64,7 @@ impl<'g, H: Helpers + Drop, G: Gate> Helpers for GatedHelpers<'g, H, G> {
 
     ghost has_ring = { λ g. H.has_ring g.inner };
 
-    ghost leads = { λ start made g. H.leads start.inner made g.inner × CountsCalls start.calls (length made) g.calls };
+    ghost leads = { λ start made g. H.leads start.inner made g.inner × (g.calls ≡ start.calls) };
 
     ghost keeps_records = { H.keeps_records };
 
@@ -71,9 +76,9 @@ impl<'g, H: Helpers + Drop, G: Gate> Helpers for GatedHelpers<'g, H, G> {
 
     ghost name_stays = { H.name_stays };
 
-    ghost leads_by_none = { λ g. (H.leads_by_none g.inner, none_counted g.calls) };
+    ghost leads_by_none = { λ g. (H.leads_by_none g.inner, refl) };
 
-    ghost leads_on = { λ a b c first more before after. (H.leads_on a.inner b.inner c.inner first more before.0 after.0, both_counted a.calls b.calls c.calls first more before.1 after.1) };
+    ghost leads_on = { λ a b c first more before after. (H.leads_on a.inner b.inner c.inner first more before.0 after.0, after.1 ∙ before.1) };
 
     fn reserve(&mut self, ring: u32, n: u32, flags: u64) -> Option<H::Record> {
         self.pass_gate();

@@ -101,9 +101,9 @@ fn run_begun<'j, R: Wait, G: Gate, K: Stock>(
     ensures rings { helpers.new.inner.rings ≡ helpers.old.inner.rings }
 {
     job.program.program().facts();
-    let _finished = helpers.calls;
     helpers.worker = job.worker;
     let result = run_in(job.program, job.ctx, helpers, machine);
+    helpers.calls = helpers.finished();
     let unlogged = helpers.inner.unlogged();
     JobAnswer { result, unlogged }
 }

@@ -1,4 +1,4 @@
-use Rattle.std.proofs.Common.{◌≡◌, ◌≤◌, List, refl, subst, arith}
+use Rattle.std.proofs.Common.{◌≤◌, List, refl, subst}
 use Rattle.rb_program.specs.Program.{unit_count}
 use Rattle.rb_insn.specs.declared.insn.Insn.{Insn}
 use Rattle.rb_jobs.specs.SeatHelpers.{AtSeats}
@@ -12,8 +12,8 @@ returns-clause-ran g c =
     let start : AtSeats = c.args.helpers.now.inner in
     let now : AtSeats = c.run_in-result.new.helpers.inner in
     let shows = c.run_in-result.ensures.shows in
-    did_counted (task_of c.args.job.now) _ shows.0 start now _ _ _ _ _ _ _ _ c.requires.begun c.unlogged-unlogged.ensures.count refl
-    refl refl (omega arith) c.run_in-result.ensures.length shows.1 (c.run_in-result.ensures.never_stray refl) c.run_in-result.ensures.balanced shows.2.0 shows.2.1
+    did_counted (task_of c.args.job.now) _ shows.0 start now _ _ _ _ _ _ _ c.requires.begun c.unlogged-unlogged.ensures.count refl
+    shows.2.1 c.finished-helpers.ensures c.run_in-result.ensures.length shows.1 (c.run_in-result.ensures.never_stray refl) c.run_in-result.ensures.balanced shows.2.0
 
 pub returns-clause-few : goal.returns-clause-few
 returns-clause-few g c =

@@ -1,4 +1,4 @@
-use Rattle.std.proofs.Common.{◌≡◌, ◌≢◌, ◌<◌, ◌∙◌, ap, refl, rules, arith, subst}
+use Rattle.std.proofs.Common.{◌≡◌, ◌≢◌, ◌∙◌, refl, rules, arith, subst}
 use Rattle.rb_chapter_ring.specs.Hands.{AreAllOut}
 use Rattle.rb_chapter_ring.specs.declared.faults.ReserveFault.TheVariants.{ChapterFull}
 use Rattle.rb_jobs.proofs.ChapterTries.{fails-at-last, found-full, gave-up, granted-at-last, none-so-far, one-more-full, still-at}

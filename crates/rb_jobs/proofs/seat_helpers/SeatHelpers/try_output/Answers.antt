@@ -1,4 +1,4 @@
-use Rattle.std.proofs.Common.{◌≡◌, ◌≢◌, ◌<◌, Ok, Err, None, ap, arith, rules, length, refl, sym, subst, ◌∙◌}
+use Rattle.std.proofs.Common.{◌≡◌, ◌<◌, Err, None, ap, arith, rules, length, refl}
 use Rattle.rb_jobs.specs.declared.no_record.NoRecord.TheVariants.{NoSheet}
 use Rattle.rb_jobs.specs.SeatHelpers.{AtSeats}
 use Rattle.rb_jobs.proofs.ChapterTries.{needs-memory, sheet-not-hands}
