@@ -1,5 +1,5 @@
 -- A program that runs alone over fresh rings may be run so, ends, and leaves in each ring what was taken of it and stands on a tape.
-use Rattle.std.proofs.Common.{◌≡◌, ◌≢◌, ℕ, zero, suc, ◌+◌, ◌<◌, ◌≤◌, ◌⊎◌, inl, inr, ◌↔◌, cond, List, [], ◌∷◌, ◌++◌, map, length, get_or, replicate, Result, Err, IsSome, refl, sym, ap, subst, ◌∙◌, append_assoc, append-nil, arith}
+use Rattle.std.proofs.Common.{◌≡◌, ◌≢◌, ℕ, zero, suc, ◌+◌, ◌<◌, ◌≤◌, inl, inr, ◌↔◌, cond, List, [], ◌∷◌, ◌++◌, map, length, get_or, replicate, Result, Err, IsSome, refl, sym, ap, subst, ◌∙◌, append_assoc, append-nil, arith}
 use Rattle.std.specs.Prelude.{All}
 use Rattle.std.specs.List.{AllZip}
 use Rattle.std.proofs.lemmas.Bool.{cases_lt, eq-eqb}
@@ -26,11 +26,11 @@ use Rattle.rb_world.specs.declared.world_record.WorldRecord.{WorldRecord}
 use Rattle.rb_world.specs.EveryInterleaving.{HasFinished, IsReachedWorld, turns_of, is_turn_of}
 use Rattle.rb_world.specs.OpenedWorlds.{AreRings, HaveContexts, HaveRings, HaveRooms, IsOpenedWorld, IsRingSetup, IsStarted, MayOpen, opened_rings}
 use Rattle.rb_world.specs.OpeningWorld.{IsActor, IsOpeningWorld}
-use Rattle.rb_world.specs.TakenTapes.{AllHaveFinished, is_take_of, takes_of, taken_items}
+use Rattle.rb_world.specs.TakenTapes.{AllHaveFinished, is_take_of, takes_of}
 use Rattle.rb_world.specs.Turns.{TurnEvent, WorldRun}
 use Rattle.rb_world.specs.Turns.TurnEvent.{NoMemory}
 use Rattle.rb_world.specs.TurnsDone.{TellsEvent}
-use Rattle.rb_world.specs.WorldRuns.{IsFirstUnknown, result_by, result_of}
+use Rattle.rb_world.specs.WorldRuns.{IsFirstUnknown, result_by}
 use Rattle.rb_world.specs.WorldValue.{IsThere, WorldValue, no_ring, no_worker, worker_of, world_of, world_ring}
 use Rattle.rb_world.specs.Worlds.{World, WorldRing}
 use Rattle.rb_world.proofs.AllTaken.{enough-takes}
