@@ -48,6 +48,14 @@ pub made-taken : (waited : Bool) (c : Counts) → (counting_take waited c).made 
 made-taken true c = refl
 made-taken false c = refl
 
+pub refused-taken : (waited : Bool) (c : Counts) → (counting_take waited c).refused ≡ c.refused
+refused-taken true c = refl
+refused-taken false c = refl
+
+pub discarded-taken : (waited : Bool) (c : Counts) → (counting_take waited c).discarded ≡ c.discarded
+discarded-taken true c = refl
+discarded-taken false c = refl
+
 -- so few that one more fits
 pub record IsCountable (c : Counts) : Type 0 where
   pub made : c.made < 2 ^ 62

@@ -88,6 +88,9 @@ module _ (r : Setup) (h : List Entry) (k : KeptAs r h) where
       no-grant (Dis x) g = refl
       no-grant (Take x) g = refl
 
+      pub granted-none : is_granted_at b q ≡ false
+      granted-none = none (is_grant_at q) no-grant
+
       no-worker : (w : ℕ) (e : Entry) → GoesFrom h (producer_of r.start h) e → is_grant_to w q e ≡ false
       no-worker w (Res v s n x) g = and_right (v == w) (x == q) (beyond x g)
       no-worker w (Full v n) g = refl

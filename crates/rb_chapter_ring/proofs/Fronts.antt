@@ -44,6 +44,12 @@ module _ (earlier : List Entry) (c : Chapter) (sheets : List (List ℕ)) (counts
     -- ---- it waits
 
     module _ (waits : x.status ≡ Waiting) where
+      pub waiting-settled : HasSettledFront c
+      waiting-settled = (some, λ b. apart (sym waits ∙ b))
+        where
+          apart : ◌≡◌ {A = Status} Waiting Busy → ⊥
+          apart e = cc
+
       waiting-state : (front earlier c sheets counts g some).state ≡ Submitted bytes
       waiting-state = ap (λ st. state_with st bytes) waits
 
@@ -77,6 +83,12 @@ module _ (earlier : List Entry) (c : Chapter) (sheets : List (List ℕ)) (counts
     -- ---- it was discarded
 
     module _ (given : x.status ≡ Discarded) where
+      pub discarded-settled : HasSettledFront c
+      discarded-settled = (some, λ b. apart (sym given ∙ b))
+        where
+          apart : ◌≡◌ {A = Status} Discarded Busy → ⊥
+          apart e = cc
+
       discarded-state : (front earlier c sheets counts g some).state ≡ DiscardedState
       discarded-state = ap (λ st. state_with st bytes) given
 

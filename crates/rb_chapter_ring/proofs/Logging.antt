@@ -150,6 +150,11 @@ module _ (earlier : List Entry) (c : Chapter) (kept : IsKept earlier c) (closing
       let producer : producer_from c.opening c.entries ≡ producer_of r.start h = ap (λ (o : Standing). o.producer) (sym is ∙ whole) in
       omega (arith, made, producer, room.limit, grants-low w h)
 
+  pub records-fit : MayGrant c → length closing.records < c.room
+  records-fit room =
+      let same : length closing.records ≡ length (closing_of c).records = ap (λ (o : Standing). length o.records) is in
+      omega (arith, same, records-owe (closing_of c).records, room)
+
   -- the positions, and the room by them
   pub consumer-low : closing.consumer ≤ closing.producer
   consumer-low =

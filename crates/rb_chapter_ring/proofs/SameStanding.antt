@@ -36,3 +36,25 @@ same-records (x ∷ xs) (y ∷ ys) e =
     λ i. here i ∷ there i
 
 -- ---- the fields
+
+pub numbers-of : (a b : Inside) → opening_shown a ≡ opening_shown b → a.numbers ≡ b.numbers
+numbers-of a b e = λ i. record {
+  size = (e i).setup.size;
+  start = (e i).setup.start;
+  workers = (e i).setup.workers;
+  producer = (e i).producer;
+  consumer = (e i).consumer;
+  consumed = (e i).consumed;
+  skipped = (e i).skipped;
+}
+
+pub same-opening : (a b : Inside) → a.numbers ≡ b.numbers → map untaken_shown (drop a.first a.records.items) ≡ map untaken_shown (drop b.first b.records.items) → a.tallies.items ≡ b.tallies.items → opening_shown a ≡ opening_shown b
+same-opening a b n r t = λ i. record {
+  setup = record { size = (n i).size; start = (n i).start; workers = (n i).workers };
+  producer = (n i).producer;
+  consumer = (n i).consumer;
+  records = r i;
+  tallies = t i;
+  consumed = (n i).consumed;
+  skipped = (n i).skipped;
+}

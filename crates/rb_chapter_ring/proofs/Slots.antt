@@ -10,6 +10,10 @@ use Rattle.rb_history.specs.History.Status.{Waiting, Discarded}
 use Rattle.rb_chapter_ring.specs.Standing.{no_record}
 use Rattle.rb_chapter_ring.specs.inner.ChapterRingBody.{stored_at, stored_from}
 
+-- worked rows of eight slots: they go round
+slots-go-round : ◌≡◌ {A = ℕ} (7 % 8) 7 × ◌≡◌ {A = ℕ} (8 % 8) 0 × ◌≡◌ {A = ℕ} (17 % 8) 1
+slots-go-round = (refl, refl, refl)
+
 -- two numbers less than the slots apart have two slots
 slots-apart : (m p q : ℕ) → p < q → q < p + m → p % m ≡ q % m → ⊥
 slots-apart m p q lt near same = elim (cases_lt (p / m) (q / m)) [

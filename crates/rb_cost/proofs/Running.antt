@@ -43,6 +43,10 @@ use Rattle.rb_cost.proofs.KeptReferences.{NewHolds, NewOf, edge_keeps}
 use Rattle.rb_cost.proofs.Sizes.{AreKnown, known-record_of, reserve_known, output_ring_known}
 use Rattle.rb_cost.proofs.Moving.{Moves, asked_by_call, named_by, named_for, named_before, IsNamedAt, moves}
 
+call_is : (insn : Insn) → is_call insn ≡ true → falls_through insn ≡ true
+call_is (Call code) e = refl
+call_is insn e = absurd (cc)
+
 one_unit : (insn : Insn) → is_call insn ≡ true → (unit to : ℕ) → to ≡ unit + 1 → edge_target unit insn Next ≡ Some to
 one_unit (Call code) e unit to is = leads-goes_on unit (Call code) refl ∙ ap (λ n. Some n) (sym is)
 one_unit insn e unit to is = absurd (cc)

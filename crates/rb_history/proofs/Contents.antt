@@ -15,6 +15,9 @@ use Rattle.rb_history.specs.inner.RecordRows.{InRow}
 use Rattle.rb_history.specs.StoredRecords.{shown_record, state_bytes, record_bytes, contents_of}
 use Rattle.rb_history.proofs.Row.{at-least, InRow-le}
 
+abbrev Held_at : Type 0
+Held_at = ℕ × List ℕ
+
 pub hit-yes : (q k : ℕ) → q ≡ k → eq_by_cmp nat_cmp q k ≡ true
 hit-yes q k e = unsigned_tied q k ∙ eq-eqb q k e
 

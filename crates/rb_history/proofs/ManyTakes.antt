@@ -42,6 +42,9 @@ takes-all n old new ts each all = record { each = each; within = omega arith; st
 pub pushed-are : (before after ts : List Taken) → after ≡ before ++ ts → pushed before after ≡ ts
 pushed-are before after ts e = front_rest after before ts e
 
+pub pushed-none : (before : List Taken) → pushed before before ≡ []
+pushed-none before = pushed-are before before [] (sym (append-nil before))
+
 pub pushed-more : (before mid after : List Taken) (t : Taken) → mid ≡ before ++ pushed before mid → after ≡ mid ++ t ∷ [] → pushed before after ≡ pushed before mid ++ t ∷ []
 pushed-more before mid after t kept e =
     pushed-are before after (pushed before mid ++ t ∷ []) (e ∙ ap (λ x. x ++ t ∷ []) kept ∙ append_assoc before (pushed before mid) (t ∷ []))

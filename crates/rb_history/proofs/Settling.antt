@@ -122,3 +122,13 @@ module _ (r : Setup) (h : List Entry) (stored : List StoredRecord) (i : ℕ) (t 
 pub on-ok : {T E : Type 0} (r : Result T E) (P : Type 0) (b : Bool) → b ≡ false → b ≡ is_err r → OnOk r P → P
 on-ok (Ok x) P b f e p = p
 on-ok (Err x) P b f e p = absurd (true≢false (sym e ∙ f))
+
+-- a record that is there owes an entry
+pub owed-some : (stored : List StoredRecord) → 0 < length stored → 1 ≤ owed_by stored
+owed-some [] l = absurd (omega arith)
+owed-some (t ∷ stored) l = omega (arith, sum_by-cons (λ (s : StoredRecord). entries_owed (state_status s.state)) t stored, some t.state)
+  where
+    some : (a : RecordState) → 1 ≤ entries_owed (state_status a)
+    some Reserved = omega arith
+    some (Submitted b) = omega arith
+    some DiscardedState = omega arith

@@ -41,6 +41,10 @@ get-zeros zero w = refl
 get-zeros (suc k) zero = refl
 get-zeros (suc k) (suc w) = get-zeros k w
 
+-- no worker was granted anything
+pub tally-none : (k : ℕ) → CountsGrants (replicate {A = ℕ} k 0) [] k
+tally-none k = record { all = length-replicate k 0; each = λ w l. get-zeros k w }
+
 -- each record takes eight bytes at least
 pub grants-low : (w : ℕ) (h : List Entry) → 8 * grants w h ≤ sum_by granted_span h
 grants-low w [] = omega arith

@@ -184,6 +184,17 @@ module _ (r : Setup) where
 
   -- ---- the numbers of a part
 
+  pub part-legal : (h : List Entry) (i : ℕ) → IsLegal r h → IsLegal r (take i h)
+  part-legal h i l = legal-front r (take i h) (drop i h) (subst (IsLegal r) (sym (take-append-drop i h)) l)
+
+  pub part-once : (h : List Entry) (i p : ℕ) → IsLegal r h → count_by (is_grant_at p) (take i h) ≤ 1
+  part-once h i p l = granted-once r (take i h) p (part-legal h i l)
+
+  pub part-next : (w : ℕ) (h : List Entry) (i : ℕ) (e : Entry) → IsLegal r h → i < length h → tally_with_entry w (take i h) (get_or h i e) (tally_of w (take i h)) ≡ tally_of w (take (i + 1) h)
+  part-next w h i e l low =
+      let more : take (i + 1) h ≡ take i h ++ get_or h i e ∷ [] = take_more h i e low in
+      sym (ap (tally_of w) more ∙ tally-next w (take i h) (get_or h i e) (subst (IsLegal r) more (part-legal h (i + 1) l)))
+
 -- each number of a history is at most its length
 pub countable : (w : ℕ) (h : List Entry) → length h < 2 ^ 64 → IsCountable (tally_of w h)
 countable w h short = record {

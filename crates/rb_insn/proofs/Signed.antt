@@ -41,6 +41,11 @@ unfolding signed_of
 signed_of-zero W32 n small none = grind (arith, nat_tests, ints)
 signed_of-zero W64 n small none = grind (arith, nat_tests, ints)
 
+-- the low bits of what is left of a number in 64 bits
+pub low_bits-mod : (width : Width) (n : ℕ) → low_bits (bits_of width) (n % 2 ^ 64) ≡ low_bits (bits_of width) n
+low_bits-mod W32 n = omega arith
+low_bits-mod W64 n = omega arith
+
 -- the low bits of a signed number's 64 bits are what it wraps to
 pub low_bits-cast : (width : Width) (z : ℤ) → mag z < 2 ^ 64 → low_bits (bits_of width) (cast_unsigned w64 z) ≡ wrapped (bits_of width) z
 unfolding wrapped

@@ -31,6 +31,9 @@ module _ (w : ℕ) (before after : Book) (Call : Ring → Ring → Type 0) (call
   pub seen-then : (v p k n : ℕ) → IsBusy call.left.history p v k n → IsBusy after.history p v k n
   seen-then v p k n = subst (λ (s : Book). IsBusy s.history p v k n) (sym call.seen)
 
+  pub left-then : (v p k n : ℕ) → IsBusy after.history p v k n → IsBusy call.left.history p v k n
+  left-then v p k n = subst (λ (s : Book). IsBusy s.history p v k n) call.seen
+
   -- the call added an entry, or none
   pub after-entry : (e : Entry) → Logs call.point call.left (e ∷ []) → (v p k n : ℕ) → v ≡ w → is_submit p e ≡ false → is_discard p e ≡ false → IsBusy before.history p v k n → IsBusy after.history p v k n
   after-entry e logged v p k n own s d busy =

@@ -107,6 +107,15 @@ at_row o r P e p = subst (λ (x : Option Row). IsSomeAnd x P) (sym e) p
 of_row : (o : Option Row) (r : Row) (P : Row → Type 0) → o ≡ Some r → IsSomeAnd o P → P r
 of_row o r P e p = subst (λ (x : Option Row). IsSomeAnd x P) e p
 
+before_left_out : (bytes : List ℕ) (other : DecodeKind) → kind_order other < kind_order LeftOut → HasDecodeFault other bytes → ⊥
+before_left_out bytes Length h stands = stands
+before_left_out bytes TooLong h stands = stands
+before_left_out bytes Memory h stands = stands
+before_left_out bytes other h stands = absurd (omega arith)
+
+pub first_left_out : (bytes : List ℕ) → is_left_out (fields_at bytes) ≡ true → IsFirstKind LeftOut bytes
+first_left_out bytes h = record { stands = h; first = before_left_out bytes }
+
 before_bad_opcode : (bytes : List ℕ) → is_left_out (fields_at bytes) ≡ false → (other : DecodeKind) → kind_order other < kind_order BadOpcode → HasDecodeFault other bytes → ⊥
 before_bad_opcode bytes kept LeftOut h stands = left (is_left_out (fields_at bytes)) kept stands
 before_bad_opcode bytes kept Length h stands = stands

@@ -153,6 +153,20 @@ bad_second true bytes src e (inr bad) = absurd (bad.0 (eqb-true src 0 e))
 bad_second false bytes src e (inl bad) = inl (nonzero bytes bad)
 bad_second false bytes src e (inr bad) = inr (refused_zero (next_imm_at bytes) bad.1)
 
+second_zeros : (bytes : List ℕ) (src next : ℕ) → IsSecondUnit bytes src next → (i : ℕ) × (8 ≤ i) × (i < 12) × (slice_index bytes i ≢ 0) → ⊥
+second_zeros bytes src next second bad = let z = are_zeros bytes second.zeros in zeros bytes z.eighth z.ninth z.tenth z.eleventh bad
+
+good_second : (b : Bool) (bytes : List ℕ) (src next : ℕ) → eqb src 0 ≡ b → IsSecondUnit bytes src next
+    → IsSomeAnd (cond b wide_number_row wide_map_row).next (λ row. HasBadSecondUnit row bytes) → ⊥
+good_second true bytes src next e second (inl bad) = second_zeros bytes src next second bad
+good_second true bytes src next e second (inr bad) = bad
+good_second false bytes src next e second (inl bad) = second_zeros bytes src next second bad
+good_second false bytes src next e second (inr bad) =
+    elim second.fits [
+      | inl zero ↦ let same : eqb src 0 ≡ true = ap (λ (n : ℕ). eqb n 0) zero in absurd cc
+      | inr zero ↦ not_refused_zero (next_imm_at bytes) (sym second.reads ∙ zero) bad
+    ]
+
 -- a fault of the second unit is the first one
 pub second_fault : (op : OpcodeMeaning) (bytes : List ℕ) (kind : DecodeKind) → IsKept op bytes → is_some (row_at op bytes).next ≡ true
     → IsSecondFault bytes (fields_at bytes).src kind → IsFirstKind kind bytes

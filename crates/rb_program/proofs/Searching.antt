@@ -9,6 +9,9 @@ use Rattle.rb_program.specs.Program.{unit_count, units_of, slot_at}
 use Rattle.rb_program.specs.Edges.{Edge, Next, Target, edge_target, IsReached, start, by_edge}
 use Rattle.rb_program.specs.inner.Reach.{IsMarked, unmarked, MarksReached, Marks, TargetsMarked, Search}
 
+marked_inside : (marks : List Bool) (u : ℕ) → IsMarked marks u → u < length marks
+marked_inside marks u m = ⊎_elim (λ lt. lt) (λ le. let e : false ≡ true = sym (get_or_past marks u false le) ∙ m in cc) (cases_lt u (length marks))
+
 unmarked-set : (marks : List Bool) (u : ℕ) → u < length marks → get_or marks u false ≡ false → unmarked (set marks u true) + 1 ≡ unmarked marks
 unmarked-set [] u lt e = absurd (omega arith)
 unmarked-set (true ∷ marks) zero lt e = cc
@@ -33,6 +36,21 @@ marks_one marks waiting u lt e = record {
   waiting_only = λ v h. ⊎_elim (λ a. inl a) (λ eq. inr (subst (IsMarked (set marks u true)) eq (get_or-set_same marks u true false lt))) (Contains-push_cases waiting u v h);
   work = omega (arith, length-append waiting (u ∷ []), unmarked-set marks u lt e);
 }
+
+pub marks_none : (target : Option ℕ) (marks : List Bool) (waiting : List ℕ) → ((u : ℕ) → target ≡ Some u → u < length marks → IsMarked marks u) → Marks target marks waiting marks waiting
+marks_none target marks waiting h = record {
+  count = refl;
+  keeps = λ v m. m;
+  there = λ v e lt. h v e lt;
+  only = λ v m. inl m;
+  fresh = λ v m. inl m;
+  waiting_keeps = λ v k. k;
+  waiting_only = λ v k. inl k;
+  work = omega arith;
+}
+
+pub waiting_inside : {program : List Insn} {marks : List Bool} (waiting : List ℕ) (u : ℕ) → Search program marks (waiting ++ u ∷ []) → u < unit_count program
+waiting_inside {program} {marks} waiting u h = let lt : u < length marks = marked_inside marks u (h.waiting_marked u (Contains-push waiting u)) in omega (arith, h.count)
 
 -- a unit at which no instruction begins has no edge
 pub nothing_there : {program : List Insn} {marks : List Bool} (waiting : List ℕ) (u : ℕ) → slot_at program u ≡ None → Search program marks (waiting ++ u ∷ []) → Search program marks waiting

@@ -121,3 +121,7 @@ first_fault-unique program fault other first second = by_unit (cases_order fault
     by_unit (inl same) = joined same (same_kind same (cases_order (fault_order fault.kind) (fault_order other.kind)))
     by_unit (inr (inl lower)) = absurd (second.none_before fault.unit lower fault.kind first.here.stands)
     by_unit (inr (inr higher)) = absurd (first.none_before other.unit higher other.kind second.here.stands)
+
+-- a program without a fault has no first fault
+pub well_shaped-first_fault : (program : List Insn) (fault : ShapeFault) → IsWellShaped program → IsFirstShapeFault program fault → ⊥
+well_shaped-first_fault program fault shaped first = shaped.no_fault fault.unit fault.kind first.here.stands

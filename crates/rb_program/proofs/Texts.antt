@@ -151,6 +151,10 @@ even (digit ∷ []) bytes h = absurd h
 even (high ∷ low ∷ text) [] h = absurd h
 even (high ∷ low ∷ text) (byte ∷ bytes) h = omega (arith, even text bytes h.5)
 
+not_odd : {A : Type 0} (b : Bool) (x y z : A) → cond b x y ≡ z → b ≡ false → y ≡ z
+not_odd true x y z e h = absurd cc
+not_odd false x y z e h = e
+
 -- what the crate reads is what the digits are
 odd_or_pairs : (b : Bool) (text bytes : List ℕ) → cond b (Err OddLength) (decode_pairs 0 text) ≡ Ok bytes → decode_pairs 0 text ≡ Ok bytes
 odd_or_pairs true text bytes e = absurd cc

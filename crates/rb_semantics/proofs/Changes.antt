@@ -58,6 +58,10 @@ module _ (subject : Subject) where
     context = g.context;
   }
 
+  -- other places
+  pub agrees_placed : (a : AbsState) (s : State) (places : List Abs) → AgreesPlaces subject.rings a.held places s.memory → Agrees subject a s → Agrees subject (record a { places = places }) s
+  agrees_placed a s places h g = record { count = g.count; values = g.values; records = g.records; tied = g.tied; bounded = g.bounded; stack = g.stack; places = h; context = g.context }
+
   -- the unit is of no account
   pub agrees_at : (a : AbsState) (s : State) (unit : ℕ) → Agrees subject a s → Agrees subject a (record s { unit = unit })
   agrees_at a s unit g = record { count = g.count; values = g.values; records = g.records; tied = g.tied; bounded = g.bounded; stack = g.stack; places = g.places; context = g.context }

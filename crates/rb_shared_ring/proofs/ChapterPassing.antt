@@ -47,6 +47,10 @@ some-chaptered x y e = cc
 pub held-is-out : (role : Role) (v : ChapterPassView) (r : ChapterRing) (w : ChapterPassView) (h : HeldChapter role v r w) (c : ChapteredRing) → w.out ≡ Some c → h.taken ≡ c
 held-is-out role v r w h c is = some-chaptered h.taken c (sym (ap (λ (x : ChapterPassView). x.out) h.now) ∙ is)
 
+-- what a call does from the ring that it was shown to the one that it left
+pub called-in : (Call : ChapterRing → ChapterRing → Type 0) (shown old left new : ChapterRing) → shown ≡ old → left ≡ new → Call shown left → Call old new
+called-in Call shown old left new is_old is_new call = subst (λ r. Call r new) is_old (subst (Call shown) is_new call)
+
 module _ (role : Role) (v : ChapterPassView) (r new : ChapterRing) (w : ChapterPassView) (h : HeldChapter role v r w) (same : IsSameChapter r new) (kept : IsKeptRing new) where
   abbrev pub left_by : ChapteredRing
   left_by = chaptered_ring h.taken.handed_out new

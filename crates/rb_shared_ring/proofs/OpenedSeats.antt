@@ -63,5 +63,23 @@ next-worker b room i n v low is =
     let here : v ≡ hand_view (opening_hands (opening_role (Worker i) b room) ∷ opening_worker_hands b room (i + 1) (n - (i + 1))) None = is ∙ ap (λ k. hand_view (opening_worker_hands b room i k) None) more in
     subst (NextWorker b room i n) (sym here) (record { first_is = refl; seen_is = refl; room_is = refl; rest_is = refl })
 
+-- free hands are the busy records of a history without entries
+free-holds : (w : ℕ) → HoldsOwnBusy free_hands w []
+free-holds w = record {
+  out_is_busy = λ g o at. absurd (none-there g o at);
+  busy_is_out = λ p k n b. absurd (not-busy p k n b);
+  each_once = λ f g x y a c same. absurd (none-there f x a);
+}
+  where
+    none-there : (g : ℕ) (o : OutRecord) → in_hand free_hands g ≡ Some o → ⊥
+    none-there zero o at = cc
+    none-there (suc zero) o at = cc
+    none-there (suc (suc zero)) o at = cc
+    none-there (suc (suc (suc zero))) o at = cc
+    none-there (suc (suc (suc (suc g)))) o at = cc
+
     not-busy : (p k n : ℕ) → IsBusy [] p w k n → ⊥
     not-busy p k n b = let none : b.granted_is.0 < 0 = b.granted_is.1 in absurd (omega arith)
+
+pub free-holds-of : (w : ℕ) (b : Book) → b.history ≡ [] → HoldsOwnBusy free_hands w b.history
+free-holds-of w b none = subst (HoldsOwnBusy free_hands w) (sym none) (free-holds w)

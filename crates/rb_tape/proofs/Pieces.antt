@@ -27,6 +27,13 @@ piece-of-zeros front text m k at n is here few =
 pub out-of-text : (text piece : List ℕ) (a b : Option (List ℕ)) (at n : ℕ) → take (length piece) (drop at text) ≡ piece → n ≤ length piece → Appends a b (take n piece) → Appends a b (take n (drop at text))
 out-of-text text piece a b at n is few gone = subst (Appends a b) (ap (take n) (sym is) ∙ take-take n (length piece) (drop at text) few) gone
 
+-- a piece of the text ends where the text does, or before
+pub piece-within : (text piece : List ℕ) (at n : ℕ) → at ≤ length text → take (length piece) (drop at text) ≡ piece → n ≤ length piece → at + n ≤ length text
+piece-within text piece at n within is few =
+    let l = length-take (length piece) (drop at text) in
+    let same = ap length is in
+    omega (arith, l, same, length-drop at text)
+
 -- the same for zeros, which are written from a block of them
 pub zeros-out : (front text : List ℕ) (m k at n j c : ℕ) (a b : Option (List ℕ)) → text ≡ front ++ zeros m → at ≡ length front + k → j ≤ c → j ≤ m - k → n ≤ length (take j (zeros c)) → Appends a b (take n (take j (zeros c))) → Appends a b (take n (drop at text))
 zeros-out front text m k at n j c a b is here small few fits gone =

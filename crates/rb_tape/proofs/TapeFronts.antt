@@ -48,6 +48,14 @@ page_fits size position p s = omega arith
 
 -- ---- one answer alone
 
+-- a whole item shows no fault
+sound_header : (size position : ℕ) (item : Item) → IsItemAt size position item → IsHeaderAt size position (header_of size item)
+sound_header size position item i = record {
+  taken = refl;
+  page = ap (page_of size) i.here;
+  fits = (i.has_fitted, i.bounded);
+}
+
 item_payload : (item : Item) (rest : List ℕ) → take (item_len item) (behind_item item rest) ≡ payload_of item
 item_payload item rest =
     ap (λ n. take n (behind_item item rest)) (sym (length-payload_of item)) ∙ take-append_seam (payload_of item) (zeros (padding (item_len item)) ++ rest)
@@ -154,6 +162,31 @@ part_short size position bytes l = record {
   no_fault = λ kind s. let e = begun_length bytes s.0 s.1 s.2 in absurd (omega arith);
 }
 
+cut_faultless : (size position : ℕ) (h : Header) (b : List ℕ) (kind : TapeKind) → IsHeaderAt size position h → 8 + length b < span h.len → IsFirstTapeFault size position h b kind → ⊥
+cut_faultless size position h b Busy i l x = false≢true (sym i.taken ∙ x)
+cut_faultless size position h b Page i l x = x.1 i.page
+cut_faultless size position h b TooLong i l x = x.2 i.fits
+cut_faultless size position h b DiscardedBytes i l x = let there = x.1 in omega arith
+cut_faultless size position h b Padding i l x = let there = x.1 in omega arith
+cut_faultless size position h b Truncated i l x = x
+cut_faultless size position h b Memory i l x = x
+
+-- the header is there and shows no fault, but not all bytes of its record are there
+pub part_cut : (size position : ℕ) (bytes : List ℕ) (h : Header) → 0 < size → size ≤ 67108864 → StartsWithHeader bytes h (drop 8 bytes) → IsHeaderAt size position h → length bytes < span h.len → IsUndecided size position bytes
+part_cut size position bytes h p u b i l = record {
+  no_item = λ item rest s.
+      let begun = item_begins size position bytes item rest (page_fits size (item_position item) p u) s in
+      let same = same_begin bytes h (header_of size item) (drop 8 bytes) (behind_item item rest) b begun in
+      let len : h.len ≡ item_len item = ap (λ (k : Header). k.len) same.0 in
+      let spans : span h.len ≡ item_span item = ap span len in
+      let e = item_length size position bytes item rest s in
+      absurd (omega arith);
+  no_fault = λ kind s.
+      let same = same_begin bytes s.0 h s.1 (drop 8 bytes) s.2 b in
+      let e = begun_length bytes h (drop 8 bytes) b in
+      cut_faultless size position h (drop 8 bytes) kind i (omega arith) (moved size position kind s.0 h s.1 (drop 8 bytes) same.0 same.1 s.3);
+}
+
 -- ---- a whole record
 
 drop-plus : (m n : ℕ) (xs : List ℕ) → m ≤ length xs → drop (m + n) xs ≡ drop n (drop m xs)
@@ -220,6 +253,9 @@ rest_is xs ys at e = take_rest xs at ∙ ap (drop at) e
 
 pub shows_there : (size position : ℕ) (r s : List ℕ) (kind : TapeKind) → r ≡ s → ShowsFault size position r kind → ShowsFault size position s kind
 shows_there size position r s kind e x = rw (← e) x
+
+pub part_there : (size position : ℕ) (r s : List ℕ) → r ≡ s → IsUndecided size position r → IsUndecided size position s
+part_there size position r s e x = rw (← e) x
 
 chosen_length : (d : Bool) (position n : ℕ) (bytes : List ℕ) → n ≤ length bytes → item_len (cond d (Skip position n) (Event position (take n bytes))) ≡ n
 chosen_length true position n bytes l = refl

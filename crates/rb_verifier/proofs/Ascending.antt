@@ -44,3 +44,7 @@ ascending_filtered p (r ∷ rs) h =
 pub ascending_added : (r : Reference) (rs : List Reference) → IsAscending rs → AreEarlier r.id rs → IsAscending (rs ++ r ∷ [])
 ascending_added r [] h k = (tt, tt)
 ascending_added r (q ∷ rs) h k = (ids_added (λ later. q.id < later) r rs h.0 k.0, ascending_added r rs h.1 k.1)
+
+-- what was reserved before a unit was so before the next
+pub earlier_next : (unit : ℕ) (rs : List Reference) → AreEarlier unit rs → AreEarlier (unit + 1) rs
+earlier_next unit rs h = ids_weaker (λ n. n < unit) (λ n. n < unit + 1) (λ n lt. omega arith) rs h

@@ -47,6 +47,19 @@ number_below r =
     below_cases (λ v w. CheckBelow (check_number r v) (check_number r w)) (λ v. tt)
     (number_cases (λ v. CheckBelow (check_number r v) (check_number r Number)) tt (λ n. tt)) (λ v. check_refl (check_number r v))
 
+pub tested_below : (v w : Abs) → BelowValue v w → CheckBelow (check_tested v) (check_tested w)
+tested_below =
+    below_cases (λ v w. CheckBelow (check_tested v) (check_tested w)) (λ v. tt)
+    (number_cases (λ v. CheckBelow (check_tested v) (check_tested Number)) tt (λ n. tt)) (λ v. check_refl (check_tested v))
+
+pub not_context_below : (v w : Abs) → BelowValue v w → CheckBelow (check_not_context v) (check_not_context w)
+not_context_below =
+    below_cases (λ v w. CheckBelow (check_not_context v) (check_not_context w)) (λ v. tt)
+    (number_cases (λ v. CheckBelow (check_not_context v) (check_not_context Number)) tt (λ n. tt)) (λ v. check_refl (check_not_context v))
+
+pub in_part_below : (v w : Abs) → BelowValue v w → CheckBelow (check_part_pointer v) (check_part_pointer w)
+in_part_below = below_cases (λ v w. CheckBelow (check_part_pointer v) (check_part_pointer w)) (λ v. tt) (λ v h. tt) (λ v. check_refl (check_part_pointer v))
+
 pub inside_below : (limits : Limits) (held : List Reference) (by : ℤ) (len : ℕ) (v w : Abs) → BelowValue v w → CheckBelow (check_inside limits held v by len) (check_inside limits held w by len)
 inside_below limits held by len =
     below_cases (λ v w. CheckBelow (check_inside limits held v by len) (check_inside limits held w by len)) (λ v. tt) (λ v h. tt)

@@ -65,6 +65,9 @@ progress_start limits p arrivals some h = record {
       one_is = at_entry refl refl;
     }
 
+pub valid_end : {limits : Limits} {p : List Insn} {states : List AbsState} {arrivals : List Arrival} {u : ℕ} → Progress limits p states arrivals u → u ≡ unit_count p → IsValid limits p (state_at states)
+valid_end {limits} {p} {states} {arrivals} {u} h e = subst (IsValidBefore limits p (state_at states)) e h.least.valid
+
 module _ {limits : Limits} {p : List Insn} {states : List AbsState} {arrivals : List Arrival} {u : ℕ} (h : Progress limits p states arrivals u) where
   -- a state that was noted here has the form of a state before the unit
   pub formed_here : (s : AbsState) → noted_at arrivals u ≡ Least s → IsFormed u s

@@ -21,3 +21,7 @@ pub record IsCountable (t : Tally) : Type 0 where
   pub refused_fits : t.refused < 2 ^ 64
   pub submitted_fits : t.submitted < 2 ^ 64
   pub discarded_fits : t.discarded < 2 ^ 64
+
+-- no position is granted twice
+abbrev pub GrantsOnce : List Entry → Type 0
+GrantsOnce h = (p : ℕ) → count_by (is_grant_at p) h ≤ 1
