@@ -81,7 +81,7 @@ def opened(edit, said):
 def named_by_edits(crate):
     """The clauses that lines `# clause: FUNCTION NAME` of a crate's wrong bodies name."""
     found = set()
-    for folder in ("refused", "must-fail"):
+    for folder in ("refused", "planted", "must-fail"):
         for path in (kit.ROOT / "crates" / crate / folder).glob("*.edit"):
             found |= set(re.findall(r"^# clause: (\S+ \w+)$", path.read_text(), re.M))
     return found

@@ -7,6 +7,8 @@ from typing import NamedTuple, Optional
 
 import kit
 
+# The folders of a crate's wrong bodies: those that the gate tries, and those that are tried where the crate changed.
+REFUSED, PLANTED = "refused", "planted"
 FUNCTION = re.compile(r"^( *)(?:pub(?:\([a-z]+\))? )?(?:const )?(?:unsafe )?(?:extern \"C\" )?fn (\w+)")
 IMPL = re.compile(r"^impl(?:<.*?>)? (?:(?:\w+::)*(?P<trait>\w+)(?:<(?P<of>.*)>)? for )?(?P<type>&(?:'\w+ )?\[\w+\]|\w+)")
 SLICE = re.compile(r"&(?:'\w+ )?\[(\w)(\w*)\]")
@@ -141,8 +143,8 @@ class Edit:
         return ", ".join(sorted(owner.path() for owner in self.owners)) or "outside of any function"
 
 
-def read_all(crate, folder):
-    return [Edit(crate, path) for path in sorted(pathlib.Path(crate.folder, folder).glob("*.edit"))]
+def read_all(crate, folders):
+    return [Edit(crate, path) for folder in folders for path in sorted(pathlib.Path(crate.folder, folder).glob("*.edit"))]
 
 
 def together(edits):
