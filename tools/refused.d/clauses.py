@@ -11,7 +11,6 @@ import contract_sources
 
 ENSURES = re.compile(r"^\s*ensures\*? (\w+) \{", re.M)
 LESS = re.compile(r"→|↔|×|⊎|¬|≢|≤|<")
-GOAL = re.compile(r"`(returns[^`]*)`")
 BODY = re.compile(r"-> |&mut ")
 
 
@@ -65,16 +64,15 @@ def labels_of(crate):
     return {clause.label() for clause in of_public_calls({crate}) if not clause.is_equation()}
 
 
-def opened(edit, said):
-    """The clauses of public calls that a check left open in the functions of an edit: those that its goals name, or all where a goal names none."""
+def opened(edit, goals):
+    """The clauses of public calls that these open goals of an edit's functions break: those that the goals name, or all where a goal names none."""
     found = set()
     for owner in edit.owners:
         function = "::".join(it for it in (owner.type, owner.name) if it)
         mine = {label for label in labels_of(edit.crate.name) if label.split(" ")[0] == function}
-        for text in owner.lines(edit.crate.name, said):
-            for goal in GOAL.findall(text):
-                name = goal.rpartition("-clause-")[2] if "-clause-" in goal else ""
-                found |= {label for label in mine if not name or label.split(" ")[1] == name}
+        for goal in (it for it in goals if it.startswith("returns")):
+            name = goal.rpartition("-clause-")[2] if "-clause-" in goal else ""
+            found |= {label for label in mine if not name or label.split(" ")[1] == name}
     return found
 
 

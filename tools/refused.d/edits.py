@@ -13,6 +13,9 @@ FUNCTION = re.compile(r"^( *)(?:pub(?:\([a-z]+\))? )?(?:const )?(?:unsafe )?(?:e
 IMPL = re.compile(r"^impl(?:<.*?>)? (?:(?:\w+::)*(?P<trait>\w+)(?:<(?P<of>.*)>)? for )?(?P<type>&(?:'\w+ )?\[\w+\]|\w+)")
 SLICE = re.compile(r"&(?:'\w+ )?\[(\w)(\w*)\]")
 OPEN = re.compile(r"^# open without its stored answer: (.*)$", re.M)
+LEFT_OPEN = re.compile(r"^# leaves open: (.*)$", re.M)
+TRIED = re.compile(r"^# tried by itself: (.*)$", re.M)
+NOTES = ("# clause: ", "# open ", "# leaves open: ", "# tried by itself: ")
 DECLARED = re.compile(r"^(?:pub(?:\([a-z]+\))? )?(?:struct|enum) (\w+)", re.M)
 
 
@@ -53,6 +56,12 @@ class Change(NamedTuple):
     first: int
     end: int
     lines: list
+
+    def meets(self, other):
+        """Whether both change a line, or one adds lines where the other begins or ends."""
+        between = self.first == self.end or other.first == other.end
+        overlap = self.first < other.end and other.first < self.end
+        return self.file == other.file and (overlap or between and self.first <= other.end and other.first <= self.end)
 
 
 def name_of(type_text):
@@ -103,8 +112,8 @@ class Edit:
         self.crate, self.path, self.name = crate, path, path.stem
         self.changes, self.owners, self.modules, self.is_outside = [], set(), set(), False
         self.taken_out, self.times_taken_out, self.open_clauses, self.open_goals = {}, 0, set(), []
-        noted = OPEN.search(path.read_text())
-        self.noted_open = noted[1] if noted else None
+        self.noted_open, self.left_open, self.tried = [], [], None
+        self.read_notes(path.read_text())
         texts, self.fault = kit.rt.read_edit(str(path), crate.folder)
         for file, text in (texts or {}).items():
             was, now = (pathlib.Path(crate.folder) / file).read_text().split("\n"), text.split("\n")
@@ -113,6 +122,22 @@ class Edit:
                     self.changes.append(Change(file, first, end, now[begin:behind]))
                     self.note_owner(file, was, first)
         self.is_outside = self.is_outside or not (self.owners or self.fault)
+
+    def read_notes(self, text):
+        """Reads which goals it leaves open: without its stored answers, with all of them, and the one that is tried by itself."""
+        goals = [[it.strip("` ") for it in found[1].split(",")] if found else [] for found in (OPEN.search(text), LEFT_OPEN.search(text), TRIED.search(text))]
+        self.noted_open, self.left_open, self.tried = goals[0], goals[1], goals[2][0] if goals[2] else None
+
+    def goals(self):
+        """The goals that are known to be its own."""
+        return {*self.noted_open, *self.left_open}
+
+    def may_stand_beside(self, other):
+        """Whether one check can tell of both: of different functions, or of one where each leaves other goals of it open."""
+        if not self.owners & other.owners:
+            return True
+        goals_differ = self.goals() and other.goals() and not self.goals() & other.goals()
+        return bool(goals_differ) and not any(one.meets(it) for one in self.changes for it in other.changes)
 
     def note_owner(self, file, lines, at):
         is_code = file.startswith("src/")
@@ -133,11 +158,20 @@ class Edit:
     def label(self):
         return f"{self.crate.name}/{self.name}"
 
-    def note_clauses(self):
-        """Writes into its file which clauses of public calls it leaves open, and which goals stay open without a stored answer that no longer fits."""
-        kept = [line for line in self.path.read_text().split("\n") if not line.startswith(("# clause: ", "# open "))]
-        opened = [f"# open without its stored answer: {', '.join(self.open_goals)}"] if self.open_goals else []
-        self.path.write_text("\n".join([f"# clause: {it}" for it in sorted(self.open_clauses)] + opened + kept))
+    def note_opened(self):
+        """Writes into its file which clauses of public calls it breaks, and which goals it leaves open, without a stored answer that no longer fits or as it is."""
+        lines = self.path.read_text().split("\n")
+        clauses = [f"# clause: {it}" for it in sorted(self.open_clauses)] or [it for it in lines if it.startswith("# clause: ")]
+        kind = "# open without its stored answer: " if self.taken_out else "# leaves open: "
+        opened = [kind + ", ".join(dict.fromkeys(self.open_goals))] if self.open_goals else []
+        self.path.write_text("\n".join(clauses + opened + [it for it in lines if not it.startswith(NOTES)]))
+        self.read_notes(self.path.read_text())
+
+    def note_tried(self, goal):
+        """Writes into its file which goal is tried by itself, below those that it leaves open."""
+        lines = [it for it in self.path.read_text().split("\n") if not it.startswith("# tried by itself: ")]
+        at = next(number for number, it in enumerate(lines) if it.startswith("# leaves open: ")) + 1
+        self.path.write_text("\n".join([*lines[:at], f"# tried by itself: {goal}", *lines[at:]]))
 
     def where(self):
         return ", ".join(sorted(owner.path() for owner in self.owners)) or "outside of any function"

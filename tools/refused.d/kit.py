@@ -5,6 +5,7 @@ import os
 import pathlib
 import re
 import shutil
+import subprocess
 import sys
 import tempfile
 
@@ -85,9 +86,19 @@ class Work:
         shutil.copytree(folder, self.kept, dirs_exist_ok=True)
 
     def check(self, texts, only=()):
-        """What a check says of the crate with these texts in place of its own: of the functions that `only` names and what they call, or of all where it names none."""
-        words = [word for name in only for word in ("--only", name)]
-        return Answer(rt.checked(self.crate, texts, ["--jobs", "1", *words], str(self.kept)))
+        """What a check says of a copy of the crate with these texts in place of its own or beside them: of the functions that `only` names and what they call, or of
+        all where it names none."""
+        only_these = [word for name in only for word in ("--only", name)]
+        words = [rt.rtlib.RATTLE, "check", *self.crate.words(["--jobs", "1", *only_these], keeps=False), "--incremental", str(self.kept)]
+        with tempfile.TemporaryDirectory(prefix="rt-edit-") as room:
+            for part in (it for it in rt.rtlib.PARTS if os.path.isdir(f"{self.crate.folder}/{it}")):
+                shutil.copytree(f"{self.crate.folder}/{part}", f"{room}/{part}")
+            for path, text in texts.items():
+                place = pathlib.Path(room, path)
+                place.parent.mkdir(parents=True, exist_ok=True)
+                place.write_text(text, encoding="utf-8")
+            how = {"cwd": room, "stdin": subprocess.DEVNULL, "stdout": subprocess.PIPE, "stderr": subprocess.STDOUT, "errors": "replace", "text": True}
+            return Answer(subprocess.run([*rt.rtlib.guarded(), *words], **how))
 
     def drop(self):
         shutil.rmtree(self.room, ignore_errors=True)

@@ -9,6 +9,7 @@ import re
 
 import clauses
 import edits as edit_files
+import goals
 
 OPEN = re.compile(r"`search` did not prove (.*)$")
 HIDDEN = re.compile(r"it (?:calls|waits)\b")
@@ -70,9 +71,11 @@ def without_unused(paragraph, others):
 class Rounds:
     """The rounds over one crate, and what each of its wrong bodies came to."""
 
-    def __init__(self, work, edits, tell, is_thorough):
+    def __init__(self, work, edits, tell, is_thorough, has_time=False):
         self.work, self.tell, self.left, self.outcomes, self.is_thorough = work, tell, [], {}, is_thorough
-        self.number = 0
+        # Goals are searched for to the end, and not tried by themselves, where they are to be noted.
+        self.by_itself = {edit for edit in edits if edit.tried and len(edit.owners) == 1 and not has_time}
+        self.alone, self.bare, self.number = set(), set(), 0
         for edit in edits:
             if edit.fault:
                 self.end(edit, Outcome.BAD, edit.fault)
@@ -84,15 +87,14 @@ class Rounds:
         self.tell(f"  {outcome.value}: {edit.label()} [{edit.where()}] in round {self.number}{': ' + why if why else ''}")
 
     def group(self):
-        """As many edits as can be tried at once: of each function one, or one alone that stands outside of any."""
-        taken, found = set(), []
+        """As many edits as can be tried at once, or one alone that stands outside of any function or that is to be tried alone."""
+        found = []
         for edit in self.left:
-            if edit.is_outside:
+            if edit.is_outside or edit in self.alone:
                 if not found:
                     return [edit]
-            elif not edit.owners & taken:
+            elif all(edit.may_stand_beside(other) for other in found):
                 found.append(edit)
-                taken |= edit.owners
         return found
 
     def run(self):
@@ -110,16 +112,33 @@ class Rounds:
         self.left.remove(edit)
         self.end(edit, outcome, why)
 
+    def beside(self, group):
+        """What stands beside the answers of each function that these change."""
+        found = {}
+        for owner in set().union(*(edit.owners for edit in group)):
+            mine = [edit for edit in group if owner in edit.owners]
+            if not any(edit in self.bare or edit.taken_out for edit in mine):
+                quick = [edit for edit in mine if edit in self.by_itself]
+                found[owner] = goals.Beside(self.work.crate, owner, [it.tried for it in quick], [goal for it in quick for goal in it.left_open if goal != it.tried])
+        return {owner: it for owner, it in found.items() if not it.is_by_hand}
+
+    def texts(self, group, beside):
+        """The texts of a round: the changed files, and the answers of the functions that they change."""
+        return edit_files.together(group) | {f"{owner.proofs()}/Answers.antt": it.text() for owner, it in beside.items()}
+
     def one_round(self, group):
-        """Tries these together, and returns how many were decided."""
-        answer = self.work.check(edit_files.together(group), sorted(set().union(*(edit.paths() for edit in group))))
+        """Tries these together, and returns how many were decided or are to be tried in another form."""
+        beside = self.beside(group)
+        texts = self.texts(group, beside)
+        answer = self.work.check(texts, sorted(set().union(*(edit.paths() for edit in group))))
         before = len(self.left)
         if not answer.reached_the_prover():
             self.without_broken(group, answer)
             return before - len(self.left)
+        told = goals.told_open(answer, lambda file, line: edit_files.owner_of(self.work.crate.folder, file, texts[file].split("\n"), line) if file in texts else None)
         changed = 0
         for edit in group:
-            changed += self.tell_of(edit, answer)
+            changed += self.tell_of(edit, answer, told, beside, any(edit.owners & other.owners for other in group if other is not edit))
         return before - len(self.left) + changed
 
     def without_broken(self, group, answer):
@@ -142,33 +161,61 @@ class Rounds:
         owner = edit_files.owner_of(edit.crate.folder, file, lines, line - 1)
         return owner in edit.owners and any(change.file == file for change in edit.changes)
 
-    def tell_of(self, edit, answer):
+    def again(self, edit, *forms):
+        """Has the edit tried again in another form."""
+        for form in forms:
+            form.add(edit)
+        return 1
+
+    def tell_of(self, edit, answer, told, beside, is_shared):
         """Decides an edit by what the round said of its functions; returns 1 where it is to be tried in another form."""
         if edit.is_outside and not edit.owners:
             own = [text for text in answer.said.values() if not text.startswith("proved") and not HIDDEN.search(text)]
             self.decide(edit, Outcome.PROVED if answer.status == 0 else Outcome.REFUSED if own else Outcome.UNTOLD)
             return 0
         said = [text for owner in edit.owners for text in owner.lines(edit.crate.name, answer.said)]
-        goals = [found[1] for text in said for found in [OPEN.search(text)] if found]
-        own = [text for text in said if not text.startswith("proved") and not HIDDEN.search(text)]
-        if goals:
-            edit.open_clauses = clauses.opened(edit, answer.said)
-            edit.open_goals = goals if edit.taken_out else []
-            beside = ", without the stored answers that no longer fit" if edit.taken_out else ""
-            self.decide(edit, Outcome.REFUSED, f"open: {', '.join(goals)}{beside}"[:200])
-        elif any(text.startswith("could not tell") for text in own):
+        if edit in self.by_itself:
+            return self.tell_of_try(edit, answer, any(HIDDEN.search(text) for text in said))
+        opened = [goal for text in said for found in [OPEN.search(text)] if found for goal in goals.NAMED.findall(found[1].split(";")[0])]
+        opened = list(dict.fromkeys(opened + [goal for owner in edit.owners for goal in told.get(owner, [])]))
+        wrong = {name for owner in edit.owners for name in goals.named_errors(answer, f"{owner.proofs()}/Answers.antt")}
+        if is_shared:
+            opened, wrong = [goal for goal in opened if goal in edit.goals()], wrong & {*edit.noted_open}
+        if opened:
+            edit.open_goals, edit.open_clauses = opened, clauses.opened(edit, opened)
+            without = ", without the stored answers that no longer fit" if edit.taken_out else ""
+            self.decide(edit, Outcome.REFUSED, f"open: {', '.join(opened)}{without}"[:200])
+        elif any(text.startswith("could not tell") for text in said):
             self.decide(edit, Outcome.LIMIT)
-        elif own:
-            return self.take_out(edit, answer)
+        elif wrong and edit.noted_open and not self.is_thorough:
+            self.decide(edit, Outcome.REFUSED, f"open without a stored answer: {', '.join(edit.noted_open)}")
+        elif is_shared:
+            return self.again(edit, self.alone)
+        elif wrong or any(file.startswith(owner.proofs() + "/") for owner in edit.owners for file, _, _ in answer.errors()):
+            return self.take_out(edit, answer, beside)
         elif any(HIDDEN.search(text) for text in said):
             return 0
-        elif said:
-            self.decide(edit, Outcome.PROVED)
-        else:
+        elif not said:
             self.decide(edit, Outcome.UNTOLD, "no line tells of its function")
+        elif beside.keys() & edit.owners:
+            return self.again(edit, self.alone, self.bare)
+        else:
+            self.decide(edit, Outcome.PROVED if all(text.startswith("proved") for text in said) else Outcome.UNTOLD)
         return 0
 
-    def take_out(self, edit, answer):
+    def tell_of_try(self, edit, answer, is_hidden):
+        """Decides an edit whose goal was tried by itself: refused where no tactic found a proof; else all its goals are searched for to the end."""
+        owner = next(iter(edit.owners))
+        failed = goals.failed_tries(answer, f"{owner.proofs()}/Answers.antt")
+        if {goals.name_of_try(edit.tried, tactic) for tactic in goals.TACTICS} <= failed:
+            self.decide(edit, Outcome.REFUSED, f"open: {edit.tried}")
+            return 0
+        if is_hidden and not failed:
+            return 0
+        self.by_itself.remove(edit)
+        return 1
+
+    def take_out(self, edit, answer, beside):
         """Has the edit tried again without the stored answers of its functions that no longer fit, so that their goals stand open, where that is asked for;
         else its file says whether they did."""
         said = next((said for file, _, said in answer.errors() if any(file.startswith(owner.proofs() + "/") for owner in edit.owners)), "")[:160]
@@ -176,13 +223,14 @@ class Rounds:
             self.decide(edit, Outcome.REFUSED, "its proof by hand does not hold")
             return 0
         if not self.is_thorough:
-            self.decide(edit, *((Outcome.REFUSED, f"open without a stored answer: {edit.noted_open}") if edit.noted_open else (Outcome.ANSWER, said)))
+            self.decide(edit, Outcome.ANSWER, said)
             return 0
         edit.times_taken_out += 1
         before = dict(edit.taken_out)
         for owner in edit.owners:
             name = f"{owner.proofs()}/Answers.antt"
-            lines = [line for file, line, _ in answer.errors() if file == name]
+            above = len(beside[owner].uses) if owner in beside else 0
+            lines = [line - above for file, line, _ in answer.errors() if file == name]
             stored = pathlib.Path(edit.crate.folder, name)
             if lines and stored.is_file():
                 missing = [goal for file, _, said_there in answer.errors() if file == name for goal in MISSING.findall(said_there)]
