@@ -105,6 +105,13 @@ def owner_of(folder, file, lines, at):
     return Owner(module, name_of(block["type"]), trait, name)
 
 
+def owner_of_item(folder, file, lines, at):
+    """The same of a line of its attributes or its comment."""
+    while at + 1 < len(lines) and lines[at].lstrip().startswith(("#[", "//")):
+        at += 1
+    return owner_of(folder, file, lines, at)
+
+
 class Edit:
     """One wrong body of a crate."""
 

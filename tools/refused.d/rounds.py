@@ -135,7 +135,7 @@ class Rounds:
         if not answer.reached_the_prover():
             self.without_broken(group, answer)
             return before - len(self.left)
-        told = goals.told_open(answer, lambda file, line: edit_files.owner_of(self.work.crate.folder, file, texts[file].split("\n"), line) if file in texts else None)
+        told = goals.told_open(answer, lambda file, line: edit_files.owner_of_item(self.work.crate.folder, file, texts[file].split("\n"), line) if file in texts else None)
         changed = 0
         for edit in group:
             changed += self.tell_of(edit, answer, told, beside, any(edit.owners & other.owners for other in group if other is not edit))
