@@ -15,6 +15,7 @@ SLICE = re.compile(r"&(?:'\w+ )?\[(\w)(\w*)\]")
 OPEN = re.compile(r"^# open without its stored answer: (.*)$", re.M)
 LEFT_OPEN = re.compile(r"^# leaves open: (.*)$", re.M)
 TRIED = re.compile(r"^# tried by itself: (.*)$", re.M)
+CLAUSE = re.compile(r"^# clause: (\S+ \w+)$", re.M)
 NOTES = ("# clause: ", "# open ", "# leaves open: ", "# tried by itself: ")
 DECLARED = re.compile(r"^(?:pub(?:\([a-z]+\))? )?(?:struct|enum) (\w+)", re.M)
 
@@ -131,9 +132,10 @@ class Edit:
         self.is_outside = self.is_outside or not (self.owners or self.fault)
 
     def read_notes(self, text):
-        """Reads which goals it leaves open: without its stored answers, with all of them, and the one that is tried by itself."""
+        """Reads which clauses it breaks and which goals it leaves open: without its stored answers, with all of them, and the one that is tried by itself."""
         goals = [[it.strip("` ") for it in found[1].split(",")] if found else [] for found in (OPEN.search(text), LEFT_OPEN.search(text), TRIED.search(text))]
         self.noted_open, self.left_open, self.tried = goals[0], goals[1], goals[2][0] if goals[2] else None
+        self.noted_clauses = set(CLAUSE.findall(text))
 
     def goals(self):
         """The goals that are known to be its own."""
@@ -166,9 +168,10 @@ class Edit:
         return f"{self.crate.name}/{self.name}"
 
     def note_opened(self):
-        """Writes into its file which clauses of public calls it breaks, and which goals it leaves open, without a stored answer that no longer fits or as it is."""
+        """Writes into its file which clauses of public calls it breaks, beside those that it notes, and which goals it leaves open, without a stored answer that no
+        longer fits or as it is."""
         lines = self.path.read_text().split("\n")
-        clauses = [f"# clause: {it}" for it in sorted(self.open_clauses)] or [it for it in lines if it.startswith("# clause: ")]
+        clauses = [f"# clause: {it}" for it in sorted(self.open_clauses | self.noted_clauses)]
         kind = "# open without its stored answer: " if self.taken_out else "# leaves open: "
         opened = [kind + ", ".join(dict.fromkeys(self.open_goals))] if self.open_goals else []
         self.path.write_text("\n".join(clauses + opened + [it for it in lines if not it.startswith(NOTES)]))

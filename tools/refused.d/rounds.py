@@ -68,6 +68,11 @@ def without_unused(paragraph, others):
     return "\n".join(line for line in lines if line is not None)
 
 
+def is_shared(edit, group):
+    """Whether another edit of a group changes a function of this one."""
+    return any(edit.owners & other.owners for other in group if other is not edit)
+
+
 class Rounds:
     """The rounds over one crate, and what each of its wrong bodies came to."""
 
@@ -133,27 +138,30 @@ class Rounds:
         answer = self.work.check(texts, sorted(set().union(*(edit.paths() for edit in group))))
         before = len(self.left)
         if not answer.reached_the_prover():
-            self.without_broken(group, answer)
-            return before - len(self.left)
+            return self.without_broken(group, answer)
         told = goals.told_open(answer, lambda file, line: edit_files.owner_of_item(self.work.crate.folder, file, texts[file].split("\n"), line) if file in texts else None)
         changed = 0
         for edit in group:
-            changed += self.tell_of(edit, answer, told, beside, any(edit.owners & other.owners for other in group if other is not edit))
+            changed += self.tell_of(edit, answer, told, beside, is_shared(edit, group))
         return before - len(self.left) + changed
 
     def without_broken(self, group, answer):
-        """Takes out those that do not compile: those whose lines have an error, and where none has, each is tried by itself."""
+        """Takes out those that do not compile: those whose lines have an error, alone or beside another of their function, which is tried alone then. Where no
+        line has one, each is tried by itself. Returns how many were decided or are to be tried in another form."""
         errors = [(file, line, said) for file, line, said in answer.errors() if file.startswith("src/")]
         broken = [edit for edit in group if any(self.has_line(edit, group, file, line) for file, line, _ in errors)]
         if len(group) == 1:
             broken = group
-        for edit in broken:
-            why = next((said for file, _, said in errors if any(change.file == file for change in edit.changes)), "")
-            self.decide(edit, Outcome.BAD, "it does not compile" + why[:160])
         if not broken:
             half = len(group) // 2
-            self.one_round(group[:half])
-            self.one_round(group[half:])
+            return self.one_round(group[:half]) + self.one_round(group[half:])
+        for edit in broken:
+            if is_shared(edit, group):
+                self.alone.add(edit)
+            else:
+                why = next((said for file, _, said in errors if any(change.file == file for change in edit.changes)), "")
+                self.decide(edit, Outcome.BAD, "it does not compile" + why[:160])
+        return len(broken)
 
     def has_line(self, edit, group, file, line):
         """Whether a line of a file, as this round has it, is in a function that this edit changes."""
@@ -167,7 +175,7 @@ class Rounds:
             form.add(edit)
         return 1
 
-    def tell_of(self, edit, answer, told, beside, is_shared):
+    def tell_of(self, edit, answer, told, beside, shares):
         """Decides an edit by what the round said of its functions; returns 1 where it is to be tried in another form."""
         if edit.is_outside and not edit.owners:
             own = [text for text in answer.said.values() if not text.startswith("proved") and not HIDDEN.search(text)]
@@ -179,7 +187,7 @@ class Rounds:
         opened = [goal for text in said for found in [OPEN.search(text)] if found for goal in goals.NAMED.findall(found[1].split(";")[0])]
         opened = list(dict.fromkeys(opened + [goal for owner in edit.owners for goal in told.get(owner, [])]))
         wrong = {name for owner in edit.owners for name in goals.named_errors(answer, f"{owner.proofs()}/Answers.antt")}
-        if is_shared:
+        if shares:
             opened, wrong = [goal for goal in opened if goal in edit.goals()], wrong & {*edit.noted_open}
         if opened:
             edit.open_goals, edit.open_clauses = opened, clauses.opened(edit, opened)
@@ -189,7 +197,7 @@ class Rounds:
             self.decide(edit, Outcome.LIMIT)
         elif wrong and edit.noted_open and not self.is_thorough:
             self.decide(edit, Outcome.REFUSED, f"open without a stored answer: {', '.join(edit.noted_open)}")
-        elif is_shared:
+        elif shares:
             return self.again(edit, self.alone)
         elif wrong or any(file.startswith(owner.proofs() + "/") for owner in edit.owners for file, _, _ in answer.errors()):
             return self.take_out(edit, answer, beside)
