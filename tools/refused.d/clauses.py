@@ -1,4 +1,5 @@
 """Named clauses of public calls that say less than an equation, and which of them have a wrong body."""
+import collections
 import functools
 import re
 import sys
@@ -59,40 +60,56 @@ def of_public_calls(names):
 
 
 @functools.cache
-def labels_of(crate):
-    """The clauses of a crate's public calls that say less than an equation, by their labels."""
-    return {clause.label() for clause in of_public_calls({crate}) if not clause.is_equation()}
-
-
-def opened(edit, goals):
-    """The clauses of public calls that these open goals of an edit's functions break: those that the goals name, or all where a goal names none."""
-    found = set()
-    for owner in edit.owners:
-        function = "::".join(it for it in (owner.type, owner.name) if it)
-        mine = {label for label in labels_of(edit.crate.name) if label.split(" ")[0] == function}
-        for goal in (it for it in goals if it.startswith("returns")):
-            name = goal.rpartition("-clause-")[2] if "-clause-" in goal else ""
-            found |= {label for label in mine if not name or label.split(" ")[1] == name}
+def by_function(crate):
+    """The clauses of each public function of a crate, by its name."""
+    found = collections.defaultdict(list)
+    for clause in of_public_calls({crate}):
+        found[clause.function].append(clause)
     return found
 
 
-def named_by_edits(crate):
-    """The clauses that lines `# clause: FUNCTION NAME` of a crate's wrong bodies name."""
+def opened(edit, goals):
+    """The clauses of public calls that these open goals of an edit's functions break and that say less than an equation: those that the goals name. A goal that
+    names none is one of all clauses of its function, so it tells of a clause where that is the only one."""
     found = set()
-    for folder in ("refused", "planted", "must-fail"):
+    answers = [it for it in goals if it.startswith("returns")]
+    named = {it.rpartition("-clause-")[2] for it in answers if "-clause-" in it}
+    names_none = any("-clause-" not in it for it in answers)
+    for owner in edit.owners:
+        mine = by_function(edit.crate.name)["::".join(it for it in (owner.type, owner.name) if it)]
+        found |= {it.label() for it in mine if not it.is_equation() and (it.name in named or names_none and len(mine) == 1)}
+    return found
+
+
+def named_by_edits(crate, *folders):
+    """The clauses that lines `# clause: FUNCTION NAME` of the wrong bodies in these folders name."""
+    found = set()
+    for folder in folders:
         for path in (kit.ROOT / "crates" / crate / folder).glob("*.edit"):
             found |= set(re.findall(r"^# clause: (\S+ \w+)$", path.read_text(), re.M))
     return found
 
 
+def unbreakable(crate):
+    """The clauses that no body can break, with the reason, by lines `FUNCTION NAME: REASON` of the crate's refused/unbreakable.txt."""
+    path = kit.ROOT / "crates" / crate / "refused" / "unbreakable.txt"
+    return dict(re.findall(r"^(\S+ \w+): (.+)$", path.read_text(), re.M)) if path.is_file() else {}
+
+
 def list_uncovered(names):
-    """Prints each clause that says less than an equation and that no wrong body names; the status is 1 where there is one. Crates for tests alone have none."""
-    lacking = 0
+    """Prints each clause that says less than an equation and that no wrong body names, with the reason where no body can break it, and how many have theirs in
+    planted alone; the status is 1 where one has neither, or where a reason stands for another clause. Crates for tests alone have none."""
+    lacking, planted, told = 0, 0, 0
     for name in (it for it in names if not it.endswith("_tests")):
-        named = named_by_edits(name)
-        for clause in of_public_calls({name}):
-            if not clause.is_equation() and clause.label() not in named:
-                print(f"{name}: {clause.label()}")
-                lacking += 1
-    print(f"{lacking} clauses without a wrong body")
+        tried, named, reasons = named_by_edits(name, "refused", "must-fail"), named_by_edits(name, "planted"), unbreakable(name)
+        left = [it.label() for it in of_public_calls({name}) if not it.is_equation() and it.label() not in tried]
+        planted += len({*left} & named)
+        left = [it for it in left if it not in named]
+        for label in left:
+            print(f"{name}: {label}" + (f" (no body can break it: {reasons[label]})" if label in reasons else ""))
+        for label in reasons.keys() - {*left}:
+            print(f"{name}: {label}: it has a reason, and is no such clause or has a wrong body")
+        lacking += len({*left} ^ reasons.keys())
+        told += len({*left} & reasons.keys())
+    print(f"{lacking} clauses without a wrong body; {planted} with one in planted alone, and {told} that no body can break")
     return 1 if lacking else 0

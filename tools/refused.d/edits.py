@@ -141,6 +141,11 @@ class Edit:
         """The goals that are known to be its own."""
         return {*self.noted_open, *self.left_open}
 
+    def passed_over(self):
+        """The goals that it leaves open and that are not looked at where its notes are trusted: all but one, or all where a stored answer no longer fits."""
+        looked_at = self.tried or next((it for it in self.left_open if "-clause-" in it), next(iter(self.left_open), None))
+        return [*self.noted_open, *(it for it in self.left_open if it != looked_at)]
+
     def may_stand_beside(self, other):
         """Whether one check can tell of both: of different functions, or of one where each leaves other goals of it open."""
         if not self.owners & other.owners:

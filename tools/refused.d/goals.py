@@ -4,7 +4,8 @@ Where a goal stays open, `rattle` runs its prover a second time to print the fil
 file to print, and tells each open goal by a note. So a hole stands beside the answers of each function that carries a wrong body.
 
 A goal that nothing proves is searched for long: by every tactic with the most counts, as a whole and in its parts. So where a wrong body notes a goal that it
-leaves open, a goal that these two tactics prove in the right body, the check tries that goal by these two alone, and the other goals that it leaves open get holes.
+leaves open, a goal that these two tactics prove in the right body, the check tries that goal by these two alone. Where it notes others, one of them is searched for,
+or none where a stored answer no longer fits. All others that it leaves open get holes.
 """
 import pathlib
 import re
@@ -30,18 +31,20 @@ def name_of_try(goal, tactic):
 
 
 class Beside:
-    """What stands beside the answers of one function in a check: the goals that are tried by themselves, and those that get a hole."""
+    """What stands beside the answers of one function in a check: the goals that are tried by themselves, and those that get a hole, which are those that are passed
+    over and have no answer of their own."""
 
-    def __init__(self, crate, owner, tried, holes):
+    def __init__(self, crate, owner, tried, passed_over):
         folder = pathlib.Path(crate.folder, owner.proofs())
         self.is_by_hand = (folder / "Proof.antt").is_file()
         self.stored = (folder / "Answers.antt").read_text() if (folder / "Answers.antt").is_file() else ""
-        self.tried, self.holes = tried, holes
+        answered = set(re.findall(r"^(?:pub )?([^\s:]+) :", self.stored, re.M))
+        self.tried, self.holes = tried, [it for it in dict.fromkeys(passed_over) if it not in answered and it not in tried]
         goals = f"use Rattle.{crate.name}.proofs.{owner.path().replace('::', '.')}.Goals as "
         # a module has one name in a file
         named = re.search(rf"^{re.escape(goals)}(\S+)$", self.stored, re.M)
         self.goals = named[1] if named else "tried"
-        self.uses = [*TACTICS_USED, *([] if named else [f"{goals}tried"])] if tried or holes else []
+        self.uses = [*TACTICS_USED, *([] if named else [f"{goals}tried"])] if tried or self.holes else []
 
     def answer(self, name, goal, text):
         return f"\n{'pub ' if name == goal else ''}{name} : {self.goals}.{goal}\n{name} = {text}\n"

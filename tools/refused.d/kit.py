@@ -14,7 +14,7 @@ LINE = re.compile(r"^(?:fn|impl) ([^ ]*?): (.*)$")
 GENERICS = re.compile(r"<[^<>]*>")
 
 
-# The prover's allocator asks for pages of 2 MiB and keeps what it has: a check takes two thirds of the time.
+# The prover's allocator keeps the memory that it has, and takes it in pages of 2 MiB where the machine has set such aside.
 for name, value in (("MIMALLOC_ALLOW_LARGE_OS_PAGES", "1"), ("MIMALLOC_PURGE_DELAY", "-1")):
     os.environ.setdefault(name, value)
 

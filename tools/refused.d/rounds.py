@@ -80,6 +80,8 @@ class Rounds:
         self.work, self.tell, self.left, self.outcomes, self.is_thorough = work, tell, [], {}, is_thorough
         # Goals are searched for to the end, and not tried by themselves, where they are to be noted.
         self.by_itself = {edit for edit in edits if edit.tried and len(edit.owners) == 1 and not has_time}
+        # Of the others that note what they leave open only that is looked at: one goal, or the stored answers.
+        self.by_notes = {edit for edit in edits if edit.goals() and len(edit.owners) == 1 and not (has_time or is_thorough)} - self.by_itself
         self.alone, self.bare, self.number = set(), set(), 0
         for edit in edits:
             if edit.fault:
@@ -123,8 +125,9 @@ class Rounds:
         for owner in set().union(*(edit.owners for edit in group)):
             mine = [edit for edit in group if owner in edit.owners]
             if not any(edit in self.bare or edit.taken_out for edit in mine):
-                quick = [edit for edit in mine if edit in self.by_itself]
-                found[owner] = goals.Beside(self.work.crate, owner, [it.tried for it in quick], [goal for it in quick for goal in it.left_open if goal != it.tried])
+                tried = [edit.tried for edit in mine if edit in self.by_itself]
+                passed_over = [goal for edit in mine if edit in self.by_itself | self.by_notes for goal in edit.passed_over()]
+                found[owner] = goals.Beside(self.work.crate, owner, tried, passed_over)
         return {owner: it for owner, it in found.items() if not it.is_by_hand}
 
     def texts(self, group, beside):
@@ -187,6 +190,8 @@ class Rounds:
         opened = [goal for text in said for found in [OPEN.search(text)] if found for goal in goals.NAMED.findall(found[1].split(";")[0])]
         opened = list(dict.fromkeys(opened + [goal for owner in edit.owners for goal in told.get(owner, [])]))
         wrong = {name for owner in edit.owners for name in goals.named_errors(answer, f"{owner.proofs()}/Answers.antt")}
+        holes = {name for owner in edit.owners & beside.keys() for name in beside[owner].holes}
+        opened, wrong = [goal for goal in opened if goal not in holes], wrong - holes
         if shares:
             opened, wrong = [goal for goal in opened if goal in edit.goals()], wrong & {*edit.noted_open}
         if opened:
@@ -197,6 +202,8 @@ class Rounds:
             self.decide(edit, Outcome.LIMIT)
         elif wrong and edit.noted_open and not self.is_thorough:
             self.decide(edit, Outcome.REFUSED, f"open without a stored answer: {', '.join(edit.noted_open)}")
+        elif edit in self.by_notes:
+            return self.without_notes(edit, any(HIDDEN.search(text) for text in said))
         elif shares:
             return self.again(edit, self.alone)
         elif wrong or any(file.startswith(owner.proofs() + "/") for owner in edit.owners for file, _, _ in answer.errors()):
@@ -221,6 +228,13 @@ class Rounds:
         if is_hidden and not failed:
             return 0
         self.by_itself.remove(edit)
+        return 1
+
+    def without_notes(self, edit, is_hidden):
+        """Has an edit tried with all its goals where what it notes did not tell of it, or again as it is where a call hides it."""
+        if is_hidden:
+            return 0
+        self.by_notes.remove(edit)
         return 1
 
     def take_out(self, edit, answer, beside):

@@ -27,4 +27,6 @@ mod tape_command;
 #[cfg(test)]
 mod taped_run;
 #[cfg(test)]
+mod version;
+#[cfg(test)]
 mod whole_run_retries;
