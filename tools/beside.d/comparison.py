@@ -1,6 +1,8 @@
 """Compares what both hosts say of drawn scripts, and counts each class of difference."""
 import collections
 import dataclasses
+import sys
+import time
 
 import drawn_jobs
 import heskavo_host
@@ -269,10 +271,11 @@ def records_of(position, data):
 
 
 def compare(linux, heskavo, count, seed):
-    """Draws so many scripts and compares them."""
-    comparison = Comparison(linux, heskavo)
+    """Draws this many scripts and compares them."""
+    comparison, began = Comparison(linux, heskavo), time.monotonic()
     comparison.named()
     for begin in range(0, count, BATCH):
         scripts = [drawn_jobs.drawn_script(seed, number) for number in range(begin, min(begin + BATCH, count))]
         comparison.runs(begin, scripts, comparison.verdicts(begin, scripts))
+        print(f"{begin + len(scripts)} of {count} scripts compared, {time.monotonic() - began:.0f} s", file=sys.stderr, flush=True)
     return comparison.told()

@@ -1,4 +1,4 @@
-"""Compares the object files of examples/c: loaded by libbpf and run by Linux, and the same files as hex, run here."""
+"""Compares object files, of examples/c and of drawn sources: loaded by libbpf and run by Linux, and the same files as hex, run here."""
 import contextlib
 import pathlib
 import random
@@ -7,15 +7,17 @@ import subprocess
 import sys
 import tempfile
 
+ROOT = pathlib.Path(__file__).resolve().parent.parent.parent
+EXAMPLES = ROOT / "examples" / "c"
+sys.path[:0] = [str(ROOT / "tools" / "bpf.d" / "tests"), str(ROOT / "tools" / "bpf.d")]
+from drawn_programs import c_source
 from heskavo_host import record_of, tape_command
 from linux_host import Skipped, built
 
-ROOT = pathlib.Path(__file__).resolve().parent.parent.parent
-EXAMPLES = ROOT / "examples" / "c"
 CONTEXT, RUNS, SIZE = 24, 3, 4096
 LOW_32 = (1 << 32) - 1
-# How many contexts are drawn beside the one of zeros.
-DRAWN = 7
+# How many contexts are drawn beside the one of zeros, and how many sources, which clang mostly lays out with backward jumps.
+DRAWN, DRAWN_SOURCES = 7, 20
 
 
 def output_of(*command):
@@ -52,7 +54,7 @@ class Objects:
     def __init__(self, heskavo, folder):
         self.heskavo, self.folder = heskavo, folder
         self.objects, self.tape = built("objects", folder, ["-lbpf"]), built("tape", folder)
-        self.runs = self.records = self.tapes = self.different = 0
+        self.runs = self.records = self.tapes = self.refused = self.different = 0
 
     def differ(self, text):
         self.different += 1
@@ -75,9 +77,24 @@ class Objects:
         words = [line.split() for line in lines.decode().splitlines()]
         return [int(each[1]) for each in words if each[0] == "result"], [(int(each[1]), bytes.fromhex(each[4].strip("-"))) for each in words if each[0] == "ring"]
 
+    def code(self, file, name):
+        """The bytes of a program of an object file, as this host takes it."""
+        return bytes.fromhex("".join(output_of(sys.executable, ROOT / "tools" / "bpf-hex", "--program", name, file).decode().split()))
+
+    def compare_drawn(self, number, seed):
+        """Compares a drawn source over all contexts, unless this host refuses it: clang makes one call of two that give back different records (V11)."""
+        source = pathlib.Path(self.folder) / f"drawn{number}.c"
+        source.write_text(f'#include "heskavo.h"\n{c_source(random.Random(f"{seed} {number}"))}char _license[] SEC("license") = "GPL";\n')
+        file = self.compiled(source, "-O2")
+        if self.heskavo.answer((["check", "--ctx", CONTEXT], self.code(file, "f").hex().encode()))[0] != "accepted":
+            self.refused += 1
+            return
+        for context in contexts(seed):
+            self.compare(file, "f", context)
+
     def compare(self, file, name, context):
         """Compares what one object file does over a context, on both sides."""
-        code = bytes.fromhex("".join(output_of(sys.executable, ROOT / "tools" / "bpf-hex", "--program", name, file).decode().split()))
+        code = self.code(file, name)
         here, there = self.here(code, context), self.there(output_of(self.objects, "run", file, name, context.hex(), RUNS))
         self.runs, self.records = self.runs + RUNS, self.records + len(there[1])
         if here != there:
@@ -95,7 +112,7 @@ class Objects:
 
 
 def compare(heskavo, seed):
-    """Compares each program of examples/c, optimised and not."""
+    """Compares each program of examples/c, optimised and not, and drawn ones, optimised."""
     if shutil.which("clang") is None:
         raise Skipped("clang is not installed")
     sources = sorted(EXAMPLES.glob("*.c"))
@@ -105,5 +122,8 @@ def compare(heskavo, seed):
             for context in contexts(seed):
                 objects.compare(file, name, context)
                 objects.compare_tape(file, name, context, place)
-    print(f"programs {len(sources)} objects {2 * len(sources)} runs {objects.runs} records {objects.records} tapes {objects.tapes} different {objects.different}")
+        for number in range(DRAWN_SOURCES):
+            objects.compare_drawn(number, seed)
+    print(f"programs {len(sources)} objects {2 * len(sources)} drawn {DRAWN_SOURCES} refused {objects.refused} runs {objects.runs} records {objects.records} "
+          f"tapes {objects.tapes} different {objects.different}")
     return 1 if objects.different else 0

@@ -1,0 +1,54 @@
+"""The sources of a crate and of the crates below it, and whether they are those that a program was built from."""
+import hashlib
+import pathlib
+import subprocess
+
+ROOT = pathlib.Path(__file__).resolve().parent.parent.parent
+CRATES = ROOT / "crates"
+
+
+def crates_below(crate: str) -> set[str]:
+    """The crates of the repository at or below this one, by crates.txt."""
+    uses: dict[str, list[str]] = {}
+    for line in (ROOT / "crates.txt").read_text().splitlines():
+        name, colon, libraries = line.split("#")[0].partition(":")
+        if colon:
+            uses[name.split()[0]] = libraries.split()
+    found: set[str] = set()
+    waiting = [crate]
+    while waiting:
+        name = waiting.pop()
+        if name in uses and name not in found:
+            found.add(name)
+            waiting += uses[name]
+    return found
+
+
+def files(crate: str) -> list[pathlib.Path]:
+    """The files that a program of this crate is built from."""
+    sources = (path for name in crates_below(crate) for path in (CRATES / name / "src").rglob("*.rt"))
+    return [ROOT / "crates.txt", *sorted(sources)]
+
+
+def sums(crate: str) -> str:
+    """The checksums of these files, in the format that sha256sum --check reads at the top of the repository."""
+    return "".join(f"{hashlib.sha256(path.read_bytes()).hexdigest()}  {path.relative_to(ROOT)}\n" for path in files(crate))
+
+
+def is_current(recorded: pathlib.Path) -> bool:
+    """Whether the sources have the contents that were recorded in this file; false if there is no such file."""
+    check = ["sha256sum", "--check", "--status", str(recorded)]
+    return recorded.exists() and subprocess.run(check, cwd=ROOT, stderr=subprocess.DEVNULL, check=False).returncode == 0
+
+
+def changed_file(recorded: pathlib.Path) -> str:
+    """The first file whose contents are not those that were recorded."""
+    check = ["sha256sum", "--check", "--quiet", str(recorded)]
+    lines = subprocess.run(check, cwd=ROOT, capture_output=True, text=True, check=False).stdout.splitlines()
+    return lines[0].rpartition(": ")[0] if lines else "its sources"
+
+
+def newer_file(crate: str, program: pathlib.Path) -> str | None:
+    """A source that was written after the program, or None."""
+    built = program.stat().st_mtime
+    return next((str(path.relative_to(ROOT)) for path in files(crate) if path.stat().st_mtime > built), None)
