@@ -1,64 +1,92 @@
-#!/usr/bin/env python3
-"""Reads a host's stream as a member of the consumer group `agents`, and appends each record's object to a file, one a line.
+#!/usr/bin/python3
+"""Reads the stream of a host's run as a member of the consumer group `agents`, and appends each record's object to a file, one a line.
 
-Usage: examples/ship/read.py HOST PORT FILE
+Usage: examples/ship/read.py HOST RUN PORT FILE
 
 A record that was given to this member and not acknowledged, since it or the server was killed, is given again; one whose position the file has already
-is left out. It reads until it is killed.
+is left out. It reads until it is killed. A file whose last record the stream does not have is of another run: that is an error, as is a server that stays
+away for 30 seconds (5 at the beginning). An error is one line, and the status is 1.
 """
+import argparse
 import pathlib
 import sys
+import typing
 
-from resp import Refused, connect, position_of
+from stream import AWAY, CommandRefused, Failure, ServerError, Stream, record_of
 
 AT_ONCE = 256
 
 
-def last_in(path):
-    """The position of the file's last record, -1 where it has none; a line that was not written to its end is cut off."""
-    path.touch()
-    written = path.read_bytes()
-    whole = written[: written.rfind(b"\n") + 1]
+def last_of(path: pathlib.Path, stream: Stream) -> int:
+    """Returns the position of the file's last record, or -1 if it has none, after cutting off a line that was not written to its end."""
+    try:
+        path.touch()
+        written = path.read_bytes()
+    except OSError as error:
+        raise Failure(f"{path}: {error.strerror}") from None
+    whole = written[:written.rfind(b"\n") + 1]
     if whole != written:
         path.write_bytes(whole)
-    return position_of(whole.split(b"\n")[-2]) if whole else -1
+    if not whole:
+        return -1
+    lines = whole.decode(errors="replace").splitlines()
+    record = record_of(lines[-1], len(lines))
+    if record.position >= stream.first_position() and stream.between(record.position, record.position) != [record]:
+        raise Failure(f"{stream.name} does not have the last record of {path}, of position {record.position}: the file is of another run")
+    return record.position
 
 
-def join(port, stream):
-    """A connection whose group is there."""
-    server = connect(port)
+def join(stream: Stream) -> None:
+    """Makes the group, unless it is there."""
     try:
-        server.call("XGROUP", "CREATE", stream, "agents", "0", "MKSTREAM")
-    except Refused as refused:
+        stream.server.xgroup_create(stream.name, "agents", "0", mkstream=True)
+    except CommandRefused as refused:
         if "BUSYGROUP" not in str(refused):
             raise
-    return server
 
 
-def main():
-    """Appends records and acknowledges them, those first that were given before."""
-    if len(sys.argv) != 4:
-        sys.exit(__doc__)
-    stream, port, path = f"tape:{sys.argv[1]}", int(sys.argv[2]), pathlib.Path(sys.argv[3])
-    last = last_in(path)
-    server, after = join(port, stream), "0"
-    with path.open("a", encoding="utf-8") as file:
-        while True:
-            try:
-                given = server.call("XREADGROUP", "GROUP", "agents", "one", "COUNT", AT_ONCE, "BLOCK", 200, "STREAMS", stream, after)
-                records = given[0][1] if given else []
-                if after != ">":
-                    after = records[-1][0] if records else ">"
-                for number, fields in records:
-                    position = int(number.split("-")[1])
-                    if position > last:
-                        file.write(fields[1] + "\n")
-                        last = position
-                file.flush()
-                if records:
-                    server.call("XACK", stream, "agents", *(number for number, _ in records))
-            except (OSError, Refused):
-                server, after = join(port, stream), "0"
+def read(stream: Stream, file: typing.TextIO, last: int) -> None:
+    """Appends records after a position and acknowledges them, those first that were given before, until the server goes away for good."""
+    after = "0"
+    stream.patiently(lambda: join(stream))
+    while True:
+        try:
+            given = stream.server.xreadgroup("agents", "one", {stream.name: after}, count=AT_ONCE, block=200)
+            records = given[0][1] if given else []
+            if after != ">":
+                after = records[-1][0] if records else ">"
+            for number, fields in records:
+                position = int(number.split("-")[1])
+                if position > last:
+                    file.write(fields["record"] + "\n")
+                    last = position
+            file.flush()
+            if records:
+                stream.server.xack(stream.name, "agents", *(number for number, _ in records))
+        except AWAY:
+            after = "0"
+            stream.patiently(lambda: join(stream))
+
+
+def main() -> None:
+    """Reads until it is killed."""
+    words = argparse.ArgumentParser(description=__doc__, formatter_class=argparse.RawDescriptionHelpFormatter, usage="read.py HOST RUN PORT FILE")
+    words.add_argument("host", metavar="HOST")
+    words.add_argument("run", metavar="RUN")
+    words.add_argument("port", type=int, metavar="PORT")
+    words.add_argument("file", type=pathlib.Path, metavar="FILE")
+    asked = words.parse_args()
+    try:
+        stream = Stream(asked.host, asked.run, asked.port)
+        last = last_of(asked.file, stream)
+        with asked.file.open("a", encoding="utf-8") as file:
+            read(stream, file, last)
+    except Failure as failure:
+        sys.exit(f"read.py: {failure}")
+    except ServerError as error:
+        sys.exit(f"read.py: the server refuses to read tape:{asked.host}:{asked.run}: {error}")
+    except OSError as error:
+        sys.exit(f"read.py: {asked.file}: {error.strerror}")
 
 
 if __name__ == "__main__":

@@ -1,10 +1,10 @@
-#!/usr/bin/env python3
+#!/usr/bin/python3
 """Ships the tapes of two hosts through Redis Streams, kills senders, readers and the server in the middle, and compares what was read with the tapes.
 
 Usage: examples/ship/run.py [RBHOST]
 
-RBHOST is tools/rbhost unless given. Debian's package `redis-server` has the server, which is started on loopback alone, with each command on the disk
-before it is answered. Once a quarter of a host's records was read, its sender is killed and started again, from the front of its tape; once half of all
+RBHOST is tools/rbhost unless given. Debian's packages `redis-server` and `python3-redis` are needed. The server is started on loopback alone, with each command
+on the disk before it is answered. Once a quarter of a host's records was read, its sender is killed and started again, from the front of its tape; once half of all
 was read, the server is; once three quarters of a host's were, its reader. The script's status is 1 where what was read is not, line by line, what
 `rbhost tape --json` prints, or where the bytes that its records stand for are not the tape's. Half of the positions of `beta` are above 2^53, and stand in
 the objects as strings.
@@ -20,12 +20,17 @@ import sys
 import tempfile
 import time
 
+from stream import Failure, Stream
+
 HERE = pathlib.Path(__file__).resolve().parent
 ROOT = HERE.parent.parent
 SIZE = 1048576
 WORKERS = 4
 SPAN = 16
 DISCARDED = 1 << 30
+
+# What names the run of both hosts.
+RUN = "first"
 
 # The jobs of each worker of a host, and its ring's first position: that of `beta` is half of its tape below 2^53.
 HOSTS = {"alpha": (2500, 0), "beta": (4000, (1 << 53) - 2000 * WORKERS * SPAN)}
@@ -41,7 +46,9 @@ def free_port():
 def start_server(folder, port):
     """A server of its own, whose stream is on the disk before it answers."""
     words = ["redis-server", "--bind", "127.0.0.1", "--port", str(port), "--dir", str(folder), "--save", "", "--appendonly", "yes", "--appendfsync", "always"]
-    return subprocess.Popen(words, stdout=subprocess.DEVNULL)
+    started = subprocess.Popen(words, stdout=subprocess.DEVNULL)
+    Stream("any", RUN, port)
+    return started
 
 
 def tape_of(lines):
@@ -73,14 +80,14 @@ class Host:
         self.start_sender()
 
     def start_reader(self):
-        """Reads on behind what the file has."""
-        self.reader = subprocess.Popen([str(HERE / "read.py"), self.name, str(self.port), str(self.read)])
+        """Reads on after what the file has."""
+        self.reader = subprocess.Popen([str(HERE / "read.py"), self.name, RUN, str(self.port), str(self.read)])
         self.reads += 1
 
     def start_sender(self):
         """Sends the tape from its front."""
         tape = subprocess.Popen(self.print_tape, stdin=self.tape.open("rb"), stdout=subprocess.PIPE, stderr=subprocess.DEVNULL)
-        self.sender = subprocess.Popen([str(HERE / "send.py"), self.name, str(self.port)], stdin=tape.stdout)
+        self.sender = subprocess.Popen([str(HERE / "send.py"), self.name, RUN, str(self.port)], stdin=tape.stdout)
         tape.stdout.close()
         self.starts += 1
 
@@ -153,4 +160,7 @@ def main():
 
 
 if __name__ == "__main__":
-    main()
+    try:
+        main()
+    except Failure as failure:
+        sys.exit(f"run.py: {failure}")

@@ -1,50 +1,84 @@
-#!/usr/bin/env python3
-"""Sends the records of a host's tape, the objects that `rbhost tape --json` prints, to the stream `tape:HOST`.
+#!/usr/bin/python3
+"""Sends the records of a host's tape, the objects that `rbhost tape --json` prints, to the stream `tape:HOST:RUN`.
 
-Usage: rbhost tape --json --size N < TAPE | examples/ship/send.py HOST PORT
+Usage: rbhost tape --json --size N < TAPE | examples/ship/send.py HOST RUN PORT
 
-A record's position is its number in the stream, and the server takes no number twice. So whoever sends the same tape again, from its front, sends what
-is missing: what the stream ends with is asked first, and all records up to there are left out.
+RUN names the run of the host that made the tape, as the time at which it began: positions begin anew with each run, so each has a stream of its own. A
+record's position is its number in the stream, and the server takes no number twice. So a sender that was killed sends the same tape again, from its front:
+what the stream has already is compared, and what is missing is sent. A tape that differs from what was sent is an error, and nothing of it is sent from
+there on. A server that goes away is waited for, for 30 seconds (5 at the beginning). An error is one line, and the status is 1.
 """
+import argparse
 import itertools
 import sys
+from collections.abc import Iterable, Iterator
 
-from resp import Refused, connect, position_of
+from stream import AWAY, Failure, Record, ServerError, Stream, record_of
 
 AT_ONCE = 64
 
 
-def last_position(server, stream):
-    """The position of the stream's last record; -1 where it has none."""
-    last = server.call("XREVRANGE", stream, "+", "-", "COUNT", 1)
-    return int(last[0][0].split("-")[1]) if last else -1
+def records_of(lines: Iterable[bytes]) -> Iterator[Record]:
+    """Yields the records of lines, whose positions have to rise."""
+    last = -1
+    for number, line in enumerate(lines, 1):
+        record = record_of(line.decode(errors="replace").rstrip("\n"), number)
+        if record.position <= last:
+            raise Failure(f"line {number} has the position {record.position}, and the line before {last}: is this one tape?")
+        last = record.position
+        yield record
 
 
-def send_all(server, stream, records):
-    """Sends records, each as its position and its object, without waiting for each answer; the answers are read then."""
-    for position, line in records:
-        server.send("XADD", stream, f"1-{position}", "record", line)
-    for _ in records:
-        server.answer()
+def compare(stream: Stream, sent: list[Record]) -> None:
+    """Compares records with those that the stream has in their places; those that the server trimmed are left out."""
+    there = {record.position: record.line for record in stream.between(sent[0].position, sent[-1].position)}
+    oldest = stream.first_position()
+    ours = {record.position: record.line for record in sent if record.position >= oldest}
+    for position in sorted(set(there) | set(ours)):
+        if there.get(position) != ours.get(position):
+            raise Failure(f"{stream.name} has other contents at position {position}: this is the tape of another run, and needs another RUN")
 
 
-def main():
-    """Sends standard input; where the server goes away, what it did not take is sent again once it is back."""
-    if len(sys.argv) != 3:
-        sys.exit(__doc__)
-    stream, port = f"tape:{sys.argv[1]}", int(sys.argv[2])
-    server = connect(port)
-    last = last_position(server, stream)
-    lines = (line.decode().rstrip("\n") for line in sys.stdin.buffer)
-    records = ((position_of(line), line) for line in lines)
+def append(stream: Stream, records: list[Record]) -> None:
+    """Appends all of these records or, if the server goes away, none. In one transaction, since a server that starts refuses commands until it is ready."""
+    pipeline = stream.server.pipeline(transaction=True)
+    for record in records:
+        pipeline.xadd(stream.name, {"record": record.line}, id=f"1-{record.position}")
+    pipeline.execute()
+
+
+def send(stream: Stream, records: Iterator[Record]) -> None:
+    """Sends records that the stream does not have, and compares the others. After a failure the stream is asked how far it came."""
+    last = stream.last_position()
     while batch := list(itertools.islice(records, AT_ONCE)):
-        while batch := [record for record in batch if record[0] > last]:
+        while batch:
+            old = [record for record in batch if record.position <= last]
+            if old:
+                compare(stream, old)
+            batch = batch[len(old):]
             try:
-                send_all(server, stream, batch)
-                last = batch[-1][0]
-            except (OSError, Refused):
-                server = connect(port)
-                last = last_position(server, stream)
+                if batch:
+                    append(stream, batch)
+                    last = batch[-1].position
+                    batch = []
+            except AWAY:
+                last = stream.last_position()
+
+
+def main() -> None:
+    """Sends standard input."""
+    words = argparse.ArgumentParser(description=__doc__, formatter_class=argparse.RawDescriptionHelpFormatter, usage="send.py HOST RUN PORT")
+    words.add_argument("host", metavar="HOST")
+    words.add_argument("run", metavar="RUN")
+    words.add_argument("port", type=int, metavar="PORT")
+    asked = words.parse_args()
+    try:
+        stream = Stream(asked.host, asked.run, asked.port)
+        send(stream, records_of(sys.stdin.buffer))
+    except Failure as failure:
+        sys.exit(f"send.py: {failure}")
+    except ServerError as error:
+        sys.exit(f"send.py: the server refuses records for tape:{asked.host}:{asked.run}: {error}")
 
 
 if __name__ == "__main__":
