@@ -78,3 +78,9 @@ static inline int next_record(const struct ring_map *ring, struct ring_record *r
 static inline void give_back(struct ring_map *ring, const struct ring_record *record) {
     __atomic_store_n(ring->consumer, record->position + span(record->length), __ATOMIC_RELEASE);
 }
+
+// Lets the producers have all bytes below a position again. The store is seen before any later load of this thread: so either the thread finds that the record
+// at this position is committed, or the kernel finds, when it commits it, that the consumer is there, and wakes it.
+static inline void give_back_to(struct ring_map *ring, uint64_t position) {
+    __atomic_store_n(ring->consumer, position, __ATOMIC_SEQ_CST);
+}
