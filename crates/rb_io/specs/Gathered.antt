@@ -1,4 +1,4 @@
--- A writer behind a buffer (own).
+-- A writer and a reader behind buffers (own).
 use Rattle.std.specs.Prelude.{ℕ, ◌≡◌, Bool, true, List, [], ◌++◌, Option}
 use Rattle.std.specs.Io.KnownBytes.{Appends}
 
@@ -14,3 +14,8 @@ pub record HandsOn {W : Type 0} (contents : W → Option (List ℕ)) (old : Gath
   pub went : Appends (contents old.writer) (contents new.writer) part
   pub beginning : part ++ new.waiting ≡ old.waiting
   pub all_went : ok ≡ true → new.waiting ≡ []
+
+-- the reader below, and the bytes that were read from it and not consumed, the oldest first
+pub record ReadOn (R : Type 0) : Type 0 where
+  pub reader : R
+  pub at_hand : List ℕ

@@ -1,9 +1,13 @@
 //! Reading and writing whole pieces, over any reader and any writer.
 
-ghost use Rattle.std.specs.Prelude.{◌≡◌, ◌<◌, ◌≤◌, ℕ, List, length, take, IfOk, OnErr, OnOk};
-ghost use Rattle.std.specs.Io.KnownBytes.{Appends, Consumes, IsAtEnd};
+ghost use Rattle.std.specs.Prelude.{◌≡◌, ◌<◌, ◌≤◌, ℕ, [], List, length, take, IfOk, OnErr, OnOk};
+ghost use Rattle.std.specs.Io.{ReadsAtMost};
+ghost use Rattle.std.specs.Io.KnownBytes.{Appends, Consumes, IsAtEnd, Keeps, ReadConsumes};
 
-use std::io::{Read, Write};
+use crate::incoming::Incoming;
+use crate::outgoing::Outgoing;
+use std::io;
+use std::io::Write;
 use thiserror::Error;
 
 /// A read or a write failed, or a write took nothing. Interrupted calls count as failed.
@@ -11,8 +15,15 @@ use thiserror::Error;
 #[error("a read or a write failed, or a write took nothing")]
 pub struct DeviceFault;
 
-/// Reads until the buffer is full or the input ends, and answers how many bytes were read.
-pub fn read_full<R: Read>(reader: &mut R, buf: &mut [u8]) -> Result<usize, DeviceFault>
+/// Reads until the buffer is full or the input ends, and returns how many bytes were read.
+///
+/// At an error some bytes were read, and are lost.
+pub fn read_full<R: Incoming, W: Outgoing>(
+    reader: &mut R,
+    out: &W,
+    buf: &mut [u8],
+) -> Result<usize, DeviceFault>
+    requires nothing_waits { W.waiting out.now ≡ [] }
     ensures bound { IfOk result (λ n. n ≤ length buf.new) }
     ensures bytes { IfOk result (λ n. Consumes (R.remaining reader.old) (R.remaining reader.new) (take n buf.new)) }
     ensures end { IfOk result (λ n. n < length buf.new → IsAtEnd (R.remaining reader.new)) }
@@ -20,13 +31,42 @@ pub fn read_full<R: Read>(reader: &mut R, buf: &mut [u8]) -> Result<usize, Devic
 {
     let mut at = 0;
     while at < buf.len() {
-        match reader.read(&mut buf[at..]) {
+        match read_some(reader, out, &mut buf[at..]) {
             Ok(0) => return Ok(at),
             Ok(n) => at += n,
             Err(_) => return Err(DeviceFault),
         }
     }
     Ok(at)
+}
+
+// Reads once where nothing is at hand.
+fn fill_if_empty<R: Incoming, W: Outgoing>(reader: &mut R, out: &W) -> io::Result<()>
+    requires nothing_waits { W.waiting out.now ≡ [] }
+    ensures bytes { Keeps (R.remaining reader.old) (R.remaining reader.new) }
+    ensures end { OnOk result (R.held reader.new ≡ [] → IsAtEnd (R.remaining reader.new)) }
+{
+    if reader.at_hand().is_empty() {
+        return reader.fill(out);
+    }
+    Ok(())
+}
+
+// Moves bytes at hand into the buffer, as many as both have, after a read where nothing is at hand.
+fn read_some<R: Incoming, W: Outgoing>(reader: &mut R, out: &W, buf: &mut [u8]) -> io::Result<usize>
+    requires nothing_waits { W.waiting out.now ≡ [] }
+    ensures bound { ReadsAtMost result buf.new }
+    ensures bytes { ReadConsumes (R.remaining reader.old) (R.remaining reader.new) result buf.new }
+{
+    fill_if_empty(reader, out)?;
+    let seen = reader.at_hand();
+    if seen.is_empty() {
+        return Ok(0);
+    }
+    let count = seen.len().min(buf.len());
+    buf[..count].copy_from_slice(&seen[..count]);
+    reader.consume(count);
+    Ok(count)
 }
 
 #[inline(always)]

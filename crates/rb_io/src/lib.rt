@@ -6,12 +6,16 @@
 //! or `flush` answers Ok.
 #![tactic(auto)]
 
+mod ahead;
 mod buffered;
 mod device;
+mod incoming;
 mod noted;
 mod outgoing;
 
+pub use ahead::ReadAhead;
 pub use buffered::Buffered;
 pub use device::{DeviceFault, read_full, write_out, write_whole};
+pub use incoming::Incoming;
 pub use noted::{Front, NotedReader, NotedWriter};
 pub use outgoing::Outgoing;

@@ -36,22 +36,25 @@ pub record BeginsItems {W : Type 0} (contents : W → Option (List ℕ)) (old : 
   pub end_is : end_of_begun new ≡ end_of (end_of_begun old) items
   pub size_same : new.size ≡ old.size
 
--- one call: `put` of a record, `resume` of the unfinished one, and `put_all`, with the records that it began
+-- one call: `put` of a record, `resume` of the unfinished one, `put_all`, with the records that it began, and `write_out`
 pub data TapeCall : Type 0 where
   Put : Item → TapeCall
   Resume : Item → TapeCall
   PutAll : List Item → TapeCall
+  WriteOut : TapeCall
 
 abbrev pub records_begun : TapeCall → List Item
 records_begun (Put item) = item ∷ []
 records_begun (Resume item) = []
 records_begun (PutAll items) = items
+records_begun WriteOut = []
 
 -- the record that has to be unfinished before it
 abbrev pub unfinished_before : TapeCall → Option Item
 unfinished_before (Put item) = None
 unfinished_before (Resume item) = Some item
 unfinished_before (PutAll items) = None
+unfinished_before WriteOut = None
 
 -- how many calls failed behind one more, which answered Ok or not
 abbrev pub failures_after : ℕ → Bool → ℕ
@@ -93,7 +96,7 @@ pub record LeavesTape {W : Type 0} (contents : W → Option (List ℕ)) (writer 
   pub beginning : out ++ missing ≡ tape size items
   pub whole : now.unfinished ≡ None → (missing ≡ []) × (now.position ≡ end_of start items)
 
--- From nothing, `put`, `resume` and `put_all` in any lawful order leave a beginning of the tape of the records that they began, and the whole tape
+-- From nothing, `put`, `resume`, `put_all` and `write_out` in any lawful order leave a beginning of the tape of the records that they began, and the whole tape
 -- where all of them were Ok.
 abbrev pub CallsLeaveTape : {W : Type 0} → (W → Option (List ℕ)) → Type 0
 CallsLeaveTape {W} contents = (writer : W) (size start : ℕ) (calls : List (TapeCall × Bool)) (now : TapeOutput W) → MakesCalls contents (fresh_tape writer size start) calls now →

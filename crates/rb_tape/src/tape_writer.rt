@@ -6,7 +6,7 @@ use crate::item::Item;
 use crate::items::Items;
 use crate::piece::write_from;
 use rb_history::span;
-use rb_io::DeviceFault;
+use rb_io::{DeviceFault, Outgoing};
 use std::io::Write;
 use std::marker::Model;
 
@@ -174,10 +174,44 @@ impl<W: Write> TapeWriter<W> {
         self.unfinished.is_some()
     }
 
+    /// Returns the writer, to be looked at.
+    pub fn writer(&self) -> &W
+        ensures value { result.now ≡ self.now.writer }
+    {
+        &self.writer
+    }
+
     /// The writer, with what was written to it.
     pub fn into_writer(self) -> W
         ensures value { result ≡ self.writer }
     {
         self.writer
+    }
+}
+
+impl<W: Outgoing> TapeWriter<W> {
+    ghost use Rattle.std.specs.Prelude.{◌≡◌, [], None, is_ok, OnOk};
+    ghost use Rattle.std.specs.Io.KnownBytes.{Keeps};
+    ghost use Rattle.rb_tape.specs.TapeCalls.{failures_after, MakesTapeCall};
+    ghost use Rattle.rb_tape.specs.TapeCalls.TapeCall.{WriteOut};
+
+    /// Has the writer hand on what waits in it, as `Outgoing::write_out` does. It may be called again after an error.
+    pub fn write_out(&mut self) -> Result<(), DeviceFault>
+        requires finished { self.old.unfinished ≡ None }
+        ensures bytes { Keeps (W.contents self.old.writer) (W.contents self.new.writer) }
+        ensures nothing_waits { OnOk result (W.waiting self.new.writer ≡ []) }
+        ensures called { W.writes_out self.old.writer (is_ok result) self.new.writer }
+        ensures unfinished { self.new.unfinished ≡ None }
+        ensures failures { self.new.failures ≡ failures_after self.old.failures (is_ok result) }
+        ensures size { self.new.size ≡ self.old.size }
+        ensures position { self.new.position ≡ self.old.position }
+        ensures sent { self.new.sent ≡ self.old.sent }
+        ensures call { MakesTapeCall W.contents self.old WriteOut (is_ok result) self.new }
+    {
+        if self.writer.write_out().is_ok() {
+            return Ok(());
+        }
+        self.failures = Failures::and_one(&self.failures);
+        Err(DeviceFault)
     }
 }

@@ -2,7 +2,7 @@
 use Rattle.std.proofs.Common.{◌≡◌, ℕ, ◌+◌, ◌<◌, ◌^◌, ◌++◌, List, [], ◌∷◌, length, take, drop, Option, Ok, Err, refl, sym, ap, ◌∙◌, subst, arith, append_assoc, append-nil, take-append-drop, inl, inr}
 use Rattle.std.proofs.lemmas.Grind.{flat_map-append}
 use Rattle.std.specs.Int.{w32, to_le_bytes}
-use Rattle.std.specs.Io.KnownBytes.{Appends, Consumes}
+use Rattle.std.specs.Io.KnownBytes.{Appends, Consumes, Keeps}
 use Rattle.std.proofs.KnownBytes.{Appends-nil, Appends-trans, Appends-kept, Consumes-nil, Consumes-trans}
 use Rattle.rb_history.specs.Span.{span}
 use Rattle.rb_history.specs.TapeBytes.{Item, IsItemAt, item_bytes, tape, end_of}
@@ -43,6 +43,10 @@ module _ (size start : ℕ) (u v h g : Option (List ℕ)) (ps : List (List ℕ))
   -- then some bytes were read
   pub passes_and : (w : Option (List ℕ)) (more : List ℕ) → Consumes v w more → FeedsAll (feed_run size start u w h g) ps more
   passes_and w more read = record { stand = so_far.stand; read = Consumes-trans u v w (framed_all ps) more whole_read read; wrote = so_far.wrote }
+
+  -- then what waited was handed on
+  pub passes_kept : (f : Option (List ℕ)) → Keeps g f → FeedsAll (feed_run size start u v h f) ps []
+  passes_kept f kept = record { stand = so_far.stand; read = so_far.read; wrote = Appends-kept h g f _ so_far.wrote kept }
 
   -- then a payload was read, and its record was written
   pub passes_more : (w f : Option (List ℕ)) (p : List ℕ) → Consumes v w (framed p) → IsItemAt size (end_of start (payload_events start ps)) (Event (end_of start (payload_events start ps)) p) → Appends g f (item_bytes size (Event (end_of start (payload_events start ps)) p)) → FeedsAll (feed_run size start u w h f) (ps ++ p ∷ []) []

@@ -9,3 +9,4 @@ mod RingPass
 mod Sending
 pub mod TapeReads
 mod TapeCallRuns
+mod Unread

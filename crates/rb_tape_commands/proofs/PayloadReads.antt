@@ -3,13 +3,8 @@ use Rattle.std.proofs.Common.{◌≡◌, ℕ, ◌+◌, ◌<◌, ◌≤◌, ◌^�
 use Rattle.std.proofs.Math.Seq.{take-append_seam}
 use Rattle.std.proofs.lemmas.List.{take_all, length-take-le}
 use Rattle.std.specs.Int.{w32, to_le_bytes}
-use Rattle.std.specs.Prelude.{[], IfSome, Result, Ok}
-use Rattle.std.specs.Io.{StartsWith}
-use Rattle.std.specs.Io.BufRead.{FillKeeps, DropsConsumable}
 use Rattle.std.specs.Io.KnownBytes.{Consumes, IsAtEnd}
-use Rattle.std.proofs.BufReadLemmas.{Consumes_shown}
 use Rattle.std.proofs.KnownBytes.{Consumes-trans}
-use denote.Ref.{Bor}
 use Rattle.rb_history.specs.Span.{span}
 use Rattle.rb_tape_commands.specs.PayloadReads.{FindsPayload, FindsSome, FindsCut}
 use Rattle.rb_tape_commands.specs.inner.SeenPayloads.{IsSeenWhole}
@@ -37,14 +32,9 @@ cut_read size a b c len n sheet first more field room within short end =
 pub seen_read : (size : ℕ) (a b : Option (List ℕ)) (seen payload : List ℕ) → IsSeenWhole size seen payload → Consumes a b (take (4 + length payload) seen) → FindsPayload size a b payload
 seen_read size a b seen payload whole read = record { read = subst (Consumes a b) whole.front read; room = whole.room }
 
--- what a reader's buffer showed whole was copied, and consumed
-pub copied_read : {E : Type 0} (size : ℕ) (a b c : Option (List ℕ)) (buffered : Option ℕ) (r : Result (Bor (List ℕ)) E) (seen : Bor (List ℕ)) (payload sheet : List ℕ) → IsSeenWhole size seen.now payload → sheet ≡ payload
-    → IfSome a (λ xs. StartsWith xs seen.now) → IfSome a (λ xs. length seen.now ≡ 0 → xs ≡ []) → r ≡ Ok seen → FillKeeps a b buffered r → DropsConsumable b c buffered (4 + length payload)
-    → FindsPayload size a c sheet
-copied_read size a b c buffered r seen payload sheet whole same front end is kept drops =
-    let filled = subst (FillKeeps a b buffered) is kept in
-    let read = Consumes_shown a b c buffered seen.now (4 + length payload) whole.within front end filled.0 filled.1 drops in
-    subst (FindsPayload size a c) (sym same) (seen_read size a c seen.now payload whole read.0)
+-- a payload that was whole at hand was copied, and consumed
+pub copied_read : (size : ℕ) (a b : Option (List ℕ)) (seen payload sheet : List ℕ) → IsSeenWhole size seen payload → sheet ≡ payload → Consumes a b (take (4 + length payload) seen) → FindsPayload size a b sheet
+copied_read size a b seen payload sheet whole same read = subst (FindsPayload size a b) (sym same) (seen_read size a b seen payload whole read)
 
 -- a sheet whose bytes were all written over has the new ones
 pub written_over : (sheet put payload : List ℕ) → put ≡ payload → length sheet ≡ length payload → take (length sheet) (put ++ drop (length put) sheet) ≡ payload

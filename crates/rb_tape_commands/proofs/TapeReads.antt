@@ -4,7 +4,7 @@ use Rattle.std.proofs.lemmas.List.{take-append-le, drop-append-le, length-append
 use Rattle.std.proofs.lemmas.Grind.{flat_map-append}
 use Rattle.std.specs.Prelude.{Option, Bool, false, is_err, OnOk}
 use Rattle.std.specs.Io.KnownBytes.{Appends, Consumes, Keeps, IsAtEnd, append_known}
-use Rattle.std.proofs.KnownBytes.{Appends-nil, Appends-trans, Appends-kept, Consumes-nil, Consumes-trans, Keeps-refl, Keeps-trans}
+use Rattle.std.proofs.KnownBytes.{Appends-nil, Appends-trans, Appends-kept, Consumes-kept, Consumes-nil, Consumes-trans, Keeps-refl, Keeps-trans}
 use Rattle.rb_history.specs.declared.headers.Header.{Header}
 use Rattle.rb_history.specs.Header.{header_bytes}
 use Rattle.rb_history.specs.TapeBytes.{Item, item_bytes, end_of, padding}
@@ -94,6 +94,19 @@ module _ (form : LineForm) where
       items_read = fed size start so_far.bytes so_far.items r.position r.rest piece so_far.items_read;
       printed = so_far.printed;
     })
+
+    -- what was printed went out, and more of the input came to hand
+    pub more_at_hand : (w f : Option (List ℕ)) → Keeps v w → Keeps g f → PrintsSoFar form size start u w h f r
+    more_at_hand w f left out = record {
+      bytes = so_far.bytes;
+      items = so_far.items;
+      read = Consumes-kept u v w so_far.bytes so_far.read left;
+      size_is = so_far.size_is;
+      start_is = so_far.start_is;
+      no_fault = so_far.no_fault;
+      items_read = so_far.items_read;
+      printed = Appends-kept h g f _ so_far.printed out;
+    }
 
     -- records more were read, and their lines were printed
     pub items_more : (f : Option (List ℕ)) (items : List Item) (new : Reading) → PassesItems r items new → Appends g f (tape_lines form items) → PrintsSoFar form size start u v h f new

@@ -1,5 +1,5 @@
 -- What is written again after each write or handing on that failed, and how often (own).
-use Rattle.std.specs.Prelude.{ℕ, zero, suc, ◌≡◌, ◌+◌, ◌≤◌, Bool, true, false, List, Option, IfNone, IfSome, Result, Err}
+use Rattle.std.specs.Prelude.{ℕ, zero, suc, ◌≡◌, ◌+◌, ◌≤◌, Bool, true, false, ◌⊎◌, List, Option, IfSome, Result, Err}
 use Rattle.rb_tape.specs.TapeCalls.{TapeCall, MakesCalls, fresh_tape}
 use Rattle.rb_tape.specs.TapeOutput.{TapeOutput}
 use Rattle.rb_tape_commands.specs.declared.feed_fault.FeedFault.{FeedFault}
@@ -19,19 +19,20 @@ TriesToWriteOut writes_out retries old false new = FailsTimes writes_out (suc re
 abbrev pub LeadsByCalls : {W : Type 0} → (W → Option (List ℕ)) → TapeOutput W → TapeOutput W → Type 0
 LeadsByCalls contents old new = (calls : List (TapeCall × Bool)) × MakesCalls contents old calls new
 
--- each call that failed took one retry away; and where a record is unfinished none is left, and one call more failed than there were retries
+-- either each call that failed took one retry away, or none is left and one call more failed than there were retries
 abbrev pub CountsRetries : {W : Type 0} → (retries left : ℕ) → TapeOutput W → Type 0
-CountsRetries retries left tape =
-    IfNone tape.unfinished (tape.failures + left ≡ retries) × IfSome tape.unfinished (λ item. (tape.failures ≡ retries + 1) × (left ≡ zero))
+CountsRetries retries left tape = (tape.failures + left ≡ retries) ⊎ ((tape.failures ≡ retries + 1) × (left ≡ zero))
 
--- `feed` wrote its tape by calls of the tape's writer, and had that writer hand on what waits, each again after it failed: so many retries are there for all
--- of it. The last handing on has those that the writing left; where it failed, and where a record is unfinished, the answer is Device
+-- `feed` wrote its tape by calls of the tape's writer, among them those that hand on what waits, and at last had the writer below hand on what waits,
+-- each again after it failed: so many retries are there for all of it. The last handing on has those that the writing left. Where one call more failed than
+-- there were retries, as where a record is unfinished, and where the last handing on failed, the answer is Device.
 pub record WritesOutAtEnd {W : Type 0} (contents : W → Option (List ℕ)) (writes_out : W → Bool → W → Type 0) (writer : W) (size start retries : ℕ) (answer : Result (ℕ × ℕ) FeedFault) (new : W) : Type 0 where
   pub tape : TapeOutput W
   pub written : LeadsByCalls contents (fresh_tape writer size start) tape
   pub left : ℕ
   pub counted : CountsRetries retries left tape
-  pub unfinished : IfSome tape.unfinished (λ item. answer ≡ Err Device)
+  pub unfinished : IfSome tape.unfinished (λ item. tape.failures ≡ retries + 1)
+  pub gave_up : tape.failures ≡ retries + 1 → answer ≡ Err Device
   pub ok : Bool
   pub tried : TriesToWriteOut writes_out left tape.writer ok new
   pub failed : ok ≡ false → answer ≡ Err Device

@@ -7,3 +7,4 @@ pub mod PayloadSteps
 pub mod RoomForText
 pub mod SeenPayloads
 pub mod TapePrinting
+pub mod WaitingTape

@@ -18,11 +18,11 @@ use crate::payloads::next_payload;
 use crate::retries::{put_with_retries, write_out_with_retries};
 use crate::transfer::transfer_payload;
 use rb_chapter_ring::{Chapter, OpenFault, RingState};
-use rb_io::Outgoing;
+use rb_io::{Incoming, Outgoing};
 use rb_lend::{Lent, Sheet};
 use rb_tape::{Event, Item, TapeWriter};
 use std::alloc::Global;
-use std::io::{BufRead, Write};
+use std::io::Write;
 
 // How many entries a chapter of the ring has room for. A payload logs three, so that the ring goes on in another one before each 86th
 // payload; the two chapters' entries take 16 KiB, and stay in a processor's nearest cache.
@@ -69,7 +69,7 @@ fn feed_one<W: Write>(
 
 // Payload after payload, until the input ends or one is refused: where the producer and the consumer stand then. Before each the ring goes
 // on in the spare chapter, where its own has no room for it.
-fn feed_all<R: BufRead, W: Write>(
+fn feed_all<R: Incoming, W: Outgoing>(
     ring: &mut RingState,
     spare_chapter: &mut Option<Chapter>,
     reader: &mut R,
@@ -87,10 +87,11 @@ fn feed_all<R: BufRead, W: Write>(
     ensures no_bounds { (result ≢ Err FeedFault.Size) × (result ≢ Err FeedFault.Start) }
     ensures calls { LeadsByCalls W.contents tape.old tape.new }
     ensures counted { CountsRetries (tape.old.failures + retries.old) retries.new tape.new }
-    ensures unfinished { IfSome tape.new.unfinished (λ item. result ≡ Err FeedFault.Device) }
+    ensures unfinished { IfSome tape.new.unfinished (λ item. tape.new.failures ≡ tape.old.failures + retries.old + 1) }
+    ensures gave_up { tape.new.failures ≡ tape.old.failures + retries.old + 1 → result ≡ Err FeedFault.Device }
 {
     let mut number = 0;
-    while let Some(payload) = next_payload(reader, spare, size, number)? {
+    while let Some(payload) = next_payload(reader, tape, retries, spare, size, number)? {
         make_chapter_room(ring, spare_chapter);
         spare = feed_one(ring, tape, payload, number, retries)?;
         number += 1;
@@ -102,12 +103,14 @@ fn feed_all<R: BufRead, W: Write>(
 /// bytes that begins at `start`, and writes the tape of their records, from the start on. Returns the producer and the consumer
 /// position at the end, and the writer.
 ///
+/// Nothing waits in the writer whenever the input is read: the whole tape of all payloads that have come was handed on by then. `Incoming` demands it.
+///
 /// `Size` and `Start` come before anything is read. A payload whose record is too long for the ring is refused from its length
 /// alone. After a write or a handing on that failed, the writing goes on where it stopped, `retries` times in the whole run, and then it is
 /// `Device`. Whatever is returned, the whole tape of the payloads before was written and handed on, unless the writer itself
 /// failed. The writer is called a few times for each payload: buffer it. No memory is taken once the ring is opened, but for a payload
 /// that is longer than all before it.
-pub fn feed<R: BufRead, W: Outgoing>(
+pub fn feed<R: Incoming, W: Outgoing>(
     alloc: Global,
     reader: &mut R,
     writer: W,
@@ -166,7 +169,7 @@ fn open(
 }
 
 // The payloads through the ring and onto the writer, which hands all of them on.
-fn feed_ring<R: BufRead, W: Outgoing>(
+fn feed_ring<R: Incoming, W: Outgoing>(
     opened: (RingState, Option<Chapter>, Sheet),
     reader: &mut R,
     writer: W,

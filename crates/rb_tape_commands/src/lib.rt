@@ -5,6 +5,7 @@
 //! them.
 #![tactic(auto)]
 
+mod buffers;
 mod chapter_turns;
 mod feed_command;
 mod feed_fault;
@@ -17,6 +18,7 @@ mod tape_lines;
 mod tape_refusal;
 mod transfer;
 
+pub use buffers::{feed_buffered, tape_buffered};
 pub use feed_command::feed;
 pub use feed_fault::FeedFault;
 pub use tape_command::tape;

@@ -1,17 +1,20 @@
 //! Reading payloads.
 
-ghost use Rattle.std.specs.Prelude.{◌≡◌, IfOk, IfSome, length};
+ghost use Rattle.std.specs.Prelude.{◌≡◌, ◌+◌, [], Err, None, IfOk, IfSome, length};
 ghost use Rattle.std.specs.Int.{w32, to_le_bytes};
 ghost use Rattle.rb_tape_commands.specs.PayloadReads.{FindsNext};
 ghost use Rattle.rb_tape_commands.specs.inner.LengthReads.{FindsLength};
+ghost use Rattle.rb_tape_commands.specs.Retries.{CountsRetries};
 ghost use Rattle.rb_tape_commands.specs.inner.SeenPayloads.{IsSeenWhole};
+ghost use Rattle.rb_tape_commands.specs.inner.WaitingTape.{IsSameTape};
 
 use crate::feed_fault::FeedFault;
+use crate::retries::write_tape_out;
 use rb_history::span;
-use rb_io::read_full;
+use rb_io::{Incoming, Outgoing, read_full};
 use rb_lend::{Lent, Sheet};
+use rb_tape::TapeWriter;
 use std::alloc::AllocError;
-use std::io::{BufRead, Read};
 
 // The number whose bytes these are, the lowest first.
 fn number_of(field: &[u8; 4]) -> u32
@@ -21,11 +24,16 @@ fn number_of(field: &[u8; 4]) -> u32
 }
 
 // Reads the length of the payload of this number, or finds that the input ends before it.
-fn read_length<R: Read>(reader: &mut R, number: u64) -> Result<Option<u32>, FeedFault>
+fn read_length<R: Incoming, W: Outgoing>(
+    reader: &mut R,
+    out: &W,
+    number: u64,
+) -> Result<Option<u32>, FeedFault>
+    requires nothing_waits { W.waiting out.now ≡ [] }
     ensures { FindsLength number (R.remaining reader.old) (R.remaining reader.new) result }
 {
     let mut field = [0; 4];
-    let Ok(count) = read_full(reader, &mut field) else {
+    let Ok(count) = read_full(reader, out, &mut field) else {
         return Err(FeedFault::Device);
     };
     match count {
@@ -48,18 +56,18 @@ fn sheet_of(spare: Sheet, len: u32) -> Result<Sheet, AllocError>
     }
 }
 
-#[cold]
-#[inline(never)]
 // Reads the payload of this number, its length and then its bytes, each until it is whole or the input ends.
-fn read_payload<R: Read>(
+fn read_payload<R: Incoming, W: Outgoing>(
     reader: &mut R,
+    out: &W,
     spare: Sheet,
     size: u64,
     number: u64,
 ) -> Result<Option<Sheet>, FeedFault>
+    requires nothing_waits { W.waiting out.now ≡ [] }
     ensures { FindsNext size number (R.remaining reader.old) (R.remaining reader.new) result }
 {
-    let Some(len) = read_length(reader, number)? else {
+    let Some(len) = read_length(reader, out, number)? else {
         return Ok(None);
     };
     if span(len) >= size {
@@ -68,7 +76,7 @@ fn read_payload<R: Read>(
     let Ok(mut sheet) = sheet_of(spare, len) else {
         return Err(FeedFault::Memory);
     };
-    let Ok(count) = read_full(reader, sheet.bytes_mut()) else {
+    let Ok(count) = read_full(reader, out, sheet.bytes_mut()) else {
         return Err(FeedFault::Device);
     };
     if count < len as usize {
@@ -101,21 +109,47 @@ fn filled(sheet: Sheet, bytes: &[u8]) -> Sheet
     sheet
 }
 
+#[cold]
 #[inline(never)]
-// The same as `next_payload`, where the sheet has another length than the payload.
-fn next_of_other_length<R: BufRead>(
+// Has everything that was written go out, and then reads the payload of this number.
+fn awaited_payload<R: Incoming, W: Outgoing>(
     reader: &mut R,
+    tape: &mut TapeWriter<W>,
+    retries: &mut u32,
     spare: Sheet,
     size: u64,
     number: u64,
 ) -> Result<Option<Sheet>, FeedFault>
-    ensures { FindsNext size number (R.remaining reader.old) (R.remaining reader.new) result }
+    requires finished { tape.old.unfinished ≡ None }
+    ensures found { FindsNext size number (R.remaining reader.old) (R.remaining reader.new) result }
+    ensures same { IsSameTape W.contents tape.old tape.new }
+    ensures counted { CountsRetries (tape.old.failures + retries.old) retries.new tape.new }
+    ensures gave_up { tape.new.failures ≡ tape.old.failures + retries.old + 1 → result ≡ Err FeedFault.Device }
 {
-    let Ok(seen) = reader.fill_buf() else {
+    let Ok(()) = write_tape_out(tape, retries) else {
         return Err(FeedFault::Device);
     };
-    let Some(payload) = whole_payload(seen, size) else {
-        return read_payload(reader, spare, size, number);
+    read_payload(reader, tape.writer(), spare, size, number)
+}
+
+#[inline(never)]
+// The same as `next_payload`, where the sheet has another length than the payload.
+fn next_of_other_length<R: Incoming, W: Outgoing>(
+    reader: &mut R,
+    tape: &mut TapeWriter<W>,
+    retries: &mut u32,
+    spare: Sheet,
+    size: u64,
+    number: u64,
+) -> Result<Option<Sheet>, FeedFault>
+    requires finished { tape.old.unfinished ≡ None }
+    ensures found { FindsNext size number (R.remaining reader.old) (R.remaining reader.new) result }
+    ensures same { IsSameTape W.contents tape.old tape.new }
+    ensures counted { CountsRetries (tape.old.failures + retries.old) retries.new tape.new }
+    ensures gave_up { tape.new.failures ≡ tape.old.failures + retries.old + 1 → result ≡ Err FeedFault.Device }
+{
+    let Some(payload) = whole_payload(reader.at_hand(), size) else {
+        return awaited_payload(reader, tape, retries, spare, size, number);
     };
     let len = payload.len();
     let Ok(sheet) = sheet_of(spare, len as u32) else {
@@ -127,26 +161,31 @@ fn next_of_other_length<R: BufRead>(
 }
 
 #[inline]
-/// Reads the payload of this number into the sheet, or finds that the input ends before it. A payload whose record is too
-/// long for a ring of `size` bytes is refused from its length alone. One that the reader's buffer has whole is copied from there; any
-/// other is read as it comes.
-pub(crate) fn next_payload<R: BufRead>(
+/// Reads the payload of this number into the sheet, or finds that the input ends before it. A payload whose record is too long for a ring of
+/// `size` bytes is refused from its length alone.
+///
+/// A payload that is whole at hand is copied from there. Before it reads for any other, the tape's writer hands on all that waits in it; that fails
+/// only once no retries are left, with `Device`.
+pub(crate) fn next_payload<R: Incoming, W: Outgoing>(
     reader: &mut R,
+    tape: &mut TapeWriter<W>,
+    retries: &mut u32,
     spare: Sheet,
     size: u64,
     number: u64,
 ) -> Result<Option<Sheet>, FeedFault>
-    ensures { FindsNext size number (R.remaining reader.old) (R.remaining reader.new) result }
+    requires finished { tape.old.unfinished ≡ None }
+    ensures found { FindsNext size number (R.remaining reader.old) (R.remaining reader.new) result }
+    ensures same { IsSameTape W.contents tape.old tape.new }
+    ensures counted { CountsRetries (tape.old.failures + retries.old) retries.new tape.new }
+    ensures gave_up { tape.new.failures ≡ tape.old.failures + retries.old + 1 → result ≡ Err FeedFault.Device }
 {
-    let Ok(seen) = reader.fill_buf() else {
-        return Err(FeedFault::Device);
-    };
-    let Some(payload) = whole_payload(seen, size) else {
-        return read_payload(reader, spare, size, number);
+    let Some(payload) = whole_payload(reader.at_hand(), size) else {
+        return awaited_payload(reader, tape, retries, spare, size, number);
     };
     let len = payload.len();
     if spare.len() as usize != len {
-        return next_of_other_length(reader, spare, size, number);
+        return next_of_other_length(reader, tape, retries, spare, size, number);
     }
     let sheet = filled(spare, payload);
     reader.consume(4 + len);

@@ -5,6 +5,7 @@ ghost use Rattle.std.specs.Io.KnownBytes.{Appends, Keeps};
 ghost use Rattle.rb_history.specs.TapeBytes.{item_bytes, item_span, IsItemAt};
 ghost use Rattle.rb_tape.specs.Items.{item_of};
 ghost use Rattle.rb_tape_commands.specs.Retries.{LeadsByCalls, TriesToWriteOut};
+ghost use Rattle.rb_tape_commands.specs.inner.WaitingTape.{IsSameTape};
 
 use rb_io::{DeviceFault, Outgoing};
 use rb_tape::{Item, TapeWriter};
@@ -41,6 +42,28 @@ pub(crate) fn put_with_retries<W: Write>(
         }
     }
     Err(DeviceFault)
+}
+
+/// Has the tape's writer hand on all that waits in it, again after each time that this failed, as long as there are `retries`; each failure takes one
+/// away. An error comes only once none is left.
+pub(crate) fn write_tape_out<W: Outgoing>(
+    tape: &mut TapeWriter<W>,
+    retries: &mut u32,
+) -> Result<(), DeviceFault>
+    requires finished { tape.old.unfinished ≡ None }
+    ensures same { IsSameTape W.contents tape.old tape.new }
+    ensures nothing_waits { OnOk result (W.waiting tape.new.writer ≡ []) }
+    ensures each_failure_takes_one { OnOk result (tape.new.failures + retries.new ≡ tape.old.failures + retries.old) }
+    ensures all_failed { OnErr result (tape.new.failures ≡ tape.old.failures + retries.old + 1) }
+    ensures none_left { OnErr result (retries.new ≡ 0) }
+{
+    while tape.write_out().is_err() {
+        if *retries == 0 {
+            return Err(DeviceFault);
+        }
+        *retries -= 1;
+    }
+    Ok(())
 }
 
 /// Has the writer hand on all that waits in it, again after each time that this failed, `retries` times and no more.

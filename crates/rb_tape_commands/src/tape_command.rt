@@ -1,6 +1,7 @@
 //! A tape in, a line for each of its records out.
 
 ghost use Rattle.std.specs.Prelude.{◌≡◌, ◌≢◌, ◌↔◌, [], None, Err, IfSome, IsErrOf, OnOk};
+ghost use Rattle.std.specs.Io.KnownBytes.{IsAtEnd, Keeps};
 ghost use Rattle.rb_history.specs.RingModel.{IsRingSize, IsStartPosition};
 ghost use Rattle.rb_tape.specs.TapeReading.{reading_from};
 ghost use Rattle.rb_tape_commands.specs.inner.TapePrinting.{EndsTape};
@@ -10,22 +11,23 @@ use crate::lines::Lines;
 use crate::tape_lines::gather_lines;
 use crate::tape_refusal::TapeRefusal;
 use rb_history::SetupFault;
-use rb_io::{Outgoing, write_out};
+use rb_io::{DeviceFault, Incoming, Outgoing, write_out};
 use rb_json::LineForm;
 use rb_tape::Feed;
 use std::alloc::Global;
-use std::io::{Read, Write};
 
-/// How many bytes are read at a time: a page.
+/// How many bytes at hand are read at a time: a page.
 const PIECE: usize = 4096;
 
 /// Reads a tape of a ring of `size` bytes whose first record stands at `start`, in pieces of at most 4,096 bytes, and prints a line for
 /// each record: `pos P len N HEX`, an empty payload as `-`, or `pos P len N discarded`, or the same as an object of JSON. The records are the longest list whose tape begins
 /// the input. `Record` where bytes are left behind them, with what is wrong there.
 ///
+/// Nothing waits in the output whenever the input is read: the lines of all records that have come were handed on by then. `Incoming` demands it.
+///
 /// `Size` and `Start` come before anything is read. Whatever is returned, the lines of the records before were printed and handed on, unless
 /// the output itself failed. The output is called once for each piece that was read.
-pub fn tape<R: Read, W: Outgoing>(
+pub fn tape<R: Incoming, W: Outgoing>(
     alloc: Global,
     input: &mut R,
     out: &mut W,
@@ -54,7 +56,7 @@ pub fn tape<R: Read, W: Outgoing>(
 }
 
 // Piece after piece, until the input ends or a record is refused.
-fn print_pieces<R: Read, W: Write>(
+fn print_pieces<R: Incoming, W: Outgoing>(
     alloc: Global,
     feed: &mut Feed,
     input: &mut R,
@@ -67,18 +69,18 @@ fn print_pieces<R: Read, W: Write>(
     ensures answer { IfSome (R.remaining input.old) (λ tape. TapeAnswer form feed.old.size feed.old.start tape (W.contents out.old) (W.contents out.new) result) }
     ensures no_bounds { (result ≢ Err TapeRefusal.Size) × (result ≢ Err TapeRefusal.Start) }
 {
-    let mut piece = [0; PIECE];
     'pieces: for _ in 0..u64::MAX {
-        let count = match input.read(&mut piece) {
-            Ok(count) => count,
-            Err(_) => return Err(TapeRefusal::Device),
+        let Ok(()) = await_more(input, out) else {
+            return Err(TapeRefusal::Device);
         };
+        let count = input.at_hand().len().min(PIECE);
         if count == 0 {
             return end_of_input(feed);
         }
-        if feed.feed(&piece[..count]).is_err() {
+        if feed.feed(&input.at_hand()[..count]).is_err() {
             return Err(TapeRefusal::Memory);
         }
+        input.consume(count);
         let gathered = gather_lines(alloc, feed, lines, form);
         if write_out(out, lines.text()) < lines.text().len() {
             return Err(TapeRefusal::Device);
@@ -87,6 +89,21 @@ fn print_pieces<R: Read, W: Write>(
     }
     // No input has so many pieces.
     Err(TapeRefusal::Device)
+}
+
+// Has everything that was printed go out and reads more of the input, where nothing is at hand. Nothing is at hand behind it if the input ended.
+fn await_more<R: Incoming, W: Outgoing>(input: &mut R, out: &mut W) -> Result<(), DeviceFault>
+    ensures read { Keeps (R.remaining input.old) (R.remaining input.new) }
+    ensures bytes { Keeps (W.contents out.old) (W.contents out.new) }
+    ensures end { OnOk result (R.held input.new ≡ [] → IsAtEnd (R.remaining input.new)) }
+{
+    if !input.at_hand().is_empty() {
+        return Ok(());
+    }
+    if out.write_out().is_err() || input.fill(out).is_err() {
+        return Err(DeviceFault);
+    }
+    Ok(())
 }
 
 // Whether the tape may end where the input does.

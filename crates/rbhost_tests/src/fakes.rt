@@ -2,7 +2,7 @@
 
 use rb_io::Outgoing;
 use std::alloc::Global;
-use std::io::{BufRead, Error, ErrorKind, Read, Result, Write};
+use std::io::{Error, ErrorKind, Read, Result, Write};
 
 /// Gives its bytes, at most `most` at a time, and then the end, or fails if it has a `fault`.
 #[derive(Drop)]
@@ -43,19 +43,6 @@ impl Read for FakeReader<'_> {
         buf[..n].copy_from_slice(front);
         self.rest = rest;
         Ok(n)
-    }
-}
-
-impl BufRead for FakeReader<'_> {
-    fn fill_buf(&mut self) -> Result<&[u8]> {
-        match self.fault {
-            Some(kind) if self.rest.is_empty() => Err(Error::from(kind)),
-            _ => Ok(&self.rest[..self.rest.len().min(self.most)]),
-        }
-    }
-
-    fn consume(&mut self, amount: usize) {
-        self.rest = &self.rest[amount.min(self.rest.len())..];
     }
 }
 
@@ -189,13 +176,14 @@ impl Outgoing for OneFailure {
     }
 }
 
-/// A writer over one that fails once, which fails once more: at the write of number `fails_at`, counted from 1. So do its first `closed` calls of
-/// `write_out`.
+/// A writer over one that fails once, which fails once more: at the write of number `fails_at`, counted from 1. Its first `opens` calls of
+/// `write_out` succeed, and the `closed` calls after them fail.
 #[derive(Drop)]
 pub struct MoreFailures {
     pub inner: OneFailure,
     pub writes: usize,
     pub fails_at: usize,
+    pub opens: u32,
     pub closed: u32,
 }
 
@@ -225,7 +213,9 @@ impl Outgoing for MoreFailures {
     ghost contents_are = { λ _. refl };
 
     fn write_out(&mut self) -> Result<()> {
-        if self.closed > 0 {
+        if self.opens > 0 {
+            self.opens -= 1;
+        } else if self.closed > 0 {
             self.closed -= 1;
             return Err(Error::from(ErrorKind::BrokenPipe));
         }

@@ -3,6 +3,7 @@
 use crate::endings::ended_over;
 use crate::expected::{same, same_of};
 use crate::fakes::{FakeReader, FakeWriter, Trouble};
+use rb_io::ReadAhead;
 use rb_json::LineForm;
 use rb_tape::TapeKind;
 use rb_tape_commands::{TapeRefusal, tape};
@@ -33,8 +34,10 @@ fn reads_that_fail(rt: HostRuntime) {
 
 // What `tape` answers over these bytes and a writer with so much room, and what was printed.
 fn printed(alloc: Global, bytes: &[u8], room: usize) -> (Result<(), TapeRefusal>, Vec<u8>) {
-    let mut reader = FakeReader::new(bytes, 5);
     let mut sink = FakeWriter::new(alloc, room, 3, Trouble::TakesNothing);
+    let Ok(mut reader) = ReadAhead::new(alloc, FakeReader::new(bytes, 5)) else {
+        return (Err(TapeRefusal::Memory), sink.taken);
+    };
     let answer = tape(alloc, &mut reader, &mut sink, 4096, 0, LineForm::Words);
     (answer, sink.taken)
 }

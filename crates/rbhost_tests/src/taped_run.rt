@@ -185,6 +185,7 @@ fn files_of_tapes(rt: HostRuntime) {
         ("/dev/null", "1", OUTPUT_CONTEXT, whole.as_str()),
         ("/dev/full", "1", OUTPUT_CONTEXT, not_whole.as_str()),
         ("", "1", OUTPUT_CONTEXT, "1 refused device\n"),
+        ("/dev/null/tape", "1", OUTPUT_CONTEXT, "1 refused device\n"),
         ("", "0", OUTPUT_CONTEXT, "1 refused workers\n"),
         ("", "0", "95", "1 refused decode Length unit 0\n"),
     ];

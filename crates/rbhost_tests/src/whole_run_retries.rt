@@ -1,7 +1,8 @@
-//! The retries of a whole run: those of all payloads, and of the last handing on.
+//! The retries of a whole run: those of all payloads, and of each handing on.
 
 use crate::expected::same_of;
 use crate::fakes::{FakeReader, MoreFailures, OneFailure, Trouble};
+use rb_io::ReadAhead;
 use rb_tape_commands::{FeedFault, feed};
 use std::alloc::Global;
 
@@ -15,20 +16,22 @@ const TWO_TAPES: [u8; 32] = [
     0, 0,
 ];
 
-// What `feed` answers of the two payloads over a writer that takes one byte a write, fails at these two writes, and so often where it is called to hand
-// on; how many bytes went out, and whether they are the first ones of the tape.
+// What `feed` answers of the two payloads, which come in one read, over a writer that takes one byte a write and fails at these two writes, and of whose
+// calls to hand on the first `opens` succeed and the next `closed` fail; how many bytes went out, and whether they are the first ones of the tape.
 fn fed_two(
     alloc: Global,
-    first: usize,
-    second: usize,
-    closed: u32,
+    (first, second): (usize, usize),
+    (opens, closed): (u32, u32),
     retries: u32,
 ) -> (Result<(u64, u64), FeedFault>, usize, bool) {
-    let mut reader = FakeReader::new(&TWO, 5);
+    let Ok(mut reader) = ReadAhead::new(alloc, FakeReader::new(&TWO, 100)) else {
+        return (Err(FeedFault::Memory), 0, false);
+    };
     let writer = MoreFailures {
         inner: OneFailure::new(alloc, first, Trouble::TakesNothing),
         writes: 0,
         fails_at: second,
+        opens,
         closed,
     };
     let (answer, writer) = feed(alloc, &mut reader, writer, 4096, 0, retries);
@@ -40,8 +43,8 @@ fn fed_two(
 // A failure in each of two payloads: one retry is for the whole run, so the tape ends in the second one; two are enough.
 fn retries_are_for_the_whole_run(rt: HostRuntime) {
     for (first, second, out) in [(1, 18, 16), (9, 25, 23), (16, 33, 31)] {
-        let cut = fed_two(rt.alloc(), first, second, 0, 1);
-        let whole = fed_two(rt.alloc(), first, second, 0, 2);
+        let cut = fed_two(rt.alloc(), (first, second), (0, 0), 1);
+        let whole = fed_two(rt.alloc(), (first, second), (0, 0), 2);
         same_of(
             &rt,
             &(cut, whole),
@@ -55,15 +58,24 @@ fn retries_are_for_the_whole_run(rt: HostRuntime) {
 }
 
 #[test]
-// The last handing on has the retries that the payloads left.
-fn the_last_handing_on_is_tried_again(rt: HostRuntime) {
-    for (closed, retries, is_out) in [(1, 1, false), (1, 2, true), (2, 2, false), (2, 3, true)] {
-        let (answer, out, are_first) = fed_two(rt.alloc(), 9, 0, closed, retries);
-        same_of(
-            &rt,
-            &(answer.is_ok(), out, are_first),
-            &(is_out, 32, true),
-            &(closed, retries),
-        );
+// Each handing on has the retries that the writes before it left: that before the first read, that before the second, and the last one. Without enough of
+// them the first one leaves none for the write that fails in the first payload.
+fn each_handing_on_is_tried_again(rt: HostRuntime) {
+    for (opens, out_then) in [(0, 8), (1, 32), (2, 32)] {
+        for (closed, retries, is_out) in [
+            (1, 1, false),
+            (1, 2, true),
+            (2, 2, false),
+            (2, 3, true),
+        ] {
+            let (answer, out, are_first) = fed_two(rt.alloc(), (9, 0), (opens, closed), retries);
+            let out_wanted = if is_out { 32 } else { out_then };
+            same_of(
+                &rt,
+                &(answer.is_ok(), out, are_first),
+                &(is_out, out_wanted, true),
+                &(opens, closed, retries),
+            );
+        }
     }
 }

@@ -6,7 +6,7 @@ use Rattle.rb_io.proofs.device.read_full.Given as goal
 abbrev pub invariant-loop-at : goal.invariant-loop-at
 invariant-loop-at g l = record {
   within : l.at ≤ length l.buf;
-  bytes : Consumes (g.R.Read.remaining l.initial.reader) (g.R.Read.remaining l.reader) (take l.at l.buf);
+  bytes : Consumes (g.R.Incoming.remaining l.initial.reader) (g.R.Incoming.remaining l.reader) (take l.at l.buf);
 }
 
 abbrev pub decreases-loop-at : goal.decreases-loop-at

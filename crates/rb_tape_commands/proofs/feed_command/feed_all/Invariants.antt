@@ -24,7 +24,7 @@ invariant-loop-payload g l = record {
   position : l.tape.position ≡ producer_by_chapter l.ring.state.ring;
   low : l.fn.tape.position + 8 * l.number ≤ l.tape.position;
   high : l.tape.position ≤ 2 ^ 62;
-  passed : (payloads : List (List ℕ)) × FeedsAll (feed_run l.size l.fn.tape.position (g.R.Read.remaining l.fn.reader) (g.R.Read.remaining l.reader) (g.W.Write.contents l.fn.tape.writer) (g.W.Write.contents l.tape.writer)) payloads [] × (l.number ≡ length payloads) × (l.tape.position ≡ end_of l.fn.tape.position (payload_events l.fn.tape.position payloads));
+  passed : (payloads : List (List ℕ)) × FeedsAll (feed_run l.size l.fn.tape.position (g.R.Incoming.remaining l.fn.reader) (g.R.Incoming.remaining l.reader) (g.W.Write.contents l.fn.tape.writer) (g.W.Write.contents l.tape.writer)) payloads [] × (l.number ≡ length payloads) × (l.tape.position ≡ end_of l.fn.tape.position (payload_events l.fn.tape.position payloads));
 }
 
 abbrev pub decreases-loop-payload : goal.decreases-loop-payload
