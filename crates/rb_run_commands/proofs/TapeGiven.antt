@@ -15,7 +15,7 @@ use Rattle.rb_tape.specs.Items.{item_of, item_taken}
 use Rattle.rb_tape.specs.declared.item.Item.{Item as Lent}
 use Rattle.rb_tape.specs.declared.item.Item.TheVariants as kinds
 use Rattle.rb_workers.specs.Sink.{SinkItem, TakesAll, positions_among, takes_in}
-use Rattle.rb_workers.specs.Sink.SinkItem.{Record, Chapter}
+use Rattle.rb_workers.specs.Sink.SinkItem.{Record, Chapter, CaughtUp}
 use Rattle.rb_workers.specs.declared.opened.Ended.{Ended}
 use Rattle.rb_workers.specs.declared.opened.Opened.{Opened}
 use Rattle.rb_workers.specs.declared.opened.JobsReport.{JobsReport}
@@ -47,6 +47,7 @@ first_of (Record (Skipped p n)) items = refl
 first_of (Record BusyFront) items = refl
 first_of (Record Empty) items = refl
 first_of (Chapter c) items = refl
+first_of CaughtUp items = refl
 
 -- a sink's tape, by its parts
 abbrev pub sink_tape : {W : Type 0} → W → ℕ → ℕ → Bool → SinkTape W

@@ -87,4 +87,6 @@ impl<W: Write> Sink for TapeSink<W> {
     }
 
     fn chapter(&mut self, _chapter: &Chapter) {}
+
+    fn caught_up(&mut self) {}
 }

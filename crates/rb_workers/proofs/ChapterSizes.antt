@@ -3,7 +3,7 @@ use Rattle.std.proofs.Common.{ℕ, ◌-◌, ◌*◌, ◌/◌, ◌≤◌, arith}
 use Rattle.std.proofs.Math.Nat.{div-le_of_le-mul, div-mul-le_self, le-div_iff_mul-le, mul-le-mul_left}
 use Rattle.rb_history.specs.Span.{span}
 use Rattle.rb_consumer.specs.BetweenLooks.{records_at_once}
-use Rattle.rb_workers.specs.ChapterSizes.{room_of, margin_of, IsEnoughFor, ChaptersFollowTheirRing}
+use Rattle.rb_workers.specs.ChapterSizes.{IsEnoughFor, ChaptersFollowTheirRing}
 
 -- so many records at once leave room for what is logged between two looks, both where the limit cuts the room and where it does not
 enough : (size least : ℕ) → records_at_once size least ≤ size / 8 → records_at_once size least ≤ 294912 → IsEnoughFor size least

@@ -1,12 +1,11 @@
 -- A ring that was just opened may be run.
-use Rattle.std.proofs.Common.{List, ◌≡◌, ℕ, zero, suc, ◌+◌, [], ◌∷◌, ◌++◌, false, map, refl, ap, sym, ◌∙◌, subst, ◌≤◌, ⊎_elim, arith}
+use Rattle.std.proofs.Common.{List, ◌≡◌, ℕ, zero, suc, ◌+◌, [], ◌∷◌, ◌++◌, false, map, refl, ap, sym, ◌∙◌, subst, arith}
 use Rattle.std.specs.Prelude.{All}
-use Rattle.std.proofs.lemmas.Bool.Decides.{leb_tells}
 use Rattle.std.proofs.lemmas.List.Elements.{All-cons}
 use Rattle.atomic_table.specs.Seated.{TableId}
 use Rattle.rb_ledger.specs.Roles.{Book}
 use Rattle.rb_history.specs.WorkerCounts.{numbers_below}
-use Rattle.rb_chapter_ring.specs.Chapters.{IsChapterRoom, empty_chapter}
+use Rattle.rb_chapter_ring.specs.Chapters.{empty_chapter}
 use Rattle.rb_ledger.specs.Seats.{Shared, HasSettledAll, WorkerSeat, fresh_book, fresh_seat, fresh_seats}
 use Rattle.rb_ledger.specs.ChapterSeats.{ChapterConsumerSeat, fresh_chapter_consumer}
 use Rattle.rb_consumer.specs.Keepers.{KeeperValue, handed_in}

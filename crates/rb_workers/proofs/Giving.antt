@@ -1,14 +1,12 @@
 -- A sink is given the records that a batch lends one by one.
-use Rattle.std.proofs.Common.{◌≡◌, ℕ, ◌+◌, List, [], ◌∷◌, refl, ap, sym, ◌∙◌, subst}
-use Rattle.rb_history.specs.TapeBytes.{AreItemsFrom, end_of, item_span}
-use Rattle.rb_history.proofs.HeaderLaws.{end_of-nil, end_of-cons}
+use Rattle.std.proofs.Common.{◌≡◌, ℕ, List, [], ◌∷◌, refl, ap, sym, ◌∙◌, subst}
+use Rattle.rb_history.specs.TapeBytes.{AreItemsFrom, end_of}
+use Rattle.rb_history.proofs.HeaderLaws.{end_of-nil}
 use Rattle.rb_history.specs.declared.answers.Taken.{Taken}
-use Rattle.rb_ledger.specs.LockedCalls.{span_in}
 use Rattle.rb_tape.specs.Items.{item_of, item_taken, tape_items}
 use Rattle.rb_tape.specs.declared.item.Item.{Item}
 use Rattle.rb_tape.specs.declared.item.Item.TheVariants as kinds
 use Rattle.rb_workers.specs.Sink.{SinkItem, TakesAll}
-use Rattle.rb_workers.specs.Sink.SinkItem.{Record}
 use Rattle.rb_workers.specs.inner.ConsumerTasks.{items_among}
 
 -- ---- an item that is lent, and the answer of `take` that it comes from

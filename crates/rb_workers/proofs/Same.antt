@@ -13,7 +13,7 @@ use Rattle.rb_jobs.proofs.Lists.{zip_self}
 use Rattle.rb_jobs.proofs.Beginnings.{begins_itself}
 use Rattle.rb_jobs.specs.declared.job.Job.{Job}
 use Rattle.rb_workers.specs.declared.opened.Opened.{Opened}
-use Rattle.rb_workers.specs.inner.ConsumerTasks.{IsConsumed}
+use Rattle.rb_workers.specs.inner.ConsumerTasks.{IsConsumed, TakesRest}
 use Rattle.rb_workers.specs.JobRuns.{own_jobs}
 use Rattle.rb_workers.specs.Opened.{IsOpened, AreOpened, SinkGetsTaken, workers_of}
 use Rattle.rb_workers.specs.Sink.{SinkItem}
@@ -23,6 +23,7 @@ use Rattle.rb_workers.specs.SeatRows.{seat_rows, worker_column}
 use Rattle.rb_jobs.proofs.Lists.{zip_length}
 use Rattle.rb_workers.proofs.Numbered.{seats_length}
 use Rattle.rb_workers.proofs.Parts.{all_first, all_rest, rows_length}
+use Rattle.rb_workers.proofs.Whole.{consumed_again, rests_of}
 use Rattle.rb_workers.proofs.SameSeats.{same_seats, seats_same_of_runs, seats_begin_of_runs, rows_of_columns}
 
 pub long_rows : {S : Type 0} (count : ℕ) (opened : List (Opened S)) → All (λ o. length o.seats.items ≡ count) opened → All (λ row. length row ≡ count) (seat_rows opened)
@@ -97,7 +98,7 @@ sinks_given : {S : Type 0} (position : S → ℕ) (takes : S → SinkItem → S 
 sinks_given position takes [] [] consumed = tt
 sinks_given position takes [] (b ∷ bs) consumed = absurd consumed
 sinks_given position takes (o ∷ os) [] consumed = absurd consumed
-sinks_given position takes (o ∷ os) (b ∷ bs) consumed = (consumed.0.2, sinks_given position takes os bs consumed.1)
+sinks_given position takes (o ∷ os) (b ∷ bs) consumed = (consumed.0.2.gets, sinks_given position takes os bs consumed.1)
 
 -- what came back of a run may be run again
 pub handed_back : {S : Type 0} (position : S → ℕ) (takes : S → SinkItem → S → Type 0) (opened back : List (Opened S)) (jobs : List Job) → AreOpened position opened → map (λ o. o.ring) back ≡ map (λ o. o.ring) opened
@@ -122,6 +123,24 @@ handed_back {S} position takes opened back jobs all rings consumed long ran =
       workers_same = many;
       worked = ran;
     }
+
+-- the rings that came back are the same once what was left in them is taken
+long_left : {S : Type 0} (position : S → ℕ) (takes : S → SinkItem → S → Type 0) (count : ℕ) (back left : List (Opened S)) → AllZip (TakesRest position takes) back left → All (IsOpened position count) back → All (λ o. length o.seats.items ≡ count) left
+long_left {S} position takes count [] [] rests all = λ k d below. absurd (omega arith)
+long_left {S} position takes count [] (n ∷ left) rests all = absurd rests
+long_left {S} position takes count (b ∷ back) [] rests all = absurd rests
+long_left {S} position takes count (b ∷ back) (n ∷ left) rests all =
+    All-cons (λ (o : Opened S). length o.seats.items ≡ count) n left
+    (ap (λ v. length v.items) rests.0.2 ∙ seats_length position count b (all_first (IsOpened position count) (b ∷ back) back b refl all))
+    (long_left position takes count back left rests.1 (all_rest (IsOpened position count) (b ∷ back) back b refl all))
+
+pub emptied : {S : Type 0} (position : S → ℕ) (takes : S → SinkItem → S → Type 0) (opened back left : List (Opened S)) (jobs : List Job) → AreOpened position opened → IsHandedBack position takes opened jobs back → AllZip (IsConsumed position takes) opened back
+    → AllZip (TakesRest position takes) back left → IsHandedBack position takes opened jobs left
+emptied {S} position takes opened back left jobs all handed consumed rests =
+    let each = rests_of position takes back left rests in
+    handed_back position takes opened left jobs all (each.1 ∙ handed.rings_same) (consumed_again position takes opened back left consumed each.0)
+    (long_left position takes (workers_of opened) back left rests (subst (λ n. All (IsOpened position n) back) handed.workers_same handed.runs_again))
+    (λ k below. subst (λ (rows : List (List WorkerSeat)). RunsFirst (own_jobs k jobs) (worker_column k (seat_rows opened)) (worker_column k rows)) (sym each.2) (handed.worked k below))
 
 -- nothing ran
 pub unchanged : {S : Type 0} (position : S → ℕ) (takes : S → SinkItem → S → Type 0) (opened : List (Opened S)) (jobs : List Job) → AreOpened position opened → IsHandedBack position takes opened jobs opened

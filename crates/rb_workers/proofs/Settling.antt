@@ -1,13 +1,15 @@
 -- Where each worker's seats together are settled, each seat is, and so no closed ring has a busy record.
-use Rattle.std.proofs.Common.{refl, ap, map, ◌≡◌, ℕ, zero, suc, ◌+◌, ◌<◌, ◌≤◌, List, [], ◌∷◌, length, ◌∙◌, arith}
+use Rattle.std.proofs.Common.{refl, sym, ap, map, ◌≡◌, ℕ, zero, suc, ◌+◌, ◌<◌, ◌≤◌, List, [], ◌∷◌, length, ◌∙◌, arith}
 use Rattle.std.proofs.lemmas.List.Elements.{All-head, All-tail, All-cons, All-nil, All-same, All-map}
 use Rattle.std.proofs.lemmas.Slice.Zip.{AllZip-long}
 use Rattle.std.specs.Prelude.{slice_get}
-use Rattle.std.specs.List.{All, count_by}
+use Rattle.std.specs.List.{All, AllZip, count_by}
 use Rattle.rb_ledger.specs.Seats.{WorkerSeat, IsSameSeat, SettlesWithin, HasSettledAll}
 use Rattle.rb_ledger.proofs.Sums.{once-closed}
 use Rattle.rb_history.specs.declared.answers.Counts.{Counts}
 use Rattle.rb_history.specs.Counting.{counts_of}
+use Rattle.rb_history.specs.WorkerCounts.{events_of}
+use Rattle.rb_chapter_ring.proofs.Counts.{counts-are}
 use Rattle.rb_chapter_ring.specs.Chapters.{Chapter, joined}
 use Rattle.rb_chapter_ring.specs.ChapterRing.{ChapterRing}
 use Rattle.rb_chapter_ring.specs.OpenedRing.{told_counts}
@@ -26,6 +28,8 @@ use Rattle.rb_workers.specs.Reports.{IsReport, RingsEnd, ring_at_end}
 use Rattle.rb_workers.specs.SeatRows.{worker_column, seat_rows}
 use Rattle.rb_workers.specs.Sink.{SinkItem}
 use Rattle.rb_workers.specs.JobRuns.{is_stray}
+use Rattle.rb_workers.specs.Rest.{IsDrained, LeavesNothing}
+use Rattle.rb_workers.specs.inner.RingEnds.{Closes}
 use Rattle.rb_workers.specs.Settled.{AreSettled, EachSettled, IsEven, EndsSettled}
 use Rattle.rb_workers.proofs.Sums.{number_at, cons_sum}
 use Rattle.rb_workers.proofs.Numbered.{seats_length}
@@ -102,6 +106,31 @@ settled_together count (row ∷ seats) all k below =
 -- the busy records that a closed ring tells are those of its whole history
 busy_told : (handed_out : List Chapter) (last : ChapterRing) → ContinuesHistory (joined handed_out) last.chapter → (told_counts last).busy ≡ (counts_of (whole_of (chaptered_ring handed_out last)).history).busy
 busy_told handed_out last goes_on = ap (λ (n : Counts). n.busy) (said (joined handed_out) last last goes_on).counts
+
+waiting_told : (handed_out : List Chapter) (last : ChapterRing) → ContinuesHistory (joined handed_out) last.chapter → (told_counts last).waiting ≡ (counts_of (whole_of (chaptered_ring handed_out last)).history).waiting
+waiting_told handed_out last goes_on = ap (λ (n : Counts). n.waiting) (said (joined handed_out) last last goes_on).counts
+
+-- a ring that was drained before it was closed leaves nothing
+leaves_nothing : {S : Type 0} (o : Opened S) (e : Ended S) → Closes o e → IsDrained o → LeavesNothing e
+leaves_nothing o e closes drained none =
+    let whole = ring_at_end o.consumer e in
+    let closed = closes.closed.closed in
+    let numbers = once-closed whole o.seats.items (whole_consumer o.consumer) closed in
+    let goes_on = gathered-continues e.closing.at_end o.seats.items o.consumer closes.closed.gathered in
+    let settled = numbers.none_busy.1 (sym (busy_told o.consumer.handed_out e.closing.at_end goes_on) ∙ none) in
+    let took = (drained settled).0 in
+    let ties = closed.consumer_ties.consumed_is in
+    let events : events_of whole.history ≡ (counts_of whole.history).consumed = ap (λ (n : Counts). n.consumed) (counts-are whole.setup whole.history closed.is_ring.legal) in
+    let sum = numbers.submitted_are in
+    let left : (counts_of whole.history).waiting ≡ 0 = omega (arith, took, ties, events, sum) in
+    waiting_told o.consumer.handed_out e.closing.at_end goes_on ∙ left
+
+pub all_leave_nothing : {S : Type 0} (back : List (Opened S)) (ended : List (Ended S)) → AllZip Closes back ended → All IsDrained back → All LeavesNothing ended
+all_leave_nothing [] [] closes drained = All-nil LeavesNothing
+all_leave_nothing [] (e ∷ es) closes drained = absurd closes
+all_leave_nothing (o ∷ os) [] closes drained = absurd closes
+all_leave_nothing (o ∷ os) (e ∷ es) closes drained =
+    All-cons LeavesNothing e es (leaves_nothing o e closes.0 (All-head IsDrained o os drained)) (all_leave_nothing os es closes.1 (All-tail IsDrained o os drained))
 
 rings_within : {S : Type 0} (position : S → ℕ) (takes : S → SinkItem → S → Type 0) (opened : List (Opened S)) (ended : List (Ended S)) (seats : List (List WorkerSeat)) → RingsEnd position takes opened ended seats → All (All SettlesWithin) seats
 rings_within position takes [] [] [] ends = All-nil (All SettlesWithin)

@@ -32,7 +32,7 @@ use Rattle.rb_consumer.specs.Keepers.{KeeperValue}
 use Rattle.rb_history.specs.RoomRule.{Setup}
 use Rattle.rb_workers.specs.Opened.{IsKeeperFor}
 use Rattle.rb_workers.specs.Sink.{SinkItem, GetsTaken, IsRecordIn, TakesAll, sink_position, sink_chapter, positions_among, chapters_among, takes_in, take_of}
-use Rattle.rb_workers.specs.Sink.SinkItem.{Record, Chapter}
+use Rattle.rb_workers.specs.Sink.SinkItem.{Record, Chapter, CaughtUp}
 use Rattle.rb_workers.specs.inner.ConsumerTasks.{Consumed, HasGiven, IsBefore, IsSameConsumer, items_among}
 
 -- ---- a longer history
@@ -49,6 +49,7 @@ record_on h more got now at (Record (TakenEvent p w k bytes)) before same is = (
 record_on h more got now at (Record BusyFront) before same is = absurd is
 record_on h more got now at (Record Empty) before same is = absurd is
 record_on h more got now at (Chapter c) before same is = tt
+record_on h more got now at CaughtUp before same is = tt
 record_on h more got now at (Record (Skipped p n)) before same is = ((is.0.0, (is.0.1.0, Contains-append_left h more (Res is.0.0 is.0.1.0 n p) is.0.1.1)), discarded_on h more p is.1)
 
 -- entries that are not the consumer's take nothing
@@ -98,6 +99,7 @@ before_later at end later (Record (Skipped p n)) before = omega (arith, later, b
 before_later at end later (Record BusyFront) before = tt
 before_later at end later (Record Empty) before = tt
 before_later at end later (Chapter c) before = tt
+before_later at end later CaughtUp before = tt
 
 -- what was given, and then more
 pub given_on : {S : Type 0} (takes : S → SinkItem → S → Type 0) (a b c : ChapterConsumerSeat) (x y z : S) → BeginsWith c.seen b.seen → HasGiven takes a b x y → HasGiven takes b c y z → HasGiven takes a c x z
@@ -128,6 +130,25 @@ given_on takes a b c x y z begins one two =
       keeps = λ p below. two.keeps p (let m = one.moved in omega (arith, below, m)) ∙ one.keeps p below;
     }
 
+pub one_item : (at : ℕ) (item : SinkItem) → IsBefore at item → All (IsBefore at) (item ∷ [])
+one_item at item below = All-cons (IsBefore at) item [] below (All-nil (IsBefore at))
+
+-- the sink was told that there was nothing to take
+pub caught_up : {S : Type 0} (takes : S → SinkItem → S → Type 0) (seat : ChapterConsumerSeat) (x y : S) → takes x CaughtUp y → HasGiven takes seat seat x y
+caught_up takes seat x y took =
+    record {
+      gets = record {
+        items = CaughtUp ∷ [];
+        taken_are = sym (append-nil (takes_in seat.seen.history));
+        records_are = All-cons (IsRecordIn seat.seen.history seat.got) CaughtUp [] tt (All-nil (IsRecordIn seat.seen.history seat.got));
+        chapters_are = sym (append-nil seat.handed_out);
+        given = (y, took, refl);
+      };
+      moved = omega arith;
+      passed = one_item seat.position CaughtUp tt;
+      keeps = λ p below. refl;
+    }
+
 -- ---- one take
 
 waiting_submitted : (s d t : Bool) → status_by s d t ≡ Waiting → s ≡ true
@@ -154,9 +175,6 @@ get_before m p q b below = get-insert nat_cmp_total m p b q ∙ ap (λ t. cond t
 
 wide : (n : ℕ) → 0 < span n
 wide n = omega arith
-
-pub one_item : (at : ℕ) (item : SinkItem) → IsBefore at item → All (IsBefore at) (item ∷ [])
-one_item at item below = All-cons (IsBefore at) item [] below (All-nil (IsBefore at))
 
 takes_stay_same : (old new : ChapterConsumerSeat) (point : Ring) → ExtendsSeen Consumer old.seen (book_of point) → new.seen.history ≡ point.history → takes_in new.seen.history ≡ takes_in old.seen.history
 takes_stay_same old new point goes same = ap takes_in same ∙ takes_stay old.seen (book_of point) goes
@@ -293,13 +311,13 @@ consumed_on position takes a b c one two =
 -- ---- rings
 
 -- the same, under other names
-pub gets_same : {S : Type 0} (takes : S → SinkItem → S → Type 0) (c c' d d' : ChapterConsumerSeat) (x x' y y' : S) → c' ≡ c → d' ≡ d → x' ≡ x → y' ≡ y
-    → GetsTaken takes c d d.seen.history x y → GetsTaken takes c' d' d'.seen.history x' y'
-gets_same takes c c' d d' x x' y y' ec ed ex ey gets =
-    subst (λ s. GetsTaken takes c' d' d'.seen.history s y') (sym ex)
-    (subst (λ s. GetsTaken takes c' d' d'.seen.history x s) (sym ey)
-    (subst (λ (v : ChapterConsumerSeat). GetsTaken takes v d' d'.seen.history x y) (sym ec)
-    (subst (λ (v : ChapterConsumerSeat). GetsTaken takes c v v.seen.history x y) (sym ed) gets)))
+pub given_same : {S : Type 0} (takes : S → SinkItem → S → Type 0) (c c' d d' : ChapterConsumerSeat) (x x' y y' : S) → c' ≡ c → d' ≡ d → x' ≡ x → y' ≡ y
+    → HasGiven takes c d x y → HasGiven takes c' d' x' y'
+given_same takes c c' d d' x x' y y' ec ed ex ey given =
+    subst (λ s. HasGiven takes c' d' s y') (sym ex)
+    (subst (λ s. HasGiven takes c' d' x s) (sym ey)
+    (subst (λ (v : ChapterConsumerSeat). HasGiven takes v d' x y) (sym ec)
+    (subst (λ (v : ChapterConsumerSeat). HasGiven takes c v x y) (sym ed) given)))
 
 record_in_longer : (h more : List Entry) (got : Contents) (item : SinkItem) → IsRecordIn h got item → IsRecordIn (h ++ more) got item
 record_in_longer h more got (Record (TakenEvent p w k bytes)) is = record_on h more got got (p + 1) (Record (TakenEvent p w k bytes)) (omega arith) (λ q below. refl) is
@@ -307,6 +325,7 @@ record_in_longer h more got (Record (Skipped p n)) is = record_on h more got got
 record_in_longer h more got (Record BusyFront) is = absurd is
 record_in_longer h more got (Record Empty) is = absurd is
 record_in_longer h more got (Chapter c) is = tt
+record_in_longer h more got CaughtUp is = tt
 
 -- what no take adds to, the sink keeps
 pub gets_at_close : {S : Type 0} (takes : S → SinkItem → S → Type 0) (before seat : ChapterConsumerSeat) (closed : Book) (x y z : S) → ExtendsSeen Consumer seat.seen closed → z ≡ y

@@ -13,14 +13,16 @@ use Rattle.rb_workers.specs.declared.opened.Opened.{Opened}
 use Rattle.rb_jobs.specs.declared.job.Job.{Job}
 use Rattle.rb_jobs.specs.declared.job.JobAnswer.{JobAnswer}
 use Rattle.rb_jobs.specs.SeatHelpers.{IsAt, AtRings}
-use Rattle.rb_workers.specs.inner.ConsumerTasks.{IsSameConsumer, IsConsumerTaskOf, IsSplitOff, Consumed, IsMergedInto, IsConsumed}
+use Rattle.rb_workers.specs.inner.ConsumerTasks.{IsSameConsumer, HasGiven, TakesRest, IsConsumerTaskOf, IsSplitOff, Consumed, IsMergedInto, IsConsumed}
 use Rattle.rb_workers.specs.JobRuns.{own_jobs}
 use Rattle.rb_workers.specs.inner.WorkerRuns.{RunsOwnJobs}
 use Rattle.rb_consumer.specs.Keepers.{KeeperValue}
 use Rattle.rb_workers.specs.SeatRows.{worker_column, seat_rows}
 use Rattle.rb_workers.specs.Opened.{IsOpened, IsKeeperFor}
-use Rattle.rb_workers.specs.Sink.{SinkItem, GetsTaken}
-use Rattle.rb_workers.proofs.SinkItems.{gets_same}
+use Rattle.rb_workers.specs.Rest.{IsDrained}
+use Rattle.rb_workers.specs.Sink.{SinkItem}
+use Rattle.rb_ledger.proofs.Beginnings.{begins_with_all}
+use Rattle.rb_workers.proofs.SinkItems.{given_on, given_same, keeper_on, nothing_given, same_on}
 use Rattle.rb_workers.proofs.Numbered.{seats_length}
 use Rattle.rb_workers.proofs.Parts.{some_of, column_cons, all_first, all_rest}
 
@@ -63,7 +65,7 @@ homes_at {S} position takes count (o ∷ os) (t ∷ ts) (u ∷ us) parts ends al
     All-cons (λ (t : ConsumerTask S). (t.returned_seats.items ≡ []) × (count ≤ vec_capacity t.returned_seats)) u us (subst (λ h. (h.items ≡ []) × (count ≤ vec_capacity h)) (sym ends.0.2) (p.2, room))
     (homes_at position takes count os ts us parts.1 ends.1 (all_rest (IsOpened position count) (o ∷ os) os o refl all))
 
-zip_through : {A B C : Type 0} (R : A → B → Type 0) (Q : B → C → Type 0) (P : A → C → Type 0) → ((x : A) (y : B) (z : C) → R x y → Q y z → P x z)
+pub zip_through : {A B C : Type 0} (R : A → B → Type 0) (Q : B → C → Type 0) (P : A → C → Type 0) → ((x : A) (y : B) (z : C) → R x y → Q y z → P x z)
     → (xs : List A) (ys : List B) (zs : List C) → AllZip R xs ys → AllZip Q ys zs → AllZip P xs zs
 zip_through R Q P step [] [] [] r q = tt
 zip_through R Q P step [] [] (z ∷ zs) r q = absurd q
@@ -81,7 +83,12 @@ rings_length xs = length-map xs (λ o. o.ring)
 abbrev HasEnded : {S : Type 0} → (S → ℕ) → (S → SinkItem → S → Type 0) → Opened S → ConsumerTask S → Type 0
 HasEnded position takes o u =
     IsSameConsumer o.consumer u.consumer × (position u.sink ≡ u.consumer.position)
-    × GetsTaken takes o.consumer u.consumer u.consumer.seen.history o.sink u.sink × IsKeeperFor u.consumer u.keeper
+    × HasGiven takes o.consumer u.consumer o.sink u.sink × IsKeeperFor u.consumer u.keeper
+
+-- what one ring's consumer took, and then more
+pub consumed_then : {S : Type 0} (position : S → ℕ) (takes : S → SinkItem → S → Type 0) (a b c : Opened S) → IsConsumed position takes a b → IsConsumed position takes b c → IsConsumed position takes a c
+consumed_then position takes a b c one two =
+    (same_on a.consumer b.consumer c.consumer one.0 two.0, two.1, given_on takes a.consumer b.consumer c.consumer a.sink b.sink c.sink two.0.begins one.2 two.2, two.3)
 
 pub ends_at : {S : Type 0} (position : S → ℕ) (takes : S → SinkItem → S → Type 0) (opened back : List (Opened S)) (consumers ended : List (ConsumerTask S)) → AllZip IsSplitOff opened consumers → AllZip (Consumed position takes) consumers ended → AllZip IsMergedInto ended back → AllZip (IsConsumed position takes) opened back
 ends_at {S} position takes opened back consumers ended parts ends from =
@@ -89,7 +96,7 @@ ends_at {S} position takes opened back consumers ended parts ends from =
     (λ o u n h f. (
       subst (λ c. IsSameConsumer o.consumer c) (sym f.0) h.0,
       ap position f.1 ∙ (h.1 ∙ sym (ap (λ (c : ChapterConsumerSeat). c.position) f.0)),
-      gets_same takes o.consumer o.consumer u.consumer n.consumer o.sink o.sink u.sink n.sink refl f.0 refl f.1 h.2,
+      given_same takes o.consumer o.consumer u.consumer n.consumer o.sink o.sink u.sink n.sink refl f.0 refl f.1 h.2,
       keeper_at u.consumer n.consumer u.keeper n.keeper f.0 f.2 h.3,
     ))
     opened ended back
@@ -97,11 +104,43 @@ ends_at {S} position takes opened back consumers ended parts ends from =
     (λ o t u p e. (
       subst (λ c. IsSameConsumer c u.consumer) p.0 e.0,
       e.1,
-      gets_same takes t.consumer o.consumer u.consumer u.consumer t.sink o.sink u.sink u.sink (sym p.0) refl (sym p.1) refl e.3.gets,
+      given_same takes t.consumer o.consumer u.consumer u.consumer t.sink o.sink u.sink u.sink (sym p.0) refl (sym p.1) refl e.3,
       e.4,
     ))
     opened consumers ended parts ends)
     from
+
+-- what was consumed, and then more
+pub consumed_again : {S : Type 0} (position : S → ℕ) (takes : S → SinkItem → S → Type 0) (opened back left : List (Opened S)) → AllZip (IsConsumed position takes) opened back → AllZip (IsConsumed position takes) back left → AllZip (IsConsumed position takes) opened left
+consumed_again position takes opened back left first second =
+    zip_through (IsConsumed position takes) (IsConsumed position takes) (IsConsumed position takes) (consumed_then position takes) opened back left first second
+
+-- nothing was consumed, and a batch more
+pub consumed_itself : {S : Type 0} (position : S → ℕ) (takes : S → SinkItem → S → Type 0) (o : Opened S) → position o.sink ≡ o.consumer.position → IsKeeperFor o.consumer o.keeper → IsConsumed position takes o o
+consumed_itself position takes o follows keeper =
+    (record { tag_same = refl; ring_same = refl; room_same = refl; begins = begins_with_all o.consumer.seen }, follows, nothing_given takes o.consumer o.sink, keeper)
+
+pub consumed_batch : {S : Type 0} (position : S → ℕ) (takes : S → SinkItem → S → Type 0) (a b : Opened S) (consumer : ChapterConsumerSeat) (sink : S) → IsConsumed position takes a b → IsSameConsumer b.consumer consumer → position sink ≡ consumer.position → HasGiven takes b.consumer consumer b.sink sink
+    → IsConsumed position takes a (record b { consumer = consumer; sink = sink })
+consumed_batch position takes a b consumer sink one same follows given =
+    (same_on a.consumer b.consumer consumer one.0 same, follows, given_on takes a.consumer b.consumer consumer a.sink b.sink sink same.begins one.2 given, keeper_on b.consumer consumer b.keeper same one.3)
+
+-- ---- what was left
+
+-- one list of rings after another, ring by ring
+pub rests_of : {S : Type 0} (position : S → ℕ) (takes : S → SinkItem → S → Type 0) (back left : List (Opened S)) → AllZip (TakesRest position takes) back left
+    → AllZip (IsConsumed position takes) back left × (map (λ o. o.ring) left ≡ map (λ o. o.ring) back) × (seat_rows left ≡ seat_rows back) × All IsDrained left
+rests_of {S} position takes [] [] rests = (tt, refl, refl, (λ k d below. absurd (omega arith)))
+rests_of {S} position takes [] (n ∷ left) rests = absurd rests
+rests_of {S} position takes (b ∷ back) [] rests = absurd rests
+rests_of {S} position takes (b ∷ back) (n ∷ left) rests =
+    let one = rests.0 in
+    let more = rests_of position takes back left rests.1 in (
+      (one.0, more.0),
+      (λ i. one.1 i ∷ more.1 i),
+      (λ i. (one.2 i).items ∷ more.2 i),
+      All-cons (λ (o : Opened S). IsDrained o) n left one.3 more.3,
+    )
 
 pub worked_at : (js : List Job) (w w' : ℕ) (s s' : Bool) (a a' : List JobAnswer) (o o' n n' : List WorkerSeat) → w ≡ w' → s ≡ s' → a ≡ a' → o ≡ o' → n ≡ n' → RunsOwnJobs (own_jobs w js) s a o n → RunsOwnJobs (own_jobs w' js) s' a' o' n'
 worked_at js w w' s s' a a' o o' n n' ew es ea eo en h =

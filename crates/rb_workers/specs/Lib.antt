@@ -4,5 +4,6 @@ pub mod ChapterSizes
 pub mod Sink
 pub mod JobRuns
 pub mod Settled
+pub mod Rest
 pub mod Reports
 pub mod inner

@@ -1,4 +1,5 @@
--- What a sink is given: the records that a ring's consumer took and the chapters that it handed out, one by one (own).
+-- What a sink is given: the records that a ring's consumer took and the chapters that it handed out, one by one, and word that there was
+-- nothing to take (own).
 use Rattle.std.specs.Prelude.{◌≡◌, ℕ, true, List, [], ◌∷◌, ◌++◌, All, Option, Some, None, length}
 use Rattle.std.specs.List.{Contains, filter_map}
 use Rattle.std.specs.FinMap.{get}
@@ -13,15 +14,18 @@ use Rattle.rb_ledger.specs.ChapterSeats.{ChapterConsumerSeat}
 use Rattle.rb_ledger.specs.LockedCalls.{span_in}
 
 -- a record as the `take` that found it answered: an event with the worker that made it, the record's number among that worker's, and its
--- bytes, or a discarded record that was passed over, with its length; or a chapter that the ring handed out
+-- bytes, or a discarded record that was passed over, with its length; or a chapter that the ring handed out; or that the consumer found
+-- nothing to take
 pub data SinkItem : Type 0 where
   Record : (taken : Taken) → SinkItem
   Chapter : (chapter : RingChapter) → SinkItem
+  CaughtUp : SinkItem
 
 -- the record that the item is, where it is one
 abbrev pub sink_record : SinkItem → Option Taken
 sink_record (Record taken) = Some taken
 sink_record (Chapter chapter) = None
+sink_record CaughtUp = None
 
 -- the records among the items, in their order
 abbrev pub records_among : List SinkItem → List Taken
@@ -31,6 +35,7 @@ records_among items = filter_map sink_record items
 abbrev pub sink_span : SinkItem → ℕ
 sink_span (Record taken) = span_in taken
 sink_span (Chapter chapter) = 0
+sink_span CaughtUp = 0
 
 -- where the item's record stands, where it is a record
 abbrev pub sink_position : SinkItem → Option ℕ
@@ -39,6 +44,7 @@ sink_position (Record (Skipped position len)) = Some position
 sink_position (Record BusyFront) = None
 sink_position (Record Empty) = None
 sink_position (Chapter chapter) = None
+sink_position CaughtUp = None
 
 -- the positions of the records among the items, in their order
 abbrev pub positions_among : List SinkItem → List ℕ
@@ -48,6 +54,7 @@ positions_among items = filter_map sink_position items
 abbrev pub sink_chapter : SinkItem → Option RingChapter
 sink_chapter (Record taken) = None
 sink_chapter (Chapter chapter) = Some chapter
+sink_chapter CaughtUp = None
 
 -- the chapters among the items, in their order
 abbrev pub chapters_among : List SinkItem → List RingChapter
@@ -75,6 +82,7 @@ IsRecordIn h got (Record (Skipped p n)) = HasLength h p n × (is_discarded_at h 
 IsRecordIn h got (Record BusyFront) = ⊥
 IsRecordIn h got (Record Empty) = ⊥
 IsRecordIn h got (Chapter chapter) = Unit {0}
+IsRecordIn h got CaughtUp = Unit {0}
 
 -- Where the consumer's seat went on from `before` to `after`, and the whole history to this one, the sink was given just the records that
 -- were taken meanwhile, one by one, in the order in which they were taken and with the bytes that the consumer got; and just the chapters

@@ -19,17 +19,22 @@ use std::sync::atomic::{AtomicBool, Ordering};
 /// A ring's consumer and its keeper, what the records and chapters are given to, the place to which the ring's seats come back, and the
 /// records that were taken last.
 #[derive(Drop)]
-pub(crate) struct ConsumerTask<S> {
-    pub(crate) consumer: ConsumerSeat,
-    pub(crate) keeper: Keeper,
-    pub(crate) sink: S,
-    pub(crate) returned_seats: Vec<Seat>,
-    pub(crate) batch: Batch,
+pub struct ConsumerTask<S> {
+    /// The consumer's seat.
+    pub consumer: ConsumerSeat,
+    /// The keeper of the ring's chapters.
+    pub keeper: Keeper,
+    /// What takes the records and the chapters.
+    pub sink: S,
+    /// The ring's seats, once they came back.
+    pub returned_seats: Vec<Seat>,
+    /// The records that were taken last.
+    pub batch: Batch,
 }
 
 impl<S: Sink> ConsumerTask<S> {
-    // Hands the ring's chapter out where the keeper is to look and it is due, then takes as many records as there are and the batch has room
-    // for. Gives all of it to the sink, and answers how many records they are.
+    // Hands the ring's chapter out if the keeper is to look and it is due, then takes a batch. Gives all of it to the sink, and returns how
+    // many records they are.
     fn take_batch<R: Wait>(&mut self, rt: &R, ring: &SharedRing, looks: bool) -> usize
         requires ready { IsConsumerTaskOf S.position_of ring.now self.old }
         ensures taken { Consumed S.position_of S.takes self.old self.new }
@@ -42,12 +47,23 @@ impl<S: Sink> ConsumerTask<S> {
             &mut self.sink,
             looks,
         );
-        match self.batch.fill(rt, ring, &mut self.consumer) {
-            Ok(count) => {
-                pass_items(&mut self.sink, self.batch.items());
-                count
-            }
-            Err(Foreign) => unreachable!(),
+        pass_batch(
+            rt,
+            ring,
+            &mut self.consumer,
+            &mut self.sink,
+            &mut self.batch,
+        )
+    }
+
+    // Lets the sink know if there was nothing to take.
+    fn report_count(&mut self, count: usize)
+        requires follows { S.position_of self.old.sink ≡ self.old.consumer.position }
+        requires keeper { IsKeeperFor self.old.consumer self.old.keeper }
+        ensures reported { Consumed S.position_of S.takes self.old self.new }
+    {
+        if count == 0 {
+            self.sink.caught_up();
         }
     }
 
@@ -98,6 +114,29 @@ fn turn_chapter<R: Wait, S: Sink>(
     }
 }
 
+/// Takes as many records as there are and the batch has room for, and gives them to the sink, in their order. Returns how many they are.
+pub(crate) fn pass_batch<R: Wait, S: Sink>(
+    rt: &R,
+    ring: &SharedRing,
+    consumer: &mut ConsumerSeat,
+    sink: &mut S,
+    batch: &mut Batch,
+) -> usize
+    requires ring { (consumer.old.tag ≡ ring.now.tag) × (consumer.old.ring ≡ ring.now.ring) }
+    requires follows { S.position_of sink.old ≡ consumer.old.position }
+    ensures same { IsSameConsumer consumer.old consumer.new }
+    ensures follows { S.position_of sink.new ≡ consumer.new.position }
+    ensures given { HasGiven S.takes consumer.old consumer.new sink.old sink.new }
+{
+    match batch.fill(rt, ring, consumer) {
+        Ok(count) => {
+            pass_items(sink, batch.items());
+            count
+        }
+        Err(Foreign) => unreachable!(),
+    }
+}
+
 // Gives the sink each of the records, in their order.
 fn pass_items<S: Sink>(sink: &mut S, mut items: Items<'_>)
     requires stand { (size : ℕ) × AreItemsFrom size (S.position_of sink.old) (tape_items items) }
@@ -128,6 +167,7 @@ pub(crate) fn consume<R: Wait, S: Sink, K: Stock>(
         let start = task.consumer.position();
         let count = task.take_batch(rt, ring, looks);
         let bytes = task.consumer.position().saturating_sub(start);
+        task.report_count(count);
         task.hand_on(stock, count);
         if count == 0 && over {
             break;

@@ -41,7 +41,7 @@ fn return_ring(workers: &mut [Worker], returned_seats: &mut Vec<Seat>)
 }
 
 /// Takes the rings apart: what all threads share, what each ring's thread owns, a batch among it, and each worker's seats.
-pub(crate) fn split<S: Drop>(
+pub fn split<S: Drop>(
     opened: Vec<Opened<S>>,
     rings: &mut Vec<SharedRing>,
     consumers: &mut Vec<ConsumerTask<S>>,
@@ -81,7 +81,7 @@ pub(crate) fn split<S: Drop>(
 }
 
 /// Puts the rings together again, each with its seats.
-pub(crate) fn merge<S: Drop>(
+pub fn merge<S: Drop>(
     mut rings: Vec<SharedRing>,
     mut consumers: Vec<ConsumerTask<S>>,
     workers: &mut [Worker],

@@ -7,6 +7,7 @@ ghost use Rattle.rb_workers.specs.Opened.{AreOpened, IsOpened, workers_of};
 ghost use Rattle.rb_workers.specs.Reports.{IsHandedBack, IsReport, IsRefusedFor, has_unknown_ring, has_unknown_worker};
 ghost use Rattle.rb_workers.specs.JobRuns.{own_jobs};
 ghost use Rattle.rb_workers.specs.inner.RunBuffers.{IsEmptyFor, HasRoomForRun};
+ghost use Rattle.rb_workers.specs.Rest.{IsDrained, LeavesNothing};
 ghost use Rattle.rb_workers.specs.SeatRows.{worker_column, seat_rows};
 ghost use Rattle.rb_workers.specs.Settled.{EachSettled, EndsSettled};
 ghost use Rattle.rb_workers.specs.inner.ReportAnswers.{ReportMatches};
@@ -16,6 +17,7 @@ use crate::consumer_task::ConsumerTask;
 use crate::distribution::{merge, split};
 use crate::job_answers::{Gathered, gather_answers, is_any_short};
 use crate::opened::{Ended, JobFault, JobsReport, Opened};
+use crate::rest::take_rests;
 use crate::ring_close::close_all;
 use crate::run_buffers::{RunBuffers, make_buffers, zero_counts};
 use crate::sink::Sink;
@@ -59,7 +61,8 @@ fn find_unknown(jobs: &[Job<'_>], rings: usize, count: u32, counts: &mut [usize]
     Unknown { ring, worker }
 }
 
-fn count_workers<S: Sink>(opened: &[Opened<S>]) -> u32
+/// Returns how many workers the rings have seats for: 0 if there is no ring.
+pub fn count_workers<S: Sink>(opened: &[Opened<S>]) -> u32
     requires opened { AreOpened S.position_of opened.now }
     ensures { result ≡ workers_of opened.now }
 {
@@ -94,6 +97,7 @@ fn run_in<R: Threads + Wait + Sync, G: Gate + Sync, S: Sink + Send + Drop>(
     requires room { (vec_len opened ≤ vec_capacity rings) × (vec_len opened ≤ vec_capacity consumers) × (vec_len opened ≤ vec_capacity merged) }
     requires workers { (k : ℕ) (d : _) → k < length workers.old → IsNew k (vec_len opened) (slice_index_or workers.old k d) }
     ensures handed_back { IsHandedBack S.position_of S.takes opened.items jobs.now result.items }
+    ensures consumed { AllZip (IsConsumed S.position_of S.takes) opened.items result.items }
     ensures workers { (k : ℕ) (d : _) → k < workers_of opened.items → HasRun k jobs.now (worker_column k (seat_rows opened.items)) (worker_column k (seat_rows result.items)) (slice_index_or workers.new k d) }
 {
     split(opened, &mut rings, &mut consumers, batches, workers);
@@ -108,6 +112,39 @@ fn run_in<R: Threads + Wait + Sync, G: Gate + Sync, S: Sink + Send + Drop>(
         &mut consumers,
     );
     merge(rings, consumers, workers, merged)
+}
+
+// Runs the jobs in threads, as `run_in`, and then takes what is left in the rings.
+fn run_and_empty<R: Threads + Wait + Sync, G: Gate + Sync, S: Sink + Send + Drop>(
+    rt: &R,
+    alloc: Global,
+    opened: Vec<Opened<S>>,
+    jobs: &[Job<'_>],
+    gate: &G,
+    rings: Vec<SharedRing>,
+    consumers: Vec<ConsumerTask<S>>,
+    batches: Vec<Batch>,
+    rest: &mut Batch,
+    sheets: &ArrayQueue<Sheet>,
+    merged: Vec<Opened<S>>,
+    workers: &mut [Worker],
+) -> Vec<Opened<S>>
+    requires jobs { All (λ j. j.program.now.rings ≤ vec_len opened) jobs.now }
+    requires opened { All (IsOpened S.position_of (length workers.old)) opened.items }
+    requires count { length workers.old ≡ workers_of opened.items }
+    requires batches { vec_len batches ≡ vec_len opened }
+    requires empty { (rings.items ≡ []) × (consumers.items ≡ []) × (merged.items ≡ []) }
+    requires room { (vec_len opened ≤ vec_capacity rings) × (vec_len opened ≤ vec_capacity consumers) × (vec_len opened ≤ vec_capacity merged) }
+    requires workers { (k : ℕ) (d : _) → k < length workers.old → IsNew k (vec_len opened) (slice_index_or workers.old k d) }
+    ensures handed_back { IsHandedBack S.position_of S.takes opened.items jobs.now result.items }
+    ensures drained { All IsDrained result.items }
+    ensures workers { (k : ℕ) (d : _) → k < workers_of opened.items → HasRun k jobs.now (worker_column k (seat_rows opened.items)) (worker_column k (seat_rows result.items)) (slice_index_or workers.new k d) }
+{
+    let mut merged = run_in(
+        rt, alloc, opened, jobs, gate, rings, consumers, batches, sheets, merged, workers,
+    );
+    take_rests(rt, merged.as_mut_slice(), rest);
+    merged
 }
 
 // What jobs over these closed rings came to, where each worker ran all of its own.
@@ -146,12 +183,14 @@ fn run_known<R: Threads + Wait + Sync, S: Sink + Send + Drop, G: Gate + Sync>(
     requires workers { has_unknown_worker (workers_of opened.items) jobs.now ≡ false }
     requires buffers { HasRoomForRun (workers_of opened.items) (vec_len opened) (length jobs.now) buffers }
     ensures report { IfOk result (IsReport S.position_of S.takes opened.items jobs.now) }
+    ensures nothing_left { IfOk result (λ r. All LeavesNothing r.rings.items) }
     ensures handed_back { IfErr result (λ b. IsHandedBack S.position_of S.takes opened.items jobs.now b.items) }
 {
     let RunBuffers {
         rings,
         consumers,
         batches,
+        mut rest,
         sheets,
         merged,
         mut workers,
@@ -159,7 +198,7 @@ fn run_known<R: Threads + Wait + Sync, S: Sink + Send + Drop, G: Gate + Sync>(
         ended,
         results,
     } = buffers;
-    let merged = run_in(
+    let merged = run_and_empty(
         rt,
         alloc,
         opened,
@@ -168,6 +207,7 @@ fn run_known<R: Threads + Wait + Sync, S: Sink + Send + Drop, G: Gate + Sync>(
         rings,
         consumers,
         batches,
+        &mut rest,
         &sheets,
         merged,
         workers.as_mut_slice(),
@@ -186,7 +226,8 @@ fn run_known<R: Threads + Wait + Sync, S: Sink + Send + Drop, G: Gate + Sync>(
 ///
 /// Each ring's consumer gives each record that it takes to the ring's sink, and each chapter that the ring's keeper hands out: the keeper
 /// looks at the ring's chapter between batches of records. A worker that comes when the chapter has no room gets no record, and that
-/// failure is unlogged. When all workers have ended, what is left is taken, up to the first record that is still busy.
+/// failure is unlogged. After all workers have ended, the calling thread takes what is left, up to the first record that is still busy: if no
+/// record of a closed ring is busy, none waits.
 ///
 /// The gate is called before each helper call, and once more after a worker's last job, with the number of helper calls that the worker has
 /// finished; so a worker without jobs calls it once, with 0. Where no thread can be made its work is done on the calling thread, the
@@ -211,6 +252,7 @@ pub fn run_jobs<R: Threads + Wait + Sync, S: Sink + Send + Drop, G: Gate + Sync>
     ensures handed_back { IfErr result (λ e. IsHandedBack S.position_of S.takes opened.items jobs.now e.1.items) }
     ensures report { IfOk result (IsReport S.position_of S.takes opened.items jobs.now) }
     ensures no_strays { IfOk result (λ r. r.strays ≡ 0) }
+    ensures nothing_left { IfOk result (λ r. All LeavesNothing r.rings.items) }
     ensures settled { IfOk result (λ r. EachSettled (workers_of opened.items) (seat_rows opened.items) → All EndsSettled r.rings.items) }
 {
     let count = count_workers(&opened);

@@ -28,4 +28,6 @@ impl Sink for NullSink {
     }
 
     fn chapter(&mut self, _chapter: &Chapter) {}
+
+    fn caught_up(&mut self) {}
 }

@@ -61,7 +61,7 @@ fn close_one<R: Wait, S: Sink>(rt: &R, one: Opened<S>, row: Vec<Tally>) -> Ended
 }
 
 /// Closes all rings, each with a row for its tallies.
-pub(crate) fn close_all<R: Wait, S: Sink + Drop>(
+pub fn close_all<R: Wait, S: Sink + Drop>(
     rt: &R,
     merged: Vec<Opened<S>>,
     mut tallies: Vec<Vec<Tally>>,

@@ -18,18 +18,28 @@ use rb_shared_ring::SharedRing;
 use std::alloc::{AllocError, Global};
 
 /// Empty places for all that a run moves and makes, and the workers, which have no seats yet.
-pub(crate) struct RunBuffers<S> {
-    pub(crate) rings: Vec<SharedRing>,
-    pub(crate) consumers: Vec<ConsumerTask<S>>,
+#[derive(Drop)]
+pub struct RunBuffers<S> {
+    /// For the rings.
+    pub rings: Vec<SharedRing>,
+    /// For what each ring's thread owns.
+    pub consumers: Vec<ConsumerTask<S>>,
     /// One for each ring.
-    pub(crate) batches: Vec<Batch>,
-    pub(crate) sheets: ArrayQueue<Sheet>,
-    pub(crate) merged: Vec<Opened<S>>,
-    pub(crate) workers: Vec<Worker>,
+    pub batches: Vec<Batch>,
+    /// For what is left in the rings at the end.
+    pub rest: Batch,
+    /// For used sheets.
+    pub sheets: ArrayQueue<Sheet>,
+    /// For the rings once they are put together again.
+    pub merged: Vec<Opened<S>>,
+    /// The workers.
+    pub workers: Vec<Worker>,
     /// A row for each ring.
-    pub(crate) tallies: Vec<Vec<Tally>>,
-    pub(crate) ended: Vec<Ended<S>>,
-    pub(crate) results: Vec<Result<u64, RunFault>>,
+    pub tallies: Vec<Vec<Tally>>,
+    /// For the closed rings.
+    pub ended: Vec<Ended<S>>,
+    /// For the answers of the jobs.
+    pub results: Vec<Result<u64, RunFault>>,
 }
 
 /// A count of 0 for each of so many workers; none where there is no memory for that.
@@ -92,7 +102,7 @@ fn new_batches(alloc: Global, rings: usize) -> Result<Vec<Batch>, AllocError>
 }
 
 /// All memory that a run over so many rings, workers and jobs, of which each worker's are counted, needs before its first job.
-pub(crate) fn make_buffers<S: Drop>(
+pub fn make_buffers<S: Drop>(
     alloc: Global,
     count: u32,
     counts: &[usize],
@@ -104,6 +114,7 @@ pub(crate) fn make_buffers<S: Drop>(
     let workers = new_workers(alloc, count, counts, rings)?;
     let tallies = new_tallies(alloc, count, rings)?;
     let batches = new_batches(alloc, rings)?;
+    let rest = Batch::with_capacity(alloc, BATCH)?;
     let sheets = ArrayQueue::new(alloc, PLACES)?;
     let consumers = Vec::with_capacity(alloc, rings)?;
     let merged = Vec::with_capacity(alloc, rings)?;
@@ -114,6 +125,7 @@ pub(crate) fn make_buffers<S: Drop>(
         rings,
         consumers,
         batches,
+        rest,
         sheets,
         merged,
         workers,

@@ -4,7 +4,7 @@ ghost use Rattle.std.specs.Prelude.{◌≡◌, ◌+◌, ◌<◌, ◌≤◌, ◌^
 ghost use Rattle.rb_history.specs.TapeBytes.{item_len, item_position, item_span};
 ghost use Rattle.rb_tape.specs.Items.{item_of, item_taken};
 ghost use Rattle.rb_workers.specs.Sink.{SinkItem};
-ghost use Rattle.rb_workers.specs.Sink.SinkItem.{Chapter as ChapterItem, Record as RecordItem};
+ghost use Rattle.rb_workers.specs.Sink.SinkItem.{CaughtUp, Chapter as ChapterItem, Record as RecordItem};
 
 use rb_chapter_ring::Chapter;
 use rb_tape::Item;
@@ -34,4 +34,10 @@ pub trait Sink {
     fn chapter(&mut self, chapter: &Chapter)
         ensures stays { position_of self.new ≡ position_of self.old }
         ensures took { takes self.old (ChapterItem chapter.now) self.new };
+
+    /// Is called whenever the ring's consumer found nothing to take: the ring was empty, or its first record busy. No record is given and the
+    /// position stays, so a sink that buffers its output flushes it here. It may be called again before the next record.
+    fn caught_up(&mut self)
+        ensures stays { position_of self.new ≡ position_of self.old }
+        ensures took { takes self.old CaughtUp self.new };
 }

@@ -11,7 +11,7 @@ const HALF: u64 = 4_294_967_296;
 
 /// What a job came to, in 12 bytes where a `JobAnswer` takes 24: a worker keeps one for each of its jobs. Contracts see the answer.
 #[derive(Drop)]
-pub(crate) struct StoredAnswer {
+pub struct StoredAnswer {
     /// The low half of the program's result, and 0 where there is none.
     low: u32,
     /// The high half.

@@ -45,8 +45,8 @@ fn work_all<R: Threads + Wait + Sync, G: Gate + Sync>(
     thread::for_each_mut(rt, workers, threads, &work);
 }
 
-// Consumes each ring in a thread of its own, or here where none can be made.
-fn consume_all<R: Threads + Wait + Sync, S: Sink + Send>(
+/// Consumes each ring in a thread of its own, or here if none can be started.
+pub fn consume_all<R: Threads + Wait + Sync, S: Sink + Send>(
     rt: &R,
     rings: &[SharedRing],
     ended: &AtomicBool,

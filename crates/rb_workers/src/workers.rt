@@ -15,12 +15,17 @@ use std::sync::Wait;
 /// A worker: its number, how many helper calls it has finished, its seats in the order of the rings, the answers of its jobs in their
 /// order, and whether it was short of memory for a job.
 #[derive(Drop)]
-pub(crate) struct Worker {
-    pub(crate) number: u32,
-    pub(crate) calls: u64,
-    pub(crate) short: bool,
-    pub(crate) seats: Vec<Seat>,
-    pub(crate) answers: Vec<StoredAnswer>,
+pub struct Worker {
+    /// Its number.
+    pub number: u32,
+    /// How many helper calls it has finished.
+    pub calls: u64,
+    /// Whether it was short of memory for a job.
+    pub short: bool,
+    /// Its seats, in the order of the rings.
+    pub seats: Vec<Seat>,
+    /// The answers of its jobs.
+    pub answers: Vec<StoredAnswer>,
 }
 
 impl Worker {

@@ -125,6 +125,8 @@ impl Sink for Binder {
             self.wrong = self.wrong.saturating_add(1);
         }
     }
+
+    fn caught_up(&mut self) {}
 }
 
 // A ring for so many workers, whose chapters have this room.

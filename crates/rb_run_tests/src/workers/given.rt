@@ -103,6 +103,8 @@ impl Sink for Counter {
     fn chapter(&mut self, _: &Chapter) {
         self.chapters = self.chapters.saturating_add(1);
     }
+
+    fn caught_up(&mut self) {}
 }
 
 /// A gate that holds nobody, and tells how often worker 0 and how often the others came, and the sum of what the others had finished; and how many

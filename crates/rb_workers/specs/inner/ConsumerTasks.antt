@@ -9,7 +9,8 @@ use Rattle.rb_workers.specs.Sink.{SinkItem, GetsTaken, sink_position}
 use Rattle.rb_workers.specs.Sink.SinkItem.{Record}
 use Rattle.rb_workers.specs.declared.opened.Opened.{Opened}
 use Rattle.rb_workers.specs.declared.consumer_task.ConsumerTask.{ConsumerTask}
-use Rattle.rb_workers.specs.Opened.{IsKeeperFor, SinkGetsTaken}
+use Rattle.rb_workers.specs.Opened.{IsKeeperFor}
+use Rattle.rb_workers.specs.Rest.{IsDrained}
 
 -- it is the same consumer, and what it sees begins with what it had seen
 pub record IsSameConsumer (old new : ChapterConsumerSeat) : Type 0 where
@@ -59,4 +60,8 @@ IsMergedInto t o = (o.consumer ≡ t.consumer) × (o.sink ≡ t.sink) × (o.keep
 abbrev pub IsConsumed : {S : Type 0} → (S → ℕ) → (S → SinkItem → S → Type 0) → Opened S → Opened S → Type 0
 IsConsumed position takes old new =
     IsSameConsumer old.consumer new.consumer × (position new.sink ≡ new.consumer.position)
-    × SinkGetsTaken takes old new × IsKeeperFor new.consumer new.keeper
+    × HasGiven takes old.consumer new.consumer old.sink new.sink × IsKeeperFor new.consumer new.keeper
+
+-- what was left in the ring was taken: the ring and its seats are the same
+abbrev pub TakesRest : {S : Type 0} → (S → ℕ) → (S → SinkItem → S → Type 0) → Opened S → Opened S → Type 0
+TakesRest position takes old new = IsConsumed position takes old new × (new.ring ≡ old.ring) × (new.seats ≡ old.seats) × IsDrained new

@@ -12,8 +12,11 @@ loop-preserved g c =
     let pos = g.S.Sink.position_of in
     let takes = g.S.Sink.takes in
     let h = c.hand_on.ensures in
-    consumed_on pos takes c.args.task.now c.loop.task c.hand_on.new.self c.loop.invariant
-    (consumed_same pos takes c.loop.task c.take_batch-count.new.self c.hand_on.new.self h.consumer h.keeper h.sink h.seats c.take_batch-count.ensures.taken)
+    consumed_on pos takes c.args.task.now c.report_count.new.self c.hand_on.new.self
+    (consumed_on pos takes c.args.task.now c.take_batch-count.new.self c.report_count.new.self
+    (consumed_on pos takes c.args.task.now c.loop.task c.take_batch-count.new.self c.loop.invariant c.take_batch-count.ensures.taken) c.report_count.ensures.reported)
+    (consumed_same pos takes c.report_count.new.self c.report_count.new.self c.hand_on.new.self h.consumer h.keeper h.sink h.seats
+    (consumed_none pos takes c.report_count.new.self c.report_count.ensures.reported.1 c.report_count.ensures.reported.4))
 
 pub returns : goal.returns
 returns g c =
@@ -25,7 +28,12 @@ returns g c =
         | in-None w ↦ subst (Consumed pos takes old) (sym w.task-is) c.loop.invariant
         | in-Some+then-count-eq0+then-over w ↦
             let h = w.hand_on.ensures in
-            subst (Consumed pos takes old) (sym w.task-is) (consumed_on pos takes old c.loop.task w.hand_on.new.self c.loop.invariant
-            (consumed_same pos takes c.loop.task w.take_batch-count.new.self w.hand_on.new.self h.consumer h.keeper h.sink h.seats w.take_batch-count.ensures.taken))
+            let told = w.report_count.ensures.reported in
+            subst (Consumed pos takes old) (sym w.task-is)
+            (consumed_on pos takes old w.report_count.new.self w.hand_on.new.self
+            (consumed_on pos takes old w.take_batch-count.new.self w.report_count.new.self
+            (consumed_on pos takes old c.loop.task w.take_batch-count.new.self c.loop.invariant w.take_batch-count.ensures.taken) told)
+            (consumed_same pos takes w.report_count.new.self w.report_count.new.self w.hand_on.new.self h.consumer h.keeper h.sink h.seats
+            (consumed_none pos takes w.report_count.new.self told.1 told.4)))
       ];
     }

@@ -69,21 +69,24 @@ returns-clause-workers g c = λ k d inside.
       worked_at c.args.jobs.now _ _ _ _ _ _ _ _ _ _ (h1.0 ∙ new.0) h2.1 (ap (λ (v : _). v.items) h2.2) h1.3 h2.3 gb.2,
     )
 
-pub returns-clause-handed_back : goal.returns-clause-handed_back
-returns-clause-handed_back g c =
+pub returns-clause-consumed : goal.returns-clause-consumed
+returns-clause-consumed g c =
     let pos = g.S.Sink.position_of in
     let takes = g.S.Sink.takes in
-    let opened = c.args.opened.items in
-    let back = c.merge.result.items in
-    let workers = c.merge.new.workers in
-    let count = length c.args.workers.now in
     let ts = c.run_threads.new.consumers in
     let ends : AllZip (Consumed pos takes) c.split.new.consumers.items ts = subst (λ (l : List (ConsumerTask g.row.S.Denot)). AllZip (Consumed pos takes) l ts) c.deref_mut.ensures.value c.run_threads.ensures.consumers in
     let len : length ts ≡ c.split.new.consumers.len = let z = zip_length (Consumed pos takes) c.split.new.consumers.items ts ends in omega (arith, c.split.new.consumers.ok.0) in
-    let consumed = ends_at pos takes opened back c.split.new.consumers.items ts c.split.ensures.consumers ends
-    (subst (λ (l : List (ConsumerTask g.row.S.Denot)). AllZip IsMergedInto l back) (lent_whole c.split.new.consumers.len ts c.split.new.consumers.items len) c.merge.ensures.consumers) in
-    let many : length workers ≡ count = c.merge.auto.workers ∙ (c.run_threads.auto.workers ∙ c.split.auto.workers) in
-    handed_back pos takes opened back c.args.jobs.now (subst (λ n. All (IsOpened pos n) opened) c.requires.count c.requires.opened) (c.merge.ensures.rings ∙ c.split.ensures.rings) consumed
+    ends_at pos takes c.args.opened.items c.merge.result.items c.split.new.consumers.items ts c.split.ensures.consumers ends
+    (subst (λ (l : List (ConsumerTask g.row.S.Denot)). AllZip IsMergedInto l c.merge.result.items) (lent_whole c.split.new.consumers.len ts c.split.new.consumers.items len) c.merge.ensures.consumers)
+
+pub returns-clause-handed_back : goal.returns-clause-handed_back
+returns-clause-handed_back g c =
+    let pos = g.S.Sink.position_of in
+    let opened = c.args.opened.items in
+    let back = c.merge.result.items in
+    let workers = c.merge.new.workers in
+    let many : length workers ≡ length c.args.workers.now = c.merge.auto.workers ∙ (c.run_threads.auto.workers ∙ c.split.auto.workers) in
+    handed_back pos g.S.Sink.takes opened back c.args.jobs.now (subst (λ n. All (IsOpened pos n) opened) c.requires.count c.requires.opened) (c.merge.ensures.rings ∙ c.split.ensures.rings) (returns-clause-consumed g c)
     (λ k d below. c.merge.ensures.seats k d below ∙ (c.run_threads.auto.workers ∙ (c.split.auto.workers ∙ c.requires.count)))
     (each_ran (workers_of opened) c.args.jobs.now (seat_rows opened) (seat_rows back) workers (many ∙ c.requires.count) (returns-clause-workers g c))
 

@@ -10,22 +10,23 @@ use Rattle.rb_workers.specs.Opened.{IsOpened, workers_of}
 use Rattle.rb_workers.specs.inner.RunBuffers.{IsEmptyFor}
 use Rattle.rb_workers.specs.SeatRows.{seat_rows, worker_column}
 use Rattle.rb_workers.proofs.Reported.{each_answered, each_told, known_rings, known_workers, ran_length, reported}
+use Rattle.rb_workers.proofs.Settling.{all_leave_nothing}
 use Rattle.rb_jobs.proofs.Lists.{zip_length}
 use Rattle.rb_workers.proofs.Parts.{rows_length}
 use Rattle.rb_workers.proofs.Whole.{lent_whole}
 use Rattle.rb_workers.proofs.jobs_run.run_known.Goals as goal
 
-pub run_in-merged-requires-clause-jobs : goal.run_in-merged-requires-clause-jobs
-run_in-merged-requires-clause-jobs g c κs within = known_rings (vec_len c.args.opened) c.args.jobs.now c.requires.rings
+pub run_and_empty-merged-requires-clause-jobs : goal.run_and_empty-merged-requires-clause-jobs
+run_and_empty-merged-requires-clause-jobs g c κs within = known_rings (vec_len c.args.opened) c.args.jobs.now c.requires.rings
 
-pub run_in-merged-requires-clause-opened : goal.run_in-merged-requires-clause-opened
-run_in-merged-requires-clause-opened g c κs within =
+pub run_and_empty-merged-requires-clause-opened : goal.run_and_empty-merged-requires-clause-opened
+run_and_empty-merged-requires-clause-opened g c κs within =
     let count = workers_of c.args.opened.items in
     let many : length c.as_mut_slice.result.now ≡ count = ap length c.as_mut_slice.ensures.value ∙ (sym c.args.buffers.workers.ok.0 ∙ c.requires.buffers.workers_count) in
     subst (λ n. All (IsOpened g.S.Sink.position_of n) c.args.opened.items) (sym many) c.requires.opened
 
-pub run_in-merged-requires-clause-workers : goal.run_in-merged-requires-clause-workers
-run_in-merged-requires-clause-workers g c κs within =
+pub run_and_empty-merged-requires-clause-workers : goal.run_and_empty-merged-requires-clause-workers
+run_and_empty-merged-requires-clause-workers g c κs within =
     let count = workers_of c.args.opened.items in
     let many : length c.as_mut_slice.result.now ≡ count = ap length c.as_mut_slice.ensures.value ∙ (sym c.args.buffers.workers.ok.0 ∙ c.requires.buffers.workers_count) in
     λ k d below. subst (λ (l : List Worker). IsNew k (vec_len c.args.opened) (get_or l k d)) (sym c.as_mut_slice.ensures.value) (c.requires.buffers.workers_new k d (omega (arith, below, many)))
@@ -34,8 +35,8 @@ pub report_on-requires-clause-known : goal.report_on-requires-clause-known
 report_on-requires-clause-known g c =
     let count = workers_of c.args.opened.items in
     let many : length c.as_mut_slice.result.now ≡ count = ap length c.as_mut_slice.ensures.value ∙ (sym c.args.buffers.workers.ok.0 ∙ c.requires.buffers.workers_count) in
-    let workers = c.run_in-merged.new.workers in
-    let len : length workers ≡ count = c.run_in-merged.auto.workers ∙ many in
+    let workers = c.run_and_empty-merged.new.workers in
+    let len : length workers ≡ count = c.run_and_empty-merged.auto.workers ∙ many in
     let same : c.as_mut_slice-2.result.now ≡ workers = c.as_mut_slice-2.ensures.value ∙ lent_whole c.args.buffers.workers.len workers c.args.buffers.workers.items (omega (arith, len, c.requires.buffers.workers_count)) in
     let longer : length c.as_mut_slice-2.result.now ≡ count = ap length same ∙ len in
     λ k d below. let known = known_workers count c.args.jobs.now c.requires.workers k d below in omega (arith, known, longer)
@@ -43,46 +44,52 @@ report_on-requires-clause-known g c =
 pub report_on-requires-clause-each : goal.report_on-requires-clause-each
 report_on-requires-clause-each g c =
     let opened = c.args.opened.items in
-    let back = c.run_in-merged.result.items in
+    let back = c.run_and_empty-merged.result.items in
     let jobs = c.args.jobs.now in
     let count = workers_of opened in
     let many : length c.as_mut_slice.result.now ≡ count = ap length c.as_mut_slice.ensures.value ∙ (sym c.args.buffers.workers.ok.0 ∙ c.requires.buffers.workers_count) in
-    let workers = c.run_in-merged.new.workers in
-    let len : length workers ≡ count = c.run_in-merged.auto.workers ∙ many in
+    let workers = c.run_and_empty-merged.new.workers in
+    let len : length workers ≡ count = c.run_and_empty-merged.auto.workers ∙ many in
     let same : c.as_mut_slice-2.result.now ≡ workers = c.as_mut_slice-2.ensures.value ∙ lent_whole c.args.buffers.workers.len workers c.args.buffers.workers.items (omega (arith, len, c.requires.buffers.workers_count)) in
     let same' : c.deref.result.now ≡ workers = c.deref.ensures.value ∙ lent_whole c.args.buffers.workers.len workers c.args.buffers.workers.items (omega (arith, len, c.requires.buffers.workers_count)) in
     let short : list_any (λ (w : Worker). w.short) workers ≡ false = ap (list_any (λ (w : Worker). w.short)) (sym same') ∙ (sym c.is_any_short.ensures ∙ c.if-is_any_short.false) in
-    let answered = each_answered count jobs (seat_rows opened) (seat_rows back) workers len short c.run_in-merged.ensures.workers in
+    let answered = each_answered count jobs (seat_rows opened) (seat_rows back) workers len short c.run_and_empty-merged.ensures.workers in
     subst (λ (l : List Worker). (k : ℕ) (d : Worker) → k < length l → length (get_or l k d).answers.items ≡ length (own_jobs k jobs)) (sym same)
     (λ k d below. ran_length (own_jobs k jobs) (get_or workers k d).answers.items (worker_column k (seat_rows opened)) (worker_column k (seat_rows back)) (answered k d (omega (arith, len, below))))
 
 pub close_all-rings-requires-clause-tallies : goal.close_all-rings-requires-clause-tallies
 close_all-rings-requires-clause-tallies g c =
-    let handed = c.run_in-merged.ensures.handed_back in
-    let z = zip_length (AllZip IsSameSeat) (seat_rows c.args.opened.items) (seat_rows c.run_in-merged.result.items) handed.seats_same in
+    let handed = c.run_and_empty-merged.ensures.handed_back in
+    let z = zip_length (AllZip IsSameSeat) (seat_rows c.args.opened.items) (seat_rows c.run_and_empty-merged.result.items) handed.seats_same in
     let old = rows_length c.args.opened.items in
-    let new = rows_length c.run_in-merged.result.items in (
-      omega (arith, c.requires.buffers.tallies_count, c.args.opened.ok.0, c.run_in-merged.result.ok.0, z, old, new),
+    let new = rows_length c.run_and_empty-merged.result.items in (
+      omega (arith, c.requires.buffers.tallies_count, c.args.opened.ok.0, c.run_and_empty-merged.result.ok.0, z, old, new),
       subst (λ n. All (IsEmptyFor n) c.args.buffers.tallies.items) (sym handed.workers_same) c.requires.buffers.tallies_fit,
     )
 
 pub returns-clause-report : goal.returns-clause-report
 returns-clause-report g c =
     let opened = c.args.opened.items in
-    let back = c.run_in-merged.result.items in
+    let back = c.run_and_empty-merged.result.items in
     let jobs = c.args.jobs.now in
     let count = workers_of opened in
     let many : length c.as_mut_slice.result.now ≡ count = ap length c.as_mut_slice.ensures.value ∙ (sym c.args.buffers.workers.ok.0 ∙ c.requires.buffers.workers_count) in
-    let workers = c.run_in-merged.new.workers in
-    let len : length workers ≡ count = c.run_in-merged.auto.workers ∙ many in
+    let workers = c.run_and_empty-merged.new.workers in
+    let len : length workers ≡ count = c.run_and_empty-merged.auto.workers ∙ many in
     let same : c.as_mut_slice-2.result.now ≡ workers = c.as_mut_slice-2.ensures.value ∙ lent_whole c.args.buffers.workers.len workers c.args.buffers.workers.items (omega (arith, len, c.requires.buffers.workers_count)) in
     let same' : c.deref.result.now ≡ workers = c.deref.ensures.value ∙ lent_whole c.args.buffers.workers.len workers c.args.buffers.workers.items (omega (arith, len, c.requires.buffers.workers_count)) in
     let short : list_any (λ (w : Worker). w.short) workers ≡ false = ap (list_any (λ (w : Worker). w.short)) (sym same') ∙ (sym c.is_any_short.ensures ∙ c.if-is_any_short.false) in
-    let answered = each_answered count jobs (seat_rows opened) (seat_rows back) workers len short c.run_in-merged.ensures.workers in
+    let answered = each_answered count jobs (seat_rows opened) (seat_rows back) workers len short c.run_and_empty-merged.ensures.workers in
     let report = c.report_on.result in
     let told = c.report_on.ensures.answers in
     let own_told : (k : ℕ) (d : Worker) → k < count → own_answers k jobs told.answers ≡ (get_or workers k d).answers.items =
     λ k d below. (subst (λ (l : List Worker). (k : ℕ) (d : Worker) → k < length l → own_answers k jobs told.answers ≡ (get_or l k d).answers.items) same told.own_are) k d (omega (arith, len, below)) in
     let closes : AllZip Closes back report.rings.items = subst (λ rings. AllZip Closes back rings.items) (sym c.report_on.ensures.rings) c.close_all-rings.ensures.closes in
-    reported g.S.Sink.position_of g.S.Sink.takes opened back jobs told.answers report c.requires.opened c.run_in-merged.ensures.handed_back told.one_each (known_workers count jobs c.requires.workers)
+    reported g.S.Sink.position_of g.S.Sink.takes opened back jobs told.answers report c.requires.opened c.run_and_empty-merged.ensures.handed_back told.one_each (known_workers count jobs c.requires.workers)
     (each_told count jobs told.answers (seat_rows opened) (seat_rows back) workers len answered own_told) closes told.results_are told.strays_are told.unlogged_is
+
+pub returns-clause-nothing_left : goal.returns-clause-nothing_left
+returns-clause-nothing_left g c =
+    let report = c.report_on.result in
+    let closes : AllZip Closes c.run_and_empty-merged.result.items report.rings.items = subst (λ rings. AllZip Closes c.run_and_empty-merged.result.items rings.items) (sym c.report_on.ensures.rings) c.close_all-rings.ensures.closes in
+    all_leave_nothing c.run_and_empty-merged.result.items report.rings.items closes c.run_and_empty-merged.ensures.drained
