@@ -5,6 +5,8 @@ pub mod Agreeing
 pub mod Holding
 pub mod Moving
 pub mod Running
+pub mod Coming
 pub mod RingSizes
 pub mod LeastRings
+pub mod TurnSizes
 pub mod Unasked

@@ -25,15 +25,10 @@ use Rattle.rb_semantics.specs.declared.value.Value.TheVariants.{Nothing, Number,
 use Rattle.rb_semantics.specs.StackPointers.{StackPointers, spill_of, is_pointer_among}
 use Rattle.rb_semantics.specs.ProgramMemory.{Memory, read, byte_of, byte_range, plain_range, part_bytes, part_pointers, record_named}
 use Rattle.rb_semantics.specs.ProgramStates.{State, register, operand_in, with_register, pointed, fill_of}
-use Rattle.rb_semantics.specs.HelperCalls.{HelperCall, Reserve, Submit, Discard, Output, call_of_helper, call_reserve, call_give_back, call_given_back, call_output, call_handed_out, call_query}
+use Rattle.rb_semantics.specs.HelperCalls.{HelperCall, Reserve, Submit, Discard, call_of_helper, call_reserve, call_give_back, call_given_back, call_output, call_handed_out, call_query}
 use Rattle.rb_semantics.specs.Instructions.{StepEffect, Goes, Ends, Asks, Stuck, goes_to, goes_by_edge, gives, execute_copy, execute_compute, execute_arithmetic, execute_load, execute_fill, after_store, execute_store, execute_spill, execute_compare, null_test, waits_for, execute_exit, execute, signed_number}
 use Rattle.rb_cost.specs.declared.asking.Asked.{Asked}
-
--- the record for which a call asks
-abbrev pub asked_by_call : HelperCall → Option Asked
-asked_by_call (Reserve id ring len flags) = Some (record { ring = ring; len = len })
-asked_by_call (Output ring bytes flags) = Some (record { ring = ring; len = length bytes })
-asked_by_call call = None
+use Rattle.rb_cost.specs.Runs.{asked_by_call}
 
 -- the record that two values name
 abbrev pub named_by : Value → Value → Option Asked

@@ -1,7 +1,7 @@
 -- Every run of a verified program stays within its cost.
 use Rattle.std.proofs.Common.{◌≡◌, ◌⊎◌, inl, inr, ⊎_elim, ℕ, ◌+◌, ◌<◌, ◌≤◌, refl, sym, ◌∙◌, ap, subst, true, false, cond, List, [], ◌∷◌, length, map, Option, Some, None, Ok, arith}
 use Rattle.std.proofs.Math.Nat.{le_trans}
-use Rattle.std.specs.Prelude.{◌==◌, pos, sum_by, is_some, option_map}
+use Rattle.std.specs.Prelude.{◌==◌, pos, sum_by, is_some, option_and_then, option_map}
 use Rattle.std.specs.List.{AllByRecursion}
 use Rattle.std.proofs.lemmas.Bool.Decides.{nat_tests}
 use Rattle.std.proofs.lemmas.List.{length-map}
@@ -38,10 +38,10 @@ use Rattle.rb_cost.specs.declared.cost.Cost.{Cost}
 use Rattle.rb_cost.specs.Paths.{IsPath}
 use Rattle.rb_cost.specs.Asking.{record_of, asked_of_helper, asked_by, asked_in, asked_at, is_on, bytes_on, is_of_ring, held_span}
 use Rattle.rb_cost.specs.Cost.{IsRingCost, IsCostUnder}
-use Rattle.rb_cost.specs.Runs.{Moment, LeadsTo, AreMoments, call_of, call_at, granted_to, granted_at, ring_by, ring_of, held_record, ring_cost_at, IsGrantedWithin, IsHeldWithin, IsRunWithin, RunsStayWithin}
+use Rattle.rb_cost.specs.Runs.{Moment, LeadsTo, AreMoments, call_of, call_at, granted_to, granted_at, asked_by_call, requested_at, ring_by, ring_of, held_record, ring_cost_at, IsAskedWithin, IsGrantedWithin, IsHeldWithin, IsRunWithin, RunsStayWithin}
 use Rattle.rb_cost.proofs.KeptReferences.{NewHolds, NewOf, edge_keeps}
 use Rattle.rb_cost.proofs.Sizes.{AreKnown, known-record_of, reserve_known, output_ring_known}
-use Rattle.rb_cost.proofs.Moving.{Moves, asked_by_call, named_by, named_for, named_before, IsNamedAt, moves}
+use Rattle.rb_cost.proofs.Moving.{Moves, named_by, named_for, named_before, IsNamedAt, moves}
 
 call_is : (insn : Insn) → is_call insn ≡ true → falls_through insn ≡ true
 call_is (Call code) e = refl
@@ -249,6 +249,14 @@ module _ (subject : Subject) (a : Annotation) (valid : IsValid (limits_of subjec
       (λ same. let e : f (granted_at program m) ≡ f (asked_at program a m.state.unit) = ap f same in omega arith)
       (granted_cases (call_at program m) m.answer (asked_at program a m.state.unit) (λ c is. (call_asks m.state u (next_step program m.state) refl c is).0))
 
+  -- what the call of a moment asks for is what is known to be asked for there
+  asked_below : (f : Option Asked → ℕ) → f None ≡ 0 → (m : Moment) → Can m.state → f (requested_at program m) ≤ f (asked_at program a m.state.unit)
+  asked_below f none m u = by_call (call_at program m) refl
+    where
+      by_call : (call : Option HelperCall) → call_at program m ≡ call → f (option_and_then asked_by_call call) ≤ f (asked_at program a m.state.unit)
+      by_call None is = let zero : f None ≡ 0 = none in omega arith
+      by_call (Some c) is = let e : f (asked_by_call c) ≡ f (asked_at program a m.state.unit) = ap f (call_asks m.state u (next_step program m.state) refl c is).0 in omega arith
+
   call_below : (m : Moment) → Can m.state → cond (is_some (call_at program m)) 1 0 ≤ cond (calls (slot_at program m.state.unit)) 1 0
   call_below m u = by_call (call_at program m) refl
     where
@@ -292,6 +300,15 @@ module _ (subject : Subject) (a : Annotation) (valid : IsValid (limits_of subjec
         let most_bytes = known.bytes.most (units (m ∷ before)) h.path in
         record { records = le_trans records most_records; bytes = le_trans bytes most_bytes }
 
+    asked_within : (ring : ℕ) → ring < subject.rings → IsAskedWithin program (m ∷ before) ring (ring_cost_at cost ring)
+    asked_within ring lt =
+        let known : IsRingCost program a ring (ring_cost_at cost ring) = c.rings ring lt in
+        let records : sum_by (λ m. cond (is_on ring (requested_at program m)) 1 0) (m ∷ before) ≤ sum_by (λ unit. cond (is_on ring (asked_at program a unit)) 1 0) (units (m ∷ before)) =
+        sum_below (λ m. cond (is_on ring (requested_at program m)) 1 0) (λ unit. cond (is_on ring (asked_at program a unit)) 1 0) (asked_below (λ asked. cond (is_on ring asked) 1 0) refl) (m ∷ before) all_can in
+        let bytes : sum_by (λ m. bytes_on ring (requested_at program m)) (m ∷ before) ≤ sum_by (λ unit. bytes_on ring (asked_at program a unit)) (units (m ∷ before)) =
+        sum_below (λ m. bytes_on ring (requested_at program m)) (λ unit. bytes_on ring (asked_at program a unit)) (asked_below (bytes_on ring) refl) (m ∷ before) all_can in
+        record { records = le_trans records (known.records.most (units (m ∷ before)) h.path); bytes = le_trans bytes (known.bytes.most (units (m ∷ before)) h.path) }
+
     held_within : (ring : ℕ) → ring < subject.rings → IsHeldWithin program before m.state.memory.records ring (ring_cost_at cost ring)
     held_within ring lt =
         let known : IsRingCost program a ring (ring_cost_at cost ring) = c.rings ring lt in
@@ -310,6 +327,7 @@ module _ (subject : Subject) (a : Annotation) (valid : IsValid (limits_of subjec
       calls =
           le_trans (sum_below (λ m. cond (is_some (call_at program m)) 1 0) (λ unit. cond (calls (slot_at program unit)) 1 0) call_below (m ∷ before) all_can)
           (c.calls.most (units (m ∷ before)) h.path);
+      asked = asked_within;
       granted = granted_within;
       held = held_within;
     }

@@ -2,6 +2,8 @@ pub mod Paths
 pub mod Asking
 pub mod Cost
 pub mod Runs
+pub mod RunMoments
 pub mod RingSize
+pub mod TurnSize
 pub mod CostLines
 pub mod inner

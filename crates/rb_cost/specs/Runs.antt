@@ -1,5 +1,5 @@
 -- What the runs of a program cost, by its meaning, and the law that they stay within its cost.
-use Rattle.std.specs.Prelude.{◌≡◌, ℕ, ◌==◌, ◌<◌, ◌≤◌, pos, List, [], ◌∷◌, length, count_by, sum_by, Option, Some, None, is_some, option_map, slice_index_or, if◌then◌else◌}
+use Rattle.std.specs.Prelude.{◌≡◌, ℕ, ◌==◌, ◌<◌, ◌≤◌, pos, List, [], ◌∷◌, length, count_by, sum_by, Option, Some, None, is_some, option_and_then, option_map, slice_index_or, if◌then◌else◌}
 use Rattle.rb_insn.specs.declared.insn.Insn.{Insn}
 use Rattle.rb_program.specs.Shape.{IsWellShaped, IsInstructionStart}
 use Rattle.rb_verifier.specs.Annotation.{HasValid}
@@ -47,6 +47,15 @@ granted_to call answer = None
 abbrev pub granted_at : List Insn → Moment → Option Asked
 granted_at program m = granted_to (call_at program m) m.answer
 
+-- the record for which a call asks, whatever it is answered
+abbrev pub asked_by_call : HelperCall → Option Asked
+asked_by_call (Reserve id ring len flags) = Some (record { ring = ring; len = len })
+asked_by_call (Output ring bytes flags) = Some (record { ring = ring; len = length bytes })
+asked_by_call call = None
+
+abbrev pub requested_at : List Insn → Moment → Option Asked
+requested_at program m = option_and_then asked_by_call (call_at program m)
+
 -- the ring on which a call reserves the record of an id
 abbrev pub ring_by : Option HelperCall → ℕ → Option ℕ → Option ℕ
 ring_by (Some (Reserve reserved ring len flags)) id before = if reserved == id then Some ring else before
@@ -66,6 +75,11 @@ pub record IsGrantedWithin (program : List Insn) (moments : List Moment) (ring :
   pub records : count_by (λ m. is_on ring (granted_at program m)) moments ≤ cost.records
   pub bytes : sum_by (λ m. bytes_on ring (granted_at program m)) moments ≤ cost.bytes
 
+-- nor is what it asked that ring for, granted or refused
+pub record IsAskedWithin (program : List Insn) (moments : List Moment) (ring : ℕ) (cost : RingCost) : Type 0 where
+  pub records : count_by (λ m. is_on ring (requested_at program m)) moments ≤ cost.records
+  pub bytes : sum_by (λ m. bytes_on ring (requested_at program m)) moments ≤ cost.bytes
+
 -- nor are the records of a ring that the program holds after these moments
 pub record IsHeldWithin (program : List Insn) (before : List Moment) (held : List (ℕ × List ℕ)) (ring : ℕ) (cost : RingCost) : Type 0 where
   pub records : count_by (λ r. is_on ring (held_record program before r)) held ≤ cost.held_records
@@ -75,10 +89,11 @@ pub record IsHeldWithin (program : List Insn) (before : List Moment) (held : Lis
 abbrev pub ring_cost_at : Cost → ℕ → RingCost
 ring_cost_at cost ring = slice_index_or cost.rings.items ring no_ring_cost
 
--- a run that came to a moment stayed within a cost: its steps, its calls, what it was granted, and what it holds there
+-- a run that came to a moment stayed within a cost: its steps, its calls, what it asked for, what it was granted, and what it holds there
 pub record IsRunWithin (subject : Subject) (cost : Cost) (last : Moment) (before : List Moment) : Type 0 where
   pub steps : length (last ∷ before) ≤ cost.steps
   pub calls : count_by (λ m. is_some (call_at subject.program m)) (last ∷ before) ≤ cost.calls
+  pub asked : (ring : ℕ) → ring < subject.rings → IsAskedWithin subject.program (last ∷ before) ring (ring_cost_at cost ring)
   pub granted : (ring : ℕ) → ring < subject.rings → IsGrantedWithin subject.program (last ∷ before) ring (ring_cost_at cost ring)
   pub held : (ring : ℕ) → ring < subject.rings → IsHeldWithin subject.program before last.state.memory.records ring (ring_cost_at cost ring)
 

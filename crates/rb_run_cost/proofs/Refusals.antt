@@ -1,7 +1,7 @@
 -- A ring whose consumer keeps up refuses no worker a record, by the tallies of its seats.
-use Rattle.std.proofs.Common.{◌≡◌, ℕ, ◌+◌, ◌≤◌, suc, refl, sym, ap, subst, cond, Bool, true, false, List, [], ◌∷◌, get_or, arith}
+use Rattle.std.proofs.Common.{◌≡◌, ℕ, ◌+◌, ◌≤◌, ◌<◌, suc, refl, sym, ap, subst, cond, Bool, true, false, List, [], ◌∷◌, length, map, get_or, Some, None, arith}
 use Rattle.std.specs.Prelude.{All, ◌==◌}
-use Rattle.std.specs.List.{count_by}
+use Rattle.std.specs.List.{AllZip, count_by, sum_by}
 use Rattle.std.proofs.lemmas.List.Elements.{All-cons, All-map, All-nil}
 use Rattle.std.proofs.lemmas.List.Sums.{sum_by-cons}
 use Rattle.rb_history.specs.declared.entries.Entry.{Entry}
@@ -9,21 +9,32 @@ use Rattle.rb_history.specs.declared.entries.Entry.TheVariants.{Res, Full, Sub, 
 use Rattle.rb_history.specs.declared.tally.Tally.{Tally}
 use Rattle.rb_history.specs.Counting.{is_refusal_entry}
 use Rattle.rb_history.specs.WorkerCounts.{is_refusal_of}
-use Rattle.rb_history.proofs.Lists.{sum_by-add}
+use Rattle.rb_history.specs.Span.{span}
+use Rattle.rb_history.proofs.Lists.{opt_sum, sum_by-add, sum_by-only}
 use Rattle.rb_ledger.specs.Seats.{WorkerSeat}
 use Rattle.rb_ledger.specs.ChapterClosing.{AreTied, bound_book}
 use Rattle.rb_ledger.proofs.BoundChapters.{tied-once-bound}
-use Rattle.rb_cost.proofs.RingSizes.{none_refused}
+use Rattle.rb_admission.specs.Admission.{asked_span, asked_bytes}
+use Rattle.rb_admission.proofs.OnTime.{none_refused_on_time}
+use Rattle.rb_cost.specs.declared.cost.Cost.{Cost}
+use Rattle.rb_cost.specs.Runs.{ring_cost_at}
+use Rattle.rb_call_cost.specs.CallCosts.{AreCallsWithin, asked_span as asked_by}
+use Rattle.rb_call_cost.proofs.TracedCalls.{calls_stay}
+use Rattle.rb_job_cost.specs.JobRequests.{Request, request_of, requests_of, AreLeft}
+use Rattle.rb_job_cost.specs.JobCosts.{requested_bytes}
+use Rattle.rb_job_cost.proofs.Asking.{all_calls}
+use Rattle.rb_jobs.specs.declared.job.Job.{Job}
+use Rattle.rb_jobs.specs.SeatRecords.{reserved_bytes, with_record_bytes}
 use Rattle.rb_interp.specs.declared.done.Done.{Done}
 use Rattle.rb_interp.specs.AnsweredCalls.{notes_of}
 use Rattle.rb_jobs.specs.SeatHelpers.{makes, fails, call_total, refused_in}
 use Rattle.rb_workers.specs.declared.opened.Opened.{Opened}
 use Rattle.rb_workers.specs.declared.opened.Ended.{Ended}
-use Rattle.rb_workers.specs.JobRuns.{JobRun}
-use Rattle.rb_workers.specs.Reports.{RingEnds, RingsEnd, refused_by_all, times_in}
+use Rattle.rb_workers.specs.JobRuns.{JobRun, own_runs}
+use Rattle.rb_workers.specs.Reports.{IsRun, RingEnds, RingsEnd, refused_by_all, times_in}
 use Rattle.rb_workers.specs.SeatRows.{seat_rows}
 use Rattle.rb_workers.specs.Sink.{SinkItem}
-use Rattle.rb_run_cost.specs.RunCosts.{NoJobIsRefused, RefusesNone, RingKeepsUp, asks}
+use Rattle.rb_run_cost.specs.RunCosts.{CostsAtMost, NoJobIsRefused, RefusesNone, RingKeepsUp, RingsKeepUp, asks}
 
 -- ---- the refusals of one worker are among those of a history
 
@@ -47,6 +58,71 @@ fewer w (e ∷ h) =
     let rest : count_by (is_refusal_of w) h ≤ count_by is_refusal_entry h = fewer w h in
     omega arith
 
+-- ---- one run
+
+-- what a worker asks for in a part of a history is what its requests there ask for
+asked_is : (w : ℕ) (entries : List Entry) → asked_bytes w entries ≡ requested_bytes (requests_of w entries)
+asked_is w entries = sum_by-only (asked_span w) (request_of w) (λ (q : Request). span q.len) one_asks entries
+  where
+    by_test : (b granted : Bool) (n : ℕ) → cond b (span n) 0 ≡ opt_sum (λ (q : Request). span q.len) (cond b (Some (record { len = n; granted = granted })) None)
+    by_test true granted n = refl
+    by_test false granted n = refl
+
+    one_asks : (e : Entry) → asked_span w e ≡ opt_sum (λ (q : Request). span q.len) (request_of w e)
+    one_asks (Res v k n p) = by_test (v == w) true n
+    one_asks (Full v n) = by_test (v == w) false n
+    one_asks (Sub p) = refl
+    one_asks (Dis p) = refl
+    one_asks (Take p) = refl
+
+-- a worker without requests asks for nothing
+idle_within : (most w : ℕ) (entries : List Entry) → requests_of w entries ≡ [] → asked_bytes w entries ≤ most
+idle_within most w entries none =
+    let same : asked_bytes w entries ≡ requested_bytes (requests_of w entries) = asked_is w entries in
+    let zero : requested_bytes (requests_of w entries) ≡ requested_bytes [] = ap requested_bytes none in
+    omega arith
+
+-- a run asks a ring for no more than its job costs
+abbrev RunCosts : ℕ → ℕ → (Job → Cost) → JobRun → Type 0
+RunCosts rings most costs run = IsRun run × CostsAtMost rings most run.job (costs run.job)
+
+run_within : (rings most ring w : ℕ) (costs : Job → Cost) (run : JobRun) (entries : List Entry) → ring < rings → RunCosts rings most costs run → AreLeft ring (notes_of run.calls) (requests_of w entries)
+    → asked_bytes w entries ≤ most
+run_within rings most ring w costs run entries lt ran left =
+    let knows : rings ≤ run.job.program.now.rings = ran.1.knows in
+    let calls : AreCallsWithin run.job.program.now (costs run.job) (notes_of run.calls) =
+    calls_stay reserved_bytes with_record_bytes run.job.program.now (costs run.job) run.job.ctx.now run.calls run.answer.result ran.1.verified ran.1.is ran.0.length_is ran.0.shows in
+    let bytes : sum_by (asked_by ring) (notes_of run.calls) ≤ (ring_cost_at (costs run.job) ring).bytes = calls.bytes ring (omega arith) in
+    let most_bytes : (ring_cost_at (costs run.job) ring).bytes ≤ most = ran.1.within ring lt in
+    let asked : requested_bytes (requests_of w entries) ≤ sum_by (asked_by ring) (notes_of run.calls) = all_calls ring (notes_of run.calls) (requests_of w entries) left in
+    let same : asked_bytes w entries ≡ requested_bytes (requests_of w entries) = asked_is w entries in
+    omega arith
+
+parts_within : (rings most ring w : ℕ) (costs : Job → Cost) → ring < rings → (runs : List JobRun) (parts : List (List Entry)) → All (RunCosts rings most costs) runs
+    → AllZip (λ run entries. AreLeft ring (notes_of run.calls) (requests_of w entries)) runs parts → All (λ entries. asked_bytes w entries ≤ most) parts
+parts_within rings most ring w costs lt [] [] all each = All-nil (λ entries. asked_bytes w entries ≤ most)
+parts_within rings most ring w costs lt [] (p ∷ parts) all each = absurd each
+parts_within rings most ring w costs lt (run ∷ runs) [] all each = absurd each
+parts_within rings most ring w costs lt (run ∷ runs) (p ∷ parts) all each =
+    All-cons (λ entries. asked_bytes w entries ≤ most) p parts (run_within rings most ring w costs run p lt (all 0 run (omega arith)) each.0)
+    (parts_within rings most ring w costs lt runs parts (λ k d lt. all (suc k) d (omega arith)) each.1)
+
+-- what holds of all runs holds of a worker's own
+own_all : (Q : JobRun → Type 0) (w : ℕ) (runs : List JobRun) → All Q runs → All Q (own_runs w runs)
+own_all Q w [] all = All-nil Q
+own_all Q w (run ∷ runs) all = by_test (run.job.worker == w) (own_all Q w runs (λ k d lt. all (suc k) d (omega arith)))
+  where
+    by_test : (b : Bool) → All Q (own_runs w runs) → All Q (cond b (run ∷ own_runs w runs) (own_runs w runs))
+    by_test true rest = All-cons Q run (own_runs w runs) (all 0 run (omega arith)) rest
+    by_test false rest = rest
+
+-- and what holds of all jobs of all their runs
+jobs_all : (P : Job → Type 0) (Q : JobRun → Type 0) (runs : List JobRun) → All P (map (λ run. run.job) runs) → All Q runs → All (λ run. Q run × P run.job) runs
+jobs_all P Q [] jobs all = All-nil (λ run. Q run × P run.job)
+jobs_all P Q (run ∷ runs) jobs all =
+    All-cons (λ run. Q run × P run.job) run runs (all 0 run (omega arith), jobs 0 run.job (omega arith))
+    (jobs_all P Q runs (λ k d lt. jobs (suc k) d (omega arith)) (λ k d lt. all (suc k) d (omega arith)))
+
 -- ---- one ring
 
 none_in : (seats : List WorkerSeat) → All (λ s. s.tally.refused ≡ 0) seats → refused_in seats ≡ 0
@@ -57,13 +133,19 @@ none_in (s ∷ seats) all =
     let rest : refused_in seats ≡ 0 = none_in seats (λ k d lt. all (suc k) d (omega arith)) in
     omega arith
 
-module _ {S : Type 0} (position : S → ℕ) (takes : S → SinkItem → S → Type 0) where
-  module _ (o : Opened S) (ended : Ended S) (seats : List WorkerSeat) (ends : RingEnds position takes o ended seats) (keeps : RingKeepsUp ended) where
+module _ {S : Type 0} (position : S → ℕ) (takes : S → SinkItem → S → Type 0) (runs : List JobRun) (costs : Job → Cost) (rings most behind : ℕ) (ran : All (RunCosts rings most costs) runs) where
+  module _ (ring : ℕ) (inside : ring < rings) (o : Opened S) (ended : Ended S) (seats : List WorkerSeat) (ends : RingEnds position takes o ended seats) (keeps : RingKeepsUp ring runs most behind ended) where
     tied : AreTied seats ends.consumer (bound_book ended.closing.at_end keeps.history)
     tied = tied-once-bound ended.closing.at_end seats ends.consumer keeps.chapters keeps.history ends.closed.gathered keeps.bound
 
     none : count_by is_refusal_entry keeps.history ≡ 0
-    none = none_refused ended.closing.at_end.chapter.opening.setup keeps.history keeps.workers keeps.behind keeps.most keeps.bound.legal keeps.keeps_up.larger keeps.keeps_up.within
+    none = none_refused_on_time ended.closing.at_end.chapter.opening.setup most behind keeps.history (λ w. keeps.idle w ∷ keeps.parts w) keeps.bound.legal keeps.low
+        (λ w lt. record {
+          whole = (keeps.cut w lt).whole;
+          each = All-cons (λ entries. asked_bytes w entries ≤ most) (keeps.idle w) (keeps.parts w) (idle_within most w (keeps.idle w) (keeps.cut w lt).asks_nothing)
+              (parts_within rings most ring w costs inside (own_runs w runs) (keeps.parts w) (own_all (RunCosts rings most costs) w runs ran) (keeps.cut w lt).each);
+        })
+        keeps.late keeps.larger
 
     seats_none : All (λ s. s.tally.refused ≡ 0) seats
     seats_none k d lt =
@@ -78,20 +160,20 @@ module _ {S : Type 0} (position : S → ℕ) (takes : S → SinkItem → S → T
 
   -- ---- all rings
 
-  all_rings : (os : List (Opened S)) (es : List (Ended S)) (rows : List (List WorkerSeat)) → RingsEnd position takes os es rows → All RingKeepsUp es
+  all_rings : (ring : ℕ) (os : List (Opened S)) (es : List (Ended S)) (rows : List (List WorkerSeat)) → ring + length es ≡ rings → RingsEnd position takes os es rows → RingsKeepUp ring runs most behind es
       → All RefusesNone es × (refused_by_all rows ≡ 0)
-  all_rings [] [] [] ends keep = (All-nil RefusesNone, refl)
-  all_rings (o ∷ os) (e ∷ es) (seats ∷ rows) ends keep =
-      let keeps : RingKeepsUp e = keep 0 e (omega arith) in
-      let rest = all_rings os es rows ends.1 (λ k d lt. keep (suc k) d (omega arith)) in
-      let none : refused_in seats ≡ 0 = none_in seats (seats_none o e seats ends.0 keeps) in
+  all_rings ring [] [] [] long ends keep = (All-nil RefusesNone, refl)
+  all_rings ring (o ∷ os) (e ∷ es) (seats ∷ rows) long ends keep =
+      let inside : ring < rings = omega arith in
+      let rest = all_rings (ring + 1) os es rows (omega arith) ends.1 keep.1 in
+      let none : refused_in seats ≡ 0 = none_in seats (seats_none ring inside o e seats ends.0 keep.0) in
       let others : refused_by_all rows ≡ 0 = rest.1 in
       let more : refused_by_all (seats ∷ rows) ≡ refused_in seats + refused_by_all rows = sum_by-cons refused_in seats rows in
-      (All-cons RefusesNone e es (tallies_none o e seats ends.0 keeps) rest.0, omega arith)
-  all_rings [] (e ∷ es) rows ends keep = absurd ends
-  all_rings [] [] (seats ∷ rows) ends keep = absurd ends
-  all_rings (o ∷ os) [] rows ends keep = absurd ends
-  all_rings (o ∷ os) (e ∷ es) [] ends keep = absurd ends
+      (All-cons RefusesNone e es (tallies_none ring inside o e seats ends.0 keep.0) rest.0, omega arith)
+  all_rings ring [] (e ∷ es) rows long ends keep = absurd ends
+  all_rings ring [] [] (seats ∷ rows) long ends keep = absurd ends
+  all_rings ring (o ∷ os) [] rows long ends keep = absurd ends
+  all_rings ring (o ∷ os) (e ∷ es) [] long ends keep = absurd ends
 
 -- ---- what calls ask for
 
@@ -99,14 +181,17 @@ asked_in : (calls : List Done) → call_total asks calls ≡ call_total makes ca
 asked_in [] = refl
 asked_in (call ∷ calls) = let rest : call_total asks calls ≡ call_total makes calls + call_total fails calls = asked_in calls in omega arith
 
-asked_by : (runs : List JobRun) → times_in asks runs ≡ times_in makes runs + times_in fails runs
-asked_by runs =
+asked_in_all : (runs : List JobRun) → times_in asks runs ≡ times_in makes runs + times_in fails runs
+asked_in_all runs =
     sum_by-add (λ (run : JobRun). call_total makes (notes_of run.calls)) (λ (run : JobRun). call_total fails (notes_of run.calls)) (λ (run : JobRun). call_total asks (notes_of run.calls)) (λ run. asked_in (notes_of run.calls)) runs
 
 pub no_job_refused : {S : Type 0} (position : S → ℕ) (takes : S → SinkItem → S → Type 0) → NoJobIsRefused position takes
-no_job_refused position takes opened jobs report is keep =
-    let rings = all_rings position takes opened report.rings.items is.seats is.rings_end keep in
+no_job_refused position takes opened jobs report is costs most behind each keep =
+    let rings_count : ℕ = length report.rings.items in
+    let ran : All (RunCosts rings_count most costs) is.runs =
+    jobs_all (λ job. CostsAtMost rings_count most job (costs job)) IsRun is.runs (subst (All (λ job. CostsAtMost rings_count most job (costs job))) (sym is.jobs_are) each) is.runs_match in
+    let rings = all_rings position takes is.runs costs rings_count most behind ran 0 opened report.rings.items is.seats (omega arith) is.rings_end keep in
     let none : refused_by_all is.seats ≡ 0 = rings.1 in
     let failed : refused_by_all is.seats + report.unlogged ≡ refused_by_all (seat_rows opened) + times_in fails is.runs = is.failures_add_up in
-    let asked : times_in asks is.runs ≡ times_in makes is.runs + times_in fails is.runs = asked_by is.runs in
+    let asked : times_in asks is.runs ≡ times_in makes is.runs + times_in fails is.runs = asked_in_all is.runs in
     record { refused = rings.0; made = omega arith }

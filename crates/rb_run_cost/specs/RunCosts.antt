@@ -1,39 +1,70 @@
 -- What running jobs are refused, where the consumers of their rings keep up (own).
-use Rattle.std.specs.Prelude.{◌≡◌, ℕ, ◌+◌, ◌*◌, ◌<◌, ◌≤◌, All, List, ◌∷◌, ◌++◌, length}
+use Rattle.std.specs.Prelude.{◌≡◌, ℕ, ◌+◌, ◌*◌, ◌<◌, ◌≤◌, ◌^◌, All, List, [], ◌∷◌, ◌++◌, length, slice_get, Some}
+use Rattle.std.specs.List.{AllZip, flat_map}
 use Rattle.rb_history.specs.declared.entries.Entry.{Entry}
-use Rattle.rb_history.specs.declared.entries.Entry.TheVariants.{Full}
-use Rattle.rb_history.specs.History.{Shown}
-use Rattle.rb_history.specs.RoomRule.{Setup}
+use Rattle.rb_history.specs.History.{producer_of}
 use Rattle.rb_chapter_ring.specs.Chapters.{Chapter}
 use Rattle.rb_chapter_ring.specs.WholeHistory.{IsBound}
-use Rattle.rb_cost.specs.RingSize.{IsBelowLimit, AreOfJobs}
+use Rattle.rb_admission.specs.Lateness.{IsLateByAtMost}
+use Rattle.rb_cost.specs.declared.cost.Cost.{Cost}
+use Rattle.rb_cost.specs.Cost.{IsCost}
+use Rattle.rb_cost.specs.Runs.{ring_cost_at}
+use Rattle.rb_call_cost.specs.CallCosts.{IsVerified}
+use Rattle.rb_ledger.specs.Seats.{WorkerSeat}
 use Rattle.rb_interp.specs.declared.done.Done.{Done}
+use Rattle.rb_interp.specs.AnsweredCalls.{notes_of}
 use Rattle.rb_jobs.specs.SeatHelpers.{makes, fails}
 use Rattle.rb_jobs.specs.declared.job.Job.{Job}
+use Rattle.rb_job_cost.specs.JobRequests.{AreLeft, requests_of}
 use Rattle.rb_workers.specs.declared.opened.Opened.{Opened}
 use Rattle.rb_workers.specs.declared.opened.Ended.{Ended}
 use Rattle.rb_workers.specs.declared.opened.JobsReport.{JobsReport}
-use Rattle.rb_workers.specs.JobRuns.{JobRun}
+use Rattle.rb_workers.specs.JobRuns.{JobRun, RunsInTurn, own_runs}
 use Rattle.rb_workers.specs.Reports.{IsReport, refused_by_all, times_in}
 use Rattle.rb_workers.specs.SeatRows.{seat_rows}
 use Rattle.rb_workers.specs.Sink.{SinkItem}
 
--- A history whose consumer kept up, for so many workers: wherever a record was refused, the untaken ones and that one were of jobs that ask the ring for at most
--- so many bytes each, one for each worker at most, and so many that the consumer was behind; and the ring has more bytes than those ask for together.
-pub record KeepsUp (r : Setup) (h : List Entry) (workers behind most : ℕ) : Type 0 where
-  pub larger : (behind + workers) * most < r.size
-  pub within : (before after : List Entry) (w n : ℕ) → h ≡ before ++ Full w n ∷ after
-      → (job : Shown → ℕ) × (jobs : List ℕ) × (asking : ℕ) × IsBelowLimit r before n × AreOfJobs job jobs asking most before n × (length jobs ≤ behind + workers)
+-- The runs of a worker cut the history of a ring into parts: one before its first run, in which it asks for nothing, and one for each run in their order. The
+-- requests of the worker in a run's part, granted and refused, are those that the calls of that run left there (`calls_leave_their_requests`). So a record is of
+-- the run in whose part the worker reserved it.
+pub record RunsCut (ring w : ℕ) (runs : List JobRun) (h idle : List Entry) (parts : List (List Entry)) : Type 0 where
+  pub whole : h ≡ idle ++ flat_map (λ entries. entries) parts
+  pub asks_nothing : requests_of w idle ≡ []
+  pub each : AllZip (λ run entries. AreLeft ring (notes_of run.calls) (requests_of w entries)) runs parts
 
--- a ring that was closed kept up: so does the history to which its last chapter was bound, behind others of the ring
-pub record RingKeepsUp {S : Type 0} (ended : Ended S) : Type 0 where
-  pub workers : ℕ
-  pub behind : ℕ
-  pub most : ℕ
+-- There is such a cut of every history in which the worker's requests are those that its seat has seen after the runs, if it had seen none of its own before them.
+abbrev pub RunsCutHistories : Type 0
+RunsCutHistories =
+    (ring w : ℕ) (runs : List JobRun) (old new : List WorkerSeat) (before : WorkerSeat) → RunsInTurn runs old new → slice_get old ring ≡ Some before → before.worker ≡ w
+    → requests_of w before.seen.history ≡ []
+    → (after : WorkerSeat) × (slice_get new ring ≡ Some after)
+    × ((h : List Entry) → requests_of w h ≡ requests_of w after.seen.history → (idle : List Entry) × (parts : List (List Entry)) × RunsCut ring w runs h idle parts)
+
+-- The consumer of a ring that was closed kept up with the runs of its workers: it was never late by more than `behind` of them, by the history to which the
+-- chapters of the ring were bound. The ring has more bytes than one run of each of its workers and `behind` more ask for together, where each asks for at most
+-- `most`. Its positions stay below 2^62 by as much.
+pub record RingKeepsUp {S : Type 0} (ring : ℕ) (runs : List JobRun) (most behind : ℕ) (ended : Ended S) : Type 0 where
   pub chapters : List Chapter
   pub history : List Entry
   pub bound : IsBound chapters ended.closing.at_end.chapter history
-  pub keeps_up : KeepsUp ended.closing.at_end.chapter.opening.setup history workers behind most
+  pub idle : ℕ → List Entry
+  pub parts : ℕ → List (List Entry)
+  pub cut : (w : ℕ) → w < ended.closing.at_end.chapter.opening.setup.workers → RunsCut ring w (own_runs w runs) history (idle w) (parts w)
+  pub late : IsLateByAtMost ended.closing.at_end.chapter.opening.setup history (λ w. idle w ∷ parts w) behind
+  pub larger : (behind + ended.closing.at_end.chapter.opening.setup.workers) * most < ended.closing.at_end.chapter.opening.setup.size
+  pub low : producer_of ended.closing.at_end.chapter.opening.setup.start history + most ≤ 2 ^ 62
+
+-- each ring did, from a number of a ring on
+abbrev pub RingsKeepUp : {S : Type 0} → ℕ → List JobRun → (most behind : ℕ) → List (Ended S) → Type 0
+RingsKeepUp ring runs most behind [] = Unit {0}
+RingsKeepUp ring runs most behind (ended ∷ more) = RingKeepsUp ring runs most behind ended × RingsKeepUp (ring + 1) runs most behind more
+
+-- The job's program was verified for so many rings at least, costs what is said, and asks each of these rings for at most `most` bytes.
+pub record CostsAtMost (rings most : ℕ) (job : Job) (cost : Cost) : Type 0 where
+  pub verified : IsVerified job.program.now
+  pub is : IsCost job.program.now cost
+  pub knows : rings ≤ job.program.now.rings
+  pub within : (ring : ℕ) → ring < rings → (ring_cost_at cost ring).bytes ≤ most
 
 -- by the tallies of a ring none of its workers was refused a record
 abbrev pub RefusesNone : {S : Type 0} → Ended S → Type 0
@@ -49,8 +80,9 @@ pub record NoneRefused {S : Type 0} (opened : List (Opened S)) (report : JobsRep
   pub refused : All RefusesNone report.rings.items
   pub made : times_in asks runs + refused_by_all (seat_rows opened) ≡ times_in makes runs + report.unlogged
 
--- so it is of every report of a run whose rings all kept up
+-- so it is of every report of a run whose rings all kept up, where `most` is the greatest cost of a job's program at a ring
 abbrev pub NoJobIsRefused : {S : Type 0} → (S → ℕ) → (S → SinkItem → S → Type 0) → Type 0
 NoJobIsRefused {S} position takes =
-    (opened : List (Opened S)) (jobs : List Job) (report : JobsReport S) (is : IsReport position takes opened jobs report) → All RingKeepsUp report.rings.items
+    (opened : List (Opened S)) (jobs : List Job) (report : JobsReport S) (is : IsReport position takes opened jobs report) (costs : Job → Cost) (most behind : ℕ)
+    → All (λ job. CostsAtMost (length report.rings.items) most job (costs job)) jobs → RingsKeepUp 0 is.runs most behind report.rings.items
     → NoneRefused opened report is.runs

@@ -1,3 +1,4 @@
 mod Sums
 mod WorkersCome
 mod BusyBounds
+mod WorkersWithin

@@ -1,5 +1,5 @@
 -- What the rings of a world hold at most.
-use Rattle.std.specs.Prelude.{ℕ, ◌<◌, ◌≤◌, List, if◌then◌else◌}
+use Rattle.std.specs.Prelude.{◌≡◌, ℕ, ◌<◌, ◌≤◌, List, ◌∷◌, None, if◌then◌else◌}
 use Rattle.std.specs.List.{All, sum_by}
 use Rattle.rb_history.specs.declared.entries.Entry.{Entry}
 use Rattle.rb_history.specs.Span.{span}
@@ -9,9 +9,9 @@ use Rattle.rb_history.specs.Counting.{is_same}
 use Rattle.rb_history.specs.WorkerCounts.{numbers_below}
 use Rattle.rb_cost.specs.declared.cost.Cost.{Cost}
 use Rattle.rb_cost.specs.Cost.{IsCost}
-use Rattle.rb_cost.specs.Runs.{ring_cost_at}
+use Rattle.rb_cost.specs.Runs.{Moment, AreMoments, IsRunWithin, ring_cost_at}
 use Rattle.rb_world.specs.declared.actor.Actor.{Actor}
-use Rattle.rb_world.specs.Worlds.{WorkerStatus, Running, World}
+use Rattle.rb_world.specs.Worlds.{WorkerStatus, Running, WorkerState, World}
 use Rattle.rb_world.specs.Turns.{TurnEvent, WorldRun}
 use Rattle.rb_world.specs.OpeningWorld.{IsOpeningWorld, IsActor}
 
@@ -35,3 +35,19 @@ BusyBytesAreBounded =
     → WorldRun first actors events last → ((w : ℕ) → w < first.worker_count → IsCost (first.workers w).subject (costs w))
     → ((w : ℕ) → w < first.worker_count → r < (first.workers w).subject.rings)
     → busy_bytes (last.rings r).ring.history ≤ sum_by (may_hold last costs r) (numbers_below first.worker_count)
+
+-- the moment at which a worker is, before its next instruction
+abbrev pub moment_of : WorkerState → Moment
+moment_of x = record { state = x.state; answer = None }
+
+-- From one state of a worker to another lead moments of a run of its program, and the run stays within a cost.
+pub record HasRunWithin (start now : WorkerState) (cost : Cost) : Type 0 where
+  pub before : List Moment
+  pub moments : AreMoments start.subject.program start.state (moment_of now ∷ before)
+  pub within : IsRunWithin start.subject cost (moment_of now) before
+
+-- in every interleaving each worker stays within the cost of its program as long as it runs, so at each moment of its run
+abbrev pub WorkersStayWithin : Type 0
+WorkersStayWithin =
+    (first last : World) (actors : List Actor) (events : List TurnEvent) (w : ℕ) (cost : Cost) → IsOpeningWorld first → WorldRun first actors events last
+    → w < first.worker_count → IsCost (first.workers w).subject cost → (last.workers w).status ≡ Running → HasRunWithin (first.workers w) (last.workers w) cost
