@@ -1,0 +1,3 @@
+mod Feeds
+mod LaneLaws
+mod Streams

@@ -1,0 +1,4 @@
+pub mod Dealt
+pub mod Queues
+pub mod Streams
+pub mod inner

@@ -1,0 +1,39 @@
+//! How long a thread waits that finds nothing to do.
+
+use crossbeam_utils::Backoff;
+use std::sync::Wait;
+use std::thread::Parker;
+use std::time::Duration;
+
+// How often a thread backs off before it sleeps.
+const LOOKS: u32 = 256;
+
+// How long it then sleeps, in milliseconds.
+const SLEEP: u64 = 2;
+
+/// The waits of a thread that finds nothing to do, one after another: it backs off at first, and then sleeps. It never sleeps without a time
+/// limit, so no wake-up can be lost.
+#[derive(Clone, Copy, Debug)]
+pub struct Idle {
+    looks: u32,
+}
+
+impl Idle {
+    /// Returns the waits of a thread that has just had something to do.
+    pub fn new() -> Idle {
+        Idle { looks: 0 }
+    }
+
+    /// Waits once.
+    pub fn wait<R: Wait>(&mut self, rt: &R) {
+        if self.looks >= LOOKS {
+            Parker::new().park_timeout(rt, Duration::from_millis(SLEEP));
+            return;
+        }
+        let backoff = Backoff::new();
+        for _ in 0..self.looks.min(11) {
+            backoff.snooze();
+        }
+        self.looks += 1;
+    }
+}

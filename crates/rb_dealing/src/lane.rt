@@ -1,0 +1,138 @@
+//! A lane: a worker with the queue of its pieces, and the queue by which they go back.
+
+ghost use Rattle.std.specs.Prelude.{◌≡◌, ◌++◌, ◌∷◌, [], IfOk, OnErr, OnOk, map};
+ghost use Rattle.rtrb.specs.Ring.{sent};
+ghost use Rattle.rb_dealing.specs.inner.Feeds.{GetsContexts};
+ghost use Rattle.rb_dealing.specs.Queues.{AreEmptyQueues, AreFeedsOf, IsEmptyQueue, IsFeedOf};
+ghost use Rattle.rb_dealing.specs.inner.Lanes.{LaneFinished, LaneRan};
+
+use crate::idle::Idle;
+use crate::work::Work;
+use rb_source::Piece;
+use rtrb::{Consumer, Producer, RingBuffer};
+use std::alloc::{AllocError, Global};
+use std::sync::Wait;
+use std::sync::atomic::{AtomicBool, Ordering};
+
+/// How many pieces wait for a worker at most.
+pub const PIECES: usize = 64;
+
+// How many pieces wait at most to be used again: all of a queue, and those that are being run and read.
+const USED: usize = 2 * PIECES;
+
+/// A worker, the queue of its pieces, and the queue for those that it has run.
+#[derive(Drop)]
+pub struct Lane<W> {
+    /// The worker.
+    pub worker: W,
+    pub(crate) pieces: Consumer<Piece>,
+    pub(crate) used: Producer<Piece>,
+}
+
+/// The other ends of a lane's queues.
+#[derive(Drop)]
+pub struct LaneFeed {
+    pub(crate) pieces: Producer<Piece>,
+    pub(crate) used: Consumer<Piece>,
+}
+
+impl<W: Drop> Lane<W> {
+    // Returns a lane with this worker, and the reader's ends of its two empty queues. If there is no memory for them the worker is dropped.
+    fn new(alloc: Global, worker: W) -> Result<(LaneFeed, Lane<W>), AllocError>
+        ensures worker { IfOk result (λ r. r.1.worker ≡ worker) }
+        ensures pair { IfOk result (λ r. IsFeedOf r.0 r.1) }
+        ensures empty { IfOk result (λ r. IsEmptyQueue r.0 r.1) }
+    {
+        let (to_lane, pieces) = RingBuffer::new(alloc, PIECES)?;
+        let (used, from_lane) = RingBuffer::new(alloc, USED)?;
+        let feed = LaneFeed {
+            pieces: to_lane,
+            used: from_lane,
+        };
+        Ok((
+            feed,
+            Lane {
+                worker,
+                pieces,
+                used,
+            },
+        ))
+    }
+}
+
+/// Adds a lane with this worker, and the reader's ends of its queues, which are empty. If there is no memory for it the worker is dropped and
+/// no lane is added.
+pub fn add_lane<W: Drop>(
+    alloc: Global,
+    worker: W,
+    feeds: &mut Vec<LaneFeed>,
+    lanes: &mut Vec<Lane<W>>,
+) -> Result<(), AllocError>
+    requires pairs { AreFeedsOf feeds.old.items lanes.old.items }
+    requires empty { AreEmptyQueues feeds.old.items lanes.old.items }
+    ensures pairs { AreFeedsOf feeds.new.items lanes.new.items }
+    ensures empty { AreEmptyQueues feeds.new.items lanes.new.items }
+    ensures added { OnOk result (map (λ lane. lane.worker) lanes.new.items ≡ map (λ lane. lane.worker) lanes.old.items ++ worker ∷ []) }
+    ensures refused { OnErr result (map (λ lane. lane.worker) lanes.new.items ≡ map (λ lane. lane.worker) lanes.old.items) }
+{
+    feeds.reserve(1)?;
+    lanes.reserve(1)?;
+    let (feed, lane) = Lane::new(alloc, worker)?;
+    feeds.push_reserved(feed);
+    lanes.push_reserved(lane);
+    Ok(())
+}
+
+impl<W: Work> Lane<W> {
+    // Runs a piece and sends it back. If there is no room for it, its memory is freed.
+    fn run_piece(&mut self, piece: Piece)
+        requires ready { W.ready self.old.worker }
+        ensures ready { W.ready self.new.worker }
+        ensures ran { W.runs self.old.worker piece.contexts self.new.worker }
+        ensures queue { self.new.pieces ≡ self.old.pieces }
+    {
+        self.worker.run(&piece);
+        let _full = self.used.push(piece);
+    }
+
+    /// Runs the pieces that come, until the reader has ended and a look that began after that finds none.
+    pub(crate) fn work<R: Wait>(&mut self, rt: &R, ended: &AtomicBool, short: &AtomicBool)
+        requires ready { W.ready self.old.worker }
+        ensures ran { LaneRan W.ready W.runs self.old self.new }
+    {
+        let mut idle = Idle::new();
+        for _ in rt.forever() {
+            let over = ended.load(Ordering::SeqCst);
+            match self.pieces.pop() {
+                Ok(piece) => {
+                    self.run_piece(piece);
+                    if self.worker.is_short() {
+                        short.store(true, Ordering::SeqCst);
+                    }
+                    idle = Idle::new();
+                }
+                Err(_) => {
+                    if over {
+                        return;
+                    }
+                    idle.wait(rt);
+                }
+            }
+        }
+        unreachable!()
+    }
+
+    /// Runs the pieces that are left in the queue, once the reader has ended.
+    pub(crate) fn finish(&mut self, feed: &mut LaneFeed)
+        requires ready { W.ready self.old.worker }
+        requires pair { IsFeedOf feed.old self.old }
+        ensures feed { GetsContexts feed.old [] feed.new }
+        ensures finished { LaneFinished W.ready W.runs feed.old self.old self.new }
+    {
+        let left = self.pieces.slots_beside(&mut feed.pieces);
+        for _ in 0..left {
+            let piece = self.pieces.pop_known();
+            self.run_piece(piece);
+        }
+    }
+}

@@ -1,0 +1,3 @@
+pub mod Side
+pub mod Windows
+pub mod Steps

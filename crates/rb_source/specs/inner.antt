@@ -1,0 +1,4 @@
+pub mod Side
+pub mod Counted
+pub mod Look
+pub mod Steps

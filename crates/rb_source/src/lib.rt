@@ -1,0 +1,24 @@
+//! Contexts for programs, as they come from outside: pieces that hold them, and sources that fill pieces, from a list or from any reader.
+#![tactic(auto)]
+
+mod counts;
+mod emit;
+mod form;
+mod framed;
+mod framing;
+mod front;
+mod listed;
+mod long;
+mod piece;
+mod source;
+#[cfg(test)]
+mod tests;
+mod window;
+
+pub use counts::ContextCounts;
+pub use form::{Fit, Form};
+pub use framed::FramedReader;
+pub use framing::Framing;
+pub use listed::ListSource;
+pub use piece::{PIECE_SIZE, Piece};
+pub use source::{Filled, Source, SourceFault};
