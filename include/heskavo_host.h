@@ -122,6 +122,21 @@ struct heskavo_record {
     uint32_t fault;     /* enum heskavo_tape_fault, or 0 */
 };
 
+/* What is wrong with the header of a record in a ring of Linux: the first of these that applies. */
+enum heskavo_linux_fault {
+    HESKAVO_LINUX_BOTH_BITS = 1,  /* the busy bit and the discard bit are both set */
+    HESKAVO_LINUX_OTHER_PAGE = 2, /* the header names another page than that of its position */
+    HESKAVO_LINUX_NO_ROOM = 3     /* the record has no room in the ring */
+};
+
+/* What the header of a record in a ring of Linux says, or what is wrong with it. */
+struct heskavo_linux_record {
+    uint64_t next;      /* the position of the next record, in bytes */
+    uint32_t len;       /* the length of the payload, in bytes */
+    uint32_t discarded; /* 1 if the record was discarded, else 0 */
+    uint32_t fault;     /* enum heskavo_linux_fault, or 0 */
+};
+
 /*
  * Whether a program would be accepted for a context of ctx_len bytes (at most 65,536) and so many rings (at most 16): HESKAVO_DONE, or HESKAVO_REFUSED
  * with the verdict. Also answered: HESKAVO_ARGUMENT, HESKAVO_MEMORY. `verdict` is written at HESKAVO_REFUSED alone.
@@ -138,7 +153,7 @@ uint32_t heskavo_explain(const uint8_t *program, size_t program_len, uint32_t ct
 /*
  * Tells what a program can cost at most, for a context of ctx_len bytes and so many rings: HESKAVO_DONE with its steps and calls in `cost`, and what it asks
  * of each ring and holds of it in `ring_costs`, which has a place for each ring. HESKAVO_REFUSED with the verdict. Also answered: HESKAVO_ARGUMENT,
- * HESKAVO_MEMORY. Nothing is run. A ring of more bytes than the jobs ask for together whose records it may hold refuses none for want of room.
+ * HESKAVO_MEMORY. Nothing is run. A ring of more bytes than some jobs ask for together has room for all their records at once.
  */
 uint32_t heskavo_cost(const uint8_t *program, size_t program_len, uint32_t ctx_len, struct heskavo_cost *cost, struct heskavo_ring_cost *ring_costs, size_t rings,
                       struct heskavo_verdict *verdict);
@@ -168,6 +183,15 @@ uint32_t heskavo_tape_put(const uint8_t *payload, size_t payload_len, uint64_t s
 
 /* The same of a discarded record of `len` bytes, with zeros in their place. */
 uint32_t heskavo_tape_put_discarded(uint32_t len, uint64_t size, uint64_t position, uint8_t *tape, size_t tape_len, uint64_t *written);
+
+/*
+ * Reads the header of the record at `position` (a multiple of 8 up to 2^61) of a ring of Linux with `size` bytes of data (a power of two from 4,096 to 2^36):
+ * HESKAVO_DONE with a committed record, HESKAVO_MORE if the record is busy, or HESKAVO_FAULT with `found->fault`. Also answered: HESKAVO_ARGUMENT. `found` is
+ * written at HESKAVO_DONE and HESKAVO_FAULT alone. `header` is the header's eight bytes as one number: the length word, loaded with acquire order, in its
+ * lower half, and the page in its upper half. The kernel counts pages from the front of the ring's memory; `pages_before_data` is 3 in Linux 5.8 and later. The call
+ * reads no memory of the ring, which the kernel changes at any time. heskavo_linux.h has a reader over it, with the interface of libbpf's.
+ */
+uint32_t heskavo_linux_record(uint64_t header, uint64_t size, uint64_t position, uint32_t pages_before_data, struct heskavo_linux_record *found);
 
 #ifdef __cplusplus
 }

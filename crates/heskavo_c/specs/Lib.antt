@@ -4,4 +4,5 @@ pub mod Tapes
 pub mod Explained
 pub mod Costs
 pub mod Runs
+pub mod LinuxRecords
 pub mod inner

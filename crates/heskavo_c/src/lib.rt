@@ -9,6 +9,7 @@
 mod calls;
 mod costing;
 mod explaining;
+mod linux_record;
 mod load;
 mod outgoing;
 mod run_alone;
@@ -22,6 +23,7 @@ mod version;
 
 pub use costing::{ProgramCost, ProgramRingCost, heskavo_cost};
 pub use explaining::heskavo_explain;
+pub use linux_record::{LinuxRecord, heskavo_linux_record};
 pub use running::heskavo_run;
 pub use status::{ARGUMENT, BROKEN, DONE, FAULT, MEMORY, MORE, REFUSED, ROOM};
 pub use tapes::{TapeRecord, heskavo_tape_next, heskavo_tape_put, heskavo_tape_put_discarded};

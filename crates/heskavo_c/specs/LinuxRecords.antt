@@ -1,0 +1,26 @@
+-- What is reported of a record's header in a ring of Linux (own; the header is rb_linux_ring's).
+use Rattle.std.specs.Prelude.{ℕ, ◌≡◌, Bool, if◌then◌else◌}
+use Rattle.rb_linux_ring.specs.LinuxHeaders.{IsLinuxFault, ShowsLinuxFront}
+use Rattle.rb_linux_ring.specs.declared.linux_header.LinuxFault.{LinuxFault}
+use Rattle.rb_linux_ring.specs.declared.linux_header.LinuxFault.TheVariants.{BothBits, OtherPage, NoRoom}
+use Rattle.rb_linux_ring.specs.declared.linux_header.LinuxFront.TheVariants.{Record}
+use Rattle.heskavo_c.specs.declared.linux_record.LinuxRecord.{LinuxRecord}
+
+-- the number is the header of a committed record, and this is reported of it
+pub record FindsLinuxRecord (size position pages number : ℕ) (found : LinuxRecord) : Type 0 where
+  pub discarded : Bool
+  pub shown : ShowsLinuxFront size position pages number (Record found.len discarded found.next)
+  pub discarded_is : found.discarded ≡ (if discarded then 1 else 0)
+  pub no_fault : found.fault ≡ 0
+
+-- what is wrong with a header, in the order in which it is looked for
+abbrev pub linux_fault_number : LinuxFault → ℕ
+linux_fault_number BothBits = 1
+linux_fault_number OtherPage = 2
+linux_fault_number NoRoom = 3
+
+-- this fault of the header is reported, and nothing else
+pub record FindsLinuxFault (size position pages number : ℕ) (found : LinuxRecord) : Type 0 where
+  pub fault : LinuxFault
+  pub shown : IsLinuxFault size position pages number fault
+  pub found_is : found ≡ record { next = 0; len = 0; discarded = 0; fault = linux_fault_number fault }
