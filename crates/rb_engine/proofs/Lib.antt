@@ -1,0 +1,4 @@
+mod RingTurns
+mod OneRing
+mod KeptRecords
+mod Noting

@@ -1,0 +1,39 @@
+-- What contracts see of an engine, and what a run of one of its programs does (own).
+use Rattle.std.specs.Prelude.{ℕ, ◌≡◌, ◌≢◌, List, Err, Ok, Result, Some, slice_get}
+use Rattle.rb_chapter_ring.specs.HandRing.{HandRing}
+use Rattle.rb_interp.specs.AnsweredCalls.{AnsweredCall}
+use Rattle.rb_interp.specs.RunTraces.{RunMatches, TellsLength}
+use Rattle.rb_interp.specs.declared.fault.RunFault.{RunFault}
+use Rattle.rb_interp.specs.declared.fault.RunFault.TheVariants.{Stray}
+use Rattle.rb_lend.specs.Ranges.{in_place_of}
+use Rattle.rb_verifier.specs.Subject.{Subject}
+use Rattle.rb_engine.specs.EngineCalls.{RingsLead}
+use Rattle.rb_engine.specs.declared.engine_record.EngineRecord.{EngineRecord}
+
+-- its rings, each with its hands, by their numbers; its programs, by theirs; and the length of every run's context
+pub record EngineValue : Type 0 where
+  pub rings : List HandRing
+  pub programs : List Subject
+  pub ctx_len : ℕ
+
+abbrev pub record_bytes : EngineRecord → List ℕ
+record_bytes r = r.reservation.granted.bytes
+
+-- with these bytes written into it
+abbrev pub with_record_bytes : EngineRecord → List ℕ → EngineRecord
+with_record_bytes r bytes = record r { reservation = record r.reservation { granted = record r.reservation.granted { bytes = in_place_of r.reservation.granted.bytes bytes } } }
+
+-- A program was run over these rings, as the calls before left them: it made these calls, with these answers; they are those of the program's meaning, which
+-- gives this result; no record was handed back; and they lead from the one state of the rings to the other
+pub record RunsOver (program : Subject) (context : List ℕ) (result : Result ℕ RunFault) (old new : List HandRing) : Type 0 where
+  pub calls : List (AnsweredCall EngineRecord)
+  pub length_is : TellsLength program context result
+  pub shows : RunMatches record_bytes with_record_bytes program context calls result
+  pub never_stray : result ≢ Err Stray
+  pub led : RingsLead old calls new
+
+-- the program with this number was run over the engine's rings, and ended with this value
+pub record RunsProgram (number : ℕ) (context : List ℕ) (value : ℕ) (old new : EngineValue) : Type 0 where
+  pub program : Subject
+  pub program_is : slice_get old.programs number ≡ Some program
+  pub ran : RunsOver program context (Ok value) old.rings new.rings

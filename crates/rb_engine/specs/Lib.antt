@@ -1,0 +1,5 @@
+pub mod RingTurns
+pub mod RingCalls
+pub mod EngineCalls
+pub mod EngineValue
+pub mod inner

@@ -1,0 +1,166 @@
+//! The engine.
+
+ghost use Rattle.std.specs.Prelude.{ℕ, ◌≡◌, ◌≢◌, ◌↔◌, ◌+◌, ◌<◌, ◌≤◌, ◌++◌, ◌∷◌, [], IfErr, IfNone, IfOk, IfSome, IsErrOf, OnErr, OnOk, length, slice_index_or};
+ghost use Rattle.rb_chapter_ring.specs.CountedFrom.{query_answer_from};
+ghost use Rattle.rb_chapter_ring.specs.OpenedRing.{told_counts};
+ghost use Rattle.rb_engine.specs.EngineCalls.{AtRing, OfRing};
+ghost use Rattle.rb_engine.specs.EngineValue.{RunsProgram};
+ghost use Rattle.rb_engine.specs.RingCalls.{HasWaitingFront, IsNotSent, Outputs, Takes};
+ghost use Rattle.rb_engine.specs.RingTurns.{AfterTurn};
+
+use crate::engine_ring::{EngineRing, NotSent};
+use crate::engine_rings::EngineRings;
+use rb_chapter_ring::OpenFault;
+use rb_history::{Counts, Notice, Taken};
+use rb_interp::run;
+use rb_verifier::Verified;
+use std::alloc::{AllocError, Global};
+use std::marker::Model;
+use thiserror::Error;
+
+/// Why a run gave no result.
+#[derive(Clone, Copy, Debug, Error, PartialEq, Eq)]
+pub enum NoRun {
+    /// The context has another length than the engine's programs have. Nothing ran.
+    #[error("context of another length")]
+    ContextLength,
+    /// There is no memory for the trace of the run's calls. Nothing ran.
+    #[error("out of memory")]
+    Memory,
+}
+
+/// Rings and verified programs that stay, for one thread: each run, and each record that is put or taken, goes on where the one before it ended.
+///
+/// An engine allocates its rings when it is opened, and a program's memory when it is added. After that only records of more than 16 bytes are allocated,
+/// and each is freed when it is taken.
+#[derive(Drop)]
+pub struct Engine {
+    rings: EngineRings,
+    programs: Vec<Verified>,
+    ctx_len: u32,
+}
+
+impl Model for Engine {
+    ghost use Rattle.std.specs.Coded.{codes};
+    ghost use Rattle.rb_history.specs.RingModel.{contents_code};
+    ghost use Rattle.rb_history.specs.contracts.entries.Entry as entry;
+    ghost use Rattle.rb_history.specs.contracts.tally.Tally as tally_row;
+    ghost use Rattle.rb_chapter_ring.specs.contracts.out_record.OutRecord as out_row;
+    ghost use Rattle.rb_engine.specs.EngineValue.{EngineValue};
+    ghost use Rattle.std.specs.Prelude.{◌≡◌, All, length};
+
+    ghost Value = { EngineValue };
+
+    ghost coded = { Prim.hlevel (codes, contents_code, entry.the_row.coded, tally_row.the_row.coded, out_row.the_row.coded) };
+
+    ghost view = { λ e. record { rings = e.rings.rings; programs = e.programs.items; ctx_len = e.ctx_len } };
+
+    ghost invariant = { λ e. All (λ program. (program.ctx_len ≡ e.ctx_len) × (program.rings ≡ length e.rings.rings)) e.programs.items };
+}
+
+impl Engine {
+    /// Returns an engine with a ring of each of these sizes, without records and programs, whose programs run over contexts of `ctx_len` bytes; or the first
+    /// refusal of a ring.
+    pub fn open(alloc: Global, sizes: &[u64], ctx_len: u32) -> Result<Engine, OpenFault>
+        requires rings { length sizes.now ≤ 16 }
+        ensures rings { IfOk result (λ e. length e.rings ≡ length sizes.now) }
+        ensures programs { IfOk result (λ e. e.programs ≡ []) }
+        ensures ctx_len { IfOk result (λ e. e.ctx_len ≡ ctx_len) }
+    {
+        let mut rings = Vec::new(alloc);
+        for (number, size) in sizes.iter().enumerate() {
+            let ring = EngineRing::new(alloc, number as u32, *size)?;
+            if rings.push(ring).is_err() {
+                return Err(OpenFault::Memory);
+            }
+        }
+        Ok(Engine {
+            rings: EngineRings::new(alloc, rings),
+            programs: Vec::new(alloc),
+            ctx_len,
+        })
+    }
+
+    /// Adds a program, and returns its number; the error is want of memory, and then the engine is as it was.
+    pub fn add(&mut self, program: Verified) -> Result<u32, AllocError>
+        requires context { program.ctx_len ≡ self.old.ctx_len }
+        requires rings { program.rings ≡ length self.old.rings }
+        requires count { length self.old.programs < 4294967295 }
+        ensures number { IfOk result (λ n. n ≡ length self.old.programs) }
+        ensures added { OnOk result (self.new.programs ≡ self.old.programs ++ program ∷ []) }
+        ensures refused { OnErr result (self.new.programs ≡ self.old.programs) }
+        ensures rings { self.new.rings ≡ self.old.rings }
+        ensures ctx_len { self.new.ctx_len ≡ self.old.ctx_len }
+    {
+        let number = self.programs.len() as u32;
+        self.programs.reserve(1)?;
+        self.programs.push_reserved(program);
+        Ok(number)
+    }
+
+    /// Answers a query of the ring with this number (bpf-helpers(7), bpf_ringbuf_query).
+    pub fn query(&self, ring: u32, what: u64) -> u64
+        requires ring { ring < length self.now.rings }
+        ensures answer { OfRing ring (λ v. result ≡ query_answer_from v.ring.chapter.opening v.ring.chapter.entries what) self.now.rings }
+    {
+        self.rings.answer(ring, what)
+    }
+
+    /// Returns the six counts of all that the ring with this number ever did.
+    pub fn counts(&self, ring: u32) -> Counts
+        requires ring { ring < length self.now.rings }
+        ensures counts { OfRing ring (λ v. result ≡ told_counts v.ring) self.now.rings }
+    {
+        self.rings.counts(ring)
+    }
+
+    /// Outputs a copy of the bytes to the ring with this number, as a program does.
+    pub fn put(&mut self, ring: u32, bytes: &[u8], flags: u64) -> Result<Notice, NotSent>
+        requires ring { ring < length self.old.rings }
+        requires flags { flags ≤ 3 }
+        ensures put { IfOk result (λ notice. AtRing ring (AfterTurn (Outputs bytes.now flags notice)) self.old.rings self.new.rings) }
+        ensures not_put { IfErr result (λ _. AtRing ring (IsNotSent (length bytes.now)) self.old.rings self.new.rings) }
+        ensures programs { self.new.programs ≡ self.old.programs }
+    {
+        self.rings.put(ring, bytes, flags)
+    }
+
+    /// Returns the length of the next record of the ring with this number, if it was submitted.
+    pub fn front_len(&self, ring: u32) -> Option<u32>
+        requires ring { ring < length self.now.rings }
+        ensures waiting { IfSome result (λ n. OfRing ring (λ v. HasWaitingFront v n) self.now.rings) }
+    {
+        self.rings.front_len(ring)
+    }
+
+    /// Takes the next record of the ring with this number.
+    pub fn take(&mut self, ring: u32) -> Taken
+        requires ring { ring < length self.old.rings }
+        ensures taken { AtRing ring (Takes result) self.old.rings self.new.rings }
+        ensures programs { self.new.programs ≡ self.old.programs }
+    {
+        self.rings.take(ring)
+    }
+
+    /// Runs the program with this number to its end over the engine's rings, and returns what it ended with, or why it did not run.
+    pub fn run(&mut self, number: u32, context: &[u8]) -> Result<u64, NoRun>
+        requires number { number < length self.old.programs }
+        ensures ran { IfOk result (λ value. RunsProgram number context.now value self.old self.new) }
+        ensures length { IsErrOf result NoRun.ContextLength ↔ (length context.now ≢ self.old.ctx_len) }
+        ensures unchanged { OnErr result (self.new.rings ≡ self.old.rings) }
+        ensures programs { self.new.programs ≡ self.old.programs }
+        ensures ctx_len { self.new.ctx_len ≡ self.old.ctx_len }
+    {
+        if context.len() != self.ctx_len as usize {
+            return Err(NoRun::ContextLength);
+        }
+        let program = &self.programs[number as usize];
+        if self.rings.begin(program.calls()).is_err() {
+            return Err(NoRun::Memory);
+        }
+        let Ok(value) = run(program, context, &mut self.rings) else {
+            unreachable!()
+        };
+        Ok(value)
+    }
+}
