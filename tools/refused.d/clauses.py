@@ -1,4 +1,4 @@
-"""Named clauses of public calls that say less than an equation, and which of them have a wrong body."""
+"""Named clauses of public calls that say less than an equation, and which of them have a mutant."""
 import collections
 import functools
 import re
@@ -53,7 +53,7 @@ def clauses_of(function):
 
 
 def of_public_calls(names):
-    """The clauses of public functions that answer or change something; a law has no body to be wrong."""
+    """The clauses of public functions that return or change something; a law has no body to mutate."""
     for function in contract_sources.functions():
         if function.source.crate in names and not (function.block.trait and not function.block.type) and BODY.search(function.signature):
             yield from clauses_of(function)
@@ -82,7 +82,7 @@ def opened(edit, goals):
 
 
 def named_by_edits(crate, *folders):
-    """The clauses that lines `# clause: FUNCTION NAME` of the wrong bodies in these folders name."""
+    """The clauses that lines `# clause: FUNCTION NAME` of the mutants in these folders name."""
     found = set()
     for folder in folders:
         for path in (kit.ROOT / "crates" / crate / folder).glob("*.edit"):
@@ -97,8 +97,8 @@ def unbreakable(crate):
 
 
 def list_uncovered(names):
-    """Prints each clause that says less than an equation and that no wrong body names, with the reason where no body can break it, and how many have theirs in
-    planted alone; the status is 1 where one has neither, or where a reason stands for another clause. Crates for tests alone have none."""
+    """Prints each clause that says less than an equation and that no mutant names, with the reason if no body can break it, and how many have theirs in planted alone.
+    The status is 1 if a clause has neither, or if a reason is given for another clause. Crates for tests alone have no mutants."""
     lacking, planted, told = 0, 0, 0
     for name in (it for it in names if not it.endswith("_tests")):
         tried, named, reasons = named_by_edits(name, "refused", "must-fail"), named_by_edits(name, "planted"), unbreakable(name)
@@ -108,8 +108,8 @@ def list_uncovered(names):
         for label in left:
             print(f"{name}: {label}" + (f" (no body can break it: {reasons[label]})" if label in reasons else ""))
         for label in reasons.keys() - {*left}:
-            print(f"{name}: {label}: it has a reason, and is no such clause or has a wrong body")
+            print(f"{name}: {label}: it has a reason, but is no such clause or has a mutant")
         lacking += len({*left} ^ reasons.keys())
         told += len({*left} & reasons.keys())
-    print(f"{lacking} clauses without a wrong body; {planted} with one in planted alone, and {told} that no body can break")
+    print(f"{lacking} clauses without a mutant; {planted} with one in planted alone, and {told} that no body can break")
     return 1 if lacking else 0

@@ -1,4 +1,4 @@
-"""Wrong bodies: files with a line `file: src/x.rt` and pairs of lines `old: TEXT` and `new: TEXT`, and the functions that they change."""
+"""Mutants: files with a line `file: src/x.rt` and pairs of lines `old: TEXT` and `new: TEXT`, and the functions that they change."""
 import difflib
 import functools
 import pathlib
@@ -7,17 +7,18 @@ from typing import NamedTuple, Optional
 
 import kit
 
-# The folders of a crate's wrong bodies: those that the gate tries, and those that are tried where the crate changed.
+# The folders of a crate's mutants: those that the gate tries, and those that are tried when the crate changes.
 REFUSED, PLANTED = "refused", "planted"
 FUNCTION = re.compile(r"^( *)(?:pub(?:\([a-z]+\))? )?(?:const )?(?:unsafe )?(?:extern \"C\" )?fn (\w+)")
 IMPL = re.compile(r"^impl(?:<.*?>)? (?:(?:\w+::)*(?P<trait>\w+)(?:<(?P<of>.*)>)? for )?(?P<type>&(?:'\w+ )?\[\w+\]|\w+)")
 SLICE = re.compile(r"&(?:'\w+ )?\[(\w)(\w*)\]")
-OPEN = re.compile(r"^# open without its stored answer: (.*)$", re.M)
+TAKEN_OUT = re.compile(r"^# without the answers: (.*)$", re.M)
 LEFT_OPEN = re.compile(r"^# leaves open: (.*)$", re.M)
 TRIED = re.compile(r"^# tried by itself: (.*)$", re.M)
 CLAUSE = re.compile(r"^# clause: (\S+ \w+)$", re.M)
-NOTES = ("# clause: ", "# open ", "# leaves open: ", "# tried by itself: ")
+NOTES = ("# clause: ", "# open ", "# without ", "# leaves open: ", "# tried by itself: ")
 DECLARED = re.compile(r"^(?:pub(?:\([a-z]+\))? )?(?:struct|enum) (\w+)", re.M)
+NAMED_ITEM = re.compile(r"^\s*(?:pub(?:\([a-z]+\))? )?(?:const|static|struct|enum) (\w+)")
 
 
 class Owner(NamedTuple):
@@ -113,14 +114,36 @@ def owner_of_item(folder, file, lines, at):
     return owner_of(folder, file, lines, at)
 
 
+def item_at(lines, at):
+    """The constant or type whose declaration has the line, or None."""
+    for line in reversed(lines[: at + 1]):
+        found = NAMED_ITEM.match(line)
+        if found:
+            return found[1]
+        if line.startswith("}"):
+            return None
+    return None
+
+
+def users_of(folder, item):
+    """The functions of a crate whose signature, clauses or body name a constant or a type."""
+    found = set()
+    for path in sorted(pathlib.Path(folder, "src").rglob("*.rt")):
+        lines = path.read_text().split("\n")
+        for at, line in enumerate(lines):
+            if re.search(rf"\b{item}\b", line) and not line.lstrip().startswith(("//", "use ", "ghost use ")):
+                found.add(owner_of(folder, str(path.relative_to(folder)), lines, at))
+    return found - {None}
+
+
 class Edit:
-    """One wrong body of a crate."""
+    """One mutant of a crate."""
 
     def __init__(self, crate, path):
         self.crate, self.path, self.name = crate, path, path.stem
         self.changes, self.owners, self.modules, self.is_outside = [], set(), set(), False
-        self.taken_out, self.times_taken_out, self.open_clauses, self.open_goals = {}, 0, set(), []
-        self.noted_open, self.left_open, self.tried = [], [], None
+        self.times_taken_out, self.open_clauses, self.open_goals = 0, set(), []
+        self.taken_out, self.left_open, self.tried = set(), [], None
         self.read_notes(path.read_text())
         texts, self.fault = kit.rt.read_edit(str(path), crate.folder)
         for file, text in (texts or {}).items():
@@ -132,26 +155,31 @@ class Edit:
         self.is_outside = self.is_outside or not (self.owners or self.fault)
 
     def read_notes(self, text):
-        """Reads which clauses it breaks and which goals it leaves open: without its stored answers, with all of them, and the one that is tried by itself."""
-        goals = [[it.strip("` ") for it in found[1].split(",")] if found else [] for found in (OPEN.search(text), LEFT_OPEN.search(text), TRIED.search(text))]
-        self.noted_open, self.left_open, self.tried = goals[0], goals[1], goals[2][0] if goals[2] else None
+        """Reads which clauses it breaks, which stored answers do not fit it, which goals it leaves open that the right body closes without these, and which of them is
+        tried by itself."""
+        goals = [[it.strip("` ") for it in found[1].split(",")] if found else [] for found in (TAKEN_OUT.search(text), LEFT_OPEN.search(text), TRIED.search(text))]
+        self.taken_out, self.left_open, self.tried = set(goals[0]), goals[1], goals[2][0] if goals[2] else None
         self.noted_clauses = set(CLAUSE.findall(text))
 
     def goals(self):
-        """The goals that are known to be its own."""
-        return {*self.noted_open, *self.left_open}
+        """The goals that its notes name: those that it leaves open, and those whose stored answers do not fit it."""
+        return {*self.taken_out, *self.left_open}
+
+    def is_noted(self):
+        """Whether its notes name a goal that tells of it."""
+        return bool(self.left_open) and len(self.owners) == 1
 
     def passed_over(self):
-        """The goals that it leaves open and that are not looked at where its notes are trusted: all but one, or all where a stored answer no longer fits."""
+        """The goals that are not searched for if its notes are trusted: all that they name but one."""
         looked_at = self.tried or next((it for it in self.left_open if "-clause-" in it), next(iter(self.left_open), None))
-        return [*self.noted_open, *(it for it in self.left_open if it != looked_at)]
+        return sorted(self.goals() - {looked_at})
 
     def may_stand_beside(self, other):
-        """Whether one check can tell of both: of different functions, or of one where each leaves other goals of it open."""
+        """Whether one check can try both: if they change different functions, or leave different goals of one function open."""
         if not self.owners & other.owners:
             return True
-        goals_differ = self.goals() and other.goals() and not self.goals() & other.goals()
-        return bool(goals_differ) and not any(one.meets(it) for one in self.changes for it in other.changes)
+        goals_differ = self.is_noted() and other.is_noted() and not self.goals() & other.goals()
+        return goals_differ and not any(one.meets(it) for one in self.changes for it in other.changes)
 
     def note_owner(self, file, lines, at):
         is_code = file.startswith("src/")
@@ -159,28 +187,43 @@ class Edit:
             # what is imported or added here is checked with the functions that call it
             return
         owner = owner_of(self.crate.folder, file, lines, at) if is_code else None
+        item = item_at(lines, at) if is_code and not owner else None
         if owner:
             self.owners.add(owner)
+            return
+        self.is_outside = True
+        if item:
+            self.owners |= users_of(self.crate.folder, item)
         else:
-            self.is_outside = True
             self.modules.add(module_of(file) if is_code else "")
 
     def paths(self):
-        """What a check has to look at: the functions that it changes and the modules in which it changes more; none stands for the whole crate."""
+        """What a check has to look at: the functions that it changes, those that use a constant or a type that it changes, and the modules in which it changes more.
+        An empty set is the whole crate."""
         return set() if "" in self.modules else {owner.path() for owner in self.owners} | self.modules
 
     def label(self):
         return f"{self.crate.name}/{self.name}"
 
     def note_opened(self):
-        """Writes into its file which clauses of public calls it breaks, beside those that it notes, and which goals it leaves open, without a stored answer that no
-        longer fits or as it is."""
+        """Writes into its file which clauses of public calls it breaks, which stored answers do not fit it, and which goals it leaves open. A clause of the function
+        that it changes counts only if one of these goals names it, and one of another function if the file notes it already."""
         lines = self.path.read_text().split("\n")
-        clauses = [f"# clause: {it}" for it in sorted(self.open_clauses | self.noted_clauses)]
-        kind = "# open without its stored answer: " if self.taken_out else "# leaves open: "
-        opened = [kind + ", ".join(dict.fromkeys(self.open_goals))] if self.open_goals else []
-        self.path.write_text("\n".join(clauses + opened + [it for it in lines if not it.startswith(NOTES)]))
+        own = tuple("::".join(it for it in (owner.type, owner.name) if it) + " " for owner in self.owners)
+        noted = {it for it in self.noted_clauses if not (self.taken_out and it.startswith(own))}
+        notes = [f"# clause: {it}" for it in sorted(self.open_clauses | noted)]
+        if self.taken_out:
+            notes.append("# without the answers: " + ", ".join(sorted(self.taken_out)))
+        if self.open_goals:
+            notes.append("# leaves open: " + ", ".join(dict.fromkeys(self.open_goals)))
+        self.path.write_text("\n".join(notes + [it for it in lines if not it.startswith(NOTES)]))
         self.read_notes(self.path.read_text())
+
+    def note_taken_out(self):
+        """Writes into its file which stored answers do not fit it, above the goals that it leaves open."""
+        lines = [it for it in self.path.read_text().split("\n") if not it.startswith("# without ")]
+        at = next(number for number, it in enumerate(lines) if it.startswith("# leaves open: "))
+        self.path.write_text("\n".join([*lines[:at], "# without the answers: " + ", ".join(sorted(self.taken_out)), *lines[at:]]))
 
     def note_tried(self, goal):
         """Writes into its file which goal is tried by itself, below those that it leaves open."""
@@ -205,6 +248,4 @@ def together(edits):
         for change in sorted((it for it in changes if it.file == file), key=lambda it: (it.first, it.end), reverse=True):
             lines[change.first : change.end] = change.lines
         texts[file] = "\n".join(lines)
-    for edit in edits:
-        texts |= edit.taken_out
     return texts

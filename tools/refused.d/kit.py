@@ -8,6 +8,7 @@ import shutil
 import subprocess
 import sys
 import tempfile
+from typing import NamedTuple
 
 ROOT = pathlib.Path(__file__).resolve().parent.parent.parent
 LINE = re.compile(r"^(?:fn|impl) ([^ ]*?): (.*)$")
@@ -49,6 +50,15 @@ def are_of_the_gate(crate):
     return all(os.path.isfile(f"{below.rlib}/format") and not os.path.exists(f"{os.path.dirname(below.rlib)}/stamp") for below in crate.below())
 
 
+class Error(NamedTuple):
+    """An error of a check; lines and columns are counted from 1."""
+
+    file: str
+    line: int
+    column: int
+    said: str
+
+
 class Answer:
     """What a check said: its status, what it said of each function, and its lines."""
 
@@ -64,11 +74,11 @@ class Answer:
         return any(line.startswith(("logic=", "only=")) for line in self.lines)
 
     def errors(self):
-        """The file and the line of each error, with what is said."""
+        """Yields each error with its place and what is said."""
         for line in self.lines:
-            at = re.match(r"(?:\./)?(\S+?):(\d+):\d+: error(.*)", line)
+            at = re.match(r"(?:\./)?(\S+?):(\d+):(\d+): error(.*)", line)
             if at:
-                yield at[1], int(at[2]), at[3]
+                yield Error(at[1], int(at[2]), int(at[3]), at[4])
 
 
 def kept_by_checks(crate):
@@ -91,8 +101,8 @@ class Work:
         shutil.copytree(folder, self.kept, dirs_exist_ok=True)
 
     def check(self, texts, only=()):
-        """What a check says of a copy of the crate with these texts in place of its own or beside them: of the functions that `only` names and what they call, or of
-        all where it names none."""
+        """Checks a copy of the crate with these texts in place of its own files or in addition to them; a file whose text is None is left out. It looks at the functions
+        that `only` names and at what they call, or at all if it names none."""
         only_these = [word for name in only for word in ("--only", name)]
         words = [rt.rtlib.RATTLE, "check", *self.crate.words(["--jobs", "1", *only_these], keeps=False), "--incremental", str(self.kept)]
         with tempfile.TemporaryDirectory(prefix="rt-edit-") as room:
@@ -100,6 +110,9 @@ class Work:
                 shutil.copytree(f"{self.crate.folder}/{part}", f"{room}/{part}")
             for path, text in texts.items():
                 place = pathlib.Path(room, path)
+                if text is None:
+                    place.unlink(missing_ok=True)
+                    continue
                 place.parent.mkdir(parents=True, exist_ok=True)
                 place.write_text(text, encoding="utf-8")
             how = {"cwd": room, "stdin": subprocess.DEVNULL, "stdout": subprocess.PIPE, "stderr": subprocess.STDOUT, "errors": "replace", "text": True}

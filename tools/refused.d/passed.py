@@ -1,4 +1,4 @@
-"""Which crates' wrong bodies were all refused on this machine, by a sum of all that such a run reads."""
+"""Which crates' mutants all passed on this machine, by a sum of all that such a run reads."""
 import hashlib
 import os
 import pathlib

@@ -1,71 +1,32 @@
-"""A crate's wrong bodies, tried in rounds: in each one check tells of as many functions as have one.
+"""Tries a crate's mutants in rounds: one check tries the mutants of many functions.
 
-A function's proof rests on its own body and on the contracts below it, never on another body, so wrong bodies of different functions do not meet. One whose
-function calls another that is not proved in that round is not looked at, and is tried again in the next.
+A function's proof rests on its own body and on the contracts of what it calls, never on another body, so mutants of different functions do not interfere. If a
+function calls another that is not proved in that round, the check skips it, and its mutant is tried again in the next round.
 """
 import enum
-import pathlib
 import re
 
+import answers
 import clauses
 import edits as edit_files
 import goals
+import right_bodies
 
 OPEN = re.compile(r"`search` did not prove (.*)$")
 HIDDEN = re.compile(r"it (?:calls|waits)\b")
-MISSING = re.compile(r"\.Goals` has no `([^`]*)`")
-# How often stored answers that no longer fit are taken out of an edit's way.
+# How often stored answers that do not fit are taken out of a mutant's way.
 TIMES = 3
 
 
 class Outcome(enum.Enum):
-    """What a try of a wrong body came to."""
+    """What a try of a mutant came to."""
 
     REFUSED = "refused"
-    LIMIT = "refused by a limit of the prover alone"
-    ANSWER = "refused by a stored answer alone, which shows nothing of the contract"
+    LIMIT = "LIMIT: only a limit of the prover refuses it"
+    ANSWER = "ANSWER: no goal is open that the right body closes"
     PROVED = "PROVED"
     BAD = "BAD EDIT"
     UNTOLD = "NOT TOLD"
-
-
-PASSED = (Outcome.REFUSED, Outcome.LIMIT, Outcome.ANSWER)
-
-
-def names(paragraph, name):
-    return re.search(rf"(?<![\w-]){re.escape(name)}(?![\w-])", paragraph)
-
-
-def without_answers(text, lines, missing):
-    """A file of answers without the paragraphs that have one of these lines, counted from 1, or name a goal that is not there any more, and without those that
-    name what such a one defines."""
-    paragraphs, at, gone = re.split(r"(?<=\n)(?=\n)", text), 1, {}
-    heads = [re.match(r"(?:\s*--[^\n]*\n)*\s*(?:pub )?([^\s:]+)[^\n]* :", it) for it in paragraphs]
-    for number, paragraph in enumerate(paragraphs):
-        end = max(at + 1, at + paragraph.count("\n"))
-        if heads[number] and any(at <= line < end for line in lines):
-            gone[number] = heads[number][1]
-        if heads[number] and any(names(paragraph, name) for name in missing):
-            gone[number] = heads[number][1]
-        at += paragraph.count("\n")
-    found = True
-    while found:
-        found = {number: heads[number][1] for number, it in enumerate(paragraphs) if heads[number] and number not in gone and any(names(it, name) for name in gone.values())}
-        gone |= found
-    kept = [it for number, it in enumerate(paragraphs) if number not in gone]
-    return "".join(without_unused(it, kept[at + 1 :]) for at, it in enumerate(kept))
-
-
-def without_unused(paragraph, others):
-    """A paragraph of `use` lines without the goals that the others do not name any more: a goal may be of another shape now."""
-    lines = []
-    for line in paragraph.split("\n"):
-        found = re.match(r"use (\S+\.Goals)\.\{(.*)\}$", line)
-        if found:
-            used = [name for name in found[2].split(", ") if any(names(it, name) for it in others)]
-            line = f"use {found[1]}.{{{', '.join(used)}}}" if used else None
-        lines.append(line)
-    return "\n".join(line for line in lines if line is not None)
 
 
 def is_shared(edit, group):
@@ -74,15 +35,19 @@ def is_shared(edit, group):
 
 
 class Rounds:
-    """The rounds over one crate, and what each of its wrong bodies came to."""
+    """The rounds over one crate, and what each of its mutants came to."""
 
-    def __init__(self, work, edits, tell, is_thorough, has_time=False):
-        self.work, self.tell, self.left, self.outcomes, self.is_thorough = work, tell, [], {}, is_thorough
-        # Goals are searched for to the end, and not tried by themselves, where they are to be noted.
-        self.by_itself = {edit for edit in edits if edit.tried and len(edit.owners) == 1 and not has_time}
-        # Of the others that note what they leave open only that is looked at: one goal, or the stored answers.
-        self.by_notes = {edit for edit in edits if edit.goals() and len(edit.owners) == 1 and not (has_time or is_thorough)} - self.by_itself
+    def __init__(self, work, edits, tell):
+        self.work, self.tell, self.left, self.outcomes = work, tell, [], {}
+        self.right = right_bodies.RightBodies(work)
+        noted = {edit for edit in edits if edit.is_noted()}
+        self.by_itself = {edit for edit in noted if edit.tried}
+        self.by_notes = noted - self.by_itself
+        for edit in {*edits} - noted:
+            edit.taken_out = set()
         self.alone, self.bare, self.number = set(), set(), 0
+        # Those whose notes lack stored answers that do not fit.
+        self.lack_answers = []
         for edit in edits:
             if edit.fault:
                 self.end(edit, Outcome.BAD, edit.fault)
@@ -94,7 +59,7 @@ class Rounds:
         self.tell(f"  {outcome.value}: {edit.label()} [{edit.where()}] in round {self.number}{': ' + why if why else ''}")
 
     def group(self):
-        """As many edits as can be tried at once, or one alone that stands outside of any function or that is to be tried alone."""
+        """As many edits as can be tried at once, or one alone that changes more than functions or is to be tried alone."""
         found = []
         for edit in self.left:
             if edit.is_outside or edit in self.alone:
@@ -112,47 +77,54 @@ class Rounds:
             decided = self.one_round(group)
             tried_alone = not decided
             if not decided and len(group) == 1:
-                self.decide(group[0], Outcome.UNTOLD, "a function that it stands on is not proved")
+                self.decide(group[0], Outcome.UNTOLD, "a function that it calls is not proved")
                 tried_alone = False
+
+    def without_valid_notes(self):
+        """The edits that had no notes or whose notes did not tell of them."""
+        return [edit for edit in self.outcomes if edit not in self.by_itself | self.by_notes]
 
     def decide(self, edit, outcome, why=""):
         self.left.remove(edit)
         self.end(edit, outcome, why)
 
     def beside(self, group):
-        """What stands beside the answers of each function that these change."""
+        """The answers with which each function that these change is tried."""
         found = {}
         for owner in set().union(*(edit.owners for edit in group)):
             mine = [edit for edit in group if owner in edit.owners]
-            if not any(edit in self.bare or edit.taken_out for edit in mine):
-                tried = [edit.tried for edit in mine if edit in self.by_itself]
-                passed_over = [goal for edit in mine if edit in self.by_itself | self.by_notes for goal in edit.passed_over()]
-                found[owner] = goals.Beside(self.work.crate, owner, tried, passed_over)
+            if any(edit in self.bare for edit in mine):
+                continue
+            tried = [edit.tried for edit in mine if edit in self.by_itself]
+            passed_over = [goal for edit in mine if edit in self.by_itself | self.by_notes for goal in edit.passed_over()]
+            taken_out = set().union(*(edit.taken_out for edit in mine)) - {*tried}
+            found[owner] = goals.Beside(self.work.crate, owner, tried, self.goals_among(owner, passed_over, taken_out), taken_out)
         return {owner: it for owner, it in found.items() if not it.is_by_hand}
 
-    def texts(self, group, beside):
-        """The texts of a round: the changed files, and the answers of the functions that they change."""
-        return edit_files.together(group) | {f"{owner.proofs()}/Answers.antt": it.text() for owner, it in beside.items()}
+    def goals_among(self, owner, passed_over, taken_out):
+        """Those of these names that are goals: a stored answer that is taken out may be a lemma of its file."""
+        answered = answers.of_goals(goals.stored_answers(self.work.crate, owner))
+        return [it for it in passed_over if it in answered or it not in taken_out]
 
     def one_round(self, group):
         """Tries these together, and returns how many were decided or are to be tried in another form."""
         beside = self.beside(group)
-        texts = self.texts(group, beside)
+        texts = edit_files.together(group) | {file: text for it in beside.values() for file, text in it.texts().items()}
         answer = self.work.check(texts, sorted(set().union(*(edit.paths() for edit in group))))
         before = len(self.left)
         if not answer.reached_the_prover():
             return self.without_broken(group, answer)
-        told = goals.told_open(answer, lambda file, line: edit_files.owner_of_item(self.work.crate.folder, file, texts[file].split("\n"), line) if file in texts else None)
+        reported = goals.reported_open(answer, lambda file, line: edit_files.owner_of_item(self.work.crate.folder, file, texts[file].split("\n"), line) if file in texts else None)
         changed = 0
         for edit in group:
-            changed += self.tell_of(edit, answer, told, beside, is_shared(edit, group))
+            changed += self.judge(edit, answer, reported, beside, is_shared(edit, group))
         return before - len(self.left) + changed
 
     def without_broken(self, group, answer):
-        """Takes out those that do not compile: those whose lines have an error, alone or beside another of their function, which is tried alone then. Where no
-        line has one, each is tried by itself. Returns how many were decided or are to be tried in another form."""
-        errors = [(file, line, said) for file, line, said in answer.errors() if file.startswith("src/")]
-        broken = [edit for edit in group if any(self.has_line(edit, group, file, line) for file, line, _ in errors)]
+        """Takes out those that do not compile: those whose lines have an error, alone or beside another of their function, which is tried alone then. If no line of
+        theirs has one, each half is tried by itself. Returns how many were decided or are to be tried in another form."""
+        errors = [error for error in answer.errors() if error.file.startswith("src/")]
+        broken = [edit for edit in group if any(self.has_line(edit, group, error.file, error.line) for error in errors)]
         if len(group) == 1:
             broken = group
         if not broken:
@@ -161,8 +133,10 @@ class Rounds:
         for edit in broken:
             if is_shared(edit, group):
                 self.alone.add(edit)
+            elif edit.is_outside and edit.owners and not errors:
+                self.decide(edit, Outcome.UNTOLD, "no function of the crate that uses it is checked")
             else:
-                why = next((said for file, _, said in errors if any(change.file == file for change in edit.changes)), "")
+                why = next((error.said for error in errors if any(change.file == error.file for change in edit.changes)), "")
                 self.decide(edit, Outcome.BAD, "it does not compile" + why[:160])
         return len(broken)
 
@@ -178,37 +152,36 @@ class Rounds:
             form.add(edit)
         return 1
 
-    def tell_of(self, edit, answer, told, beside, shares):
-        """Decides an edit by what the round said of its functions; returns 1 where it is to be tried in another form."""
+    def judge(self, edit, answer, reported, beside, shares):
+        """Decides an edit by what the round said of its functions; returns 1 if it is to be tried in another form."""
         if edit.is_outside and not edit.owners:
             own = [text for text in answer.said.values() if not text.startswith("proved") and not HIDDEN.search(text)]
             self.decide(edit, Outcome.PROVED if answer.status == 0 else Outcome.REFUSED if own else Outcome.UNTOLD)
             return 0
         said = [text for owner in edit.owners for text in owner.lines(edit.crate.name, answer.said)]
+        is_hidden = any(HIDDEN.search(text) for text in said)
         if edit in self.by_itself:
-            return self.tell_of_try(edit, answer, any(HIDDEN.search(text) for text in said))
-        opened = [goal for text in said for found in [OPEN.search(text)] if found for goal in goals.NAMED.findall(found[1].split(";")[0])]
-        opened = list(dict.fromkeys(opened + [goal for owner in edit.owners for goal in told.get(owner, [])]))
-        wrong = {name for owner in edit.owners for name in goals.named_errors(answer, f"{owner.proofs()}/Answers.antt")}
-        holes = {name for owner in edit.owners & beside.keys() for name in beside[owner].holes}
-        opened, wrong = [goal for goal in opened if goal not in holes], wrong - holes
+            return self.judge_try(edit, answer, is_hidden)
+        opened, unfit = self.opened(edit, answer, reported, beside, said)
         if shares:
-            opened, wrong = [goal for goal in opened if goal in edit.goals()], wrong & {*edit.noted_open}
-        if opened:
-            edit.open_goals, edit.open_clauses = opened, clauses.opened(edit, opened)
-            without = ", without the stored answers that no longer fit" if edit.taken_out else ""
-            self.decide(edit, Outcome.REFUSED, f"open: {', '.join(opened)}{without}"[:200])
+            opened = {owner: [goal for goal in found if goal in edit.left_open] for owner, found in opened.items()}
+            unfit = set()
+        is_known = edit in self.by_notes and not unfit
+        own = {owner: found if is_known else self.right.closed(owner, edit.taken_out | unfit, found) for owner, found in opened.items()}
+        if any(own.values()):
+            self.refuse(edit, unfit, list(dict.fromkeys(goal for found in own.values() for goal in found)))
         elif any(text.startswith("could not tell") for text in said):
             self.decide(edit, Outcome.LIMIT)
-        elif wrong and edit.noted_open and not self.is_thorough:
-            self.decide(edit, Outcome.REFUSED, f"open without a stored answer: {', '.join(edit.noted_open)}")
         elif edit in self.by_notes:
-            return self.without_notes(edit, any(HIDDEN.search(text) for text in said))
+            return self.without_notes(edit, is_hidden)
         elif shares:
             return self.again(edit, self.alone)
-        elif wrong or any(file.startswith(owner.proofs() + "/") for owner in edit.owners for file, _, _ in answer.errors()):
-            return self.take_out(edit, answer, beside)
-        elif any(HIDDEN.search(text) for text in said):
+        elif unfit:
+            return self.take_out(edit, unfit)
+        elif any(opened.values()) or self.has_errors(edit, answer):
+            left = sorted({goal for found in opened.values() for goal in found})
+            self.decide(edit, Outcome.ANSWER, f"open in the right body too, without the same answers: {', '.join(left)}"[:200] if left else "")
+        elif is_hidden:
             return 0
         elif not said:
             self.decide(edit, Outcome.UNTOLD, "no line tells of its function")
@@ -218,46 +191,59 @@ class Rounds:
             self.decide(edit, Outcome.PROVED if all(text.startswith("proved") for text in said) else Outcome.UNTOLD)
         return 0
 
-    def tell_of_try(self, edit, answer, is_hidden):
-        """Decides an edit whose goal was tried by itself: refused where no tactic found a proof; else all its goals are searched for to the end."""
+    def opened(self, edit, answer, reported, beside, said):
+        """The goals of each function of an edit that are open, and the stored answers that do not fit."""
+        spoken = [goal for text in said for found in [OPEN.search(text)] if found for goal in goals.NAMED.findall(found[1].split(";")[0])]
+        opened, unfit = {}, set()
+        for owner in edit.owners:
+            holes, text = (beside[owner].holes, beside[owner].text()) if owner in beside else ([], goals.stored_answers(edit.crate, owner))
+            errors = [error for error in answer.errors() if error.file == goals.answers_file(owner)]
+            searched = [error for error in errors if answers.is_of_the_goal(text, error)]
+            found = [*spoken, *reported.get(owner, []), *(name for error in searched for name in answers.unfit(text, [error]))]
+            opened[owner] = [goal for goal in dict.fromkeys(found) if goal not in holes and goal not in {goals.HOLE}]
+            unfit |= answers.unfit(text, [error for error in errors if error not in searched]) - {*holes, goals.HOLE}
+            if any(error.file == f"{owner.proofs()}/{goals.WHOLE_PROOF}" for error in answer.errors()):
+                unfit.add(goals.WHOLE_PROOF)
+        return opened, unfit - edit.taken_out
+
+    def has_errors(self, edit, answer):
+        """Whether what is written of the proofs of its functions has an error."""
+        return any(error.file.startswith(owner.proofs() + "/") for owner in edit.owners for error in answer.errors())
+
+    def refuse(self, edit, unfit, own):
+        if edit in self.by_notes and unfit:
+            self.lack_answers.append(edit)
+        edit.taken_out |= unfit
+        edit.open_goals, edit.open_clauses = own, clauses.opened(edit, own)
+        without = f", without the answers {', '.join(sorted(edit.taken_out))}" if edit.taken_out else ""
+        self.decide(edit, Outcome.REFUSED, f"open: {', '.join(own)}{without}"[:200])
+
+    def judge_try(self, edit, answer, is_hidden):
+        """Decides an edit whose goal was tried by itself: it is refused if no tactic found a proof; else all its goals are searched for."""
         owner = next(iter(edit.owners))
-        failed = goals.failed_tries(answer, f"{owner.proofs()}/Answers.antt")
+        failed = goals.failed_tries(answer, goals.answers_file(owner))
         if {goals.name_of_try(edit.tried, tactic) for tactic in goals.TACTICS} <= failed:
             self.decide(edit, Outcome.REFUSED, f"open: {edit.tried}")
             return 0
         if is_hidden and not failed:
             return 0
         self.by_itself.remove(edit)
+        edit.taken_out = set()
         return 1
 
     def without_notes(self, edit, is_hidden):
-        """Has an edit tried with all its goals where what it notes did not tell of it, or again as it is where a call hides it."""
+        """Has an edit tried with all its goals if what it notes did not tell of it, or again as it is if a call hides it."""
         if is_hidden:
             return 0
         self.by_notes.remove(edit)
+        edit.taken_out = set()
         return 1
 
-    def take_out(self, edit, answer, beside):
-        """Has the edit tried again without the stored answers of its functions that no longer fit, so that their goals stand open, where that is asked for;
-        else its file says whether they did."""
-        said = next((said for file, _, said in answer.errors() if any(file.startswith(owner.proofs() + "/") for owner in edit.owners)), "")[:160]
-        if any(file == f"{owner.proofs()}/Proof.antt" for owner in edit.owners for file, _, _ in answer.errors()):
-            self.decide(edit, Outcome.REFUSED, "its proof by hand does not hold")
-            return 0
-        if not self.is_thorough:
-            self.decide(edit, Outcome.ANSWER, said)
-            return 0
+    def take_out(self, edit, unfit):
+        """Has the edit tried again without the stored answers that do not fit, so that their goals are searched for."""
         edit.times_taken_out += 1
-        before = dict(edit.taken_out)
-        for owner in edit.owners:
-            name = f"{owner.proofs()}/Answers.antt"
-            above = len(beside[owner].uses) if owner in beside else 0
-            lines = [line - above for file, line, _ in answer.errors() if file == name]
-            stored = pathlib.Path(edit.crate.folder, name)
-            if lines and stored.is_file():
-                missing = [goal for file, _, said_there in answer.errors() if file == name for goal in MISSING.findall(said_there)]
-                edit.taken_out[name] = without_answers(before.get(name) or stored.read_text(), lines, missing)
-        if edit.taken_out == before or edit.times_taken_out > TIMES:
-            self.decide(edit, Outcome.ANSWER, said)
+        if edit.times_taken_out > TIMES:
+            self.decide(edit, Outcome.ANSWER, f"these do not fit: {', '.join(sorted(edit.taken_out | unfit))}"[:200])
             return 0
+        edit.taken_out |= unfit
         return 1
