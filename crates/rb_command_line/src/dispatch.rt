@@ -1,11 +1,9 @@
 //! The program's commands.
 
-ghost use Rattle.std.specs.Prelude.{◌≡◌, ◌≤◌, IfSome, OnOk};
+ghost use Rattle.std.specs.Prelude.{◌≡◌, ◌≤◌, OnOk};
 ghost use Rattle.std.specs.Io.KnownBytes.{Keeps};
 ghost use Rattle.rb_history.specs.RingModel.{IsRingSize, IsStartPosition};
-ghost use Rattle.rb_tape_commands.specs.Feed.{FeedAnswerMatches, AnswersAlone};
 ghost use Rattle.rb_tape_commands.specs.inner.PayloadSteps.{IsWholeInput};
-ghost use Rattle.rb_tape_commands.specs.TapeText.{IsTape};
 
 use crate::progress::{Metered, Progress};
 use crate::reasons::{Seen, reason_of};
@@ -14,22 +12,19 @@ use crate::request::{CommandLine, Subcommand, parse};
 use crate::sim_objects::print_objects;
 use clap::Error;
 use clap::error::ErrorKind;
-use rb_io::{Buffered, NotedReader, NotedWriter, write_whole};
+use rb_io::{NotedReader, NotedWriter, write_whole};
 use rb_json::LineForm;
 use rb_loader::{Bounds, ProgramFault, cost, explain, explain_portable, read_all};
 use rb_run_commands::{JobsFault, TapeFile, check, check_portable, run, run_to_file};
 use rb_script::{SimFault, line_reason, sim};
-use rb_tape_commands::{FeedFault, TapeRefusal, feed, tape};
+use rb_tape_commands::{feed_buffered, tape_buffered};
 use std::alloc::Global;
 use std::convert::AsStr;
-use std::io::{BufReader, Eprint, Read, Write};
+use std::io::{Eprint, Read, Write};
 use std::rt::Files;
 use std::sync::Wait;
 use std::thread::Threads;
 use std::time::Clock;
-
-// How many bytes of payloads are read at once: as many as a pipe holds (pipe(7)).
-const READ_AHEAD: usize = 65_536;
 
 /// Carries out the command that the words name, which follow the program's name on the command line, and returns the status that
 /// the program ends with: 0; 1 where it was refused, with a line on `err` that begins with `refused `, with `--why` behind a line with the reason,
@@ -359,44 +354,4 @@ fn sim_objects<T: Clock + Eprint, W: Write>(
         Err(SimFault::Device) => Err(SimFault::Memory),
         answer => answer,
     }
-}
-
-// Writes the tape of the payloads, over buffers. The order of the answers is that of `feed`, after out of memory for the buffers.
-fn feed_buffered<R: Read, W: Write>(
-    alloc: Global,
-    input: &mut R,
-    out: &mut W,
-    size: u64,
-    start: u64,
-    retries: u32,
-) -> Result<(u64, u64), FeedFault>
-    ensures bounds { OnOk result (IsRingSize size × IsStartPosition start) }
-    ensures answer { FeedAnswerMatches size start (R.remaining input.old) result }
-    ensures only_answer { AnswersAlone size start (R.remaining input.old) result }
-{
-    let Ok(mut reader) = BufReader::with_capacity(alloc, READ_AHEAD, input) else {
-        return Err(FeedFault::Memory);
-    };
-    let Ok(writer) = Buffered::new(alloc, out) else {
-        return Err(FeedFault::Memory);
-    };
-    feed(alloc, &mut reader, writer, size, start, retries).0
-}
-
-// Prints the records of the tape over a buffer. The order of the answers is that of `tape`, after out of memory for the buffer.
-fn tape_buffered<R: Read, W: Write>(
-    alloc: Global,
-    input: &mut R,
-    out: &mut W,
-    size: u64,
-    start: u64,
-    form: LineForm,
-) -> Result<(), TapeRefusal>
-    ensures bounds { OnOk result (IsRingSize size × IsStartPosition start) }
-    ensures whole { OnOk result (IfSome (R.remaining input.old) (IsTape size start)) }
-{
-    let Ok(mut writer) = Buffered::new(alloc, out) else {
-        return Err(TapeRefusal::Memory);
-    };
-    tape(alloc, input, &mut writer, size, start, form)
 }

@@ -1,6 +1,7 @@
 -- The explanation of a program: of an accepted one each instruction with what is known before it, and then what the program can cost at most; of a
 -- refused one the units around its first fault.
-use Rattle.std.specs.Prelude.{◌≡◌, ℕ, ◌+◌, ◌*◌, ◌&&◌, ◌==◌, nat_le, nat_lt, Bool, List, [], ◌++◌, codes, length, take, drop, string_bytes, Option, Some, None, if◌then◌else◌}
+use Rattle.std.specs.Prelude.{◌≡◌, ℕ, ◌+◌, ◌*◌, ◌&&◌, ◌||◌, ◌==◌, nat_le, nat_lt, not, Bool, true, List, [], ◌++◌, codes, length, take, drop, string_bytes, Option, Some, None, if◌then◌else◌}
+use Rattle.std.specs.List.{list_all}
 use Rattle.rb_insn.specs.declared.insn.Insn.{Insn}
 use Rattle.rb_insn.specs.Spelling.{SpellsAll}
 use Rattle.rb_program.specs.Program.{unit_count, slot_at, IsProgram}
@@ -94,6 +95,14 @@ abbrev pub said_text : LineForm → (front layer name : List ℕ) → ℕ → Li
 said_text Words front layer name unit advice = front ++ advice ++ codes "\n"
 said_text Json front layer name unit advice = fault_object layer name unit advice
 
+-- a text that is a string of JSON between quotation marks without any escape: no control character, no quotation mark and no backslash
+-- (RFC 8259, section 7)
+abbrev pub is_plain_byte : ℕ → Bool
+is_plain_byte byte = nat_le 32 byte && not (byte == 34 || byte == 92)
+
+abbrev pub IsPlainText : List ℕ → Type 0
+IsPlainText text = list_all is_plain_byte text ≡ true
+
 -- what is said of a fault begins with its name: `BadOpcode: `
 abbrev pub BeginsWithName : (name advice : List ℕ) → Type 0
 BeginsWithName name advice = (rest : List ℕ) × (advice ≡ name ++ codes ": " ++ rest)
@@ -123,11 +132,11 @@ ShowsFront form bytes at kind shown = ShowsUnits form bytes at shown
 -- behind what is shown stands what is said of the fault
 abbrev pub ShowsDecodeFault : LineForm → List ℕ → ℕ → DecodeKind → List ℕ → Type 0
 ShowsDecodeFault form bytes at kind text =
-    (shown : List ℕ) × (advice : List ℕ) × ShowsFront form bytes at kind shown × BeginsWithName (decode_name kind) advice × (text ≡ shown ++ said_text form [] (codes "decode") (decode_name kind) at advice)
+    (shown : List ℕ) × (advice : List ℕ) × ShowsFront form bytes at kind shown × BeginsWithName (decode_name kind) advice × (text ≡ shown ++ said_text form [] (codes "decode") (decode_name kind) at advice) × IsPlainText advice
 
 -- behind the lines around a unit stands what is said of the fault
 abbrev pub ShowsShape : LineForm → List Insn → ℕ → ShapeFaultKind → List ℕ → Type 0
-ShowsShape form program at kind text = (advice : List ℕ) × BeginsWithName (shape_name kind) advice × (text ≡ window form program at ++ said_text form [] (codes "shape") (shape_name kind) at advice)
+ShowsShape form program at kind text = (advice : List ℕ) × BeginsWithName (shape_name kind) advice × (text ≡ window form program at ++ said_text form [] (codes "shape") (shape_name kind) at advice) × IsPlainText advice
 
 -- a rule's number: `V10: `
 abbrev pub number_text : Rule → List ℕ
@@ -135,7 +144,7 @@ number_text rule = rule_name rule ++ codes ": "
 
 -- the same of a rule; in words its number stands in front of what is said
 abbrev pub ShowsRule : LineForm → List Insn → ℕ → Rule → List ℕ → Type 0
-ShowsRule form program at rule text = (advice : List ℕ) × (text ≡ window form program at ++ said_text form (number_text rule) (codes "verify") (rule_name rule) at advice)
+ShowsRule form program at rule text = (advice : List ℕ) × (text ≡ window form program at ++ said_text form (number_text rule) (codes "verify") (rule_name rule) at advice) × IsPlainText advice
 
 -- ---- the explanation of a text
 

@@ -1,10 +1,14 @@
 //! What each fault and each rule wants, and how programs mend it.
 
+ghost use Rattle.rb_explain.specs.Explanations.{IsPlainText};
+
 use rb_program::{DecodeKind, ShapeFaultKind};
 use rb_verifier::Rule;
 
 /// What a fault of bytes says, behind its name, and how programs mend it: a line without its end.
-pub(crate) fn decode_advice(kind: DecodeKind) -> &'static str {
+pub(crate) fn decode_advice(kind: DecodeKind) -> &'static str
+    ensures plain { IsPlainText result.now }
+{
     match kind {
         DecodeKind::Length => {
             "A program is one or more units of eight bytes. Give the bytes of whole instructions, two units for a wide one."
@@ -32,7 +36,9 @@ pub(crate) fn decode_advice(kind: DecodeKind) -> &'static str {
 }
 
 /// What a fault of a program's shape says, behind its name, and how programs mend it: a line without its end.
-pub(crate) fn shape_advice(kind: ShapeFaultKind) -> &'static str {
+pub(crate) fn shape_advice(kind: ShapeFaultKind) -> &'static str
+    ensures plain { IsPlainText result.now }
+{
     match kind {
         ShapeFaultKind::Backward => {
             "A jump leads backward. Programs here have no loops: unroll them (clang does so at -O2 where the count is a small constant)."
@@ -54,7 +60,9 @@ pub(crate) fn shape_advice(kind: ShapeFaultKind) -> &'static str {
 }
 
 /// What a rule of verification wants, and how programs mend it: a line without its end.
-pub(crate) fn rule_advice(rule: Rule) -> &'static str {
+pub(crate) fn rule_advice(rule: Rule) -> &'static str
+    ensures plain { IsPlainText result.now }
+{
     match rule {
         Rule::Unreadable => {
             "An instruction reads only registers that hold something on every path to it. Set the register first; r1 to r5 hold nothing after a call, and r0 nothing after a submit or a discard: keep what is needed in r6 to r9, or on the stack. A pointer on the stack is loaded by its eight bytes at once."

@@ -1,7 +1,7 @@
 //! What is said of a fault.
 
 ghost use Rattle.std.specs.Prelude.{◌≡◌, ◌++◌, [], IfOk, OnOk, codes, string_bytes};
-ghost use Rattle.rb_explain.specs.Explanations.{number_text, said_text};
+ghost use Rattle.rb_explain.specs.Explanations.{IsPlainText, number_text, said_text};
 ghost use Rattle.rb_explain.specs.Objects as objects;
 
 use crate::objects::push_fault_object;
@@ -13,7 +13,8 @@ use std::fmt::Write;
 
 /// The name of a fault of bytes.
 pub(crate) fn decode_name(kind: DecodeKind) -> &'static str
-    ensures { result.now ≡ objects.decode_name kind }
+    ensures name { result.now ≡ objects.decode_name kind }
+    ensures plain { IsPlainText result.now }
 {
     match kind {
         DecodeKind::Length => "Length",
@@ -29,7 +30,8 @@ pub(crate) fn decode_name(kind: DecodeKind) -> &'static str
 
 /// The name of a fault of a shape.
 pub(crate) fn shape_name(kind: ShapeFaultKind) -> &'static str
-    ensures { result.now ≡ objects.shape_name kind }
+    ensures name { result.now ≡ objects.shape_name kind }
+    ensures plain { IsPlainText result.now }
 {
     match kind {
         ShapeFaultKind::Backward => "Backward",
@@ -49,11 +51,22 @@ fn push_whole_line(text: &mut String, line: &str) -> Result<(), AllocError>
     text.push_str("\n")
 }
 
-/// What is said of a fault with a name, behind its name: `BadOpcode: `.
-pub(crate) fn named_advice(alloc: Global, name: &str, advice: &str) -> Result<String, AllocError>
+// A name, a colon and an advice.
+fn joined(alloc: Global, name: &str, advice: &str) -> Result<String, AllocError>
     ensures { IfOk result (λ text. string_bytes text ≡ name.now ++ codes ": " ++ advice.now) }
 {
     format!(in alloc; "{name}: {advice}")
+}
+
+/// Returns what is said of a fault with a name, after its name: `BadOpcode: `.
+pub(crate) fn named_advice(alloc: Global, name: &str, advice: &str) -> Result<String, AllocError>
+    requires name { IsPlainText name.now }
+    requires advice { IsPlainText advice.now }
+    ensures plain { IfOk result (λ text. IsPlainText (string_bytes text)) }
+    ensures named { IfOk result (λ text. string_bytes text ≡ name.now ++ codes ": " ++ advice.now) }
+{
+    let text = joined(alloc, name, advice)?;
+    Ok(text)
 }
 
 /// What is said of a fault whose advice begins with its name.

@@ -15,6 +15,8 @@ pub record Setup : Type 0 where
 --
 -- Space: the ring never fills wholly. The producer position stays at most size - 1 ahead of the consumer position, as in the
 -- kernel's ringbuf.c (new_prod_pos - cons_pos > rb->mask fails), so that no record is written over one that was not taken.
+-- Newer kernels also fail if new_prod_pos - pend_pos > rb->mask, with the position of the oldest busy record. A consumer stops at
+-- that record, so cons_pos <= pend_pos, and whoever passes the first test passes the second.
 -- Limit: positions only grow and are never reduced by the size. None passes 2^62, so that no sum of them wraps in 64 bits (own).
 --
 -- For example, in a ring of 4,096 bytes from 0 that nothing was taken from, 255 records of 8 bytes end at 255 * 16 = 4,080.

@@ -13,7 +13,7 @@ use Rattle.rb_program.specs.declared.fault.DecodeKind.{DecodeKind}
 use Rattle.rb_program.specs.declared.fault.DecodeKind.TheVariants.{BadOpcode, BadRegister, UnusedField, HalfWide}
 use Rattle.rb_program.specs.declared.opcode_meaning.OpcodeMeaning.{OpcodeMeaning}
 use Rattle.rb_program.specs.declared.opcode_meaning.OpcodeMeaning.TheVariants.{Binary, Division, Move, Branch, Wide}
-use Rattle.rb_program.specs.declared.opcode_meaning.Source.TheVariants.{Immediate, Register}
+use Rattle.rb_program.specs.declared.opcode_meaning.SourceOperand.TheVariants.{Immediate, Register}
 use Rattle.rb_insn.specs.declared.insn.Width.TheVariants.{W32, W64}
 use Rattle.rb_program.specs.UnitFields.{fields_at, next_imm_at}
 use Rattle.rb_program.specs.OpcodeTable.{Row, wide_number_row, wide_map_row}

@@ -16,8 +16,8 @@ use Rattle.rb_insn.specs.declared.insn.Size.TheVariants as sizes
 use Rattle.rb_insn.specs.declared.insn.SignedSize.{SignedSize}
 use Rattle.rb_insn.specs.declared.insn.SignedSize.TheVariants as signed_sizes
 use Rattle.rb_program.specs.declared.fields.Fields.{Fields}
-use Rattle.rb_program.specs.declared.opcode_meaning.Source.{Source}
-use Rattle.rb_program.specs.declared.opcode_meaning.Source.TheVariants.{Immediate, Register}
+use Rattle.rb_program.specs.declared.opcode_meaning.SourceOperand.{SourceOperand}
+use Rattle.rb_program.specs.declared.opcode_meaning.SourceOperand.TheVariants.{Immediate, Register}
 use Rattle.rb_program.specs.declared.opcode_meaning.OpcodeMeaning.{OpcodeMeaning}
 use Rattle.rb_program.specs.declared.opcode_meaning.OpcodeMeaning.TheVariants.{Binary, Division, Negate, Move, Reorder, Branch, Jump, JumpFar, Call, Exit, Wide, Load, LoadSigned, StoreImmediate, StoreRegister}
 use Rattle.rb_program.specs.OpcodeTable.{Row, one_of, row_of, byte_swap_row, call_row, wide_number_row, wide_map_row}
@@ -33,7 +33,7 @@ fields opcode dst src offset imm = record { opcode = opcode; dst = dst; src = sr
 abbrev HasRow : OpcodeMeaning → Type 0
 HasRow op = (d s o i : ℕ) → row_of (fields (opcode_of op) d s o i) ≡ Some (row_for op s)
 
-binary : (w : Width) (op : BinaryOp) (source : Source) → HasRow (Binary w op source)
+binary : (w : Width) (op : BinaryOp) (source : SourceOperand) → HasRow (Binary w op source)
 binary W32 Add Immediate d s o i = refl
 binary W32 Add Register d s o i = refl
 binary W64 Add Immediate d s o i = refl
@@ -41,7 +41,7 @@ binary W64 Add Register d s o i = refl
 binary w op Immediate d s o i = refl
 binary w op Register d s o i = refl
 
-division : (w : Width) (op : DivisionOp) (source : Source) → HasRow (Division w op source)
+division : (w : Width) (op : DivisionOp) (source : SourceOperand) → HasRow (Division w op source)
 division W32 Div Immediate d s o i = refl
 division W32 Div Register d s o i = refl
 division W64 Div Immediate d s o i = refl
@@ -53,13 +53,13 @@ negate : (w : Width) → HasRow (Negate w)
 negate W32 d s o i = refl
 negate W64 d s o i = refl
 
-move : (w : Width) (source : Source) → HasRow (Move w source)
+move : (w : Width) (source : SourceOperand) → HasRow (Move w source)
 move W32 Immediate d s o i = refl
 move W32 Register d s o i = refl
 move W64 Immediate d s o i = refl
 move W64 Register d s o i = refl
 
-branch : (w : Width) (c : Condition) (source : Source) → HasRow (Branch w c source)
+branch : (w : Width) (c : Condition) (source : SourceOperand) → HasRow (Branch w c source)
 branch W32 Equal Immediate d s o i = refl
 branch W32 Equal Register d s o i = refl
 branch W64 Equal Immediate d s o i = refl
@@ -165,7 +165,7 @@ row_of-unnamed op f e h =
 abbrev IsKept : OpcodeMeaning → Type 0
 IsKept op = (d s o i : ℕ) → is_left_out (fields (opcode_of op) d s o i) ≡ false
 
-kept_binary : (w : Width) (op : BinaryOp) (source : Source) → IsKept (Binary w op source)
+kept_binary : (w : Width) (op : BinaryOp) (source : SourceOperand) → IsKept (Binary w op source)
 kept_binary W32 Add Immediate d s o i = refl
 kept_binary W32 Add Register d s o i = refl
 kept_binary W64 Add Immediate d s o i = refl
@@ -173,7 +173,7 @@ kept_binary W64 Add Register d s o i = refl
 kept_binary w op Immediate d s o i = refl
 kept_binary w op Register d s o i = refl
 
-kept_division : (w : Width) (op : DivisionOp) (source : Source) → IsKept (Division w op source)
+kept_division : (w : Width) (op : DivisionOp) (source : SourceOperand) → IsKept (Division w op source)
 kept_division W32 Div Immediate d s o i = refl
 kept_division W32 Div Register d s o i = refl
 kept_division W64 Div Immediate d s o i = refl
@@ -185,7 +185,7 @@ kept_negate : (w : Width) → IsKept (Negate w)
 kept_negate W32 d s o i = refl
 kept_negate W64 d s o i = refl
 
-kept_move : (w : Width) (source : Source) → IsKept (Move w source)
+kept_move : (w : Width) (source : SourceOperand) → IsKept (Move w source)
 kept_move W32 Immediate d s o i = refl
 kept_move W32 Register d s o i = refl
 kept_move W64 Immediate d s o i = refl
@@ -195,7 +195,7 @@ kept_reorder : (order : ByteOrder) → IsKept (Reorder order)
 kept_reorder Little d s o i = refl
 kept_reorder order d s o i = refl
 
-kept_branch : (w : Width) (c : Condition) (source : Source) → IsKept (Branch w c source)
+kept_branch : (w : Width) (c : Condition) (source : SourceOperand) → IsKept (Branch w c source)
 kept_branch W32 Equal Immediate d s o i = refl
 kept_branch W32 Equal Register d s o i = refl
 kept_branch W64 Equal Immediate d s o i = refl

@@ -3,15 +3,15 @@ use Rattle.std.proofs.Common.{◌≡◌, ℕ, zero, suc, ◌<◌, inl, inr, Bool
 use Rattle.std.specs.Option.{option_map}
 use Rattle.std.proofs.lemmas.Bool.{cases_lt}
 use Rattle.rb_insn.specs.Opcodes.{ld, ldx, st, stx, jmp, jmp32, source_k, source_x, operation_opcode, imm_mode, mem_mode, memsx_mode, access_opcode, alu_class, jump_class, binary_code, division_code, neg_code, mov_code, condition_code, ja_code, call_code, exit_code, double_code, size_code, signed_size_code, reorder_opcode}
-use Rattle.rb_program.specs.declared.opcode_meaning.Source.{Source}
-use Rattle.rb_program.specs.declared.opcode_meaning.Source.TheVariants.{Immediate, Register}
+use Rattle.rb_program.specs.declared.opcode_meaning.SourceOperand.{SourceOperand}
+use Rattle.rb_program.specs.declared.opcode_meaning.SourceOperand.TheVariants.{Immediate, Register}
 use Rattle.rb_program.specs.declared.opcode_meaning.OpcodeMeaning.{OpcodeMeaning}
 use Rattle.rb_program.specs.declared.opcode_meaning.OpcodeMeaning.TheVariants.{Binary, Division, Negate, Move, Reorder, Branch, Jump, JumpFar, Call, Exit, Wide, Load, LoadSigned, StoreImmediate, StoreRegister}
 use Rattle.rb_program.specs.inner.Operations.{operation_at}
 use Rattle.rb_program.specs.declared.fields.Fields.{Fields}
 use Rattle.rb_program.specs.OpcodeTable.{Row, opcode_table, one_of, find_row, row_of}
 
-abbrev pub source_bit : Source → ℕ
+abbrev pub source_bit : SourceOperand → ℕ
 source_bit Immediate = source_k
 source_bit Register = source_x
 

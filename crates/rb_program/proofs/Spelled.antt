@@ -17,7 +17,7 @@ use Rattle.rb_insn.specs.Spelling.{unit, second_unit, bits16, bits32, spelling, 
 use Rattle.rb_insn.proofs.Units as spelled
 use Rattle.rb_insn.proofs.Units.{bits16-bound, bits32-bound, next-second_unit}
 use Rattle.rb_program.specs.declared.fields.Fields.{Fields}
-use Rattle.rb_program.specs.declared.opcode_meaning.Source.TheVariants.{Immediate, Register}
+use Rattle.rb_program.specs.declared.opcode_meaning.SourceOperand.TheVariants.{Immediate, Register}
 use Rattle.rb_program.specs.declared.opcode_meaning.OpcodeMeaning.{OpcodeMeaning}
 use Rattle.rb_program.specs.declared.opcode_meaning.OpcodeMeaning.TheVariants.{Binary, Division, Negate, Move, Reorder, Branch, Jump, JumpFar, Call, Exit, Wide, Load, LoadSigned, StoreImmediate, StoreRegister}
 use Rattle.rb_program.specs.declared.fault.DecodeKind.{DecodeKind}

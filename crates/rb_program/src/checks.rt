@@ -22,7 +22,7 @@ ghost use Rattle.rb_program.specs.inner.FieldChecks.{
 };
 
 use crate::fields::Fields;
-use crate::opcode_meaning::{OpcodeMeaning, Source};
+use crate::opcode_meaning::{OpcodeMeaning, SourceOperand};
 use rb_insn::{Extend32, Extend64, Insn, Operand, Reg, Signedness, SwapWidth, Width};
 
 impl OpcodeMeaning {
@@ -60,8 +60,8 @@ impl OpcodeMeaning {
             | OpcodeMeaning::Division(_, _, source)
             | OpcodeMeaning::Move(_, source)
             | OpcodeMeaning::Branch(_, _, source) => match source {
-                Source::Immediate => false,
-                Source::Register => true,
+                SourceOperand::Immediate => false,
+                SourceOperand::Register => true,
             },
             OpcodeMeaning::Load(_)
             | OpcodeMeaning::LoadSigned(_)
@@ -83,10 +83,10 @@ impl OpcodeMeaning {
     {
         match self {
             OpcodeMeaning::Division(_, _, _) => offset == 0 || offset == 1,
-            OpcodeMeaning::Move(Width::W32, Source::Register) => offset == 0
+            OpcodeMeaning::Move(Width::W32, SourceOperand::Register) => offset == 0
                 || offset == 8
                 || offset == 16,
-            OpcodeMeaning::Move(Width::W64, Source::Register) => {
+            OpcodeMeaning::Move(Width::W64, SourceOperand::Register) => {
                 offset == 0 || offset == 8 || offset == 16 || offset == 32
             }
             OpcodeMeaning::Branch(_, _, _)
@@ -108,8 +108,8 @@ impl OpcodeMeaning {
             | OpcodeMeaning::Division(_, _, source)
             | OpcodeMeaning::Move(_, source)
             | OpcodeMeaning::Branch(_, _, source) => match source {
-                Source::Immediate => true,
-                Source::Register => false,
+                SourceOperand::Immediate => true,
+                SourceOperand::Register => false,
             },
             OpcodeMeaning::Reorder(_)
             | OpcodeMeaning::JumpFar
@@ -189,13 +189,13 @@ impl OpcodeMeaning {
                 width,
                 dst: register(fields.dst),
             },
-            OpcodeMeaning::Move(width, Source::Immediate) => Insn::Move {
+            OpcodeMeaning::Move(width, SourceOperand::Immediate) => Insn::Move {
                 width,
                 dst: register(fields.dst),
-                operand: operand(Source::Immediate, fields),
+                operand: operand(SourceOperand::Immediate, fields),
             },
-            OpcodeMeaning::Move(Width::W32, Source::Register) => move32(fields),
-            OpcodeMeaning::Move(Width::W64, Source::Register) => move64(fields),
+            OpcodeMeaning::Move(Width::W32, SourceOperand::Register) => move32(fields),
+            OpcodeMeaning::Move(Width::W64, SourceOperand::Register) => move64(fields),
             OpcodeMeaning::Reorder(order) => Insn::Reorder {
                 order,
                 width: swap_width(fields.imm),
@@ -276,13 +276,13 @@ fn register(number: u8) -> Reg
 }
 
 /// The second operand, from its source.
-fn operand(source: Source, fields: &Fields) -> Operand
-    requires { source ≡ Source.Register → fields.now.src ≤ 10 }
+fn operand(source: SourceOperand, fields: &Fields) -> Operand
+    requires { source ≡ SourceOperand.Register → fields.now.src ≤ 10 }
     ensures { result ≡ operand_from source fields.now }
 {
     match source {
-        Source::Immediate => Operand::Immediate(fields.imm.cast_signed()),
-        Source::Register => Operand::Register(register(fields.src)),
+        SourceOperand::Immediate => Operand::Immediate(fields.imm.cast_signed()),
+        SourceOperand::Register => Operand::Register(register(fields.src)),
     }
 }
 

@@ -24,7 +24,7 @@ use rb_insn::{BinaryOp, ByteOrder, Condition, DivisionOp, SignedSize, Size, Widt
 
 /// Where the second operand is.
 #[derive(Clone, Copy)]
-pub(crate) enum Source {
+pub(crate) enum SourceOperand {
     /// In the immediate (K).
     Immediate,
     /// In the source register (X).
@@ -34,12 +34,12 @@ pub(crate) enum Source {
 /// What an opcode does.
 #[derive(Clone, Copy)]
 pub(crate) enum OpcodeMeaning {
-    Binary(Width, BinaryOp, Source),
-    Division(Width, DivisionOp, Source),
+    Binary(Width, BinaryOp, SourceOperand),
+    Division(Width, DivisionOp, SourceOperand),
     Negate(Width),
-    Move(Width, Source),
+    Move(Width, SourceOperand),
     Reorder(ByteOrder),
-    Branch(Width, Condition, Source),
+    Branch(Width, Condition, SourceOperand),
     Jump,
     JumpFar,
     Call,
@@ -62,9 +62,9 @@ impl OpcodeMeaning {
     {
         let code = opcode / 16;
         let source = if opcode / 8 % 2 == 0 {
-            Source::Immediate
+            SourceOperand::Immediate
         } else {
-            Source::Register
+            SourceOperand::Register
         };
         match opcode % 8 {
             LD => (opcode == WIDE).then_some(OpcodeMeaning::Wide),
@@ -80,7 +80,7 @@ impl OpcodeMeaning {
 }
 
 /// The operation of a code in the classes ALU and ALU64.
-fn arithmetic(code: u8, source: Source, width: Width) -> Option<OpcodeMeaning>
+fn arithmetic(code: u8, source: SourceOperand, width: Width) -> Option<OpcodeMeaning>
     ensures { result ≡ arithmetic_at code source width }
 {
     if let Some(op) = binary_op(code) {
@@ -90,27 +90,31 @@ fn arithmetic(code: u8, source: Source, width: Width) -> Option<OpcodeMeaning>
         return Some(OpcodeMeaning::Division(width, op, source));
     }
     match (code, source, width) {
-        (NEG, Source::Immediate, _) => Some(OpcodeMeaning::Negate(width)),
+        (NEG, SourceOperand::Immediate, _) => Some(OpcodeMeaning::Negate(width)),
         (MOV, _, _) => Some(OpcodeMeaning::Move(width, source)),
-        (END, Source::Immediate, Width::W32) => Some(OpcodeMeaning::Reorder(ByteOrder::Little)),
-        (END, Source::Register, Width::W32) => Some(OpcodeMeaning::Reorder(ByteOrder::Big)),
-        (END, Source::Immediate, Width::W64) => Some(OpcodeMeaning::Reorder(ByteOrder::Swap)),
+        (END, SourceOperand::Immediate, Width::W32) => Some(OpcodeMeaning::Reorder(
+            ByteOrder::Little,
+        )),
+        (END, SourceOperand::Register, Width::W32) => Some(OpcodeMeaning::Reorder(ByteOrder::Big)),
+        (END, SourceOperand::Immediate, Width::W64) => Some(OpcodeMeaning::Reorder(
+            ByteOrder::Swap,
+        )),
         _ => None,
     }
 }
 
 /// The operation of a code in the classes JMP and JMP32.
-fn jump(code: u8, source: Source, width: Width) -> Option<OpcodeMeaning>
+fn jump(code: u8, source: SourceOperand, width: Width) -> Option<OpcodeMeaning>
     ensures { result ≡ jump_at code source width }
 {
     if let Some(condition) = condition(code) {
         return Some(OpcodeMeaning::Branch(width, condition, source));
     }
     match (code, source, width) {
-        (JA, Source::Immediate, Width::W64) => Some(OpcodeMeaning::Jump),
-        (JA, Source::Immediate, Width::W32) => Some(OpcodeMeaning::JumpFar),
-        (CALL, Source::Immediate, Width::W64) => Some(OpcodeMeaning::Call),
-        (EXIT, Source::Immediate, Width::W64) => Some(OpcodeMeaning::Exit),
+        (JA, SourceOperand::Immediate, Width::W64) => Some(OpcodeMeaning::Jump),
+        (JA, SourceOperand::Immediate, Width::W32) => Some(OpcodeMeaning::JumpFar),
+        (CALL, SourceOperand::Immediate, Width::W64) => Some(OpcodeMeaning::Call),
+        (EXIT, SourceOperand::Immediate, Width::W64) => Some(OpcodeMeaning::Exit),
         _ => None,
     }
 }

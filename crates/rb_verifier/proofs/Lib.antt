@@ -1,4 +1,5 @@
 pub mod KeptPlaces
+mod KnownPlaces
 mod PlaceValues
 mod Stores
 mod Numbers

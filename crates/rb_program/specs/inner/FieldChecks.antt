@@ -15,8 +15,8 @@ use Rattle.rb_insn.specs.declared.insn.Operand.TheVariants as operands
 use Rattle.rb_insn.specs.declared.insn.Insn.{Insn}
 use Rattle.rb_insn.specs.declared.insn.Insn.TheVariants as insns
 use Rattle.rb_program.specs.declared.fields.Fields.{Fields}
-use Rattle.rb_program.specs.declared.opcode_meaning.Source.{Source}
-use Rattle.rb_program.specs.declared.opcode_meaning.Source.TheVariants.{Immediate, Register}
+use Rattle.rb_program.specs.declared.opcode_meaning.SourceOperand.{SourceOperand}
+use Rattle.rb_program.specs.declared.opcode_meaning.SourceOperand.TheVariants.{Immediate, Register}
 use Rattle.rb_program.specs.declared.opcode_meaning.OpcodeMeaning.{OpcodeMeaning}
 use Rattle.rb_program.specs.declared.opcode_meaning.OpcodeMeaning.TheVariants.{Binary, Division, Negate, Move, Reorder, Branch, Jump, JumpFar, Call, Exit, Wide, Load, LoadSigned, StoreImmediate, StoreRegister}
 use Rattle.rb_program.specs.OpcodeTable as rows
@@ -77,7 +77,7 @@ numbers_fit row fields =
 unfoldable pub reg_at : ℕ → Reg
 reg_at n = record { number = min n 10; bounded = min-le_right n 10 }
 
-abbrev pub operand_from : Source → Fields → Operand
+abbrev pub operand_from : SourceOperand → Fields → Operand
 operand_from Immediate fields = operands.Immediate (cast_signed w32 fields.imm)
 operand_from Register fields = operands.Register (reg_at fields.src)
 

@@ -14,8 +14,8 @@ use Rattle.rb_insn.specs.declared.insn.Size.{Size}
 use Rattle.rb_insn.specs.declared.insn.Size.TheVariants as sizes
 use Rattle.rb_insn.specs.declared.insn.SignedSize.{SignedSize}
 use Rattle.rb_insn.specs.declared.insn.SignedSize.TheVariants as signed_sizes
-use Rattle.rb_program.specs.declared.opcode_meaning.Source.{Source}
-use Rattle.rb_program.specs.declared.opcode_meaning.Source.TheVariants.{Immediate, Register}
+use Rattle.rb_program.specs.declared.opcode_meaning.SourceOperand.{SourceOperand}
+use Rattle.rb_program.specs.declared.opcode_meaning.SourceOperand.TheVariants.{Immediate, Register}
 use Rattle.rb_program.specs.declared.opcode_meaning.OpcodeMeaning.{OpcodeMeaning}
 use Rattle.rb_program.specs.declared.opcode_meaning.OpcodeMeaning.TheVariants.{Binary, Division, Negate, Move, Reorder, Branch, Jump, JumpFar, Call, Exit, Wide, Load, LoadSigned, StoreImmediate, StoreRegister}
 
@@ -67,7 +67,7 @@ signed_size_at size =
     else if size == 2 then Some signed_sizes.Byte
     else None
 
-abbrev unary_at : ℕ → Source → Width → Option OpcodeMeaning
+abbrev unary_at : ℕ → SourceOperand → Width → Option OpcodeMeaning
 unary_at code Immediate W32 =
     if code == 8 then Some (Negate W32)
     else if code == 11 then Some (Move W32 Immediate)
@@ -91,12 +91,12 @@ abbrev first_present_operation : {A : Type 0} → Option A → Option A → Opti
 first_present_operation (Some a) b = Some a
 first_present_operation None b = b
 
-abbrev pub arithmetic_at : ℕ → Source → Width → Option OpcodeMeaning
+abbrev pub arithmetic_at : ℕ → SourceOperand → Width → Option OpcodeMeaning
 arithmetic_at code source width =
     first_present_operation (option_map (λ op. Binary width op source) (binary_at code))
     (first_present_operation (option_map (λ op. Division width op source) (division_at code)) (unary_at code source width))
 
-abbrev plain_jump_at : ℕ → Source → Width → Option OpcodeMeaning
+abbrev plain_jump_at : ℕ → SourceOperand → Width → Option OpcodeMeaning
 plain_jump_at code Immediate W64 =
     if code == 0 then Some Jump
     else if code == 8 then Some Call
@@ -105,7 +105,7 @@ plain_jump_at code Immediate W64 =
 plain_jump_at code Immediate W32 = if code == 0 then Some JumpFar else None
 plain_jump_at code Register width = None
 
-abbrev pub jump_at : ℕ → Source → Width → Option OpcodeMeaning
+abbrev pub jump_at : ℕ → SourceOperand → Width → Option OpcodeMeaning
 jump_at code source width =
     first_present_operation (option_map (λ condition. Branch width condition source) (condition_at code)) (plain_jump_at code source width)
 
@@ -121,7 +121,7 @@ store_immediate_at mode size = if mode == 3 then Some (StoreImmediate (size_at s
 abbrev pub store_register_at : ℕ → ℕ → Option OpcodeMeaning
 store_register_at mode size = if mode == 3 then Some (StoreRegister (size_at size)) else None
 
-abbrev source_at : ℕ → Source
+abbrev source_at : ℕ → SourceOperand
 source_at opcode = if opcode / 8 % 2 == 0 then Immediate else Register
 
 abbrev pub operation_at : ℕ → Option OpcodeMeaning
