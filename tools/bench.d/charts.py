@@ -1,18 +1,18 @@
-"""Draws the table of tools/bench as two charts in SVG: the speed of each row beside its yardstick, and whole jobs by workers."""
+"""Draws the table of tools/bench as two charts in SVG: the speed of each row relative to its yardstick, and whole jobs by workers."""
 import re
 from html import escape
 
 INK, MUTED, GRID, OURS, THEIRS, COMMAND = "#1b1f24", "#57606a", "#d8dee4", "#0b6bcb", "#9a6700", "#6639ba"
 FONT = 'font-family="system-ui, sans-serif"'
-# Of these units less is better, so that the speed is the yardstick's figure over ours.
+# In these units less is better, so the speed is the yardstick's figure divided by ours.
 TIMES = {"us", "ns"}
 
 
 def rows_in(text):
-    """The rows of a table, as docs/PERFORMANCE.md has it or as tools/bench prints it: name, unit, our median with its spread, the yardstick's, and the
-    ratio of the medians (the first where a row has two); the last two may be none."""
+    """Returns the rows of a table, as in docs/PERFORMANCE.md or as tools/bench prints it: name, unit, our median with its spread, the yardstick's, and the
+ratio of the medians (the first if a row has two); the last two may be None."""
     figure = r"(\d+\.\d+) \((\d+\.\d+) to (\d+\.\d+)\)"
-    # Behind the table of figures come others, so a name is taken once.
+    # Other tables follow the table of figures, so each name is used only once.
     found = {}
     for line in text.splitlines():
         line = line.strip().strip("|").replace("|", "  ")
@@ -25,33 +25,33 @@ def rows_in(text):
 
 
 def words(x, y, text, size=13, colour=INK, anchor="start", weight="normal"):
-    """A text at a place."""
+    """Returns a text at a position."""
     return f'<text x="{x:.1f}" y="{y:.1f}" {FONT} font-size="{size}" fill="{colour}" text-anchor="{anchor}" font-weight="{weight}">{escape(text)}</text>'
 
 
 def line(x1, y1, x2, y2, colour=GRID, width=1.0):
-    """A line between two places."""
+    """Returns a line between two positions."""
     return f'<line x1="{x1:.1f}" y1="{y1:.1f}" x2="{x2:.1f}" y2="{y2:.1f}" stroke="{colour}" stroke-width="{width}"/>'
 
 
 def bar(x, y, width, height, colour):
-    """A bar."""
+    """Returns a bar."""
     return f'<rect x="{x:.1f}" y="{y:.1f}" width="{width:.1f}" height="{height:.1f}" rx="2" fill="{colour}"/>'
 
 
 def drawing(width, height, title, parts):
-    """A whole drawing on white, with a title for those who can't see it."""
+    """Returns a whole drawing on white, with a title for screen readers."""
     head = f'<svg xmlns="http://www.w3.org/2000/svg" viewBox="0 0 {width} {height}" width="{width}" height="{height}" role="img" aria-label="{escape(title)}">'
     return "\n".join([head, f"<title>{escape(title)}</title>", f'<rect width="{width}" height="{height}" fill="#ffffff"/>', *parts, "</svg>"]) + "\n"
 
 
 def ratios(rows):
-    """The speed of each row that has a yardstick, as a bar beside the line at 1."""
+    """Returns the chart of the speed of each row that has a yardstick, as a bar with a line at 1."""
     shown = [(name, 1 / ratio if unit in TIMES else ratio) for name, unit, _, theirs, ratio in rows if theirs]
     left, top, step, most = 350, 74, 22, max([2.0, *(speed for _, speed in shown)])
     scale = 380 / most
     height = top + step * len(shown) + 34
-    title = "Speed beside the yardstick of each row"
+    title = "Speed relative to the yardstick of each row"
     parts = [words(16, 28, title, 17, weight="600"), words(16, 48, "1 is the yardstick; to the right is faster. docs/PERFORMANCE.md has the figures with their spread.", 12, MUTED)]
     for mark in (0, 0.5, 1, 1.5, 2):
         x = left + mark * scale
@@ -66,14 +66,14 @@ def ratios(rows):
 
 
 def jobs(rows):
-    """Whole jobs by workers: ours, the yardstick's, and those of rbhost run, each with its spread."""
+    """Returns the chart of whole jobs by workers: ours, the yardstick's, and those of rbhost run, each with its spread."""
     bars = {}
     for name, _, ours, theirs, _ in rows:
         found = re.match(r"(whole jobs|rbhost run), (\d+) workers", name)
         if found:
             kinds = [("whole jobs here", OURS, ours), ("DPDK's interpreter over the kernel ring's logic", THEIRS, theirs)] if found[1] == "whole jobs" else [("rbhost run", COMMAND, ours)]
             bars.setdefault(int(found[2]), []).extend(kind for kind in kinds if kind[2])
-    # A spread that goes far above all medians is cut off, with its end told.
+    # A spread that goes far above all medians is cut off, and its end is printed.
     most = 1.4 * max([1.0, *(figure[0] for kinds in bars.values() for _, _, figure in kinds)])
     left, top, base, group, wide = 56, 84, 330, 220, 48
     scale, width = (base - top) / most, 56 + 220 * len(bars) + 24
