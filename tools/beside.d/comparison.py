@@ -1,4 +1,4 @@
-"""Compares what both hosts say of drawn scripts, and counts each class of difference."""
+"""Compares the answers of both hosts to random scripts, and counts each class of difference."""
 import collections
 import dataclasses
 import sys
@@ -14,7 +14,7 @@ from ring_runs import Ring, RingRun
 BATCH = 100
 SHOWN = 10
 LOW_32 = (1 << 32) - 1
-# Of rings up to this size the bytes between the positions are read as a tape.
+# In rings up to this size the bytes between the positions are read as a tape.
 TAPED = 65_536
 PAGE = 4096
 PAGES_BEFORE_DATA = 3
@@ -22,8 +22,8 @@ PAGES_BEFORE_DATA = 3
 
 @dataclasses.dataclass
 class Told:
-    """What a host tells of a script's run: of each step the result, which rings woke their reader, and what was taken of each ring; at the end
-    the positions of each ring, and whether a program read bytes of a pointer that it had written over in part."""
+    """A host's report of a script's run: for each step the result, which rings woke their reader, and what was taken from each ring; at the end
+the positions of each ring, and whether a program read bytes of a pointer that it had partly overwritten."""
 
     results: list = dataclasses.field(default_factory=list)
     woken: list = dataclasses.field(default_factory=list)
@@ -33,7 +33,7 @@ class Told:
 
 
 def of_model(script):
-    """What the model tells of a script, and how many takes of each ring each step makes, one of an empty ring among them where more are asked for."""
+    """Returns the model's report of a script, and the number of takes of each ring in each step, including one of an empty ring if more are requested."""
     rings, told, counts = [Ring(size) for size in script.sizes], Told(), []
     insns = [verified(code, script.context, len(rings)) for code in script.programs]
     for step in script.steps:
@@ -51,7 +51,7 @@ def of_model(script):
 
 
 def linux_lines(script):
-    """The lines that have the host over Linux run a script."""
+    """Returns the lines that make the host over Linux run a script."""
     lines = [f"ring {size}" for size in script.sizes] + [f"program {code.hex()}" for code in script.programs]
     for step in script.steps:
         lines += [f"run {step.program} {step.context.hex() or '-'}", "woken"]
@@ -62,7 +62,7 @@ def linux_lines(script):
 
 
 def of_linux(script, answers):
-    """What Linux tells of a script, with each piece of a ring's bytes: the ring's size, where it begins, and its bytes."""
+    """Returns Linux's report of a script, with each piece of a ring's bytes: the ring's size, its position, and its bytes."""
     told, pieces = Told(), []
     for _ in [*script.sizes, *script.programs]:
         next(answers)
@@ -83,7 +83,7 @@ def of_linux(script, answers):
 
 
 def taken_lines(answers):
-    """The records of a take of Linux: position, length, bytes or none, and the page."""
+    """Returns the records of a take on Linux: position, length, bytes or None, and the page."""
     for line in answers:
         words = line.split()
         if words[0] == "taken":
@@ -92,7 +92,7 @@ def taken_lines(answers):
 
 
 def tape_of(data):
-    """The tape of a ring's bytes: pages counted from the data's first page on, zeros for fill and for what was discarded."""
+    """Returns the tape of a ring's bytes: pages counted from the first data page, zeros as padding and for discarded records."""
     tape, at = b"", 0
     while at < len(data):
         word, page = int.from_bytes(data[at:at + 4], "little"), int.from_bytes(data[at + 4:at + 8], "little")
@@ -104,7 +104,7 @@ def tape_of(data):
 
 
 def is_same_record(first, second):
-    """Whether two records are alike: position, length, and the bytes that a program has written."""
+    """Returns whether two records are equal: position, length, and the bytes that a program has written."""
     if first[:2] != second[:2] or (first[2] is None) != (second[2] is None):
         return False
     if first[2] is None or first[1] <= drawn_jobs.WHOLE:
@@ -117,7 +117,7 @@ def is_same_taken(first, second):
 
 
 class Comparison:
-    """What was compared, and each difference."""
+    """The counts of what was compared, and the differences."""
 
     def __init__(self, linux, heskavo):
         self.linux, self.heskavo = linux, heskavo
@@ -129,7 +129,7 @@ class Comparison:
             print(f"script {number}: {text}" if isinstance(number, int) else f"{number}: {text}")
 
     def verdicts(self, first, scripts):
-        """Whether both hosts accept all programs of a script, for each; differences are counted by their classes."""
+        """Returns, for each script, whether both hosts accept all its programs; counts differences by their classes."""
         programs = [(code, script.context, len(script.sizes)) for script in scripts for code in script.programs]
         here = iter(self.heskavo.verdicts(programs))
         lines = [line for script in scripts for line in [*[f"ring {size}" for size in script.sizes], *[f"program {code.hex()}" for code in script.programs], "end"]]
@@ -144,7 +144,7 @@ class Comparison:
         return accepted
 
     def named(self):
-        """Compares the program of each class: the side that is named refuses it by this class, and the other accepts it."""
+        """Compares the named program of each class: the named side must refuse it by this class, and the other must accept it."""
         named = list(named_programs.programs())
         here = self.heskavo.verdicts([(code, named_programs.CONTEXT, named_programs.RINGS) for _, _, code in named])
         there = self.linux.answers([*["ring 4096"] * named_programs.RINGS, *[f"program {code.hex()}" for _, _, code in named]])[named_programs.RINGS:]
@@ -157,7 +157,7 @@ class Comparison:
                 self.differ(f"the program of {side} {name}", f"{ours[-1]} and {theirs}")
 
     def verdict(self, number, program, here, there):
-        """Compares what both say of a program; whether both accept it."""
+        """Compares both verdicts on a program, and returns whether both accept it."""
         is_here, is_there = here[0] == "accepted", there.startswith("program ")
         self.counts["programs"] += 1
         if not is_here:
@@ -168,36 +168,36 @@ class Comparison:
         told = heskavo_host.classes_told(here)
         if told != portable.lines(*program):
             self.differ(number, f"{told} told, and {portable.lines(*program)} by the model\n  {program[0].hex()} context {program[1]} rings {program[2]}")
-        self.counts["accepted by both" if is_there else "refused by Linux alone"] += 1
+        self.counts["accepted by both" if is_there else "refused only by Linux"] += 1
         self.counts["with a class" if told else "without a class"] += 1
         for name in {name for name, _ in told}:
             self.classes[f"linux {name}"] += 1
         if is_there and told and not self.is_seen(program, [unit for _, unit in told]):
-            self.classes["linux looks at no unit with a class"] += 1
+            self.classes["linux does not check the units with a class"] += 1
         elif is_there != (not told):
             self.differ(number, f"{' '.join(f'{name} {unit}' for name, unit in told) or 'no class'}, and Linux: {there}\n  {program[0].hex()} context {program[1]} rings {program[2]}")
         elif not is_there and there.split()[2] not in ["-", *(str(unit) for _, unit in told)]:
-            self.differ(number, f"{told}, and Linux at another unit: {there}\n  {program[0].hex()}")
+            self.differ(number, f"{told}, and Linux at a different unit: {there}\n  {program[0].hex()}")
         return is_there
 
     def refused_here(self, number, program, line):
         """Counts the class of a program that Linux accepts and this host refuses by a line such as `refused verify V13 unit 4`."""
         _, layer, kind, _, unit = line.split()
         if layer != "shape" and kind != "TooLong" and not self.is_seen(program, [int(unit)]):
-            self.classes["here a unit at which Linux does not look"] += 1
+            self.classes["here a unit that Linux does not check"] += 1
         elif f"{layer} {kind}" in portable.HERE_ALONE and (kind != "V4" or self.is_context_short(program)):
             self.classes[f"here {layer} {kind}"] += 1
         else:
             self.differ(number, f"{line}, and Linux accepts it\n  {program[0].hex()} context {program[1]} rings {program[2]}")
 
     def is_seen(self, program, units):
-        """Whether Linux looks at one of these units of a program that it accepts."""
+        """Returns whether Linux checks one of these units of a program that it accepts."""
         code, _, rings = program
         seen = self.linux.answers([*["ring 4096"] * rings, f"seen {code.hex()}"])[-1].split()
         return seen[0] != "seen" or any(str(unit) in seen[1:] for unit in units)
 
     def is_context_short(self, program):
-        """Whether Linux tests when it runs a program that its context is long enough, and finds that it is not."""
+        """Returns whether Linux checks at run time that the context of a program is long enough, and finds that it is not."""
         code, context, rings = program
         lines = [*["ring 4096"] * rings, f"program {code.hex()}", f"run 0 {bytes(context).hex() or '-'}"]
         return self.linux.answers(lines)[-1] == "refused EINVAL"
@@ -215,7 +215,7 @@ class Comparison:
         self.tapes(tapes)
 
     def run(self, number, script, model, here, there):
-        """Compares what the model, this host and Linux tell of a run."""
+        """Compares the reports of the model, this host and Linux about a run."""
         self.counts["scripts run"] += 1
         self.counts["runs"] += len(script.steps)
         self.counts["takes"] += sum(len(each) for step in there.taken for each in step)
@@ -243,7 +243,7 @@ class Comparison:
         return None
 
     def tapes(self, tapes):
-        """Has this host read the bytes of Linux's rings as tapes, and compares the records."""
+        """Lets this host read the bytes of Linux's rings as tapes, and compares the records."""
         commands = [heskavo_host.tape_command(size, start, tape_of(data)) for _, (size, start, data) in tapes]
         for (number, (_, start, data)), answer in zip(tapes, self.heskavo.answers(commands)):
             self.counts["tapes"] += 1
@@ -253,7 +253,7 @@ class Comparison:
                 self.differ(number, f"tape: {wanted} and {answer}")
 
     def told(self):
-        """Prints the counts; 1 where a difference has no class."""
+        """Prints the counts, and returns 1 if a difference has no class."""
         print(", ".join(f"{name} {count}" for name, count in sorted(self.counts.items())))
         print(", ".join(f"{name} {count}" for name, count in sorted(self.classes.items())) or "no classes")
         print(f"differences without a class {self.unexplained}")
@@ -261,7 +261,7 @@ class Comparison:
 
 
 def records_of(position, data):
-    """The records of a ring's bytes from a position on."""
+    """Returns the records of a ring's bytes from a position on."""
     at = 0
     while at < len(data):
         word = int.from_bytes(data[at:at + 4], "little")
@@ -271,7 +271,7 @@ def records_of(position, data):
 
 
 def compare(linux, heskavo, count, seed):
-    """Draws this many scripts and compares them."""
+    """Generates this many random scripts and compares them."""
     comparison, began = Comparison(linux, heskavo), time.monotonic()
     comparison.named()
     for begin in range(0, count, BATCH):

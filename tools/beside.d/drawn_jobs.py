@@ -1,13 +1,13 @@
-"""Scripts of programs that are drawn at random: rings, programs in a row over them, and takes between, as both hosts can run them."""
+"""Random scripts that both hosts can run: rings, a sequence of programs over them, and takes in between."""
 import dataclasses
 import random
 
 from program_draws import LOADS, SIGNED_LOADS, STORES, STORES_NOW, Draw, unit, wide
 
 STACK = 512
-# Where a job keeps what it has seen so far, and the places of up to four records and of one other pointer.
+# The stack slots of what a job has seen so far, of up to four records and of one other pointer.
 SEEN, RECORDS, KEPT = -8, (-16, -24, -32, -40), -48
-# Records up to this length are written whole before they are read; of a longer one the first, the middle and the last eight bytes are.
+# Records up to this length are written completely before they are read; of longer ones only the first, the middle and the last eight bytes.
 WHOLE = 1000
 SIZES = (4096, 4096, 4096, 8192, 65536, 1 << 20)
 FLAGS = (0, 0, 0, 1, 2, 3)
@@ -18,18 +18,18 @@ JUMP, FAR_JUMP = 0x05, 0x06
 
 
 def written_places(length):
-    """The offsets of the eight bytes each that a program writes of a record above WHOLE."""
+    """Returns the offsets of the eight bytes each that a program writes to a record longer than WHOLE."""
     return (0, length // 2 // 8 * 8, length - 8)
 
 
 def cleared_stack():
-    """Clears the stack, since Linux leaves there what was."""
+    """Returns instructions that clear the stack, since Linux leaves old contents in it."""
     return [unit(0x7A, 10, offset=-8 * place) for place in range(1, STACK // 8 + 1)]
 
 
 @dataclasses.dataclass
 class Step:
-    """A run of a program over a context, and then so many takes of each ring."""
+    """A run of a program over a context, followed by a number of takes of each ring."""
 
     program: int
     context: bytes
@@ -38,7 +38,7 @@ class Step:
 
 @dataclasses.dataclass
 class Script:
-    """Ring sizes, programs, and what is done with them; the context's length is that for which the programs are verified."""
+    """Ring sizes, programs, and the steps; the programs are verified for this context length."""
 
     sizes: list
     programs: list
@@ -47,7 +47,7 @@ class Script:
 
 
 class Job(Draw):
-    """Draws a program that mostly is accepted by both hosts, whose result tells what it has seen."""
+    """Generates a random program that both hosts accept in most cases, and whose result depends on what it has seen."""
 
     def __init__(self, draw, sizes, context, odd):
         self.draw, self.sizes, self.context, self.odd = draw, sizes, context, odd
@@ -66,7 +66,7 @@ class Job(Draw):
         self.parts.append((opcode, dst, src, imm, label))
 
     def code(self):
-        """The bytes of the program."""
+        """Returns the bytes of the program."""
         at, places = 0, {}
         for part in self.parts:
             if isinstance(part, int):
@@ -88,14 +88,14 @@ class Job(Draw):
     # -- what a program does ------------------------------------------------------------------------
 
     def see(self, register):
-        """Adds a register's number to what was seen, by r1."""
+        """Adds a register's number to what was seen, using r1."""
         self.put(unit(0x79, 1, 10, SEEN), unit(0x27, 1, imm=31), unit(0x0F, 1, register), unit(0x7B, 10, 1, SEEN))
 
     def is_odd(self, share):
         return self.odd and self.chance(share)
 
     def plain_arithmetic(self, dst, src):
-        """An arithmetic instruction; mostly none that Linux refuses by its immediate alone."""
+        """Adds an arithmetic instruction, rarely one that Linux refuses because of its immediate alone."""
         while True:
             insn = self.arithmetic(dst, src)
             code, width, imm = insn[0] >> 4, 64 if insn[0] & 7 == 7 else 32, int.from_bytes(insn[4:], "little", signed=True)
@@ -105,7 +105,7 @@ class Job(Draw):
                 return insn
 
     def set_number(self, register):
-        """Puts a drawn number into a register."""
+        """Loads a random number into a register."""
         match self.draw.randrange(5):
             case 0:
                 number = self.number()
@@ -128,7 +128,7 @@ class Job(Draw):
         return self.put(unit(loads[LOG[size]], register, 9, offset))
 
     def stack_offset(self, size):
-        """The offset of a place of the stack that has numbers alone."""
+        """Returns the offset of a stack slot that has only numbers."""
         offset = -self.draw.randint(56 // size + 1, STACK // size) * size
         return offset + self.draw.randrange(size) if self.is_odd(0.03) and offset + size < -56 else offset
 
@@ -144,7 +144,7 @@ class Job(Draw):
         return self.put(unit(STORES_NOW[LOG[size]], 10, 0, self.stack_offset(size), self.imm()))
 
     def compute(self):
-        """Instructions on some numbers, at times under branches, all of them seen at the end."""
+        """Adds instructions on some numbers, sometimes under branches, all of which are seen at the end."""
         numbers = self.draw.sample((0, 2, 3, 4, 5), self.draw.randint(1, 4))
         for register in numbers:
             self.set_number(register)
@@ -166,7 +166,7 @@ class Job(Draw):
         return self.draw.randrange(len(self.sizes))
 
     def keep_pointer(self):
-        """Keeps a pointer on the stack and goes through it."""
+        """Stores a pointer on the stack and accesses memory through it."""
         match self.draw.randrange(3):
             case 0:
                 place = -8 * self.draw.randint(8, 64)
@@ -192,7 +192,7 @@ class Job(Draw):
         self.see(0)
 
     def output(self):
-        """An output of bytes of the stack that are numbers."""
+        """Adds an output of stack bytes that are numbers."""
         low = self.draw.randint(-STACK, -57)
         length = self.draw.choice((0, 1, 8, self.draw.randint(0, -56 - low)))
         length = min(length, -56 - low)
@@ -205,7 +205,7 @@ class Job(Draw):
     # -- records ------------------------------------------------------------------------------------
 
     def length(self, size):
-        """A record's length, at times one that just fits or does not fit into a ring of this size."""
+        """Returns a record's length, sometimes one that just fits or does not fit into a ring of this size."""
         edges = (0, 1, 7, 8, 9, size // 2 - 8, size // 2 - 16, size - 24, size - 17, size - 16, size - 15, size - 8, size - 7, size, size // 3)
         return self.draw.choice((*edges, *[self.draw.randint(0, 64)] * 20, *[self.draw.randint(64, WHOLE)] * 4, 1 << 26))
 
@@ -220,11 +220,11 @@ class Job(Draw):
         return None
 
     def record(self, number):
-        """Puts the pointer to a record that is held into r2."""
+        """Loads the pointer to a held record into r2."""
         self.put(unit(0x79, 2, 10, RECORDS[number]))
 
     def touch(self, length):
-        """A store into the record at r2, and a load of it."""
+        """Adds a store to the record at r2, and a load from it."""
         size = self.draw.choice([size for size in (1, 2, 4, 8) if size <= length] or [0])
         if not size:
             return
@@ -241,7 +241,7 @@ class Job(Draw):
         self.put(unit(0x79, 1, 10, RECORDS[number]), unit(0xB7, 2, imm=self.flags(0.1)), unit(0x85, imm=self.draw.choice((SUBMIT, SUBMIT, DISCARD))))
 
     def with_record(self, number, length):
-        """What is done while a record is held."""
+        """Adds what is done while a record is held."""
         self.record(number)
         match self.draw.randrange(6):
             case 0:
@@ -255,7 +255,7 @@ class Job(Draw):
                 self.touch(length)
 
     def records(self):
-        """Reserves up to four records, writes them, and gives them back in a drawn order; those that were granted in front of one that was refused too."""
+        """Reserves up to four records, writes them, and commits them in a random order, including those that were granted before one that was refused."""
         count, end = self.draw.choice((1, 1, 1, 2, 2, 3, 4)), self.label()
         refused, lengths = [self.label() for _ in range(count)], []
         for number in range(count):
@@ -282,7 +282,7 @@ class Job(Draw):
         self.put(end, *(unit(0x7A, 10, 0, RECORDS[number]) for number in range(count)))
 
     def refused_by_linux(self):
-        """Instructions of a class that Linux refuses."""
+        """Adds instructions of a class that Linux refuses."""
         draw, size = self.draw, self.draw.choice((2, 4, 8))
         width, far = draw.choice((32, 64)), draw.choice((1 << 29, (1 << 29) + 8, 1 << 30))
         match draw.randrange(9):
@@ -314,7 +314,7 @@ class Job(Draw):
                     self.put(unit(0x07, 2, imm=-far))
 
     def drawn(self):
-        """The bytes of a program."""
+        """Returns the bytes of a program."""
         self.put(unit(0xBF, 9, 1), *cleared_stack())
         if self.is_odd(0.8):
             self.refused_by_linux()
@@ -328,7 +328,7 @@ class Job(Draw):
 
 
 def drawn_script(seed, number):
-    """A script of jobs, or one of a single program of any kind, each as the rows of crates/rb_program_rows have them."""
+    """Returns a script of jobs, or one of a single program of any kind, like those in the rows of crates/rb_program_rows."""
     draw = random.Random(seed * 1_000_003 + number)
     if number % 2:
         return free_script(seed, number, draw)
@@ -342,7 +342,7 @@ def drawn_script(seed, number):
 
 
 def free_script(seed, number, draw):
-    """One program, valid or not, behind instructions that clear the stack; it runs once."""
+    """Returns one program, valid or not, after instructions that clear the stack; it runs once."""
     code = Draw(seed, number).code()
     context, rings = draw.choice(((24, 2), (24, 2), (24, 2), (8, 1), (16, 1), (0, 0), (24, 16)))
     code = b"".join(cleared_stack()) + code

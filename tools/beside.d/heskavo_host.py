@@ -10,14 +10,14 @@ ROOM = 16_384
 
 
 class HeskavoHost:
-    """A program rbhost: one that is named, or what tools/rbhost finds."""
+    """A program rbhost: the given one, or the one that tools/rbhost finds."""
 
     def __init__(self, program=None):
         self.program = str(program or RBHOST)
         self.pool = concurrent.futures.ThreadPoolExecutor(os.cpu_count())
 
     def answer(self, command):
-        """The lines that a command prints over an input, on the error output last."""
+        """Returns the lines that a command prints for an input, those on standard error last."""
         words, text = command
         run = subprocess.run([self.program, *map(str, words)], input=text, check=False, capture_output=True)
         if run.returncode > 1 or run.returncode < 0:
@@ -28,12 +28,12 @@ class HeskavoHost:
         return list(self.pool.map(self.answer, commands))
 
     def verdicts(self, programs):
-        """What `check --portable` prints of each program, given with its context's length and how many rings there are."""
+        """Returns what `check --portable` prints for each program, given with the length of its context and the number of rings."""
         return self.answers([(["check", "--ctx", context, "--rings", rings, "--portable"], code.hex().encode()) for code, context, rings in programs])
 
 
 def sim_command(script, counts):
-    """The command that runs a script by `sim`, with so many takes of each ring behind each step."""
+    """Returns the input by which `sim` runs a script, with these numbers of takes of each ring after each step."""
     lines = [f"ring {size} 0 {ROOM}" for size in script.sizes]
     lines += [f"worker {script.programs[step.program].hex()} {step.context.hex()}".rstrip() for step in script.steps]
     for worker, (step, takes) in enumerate(zip(script.steps, counts)):
@@ -43,7 +43,7 @@ def sim_command(script, counts):
 
 
 def classes_told(lines):
-    """The classes that `check --portable` told, each with its unit."""
+    """Returns the classes that `check --portable` printed, each with its unit."""
     return [(words[1], int(words[3])) for words in map(str.split, lines) if words[0] == "linux"]
 
 
@@ -52,13 +52,13 @@ def tape_command(size, start, tape):
 
 
 def record_of(words):
-    """A record as `sim` and `tape` tell it behind its position: its length, and its bytes, or none where it was discarded."""
+    """Returns a record as `sim` and `tape` print it after its position: its length, and its bytes, or None if it was discarded."""
     length = int(words[words.index("len") + 1])
     return length, None if words[-1] == "discarded" else bytes.fromhex(words[-1].strip("-"))
 
 
 def sim_told(answer, script, counts):
-    """The takes of each step and ring, the results, and the positions at the end, as `sim` tells them; nothing where it was refused."""
+    """Returns the takes of each step and ring, the results, and the positions at the end, as `sim` prints them, or None if it was refused."""
     lines = [line.split() for line in answer]
     takes = iter([words for words in lines if words[0] == "take"])
     results = [int(words[3]) for words in lines if words[0] == "worker" and words[2] == "done"]
@@ -69,6 +69,6 @@ def sim_told(answer, script, counts):
 
 
 def taken_of(takes, count):
-    """The records of so many takes; a take of an empty ring has none."""
+    """Returns the records of this many takes; a take of an empty ring has none."""
     found = [next(takes) for _ in range(count)]
     return [(int(words[3]), *record_of(words)) for words in found if words[2:] != ["empty"]]

@@ -1,4 +1,4 @@
-"""The host over Linux (tools/linux/host.c): builds it, and has it answer lines."""
+"""The host over Linux (tools/linux/host.c): builds it, and sends it lines."""
 import os
 import pathlib
 import re
@@ -6,7 +6,7 @@ import shutil
 import subprocess
 import tempfile
 
-# The first Linux that has all instructions of RFC 9669.
+# The first version of Linux that has all instructions of RFC 9669.
 OLDEST = (6, 6)
 RETURN_7 = "b700000007000000" "9500000000000000"
 
@@ -14,11 +14,11 @@ LINUX = pathlib.Path(__file__).resolve().parent.parent / "linux"
 
 
 class Skipped(Exception):
-    """Why nothing can be compared here."""
+    """The reason why nothing can be compared here."""
 
 
 def built(name, folder, libraries=()):
-    """The path of a program of tools/linux, built into a folder."""
+    """Builds a program of tools/linux in a folder, and returns its path."""
     if shutil.which("gcc") is None:
         raise Skipped("gcc is not installed")
     program = os.path.join(folder, name)
@@ -30,7 +30,7 @@ def built(name, folder, libraries=()):
 
 
 class LinuxHost:
-    """A built host, in a folder of its own that goes with it."""
+    """A built host, in its own folder, which is removed with it."""
 
     def __init__(self):
         release = os.uname().release
@@ -43,7 +43,7 @@ class LinuxHost:
             raise Skipped(f"Linux runs no program of the type BPF_PROG_TYPE_SYSCALL: {told[1]}")
 
     def answers(self, lines):
-        """What one process answers to these lines, line by line."""
+        """Returns the answers of one process to these lines, line by line."""
         run = subprocess.run([self.program], input="".join(line + "\n" for line in lines), check=False, capture_output=True, text=True)
         if run.returncode == 3:
             raise Skipped(run.stderr.strip())

@@ -1,4 +1,4 @@
-"""A program for each class of difference that docs/LINUX.md names: which side refuses it, and by what. All have a context of 64 bytes and two rings."""
+"""A program for each class of difference in docs/LINUX.md, with the side that refuses it and the class. All have a context of 64 bytes and two rings."""
 from program_draws import unit, wide
 
 CONTEXT, RINGS = 64, 2
@@ -19,7 +19,7 @@ def call(helper):
 
 
 def reserve(length):
-    """Reserves a record of so many bytes in ring 0."""
+    """Reserves a record of this length in ring 0."""
     return [wide(1, 5, 0), number(2, length), number(3, 0), call(131)]
 
 
@@ -28,12 +28,12 @@ def submit(register):
 
 
 def output(data, length):
-    """Outputs so many bytes from where r2 points to then."""
+    """Outputs this many bytes from the address in r2."""
     return [*data, wide(1, 5, 0), number(3, length), number(4, 0), call(130)]
 
 
 def five_records():
-    """Reserves five records at once, and gives back those that were granted."""
+    """Reserves five records at once, and commits those that were granted."""
     granted = [[*reserve(8), unit(0x7B, 10, 0, -8 * (n + 1))] for n in range(5)]
     ends = [[unit(0x79, 1, 10, -8 * (n + 1)), number(2, 0), call(132)] for n in reversed(range(5))]
     code, behind = [], [sum(len(b"".join(each)) // 8 for each in granted[n + 1:]) + 4 - n for n in range(5)]
@@ -55,7 +55,7 @@ LINUX = (
     ("pointer-far", [unit(0x07, 1, imm=1 << 29), *RETURN]),
 )
 
-# What Linux refuses and no class tells, since it depends on where a number came from.
+# What Linux refuses without a class, since it depends on how a number was computed.
 LINUX_UNTOLD = (
     ("size from a division", [wide(1, 5, 0), number(2, 16), unit(0x37, 2, imm=2), number(3, 0), call(131), unit(0x15, 0, 0, 3), *submit(0), *RETURN]),
     ("size from a shift", [wide(1, 5, 0), number(2, 8), number(3, 64), unit(0x6F, 2, 3), number(3, 0), call(131), unit(0x15, 0, 0, 3), *submit(0), *RETURN]),
@@ -86,7 +86,7 @@ HERE = (
 
 
 def programs():
-    """Each named program: which side refuses it (`linux`, `untold` or `here`), its class, and its bytes."""
+    """Yields each named program: the side that refuses it (`linux`, `untold` or `here`), its class, and its bytes."""
     for side, named in (("linux", LINUX), ("untold", LINUX_UNTOLD), ("here", HERE)):
         for name, units in named:
             yield side, name, b"".join(units)

@@ -1,4 +1,4 @@
-"""Compares object files, of examples/c and of drawn sources: loaded by libbpf and run by Linux, and the same files as hex, run here."""
+"""Compares object files, of examples/c and of random sources: loaded by libbpf and run by Linux, and the same files as hex, run here."""
 import contextlib
 import pathlib
 import random
@@ -16,7 +16,7 @@ from linux_host import Skipped, built
 
 CONTEXT, RUNS, SIZE = 24, 3, 4096
 LOW_32 = (1 << 32) - 1
-# How many contexts are drawn beside the one of zeros, and how many sources, which clang mostly lays out with backward jumps.
+# The number of random contexts, in addition to the one of zeros, and of random sources, most of which clang lays out with backward jumps.
 DRAWN, DRAWN_SOURCES = 7, 20
 
 
@@ -29,7 +29,7 @@ def output_of(*command):
 
 @contextlib.contextmanager
 def pins(folder):
-    """A file system for maps that are pinned; they go with it."""
+    """A file system for pinned maps, which are removed with it."""
     place = pathlib.Path(folder) / "pins"
     place.mkdir()
     output_of("mount", "-t", "bpf", "bpf", place)
@@ -40,7 +40,7 @@ def pins(folder):
 
 
 def contexts(seed):
-    """Contexts that take the programs' branches: zeros, and drawn numbers, some of them small or negative."""
+    """Returns contexts that take the programs' branches: zeros, and random numbers, some of them small or negative."""
     draw = random.Random(seed)
     yield bytes(CONTEXT)
     for _ in range(DRAWN):
@@ -49,7 +49,7 @@ def contexts(seed):
 
 
 class Objects:
-    """The comparison: how many runs and records there were, and how many files differ."""
+    """The comparison: the numbers of runs and records, and of files that differ."""
 
     def __init__(self, heskavo, folder):
         self.heskavo, self.folder = heskavo, folder
@@ -66,7 +66,7 @@ class Objects:
         return file
 
     def here(self, code, context):
-        """What this host makes of a program: the results, and the records of each ring but those that were discarded."""
+        """Runs a program on this host. Returns the results, and the records of each ring except those that were discarded."""
         lines = [f"ring {SIZE} 0", f"ring {SIZE} 0", *[f"worker {code.hex()} {context.hex()}"] * RUNS]
         lines += [f"w {worker} {len(code) // 8}" for worker in range(RUNS)] + ["c 0 100", "c 1 100"]
         told = [line.split() for line in self.heskavo.answer((["sim"], "\n".join([*lines, ""]).encode()))]
@@ -78,11 +78,11 @@ class Objects:
         return [int(each[1]) for each in words if each[0] == "result"], [(int(each[1]), bytes.fromhex(each[4].strip("-"))) for each in words if each[0] == "ring"]
 
     def code(self, file, name):
-        """The bytes of a program of an object file, as this host takes it."""
+        """Returns the bytes of a program of an object file, as this host accepts it."""
         return bytes.fromhex("".join(output_of(sys.executable, ROOT / "tools" / "bpf-hex", "--program", name, file).decode().split()))
 
     def compare_drawn(self, number, seed):
-        """Compares a drawn source over all contexts, unless this host refuses it: clang makes one call of two that give back different records (V11)."""
+        """Compares a random source over all contexts, unless this host refuses it: clang merges two calls that commit different records (V11)."""
         source = pathlib.Path(self.folder) / f"drawn{number}.c"
         source.write_text(f'#include "heskavo.h"\n{c_source(random.Random(f"{seed} {number}"))}char _license[] SEC("license") = "GPL";\n')
         file = self.compiled(source, "-O2")
@@ -93,7 +93,7 @@ class Objects:
             self.compare(file, "f", context)
 
     def compare(self, file, name, context):
-        """Compares what one object file does over a context, on both sides."""
+        """Compares the runs of one object file over a context, on both sides."""
         code = self.code(file, name)
         here, there = self.here(code, context), self.there(output_of(self.objects, "run", file, name, context.hex(), RUNS))
         self.runs, self.records = self.runs + RUNS, self.records + len(there[1])
@@ -101,7 +101,7 @@ class Objects:
             self.differ(f"{file.name} over {context.hex()}: {here} here, and {there} by libbpf")
 
     def compare_tape(self, file, name, context, place):
-        """Compares the records of a pinned map's tape with those that libbpf hands out."""
+        """Compares the records of a pinned map's tape with those that libbpf returns."""
         pin = place / f"{file.stem}{context.hex()}"
         output_of(self.objects, "run", file, name, context.hex(), RUNS, pin)
         tape = output_of(self.tape, "--pinned", pin)
@@ -112,7 +112,7 @@ class Objects:
 
 
 def compare(heskavo, seed):
-    """Compares each program of examples/c, optimised and not, and drawn ones, optimised."""
+    """Compares each program of examples/c, with and without optimization, and random ones, with optimization."""
     if shutil.which("clang") is None:
         raise Skipped("clang is not installed")
     sources = sorted(EXAMPLES.glob("*.c"))

@@ -1,8 +1,8 @@
-"""Where Linux refuses a program that is accepted here: the classes of docs/LINUX.md, each of an instruction and of what is known in front of it."""
+"""Where Linux refuses a program that is accepted here: the classes of docs/LINUX.md, each of an instruction and what is known before it."""
 from program_checks import MEMORY, OUTPUT, State, Verifier, joined
 from program_code import decoded, distance, goes_on, signed
 
-# From this distance on Linux moves no pointer.
+# Linux moves no pointer by this distance or more.
 FAR = 1 << 29
 
 # What this host refuses and Linux may accept: the layer, and the kind or the rule.
@@ -11,7 +11,7 @@ HERE_ALONE = ("decode LeftOut", "decode BadOpcode", "decode UnusedField", "decod
 
 
 def annotated(code, context, rings):
-    """The instructions of an accepted program by their units, and what is known in front of each."""
+    """Returns the instructions of an accepted program by their units, and what is known before each."""
     insns, states, verifier = decoded(code), {0: State()}, Verifier(context, rings)
     for unit, insn in insns.items():
         after, jump = verifier.step(unit, insn, states[unit])
@@ -23,7 +23,7 @@ def annotated(code, context, rings):
 
 
 def access_class(pointer, insn):
-    """The class of a load or a store by this pointer, if it has one."""
+    """Returns the class of a load or a store by this pointer, if it has one."""
     is_misaligned = (pointer[-1] + insn.offset) % insn.size
     match pointer[0]:
         case "stack":
@@ -34,7 +34,7 @@ def access_class(pointer, insn):
 
 
 def move_class(pointer, insn, state):
-    """The class of an addition to a pointer, or a subtraction from it, if it has one."""
+    """Returns the class of an addition to a pointer, or a subtraction from it, if it has one."""
     by = insn.imm if insn.src is None else signed(state.values[insn.src][1], 64)
     if pointer[0] == "stack" and insn.op == "sub":
         return "stack-subtraction"
@@ -43,7 +43,7 @@ def move_class(pointer, insn, state):
 
 
 def class_of(insn, state):
-    """The class of an instruction in front of which this is known, if it has one."""
+    """Returns the class of an instruction before which this is known, if it has one."""
     match insn.kind:
         case "load" | "load signed":
             return access_class(state.values[insn.src], insn)
@@ -63,7 +63,7 @@ def class_of(insn, state):
 
 
 def lines(code, context, rings):
-    """Each class with the unit at which Linux refuses an accepted program by it, in the order of the units."""
+    """Returns each class with the unit at which Linux refuses an accepted program by it, in the order of the units."""
     insns, states = annotated(code, context, rings)
     found = ((class_of(insn, states[unit]), unit) for unit, insn in insns.items())
     return [(name, unit) for name, unit in found if name]

@@ -1,4 +1,4 @@
-"""What a program and its maps ask of a host: how long the context is, how many rings there are, and how large they are."""
+"""What a program and its maps require of a host: the length of the context, and the number and size of the rings."""
 import struct
 import typing
 
@@ -11,7 +11,7 @@ ADD, SUB, MOV, BY_REGISTER = 0x00, 0x10, 0xB0, 8
 WIDTHS = {0x00: 4, 0x08: 2, 0x10: 1, 0x18: 8}
 OUTPUT = 130
 FRAME, REGISTERS = 10, 11
-# What the kernel takes as the size of a ring: a power of two and a multiple of its page.
+# The kernel accepts as the size of a ring a power of two that is a multiple of its page.
 SMALLEST_RING = 4096
 
 
@@ -23,7 +23,7 @@ class Value(typing.NamedTuple):
 
 
 class State:
-    """What is known in front of an instruction: of each register, and of each place of eight bytes of the stack."""
+    """What is known before an instruction: of each register, and of each eight-byte slot of the stack."""
 
     def __init__(self, registers: list[Value | None], stack: dict[int, Value]) -> None:
         self.registers, self.stack = registers, stack
@@ -46,7 +46,7 @@ def moved(value: Value | None, by: Value | None, sign: int) -> Value | None:
 
 
 def compute(state: State, insn: bytes) -> None:
-    """Carries out an arithmetic instruction: what is neither a move nor a sum gives nothing that is known."""
+    """Executes an arithmetic instruction: the result of anything but a move or a sum is unknown."""
     opcode, target, source = insn[0], insn[1] & 15, insn[1] >> 4
     given = state.registers[source] if opcode & BY_REGISTER else Value("number", struct.unpack_from("<i", insn, 4)[0])
     operation, is_wide = opcode & 0xF0, opcode & 7 == ALU64
@@ -59,7 +59,7 @@ def compute(state: State, insn: bytes) -> None:
 
 
 def store(state: State, insn: bytes) -> None:
-    """Carries out a store: eight bytes at a place of the stack keep their value, others make the places that they touch unknown."""
+    """Executes a store: eight bytes at a stack slot keep their value, others make the slots that they touch unknown."""
     pointer = state.registers[insn[1] & 15]
     if pointer is None or pointer.kind != "frame":
         return
@@ -72,7 +72,7 @@ def store(state: State, insn: bytes) -> None:
 
 
 def step(state: State, insn: bytes) -> int:
-    """Carries out an instruction, and returns up to which byte it reads the context."""
+    """Executes an instruction, and returns up to which byte it reads the context."""
     opcode, group = insn[0], insn[0] & 7
     read = 0
     if group in (ALU, ALU64):

@@ -1,7 +1,7 @@
 """Lays out the basic blocks of a program so that all jumps lead forward.
 
 Compilers place blocks by how likely they are, so a program without loops may jump backward, and the host refuses such a jump. Without a loop the blocks
-have a topological order; in it each block stands before those that it continues to.
+have a topological order, in which each block precedes those that it continues to.
 """
 import dataclasses
 import struct
@@ -14,7 +14,7 @@ from refusals import Refusal
 class Block:
     """A basic block: its instructions without a `goto` at the end, and the first units of the blocks that it continues to.
 
-    `jump` is the target of the conditional jump that the block ends with, `after` the block that follows otherwise; both are None where there is none.
+    `jump` is the target of the conditional jump that the block ends with, `after` the block that follows otherwise; either is None if it does not exist.
     """
 
     code: bytes
@@ -54,7 +54,7 @@ def blocks_of(code: bytes) -> dict[int, Block] | None:
 def topological(blocks: dict[int, Block], ends: dict[int, int]) -> list[int]:
     """Returns the blocks that are reached from the first one, each before those that it continues to. `ends` has the last unit of each block.
 
-    The search visits a block's jump before what follows otherwise, so the latter is placed right after the block wherever that is possible. Raises Loop.
+    The search visits a block's jump before what follows otherwise, so the latter is placed right after the block if possible. Raises Loop.
     """
     order: list[int] = []
     is_done: dict[int, bool] = {0: False}
@@ -75,7 +75,7 @@ def topological(blocks: dict[int, Block], ends: dict[int, int]) -> list[int]:
 
 
 def placed(blocks: dict[int, Block], order: list[int]) -> bytes:
-    """Returns the program of these blocks in this order, with a `goto` where a block does not stand before the one that follows it."""
+    """Returns the program of these blocks in this order, with a `goto` if a block is not placed right before the one that follows it."""
     needs_goto = {first: blocks[first].after not in (None, following) for first, following in zip(order, [*order[1:], -1])}
     begins, at = {}, 0
     for first in order:
@@ -94,10 +94,10 @@ def placed(blocks: dict[int, Block], order: list[int]) -> bytes:
 
 
 def forward(code: bytes) -> bytes:
-    """Returns a program that does the same with forward jumps alone; one whose jumps all lead forward is returned as it is.
+    """Returns a program that does the same with forward jumps only; one whose jumps all lead forward is returned unchanged.
 
-    Code that no path reaches is left out where anything is moved. A program with a jump out of it, which no layout mends, is returned as it is. Raises Loop
-    if there is a loop, and Refusal if a jump gets too long for its 16 bits.
+    Unreachable code is removed if anything is moved. A program with a jump out of it, which no layout can fix, is returned unchanged. Raises Loop
+    if there is a loop, and Refusal if a jump becomes too long for its 16 bits.
     """
     jumps = [(unit, jump.target) for unit, insn in instructions(code) if (jump := jump_of(unit, insn))]
     if all(target > unit for unit, target in jumps):
@@ -110,4 +110,4 @@ def forward(code: bytes) -> bytes:
     try:
         return placed(blocks, order)
     except struct.error:
-        raise Refusal("with forward jumps alone a jump is longer than 32,767 units") from None
+        raise Refusal("with forward jumps only, a jump is longer than 32,767 units") from None

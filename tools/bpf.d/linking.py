@@ -1,4 +1,4 @@
-"""Makes a program of one piece of a function of an object file: its maps are named by their rings' numbers, and all its jumps lead forward."""
+"""Links a function of an object file into a program: its maps are named by the numbers of their rings, and all its jumps lead forward."""
 import pathlib
 import struct
 

@@ -6,7 +6,7 @@ from collections.abc import Iterator
 from refusals import Refusal
 from type_information import MAPS, CoreRelocation, Extension, Line, Types, name_at
 
-# What a section has, what it is for, and what a symbol names.
+# Kinds and flags of sections, and what a symbol names.
 SHT_PROGBITS, SHT_SYMTAB, SHT_RELA, SHT_REL = 1, 2, 4, 9
 SHF_EXECINSTR = 4
 STT_OBJECT, STT_FUNC, STB_GLOBAL = 1, 2, 1
@@ -26,7 +26,7 @@ class Section(typing.NamedTuple):
 
 
 class Symbol(typing.NamedTuple):
-    """A symbol: its name, what it names, whether other files see it, the number of its section, where it begins there, and its length."""
+    """A symbol: its name, what it names, whether it is visible to other files, the number of its section, its offset there, and its length."""
 
     name: str
     kind: int
@@ -37,7 +37,7 @@ class Symbol(typing.NamedTuple):
 
 
 class Map(typing.NamedTuple):
-    """A map: its name, where it begins in its section, its type and its number of entries; both are None if no type information has them."""
+    """A map: its name, its offset in its section, its type and its number of entries; the last two are None without type information."""
 
     name: str
     at: int
@@ -73,12 +73,12 @@ class ObjectFile:
         return self.sections[number].name if number < len(self.sections) else ""
 
     def functions(self) -> list[Symbol]:
-        """Returns the functions that other files see, each in a section of code."""
+        """Returns the functions that are visible to other files, each in a code section."""
         code = [number for number, part in enumerate(self.sections) if part.kind == SHT_PROGBITS and part.flags & SHF_EXECINSTR]
         return [symbol for symbol in self.symbols if symbol.kind == STT_FUNC and symbol.is_global and symbol.section in code]
 
     def relocations(self, section: int) -> Iterator[tuple[int, Symbol]]:
-        """Yields each byte of a section at which a linker puts in a symbol, with the symbol."""
+        """Yields each offset of a section at which a linker inserts a symbol, with the symbol."""
         for part in self.sections:
             if part.kind in (SHT_REL, SHT_RELA) and part.about == section:
                 for entry in struct.iter_unpack("<QQ" if part.kind == SHT_REL else "<QQq", part.bytes):
@@ -100,7 +100,7 @@ class ObjectFile:
         return [each for each in found if 0 <= each.at - function.at < function.length]
 
     def line_of(self, function: Symbol, at: int) -> Line | None:
-        """Returns the line of the source from which the instruction comes that has this byte of the function, or None if it is not known."""
+        """Returns the source line of the instruction at this offset of the function, or None if it is not known."""
         found = self.extension.lines(self.section_name(function.section)) if self.extension else ()
         before = [line for line in found if function.at <= line.at <= function.at + at and line.number]
         return max(before, key=lambda line: line.at) if before else None

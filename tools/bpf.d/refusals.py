@@ -2,7 +2,7 @@
 
 
 class Refusal(Exception):
-    """What keeps a file from being a program of one piece, and the unit at which that is, if there is one."""
+    """The reason why a file cannot be linked into a program, with its unit, if there is one."""
 
     unit: int | None = None
 

@@ -6,7 +6,7 @@ from collections.abc import Iterator
 # Kinds of types (btf.rst, section 2.2).
 PTR, ARRAY, STRUCT, UNION, ENUM, VAR, DATASEC, ENUM64 = 2, 3, 4, 5, 6, 14, 15, 19
 MODIFIERS = {8, 9, 10, 11, 18}
-# How many bytes follow the head of a type: those of the kind itself, and those of each member.
+# The number of bytes after the head of a type: those of the kind itself, and those of each member.
 EXTRA = {1: (4, 0), ARRAY: (12, 0), STRUCT: (0, 12), UNION: (0, 12), ENUM: (0, 8), 13: (0, 8), VAR: (4, 0), DATASEC: (0, 12), 17: (4, 0), ENUM64: (0, 12)}
 KEYWORDS = {STRUCT: "struct ", UNION: "union ", ENUM: "enum ", ENUM64: "enum "}
 MAPS = ".maps"
@@ -102,7 +102,7 @@ class Line(typing.NamedTuple):
 
 
 class CoreRelocation(typing.NamedTuple):
-    """An instruction that a loader is to fit to the running kernel's types, by the byte of its section at which it begins."""
+    """An instruction that a loader has to adapt to the running kernel's types, by its offset in its section."""
 
     at: int
     kind: str
@@ -110,14 +110,14 @@ class CoreRelocation(typing.NamedTuple):
 
 
 class Extension:
-    """The section .BTF.ext: for each section of code, where its lines come from and what a loader is to fit to the kernel."""
+    """The section .BTF.ext: for each code section, its source lines and what a loader has to adapt to the kernel."""
 
     def __init__(self, section: bytes, types: Types) -> None:
         self.section, self.types = section, types
         self.head = struct.unpack_from("<I", section, 4)[0]
 
     def rows(self, place: int, length: int, code: str) -> Iterator[bytes]:
-        """Yields the rows for a section of code, of a table whose place and length stand at these bytes of the head."""
+        """Yields the rows for a code section, of a table whose offset and length are at these bytes of the head."""
         if max(place, length) + 4 > self.head:
             return
         begin, size = (struct.unpack_from("<I", self.section, at)[0] for at in (place, length))
@@ -134,7 +134,7 @@ class Extension:
             at += row * count
 
     def lines(self, code: str) -> Iterator[Line]:
-        """Yields the line that each instruction of a section of code comes from; one stands for the instructions after it too."""
+        """Yields the source line of each instruction of a code section; a line also applies to the instructions after it."""
         for row in self.rows(16, 20, code):
             at, file, _, place = struct.unpack_from("<IIII", row)
             yield Line(at, self.types.text(file), place >> 10)

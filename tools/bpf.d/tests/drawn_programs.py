@@ -1,15 +1,15 @@
-"""Draws programs for tests: graphs of basic blocks placed in any order, and sources in C that compilers lay out with backward jumps."""
+"""Generates random programs for tests: graphs of basic blocks in any order, and C sources that compilers lay out with backward jumps."""
 import random
 import struct
 
 from instructions import EXIT, GOTO, LONG_GOTO, UNIT, WIDE, instructions, jump_of, with_target
 
-# `if r1 == IMM goto`, of 64 and of 32 bits, and `r0 = IMM`. Each block has constants of its own.
+# `if r1 == IMM goto`, of 64 and of 32 bits, and `r0 = IMM`. The constants differ between blocks.
 BRANCHES, MOVE = (0x15, 0x16), 0xB7
 
 
 def graph(draw: random.Random, has_loop: bool = False) -> bytes:
-    """Returns a program whose blocks lie in any order after the first one. They have no cycle; with `has_loop` one that is reached."""
+    """Returns a program whose blocks are in any order after the first one. They have no cycle, or with `has_loop` a reachable one."""
     count = draw.randrange(1, 14)
     bodies: list[bytes] = []
     edges: list[tuple[int | None, int | None]] = []
@@ -28,7 +28,7 @@ def graph(draw: random.Random, has_loop: bool = False) -> bytes:
 
 
 def assembled(draw: random.Random, bodies: list[bytes], edges: list[tuple[int | None, int | None]], places: list[int]) -> bytes:
-    """Returns the program of these blocks in this order. A block ends with a `goto` if another one follows it there, and at times if not."""
+    """Returns the program of these blocks in this order. A block ends with a `goto` if its successor is not placed right after it, and sometimes if it is."""
     parts: dict[int, bytes] = {}
     begins: dict[int | None, int] = {}
     at = 0
@@ -86,7 +86,7 @@ def is_same(one: bytes, other: bytes) -> bool:
 
 
 def c_source(draw: random.Random) -> str:
-    """Returns a source in C without loops, whose `goto`s, switches and unlikely branches make clang place some blocks behind those that they lead to."""
+    """Returns a C source without loops, whose `goto`s, switches and unlikely branches make clang place some blocks after those that they lead to."""
     count = draw.randrange(5, 10)
     lines = ["RING(ring, 4096);", 'SEC("drawn") u64 f(u64 *ctx) {', "    u64 a = ctx[0], b = ctx[1];", "    u32 *e;"]
     for step in range(count):
