@@ -1,5 +1,5 @@
-/* What a program needs to write into rings, by the names of <linux/bpf.h> and <bpf/bpf_helpers.h>, in whose place it stands: helpers, sections and maps.
- * With WITH_LIBBPF defined those two are taken, from Debian's libbpf-dev. */
+/* What a program needs to write into rings, by the names in <linux/bpf.h> and <bpf/bpf_helpers.h>, which it replaces: helpers, sections and maps.
+ * If WITH_LIBBPF is defined these two are included instead, from Debian's libbpf-dev. */
 #ifndef HESKAVO_H
 #define HESKAVO_H
 
@@ -11,7 +11,7 @@
 /* Puts a program, a map (".maps") or the license ("license") into a section. */
 #define SEC(name) __attribute__((section(name), used))
 
-/* A number of a map's definition. The maps of a file are its rings, numbered in their order. */
+/* A number in a map's definition. The maps of a file are its rings, numbered in their order. */
 #define __uint(name, val) int(*name)[val]
 
 /* The five helpers by their numbers, as bpf-helpers(7) declares them. */
@@ -43,15 +43,15 @@ typedef unsigned long long u64;
 typedef signed int s32;
 typedef signed long long s64;
 
-/* A ring of so many bytes. It has an initialiser, so that the rings of a file stand in their order: without it clang puts them in the order of their first use. */
+/* A ring of this size. It has an initializer, so that the rings of a file keep their order: without it clang puts them in the order of their first use. */
 #define RING(name, bytes)                                                                                              \
     struct {                                                                                                           \
         __uint(type, BPF_MAP_TYPE_RINGBUF);                                                                            \
         __uint(max_entries, bytes);                                                                                    \
     } name SEC(".maps") = {}
 
-/* Stands behind the call that gives back a branch's record, where another branch gives back its own: without it clang makes one call of
- * the two, at which different references arrive along two edges, and the program is refused (V11). It makes no instruction. */
+/* Put this after the call that commits a branch's record, if another branch commits its own: without it clang merges the two calls into
+ * one, at which different references arrive along two edges, and the program is refused (V11). It emits no instruction. */
 #define KEEP_APART() asm volatile("" : : "i"(__LINE__))
 
 #endif

@@ -1,4 +1,4 @@
-/* What was refused: three blocks are written, and the result says how many the ring refused, and how many bytes wait in it. */
+/* Refusals: three blocks are written, and the result says how many the ring refused, and how many bytes wait in it. */
 #include "heskavo.h"
 
 RING(events, 4096);

@@ -1,4 +1,4 @@
-/* Sampling: a latency is kept, but for each eighth measurement, which is discarded. */
+/* Sampling: latencies are kept, except for every eighth measurement, which is discarded. */
 #include "heskavo.h"
 
 RING(events, 4096);

@@ -1,4 +1,4 @@
-/* Output from the stack: a metric is put together there and written in one call, whose answer is the program's. */
+/* Output from the stack: a metric is assembled there and written in one call, whose result is the program's. */
 #include "heskavo.h"
 
 RING(events, 4096);

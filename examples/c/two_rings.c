@@ -1,4 +1,4 @@
-/* Errors to a second ring: a call that failed is reported on ring 1 and wakes the reader, one that went well on ring 0. */
+/* Errors to a second ring: a failed call is reported on ring 1 and wakes the reader, a successful one on ring 0. */
 #include "heskavo.h"
 
 RING(outcomes, 4096);

@@ -1,11 +1,12 @@
 #!/usr/bin/python3
-"""Reads the stream of a host's run as a member of the consumer group `agents`, and appends each record's object to a file, one a line.
+"""Reads the stream of a host's run in the consumer group `agents`, and appends each record's object to a file, one a line.
 
 Usage: examples/ship/read.py HOST RUN PORT FILE
 
-A record that was given to this member and not acknowledged, since it or the server was killed, is given again; one whose position the file has already
-is left out. It reads until it is killed. A file whose last record the stream does not have is of another run: that is an error, as is a server that stays
-away for 30 seconds (5 at the beginning). An error is one line, and the status is 1.
+A record that was delivered to this consumer and not acknowledged, since the consumer or the server was killed, is
+delivered again; one whose position the file already has is skipped. It reads until it is killed. If the stream does not
+have the last record of the file, the file belongs to another run: that is an error, and so is a server that stays away
+for 30 seconds (5 at the start). An error is one line, with status 1.
 """
 import argparse
 import pathlib
@@ -18,7 +19,7 @@ AT_ONCE = 256
 
 
 def last_of(path: pathlib.Path, stream: Stream) -> int:
-    """Returns the position of the file's last record, or -1 if it has none, after cutting off a line that was not written to its end."""
+    """Returns the position of the file's last record, or -1 if it has none, after removing an incomplete last line."""
     try:
         path.touch()
         written = path.read_bytes()
@@ -32,12 +33,12 @@ def last_of(path: pathlib.Path, stream: Stream) -> int:
     lines = whole.decode(errors="replace").splitlines()
     record = record_of(lines[-1], len(lines))
     if record.position >= stream.first_position() and stream.between(record.position, record.position) != [record]:
-        raise Failure(f"{stream.name} does not have the last record of {path}, of position {record.position}: the file is of another run")
+        raise Failure(f"{stream.name} does not have the last record of {path}, at position {record.position}: the file belongs to another run")
     return record.position
 
 
 def join(stream: Stream) -> None:
-    """Makes the group, unless it is there."""
+    """Creates the group, unless it exists."""
     try:
         stream.server.xgroup_create(stream.name, "agents", "0", mkstream=True)
     except CommandRefused as refused:
@@ -46,7 +47,7 @@ def join(stream: Stream) -> None:
 
 
 def read(stream: Stream, file: typing.TextIO, last: int) -> None:
-    """Appends records after a position and acknowledges them, those first that were given before, until the server goes away for good."""
+    """Appends records after a position and acknowledges them, redelivered ones first, until the server goes away for good."""
     after = "0"
     stream.patiently(lambda: join(stream))
     while True:

@@ -1,13 +1,15 @@
 #!/usr/bin/python3
-"""Ships the tapes of two hosts through Redis Streams, kills senders, readers and the server in the middle, and compares what was read with the tapes.
+"""Ships the tapes of two hosts through Redis Streams, kills senders, readers and the server on the way, and compares the
+records that were read with the tapes.
 
 Usage: examples/ship/run.py [RBHOST]
 
-RBHOST is tools/rbhost unless given. Debian's packages `redis-server` and `python3-redis` are needed. The server is started on loopback alone, with each command
-on the disk before it is answered. Once a quarter of a host's records was read, its sender is killed and started again, from the front of its tape; once half of all
-was read, the server is; once three quarters of a host's were, its reader. The script's status is 1 where what was read is not, line by line, what
-`rbhost tape --json` prints, or where the bytes that its records stand for are not the tape's. Half of the positions of `beta` are above 2^53, and stand in
-the objects as strings.
+RBHOST is tools/rbhost by default. It needs Debian's packages `redis-server` and `python3-redis`. The server is started
+on loopback only, and writes each command to the disk before it answers. When a quarter of a host's records has been
+read, its sender is killed and restarted, from the start of its tape; after half of all records the server is; after
+three quarters of a host's records its reader. The status is 1 if the lines that were read differ from those of
+`rbhost tape --json`, or if their records are not the bytes of the tape. Half of the positions of `beta` are above 2^53,
+and are strings in the objects.
 """
 import json
 import pathlib
@@ -29,22 +31,22 @@ WORKERS = 4
 SPAN = 16
 DISCARDED = 1 << 30
 
-# What names the run of both hosts.
+# The name of the run of both hosts.
 RUN = "first"
 
-# The jobs of each worker of a host, and its ring's first position: that of `beta` is half of its tape below 2^53.
+# The jobs of each worker of a host, and its ring's first position: that of `beta` is half a tape below 2^53.
 HOSTS = {"alpha": (2500, 0), "beta": (4000, (1 << 53) - 2000 * WORKERS * SPAN)}
 
 
 def free_port():
-    """A port of loopback that nobody listens on."""
+    """Returns a loopback port on which nobody listens."""
     with socket.socket() as found:
         found.bind(("127.0.0.1", 0))
         return found.getsockname()[1]
 
 
 def start_server(folder, port):
-    """A server of its own, whose stream is on the disk before it answers."""
+    """A separate server, which writes its stream to the disk before it answers."""
     words = ["redis-server", "--bind", "127.0.0.1", "--port", str(port), "--dir", str(folder), "--save", "", "--appendonly", "yes", "--appendfsync", "always"]
     started = subprocess.Popen(words, stdout=subprocess.DEVNULL)
     Stream("any", RUN, port)
@@ -52,7 +54,7 @@ def start_server(folder, port):
 
 
 def tape_of(lines):
-    """The bytes of the tape that has these records, each an object on a line."""
+    """Returns the bytes of the tape with these records, each an object on a line."""
     tape = []
     for record in map(json.loads, lines.splitlines()):
         length, discarded = record["len"], record["discarded"]
@@ -63,7 +65,7 @@ def tape_of(lines):
 
 
 class Host:
-    """A host: its tape, and what sends and reads it."""
+    """A host: its tape, and the processes that send and read it."""
 
     def __init__(self, rbhost, folder, name, jobs, start, port):
         self.name, self.port = name, port
@@ -80,23 +82,23 @@ class Host:
         self.start_sender()
 
     def start_reader(self):
-        """Reads on after what the file has."""
+        """Continues to read after the last record of the file."""
         self.reader = subprocess.Popen([str(HERE / "read.py"), self.name, RUN, str(self.port), str(self.read)])
         self.reads += 1
 
     def start_sender(self):
-        """Sends the tape from its front."""
+        """Sends the tape from the start."""
         tape = subprocess.Popen(self.print_tape, stdin=self.tape.open("rb"), stdout=subprocess.PIPE, stderr=subprocess.DEVNULL)
         self.sender = subprocess.Popen([str(HERE / "send.py"), self.name, RUN, str(self.port)], stdin=tape.stdout)
         tape.stdout.close()
         self.starts += 1
 
     def count(self):
-        """How many records were read."""
+        """Returns the number of records that were read."""
         return self.read.read_bytes().count(b"\n") if self.read.exists() else 0
 
     def is_read(self):
-        """Whether what was read is the tape."""
+        """Returns whether the records that were read are the tape."""
         read = self.read.read_bytes()
         return read == self.lines and tape_of(read) == self.tape.read_bytes()
 
@@ -114,7 +116,7 @@ class Host:
 
 
 def ship(hosts, folder, port, server):
-    """Waits until all was read; the senders and the server are killed on the way. Returns how often the server was started."""
+    """Waits until everything is read; the senders and the server are killed on the way. Returns how often the server was started."""
     starts, total, end = 1, sum(host.records for host in hosts), time.monotonic() + 120
     while (count := sum(host.count() for host in hosts)) < total:
         for host in hosts:
@@ -136,7 +138,7 @@ def ship(hosts, folder, port, server):
 def main():
     """Ships, and compares."""
     if not shutil.which("redis-server"):
-        sys.exit("redis-server is not there: it is in Debian's package redis-server")
+        sys.exit("redis-server is not installed: it is in Debian's package redis-server")
     rbhost = sys.argv[1] if len(sys.argv) > 1 else str(ROOT / "tools" / "rbhost")
     with tempfile.TemporaryDirectory() as name:
         folder, port = pathlib.Path(name), free_port()

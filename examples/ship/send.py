@@ -3,10 +3,12 @@
 
 Usage: rbhost tape --json --size N < TAPE | examples/ship/send.py HOST RUN PORT
 
-RUN names the run of the host that made the tape, as the time at which it began: positions begin anew with each run, so each has a stream of its own. A
-record's position is its number in the stream, and the server takes no number twice. So a sender that was killed sends the same tape again, from its front:
-what the stream has already is compared, and what is missing is sent. A tape that differs from what was sent is an error, and nothing of it is sent from
-there on. A server that goes away is waited for, for 30 seconds (5 at the beginning). An error is one line, and the status is 1.
+RUN names the run of the host that made the tape, for example by the time at which it began: positions start again with
+each run, so each run has its own stream. A record's position is its number in the stream, and the server accepts no
+number twice. So a sender that was killed sends the same tape again, from the start: records that the stream has are
+compared, and missing ones are sent. A tape that differs from what was sent is an error, and nothing is sent from the
+difference on. The sender waits 30 seconds for a server that goes away (5 at the start). An error is one line, with
+status 1.
 """
 import argparse
 import itertools
@@ -19,7 +21,7 @@ AT_ONCE = 64
 
 
 def records_of(lines: Iterable[bytes]) -> Iterator[Record]:
-    """Yields the records of lines, whose positions have to rise."""
+    """Yields the records of lines, whose positions must increase."""
     last = -1
     for number, line in enumerate(lines, 1):
         record = record_of(line.decode(errors="replace").rstrip("\n"), number)
@@ -30,13 +32,13 @@ def records_of(lines: Iterable[bytes]) -> Iterator[Record]:
 
 
 def compare(stream: Stream, sent: list[Record]) -> None:
-    """Compares records with those that the stream has in their places; those that the server trimmed are left out."""
+    """Compares records with those at the same positions in the stream; those that the server trimmed are skipped."""
     there = {record.position: record.line for record in stream.between(sent[0].position, sent[-1].position)}
     oldest = stream.first_position()
     ours = {record.position: record.line for record in sent if record.position >= oldest}
     for position in sorted(set(there) | set(ours)):
         if there.get(position) != ours.get(position):
-            raise Failure(f"{stream.name} has other contents at position {position}: this is the tape of another run, and needs another RUN")
+            raise Failure(f"{stream.name} has different contents at position {position}: this is the tape of another run, and needs another RUN")
 
 
 def append(stream: Stream, records: list[Record]) -> None:
@@ -48,7 +50,7 @@ def append(stream: Stream, records: list[Record]) -> None:
 
 
 def send(stream: Stream, records: Iterator[Record]) -> None:
-    """Sends records that the stream does not have, and compares the others. After a failure the stream is asked how far it came."""
+    """Sends records that the stream does not have, and compares the others. After a failure it asks the stream for its last record."""
     last = stream.last_position()
     while batch := list(itertools.islice(records, AT_ONCE)):
         while batch:

@@ -1,4 +1,4 @@
-"""What sender and reader share: the server's stream of one run of one host, and the records that it has."""
+"""Shared by sender and reader: the server's stream of one run of one host, and its records."""
 import json
 import sys
 import time
@@ -8,19 +8,19 @@ from collections.abc import Callable
 try:
     import redis
 except ImportError:
-    sys.exit(f"{sys.argv[0]}: {sys.executable} has no module redis; Debian has it in the package python3-redis, for /usr/bin/python3")
+    sys.exit(f"{sys.argv[0]}: {sys.executable} has no module redis; it is in Debian's package python3-redis, for /usr/bin/python3")
 
-# What the client raises: a server that is away or not ready yet, one that refuses a command, and any of these.
+# Exceptions of the client: the server is away or not ready yet, the server refuses a command, and any of these.
 AWAY = (redis.ConnectionError, redis.TimeoutError, redis.BusyLoadingError)
 CommandRefused, ServerError = redis.ResponseError, redis.RedisError
-# For how many seconds a server is waited for at the beginning, and once it went away.
+# How many seconds to wait for a server at the start, and after it went away.
 BEGIN, PATIENCE = 5, 30
 
 Result = typing.TypeVar("Result")
 
 
 class Failure(Exception):
-    """What ends a sender or a reader, in one line."""
+    """An error that ends a sender or a reader, in one line."""
 
 
 class Record(typing.NamedTuple):
@@ -35,12 +35,12 @@ def record_of(line: str, number: int) -> Record:
     try:
         position = int(json.loads(line)["pos"])
     except (ValueError, KeyError, TypeError):
-        raise Failure(f"line {number} is no record as `rbhost tape --json` prints it: {line[:60]!r}") from None
+        raise Failure(f"line {number} is not a record of `rbhost tape --json`: {line[:60]!r}") from None
     return Record(position, line)
 
 
 class Stream:
-    """A stream: `tape:HOST:RUN`, in which a record has the number `1-POSITION`. A server takes only numbers that rise."""
+    """A stream: `tape:HOST:RUN`, in which a record has the number `1-POSITION`. A server accepts only increasing numbers."""
 
     def __init__(self, host: str, run: str, port: int) -> None:
         self.name, self.port = f"tape:{host}:{run}", port
@@ -48,12 +48,12 @@ class Stream:
         try:
             self.patiently(self.server.ping, BEGIN)
         except redis.AuthenticationError as error:
-            raise Failure(f"the Redis server at port {port} of 127.0.0.1 wants a password: {error}") from None
+            raise Failure(f"the Redis server at port {port} of 127.0.0.1 requires a password: {error}") from None
         except redis.RedisError as error:
-            raise Failure(f"what answers at port {port} of 127.0.0.1 is no Redis server: {error}") from None
+            raise Failure(f"what answers at port {port} of 127.0.0.1 is not a Redis server: {error}") from None
 
     def patiently(self, call: Callable[[], Result], seconds: int = PATIENCE) -> Result:
-        """Returns what a call of the server returns. While the server is away, the call is made again, for so many seconds."""
+        """Returns the result of a call of the server. While the server is away, repeats the call for this many seconds."""
         end = time.monotonic() + seconds
         while True:
             try:
@@ -71,7 +71,7 @@ class Stream:
         return [Record(int(number.split("-")[1]), fields["record"]) for number, fields in entries]
 
     def first_position(self) -> int:
-        """Returns the position of the oldest record that the server still has, or 0: a server may be told to trim its streams."""
+        """Returns the position of the oldest record that the server still has, or 0: streams can be trimmed."""
         entries = self.patiently(lambda: self.server.xrange(self.name, count=1))
         return int(entries[0][0].split("-")[1]) if entries else 0
 

@@ -1,9 +1,9 @@
-// An agent as others have them: makes a ring buffer map, pins it, and runs a program of standard input that writes into it.
+// A typical agent: creates a ring buffer map, pins it, and runs a program from standard input that writes into it.
 //
-//     agent PATH SIZE RUNS PAUSE < HEX   runs it so often, each time over a context of two numbers of eight bytes, the number of the run and the time
+//     agent PATH SIZE RUNS PAUSE < HEX   runs it RUNS times, each time over a context of two numbers of eight bytes, the number of the run and the time
 //                                        (CLOCK_MONOTONIC, in nanoseconds); it pauses PAUSE microseconds after every 64th run
 //
-// Prints `made N refused M`: how many runs gave 0, and how many something else. The pin stays. The status is as that of tape.
+// Prints `made N refused M`: how many runs returned 0, and how many something else. The pin stays. The statuses are those of tape.
 #include "bpf_calls.h"
 #include "hex_file.h"
 #include <time.h>

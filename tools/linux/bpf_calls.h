@@ -8,20 +8,20 @@
 #include <sys/syscall.h>
 #include <unistd.h>
 
-// How many bytes of the verifier's log are kept: the last ones, where there are more (since Linux 6.4).
+// The size of the verifier's log in bytes; of a longer log the end is kept (since Linux 6.4).
 #define LOG_SIZE (1u << 24)
 
 static inline long bpf(enum bpf_cmd command, union bpf_attr *attr) {
     return syscall(SYS_bpf, command, attr, sizeof *attr);
 }
 
-// A ring buffer map of so many bytes; -1 with errno where Linux makes none.
+// Creates a ring buffer map of this size; returns -1 with errno if Linux refuses.
 static inline int make_ring(uint32_t size) {
     union bpf_attr attr = {.map_type = BPF_MAP_TYPE_RINGBUF, .max_entries = size};
     return (int)bpf(BPF_MAP_CREATE, &attr);
 }
 
-// What a program is loaded as: the type decides its context.
+// The options of loading a program; the type determines its context.
 struct load {
     uint32_t type, flags;
     const void *code;
@@ -29,7 +29,7 @@ struct load {
     const int *rings; // by their numbers, as BPF_PSEUDO_MAP_IDX names them
 };
 
-// Loads a program; -1 with errno where Linux refuses it. Into a log the verifier writes why (level 1), or each step that it takes (level 2).
+// Loads a program; returns -1 with errno if Linux refuses it. The verifier writes the reason (level 1), or each of its steps (level 2), to a log.
 static inline int load_program(const struct load *load, char *log, uint32_t level) {
     union bpf_attr attr = {
         .prog_type = load->type,
@@ -45,7 +45,7 @@ static inline int load_program(const struct load *load, char *log, uint32_t leve
     return (int)bpf(BPF_PROG_LOAD, &attr);
 }
 
-// Runs a program once over a context; -1 with errno where Linux runs nothing. The result has 32 bits.
+// Runs a program once over a context; returns -1 with errno if Linux refuses. The result has 32 bits.
 static inline int run_program(int program, void *context, uint32_t length, uint32_t *result) {
     uintptr_t begin = length ? (uintptr_t)context : 0;
     union bpf_attr attr = {.test = {.prog_fd = (uint32_t)program, .ctx_in = begin, .ctx_size_in = length}};
@@ -54,8 +54,8 @@ static inline int run_program(int program, void *context, uint32_t length, uint3
     return 0;
 }
 
-// Tells that bpf(2) is refused, and what would allow it; the status of a caller that can't go on.
+// Reports that bpf(2) is refused and what would allow it, and returns the status of a caller that cannot continue.
 static inline int refused_here(void) {
-    fprintf(stderr, "bpf(2) is refused: %s. It takes Linux 5.15 or newer with CONFIG_BPF_SYSCALL, and root or CAP_BPF and CAP_PERFMON.\n", strerror(errno));
+    fprintf(stderr, "bpf(2) is refused: %s. It requires Linux 5.15 or newer with CONFIG_BPF_SYSCALL, and root or CAP_BPF and CAP_PERFMON.\n", strerror(errno));
     return 3;
 }

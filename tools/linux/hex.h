@@ -5,7 +5,7 @@ static inline int digit(int c) {
     return c >= '0' && c <= '9' ? c - '0' : c >= 'a' && c <= 'f' ? c - 'a' + 10 : -1;
 }
 
-// The bytes that the digits at the beginning of a text spell; how many, or -1 where they are more than there is room for.
+// Decodes the hex digits at the start of a text; returns the number of bytes, or -1 if they do not fit.
 static inline long bytes_of(const char *hex, unsigned char *bytes, long room) {
     long length = 0;
     while (digit(hex[0]) >= 0 && digit(hex[1]) >= 0) {
@@ -16,7 +16,7 @@ static inline long bytes_of(const char *hex, unsigned char *bytes, long room) {
     return length;
 }
 
-// Prints bytes in hex; `-` where there are none.
+// Prints bytes in hex, or `-` if there are none.
 static inline void print_hex(FILE *out, const unsigned char *bytes, size_t length) {
     static const char digits[] = "0123456789abcdef";
     if (length == 0) putc('-', out);

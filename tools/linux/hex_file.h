@@ -1,7 +1,7 @@
 // A program as text in hex.
 #include "hex.h"
 
-// The bytes that a text spells whose digits may have white space between; how many, or -1 where they are more than there is room for, or no hex.
+// Decodes hex digits, which white space may separate; returns the number of bytes, or -1 if they do not fit or are not hex.
 static inline long read_hex(FILE *text, unsigned char *bytes, long room) {
     long length = 0;
     int high = -1;

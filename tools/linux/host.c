@@ -1,17 +1,17 @@
-// A host over Linux: makes ring buffer maps, loads programs, runs them and reads the rings, as the lines of its input ask.
+// A host over Linux: creates ring buffer maps, loads programs, runs them and reads the rings, as requested by the lines of its input.
 //
-//     ring SIZE              a ring of so many bytes, numbered from 0 on: `ring N`
-//     program HEX            a program over the rings so far, numbered from 0 on: `program N`
-//     seen HEX               the units of a program at which Linux looks: `seen 0 1 5`
+//     ring SIZE              creates a ring of this size, numbered from 0 on: `ring N`
+//     program HEX            loads a program over the rings so far, numbered from 0 on: `program N`
+//     seen HEX               the units of a program that Linux checks: `seen 0 1 5`
 //     run PROGRAM CONTEXT    runs it over a context in hex, `-` for none: `result R`
-//     woken                  which rings woke their reader since it was asked last: `woken 0 2`
+//     woken                  which rings woke their reader since the last such line: `woken 0 2`
 //     positions RING         `positions CONSUMER PRODUCER`
 //     bytes RING             the bytes between the positions: `bytes HEX`
-//     take RING COUNT        so many records at most, each as `pos P len N page G HEX` or `pos P len N page G discarded`; then `taken N`
-//     end                    lets rings and programs go: `end`
+//     take RING COUNT        at most COUNT records, each as `pos P len N page G HEX` or `pos P len N page G discarded`; then `taken N`
+//     end                    closes all rings and programs: `end`
 //
-// Where Linux refuses, the answer is `refused ERRNO`, of a program with the unit that Linux names, or `-`, and the last line of its log.
-// Usage: host < LINES. The status is 3 where bpf(2) is refused, and 2 at a line that is none of these.
+// If Linux refuses, the answer is `refused ERRNO`, for a program with the unit that Linux names, or `-`, and the last line of its log.
+// Usage: host < LINES. The status is 3 if bpf(2) is refused, and 2 at any other line.
 #include "bpf_calls.h"
 #include "hex.h"
 #include "ring_map.h"
@@ -52,14 +52,14 @@ static const char *next_line(const char *line) {
     return end ? end + 1 : 0;
 }
 
-// The unit that a line of the log is about, as `5: (85) call bpf_ringbuf_output#130`; -1 where it is about none.
+// Returns the unit that a line of the log is about, such as `5: (85) call bpf_ringbuf_output#130`, or -1.
 static long unit_of(const char *line) {
     char *end;
     long unit = strtol(line, &end, 10);
     return end != line && strncmp(end, ": (", 3) == 0 ? unit : -1;
 }
 
-// The unit at which the verifier looked last; -1 where it looked at none.
+// Returns the last unit that the verifier checked, or -1.
 static long last_unit(const char *log) {
     long unit = -1;
     for (const char *line = log; line; line = next_line(line))
@@ -67,7 +67,7 @@ static long last_unit(const char *log) {
     return unit;
 }
 
-// The last line of the log that says something of the program.
+// Returns the last line of the log that concerns the program.
 static const char *last_line(char *log) {
     static const char *counts[] = {"processed ", "verification time ", "stack depth ", "mark_read "};
     for (;;) {
@@ -82,7 +82,7 @@ static const char *last_line(char *log) {
     }
 }
 
-// Tells why a program is refused: it is loaded once more, with a log.
+// Reports why a program is refused: loads it again, with a log.
 static void tell_refused(const struct load *load) {
     int first = errno;
     log_text[0] = 0;
@@ -109,7 +109,7 @@ static void answer_program(const char *hex) {
     printf("program %d\n", program_count++);
 }
 
-// Tells at which units of a program the verifier looks: its log has each. A unit behind a branch that is never taken is none.
+// Reports which units of a program the verifier checks, by its log. A unit after a branch that is never taken is not checked.
 static void answer_seen(const char *hex) {
     static unsigned char code[8 * MOST_UNITS], is_seen[MOST_UNITS];
     long length = bytes_of(hex, code, sizeof code);
@@ -176,7 +176,7 @@ static void answer_end(void) {
     }
 }
 
-// Answers one line; 0 where it is none.
+// Answers one line; returns 0 if it is not a request.
 static int answer(const char *line) {
     unsigned long first = 0;
     int behind = 0;
@@ -206,7 +206,7 @@ int main(void) {
     memset(maps, -1, sizeof maps);
     while (getline(&line, &room, stdin) > 0) {
         if (!answer(line)) {
-            fprintf(stderr, "no such line: %.60s\n", line);
+            fprintf(stderr, "unknown request: %.60s\n", line);
             return 2;
         }
     }

@@ -1,11 +1,11 @@
-// Object files as libbpf's users have them: loads one by libbpf, runs one of its programs, and hands out what its rings hold by ring_buffer__poll.
+// Loads an object file by libbpf, runs one of its programs, and prints the records of its rings by ring_buffer__poll.
 //
-//     objects run FILE PROGRAM CONTEXT RUNS [PIN]   runs a program so often over a context in hex, `-` for none. Prints `accepted` or `refused ERRNO`, `result R`
+//     objects run FILE PROGRAM CONTEXT RUNS [PIN]   runs a program RUNS times over a context in hex, `-` for none. Prints `accepted` or `refused ERRNO`, `result R`
 //                                                   for each run, and for each ring buffer map of the file, in its order, `ring I len N HEX` for each record that
-//                                                   libbpf hands out. With PIN the first map is pinned there in the place of being read
-//     objects poll PIN                              the same lines of a map that is pinned
+//                                                   libbpf returns. With PIN the first map is pinned there instead of being read
+//     objects poll PIN                              the same lines for a pinned map
 //
-// The status is 1 where Linux or libbpf refuses something, 2 for wrong usage, and 3 where bpf(2) is refused.
+// The status is 1 if Linux or libbpf refuses something, 2 for wrong usage, and 3 if bpf(2) is refused.
 #include "bpf_calls.h"
 #include "hex.h"
 #include <bpf/bpf.h>
@@ -30,7 +30,7 @@ static int print_record(void *number, void *bytes, size_t length) {
     return 0;
 }
 
-// Prints what libbpf hands out of a ring buffer map.
+// Prints the records that libbpf returns from a ring buffer map.
 static int poll_ring(int map, long number) {
     struct ring_buffer *ring = ring_buffer__new(map, print_record, (void *)(intptr_t)number, 0);
     if (!ring) return failed("ring_buffer__new");
@@ -60,7 +60,7 @@ static int run_often(int program, const char *hex, long runs) {
     return 0;
 }
 
-// Loads an object with one of its programs, as one that takes bytes as its context.
+// Loads an object with one of its programs, of a type whose context is plain bytes.
 static struct bpf_program *loaded(struct bpf_object *object, const char *name) {
     struct bpf_program *each, *chosen = 0;
     bpf_object__for_each_program(each, object) {

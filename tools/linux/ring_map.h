@@ -1,15 +1,15 @@
 // A ring buffer map of Linux as its consumer sees it (Documentation/bpf/ringbuf.rst): a page with the consumer's position, one with the
-// producer's, and the data twice in a row, so that a record that goes over the end lies in one piece.
+// producer's, and the data mapped twice in a row, so that a record that wraps around is contiguous.
 #include <stdint.h>
 #include <stdio.h>
 #include <sys/mman.h>
 #include <unistd.h>
 
-// A header: the length in bits 0 to 29, whether the record was discarded, whether it is busy; then how many pages the record lies behind the map's own.
+// A header: the length in bits 0 to 29, whether the record was discarded, whether it is busy; then the page of the record, counted from the map's own.
 #define DISCARDED (1u << 30)
 #define BUSY (1u << 31)
 #define HEADER 8
-// How many pages lie in front of the data as the header counts them: the map's own, the consumer's and the producer's.
+// The number of pages before the data, as the header counts them: the map's own, the consumer's and the producer's.
 #define PAGES_BEFORE_DATA 3
 
 struct ring_map {
@@ -26,7 +26,7 @@ struct ring_record {
     const unsigned char *bytes;
 };
 
-// Maps a ring of so many bytes; -1 with errno where that is refused.
+// Maps a ring of this size; returns -1 with errno if that is refused.
 static inline int map_ring(struct ring_map *ring, int map, uint64_t size) {
     size_t page = (size_t)sysconf(_SC_PAGESIZE);
     void *consumer = mmap(0, page, PROT_READ | PROT_WRITE, MAP_SHARED, map, 0);
@@ -54,12 +54,12 @@ static inline uint64_t producer_of(const struct ring_map *ring) {
     return __atomic_load_n(ring->producer, __ATOMIC_ACQUIRE);
 }
 
-// How many bytes a record takes: its header, and its bytes up to a multiple of eight.
+// Returns the span of a record: its header, and its bytes rounded up to a multiple of eight.
 static inline uint64_t span(uint32_t length) {
     return HEADER + ((uint64_t)length + 7) / 8 * 8;
 }
 
-// The record at a position, where it is there and no longer busy.
+// Returns whether there is a record at a position that is not busy, and the record.
 static inline int record_at(const struct ring_map *ring, uint64_t position, struct ring_record *record) {
     if (position >= producer_of(ring)) return 0;
     const unsigned char *header = ring->data + (position & (ring->size - 1));
@@ -70,7 +70,7 @@ static inline int record_at(const struct ring_map *ring, uint64_t position, stru
     return 1;
 }
 
-// The next record; `give_back` lets the producers have its bytes again.
+// Returns whether there is a next record, and the record; `give_back` releases its bytes to the producers.
 static inline int next_record(const struct ring_map *ring, struct ring_record *record) {
     return record_at(ring, consumer_of(ring), record);
 }
@@ -79,8 +79,8 @@ static inline void give_back(struct ring_map *ring, const struct ring_record *re
     __atomic_store_n(ring->consumer, record->position + span(record->length), __ATOMIC_RELEASE);
 }
 
-// Lets the producers have all bytes below a position again. The store is seen before any later load of this thread: so either the thread finds that the record
-// at this position is committed, or the kernel finds, when it commits it, that the consumer is there, and wakes it.
+// Releases all bytes below a position to the producers. The store is ordered before any later load of this thread: so either the thread finds that the record
+// at this position is committed, or the kernel finds, when it commits it, that the consumer has reached it, and wakes it.
 static inline void give_back_to(struct ring_map *ring, uint64_t position) {
     __atomic_store_n(ring->consumer, position, __ATOMIC_SEQ_CST);
 }

@@ -1,12 +1,12 @@
-// Writes the tape of a ring buffer map of Linux to standard output: each record from the consumer's position on, up to the first that is busy, as its
-// header, its bytes, and zeros up to a multiple of eight. Pages are counted from the data's first page, and what was discarded is zeros.
+// Writes the tape of a ring buffer map of Linux to standard output: each record from the consumer's position up to the first busy one, as its
+// header, its bytes, and zeros up to a multiple of eight. Pages are counted from the first data page, and discarded records are zeros.
 //
-//     tape --pinned PATH [--take | --follow]                     of a map that is pinned in a BPF file system
-//     tape --size N [--rings N] [--ring R] [--runs N] [--context HEX] < HEX   of ring R after so many runs of a program over rings of so many bytes
+//     tape --pinned PATH [--take | --follow]                     the tape of a map that is pinned in a BPF file system
+//     tape --size N [--rings N] [--ring R] [--runs N] [--context HEX] < HEX   the tape of ring R after N runs of a program over rings of this size
 //
-// With --take the records are given back to the ring. With --follow they are too, and tape goes on: it waits on the map by epoll(7), and writes out all
-// records that are there after each wake-up, and twice a second for records that were committed without one (BPF_RB_NO_WAKEUP), until SIGINT or SIGTERM.
-// A record is given back only after it was written. `--size N --start P`, as `rbhost tape` takes them, goes to standard error. Sizes take K and M. The
+// With --take the records are consumed. With --follow they are too, and tape continues: it waits on the map by epoll(7), and writes all available
+// records after each wake-up, and twice a second those that were committed without one (BPF_RB_NO_WAKEUP), until SIGINT or SIGTERM.
+// A record is consumed only after it was written. `--size N --start P`, the options for `rbhost tape`, go to standard error. Sizes accept K and M. The
 // status is 1 if Linux refuses something or a write fails, 2 for wrong usage, and 3 if bpf(2) is refused.
 #include "bpf_calls.h"
 #include "hex_file.h"
@@ -20,7 +20,7 @@
 #define MOST_UNITS 4096
 #define MOST_CONTEXT 65535
 #define MOST_RUNS 1000000
-// After so many bytes of records they are flushed and given back, so that the ring gets room while many wait.
+// After this many bytes the records are flushed and consumed, so that the ring gets room while many wait.
 #define BATCH (256u << 10)
 #define MILLISECONDS 500
 
@@ -42,7 +42,7 @@ static int failed(const char *what) {
     return 1;
 }
 
-// Reports what Linux refused, and returns the negative status to end with.
+// Reports what Linux refused, and returns the negative exit status.
 static int refused(const char *what) {
     return errno == EPERM || errno == ENOSYS ? -refused_here() : -failed(what);
 }
@@ -52,14 +52,14 @@ static int reported(const char *what) {
     return -1;
 }
 
-// Runs the program of standard input on fresh rings, and returns the map of the one that is asked for, or the negative status to end with.
+// Runs the program from standard input on fresh rings, and returns the map of the requested ring, or the negative exit status.
 static int ring_of_runs(const struct options *options) {
     static unsigned char code[8 * MOST_UNITS], context[MOST_CONTEXT];
     int maps[MOST_RINGS];
     for (uint64_t i = 0; i < options->rings; i++)
-        if ((maps[i] = make_ring((uint32_t)options->size)) < 0) return refused("a ring is not made");
+        if ((maps[i] = make_ring((uint32_t)options->size)) < 0) return refused("a ring cannot be created");
     long length = read_hex(stdin, code, sizeof code), context_length = bytes_of(options->context, context, sizeof context);
-    if (length <= 0 || length % 8 != 0) return reported("standard input is no program in hex, 1 to 4096 units of eight bytes");
+    if (length <= 0 || length % 8 != 0) return reported("standard input is not a program in hex, 1 to 4096 units of eight bytes");
     struct load load = {BPF_PROG_TYPE_SYSCALL, BPF_F_SLEEPABLE, code, (uint32_t)(length / 8), maps};
     int program = load_program(&load, 0, 0);
     if (program < 0) return refused("Linux does not load the program");
@@ -82,8 +82,8 @@ static void write_record(const struct ring_record *record) {
     write_zeros(span(record->length) - HEADER - record->length);
 }
 
-// Writes the records from a position on that the ring has now, up to the first that is busy. They are flushed in batches, and with `takes` the ring gets the
-// bytes of a batch back after that.
+// Writes the records that the ring has now, from a position up to the first busy one. They are flushed in batches, and with `takes` the
+// bytes of a batch are released after that.
 static int write_waiting(struct ring_map *ring, uint64_t *position, int takes) {
     uint64_t end = producer_of(ring);
     struct ring_record record;
@@ -99,7 +99,7 @@ static int write_waiting(struct ring_map *ring, uint64_t *position, int takes) {
     return 0;
 }
 
-// Writes what waits, and then what comes, until a signal stops it. It waits only if the record at the position is not committed. The wait is edge-triggered,
+// Writes the waiting records, and then those that arrive, until a signal stops it. It waits only if the record at the position is not committed. The wait is edge-triggered,
 // since a busy record keeps the map readable: the kernel wakes for the commit of a record that the consumer has reached.
 static int follow(struct ring_map *ring, uint64_t position) {
     struct epoll_event event = {.events = EPOLLIN | EPOLLET};
@@ -114,7 +114,7 @@ static int follow(struct ring_map *ring, uint64_t position) {
     return status != 0 ? status : write_waiting(ring, &position, 1);
 }
 
-// Reads a number, with K or M for 1,024 and 1,048,576 times as much; 0 if it is none.
+// Reads a number, with K or M for 1,024 and 1,048,576 times as much; returns 0 if it is not a number.
 static int number_of(const char *text, uint64_t *number) {
     char *end;
     errno = 0;
@@ -125,13 +125,13 @@ static int number_of(const char *text, uint64_t *number) {
     return end[shift != 0] == 0;
 }
 
-// Whether the options go together.
+// Returns whether the options can be combined.
 static int are_together(const struct options *options) {
     if (options->pinned) return !options->size && !(options->takes && options->follows);
     return options->size && !options->takes && !options->follows;
 }
 
-// Reports the first option with a value out of its bounds, and returns whether there is one.
+// Reports the first option whose value is out of bounds, and returns whether there is one.
 static int has_bad_value(const struct options *options) {
     size_t digits = strlen(options->context);
     if (options->pinned) return 0;
@@ -144,7 +144,7 @@ static int has_bad_value(const struct options *options) {
     return 1;
 }
 
-// Reads the options, and returns whether they are an invocation that the usage line has.
+// Reads the options, and returns whether the usage line permits them.
 static int parse(int count, char **words, struct options *options) {
     static const struct option known[] = {{"pinned", 1, 0, 'p'}, {"take", 0, 0, 't'}, {"follow", 0, 0, 'f'}, {"size", 1, 0, 's'},
                                           {"rings", 1, 0, 'n'},  {"ring", 1, 0, 'r'}, {"runs", 1, 0, 'u'},   {"context", 1, 0, 'c'}, {0}};

@@ -1,10 +1,10 @@
-// Turns a capture of tcpdump into frames: each packet's length as a little-endian u32, then its bytes.
+// Converts a capture of tcpdump to frames: each packet's length as a little-endian u32, then its bytes.
 //
 //     pcap_frames [--snap N] [--end] < CAPTURE
 //
-// The input is a capture file or a pipe (pcap-savefile(5)): either byte order, microseconds or nanoseconds. Packets longer than N bytes are cut to N. What
-// was read goes out before the program waits for more, in whole frames. With --end, the length 0xffffffff follows the last packet and ends the stream. The
-// status is 0 at the end of the capture, 1 if the input is no such capture or ends inside a packet, or if a read or write fails, and 2 for wrong usage.
+// The input is a capture file or a pipe (pcap-savefile(5)), in either byte order, in microseconds or nanoseconds. Packets longer than N bytes are truncated. What
+// was read is written, in whole frames, before the program waits for more. With --end, the length 0xffffffff follows the last packet and ends the stream. The
+// status is 0 at the end of the capture, 1 if the input is not such a capture or ends inside a packet, or if a read or write fails, and 2 for wrong usage.
 #include <errno.h>
 #include <getopt.h>
 #include <stdint.h>
@@ -47,7 +47,7 @@ static uint32_t big_endian(const unsigned char *b) {
     return b[3] | (uint32_t)b[2] << 8 | (uint32_t)b[1] << 16 | (uint32_t)b[0] << 24;
 }
 
-// Writes all frames that are waiting.
+// Writes all buffered frames.
 static void flush_frames(void) {
     while (out.start < out.end) {
         ssize_t n = write(STDOUT_FILENO, out.at + out.start, out.end - out.start);
@@ -72,7 +72,7 @@ static void append_frame(const unsigned char *packet, uint32_t length) {
     out.end += length;
 }
 
-// Reads until `count` bytes are there. Returns 0 if the input ends before. Frames are flushed before each read.
+// Reads until `count` bytes are available. Returns 0 if the input ends before that. Frames are flushed before each read.
 static int want(size_t count) {
     while (in.end - in.start < count) {
         flush_frames();

@@ -1,5 +1,5 @@
 // A reader of one ring, compiled once over libbpf and once over heskavo_linux.h: the two differ by the header that is included, and by NAME, which puts a
-// word in front of its calls so that both fit into one program.
+// prefix before its calls so that both fit into one program.
 #ifdef OVER_LIBBPF
 #include <bpf/libbpf.h>
 #define NAME(it) libbpf_##it

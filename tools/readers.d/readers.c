@@ -1,5 +1,5 @@
 // Compares heskavo_linux.h with libbpf over rings of Linux: programs write the same records into two rings, one for each reader, and what the readers saw has
-// to be the same after each call. Then both read one ring in turns, and the time that each takes for a record is printed.
+// must be the same after each call. Then both read one ring alternately, and the time that each takes for a record is printed.
 //
 //     readers ROUNDS    the status is 1 if the readers differ, and 3 if bpf(2) is refused
 #include "../linux/bpf_calls.h"
@@ -14,7 +14,7 @@
 static const uint32_t LENGTH[] = {0, 1, 7, 8, 9, 24, 100, 1000, 4096, 30000};
 #define EIGHT 3 // the number of the length 8
 
-// Writes a program: it reserves a record of so many bytes, stores the first 8 bytes of the context there if they fit, and submits or discards it. Returns the
+// Writes a program that reserves a record of this length, stores the first 8 bytes of the context there if they fit, and submits or discards it. Returns the
 // number of its units.
 static uint32_t put_program(struct bpf_insn *code, uint32_t length, int is_discarded) {
     const struct bpf_insn begin[] = {
@@ -93,7 +93,7 @@ static int are_same(const struct sum *sums, const int *answers, const char *what
     return 0;
 }
 
-// Both readers see the same of two rings with the same records, whether they consume or poll, and where a callback refuses a sample.
+// Both readers see the same in two rings with the same records, whether they consume or poll, and if a callback refuses a sample.
 static int compare(uint32_t rounds) {
     struct writer writers[2][2];
     struct sum sums[2] = {{0, 0, 0, 0}, {0, 0, 0, 0}};
@@ -130,7 +130,7 @@ static double seconds_now(void) {
     return (double)now.tv_sec + (double)now.tv_nsec / 1e9;
 }
 
-// Both read one ring in turns, full of records of eight bytes, with a callback that does next to nothing.
+// Both read one ring alternately, full of records of eight bytes, with a callback that does next to nothing.
 static int time_turns(uint32_t turns) {
     struct writer writer;
     if (open_writer(&writer) != 0) return -1;

@@ -2,7 +2,7 @@
 #include <stddef.h>
 #include <stdint.h>
 
-// What a reader saw: how many samples there were, and a hash of their lengths and bytes in order (FNV-1a). A sample is refused after `left` more.
+// What a reader saw: the number of samples, and a hash of their lengths and bytes in order (FNV-1a). A sample is refused after `left` more.
 struct sum {
     uint64_t samples, hash;
     uint32_t left;

@@ -1,4 +1,4 @@
-"""Runs drawn programs by `rbhost check` and `rbhost run`, and compares what they asked of their rings with what `rbhost cost` tells of them."""
+"""Runs random programs by `rbhost check` and `rbhost run`, and compares their requests with the bounds that `rbhost cost` reports."""
 import collections
 import concurrent.futures
 import itertools
@@ -10,16 +10,16 @@ import tempfile
 from program_draws import CONTEXT, RINGS, Draw
 from ring_model import span
 
-# How many programs are run at once, and how many runs are shown that pass their cost.
+# The number of programs that are run in parallel, and of the runs that are printed if they exceed their cost.
 BATCH, SHOWN = 256, 10
-# What `run` is given: with so large a ring none is refused for want of room.
+# The options of `run`: in a ring of this size no record is refused for lack of room.
 WORKERS, JOBS, SIZE = 2, 3, 1 << 16
-# The calls that ask for a record.
+# The calls that request a record.
 ASKING = [bytes.fromhex(call) for call in ("8500000082000000", "8500000083000000")]
 
 
 def asking_programs(seed):
-    """Drawn programs that have a call which asks for a record, as text in hex."""
+    """Yields random programs that have a call which requests a record, as hex."""
     for number in itertools.count():
         code = Draw(seed, number).program()
         if any(code[at : at + 8] in ASKING for at in range(0, len(code), 8)):
@@ -33,17 +33,17 @@ class Host:
         self.program = program
 
     def lines(self, words, text):
-        """The words of each line that a command prints of a program, or none where it is refused."""
+        """Returns the words of each line that a command prints for a program, or None if it is refused."""
         run = subprocess.run([self.program, *words], input=text, capture_output=True, text=True)
         return None if run.returncode else [line.split() for line in run.stdout.splitlines()]
 
     def cost(self, text, context, rings):
-        """The records and bytes that the program asks each ring for at most, or none where it is refused."""
+        """Returns the maximal records and bytes that the program requests of each ring, or None if it is refused."""
         lines = self.lines(["cost", "--ctx", str(context), "--rings", str(rings)], text)
         return lines and [(int(words[3]), int(words[5])) for words in lines if words[0] == "ring"]
 
     def checked(self, text):
-        """What `check` leaves in each ring, and the program's cost: the records and their bytes."""
+        """Returns what `check` leaves in each ring, and the program's cost: the records and their bytes."""
         costs = self.cost(text, CONTEXT, RINGS)
         if costs is None:
             return None
@@ -56,7 +56,7 @@ class Host:
         return list(zip(made, sizes)), costs
 
     def ran(self, text):
-        """What `run` made in its ring and wrote to its tape, and the cost of all its jobs."""
+        """Returns what `run` made in its ring and wrote to its tape, and the cost of all its jobs."""
         costs = self.cost(text, 16, 1)
         if costs is None:
             return None
@@ -67,7 +67,7 @@ class Host:
 
 
 def tried(count, programs, call):
-    """So many accepted programs that may ask for a record, each with what a call found and the cost."""
+    """Yields this many accepted programs that may request a record, each with its measured requests and its cost."""
     with concurrent.futures.ThreadPoolExecutor(os.cpu_count()) as pool:
         while count:
             batch = list(itertools.islice(programs, BATCH))
@@ -78,7 +78,7 @@ def tried(count, programs, call):
 
 
 def tell(what, runs):
-    """Prints how many runs stay within the cost of their program, and how many reach it; answers how many pass it."""
+    """Prints how many runs stay within the cost of their program, and how many reach it; returns how many exceed it."""
     counts = collections.Counter()
     for text, found, costs in runs:
         within = all(made <= most and size <= bound for (made, size), (most, bound) in zip(found, costs))
@@ -91,7 +91,7 @@ def tell(what, runs):
 
 
 def compare(checks, runs, seed, program):
-    """Has so many programs run by `check`, and so many others by `run`; 1 where one passes its cost."""
+    """Runs this many programs by `check`, and this many others by `run`; returns 1 if one exceeds its cost."""
     host, programs = Host(str(pathlib.Path(program).resolve())), asking_programs(seed)
     past = tell("check", tried(checks, programs, host.checked)) + tell("run", tried(runs, programs, host.ran))
     return 1 if past else 0

@@ -1,7 +1,7 @@
 """Verification of programs by the rules V1 to V15, as docs/ and the advice of `explain` state them.
 
-A program is refused at the lowest unit that breaks a rule. Which of several rules that one instruction breaks is told depends on the order of
-its checks; here the refusal has all of them.
+A program is refused at the lowest unit that breaks a rule. If one instruction breaks several rules, the order of its checks determines which is
+reported; here the refusal has all of them.
 """
 from program_code import decoded, distance, goes_on, shaped, signed
 from program_values import value_of
@@ -21,7 +21,7 @@ class Refused(Exception):
 
 
 class State:
-    """What is known in front of an instruction."""
+    """What is known before an instruction."""
 
     def __init__(self):
         self.values = [NOTHING] * 11
@@ -35,7 +35,7 @@ class State:
         return other
 
     def renamed(self, rename):
-        """The same with each value of a register and of a place replaced."""
+        """Returns the same with each value of a register and of a stack slot replaced."""
         other = self.copy()
         other.values = [rename(value) for value in self.values]
         other.places = {place: rename(value) for place, value in self.places.items()}
@@ -48,7 +48,7 @@ def is_number(value):
 
 
 def least_above(first, second):
-    """What is known of two values in common."""
+    """Returns what is known about both of two values."""
     if first == second:
         return first
     return NUMBER if is_number(first) and is_number(second) else NOTHING
@@ -71,7 +71,7 @@ def refuse(*rules):
 
 
 def touched(offset, size):
-    """The places that have one of so many bytes of the stack from an offset on."""
+    """Returns the slots that have one of this many bytes of the stack from an offset on."""
     first = STACK + offset
     return range(first // 8, (first + size - 1) // 8 + 1) if size else range(0)
 
@@ -81,7 +81,7 @@ def whole_place(offset, size):
 
 
 class Verifier:
-    """Verification for a context of so many bytes and so many rings."""
+    """Verification for a context of this length and this number of rings."""
 
     def __init__(self, context, rings):
         self.context, self.rings = context, rings
@@ -92,7 +92,7 @@ class Verifier:
         return low <= at and at + size <= high
 
     def access_faults(self, state, base, offset, size):
-        """The rules that an access by this base breaks, and the pointer to it where there is none."""
+        """Returns the rules that an access by this base breaks, and its pointer if it breaks none."""
         if base == NOTHING:
             return [1], None
         if base[0] == "perhaps":
@@ -103,7 +103,7 @@ class Verifier:
         return ([], pointer) if self.inside(state, pointer, size) else ([4], pointer)
 
     def step(self, unit, insn, state):
-        """What is known along the edge to the next instruction, and along a jump."""
+        """Returns what is known along the edge to the next instruction, and along a jump."""
         match insn.kind:
             case "number" | "ring" | "mov" | "binary" | "neg" | "end":
                 after = self.assigned(insn, state)
@@ -266,12 +266,12 @@ class Verifier:
 
 
 def verified(code, context, rings):
-    """The instructions of a program that is accepted; Fault where the bytes or the shape are refused, Refused where a rule is broken."""
+    """Returns the instructions of an accepted program; raises Fault if the bytes or the shape are refused, Refused if a rule is broken."""
     return annotated(code, context, rings)[0]
 
 
 def annotated(code, context, rings):
-    """The same, with what is known in front of each."""
+    """Returns the same, with what is known before each."""
     insns = decoded(code)
     shaped(insns)
     states = {0: State()}

@@ -1,6 +1,6 @@
 """Programs as bytes: what they decode to, and the shape of their jumps.
 
-From RFC 9669 (sections 3 to 5, appendix A) and the profile in docs/ alone.
+Written only from RFC 9669 (sections 3 to 5, appendix A) and the profile in docs/.
 """
 from dataclasses import dataclass
 
@@ -18,7 +18,7 @@ ATOMIC = {0xC3, 0xDB}
 
 
 class Fault(Exception):
-    """Why bytes are no program of the profile, or one that is refused; its text is that of the answer."""
+    """The reason why bytes are not a program of the profile, or are refused; its text is that of the answer."""
 
 
 @dataclass(frozen=True)
@@ -40,13 +40,13 @@ class Insn:
 
 
 def signed(number, bits):
-    """The number of a two's complement of so many bits."""
+    """Returns the number of a two's complement of this many bits."""
     number &= (1 << bits) - 1
     return number - (1 << bits) if number >> (bits - 1) else number
 
 
 def field_checks(opcode, src_field, imm):
-    """The kind of a first unit, and what its destination, source, offset and immediate allow: `reg`, `any`, or a set of numbers."""
+    """Returns the kind of a first unit, and the values that its destination, source, offset and immediate allow: `reg`, `any`, or a set of numbers."""
     zero = {0}
     cls, code, by_register = opcode & 7, opcode >> 4, bool(opcode & 8)
     if opcode in PACKET | ATOMIC | {CALL_REGISTER}:
@@ -95,7 +95,7 @@ def arithmetic_checks(cls, op, by_register, imm):
 
 
 def insn_at(code, unit):
-    """The instruction whose first unit is this one; a Fault where there is none."""
+    """Returns the instruction that begins at this unit; raises Fault if there is none."""
     at = 8 * unit
     opcode, registers = code[at], code[at + 1]
     dst, src = registers & 15, registers >> 4
@@ -137,7 +137,7 @@ def op_of(kind, opcode):
 
 
 def decoded(code):
-    """The instructions of bytes by their units; a Fault at the first unit that has one."""
+    """Returns the instructions of bytes by their units; raises Fault at the first faulty unit."""
     if not code or len(code) % 8:
         raise Fault("refused decode Length unit 0")
     insns, unit = {}, 0
@@ -150,17 +150,17 @@ def decoded(code):
 
 
 def goes_on(insn):
-    """Whether an instruction leads to the one behind it."""
+    """Returns whether an instruction continues to the next one."""
     return insn.kind not in ("exit", "jump", "jump far")
 
 
 def distance(insn):
-    """By how many units an instruction jumps; none where it does not."""
+    """Returns the distance of a jump in units, or None if the instruction does not jump."""
     return {"jump": insn.offset, "branch": insn.offset, "jump far": insn.imm}.get(insn.kind)
 
 
 def edges(insns, unit):
-    """The units to which an instruction leads."""
+    """Returns the units to which an instruction leads."""
     insn = insns[unit]
     ends = [unit + insn.units] if goes_on(insn) else []
     if distance(insn) is not None:
@@ -169,7 +169,7 @@ def edges(insns, unit):
 
 
 def shaped(insns):
-    """Nothing where the program is well shaped; a Fault at its first fault."""
+    """Checks that the program is well shaped; raises Fault at its first fault."""
     units = max(insns) + insns[max(insns)].units
     reached, left = {0}, [0]
     while left:

@@ -1,17 +1,17 @@
-"""Compares what the program rb_program_rows answers to rows over drawn programs, and the answers that are stored, with the model."""
+"""Compares the answers of rb_program_rows to rows over random programs, and its stored answers, with the model."""
 import collections
 import re
 
 from program_draws import drawn_rows
 from program_rows import answers_compute, answers_cost, answers_run, answers_shape, answers_units, answers_verify
 
-# How many drawn programs one run answers, and how many rows are shown that it answers otherwise.
+# The number of random programs in one run, and of the differing rows that are printed.
 BATCH = 2000
 SHOWN = 10
 
 
 def differences(first, drawn, lines):
-    """Each row that is answered otherwise: the number of its program, the row, what the model allows, and the answer."""
+    """Yields each row with a differing answer: the number of its program, the row, what the model allows, and the answer."""
     at = 0
     for number, rows in enumerate(drawn, first):
         for row, allowed in rows:
@@ -25,13 +25,13 @@ def differences(first, drawn, lines):
 
 
 def outcome(rows):
-    """What kind of answer a program's verification has."""
+    """Returns the kind of answer that a program's verification has."""
     answer = next(allowed[0] for row, allowed in rows if row.startswith("verify"))
     return " ".join(answer.split()[: 3 if "verify" in answer else 2]) if answer.startswith("refused") else "accepted"
 
 
 def compare(count, seed, answered):
-    """Draws so many programs, compares, and prints how many rows differ, and how the programs ended; 1 where one differs."""
+    """Generates this many random programs, compares, and prints how many rows differ, and how the programs ended; returns 1 if one differs."""
     different = rows = 0
     outcomes = collections.Counter()
     for begin in range(0, count, BATCH):
@@ -49,12 +49,12 @@ def compare(count, seed, answered):
 
 
 def in_place(line, names):
-    """The line with each name in braces replaced by its text."""
+    """Returns the line with each name in braces replaced by its text."""
     return re.sub(r"\{(\w+)\}", lambda name: names.get(name[1], name[0]), line)
 
 
 def allowed_by_model(line):
-    """What the model allows to answer to a row, or none where it does not speak of such a row."""
+    """Returns the answers that the model allows for a row, or None if it does not cover the row."""
     word, _, rest = line.partition(" ")
     try:
         match word:
@@ -80,7 +80,7 @@ def allowed_by_model(line):
 
 
 def stored(rows, answers):
-    """Compares stored answers with the model where it speaks of their rows; 1 where one differs."""
+    """Compares stored answers with the model, if it covers their rows; returns 1 if one differs."""
     names, spoken, different, lines = {}, 0, 0, iter(answers.split("\n"))
     found = next(lines)
     for number, row in enumerate(rows.split("\n"), 1):

@@ -1,18 +1,18 @@
-"""What an accepted program can cost at most, by going through all of its paths."""
+"""The maximal cost of an accepted program, by enumerating all its paths."""
 from program_checks import OUTPUT, RESERVE, annotated
 from program_code import edges
 from ring_model import span
 
-# So many steps of paths are gone through at most; a program with more is not spoken of.
+# The maximal number of steps that are enumerated; a program with more is not covered.
 MOST_STEPS = 200_000
 
 
 class TooManyPaths(Exception):
-    """The paths are too many to go through."""
+    """There are too many paths to enumerate."""
 
 
 def paths(insns):
-    """Each path from the first unit to an end, as the list of its units."""
+    """Yields each path from the first unit to an end, as the list of its units."""
     steps, left = 0, [[0]]
     while left:
         path = left.pop()
@@ -26,14 +26,14 @@ def paths(insns):
 
 
 def asked(insn, state):
-    """The ring and the length of the record for which an instruction asks, or none."""
+    """Returns the ring and the length of the record that an instruction requests, or None."""
     if insn.kind != "call" or insn.imm not in (OUTPUT, RESERVE):
         return None
     return state.values[1][1], state.values[2 if insn.imm == RESERVE else 3][1]
 
 
 def cost(code, context, rings):
-    """Steps and calls, and for each ring the records and bytes that are asked for, and the records and bytes that are held."""
+    """Returns steps and calls, and for each ring the records and bytes that are requested, and the records and bytes that are held."""
     insns, states = annotated(code, context, rings)
     steps = calls = 0
     records, sizes = [0] * rings, [0] * rings

@@ -1,4 +1,4 @@
-"""Rows over programs that are drawn at random, each with the answers that the model allows."""
+"""Rows over random programs, each with the answers that the model allows."""
 import random
 import struct
 
@@ -13,7 +13,7 @@ BYTES = {0: 4, 1: 2, 2: 1, 3: 8}
 
 
 def unit(opcode, dst=0, src=0, offset=0, imm=0):
-    """The eight bytes of a unit."""
+    """Returns the eight bytes of a unit."""
     return struct.pack("<BBhi", opcode, dst | src << 4, offset, imm)
 
 
@@ -22,7 +22,7 @@ def wide(dst, src, imm, upper=0):
 
 
 class Draw:
-    """One program after the other, from a source of random numbers."""
+    """Generates programs from a source of random numbers."""
 
     def __init__(self, seed, number):
         self.draw = random.Random(seed * 1_000_003 + number)
@@ -37,7 +37,7 @@ class Draw:
         return self.draw.choice((*NUMBERS, self.draw.getrandbits(64)))
 
     def arithmetic(self, dst, src):
-        """An arithmetic instruction on these registers."""
+        """Returns an arithmetic instruction on these registers."""
         draw = self.draw
         cls, code = draw.choice((ALU, ALU64)), draw.choice(tuple(CODES))
         if CODES[code] == "end":
@@ -58,7 +58,7 @@ class Draw:
         return unit(code << 4 | cls, dst, 0, distance, self.imm())
 
     def memory(self, number):
-        """A load or a store that keeps to the context and the stack, by a register that has a number."""
+        """Returns a load or a store within the context and the stack, by a register that has a number."""
         draw = self.draw
         size = draw.randrange(4)
         low = -BYTES[size] * draw.randint(1, 512 // BYTES[size] if self.chance(0.3) else 6)
@@ -74,13 +74,13 @@ class Draw:
                 return unit(STORES_NOW[size], 10, 0, low, self.imm())
 
     def pointers(self):
-        """Keeps the context or a moved copy of the frame pointer on the stack, and goes through it."""
+        """Stores the context pointer or a moved copy of the frame pointer on the stack, and accesses memory through it."""
         draw, place = self.draw, -8 * self.draw.randint(1, 8)
         return [unit(0xBF, 2, 10), unit(0x07, 2, imm=-8 * draw.randint(1, 64)), unit(0x7B, 10, draw.choice((1, 2)), place),
                 unit(0x79, 3, 10, place), unit(draw.choice(LOADS), 4, 3, draw.choice((0, 0, 4, 8, -8))), unit(0xB7, 3), unit(0xB7, 2, imm=self.imm())]
 
     def record(self, ring):
-        """Reserves a record, writes it where it was granted, and gives it back."""
+        """Reserves a record, writes it if it was granted, and commits it."""
         draw, size = self.draw, self.draw.choice((0, 1, 8, 16, 24, 40, 1000))
         flags = draw.choice((0, 0, 1, 2, 3, 7))
         writes = [self.write(size) for _ in range(draw.randrange(3))]
@@ -94,14 +94,14 @@ class Draw:
                 *(unit(0xB7, register, imm=self.imm()) for register in (0, 2, 3, 4, 5, 6))]
 
     def write(self, size):
-        """A store into the record of so many bytes, at times outside of it."""
+        """Returns a store to the record of this length, sometimes outside of it."""
         draw, log = self.draw, self.draw.choice((0, 1, 2, 3))
         opcode = {1: 0x72, 2: 0x6A, 4: 0x62, 8: 0x7A}[1 << log]
         offset = draw.randint(0, max(size - (1 << log), 0)) + (draw.choice((1, size)) if self.chance(0.05) else 0)
         return unit(opcode, draw.choice((0, 6)), 0, offset, self.imm()) if size >> log else unit(0x05)
 
     def break_rule(self):
-        """Instructions that mostly break a rule of verification, or just do not."""
+        """Returns instructions that break a rule of verification in most cases, or just comply."""
         draw = self.draw
         reserve = [wide(1, 5, 0), unit(0xB7, 2, imm=draw.choice((8, 8, 1 << 26, (1 << 26) + 1))), unit(0xB7, 3), unit(0x85, imm=131)]
         other = draw.randrange(2, 10)
@@ -123,14 +123,14 @@ class Draw:
         ))
 
     def call(self, ring):
-        """An output or a query."""
+        """Returns an output or a query."""
         draw = self.draw
         if self.chance(0.5):
             return [wide(1, 5, ring), unit(0xB7, 2, imm=draw.randint(0, 4)), unit(0x85, imm=134)]
         return [wide(1, 5, ring), unit(0xBF, 2, 10), unit(0x07, 2, imm=-64), unit(0xB7, 3, imm=draw.choice((0, 8, 32, 64))), unit(0xB7, 4, imm=draw.randint(0, 4)), unit(0x85, imm=130)]
 
     def block(self, numbers):
-        """Some instructions on numbers, at times under a jump forward."""
+        """Returns some instructions on numbers, sometimes under a forward jump."""
         draw = self.draw
         body = []
         for _ in range(draw.randint(1, 6)):
@@ -143,7 +143,7 @@ class Draw:
         return body
 
     def program(self):
-        """A program that mostly is accepted."""
+        """Returns a program that is accepted in most cases."""
         numbers = [0, *self.draw.sample(range(2, 10), 3)]
         parts = [unit(0xB7, register, imm=self.imm()) for register in numbers]
         called = False
@@ -169,7 +169,7 @@ class Draw:
         return b"".join(parts) + unit(0x95)
 
     def broken(self, code):
-        """The bytes with some change."""
+        """Returns the bytes with some change."""
         code, draw = bytearray(code), self.draw
         at = draw.randrange(len(code))
         match draw.randrange(7):
@@ -197,7 +197,7 @@ class Draw:
 
 
 def drawn_rows(seed, number):
-    """The rows over one drawn program, each with the answers that the model allows; the first row, which names the program, has none."""
+    """Returns the rows over one random program, each with the answers that the model allows; the first row, which names the program, has none."""
     draw = Draw(seed, number)
     code = draw.code()
     context, rings = (CONTEXT, RINGS) if draw.chance(0.8) else (draw.draw.choice((0, 8, 16)), draw.draw.choice((0, 1)))

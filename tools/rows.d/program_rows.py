@@ -1,4 +1,4 @@
-"""The answers of rows over programs: `units`, `shape`, `verify`, `cost`, `run` and `compute`, by the plain model beside this file."""
+"""The answers of rows over programs: `units`, `shape`, `verify`, `cost`, `run` and `compute`, by the plain model in this folder."""
 from program_checks import Refused, verified
 from program_code import Fault, decoded, insn_at, shaped
 from program_costs import TooManyPaths, cost
@@ -7,7 +7,7 @@ from program_values import jumps, value_of
 
 
 def answers_units(code):
-    """The one answer of `units`, as a list."""
+    """Returns the one answer of `units`, as a list."""
     try:
         insns = decoded(code)
     except Fault as fault:
@@ -24,7 +24,7 @@ def answers_shape(code):
 
 
 def refusals(code, context, rings):
-    """The instructions of an accepted program, and the answers of a refused one: one for each rule that is broken."""
+    """Returns the instructions of an accepted program, and the answers of a refused one: one for each rule that is broken."""
     if context > 65_536 or rings > 16:
         return None, ["out of bounds"]
     try:
@@ -47,7 +47,7 @@ def answers_verify(code, context, rings):
 
 
 def answers_cost(code, context, rings):
-    """The one answer of `cost`; none where the program has too many paths to go through."""
+    """Returns the one answer of `cost`, or None if the program has too many paths to enumerate."""
     insns, answers = refusals(code, context, rings)
     if insns is None:
         return answers

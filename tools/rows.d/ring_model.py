@@ -1,6 +1,6 @@
-"""A plain model of rings, and what the rows of rb_ring_rows answer by it.
+"""A plain model of rings, and the answers to the rows of rb_ring_rows by it.
 
-Written from Linux Documentation/bpf/ringbuf.rst, bpf-helpers(7), docs/DEFINITIONS.md and docs/DECISIONS.md, apart from the crates.
+Written from Linux Documentation/bpf/ringbuf.rst, bpf-helpers(7), docs/DEFINITIONS.md and docs/DECISIONS.md, independently of the crates.
 """
 import dataclasses
 
@@ -14,7 +14,7 @@ NO_WAKEUP, FORCE_WAKEUP = 1, 2
 
 
 def span(length):
-    """How many bytes a record takes: eight for its header, and its bytes up to a multiple of eight."""
+    """Returns the span of a record: eight bytes for its header, and its bytes rounded up to a multiple of eight."""
     return 8 + (length + 7) // 8 * 8
 
 
@@ -31,7 +31,7 @@ def is_worker_count(workers):
 
 
 def refused_number(size, start, workers):
-    """The first number that no ring has, or None."""
+    """Returns the first number that no ring can have, or None."""
     if not is_size(size):
         return "size"
     if not is_start(start):
@@ -50,7 +50,7 @@ def notice(due):
 
 
 def runs(data):
-    """Bytes in hex, each run of equal ones once, with its length where that is not 1."""
+    """Returns bytes in hex, each run of equal ones once, with its length if that is not 1."""
     if not data:
         return " none"
     text, at = "", 0
@@ -78,7 +78,7 @@ class Record:
 
 @dataclasses.dataclass
 class Reservation:
-    """What a worker holds of a record: its numbers as they were granted, and the bytes that it wrote."""
+    """A record that a worker holds: its numbers as they were granted, and the bytes that it wrote."""
 
     record: Record
     data: bytearray
@@ -97,7 +97,7 @@ class Tally:
 
 @dataclasses.dataclass
 class Standing:
-    """What a history stands for at one of its points."""
+    """The state of a ring after a prefix of its history."""
 
     size: int
     start: int
@@ -129,7 +129,7 @@ class Standing:
 
 
 class Chapter:
-    """Some entries of a ring's history, with what stood before them and what stands behind them."""
+    """Some entries of a ring's history, with the state before them and the state after them."""
 
     def __init__(self, room, workers, number=0, opening=None):
         self.room, self.number, self.entries = room, number, []
@@ -157,12 +157,12 @@ def entries_text(entries):
     return f" {len(entries)}" + "".join("; " + entry for entry in entries)
 
 
-# how many records a worker holds at once
+# The maximal number of records that a worker holds at once.
 HANDS = 4
 
 
 class Ring:
-    """One ring, the chapter that it keeps, and what is out in the hands of its workers."""
+    """One ring, the chapter that it keeps, and the records in the hands of its workers."""
 
     def __init__(self, size, start, workers, room):
         opening = Standing(size, start, start, start, [], [Tally() for _ in range(workers)])
@@ -181,7 +181,7 @@ class Ring:
         return worker < len(self.now.tallies)
 
     def grant(self, worker, length):
-        """The record that is granted, or why none is."""
+        """Returns the record that is granted, or the reason why none is."""
         now = self.now
         end = now.producer + span(length)
         if end > now.consumer + now.size - 1 or end > POSITION_LIMIT:
@@ -210,18 +210,18 @@ class Ring:
             tally.discarded += 1
 
     def busy_record(self, held):
-        """The busy record with the four numbers of a reservation."""
+        """Returns the busy record with the four numbers of a reservation."""
         for record in self.now.records:
             if record.status == "busy" and record.numbers() == held.numbers():
                 return record
         return None
 
     def full_hands(self, length):
-        """What a worker is told that holds as many records as it may."""
+        """Returns the answer to a worker that holds as many records as it may."""
         return " fault: no free hand"
 
     def reserve(self, worker, length):
-        """A record goes into the lowest free hand of its worker."""
+        """Puts a record into the lowest free hand of its worker."""
         hands = self.hands[worker]
         if None not in hands:
             return self.full_hands(length), None
@@ -234,7 +234,7 @@ class Ring:
         return " granted" + answer.numbers() + " bytes" + runs(held.data), held
 
     def is_out(self, held):
-        """Whether the hand that the reservation names is out with its numbers."""
+        """Returns whether the hand that the reservation names has a record with its numbers."""
         worker = held.record.worker
         out = self.hands[worker][held.hand] if self.has_worker(worker) else None
         return out is not None and out.numbers() == held.record.numbers()
@@ -284,7 +284,7 @@ class Ring:
         return f" took {many}" + text
 
     def fill(self, most):
-        """A batch of up to so many records."""
+        """A batch of at most this many records."""
         before = len(self.taken)
         self.take_many(most)
         items = self.taken[before:]
@@ -298,7 +298,7 @@ class Ring:
         return text + f"; events {events} sheets {events}"
 
     def written(self):
-        """The tape of all that was taken: each record's header, its bytes, zeros where it was discarded, and zeros up to eights."""
+        """Returns the tape of everything that was taken: each record's header, its bytes, zeros if it was discarded, and zeros up to a multiple of eight."""
         tape = b""
         for record in self.taken:
             discarded = record.status == "discarded"
@@ -326,7 +326,7 @@ class Ring:
         return not empty.entries and empty.room == self.chapter.room and len(empty.opening.tallies) == len(self.now.tallies)
 
     def hand_out(self, empty):
-        """The chapter that is handed out, or None where the other one is unfit."""
+        """Returns the chapter that is handed out, or None if the other one is unfit."""
         old = self.chapter
         if not self.fits(empty):
             return None
@@ -351,7 +351,7 @@ def handed_back(held):
 
 
 class SharedRing(Ring):
-    """A ring with seats, each call of which is one call of a ring."""
+    """A ring with seats; each call of a seat is one call of a ring."""
 
     def __init__(self, tag, size, start, workers, room):
         super().__init__(size, start, workers, room)
@@ -373,7 +373,7 @@ class SharedRing(Ring):
         return answer, held
 
     def give_back(self, worker, held, status, flags):
-        """Taken where the worker's hand that the reservation names is out with its numbers, and handed back else."""
+        """Commits if the worker's hand that the reservation names has a record with its numbers, and hands the reservation back otherwise."""
         if held.tag != self.tag or held.record.worker != worker or not self.is_out(held):
             return handed_back(held), held
         return self.end(held, status, flags)
@@ -398,7 +398,7 @@ class SharedRing(Ring):
 
 
 class Keeper:
-    """A chapter that is handed in where a ring's is about to be full, and used again at the next turn."""
+    """A chapter that replaces a ring's when that is nearly full, and is used again at the next turn."""
 
     def __init__(self, chapter, margin):
         self.chapter, self.margin, self.is_lent = chapter, margin, False

@@ -1,4 +1,4 @@
-"""What the rows of rb_ring_rows answer, by the plain model of rings."""
+"""The answers to the rows of rb_ring_rows, by the plain model of rings."""
 import re
 
 import ring_model as model
@@ -6,7 +6,7 @@ from ring_model import WRONG_WORDS, Chapter, Keeper, Ring, SharedRing
 
 
 class Row:
-    """A row in its parts, as docs of the program have them: a verb, names, numbers, and bytes behind a colon."""
+    """A row in its parts, as the program's docs describe them: a verb, names, numbers, and bytes after a colon."""
 
     def __init__(self, line):
         words, _, behind = line.partition(":")
@@ -45,7 +45,7 @@ def narrow(number):
 
 
 class Script:
-    """What has a name in a script, and what its rows answer."""
+    """The named values of a script, and the answers to its rows."""
 
     def __init__(self):
         self.rings, self.records, self.chapters = {}, {}, {}
@@ -134,7 +134,7 @@ class Script:
         return ring.output(worker, bytes(row.data), row.numbers[1])
 
     def asked(self, row):
-        """The ring that a row asks, or what is wrong with the row."""
+        """Returns the ring that a row names, or what is wrong with the row."""
         if len(row.names) != 1:
             return None, " " + WRONG_WORDS
         ring = self.rings.get(row.names[0])
@@ -205,7 +205,7 @@ class Script:
         return f" opened seats {workers}"
 
     def seat(self, row, has_record, numbers):
-        """The ring, the home of the seat and its worker that a row names, or what is wrong with the row."""
+        """Returns the ring, the seat's own ring and its worker that a row names, or what is wrong with the row."""
         names = row.names[2:] if has_record else row.names[1:]
         if len(row.names) < 1 + has_record or len(names) > 1 or len(row.numbers) != numbers:
             return None, " " + WRONG_WORDS
@@ -414,7 +414,7 @@ class Script:
         return " yes" if one.meets(other) else " no"
 
     def chapter_named(self, row):
-        """The chapter that a ring keeps, or that which has the name; or what is wrong with the row."""
+        """Returns the chapter that a ring keeps, or the one with the name, or what is wrong with the row."""
         if row.shape()[1:] != (1, 0):
             return None, " " + WRONG_WORDS
         name = row.names[0]
@@ -501,7 +501,7 @@ class Script:
 
 
 def read_tape(data, size, start):
-    """The records that a tape gives, what is wrong behind them, and how many they are."""
+    """Returns the records of a tape, what is wrong after them, and their number."""
     text, at, records = "", 0, 0
     while at < len(data):
         fault, record, taken = front_of_tape(data[at:], size, start + at)
@@ -513,7 +513,7 @@ def read_tape(data, size, start):
 
 
 def front_of_tape(data, size, position):
-    """The first record of what is left of a tape: its fault, or its text and span."""
+    """Returns the first record of the rest of a tape: its fault, or its text and span."""
     if len(data) < 8:
         return "truncated", "", 0
     word, page = int.from_bytes(data[:4], "little"), int.from_bytes(data[4:8], "little")
@@ -538,7 +538,7 @@ def front_of_tape(data, size, position):
 
 
 def answers(text):
-    """What the program prints of these rows."""
+    """Returns what the program prints for these rows."""
     script, out = Script(), []
     for line in text.removesuffix("\n").split("\n"):
         if not line:

@@ -1,4 +1,4 @@
-"""Draws scripts over rings, for the program and the model to answer."""
+"""Generates random scripts over rings, for the program and the model to answer."""
 import random
 
 import ring_model as model
@@ -10,10 +10,10 @@ ROOMS = [8, 8, 9, 12, 16, 64, 65536]
 
 
 class Drawing:
-    """A script over rings of one thread. Each row is answered by the model as it is drawn, so that a later one can go on from it."""
+    """A script over rings of one thread. The model answers each row when it is generated, so that later rows can depend on it."""
 
     opens = "open"
-    # how many records a worker holds at most: one more than it has hands, so that it is refused one
+    # The maximal number of records that a worker holds: one more than it has hands, so that one is refused.
     most_held = model.HANDS + 1
     opened = " opened"
     rings = ("a", "b")
@@ -73,7 +73,7 @@ class Drawing:
         return self.one_of(0, 0, 0, 0, 1, 2, 3, self.random.randrange(8), self.random.randrange(1 << 64))
 
     def data(self, length):
-        """So many bytes, in up to three runs."""
+        """Returns this many bytes, in up to three runs."""
         cuts = sorted(self.random.randrange(length + 1) for _ in range(2))
         pieces = zip([0, *cuts], [*cuts, length])
         return b"".join(bytes([self.random.randrange(256)]) * (end - start) for start, end in pieces)
@@ -99,7 +99,7 @@ class Drawing:
                 self.write(record)
 
     def home(self, ring):
-        """The ring whose seat makes the call, where it is another one."""
+        """Returns the ring whose seat makes the call, if it is another one."""
         return ""
 
     def write(self, record):
@@ -117,7 +117,7 @@ class Drawing:
             del self.held[record]
 
     def ender(self, ring, record):
-        """The words by which a row says who ends a record."""
+        """Returns the words by which a row says who commits a record."""
         return ()
 
     def output(self):
@@ -231,7 +231,7 @@ class SharedDrawing(Drawing):
             super().take()
 
     def turn(self):
-        """A keeper of its own looks at a ring's chapter; what it lends has a name then."""
+        """Lets a separate keeper look at a ring's chapter; the chapter that it lends gets a name."""
         ring = self.ring()
         if ring not in self.setups:
             return
@@ -274,6 +274,6 @@ class SharedDrawing(Drawing):
 
 
 def drawn_script(seed, number):
-    """The rows of a script, each with its answer. Two scripts of five are over shared rings."""
+    """Returns the rows of a script, each with its answer. Two scripts of five are over shared rings."""
     kind = SharedDrawing if number % 5 > 2 else Drawing
     return kind(f"{seed} {number}").draw()

@@ -1,4 +1,4 @@
-"""Functions with their clauses, and types and constants with what is seen of them, from crates/*/src."""
+"""Functions with their clauses, and types and constants with their public views, from crates/*/src."""
 import collections
 import functools
 import re
@@ -13,7 +13,7 @@ IMPL = re.compile(r"impl(?:<.*?>)? (?:(?P<trait>\w+)(?:<.*>)? for )?(?P<type>\w+
 TYPE = re.compile(r"(?:pub(?:\([^)]*\))? )?(enum|struct|const) (\w+)")
 GHOST_MEMBER = re.compile(r"ghost (\w+)(?::| =) \{(.*?)\};", re.S)
 
-# a block of a source: the line that opens it, its trait and its type where it has them, and its lines
+# A block of a source: the line that opens it, its trait and its type, if any, and its lines.
 Block = collections.namedtuple("Block", "head trait type text")
 Type = collections.namedtuple("Type", "crate name place text lines")
 
@@ -23,7 +23,7 @@ def without_comments(lines):
 
 
 class Source:
-    """One source file: the names that it brings in, its blocks, its types and its functions."""
+    """One source file: the names that it imports, its blocks, its types and its functions."""
 
     def __init__(self, place):
         self.place, self.crate = place, place.relative_to(CRATES).parts[0]
@@ -36,7 +36,7 @@ class Source:
             self.imports |= definition_files.imports_of([line])
 
     def rust_imports(self):
-        """The types that `use` lines bring in, and those of the file."""
+        """Returns the types that `use` lines import, and those of the file."""
         names = {}
         for path, group in re.findall(r"(?m)^(?:pub )?use ((?:\w+::)+)(\{[^}]*\}|\w+);", self.text):
             crate = path.split("::")[0]
@@ -46,7 +46,7 @@ class Source:
         return names | {name: Origin("rust", self.crate, name) for name in self.types}
 
     def declared(self):
-        """The types that are declared here, each to its closing brace."""
+        """Returns the types that are declared here, each up to its closing brace."""
         for number, line in enumerate(self.lines):
             begins = TYPE.match(line)
             if begins:
@@ -57,7 +57,7 @@ class Source:
                 yield begins[2], Type(self.crate, begins[2], self.place, "\n".join(kept), len(kept))
 
     def read_blocks(self):
-        """The implementations and traits, and the file itself without them."""
+        """Returns the implementations and traits, and the file itself without them."""
         free, number = [], 0
         while number < len(self.lines):
             line = self.lines[number]
@@ -89,14 +89,14 @@ def types():
 
 
 def type_of(crate, name):
-    """The declaration of a type that is public in this crate, without lines where contracts see another value of it; None where there is none."""
+    """Returns the declaration of a type that is public in this crate, without lines if contracts see another value of it, or None."""
     found = types().get((crate, name)) or next((it for key, it in types().items() if key[1] == name), None)
     return found._replace(lines=0) if found and model_of(found.crate, name) else found
 
 
 @functools.cache
 def model_of(crate, name):
-    """The source and the block that say what contracts see of a type."""
+    """Returns the source and the block that define what contracts see of a type."""
     for source in sources():
         if source.crate == crate:
             for block in source.blocks:
@@ -110,7 +110,7 @@ def members_of(block):
 
 
 def behind_type(crate, name):
-    """What a type's value is made of."""
+    """Returns what a type's value is made of."""
     found = type_of(crate, name)
     if not found:
         return []
@@ -123,7 +123,7 @@ def behind_type(crate, name):
 
 
 class Function:
-    """A public function, or one of a trait's."""
+    """A public function, or one of a trait."""
 
     def __init__(self, source, block, name, lines):
         self.source, self.block, self.name = source, block, name
@@ -133,7 +133,7 @@ class Function:
         self.path = "::".join(it for it in (source.crate, block.type or block.trait, name) if it)
 
     def in_trait(self):
-        """The function of the trait that it implements."""
+        """Returns the function of the trait that it implements."""
         if self.block.type and self.block.trait:
             return next((it for it in functions() if it.name == self.name and it.block.trait == self.block.trait and not it.block.type), None)
         return None
@@ -143,7 +143,7 @@ class Function:
         return len(re.findall(r"(?m)^\s*(?:requires|ensures)\b", self.clauses)) + (above.clause_count() if above else 0)
 
     def names(self):
-        """What the clauses name, and the types of what is taken and answered."""
+        """Returns what the clauses name, and the types of the parameters and the result."""
         names = self.source.block_imports(self.block)
         types_here = {name: it for name, it in names.items() if it.kind == "rust"}
         found = origins_in(self.clauses, names) | origins_in(self.signature, types_here)
@@ -161,7 +161,7 @@ class Function:
 
 
 def head_end(lines, begin, indent):
-    """Where what stands in front of a function's body ends: its brace, or the semicolon of one that has no body."""
+    """Returns where a function's header ends: at its brace, or at the semicolon if it has no body."""
     for at in range(begin, len(lines)):
         line = lines[at]
         if line in (indent + "{", indent + "{}") or line.endswith(";") or (line.endswith(" {") and not CLAUSE.match(line)):
@@ -171,7 +171,7 @@ def head_end(lines, begin, indent):
 
 @functools.cache
 def functions():
-    """All functions that others may call: public ones, and those of traits."""
+    """Returns all functions that others may call: public ones, and those of traits."""
     made = []
     for source in sources():
         for block in source.blocks:
@@ -184,7 +184,7 @@ def functions():
 
 
 def find(name):
-    """The one function of this name."""
+    """Returns the one function of this name."""
     *owners, last = name.split("::")
     crate = next((it for it in owners if (CRATES / it).is_dir()), None)
     kind = next((it for it in owners if it[0].isupper()), None)
@@ -192,5 +192,5 @@ def find(name):
     found = [it for it in all_named if kind == (it.block.type or it.block.trait)]
     if len(found) != 1:
         others = sorted({it.path for it in found or all_named})
-        raise LookupError(f"{name} is no public function" + (f", but {', '.join(others)}" if others else "") if not found else f"{name} is one of {', '.join(others)}")
+        raise LookupError(f"{name} is not a public function" + (f", but {', '.join(others)}" if others else "") if not found else f"{name} is one of {', '.join(others)}")
     return found[0]

@@ -1,4 +1,4 @@
-"""The definitions that contracts cite: the files crates/*/specs/*.antt, what each defines, on how many lines, and which names it uses."""
+"""The definitions that contracts cite: the files crates/*/specs/*.antt, what each defines, the number of lines, and the names that it uses."""
 import collections
 import pathlib
 import re
@@ -10,13 +10,13 @@ BEGINS = re.compile(r"\s*(?:pub (?:record|data)|(?:abbrev|unfoldable)(?: pub)?|(
 WORD = re.compile(r"[^\W\d][\w'?]*(?:\.[^\W\d][\w'?]*)*")
 USE = re.compile(r"(?:ghost )?use (?P<path>[\w.]+?)(?:\.\{(?P<names>[^}]*)\}| as (?P<alias>\w+))?;?$")
 
-# where a name comes from: 'file' of definitions or the 'module' of a whole one, 'rust' type or constant, or 'outside' this repository; and its name there
+# The origin of a name: a 'file' of definitions or the 'module' of a whole one, a 'rust' type or constant, or 'outside' this repository; and its name there.
 Origin = collections.namedtuple("Origin", "kind place name")
 Definition = collections.namedtuple("Definition", "name is_public lines text")
 
 
 def origin_of(path, name):
-    """Where `name` of the module of this path comes from; None for what a type has of its own, as its coding."""
+    """Returns the origin of `name` of the module with this path, or None for what a type has of its own, such as its coding."""
     parts = path.split(".")
     if parts[0] != "Rattle" or parts[1] == "std" or not (CRATES / parts[1]).is_dir():
         return Origin("outside", path, name)
@@ -32,7 +32,7 @@ def origin_of(path, name):
 
 
 def imports_of(lines):
-    """The names that `use` lines bring in, each with where it comes from."""
+    """Returns the names that `use` lines import, each with its origin."""
     names = {}
     for line in lines:
         found = USE.match(line.strip())
@@ -49,18 +49,18 @@ def imports_of(lines):
 
 
 def ghost_uses(text):
-    """The lines of a source by which its clauses bring names in, each on one line."""
+    """Returns the lines of a source that import names for its clauses, each on one line."""
     return [re.sub(r"\s+", " ", line) for line in re.findall(r"ghost use [^;]*;", text)]
 
 
 def plain_text(text):
-    """A text without the names of fields where those are declared or given."""
+    """Returns a text without the names of fields at their declarations and assignments."""
     plain = re.sub(r"(?m)^\s*pub [^\s:]+ :", "", text)
     return re.sub(r"([{;]|record \S+ \{)\s*[\w']+ = ", r"\1 ", plain)
 
 
 def named_in(text, names):
-    """Which of the names a text uses. A name with places, as ◌≡◌, is used where its signs stand there."""
+    """Returns the names that a text uses. A name with argument places, such as ◌≡◌, is used if its signs occur."""
     plain = plain_text(text)
     words = {word.split(".")[0] for word in WORD.findall(plain)}
     signs = set(plain.split()) | set(re.findall(r"\[\]|¬|⊥|ℕ|ℤ|λ", plain))
@@ -75,7 +75,7 @@ def named_in(text, names):
 
 
 def origins_in(text, names):
-    """Where the names that a text uses come from: of those of a whole file the one behind the dot, of a constructor its type."""
+    """Returns the origins of the names that a text uses: for a name of a whole file the one after the dot, for a constructor its type."""
     found = set()
     for name in named_in(text, names):
         origin = names[name]
@@ -88,14 +88,14 @@ def origins_in(text, names):
 
 
 def of_type(origin):
-    """A constructor's type in its place."""
+    """Returns the constructor's type instead of the constructor."""
     if origin.kind == "file":
         return origin._replace(name=definition_file(origin.place).constructors.get(origin.name, origin.name))
     return origin
 
 
 class DefinitionFile:
-    """One file of definitions: its first comment, its definitions in order, and where the names that it uses come from."""
+    """One file of definitions: its first comment, its definitions in order, and the origins of the names that it uses."""
 
     def __init__(self, place):
         self.place = place
@@ -133,7 +133,7 @@ class DefinitionFile:
         return self.place.relative_to(CRATES / self.crate / "specs").as_posix()
 
     def used_by(self, name):
-        """Where the names that this definition uses come from; those of this file among them."""
+        """Returns the origins of the names that this definition uses, including those of this file."""
         text = self.definitions[name].text
         own = {other: Origin("file", self.place, other) for other in self.definitions if other != name}
         own |= {other: Origin("file", self.place, kind) for other, kind in self.constructors.items()}
@@ -150,5 +150,5 @@ def definition_file(place):
 
 
 def cited_files():
-    """Every file of definitions that public contracts may cite: those of `specs/` itself, without what lists modules."""
+    """Returns every file of definitions that public contracts may cite: those in `specs/` itself, except those that list modules."""
     return [definition_file(place) for place in sorted(CRATES.glob("*/specs/*.antt")) if place.stem not in ("Lib", "inner")]

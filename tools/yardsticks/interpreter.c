@@ -1,6 +1,6 @@
-// DPDK's eBPF loader with its verifier, and its interpreter, over 4,000 instructions and an exit: of arithmetic (add, exclusive or, multiply, shift, add in
-// turn), of the stack (eight bytes are stored and loaded in turn), or of memory (eight bytes are stored and loaded on the stack, loaded of the context, and
-// stored and loaded in a record that a helper gives, in turn).
+// DPDK's eBPF loader with its verifier, and its interpreter, on 4,000 instructions and an exit: of arithmetic (add, exclusive or, multiply, shift, add in
+// turn), of the stack (eight bytes are stored and loaded in turn), or of memory (eight bytes are stored and loaded on the stack, loaded from the context, and
+// stored to and loaded from a record that a helper returns, in turn).
 // Usage: interpreter load | interpreter run | interpreter stack | interpreter memory
 // Prints a line for each of three rounds: the nanoseconds of 20 loads of the arithmetic, or of 250 runs of one of the three, and 0.
 #include "rounds.h"
@@ -30,7 +30,7 @@ static void write_arithmetic(void) {
     put((struct ebpf_insn){.code = 0x95});
 }
 
-// The eight bytes at base + offset = src; dst = the eight bytes at base + offset.
+// Stores src to the eight bytes at base + offset; loads the eight bytes at base + offset into dst.
 static void put_store(int base, int offset, int src) { put((struct ebpf_insn){.code = 0x7b, .dst_reg = base, .src_reg = src, .off = offset}); }
 static void put_load(int dst, int base, int offset) { put((struct ebpf_insn){.code = 0x79, .dst_reg = dst, .src_reg = base, .off = offset}); }
 
@@ -132,7 +132,7 @@ int main(int count, char **words) {
     else write_arithmetic();
     struct rte_bpf *program = load();
     if (!program) return 1;
-    volatile uint64_t sum = 0; // so that no run is left out
+    volatile uint64_t sum = 0; // so that no run is optimized away
     for (int round = 0; round <= ROUNDS; round++) {
         uint64_t began = now();
         if (loading) loads();

@@ -1,7 +1,7 @@
 // Whole jobs as a user would build them from known parts: DPDK's eBPF interpreter runs a program that reserves a record of eight bytes, ends with
-// 1 where it got none, and else stores 42 there and submits it; its two helpers are the kernel ring's logic, on worker threads beside one consumer.
+// 1 if it got none, and otherwise stores 42 there and submits it; its two helpers are the kernel ring's logic, on worker threads with one consumer.
 // Usage: jobs WORKERS JOBS     (JOBS for each worker)
-// Prints a line for each of three rounds: its nanoseconds, and how many jobs got no record.
+// Prints a line for each of three rounds: its nanoseconds, and the number of jobs that got no record.
 #define SIZE (1u << 20)
 #include "kernel_ring.h"
 #include "rounds.h"

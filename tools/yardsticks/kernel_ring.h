@@ -1,5 +1,5 @@
-// The kernel ring's logic in user space (kernel/bpf/ringbuf.c): a spin lock round reserve, an atomic header word at commit, one range of bytes
-// that goes round. It keeps no history and no counts. SIZE, its bytes, is a power of two that the includer defines.
+// The kernel ring's logic in user space (kernel/bpf/ringbuf.c): a spin lock around reserve, an atomic header word at commit, one circular
+// buffer. It keeps no history and no counts. SIZE, its size in bytes, is a power of two that the includer defines.
 #include <pthread.h>
 #include <sched.h>
 #include <stdatomic.h>
@@ -17,7 +17,7 @@ static uint64_t span(uint32_t length) { return 8 + ((length + 7ull) & ~7ull); }
 
 static _Atomic uint32_t *header_at(uint64_t position) { return (void *)(bytes + (position & (SIZE - 1))); }
 
-// The place of a record's bytes, or null where the ring has no room.
+// Returns the address of a record's bytes, or null if the ring has no room.
 static void *ring_reserve(uint32_t length) {
     pthread_spin_lock(&lock);
     uint64_t position = atomic_load(&producer_position);
@@ -38,7 +38,7 @@ static void ring_submit(void *record) {
     atomic_fetch_and(header, ~BUSY);
 }
 
-// Whether there was a record to take; its first byte is added to the sum.
+// Returns whether there was a record to take; its first byte is added to the sum.
 static int ring_take(uint64_t *sum) {
     uint64_t position = atomic_load(&consumer_position);
     if (position == atomic_load(&producer_position)) return 0;

@@ -1,7 +1,7 @@
-// Whole jobs by Linux itself: each thread has BPF_PROG_TEST_RUN run the program of examples/submit_42.hex so often over one ring buffer map, and one reads the mapped
-// ring as libbpf does. Of the type BPF_PROG_TYPE_SOCKET_FILTER, since Linux repeats runs of that.
+// Whole jobs by Linux itself: each thread runs the program of examples/submit_42.hex repeatedly by BPF_PROG_TEST_RUN over one ring buffer map, and one reads the mapped
+// ring as libbpf does. The program has the type BPF_PROG_TYPE_SOCKET_FILTER, since Linux repeats runs of that type.
 // Usage: linux_jobs WORKERS JOBS     (JOBS for each worker)
-// Prints a line for each of three rounds: its nanoseconds, and how many jobs got no record. The status is 3 where bpf(2) is refused.
+// Prints a line for each of three rounds: its nanoseconds, and the number of jobs that got no record. The status is 3 if bpf(2) is refused.
 #define SIZE (1u << 20)
 #include "../linux/bpf_calls.h"
 #include "../linux/ring_map.h"

@@ -1,9 +1,9 @@
-// What the lock of a ring allows: a queue of one place, as Heskavo's lock is, and under it what its ring writes of a record of eight bytes: three
-// entries, the record and its slot. No program is run and nothing is tested, so it is a bound for whole jobs and no ring to use.
+// The throughput that the lock of a ring allows: a queue of one place, like Heskavo's lock, and under it what its ring writes for a record of eight bytes: three
+// entries, the record and its slot. No program is run and nothing is tested, so it is a bound for whole jobs and not a usable ring.
 // Usage: lock_model WORKERS JOBS [OUTSIDE [WAIT]]
-// JOBS for each worker; OUTSIDE: how often a job counts outside the lock (0); WAIT: how a worker waits that finds the ring gone: `long` as Heskavo's do
-// (where nothing is said), `spin` for as long without giving up the processor, or `short` for four pauses each time.
-// Prints a line for each of three rounds: its nanoseconds, and how many jobs found no room.
+// JOBS for each worker; OUTSIDE: how often a job counts outside the lock (0); WAIT: how a worker waits if the lock is taken: `long` like Heskavo's
+// (the default), `spin` for as long without yielding the processor, or `short` for four pauses each time.
+// Prints a line for each of three rounds: its nanoseconds, and the number of jobs that found no room.
 #define _GNU_SOURCE
 #include "rounds.h"
 #include "workers.h"
@@ -21,7 +21,7 @@
 
 enum wait { LONG, SPIN, SHORT };
 
-// ---- the lock: crossbeam's ArrayQueue with one place, whose words stand in lines of their own
+// ---- the lock: crossbeam's ArrayQueue with one place, whose words are in separate cache lines
 
 struct word { _Alignas(128) _Atomic uint64_t value; };
 
@@ -110,7 +110,7 @@ static int take(struct state *s, struct reservation *out) {
 static uint64_t jobs, outside;
 static enum wait wait;
 
-// Backs off so often: seven times for 1, 2, 4 .. 64 pauses, and from then on by yielding.
+// Backs off this many times: seven times for 1, 2, 4 .. 64 pauses, and from then on by yielding.
 static void back_off(uint32_t times) {
     for (uint32_t i = 0; i < times; i++) {
         if (i < 7) pause_for(1 << i);

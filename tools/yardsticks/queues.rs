@@ -1,4 +1,4 @@
-// What a Rust programmer would take instead of a ring: crossbeam-queue's ArrayQueue, or a VecDeque in a Mutex, both of boxed slices.
+// What a Rust programmer would use instead of a ring: crossbeam-queue's ArrayQueue, or a VecDeque in a Mutex, both of boxed slices.
 // Usage: queues array|deque RECORDS LENGTH PRODUCERS     (0 producers: one thread pushes and pops in turn)
 // Prints a line for each of three rounds: its nanoseconds, and 0.
 use crossbeam_queue::ArrayQueue;
@@ -14,7 +14,7 @@ const PLACES: usize = 4096;
 type Record = Box<[u8]>;
 
 trait Queue: Sync {
-    /// Hands the record back where there is no place.
+    /// Returns the record if there is no free place.
     fn push(&self, record: Record) -> Result<(), Record>;
     fn pop(&self) -> Option<Record>;
 }

@@ -3,7 +3,7 @@
 #include <stdio.h>
 #include <time.h>
 
-// How often a workload runs and is told, after once that is not: as `rb_trials bench` has it.
+// The number of rounds that are reported, after a warm-up round that is not: the same as in `rb_trials bench`.
 #define ROUNDS 3
 
 static uint64_t now(void) {
@@ -12,7 +12,7 @@ static uint64_t now(void) {
     return (uint64_t)t.tv_sec * 1000000000u + (uint64_t)t.tv_nsec;
 }
 
-// A line of a round's nanoseconds, and of how many records or jobs were refused.
+// Prints a round's line: its nanoseconds, and the number of records or jobs that were refused.
 static void tell(uint64_t nanos, uint64_t refused) {
     printf("%llu %llu\n", (unsigned long long)nanos, (unsigned long long)refused);
 }

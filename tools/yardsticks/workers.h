@@ -1,4 +1,4 @@
-// Worker threads beside one consumer, as those have that run whole jobs.
+// Worker threads with one consumer, for the yardsticks of whole jobs.
 #include <pthread.h>
 #include <stdatomic.h>
 #include <stdint.h>
@@ -6,7 +6,7 @@
 static _Atomic uint64_t refused;
 static _Atomic int ended;
 
-// Runs all jobs. A worker is told its number, and the consumer ends when it finds nothing after `ended`.
+// Runs all jobs. A worker receives its number, and the consumer ends when it finds nothing after `ended`.
 static void all_jobs(int workers, void *(*work)(void *), void *(*consume)(void *)) {
     pthread_t made[64], consumer;
     atomic_store(&refused, 0);
