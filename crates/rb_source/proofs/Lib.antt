@@ -1,3 +1,4 @@
 pub mod Side
 pub mod Windows
 pub mod Steps
+pub mod Unique

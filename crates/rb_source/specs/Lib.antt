@@ -4,5 +4,6 @@ pub mod Form
 pub mod Framing
 pub mod Stream
 pub mod CountLaws
+pub mod Agreement
 pub mod StreamLaws
 pub mod inner

@@ -1,23 +1,24 @@
 //! A source over a reader.
 
-ghost use Rattle.std.specs.Prelude.{◌≡◌, ◌≤◌, ◌<◌, ◌+◌, ◌++◌, [], None, Some, IfOk, IfErr, length, true, false};
+mod input_end;
+mod long_context;
+
+ghost use Rattle.std.specs.Prelude.{◌≡◌, ◌<◌, [], None, IfOk, IfErr, length, true, false};
 ghost use Rattle.std.specs.Io.KnownBytes.{IsAtEnd};
-ghost use Rattle.rb_source.specs.declared.framing.Framing.TheVariants.{Frames, Fixed, Lines};
-ghost use Rattle.rb_source.specs.Form.{form_len, saturated, IsForm};
+ghost use Rattle.rb_source.specs.declared.framing.Framing.TheVariants.{Fixed};
+ghost use Rattle.rb_source.specs.Form.{form_len, IsForm};
 ghost use Rattle.rb_source.specs.Framing.{BeginsWithEnd, IsPartial};
 ghost use Rattle.rb_source.specs.Piece.{room_for};
 ghost use Rattle.rb_source.specs.Given.{HasGiven, OnEnd};
 ghost use Rattle.rb_source.specs.Stream.{FailsAs, IsFresh, IsOver};
-ghost use Rattle.rb_source.specs.declared.long.Long.TheVariants.{Frame, Line};
 ghost use Rattle.rb_source.specs.declared.window.ReadOutcome.TheVariants.{End as ended};
-ghost use Rattle.rb_source.specs.inner.Counted.{counted_by, given_by};
-ghost use Rattle.rb_source.specs.inner.Steps.{Appends, GivesNone, IsPartialSource, OnFront, OnPass};
+ghost use Rattle.rb_source.specs.inner.Steps.{Appends, GivesNone, IsPartialSource, OnFront};
 
 use crate::counts::ContextCounts;
 use crate::emit::emit;
 use crate::form::Form;
 use crate::framing::Framing;
-use crate::front::{Opening, find_line_feed, frame_length, look};
+use crate::front::{Opening, look};
 use crate::long::Long;
 use crate::piece::Piece;
 use crate::source::{Filled, Source, SourceFault};
@@ -25,14 +26,6 @@ use crate::window::{ReadOutcome, WINDOW_SIZE, Window};
 use std::alloc::{AllocError, Global};
 use std::io::Read;
 use std::marker::Model;
-
-// Puts these bytes in the place of those that were kept.
-fn keep(kept: &mut Vec<u8>, front: &[u8])
-    requires { length front.now ≡ length kept.old.items }
-    ensures { kept.new.items ≡ front.now }
-{
-    kept.as_mut_slice().copy_from_slice(front);
-}
 
 /// Gives the contexts that stand in the bytes of a reader. However the reads cut the bytes, the contexts are the same.
 ///
@@ -152,64 +145,6 @@ impl<R: Read> FramedReader<R> {
         'portions: while self.take_front(piece) {}
     }
 
-    // Gives or skips the long context, of which so many bytes came.
-    fn finish_long(&mut self, total: u32, piece: &mut Piece)
-        requires size { piece.old.ctx_len ≡ form_len self.old.form }
-        requires room { length piece.old.contexts < room_for piece.old.ctx_len }
-        ensures given { piece.new ≡ record piece.old { contexts = piece.old.contexts ++ given_by self.old.form self.old.kept total } }
-        ensures finished { self.new ≡ record self.old { long = None; counts = counted_by self.old.form self.old.counts total } }
-    {
-        emit(&self.form, &self.kept, total, piece, &mut self.counts);
-        self.long = None;
-    }
-
-    // Passes over what came of a long frame. Returns whether all of it came.
-    fn pass_frame(&mut self, total: u32, missing: u32, piece: &mut Piece) -> bool
-        requires open { self.old.over ≡ false }
-        requires long { self.old.long ≡ Some (Frame total missing) }
-        requires size { piece.old.ctx_len ≡ form_len self.old.form }
-        requires room { length piece.old.contexts < room_for piece.old.ctx_len }
-        ensures gave { Appends R.remaining self.old self.new piece.old piece.new }
-        ensures passed { OnPass result self.old self.new piece.old piece.new }
-    {
-        let count = self.window.bytes().len().min(missing as usize);
-        self.window.drop_front(count);
-        let missing = missing - count as u32;
-        if missing > 0 {
-            self.long = Some(Long::Frame { total, missing });
-            return false;
-        }
-        self.finish_long(total, piece);
-        true
-    }
-
-    // Passes over what came of a long line. Returns whether all of it came.
-    fn pass_line(&mut self, total: u32, piece: &mut Piece) -> bool
-        requires open { self.old.over ≡ false }
-        requires long { self.old.long ≡ Some (Line total) }
-        requires size { piece.old.ctx_len ≡ form_len self.old.form }
-        requires room { length piece.old.contexts < room_for piece.old.ctx_len }
-        ensures gave { Appends R.remaining self.old self.new piece.old piece.new }
-        ensures passed { OnPass result self.old self.new piece.old piece.new }
-    {
-        let bytes = self.window.bytes();
-        let came = bytes.len() as u32;
-        match find_line_feed(bytes) {
-            Some(place) => {
-                self.window.drop_front(place + 1);
-                self.finish_long(total.saturating_add(place as u32), piece);
-                true
-            }
-            None => {
-                self.window.clear();
-                self.long = Some(Long::Line {
-                    total: total.saturating_add(came),
-                });
-                false
-            }
-        }
-    }
-
     // Takes what stands behind a long context, if the piece has room.
     fn take_behind(&mut self, piece: &mut Piece)
         requires open { self.old.over ≡ false }
@@ -249,63 +184,6 @@ impl<R: Read> FramedReader<R> {
         }
     }
 
-    // The window is full and holds no whole frame: that frame is passed over from here on.
-    fn begin_frame(&mut self)
-        requires frames { self.old.framing ≡ Frames }
-        requires open { self.old.over ≡ false }
-        requires short { self.old.long ≡ None }
-        requires partial { IsPartial self.old.framing self.old.form.len self.old.rest }
-        requires full { length self.old.rest ≡ 131072 }
-        ensures gave { GivesNone R.remaining self.old self.new }
-        ensures open { self.new.over ≡ false }
-        ensures partial { IsPartialSource self.new }
-        ensures empty { self.new.rest ≡ [] }
-    {
-        let bytes = self.window.bytes();
-        let total = frame_length(bytes);
-        let missing = total - (bytes.len() - 4) as u32;
-        keep(&mut self.kept, &bytes[4..4 + self.form.len as usize]);
-        self.window.clear();
-        self.long = Some(Long::Frame { total, missing });
-    }
-
-    // The window is full and holds no whole line: that line is passed over from here on.
-    fn begin_line(&mut self)
-        requires lines { self.old.framing ≡ Lines }
-        requires open { self.old.over ≡ false }
-        requires short { self.old.long ≡ None }
-        requires partial { IsPartial self.old.framing self.old.form.len self.old.rest }
-        requires full { length self.old.rest ≡ 131072 }
-        ensures gave { GivesNone R.remaining self.old self.new }
-        ensures open { self.new.over ≡ false }
-        ensures partial { IsPartialSource self.new }
-        ensures empty { self.new.rest ≡ [] }
-    {
-        let bytes = self.window.bytes();
-        let total = bytes.len() as u32;
-        keep(&mut self.kept, &bytes[..self.form.len as usize]);
-        self.window.clear();
-        self.long = Some(Long::Line { total });
-    }
-
-    // The window is full and holds no whole context: that context is passed over from here on.
-    fn begin_long(&mut self)
-        requires open { self.old.over ≡ false }
-        requires short { self.old.long ≡ None }
-        requires partial { IsPartial self.old.framing self.old.form.len self.old.rest }
-        requires full { length self.old.rest ≡ 131072 }
-        ensures gave { GivesNone R.remaining self.old self.new }
-        ensures open { self.new.over ≡ false }
-        ensures partial { IsPartialSource self.new }
-        ensures empty { self.new.rest ≡ [] }
-    {
-        match self.framing {
-            Framing::Frames => self.begin_frame(),
-            Framing::Lines => self.begin_line(),
-            Framing::Fixed => unreachable!(),
-        }
-    }
-
     // Makes room in the window. It is full only if a context does not fit in.
     fn make_room(&mut self)
         requires open { self.old.over ≡ false }
@@ -331,89 +209,6 @@ impl<R: Read> FramedReader<R> {
         ensures end { result ≡ ended → IsPartialSource self.new × IsAtEnd (R.remaining self.new.reader) }
     {
         self.window.read_from(&mut self.reader)
-    }
-
-    // The number of contexts that came whole.
-    fn came(&self) -> u64
-        ensures value { result ≡ saturated (self.now.counts.given + self.now.counts.skipped) }
-    {
-        self.counts.given.saturating_add(self.counts.skipped)
-    }
-
-    // The input has ended, and no long context has begun. The last line may lack its line feed.
-    fn end_short(&mut self, piece: &mut Piece) -> Result<Filled, SourceFault>
-        requires open { self.old.over ≡ false }
-        requires short { self.old.long ≡ None }
-        requires partial { IsPartial self.old.framing self.old.form.len self.old.rest }
-        requires end { IsAtEnd (R.remaining self.old.reader) }
-        requires empty { piece.old.contexts ≡ [] }
-        requires size { piece.old.ctx_len ≡ form_len self.old.form }
-        ensures gave { Appends R.remaining self.old self.new piece.old piece.new }
-        ensures count { HasGiven piece.new.contexts result }
-        ensures end { OnEnd result (self.new.over ≡ true) }
-        ensures over { self.new.over ≡ true → IsOver R.remaining self.new }
-        ensures fault { IfErr result (FailsAs R.remaining self.new) }
-    {
-        if self.window.bytes().is_empty() {
-            self.over = true;
-            return Ok(Filled::End);
-        }
-        match self.framing {
-            Framing::Lines => {
-                let line = self.window.bytes();
-                emit(&self.form, line, line.len() as u32, piece, &mut self.counts);
-                self.window.clear();
-                self.over = true;
-                if piece.is_empty() {
-                    return Ok(Filled::End);
-                }
-                Ok(Filled::More)
-            }
-            Framing::Frames | Framing::Fixed => Err(SourceFault::EndsInside(self.came())),
-        }
-    }
-
-    // The input has ended, and with it a long line.
-    fn end_line(&mut self, total: u32, piece: &mut Piece) -> Result<Filled, SourceFault>
-        requires open { self.old.over ≡ false }
-        requires long { self.old.long ≡ Some (Line total) }
-        requires rest { self.old.rest ≡ [] }
-        requires end { IsAtEnd (R.remaining self.old.reader) }
-        requires empty { piece.old.contexts ≡ [] }
-        requires size { piece.old.ctx_len ≡ form_len self.old.form }
-        requires room { length piece.old.contexts < room_for piece.old.ctx_len }
-        ensures gave { Appends R.remaining self.old self.new piece.old piece.new }
-        ensures count { HasGiven piece.new.contexts result }
-        ensures end { OnEnd result (self.new.over ≡ true) }
-        ensures over { self.new.over ≡ true → IsOver R.remaining self.new }
-        ensures fault { IfErr result (FailsAs R.remaining self.new) }
-    {
-        self.finish_long(total, piece);
-        self.over = true;
-        if piece.is_empty() {
-            return Ok(Filled::End);
-        }
-        Ok(Filled::More)
-    }
-
-    // The input has ended.
-    fn end(&mut self, piece: &mut Piece) -> Result<Filled, SourceFault>
-        requires open { self.old.over ≡ false }
-        requires partial { IsPartialSource self.old }
-        requires end { IsAtEnd (R.remaining self.old.reader) }
-        requires empty { piece.old.contexts ≡ [] }
-        requires size { piece.old.ctx_len ≡ form_len self.old.form }
-        ensures gave { Appends R.remaining self.old self.new piece.old piece.new }
-        ensures count { HasGiven piece.new.contexts result }
-        ensures end { OnEnd result (self.new.over ≡ true) }
-        ensures over { self.new.over ≡ true → IsOver R.remaining self.new }
-        ensures fault { IfErr result (FailsAs R.remaining self.new) }
-    {
-        match self.long {
-            None => self.end_short(piece),
-            Some(Long::Frame { .. }) => Err(SourceFault::EndsInside(self.came())),
-            Some(Long::Line { total }) => self.end_line(total, piece),
-        }
     }
 
     // Fills the piece, if the stream is not over.

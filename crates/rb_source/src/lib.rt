@@ -1,6 +1,7 @@
 //! Contexts for programs, as they come from outside: pieces that hold them, and sources that fill pieces, from a list or from any reader.
 #![tactic(auto)]
 
+mod agreement;
 mod counts;
 mod emit;
 mod form;
@@ -15,6 +16,7 @@ mod source;
 mod tests;
 mod window;
 
+pub use agreement::sources_agree;
 pub use counts::ContextCounts;
 pub use form::{Fit, Form};
 pub use framed::FramedReader;

@@ -1,5 +1,7 @@
 use Rattle.std.proofs.Common.{◌≡◌, ℕ, ◌-◌, List, ◌++◌, length, take, drop, map, sym, ap, ◌∙◌, arith, take-append-drop}
 use Rattle.std.proofs.lemmas.List.{length-drop, take_all, map-append}
+use Rattle.rb_source.specs.Given.{ListedContexts}
+use Rattle.rb_source.specs.Piece.{PieceContents}
 use Rattle.rb_source.proofs.listed.ListSourceSource.fill.Goals as goal
 
 -- the front of a list, and the rest of it
@@ -10,5 +12,7 @@ splits f n xs =
 
 pub returns-clause-gave : goal.returns-clause-gave
 returns-clause-gave c =
-    let given = ap (λ p. p.contexts) c.append-count.ensures.appended ∙ ap (λ p. p.contexts ++ map (λ v. v.items) (take c.append-count.result c.self.inside.rest.now)) c.requires.empty in
-    rw (← c.self.view_is, given) (splits (λ v. v.items) c.append-count.result c.self.inside.rest.now)
+    let given = ap (λ (p : PieceContents). p.contexts) c.append-count.ensures.appended ∙ ap (λ (p : PieceContents). p.contexts ++ map (λ v. v.items) (take c.append-count.result c.self.inside.rest.now)) c.requires.empty in
+    let was = ap (λ (s : ListedContexts). s.rest) c.self.view_is in
+    let parts = splits (λ v. v.items) c.append-count.result c.self.inside.rest.now in
+    cc
