@@ -1,4 +1,5 @@
 mod RingTurns
 mod OneRing
 mod KeptRecords
+mod FrontRecords
 mod Noting

@@ -1,5 +1,6 @@
 -- A call at one ring of many.
-use Rattle.std.proofs.Common.{◌≡◌, ℕ, ◌<◌, List, get_or, set, length, Option, Some, None, IfSome, Result, Ok, Err, IfOk, IfErr, refl, ap, sym, ◌∙◌}
+use Rattle.std.proofs.Common.{◌≡◌, ℕ, ◌<◌, List, get_or, set, length, Option, Some, None, IfSome, Result, Ok, Err, IfOk, IfNone, refl, ap, sym, ◌∙◌}
+use Rattle.std.proofs.lemmas.List.{set-get_or}
 use Rattle.std.proofs.lemmas.Option.{slice_get_read}
 use Rattle.std.specs.Prelude.{slice_get}
 use Rattle.rb_chapter_ring.specs.HandRing.{HandRing}
@@ -34,13 +35,17 @@ pub at-ring-ok : {T E : Type 0} (Did : T → HandRing → HandRing → Type 0) (
 at-ring-ok Did (Ok x) now rings ring before after are below here did = at-ring (Did x) now rings ring before after are below here did
 at-ring-ok Did (Err e) now rings ring before after are below here did = tt
 
-pub at-ring-err : {T E : Type 0} (Did : HandRing → HandRing → Type 0) (answer : Result T E) (now rings : List HandRing) (ring : ℕ) (before after : HandRing) → rings ≡ now → ring < length rings → before ≡ get_or rings ring before
-    → IfErr answer (λ x. Did before after) → IfErr answer (λ x. AtRing ring Did now (set rings ring after))
-at-ring-err Did (Ok x) now rings ring before after are below here did = tt
-at-ring-err Did (Err e) now rings ring before after are below here did = at-ring Did now rings ring before after are below here did
+-- the ring in this place was left as it was
+pub same-ring : (now rings : List HandRing) (ring : ℕ) (before after : HandRing) → rings ≡ now → before ≡ get_or rings ring before → after ≡ before → set rings ring after ≡ now
+same-ring now rings ring before after are here same = ap (set rings ring) (same ∙ here) ∙ set-get_or rings ring before ∙ are
 
 -- the ring in this place has what was said of it, if anything was
 pub of-ring-some : {T : Type 0} (Holds : T → HandRing → Type 0) (answer : Option T) (now rings : List HandRing) (ring : ℕ) (asked : HandRing) → rings ≡ now → ring < length rings → asked ≡ get_or rings ring asked
     → IfSome answer (λ x. Holds x asked) → IfSome answer (λ x. OfRing ring (Holds x) now)
 of-ring-some Holds (Some x) now rings ring asked are below here holds = of-ring (Holds x) now rings ring asked are below here holds
 of-ring-some Holds None now rings ring asked are below here holds = tt
+
+pub of-ring-none : {T : Type 0} (Holds : HandRing → Type 0) (answer : Option T) (now rings : List HandRing) (ring : ℕ) (asked : HandRing) → rings ≡ now → ring < length rings → asked ≡ get_or rings ring asked
+    → IfNone answer (Holds asked) → IfNone answer (OfRing ring Holds now)
+of-ring-none Holds (Some x) now rings ring asked are below here holds = tt
+of-ring-none Holds None now rings ring asked are below here holds = of-ring Holds now rings ring asked are below here holds

@@ -1,5 +1,5 @@
 -- A call after a turn of the chapter.
-use Rattle.std.proofs.Common.{◌≡◌, ℕ, List, length, Option, Some, None, Result, Ok, Err, IfOk, IfErr, IfSome, IfNone, OnErr, inl, inr, ap, subst}
+use Rattle.std.proofs.Common.{◌≡◌, ℕ, List, length, Option, Some, None, Result, Ok, Err, IfOk, IfErr, IfSome, IfNone, IsErrOf, OnErr, inl, inr, ap, subst}
 use Rattle.rb_history.specs.declared.answers.Notice.{Notice}
 use Rattle.rb_chapter_ring.specs.Chapters.{Chapter}
 use Rattle.rb_chapter_ring.specs.ChapterCalls.{HandsOut}
@@ -29,9 +29,17 @@ sent-after (Ok notice) sheet bytes flags old mid new same turn sent = (mid, turn
 sent-after (Err why) sheet bytes flags old mid new same turn sent = tt
 
 pub not-sent-after : (answer : Result Notice NotSent) (sheet bytes : List ℕ) (old mid new : HandRing) → sheet ≡ bytes → MayTurn old mid → IfErr answer (λ x. HasNoRoom (length sheet) mid new) → IfErr answer (λ x. IsNotSent (length bytes) old new)
-not-sent-after (Ok notice) sheet bytes old mid new same turn refused = tt
+not-sent-after (Ok sent) sheet bytes old mid new same turn refused = tt
 not-sent-after (Err why) sheet bytes old mid new same turn refused = inl (mid, turn, subst (λ (b : List ℕ). HasNoRoom (length b) mid new) same refused)
 
 pub same-state : (answer : Result Chapter Chapter) (old new : TaggedRing) → OnErr answer (new ≡ old) → OnErr answer (new.state ≡ old.state)
 same-state (Ok out) old new same = tt
 same-state (Err back) old new same = ap (λ (v : TaggedRing). v.state) same
+
+ok-err : (x : Notice) (e : NotSent) → ◌≡◌ {A = Result Notice NotSent} (Ok x) (Err e) → ⊥
+ok-err x e is = cc
+
+pub full-after : (answer : Result Notice NotSent) (why : NotSent) (sheet bytes : List ℕ) (old mid new : HandRing) → sheet ≡ bytes → MayTurn old mid → IfErr answer (λ x. HasNoRoom (length sheet) mid new)
+    → IsErrOf answer why → AfterTurn (HasNoRoom (length bytes)) old new
+full-after (Ok notice) why sheet bytes old mid new same turn refused is = absurd (ok-err notice why is)
+full-after (Err e) why sheet bytes old mid new same turn refused is = (mid, turn, subst (λ (b : List ℕ). HasNoRoom (length b) mid new) same refused)

@@ -2,4 +2,5 @@ pub mod RingTurns
 pub mod RingCalls
 pub mod EngineCalls
 pub mod EngineValue
+pub mod OpenedEngine
 pub mod inner

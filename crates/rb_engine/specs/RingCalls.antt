@@ -4,6 +4,7 @@ use Rattle.rb_history.specs.History.Status.{Waiting}
 use Rattle.rb_history.specs.declared.answers.Notice.{Notice}
 use Rattle.rb_history.specs.declared.answers.Notice.TheVariants.{Due}
 use Rattle.rb_history.specs.declared.answers.Taken.{Taken}
+use Rattle.rb_history.specs.declared.answers.Taken.TheVariants.{Event, Skipped, BusyFront, Empty}
 use Rattle.rb_history.specs.NoticesAndQueries.{IsDue}
 use Rattle.rb_chapter_ring.specs.ChapterCalls.{FindsFullByChapter, FindsChapterFull, OutputsByChapter, TakesByChapter, consumer_by_chapter, producer_by_chapter}
 use Rattle.rb_chapter_ring.specs.ChapterRoom.{record_now}
@@ -44,3 +45,10 @@ pub record HasWaitingFront (v : HandRing) (n : ℕ) : Type 0 where
   pub there : 0 < length (records_from v.ring.chapter.opening v.ring.chapter.entries)
   pub waiting : (record_now v.ring.chapter 0).status ≡ Waiting
   pub len_is : (record_now v.ring.chapter 0).len ≡ n
+
+-- a record that was taken waited at the consumer position
+abbrev pub WasFront : Taken → HandRing → Type 0
+WasFront (Event p w k bytes) v = HasWaitingFront v (length bytes)
+WasFront (Skipped p n) v = Unit {0}
+WasFront BusyFront v = Unit {0}
+WasFront Empty v = Unit {0}

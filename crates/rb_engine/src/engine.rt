@@ -1,17 +1,21 @@
 //! The engine.
 
-ghost use Rattle.std.specs.Prelude.{ℕ, ◌≡◌, ◌≢◌, ◌↔◌, ◌+◌, ◌<◌, ◌≤◌, ◌++◌, ◌∷◌, [], IfErr, IfNone, IfOk, IfSome, IsErrOf, OnErr, OnOk, length, slice_index_or};
+ghost use Rattle.std.specs.Prelude.{ℕ, ◌≡◌, ◌≢◌, ◌↔◌, ◌⊎◌, ◌+◌, ◌<◌, ◌≤◌, ◌++◌, ◌∷◌, [], All, IfErr, IfNone, IfOk, IfSome, IsErrOf, IsTrue, List, OnErr, OnOk, length, map, slice_index_or};
+ghost use Rattle.rb_history.specs.RingModel.{IsRingSize};
+ghost use Rattle.rb_history.specs.declared.entries.Entry.{Entry};
 ghost use Rattle.rb_chapter_ring.specs.CountedFrom.{query_answer_from};
 ghost use Rattle.rb_chapter_ring.specs.OpenedRing.{told_counts};
+ghost use Rattle.rb_chapter_ring.specs.WholeHistory.{IsKept};
 ghost use Rattle.rb_engine.specs.EngineCalls.{AtRing, OfRing};
 ghost use Rattle.rb_engine.specs.EngineValue.{RunsProgram};
-ghost use Rattle.rb_engine.specs.RingCalls.{HasWaitingFront, IsNotSent, Outputs, Takes};
+ghost use Rattle.rb_engine.specs.OpenedEngine.{fresh_ring};
+ghost use Rattle.rb_engine.specs.RingCalls.{HasNoRoom, HasWaitingFront, Outputs, Takes, WasFront};
 ghost use Rattle.rb_engine.specs.RingTurns.{AfterTurn};
 
 use crate::engine_ring::{EngineRing, NotSent};
 use crate::engine_rings::EngineRings;
 use rb_chapter_ring::OpenFault;
-use rb_history::{Counts, Notice, Taken};
+use rb_history::{Counts, Notice, Taken, is_size};
 use rb_interp::run;
 use rb_verifier::Verified;
 use std::alloc::{AllocError, Global};
@@ -59,26 +63,58 @@ impl Model for Engine {
 }
 
 impl Engine {
-    /// Returns an engine with a ring of each of these sizes, without records and programs, whose programs run over contexts of `ctx_len` bytes; or the first
-    /// refusal of a ring.
+    /// Returns an engine with a ring of each of these sizes, without records and programs, whose programs run over contexts of `ctx_len` bytes.
+    ///
+    /// `Size` if one of the sizes is no ring's; else the only refusal is `Memory`.
     pub fn open(alloc: Global, sizes: &[u64], ctx_len: u32) -> Result<Engine, OpenFault>
         requires rings { length sizes.now ≤ 16 }
-        ensures rings { IfOk result (λ e. length e.rings ≡ length sizes.now) }
+        ensures rings { IfOk result (λ e. e.rings ≡ map fresh_ring sizes.now) }
         ensures programs { IfOk result (λ e. e.programs ≡ []) }
         ensures ctx_len { IfOk result (λ e. e.ctx_len ≡ ctx_len) }
+        ensures size { IsErrOf result OpenFault.Size ↔ ¬ All IsRingSize sizes.now }
+        ensures fault { IfErr result (λ fault. (fault ≡ OpenFault.Size) ⊎ (fault ≡ OpenFault.Memory)) }
     {
-        let mut rings = Vec::new(alloc);
-        for (number, size) in sizes.iter().enumerate() {
-            let ring = EngineRing::new(alloc, number as u32, *size)?;
-            if rings.push(ring).is_err() {
-                return Err(OpenFault::Memory);
-            }
+        if !are_sizes(sizes) {
+            return Err(OpenFault::Size);
         }
-        Ok(Engine {
-            rings: EngineRings::new(alloc, rings),
-            programs: Vec::new(alloc),
-            ctx_len,
-        })
+        match open_rings(alloc, sizes) {
+            Ok(rings) => Ok(Engine {
+                rings: EngineRings::new(alloc, rings),
+                programs: Vec::new(alloc),
+                ctx_len,
+            }),
+            Err(AllocError) => Err(OpenFault::Memory),
+        }
+    }
+
+    /// Returns the number of rings.
+    pub fn rings(&self) -> usize
+        ensures count { result ≡ length self.now.rings }
+    {
+        self.rings.rings.len()
+    }
+
+    /// Returns the number of programs.
+    pub fn programs(&self) -> usize
+        ensures count { result ≡ length self.now.programs }
+    {
+        self.programs.len()
+    }
+
+    /// Returns the length in bytes of every context.
+    pub fn ctx_len(&self) -> u32
+        ensures len { result ≡ self.now.ctx_len }
+    {
+        self.ctx_len
+    }
+
+    /// States what holds of the ring with this number, whatever calls came before: its chapter is legal from its opening, which a legal history leads to. For
+    /// the proofs of callers; it does nothing.
+    pub fn facts(&self, ring: u32)
+        requires ring { ring < length self.now.rings }
+        ensures kept { OfRing ring (λ v. (earlier : List Entry) × IsKept earlier v.ring.chapter) self.now.rings }
+    {
+        self.rings.facts(ring);
     }
 
     /// Adds a program, and returns its number; the error is want of memory, and then the engine is as it was.
@@ -115,20 +151,26 @@ impl Engine {
     }
 
     /// Outputs a copy of the bytes to the ring with this number, as a program does.
+    ///
+    /// `Full` if the ring or its chapter has no room: its records stay, and only the count of refusals may rise. `Memory` leaves all as it was.
     pub fn put(&mut self, ring: u32, bytes: &[u8], flags: u64) -> Result<Notice, NotSent>
         requires ring { ring < length self.old.rings }
         requires flags { flags ≤ 3 }
         ensures put { IfOk result (λ notice. AtRing ring (AfterTurn (Outputs bytes.now flags notice)) self.old.rings self.new.rings) }
-        ensures not_put { IfErr result (λ _. AtRing ring (IsNotSent (length bytes.now)) self.old.rings self.new.rings) }
+        ensures full { IsErrOf result NotSent.Full → AtRing ring (AfterTurn (HasNoRoom (length bytes.now))) self.old.rings self.new.rings }
+        ensures memory { IsErrOf result NotSent.Memory → (16 < length bytes.now) × (self.new.rings ≡ self.old.rings) }
         ensures programs { self.new.programs ≡ self.old.programs }
+        ensures count { length self.new.rings ≡ length self.old.rings }
+        ensures ctx_len { self.new.ctx_len ≡ self.old.ctx_len }
     {
         self.rings.put(ring, bytes, flags)
     }
 
-    /// Returns the length of the next record of the ring with this number, if it was submitted.
+    /// Returns the length of the next record of the ring with this number, or `None` if there is none or it was not submitted.
     pub fn front_len(&self, ring: u32) -> Option<u32>
         requires ring { ring < length self.now.rings }
         ensures waiting { IfSome result (λ n. OfRing ring (λ v. HasWaitingFront v n) self.now.rings) }
+        ensures none { IfNone result (OfRing ring (λ v. (n : ℕ) → ¬ HasWaitingFront v n) self.now.rings) }
     {
         self.rings.front_len(ring)
     }
@@ -137,7 +179,10 @@ impl Engine {
     pub fn take(&mut self, ring: u32) -> Taken
         requires ring { ring < length self.old.rings }
         ensures taken { AtRing ring (Takes result) self.old.rings self.new.rings }
+        ensures front { OfRing ring (λ v. WasFront result v) self.old.rings }
         ensures programs { self.new.programs ≡ self.old.programs }
+        ensures count { length self.new.rings ≡ length self.old.rings }
+        ensures ctx_len { self.new.ctx_len ≡ self.old.ctx_len }
     {
         self.rings.take(ring)
     }
@@ -148,6 +193,7 @@ impl Engine {
         ensures ran { IfOk result (λ value. RunsProgram number context.now value self.old self.new) }
         ensures length { IsErrOf result NoRun.ContextLength ↔ (length context.now ≢ self.old.ctx_len) }
         ensures unchanged { OnErr result (self.new.rings ≡ self.old.rings) }
+        ensures count { length self.new.rings ≡ length self.old.rings }
         ensures programs { self.new.programs ≡ self.old.programs }
         ensures ctx_len { self.new.ctx_len ≡ self.old.ctx_len }
     {
@@ -163,4 +209,30 @@ impl Engine {
         };
         Ok(value)
     }
+}
+
+// Returns whether a ring may have each of these sizes.
+fn are_sizes(sizes: &[u64]) -> bool
+    ensures { IsTrue result ↔ All IsRingSize sizes.now }
+{
+    for size in sizes {
+        if !is_size(*size) {
+            return false;
+        }
+    }
+    true
+}
+
+// A ring of each of these sizes, without records.
+fn open_rings(alloc: Global, sizes: &[u64]) -> Result<Vec<EngineRing>, AllocError>
+    requires sizes { All IsRingSize sizes.now }
+    requires few { length sizes.now ≤ 16 }
+    ensures opened { IfOk result (λ rings. rings.items ≡ map fresh_ring sizes.now) }
+{
+    let mut rings = Vec::new(alloc);
+    for (number, size) in sizes.iter().enumerate() {
+        let ring = EngineRing::new(alloc, number as u32, *size)?;
+        rings.push(ring)?;
+    }
+    Ok(rings)
 }

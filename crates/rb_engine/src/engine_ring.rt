@@ -2,13 +2,15 @@
 
 ghost use Rattle.std.specs.Prelude.{◌≡◌, ◌<◌, IfNone, IfSome, length};
 ghost use Rattle.rb_chapter_ring.specs.Chapters.{IsChapterRoom};
+ghost use Rattle.rb_history.specs.RingModel.{IsRingSize};
+ghost use Rattle.rb_engine.specs.OpenedEngine.{chapter_room};
 
 use rb_chapter_ring::{
     Chapter, OpenFault, RecordEnd, Reservation, ReserveFault, RingState, UntakenStatus,
 };
 use rb_history::{Counts, Notice, Taken};
 use rb_lend::{Lent, Sheet};
-use std::alloc::Global;
+use std::alloc::{AllocError, Global};
 use std::marker::Model;
 
 /// The engine is the only worker of each of its rings.
@@ -55,29 +57,31 @@ impl EngineRing {
     ghost use Rattle.rb_history.specs.declared.answers.Notice.TheVariants.{Due};
     ghost use Rattle.rb_history.specs.declared.entries.Entry.{Entry};
     ghost use Rattle.rb_history.specs.NoticesAndQueries.{IsDue};
-    ghost use Rattle.rb_history.specs.RingModel.{IsRingSize};
     ghost use Rattle.rb_chapter_ring.specs.ChapterCalls.{consumer_by_chapter};
     ghost use Rattle.rb_chapter_ring.specs.ChapterRing.{StandsForChapter};
     ghost use Rattle.rb_chapter_ring.specs.CountedFrom.{query_answer_from};
-    ghost use Rattle.rb_chapter_ring.specs.HandRing.{HasInHand, hand_ring};
-    ghost use Rattle.rb_chapter_ring.specs.Hands.{IsFree, free_book, hands_of};
-    ghost use Rattle.rb_chapter_ring.specs.OpenedRing.{opened_ring, told_counts};
+    ghost use Rattle.rb_chapter_ring.specs.HandRing.{HasInHand};
+    ghost use Rattle.rb_chapter_ring.specs.Hands.{IsFree, hands_of};
+    ghost use Rattle.rb_chapter_ring.specs.OpenedRing.{told_counts};
     ghost use Rattle.rb_chapter_ring.specs.RecordEnds.{EndsFromHand};
     ghost use Rattle.rb_chapter_ring.specs.WholeHistory.{IsKept};
-    ghost use Rattle.rb_engine.specs.RingCalls.{Grants, HasNoRoom, HasWaitingFront, IsNotSent, IsRefused, Outputs, Takes};
+    ghost use Rattle.rb_engine.specs.OpenedEngine.{fresh_ring};
+    ghost use Rattle.rb_engine.specs.RingCalls.{Grants, HasNoRoom, HasWaitingFront, IsNotSent, IsRefused, Outputs, Takes, WasFront};
     ghost use Rattle.rb_engine.specs.RingTurns.{AfterTurn, MayTurn};
-    ghost use Rattle.rb_engine.specs.declared.engine_ring.NotSent.TheVariants.{Memory};
+    ghost use Rattle.rb_engine.specs.declared.engine_ring.NotSent.TheVariants.{Full, Memory};
 
-    /// Returns a ring of `size` bytes without records, or the first of `OpenFault`'s refusals that applies.
-    pub(crate) fn new(alloc: Global, number: u32, size: u64) -> Result<EngineRing, OpenFault>
-        ensures opened { IfOk result (λ r. (room : ℕ) × (r ≡ hand_ring (opened_ring room (record { size = size; start = 0; workers = 1 })) (free_book 1))) }
-        ensures size { IsErrOf result OpenFault.Size ↔ ¬ IsRingSize size }
+    /// Returns a ring of `size` bytes without records; the error is want of memory.
+    pub(crate) fn new(alloc: Global, number: u32, size: u64) -> Result<EngineRing, AllocError>
+        requires size { IsRingSize size }
+        ensures opened { IfOk result (λ r. r ≡ fresh_ring size) }
     {
         let room = room_for(size);
-        let ring = RingState::new(alloc, u64::from(number), size, 0, 1, room)?;
-        let Ok(spare) = Chapter::new(alloc, room, 1) else {
-            return Err(OpenFault::Memory);
+        let ring = match RingState::new(alloc, u64::from(number), size, 0, 1, room) {
+            Ok(ring) => ring,
+            Err(OpenFault::Memory) => return Err(AllocError),
+            Err(_) => unreachable!(),
         };
+        let spare = Chapter::new(alloc, room, 1)?;
         Ok(EngineRing {
             ring,
             spare: Some(spare),
@@ -175,7 +179,8 @@ impl EngineRing {
         requires flags { flags ≤ 3 }
         ensures sent { IfOk result (λ notice. AfterTurn (Outputs bytes.now flags notice) self.old self.new) }
         ensures not_sent { IfErr result (λ _. IsNotSent (length bytes.now) self.old self.new) }
-        ensures memory { IsErrOf result Memory → self.new ≡ self.old }
+        ensures full { IsErrOf result Full → AfterTurn (HasNoRoom (length bytes.now)) self.old self.new }
+        ensures memory { IsErrOf result Memory → (16 < length bytes.now) × (self.new ≡ self.old) }
     {
         let Some(sheet) = copy_of(alloc, bytes) else {
             return Err(NotSent::Memory);
@@ -201,6 +206,15 @@ impl EngineRing {
     /// Takes the record at the consumer position, as `RingState::take`.
     pub(crate) fn take(&mut self) -> Taken
         ensures takes { Takes result self.old self.new }
+        ensures front { WasFront result self.old }
+    {
+        self.facts();
+        self.take_next()
+    }
+
+    // Takes the record at the consumer position.
+    fn take_next(&mut self) -> Taken
+        ensures takes { Takes result self.old self.new }
     {
         self.ring.take()
     }
@@ -208,6 +222,7 @@ impl EngineRing {
     /// Returns the length of the record at the consumer position if that record was submitted.
     pub(crate) fn front_len(&self) -> Option<u32>
         ensures waiting { IfSome result (λ n. HasWaitingFront self.now n) }
+        ensures none { IfNone result ((n : ℕ) → ¬ HasWaitingFront self.now n) }
     {
         let records = self.ring.chapter().closing().records();
         if records.is_empty() {
@@ -236,12 +251,11 @@ impl EngineRing {
 
 // How many entries a chapter of a ring of this size has room for: three for each record that the ring can hold, as far as chapters go.
 fn room_for(size: u64) -> u32
+    requires size { IsRingSize size }
     ensures room { IsChapterRoom result }
+    ensures exact { result ≡ chapter_room size }
 {
     let wanted = size / 8 * 3;
-    if wanted < 16 {
-        return 16;
-    }
     if wanted > MAX_ROOM {
         return MAX_ROOM as u32;
     }

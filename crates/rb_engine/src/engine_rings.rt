@@ -1,13 +1,15 @@
 //! The rings of an engine, as the helpers of its programs.
 
-ghost use Rattle.std.specs.Prelude.{◌≡◌, ◌≢◌, ◌↔◌, ◌+◌, ◌<◌, ◌≤◌, true, false, refl, [], ◌∷◌, ◌++◌, IfErr, IfOk, IfSome, is_ok, is_some, length, replicate, Result};
+ghost use Rattle.std.specs.Prelude.{◌≡◌, ◌≢◌, ◌↔◌, ◌+◌, ◌<◌, ◌≤◌, true, false, refl, [], ◌∷◌, ◌++◌, IfErr, IfNone, IfOk, IfSome, IsErrOf, List, ℕ, is_ok, is_some, length, replicate, Result};
 ghost use Rattle.rb_chapter_ring.specs.declared.record_end.RecordEnd.{RecordEnd as End};
 ghost use Rattle.rb_interp.specs.declared.done.Done.TheVariants.{Reserve, Submit, Discard, Output, Query};
 ghost use Rattle.rb_interp.specs.AnsweredCalls.{Reserved, Submitted, Discarded, SentOut, Queried};
 ghost use Rattle.rb_engine.specs.EngineCalls.{AtRing, OfRing, CallsHelpers, EndAnswered, IsStillOut, Leads, OutputAnswered, QueryAnswered, ReserveAnswered, has_number, record_name};
-ghost use Rattle.rb_engine.specs.RingCalls.{HasWaitingFront, IsNotSent, Outputs, Takes};
+ghost use Rattle.rb_engine.specs.RingCalls.{HasNoRoom, HasWaitingFront, Outputs, Takes, WasFront};
 ghost use Rattle.rb_chapter_ring.specs.CountedFrom.{query_answer_from};
 ghost use Rattle.rb_chapter_ring.specs.OpenedRing.{told_counts};
+ghost use Rattle.rb_chapter_ring.specs.WholeHistory.{IsKept};
+ghost use Rattle.rb_history.specs.declared.entries.Entry.{Entry};
 ghost use Rattle.rb_engine.specs.RingTurns.{AfterTurn};
 ghost use Rattle.rb_engine.specs.inner.Noting.{ended_call, ended_note, with_call};
 
@@ -77,7 +79,9 @@ impl EngineRings {
         requires ring { ring < length self.old.rings }
         requires flags { flags ≤ 3 }
         ensures put { IfOk result (λ notice. AtRing ring (AfterTurn (Outputs bytes.now flags notice)) self.old.rings self.new.rings) }
-        ensures not_put { IfErr result (λ _. AtRing ring (IsNotSent (length bytes.now)) self.old.rings self.new.rings) }
+        ensures full { IsErrOf result NotSent.Full → AtRing ring (AfterTurn (HasNoRoom (length bytes.now))) self.old.rings self.new.rings }
+        ensures memory { IsErrOf result NotSent.Memory → (16 < length bytes.now) × (self.new.rings ≡ self.old.rings) }
+        ensures count { length self.new.rings ≡ length self.old.rings }
     {
         self.rings[ring as usize].output(self.alloc, bytes, flags)
     }
@@ -86,6 +90,8 @@ impl EngineRings {
     pub(crate) fn take(&mut self, ring: u32) -> Taken
         requires ring { ring < length self.old.rings }
         ensures taken { AtRing ring (Takes result) self.old.rings self.new.rings }
+        ensures front { OfRing ring (λ v. WasFront result v) self.old.rings }
+        ensures count { length self.new.rings ≡ length self.old.rings }
     {
         self.rings[ring as usize].take()
     }
@@ -110,8 +116,17 @@ impl EngineRings {
     pub(crate) fn front_len(&self, ring: u32) -> Option<u32>
         requires ring { ring < length self.now.rings }
         ensures waiting { IfSome result (λ n. OfRing ring (λ v. HasWaitingFront v n) self.now.rings) }
+        ensures none { IfNone result (OfRing ring (λ v. (n : ℕ) → ¬ HasWaitingFront v n) self.now.rings) }
     {
         self.rings[ring as usize].front_len()
+    }
+
+    /// States what holds of the ring with this number, as `EngineRing::facts`.
+    pub(crate) fn facts(&self, ring: u32)
+        requires ring { ring < length self.now.rings }
+        ensures kept { OfRing ring (λ v. (earlier : List Entry) × IsKept earlier v.ring.chapter) self.now.rings }
+    {
+        self.rings[ring as usize].facts();
     }
 
     // Notes a call and its answer.

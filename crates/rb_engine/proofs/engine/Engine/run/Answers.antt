@@ -24,6 +24,12 @@ invariant_of-self-2 c = λ k d low.
       fits.1 ∙ sym (ap length begun) ∙ sym count,
     )
 
+pub returns-clause-count : goal.returns-clause-count
+returns-clause-count c =
+    let begun : c.begin.new.self.rings ≡ c.self.inside.rings.rings = search rules in
+    let count = same-count (length c.run.new.helpers.rings) (length c.begin.new.self.rings) c.run.ensures.rings in
+    count ∙ ap length begun ∙ ap (λ (e : EngineValue). length e.rings) c.self.view_is
+
 pub returns-clause-ran : goal.returns-clause-ran
 returns-clause-ran c =
     let below : c.args.number < length c.self.inside.programs.items = search rules in
