@@ -1,0 +1,4 @@
+pub mod Results
+pub mod Tasks
+pub mod ContextRuns
+pub mod inner

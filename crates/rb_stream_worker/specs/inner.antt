@@ -1,0 +1,2 @@
+pub mod RanTasks
+pub mod RunLaws

@@ -1,0 +1,105 @@
+//! Runs of programs over contexts.
+
+ghost use Rattle.std.specs.Prelude.{◌≡◌, ◌≤◌, ◌<◌, ◌∷◌, [], false, length};
+ghost use Rattle.std.specs.List.{All};
+ghost use Rattle.rb_stream_worker.specs.ContextRuns.{IsProgramFor, RunsContexts};
+ghost use Rattle.rb_stream_worker.specs.inner.RanTasks.{TriesContext, TriesTask};
+
+use crate::stream_counts::StreamCounts;
+use rb_jobs::{Job, JobRunner, OpenGate, Stock};
+use rb_source::Piece;
+use rb_verifier::Verified;
+use std::sync::Wait;
+
+// Runs program `index` over a context and counts the run, and returns whether there was memory for it. If there was none, nothing ran.
+fn run_program<'j, R: Wait, K: Stock>(
+    runner: &mut JobRunner<'_, 'j, R, OpenGate, K>,
+    counts: &mut StreamCounts,
+    worker: u32,
+    programs: &'j [Verified],
+    index: usize,
+    context: &'j [u8],
+) -> bool
+    requires index { index < length programs.now }
+    requires fit { All (IsProgramFor (length runner.old.rings) (length context.now)) programs.now }
+    requires one_each { length counts.old.results.items ≡ length programs.now }
+    ensures rings { runner.new.rings ≡ runner.old.rings }
+    ensures ran { TriesTask result worker programs.now (record { program = index; context = context.now }) runner.old.seats runner.new.seats counts.old counts.new }
+{
+    let job = Job {
+        worker,
+        program: &programs[index],
+        ctx: context,
+    };
+    let Ok(answer) = runner.run(&job) else {
+        return false;
+    };
+    match answer.result {
+        Ok(number) => counts.count_run(index, number, answer.unlogged),
+        Err(_) => unreachable!(),
+    }
+    true
+}
+
+// Runs each program over a context, in order, up to the first for which there is no memory. Returns whether all were run.
+fn run_programs<'j, R: Wait, K: Stock>(
+    runner: &mut JobRunner<'_, 'j, R, OpenGate, K>,
+    counts: &mut StreamCounts,
+    worker: u32,
+    programs: &'j [Verified],
+    context: &'j [u8],
+) -> bool
+    requires fit { All (IsProgramFor (length runner.old.rings) (length context.now)) programs.now }
+    requires one_each { length counts.old.results.items ≡ length programs.now }
+    ensures rings { runner.new.rings ≡ runner.old.rings }
+    ensures ran { TriesContext result worker programs.now context.now runner.old.seats runner.new.seats counts.old counts.new }
+{
+    for index in 0..programs.len() {
+        if !run_program(runner, counts, worker, programs, index, context) {
+            return false;
+        }
+    }
+    true
+}
+
+// Runs each program over a context and counts the context as run, or else as left.
+fn run_context<'j, R: Wait, K: Stock>(
+    runner: &mut JobRunner<'_, 'j, R, OpenGate, K>,
+    counts: &mut StreamCounts,
+    worker: u32,
+    programs: &'j [Verified],
+    context: &'j [u8],
+)
+    requires fit { All (IsProgramFor (length runner.old.rings) (length context.now)) programs.now }
+    requires one_each { length counts.old.results.items ≡ length programs.now }
+    ensures rings { runner.new.rings ≡ runner.old.rings }
+    ensures ran { RunsContexts worker programs.now (context.now ∷ []) runner.old.seats runner.new.seats counts.old counts.new }
+{
+    if counts.stopped {
+        counts.leave(1);
+        return;
+    }
+    if run_programs(runner, counts, worker, programs, context) {
+        counts.contexts = counts.contexts.saturating_add(1);
+    } else {
+        counts.leave(1);
+    }
+}
+
+/// Runs each program over each context of a piece, in order.
+pub(crate) fn run_piece<'j, R: Wait, K: Stock>(
+    runner: &mut JobRunner<'_, 'j, R, OpenGate, K>,
+    counts: &mut StreamCounts,
+    worker: u32,
+    programs: &'j [Verified],
+    piece: &'j Piece,
+)
+    requires fit { All (IsProgramFor (length runner.old.rings) piece.now.ctx_len) programs.now }
+    requires one_each { length counts.old.results.items ≡ length programs.now }
+    ensures rings { runner.new.rings ≡ runner.old.rings }
+    ensures ran { RunsContexts worker programs.now piece.now.contexts runner.old.seats runner.new.seats counts.old counts.new }
+{
+    for at in 0..piece.len() {
+        run_context(runner, counts, worker, programs, piece.get(at));
+    }
+}

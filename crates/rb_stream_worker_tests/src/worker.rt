@@ -1,0 +1,158 @@
+//! A worker that runs programs over contexts, at one ring.
+
+ghost use Rattle.std.specs.Prelude.{◌≡◌, ◌≤◌, length};
+ghost use Rattle.rb_jobs.specs.SeatHelpers.{IsAt};
+ghost use Rattle.rb_stream_worker.specs.ContextRuns.{IsNewWorker};
+
+use rb_dealing::Work;
+use rb_history::Taken;
+use rb_jobs::NoStock;
+use rb_lend::Lent;
+use rb_program::{from_text, shape};
+use rb_shared_ring::{ConsumerSeat, Seat, SharedRing, open};
+use rb_source::Piece;
+use rb_stream_worker::StreamWorker;
+use rb_verifier::{Verified, verify};
+use std::alloc::Global;
+use std::fmt::Debug;
+use std::process::Abort;
+use std::sync::Wait;
+
+// Outputs the first eight bytes of the context to ring 0, and returns the output's answer.
+const OUTPUT_CONTEXT: &str = "bf12000000000000 1851000000000000 0000000000000000 b703000008000000
+    b704000000000000 8500000082000000 9500000000000000";
+
+// Returns the first byte of the context.
+const FIRST_BYTE: &str = "7110000000000000 9500000000000000";
+
+// Ends the test if the two differ, and prints both.
+fn same<T: PartialEq + Debug>(rt: &impl Abort, found: &T, wanted: &T) {
+    assert_eq!(rt; *found, *wanted);
+}
+
+// A program that was verified for contexts of eight bytes and one ring.
+fn verified(rt: &impl Abort, alloc: Global, text: &str) -> Verified
+    ensures rings { result.rings ≡ 1 }
+    ensures ctx_len { result.ctx_len ≡ 8 }
+{
+    let program = from_text(alloc, text).expect(rt, "a program");
+    let shape = shape(alloc, program).expect(rt, "a shape");
+    verify(alloc, shape, 8, 1).expect(rt, "a verified program")
+}
+
+// A ring with one seat.
+fn opened<R: Wait + Abort>(rt: &R, alloc: Global) -> (SharedRing, Seat, ConsumerSeat)
+    ensures seat { IsAt result.0 result.1 }
+    ensures consumer { result.2.ring ≡ result.0.ring }
+{
+    let Ok((ring, mut seats, consumer)) = open(rt, alloc, 0, 4096, 0, 1, 64) else {
+        rt.panic("no ring")
+    };
+    match seats.pop() {
+        Some(seat) => (ring, seat, consumer),
+        None => rt.panic("no seat"),
+    }
+}
+
+// A piece of contexts of this length, each of which is filled with one of these numbers.
+fn piece_of(rt: &impl Abort, alloc: Global, ctx_len: u32, numbers: &[u8]) -> Piece
+    requires { ctx_len ≤ 65536 }
+{
+    let mut piece = Piece::new(alloc, ctx_len).expect(rt, "memory");
+    for number in numbers {
+        let context = vec![in alloc; *number; ctx_len as usize].expect(rt, "memory");
+        if !piece.is_full() {
+            piece.push(&context);
+        }
+    }
+    piece
+}
+
+// Returns the first byte of the next record, and 255 if there is none or if it is not of eight bytes.
+fn next_byte<R: Wait + Abort>(rt: &R, ring: &SharedRing, consumer: &mut ConsumerSeat) -> u8
+    requires { consumer.old.ring ≡ ring.now.ring }
+    ensures { consumer.new.ring ≡ consumer.old.ring }
+{
+    match ring.take(rt, consumer) {
+        Ok(Taken::Event(_, _, _, sheet)) => {
+            let bytes = sheet.bytes();
+            if bytes.len() == 8 { bytes[0] } else { 255 }
+        }
+        _ => 255,
+    }
+}
+
+// Returns whether a worker, which may be sent to another thread, has stopped.
+fn has_stopped<W: Work + Send>(worker: &W) -> bool {
+    worker.is_short()
+}
+
+// A worker of these programs at these rings, without seats.
+fn new_worker<'w, R: Wait + Abort>(
+    rt: &'w R,
+    alloc: Global,
+    rings: &'w [SharedRing],
+    programs: &'w [Verified],
+) -> StreamWorker<'w, R, NoStock>
+    ensures { IsNewWorker 0 rings.now programs.now 8 16 result }
+{
+    match StreamWorker::new(rt, alloc, 0, rings, programs, 8, &NoStock, 16) {
+        Ok(worker) => worker,
+        Err(_) => rt.panic("no memory"),
+    }
+}
+
+#[test]
+fn two_programs_over_three_contexts(rt: HostRuntime) {
+    let alloc = rt.alloc();
+    let programs = [
+        verified(&rt, alloc, OUTPUT_CONTEXT),
+        verified(&rt, alloc, FIRST_BYTE),
+    ];
+    let (ring, seat, mut consumer) = opened(&rt, alloc);
+    let rings = [ring];
+    let mut worker = new_worker(&rt, alloc, &rings, &programs);
+    worker.seats.push_reserved(seat);
+    worker.run(&piece_of(&rt, alloc, 8, &[7, 99, 7]));
+    let counts = &worker.counts;
+    same(
+        &rt,
+        &(counts.contexts, counts.left, counts.unlogged),
+        &(3, 0, 0),
+    );
+    let first = &counts.results[0];
+    let second = &counts.results[1];
+    same(
+        &rt,
+        &(first.below[0], first.below[7], first.other),
+        &(3, 0, 0),
+    );
+    same(
+        &rt,
+        &(second.below[7], second.below[9], second.other),
+        &(2, 0, 1),
+    );
+    same(&rt, &has_stopped(&worker), &false);
+    for number in [7, 99, 7, 255] {
+        same(&rt, &next_byte(&rt, &rings[0], &mut consumer), &number);
+    }
+}
+
+#[test]
+fn a_worker_that_stopped_runs_nothing_more(rt: HostRuntime) {
+    let alloc = rt.alloc();
+    let programs = [verified(&rt, alloc, OUTPUT_CONTEXT)];
+    let (ring, seat, mut consumer) = opened(&rt, alloc);
+    let rings = [ring];
+    let mut worker = new_worker(&rt, alloc, &rings, &programs);
+    worker.seats.push_reserved(seat);
+    worker.run(&piece_of(&rt, alloc, 9, &[1, 2]));
+    worker.run(&piece_of(&rt, alloc, 8, &[3]));
+    let counts = &worker.counts;
+    same(
+        &rt,
+        &(counts.contexts, counts.left, has_stopped(&worker)),
+        &(0, 3, true),
+    );
+    same(&rt, &next_byte(&rt, &rings[0], &mut consumer), &255);
+}
