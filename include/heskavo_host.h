@@ -1,13 +1,13 @@
 /*
  * Heskavo for C, and for what calls C: verification, explanation, costs and runs of eBPF programs that write into BPF ring buffers, and the records of tapes.
  *
- * Every function is proved to do what is said here (crates/heskavo_c); the contracts stand at its exports. Nothing is kept between calls, no lock is
- * taken, no thread is started, and nothing aborts. Any number of threads may call at once, with buffers of their own.
+ * Every function is proved to do what is said here (crates/heskavo_c); the contracts stand at its exports. Nothing is kept between calls but the engines that
+ * a caller opens; no lock is taken, no thread is started, and nothing aborts. Any number of threads may call at once, with buffers and engines of their own.
  *
  * A buffer is a pointer and its length in items. A pointer may be null where its length is 0; no other one may. Every pointer is aligned for what it
  * points to. What a call may write, a buffer as well as a single number or struct, overlaps nothing else that the same call is given, and no length is
- * above PTRDIFF_MAX. Memory comes of malloc, and goes back to free before the call returns: so no function is called from a signal handler, or in the
- * child of a fork of a process with threads, and malloc aligns a block to each power of two up to 16 that divides its size. Link with libheskavo.a:
+ * above PTRDIFF_MAX. Memory comes of malloc, and goes back to free before the call returns, but for that of an engine: so no function is called from a signal
+ * handler, or in the child of a fork of a process with threads, and malloc aligns a block to each power of two up to 16 that divides its size. Link with libheskavo.a:
  * tools/install puts it into lib, and this header into include, below one folder.
  *
  * A program is its bytes, eight a unit, as RFC 9669 lays them out. bpf-helpers(7) has its calls, Linux Documentation/bpf/ringbuf.rst the rings.
@@ -32,9 +32,11 @@ enum heskavo_status {
     HESKAVO_ARGUMENT = 2, /* a length, a size or a position is out of its bounds; nothing was written */
     HESKAVO_MEMORY = 3,   /* there was no memory; this says nothing of the program, and nothing was written */
     HESKAVO_ROOM = 4,     /* what is to be written does not fit; how much it is was told, and nothing else written */
-    HESKAVO_MORE = 5,     /* the bytes show no whole record yet, and no fault; nothing was written */
+    HESKAVO_MORE = 5,     /* the bytes show no whole record yet, and no fault, or a ring's next record is busy; nothing was written */
     HESKAVO_FAULT = 6,    /* the bytes show a fault */
-    HESKAVO_BROKEN = 7    /* it is never answered: what a run leaves is always a tape, and all of it comes out; the number stays taken */
+    HESKAVO_BROKEN = 7,   /* it is never answered: what a run leaves is always a tape, and all of it comes out; the number stays taken */
+    HESKAVO_EMPTY = 8,    /* the ring has no record; nothing was written */
+    HESKAVO_FULL = 9      /* the ring has no room for the record, and counts the refusal; nothing was written */
 };
 
 /* The layers of a verdict. */
@@ -192,6 +194,77 @@ uint32_t heskavo_tape_put_discarded(uint32_t len, uint64_t size, uint64_t positi
  * reads no memory of the ring, which the kernel changes at any time. heskavo_linux.h has a reader over it, with the interface of libbpf's.
  */
 uint32_t heskavo_linux_record(uint64_t header, uint64_t size, uint64_t position, uint32_t pages_before_data, struct heskavo_linux_record *found);
+
+/*
+ * A handle to an engine: rings, and verified programs, that stay from call to call. It begins as zeros, which is a closed handle:
+ *
+ *     struct heskavo_engine engine = {0};
+ *
+ * A handle is moved, never copied: of two copies of an open one only one may be used from then on. A caller does not write `inside`. An engine may be used by
+ * one thread after another, by one at a time: callers order that by a lock, or have an engine for each thread. Every call but heskavo_engine_open answers
+ * HESKAVO_ARGUMENT for a closed handle, and heskavo_engine_close does nothing then.
+ */
+struct heskavo_engine {
+    uint8_t *inside; /* null if the handle is closed */
+};
+
+/* A record that was taken from a ring of an engine. */
+struct heskavo_taken_record {
+    uint64_t position;  /* its position, in bytes since the ring was opened */
+    uint32_t len;       /* how many bytes it has; of a discarded record, how many it had */
+    uint32_t discarded; /* 1 if it was discarded, else 0 */
+};
+
+/* What a ring of an engine counts since it was opened; `made` is the sum of the last four. */
+struct heskavo_ring_counts {
+    uint64_t made;      /* records that were granted */
+    uint64_t refused;   /* reservations and outputs that found no room; at most 2^64 - 1 are told */
+    uint64_t consumed;  /* records that were submitted and taken */
+    uint64_t discarded; /* records that were discarded */
+    uint64_t waiting;   /* records that were submitted and not taken */
+    uint64_t busy;      /* records that were neither submitted nor discarded: always 0 between two calls */
+};
+
+/*
+ * Opens an engine with a ring of each of these sizes (powers of two from 4,096 to 67,108,864; at most 16), for programs with contexts of ctx_len bytes (at
+ * most 65,536): HESKAVO_DONE. HESKAVO_ARGUMENT also if the handle is not closed. Also answered: HESKAVO_MEMORY. The rings' memory is allocated here, and freed
+ * when the engine is closed; after that only programs, and records of more than 16 bytes until they are taken, are allocated.
+ */
+uint32_t heskavo_engine_open(const uint64_t *sizes, size_t rings, uint32_t ctx_len, struct heskavo_engine *engine);
+
+/*
+ * Verifies a program for the engine's contexts and rings, and adds it: HESKAVO_DONE with its number, 0 for the first, or HESKAVO_REFUSED with the verdict. Also
+ * answered: HESKAVO_ARGUMENT, HESKAVO_MEMORY. `number` is written at HESKAVO_DONE alone, `verdict` at HESKAVO_REFUSED alone.
+ */
+uint32_t heskavo_engine_load(struct heskavo_engine *engine, const uint8_t *program, size_t program_len, uint32_t *number, struct heskavo_verdict *verdict);
+
+/*
+ * Runs the program with this number to its end, over the rings as the calls before left them: HESKAVO_DONE with what it ended with. HESKAVO_ARGUMENT if there is
+ * no program of this number, or the context has another length than the engine's contexts. Also answered: HESKAVO_MEMORY, and then nothing ran.
+ */
+uint32_t heskavo_engine_run(struct heskavo_engine *engine, uint32_t number, const uint8_t *context, size_t context_len, uint64_t *value);
+
+/*
+ * Outputs a copy of the bytes to a ring as one record, as bpf_ringbuf_output does, with its flags: HESKAVO_DONE, or HESKAVO_FULL if the ring has no room.
+ * HESKAVO_ARGUMENT if there is no ring of this number, or a flag is not known. Also answered: HESKAVO_MEMORY, and then the engine is as it was.
+ */
+uint32_t heskavo_engine_put(struct heskavo_engine *engine, uint32_t ring, const uint8_t *bytes, size_t bytes_len, uint64_t flags);
+
+/*
+ * Takes the next record of a ring, and puts its bytes to the front of `buffer`: HESKAVO_DONE with the record. A discarded record has no bytes. HESKAVO_EMPTY if
+ * the ring has no record, HESKAVO_MORE if the next one is still busy, HESKAVO_ROOM if it is longer than the buffer: `record->len` is its length then, and it is
+ * not taken. HESKAVO_ARGUMENT if there is no ring of this number. `record` is written at HESKAVO_DONE and HESKAVO_ROOM alone, `buffer` at HESKAVO_DONE alone.
+ */
+uint32_t heskavo_engine_take(struct heskavo_engine *engine, uint32_t ring, uint8_t *buffer, size_t buffer_len, struct heskavo_taken_record *record);
+
+/* Answers a query of a ring as bpf_ringbuf_query does: HESKAVO_DONE with the answer. HESKAVO_ARGUMENT if there is no ring of this number. */
+uint32_t heskavo_engine_query(struct heskavo_engine *engine, uint32_t ring, uint64_t what, uint64_t *answer);
+
+/* Tells what a ring counts: HESKAVO_DONE. HESKAVO_ARGUMENT if there is no ring of this number. */
+uint32_t heskavo_engine_counts(struct heskavo_engine *engine, uint32_t ring, struct heskavo_ring_counts *counts);
+
+/* Closes the engine, and frees its memory; its records are lost. The handle is closed then. */
+void heskavo_engine_close(struct heskavo_engine *engine);
 
 #ifdef __cplusplus
 }

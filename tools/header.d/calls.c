@@ -154,6 +154,47 @@ static void read_linux_headers(void) {
         expect(heskavo_linux_record(faulty[i], 8192, at, 3, &found) == HESKAVO_FAULT && found.fault == faults[i], "a fault of heskavo_linux_record");
 }
 
+/* A ring of 4,096 bytes, and one of 8,192: PROGRAM leaves a discarded record of 24 bytes and one of 8 in the second, and the caller puts three bytes there. */
+static void keep_an_engine(void) {
+    const uint64_t sizes[] = {4096, 8192}, no_sizes[] = {4096, 4097};
+    struct heskavo_engine engine = {0};
+    struct heskavo_verdict verdict = {0, 0, 0};
+    struct heskavo_taken_record record = {9, 9, 9};
+    struct heskavo_ring_counts counts;
+    const struct heskavo_ring_counts all = {.made = 3, .refused = 1, .consumed = 1, .discarded = 1, .waiting = 1, .busy = 0};
+    uint8_t buffer[8];
+    uint32_t number = 9;
+    uint64_t value = 0;
+    expect(heskavo_engine_run(&engine, 0, CONTEXT, sizeof CONTEXT, &value) == HESKAVO_ARGUMENT, "a closed engine runs nothing");
+    expect(heskavo_engine_open(no_sizes, 2, 8, &engine) == HESKAVO_ARGUMENT && !engine.inside, "heskavo_engine_open of a size that no ring has");
+    expect(heskavo_engine_open(sizes, 2, 8, &engine) == HESKAVO_DONE && engine.inside, "heskavo_engine_open");
+    expect(heskavo_engine_open(sizes, 2, 8, &engine) == HESKAVO_ARGUMENT && engine.inside, "heskavo_engine_open of an open handle");
+    expect(heskavo_engine_load(&engine, REFUSED, sizeof REFUSED, &number, &verdict) == HESKAVO_REFUSED && is_verdict(&verdict) && number == 9,
+           "the verdict of heskavo_engine_load");
+    expect(heskavo_engine_load(&engine, NO_RECORD, sizeof NO_RECORD, &number, &verdict) == HESKAVO_DONE && number == 0, "heskavo_engine_load");
+    expect(heskavo_engine_load(&engine, PROGRAM, sizeof PROGRAM, &number, &verdict) == HESKAVO_DONE && number == 1, "heskavo_engine_load of the second program");
+    expect(heskavo_engine_run(&engine, 0, CONTEXT, sizeof CONTEXT, &value) == HESKAVO_DONE && value == 5, "heskavo_engine_run");
+    expect(heskavo_engine_run(&engine, 1, CONTEXT, sizeof CONTEXT, &value) == HESKAVO_DONE && value == 7, "heskavo_engine_run of the second program");
+    expect(heskavo_engine_run(&engine, 1, CONTEXT, 7, &value) == HESKAVO_ARGUMENT, "heskavo_engine_run over a shorter context");
+    expect(heskavo_engine_run(&engine, 2, CONTEXT, sizeof CONTEXT, &value) == HESKAVO_ARGUMENT, "heskavo_engine_run of no program");
+    expect(heskavo_engine_put(&engine, 1, CONTEXT, 3, 0) == HESKAVO_DONE, "heskavo_engine_put");
+    expect(heskavo_engine_put(&engine, 1, CONTEXT, 3, 4) == HESKAVO_ARGUMENT, "heskavo_engine_put with a flag that is not known");
+    static const uint8_t long_record[8192];
+    expect(heskavo_engine_put(&engine, 1, long_record, sizeof long_record, 0) == HESKAVO_FULL, "heskavo_engine_put without room");
+    expect(heskavo_engine_take(&engine, 1, NULL, 0, &record) == HESKAVO_DONE && record.position == 0 && record.len == 24 && record.discarded == 1,
+           "heskavo_engine_take of the discarded record");
+    expect(heskavo_engine_take(&engine, 1, buffer, 7, &record) == HESKAVO_ROOM && record.len == 8, "heskavo_engine_take wants room");
+    expect(heskavo_engine_take(&engine, 1, buffer, 8, &record) == HESKAVO_DONE && record.position == 32 && record.len == 8 && record.discarded == 0
+           && !memcmp(buffer, CONTEXT, sizeof CONTEXT), "heskavo_engine_take");
+    expect(heskavo_engine_take(&engine, 0, buffer, 8, &record) == HESKAVO_EMPTY, "heskavo_engine_take of an empty ring");
+    expect(heskavo_engine_query(&engine, 1, 3, &value) == HESKAVO_DONE && value == 64, "heskavo_engine_query of the producer position");
+    expect(heskavo_engine_query(&engine, 2, 3, &value) == HESKAVO_ARGUMENT, "heskavo_engine_query of no ring");
+    expect(heskavo_engine_counts(&engine, 1, &counts) == HESKAVO_DONE && !memcmp(&counts, &all, sizeof all), "heskavo_engine_counts");
+    heskavo_engine_close(&engine);
+    expect(!engine.inside && heskavo_engine_counts(&engine, 1, &counts) == HESKAVO_ARGUMENT, "heskavo_engine_close");
+    heskavo_engine_close(&engine);
+}
+
 int main(void) {
     verify_and_explain();
     refuse_each_program();
@@ -162,5 +203,6 @@ int main(void) {
     read_and_write_tapes();
     find_each_fault();
     read_linux_headers();
+    keep_an_engine();
     return wrong;
 }

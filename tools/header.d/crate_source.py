@@ -5,6 +5,8 @@ import re
 from declarations import Declarations, Function, Item, parts, words
 
 COMMENT = re.compile(r"//[^\n]*")
+# A field that only contracts see: it crosses to nobody.
+GHOST = re.compile(r"^\s*(?:pub )?ghost \w+: \{[^}]*\}(?: by \{[^}]*\})?,\n", re.MULTILINE)
 CONSTANT = re.compile(r"^pub const (\w+): (?:u8|u16|u32|u64|usize) = (0x[0-9a-fA-F_]+|[0-9_]+);", re.MULTILINE)
 STRUCT = re.compile(r"#\[repr\(C\)\]\s*(?:#\[[^\]]*\]\s*)*pub struct (\w+) \{([^}]*)\}")
 EXPORT = re.compile(r'#\[unsafe\(no_mangle\)\]\s*pub (?:unsafe )?extern "C" fn (\w+)\(([^)]*)\)(?:\s*->\s*([\w&<>\[\] *]+?))?\s*(?=\b(?:ensures|requires)\b|\{)')
@@ -64,7 +66,7 @@ def declarations(sources: list[pathlib.Path]) -> Declarations:
     """Returns what these sources export."""
     found = Declarations()
     for source in sources:
-        text = COMMENT.sub("", source.read_text())
+        text = GHOST.sub("", COMMENT.sub("", source.read_text()))
         constants = {name: int(value.replace("_", ""), 0) for name, value in CONSTANT.findall(text)}
         if constants:
             found.numberings[f"the constants of {source.name}"] = constants

@@ -4,3 +4,6 @@ mod RunEnd
 mod ShapeRefusals
 mod TapeLooks
 pub mod TapesLeft
+mod LooseValues
+mod HandleSteps
+mod EngineTakes

@@ -5,4 +5,7 @@ pub mod Explained
 pub mod Costs
 pub mod Runs
 pub mod LinuxRecords
+pub mod EngineHandles
+pub mod EngineOwnership
+pub mod Engines
 pub mod inner

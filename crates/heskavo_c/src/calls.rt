@@ -2,6 +2,7 @@
 
 use crate::costing::{ProgramCost, ProgramRingCost, heskavo_cost};
 use crate::explaining::heskavo_explain;
+use crate::linux_record::{LinuxRecord, heskavo_linux_record};
 use crate::running::heskavo_run;
 use crate::status::{DONE, FAULT, MORE, REFUSED, ROOM};
 use crate::tapes::{TapeRecord, heskavo_tape_next, heskavo_tape_put, heskavo_tape_put_discarded};
@@ -12,7 +13,7 @@ use rb_version::VERSION_NUMBER;
 use std::alloc::Global;
 
 // Reserves a record of eight bytes, and submits 42 where it was granted.
-const SUBMIT_42: [u8; 96] = [
+pub(crate) const SUBMIT_42: [u8; 96] = [
     0x18, 0x51, 0, 0, 0, 0, 0, 0, 0, 0, 0, 0, 0, 0, 0, 0, 0xb7, 0x02, 0, 0, 0x08, 0, 0, 0, 0xb7,
     0x03, 0, 0, 0, 0, 0, 0, 0x85, 0, 0, 0, 0x83, 0, 0, 0, 0x15, 0, 0x04, 0, 0, 0, 0, 0, 0x7a, 0, 0,
     0, 0x2a, 0, 0, 0, 0xbf, 0x01, 0, 0, 0, 0, 0, 0, 0xb7, 0x02, 0, 0, 0, 0, 0, 0, 0x85, 0, 0, 0,
@@ -20,9 +21,9 @@ const SUBMIT_42: [u8; 96] = [
 ];
 
 // An exit with a register that holds nothing.
-const EXIT: [u8; 8] = [0x95, 0, 0, 0, 0, 0, 0, 0];
+pub(crate) const EXIT: [u8; 8] = [0x95, 0, 0, 0, 0, 0, 0, 0];
 
-const NONE: Verdict = Verdict {
+pub(crate) const NONE: Verdict = Verdict {
     layer: 0,
     number: 0,
     unit: 0,
@@ -50,6 +51,34 @@ fn programs_are_accepted_and_refused(rt: HostRuntime) {
     assert_eq!(rt;
         (accepted, refused),
         ((DONE, [0; 3]), (REFUSED, [RULES, 1, 0]))
+    );
+}
+
+// What `heskavo_linux_record` answers of a header at position 4,096 of a ring with 8,192 bytes of data: the status, the next position, and of the record its length,
+// whether it was discarded, and its fault.
+fn linux_record(header: u64) -> (u32, u64, [u32; 3]) {
+    let mut found = LinuxRecord {
+        next: 0,
+        len: 0,
+        discarded: 0,
+        fault: 0,
+    };
+    let status = heskavo_linux_record(header, 8192, 4096, 3, &mut found);
+    (
+        status,
+        found.next,
+        [found.len, found.discarded, found.fault],
+    )
+}
+
+#[test]
+fn a_header_of_linux_is_read(rt: HostRuntime) {
+    let submitted = linux_record(0x4_0000_0014);
+    let busy = linux_record(0x4_8000_0014);
+    let other_page = linux_record(0x5_0000_0014);
+    assert_eq!(rt;
+        (submitted, busy.0, other_page),
+        ((DONE, 4128, [20, 0, 0]), MORE, (FAULT, 0, [0, 0, 2]))
     );
 }
 

@@ -1,6 +1,6 @@
 //! The library for C, and for what calls C: verification, explanation, costs and runs of eBPF programs that write into BPF ring buffers, and the records of
 //! tapes. Each export is a thin call of a proved crate, and says that crate's clauses again; what no C caller can be held to is tested, and told by a
-//! status (`status.rt`). Nothing is kept between calls, no lock is taken, and no thread is started. `include/heskavo_host.h` has the declarations.
+//! status (`status.rt`). Nothing is kept between calls but the engines that a caller opens and holds; no lock is taken, and no thread is started. `include/heskavo_host.h` has the declarations.
 //!
 //! A program is its bytes, eight a unit, as RFC 9669 lays them out. Memory comes of the caller's `malloc`, and goes back before a call returns.
 #![tactic(auto)]
@@ -8,9 +8,16 @@
 #[cfg(test)]
 mod calls;
 mod costing;
+mod engine_answers;
+#[cfg(test)]
+mod engine_calls;
+mod engine_handle;
+mod engine_programs;
+mod engine_records;
 mod explaining;
 mod linux_record;
 mod load;
+mod loose;
 mod outgoing;
 mod run_alone;
 mod run_tapes;
@@ -22,10 +29,16 @@ mod verifying;
 mod version;
 
 pub use costing::{ProgramCost, ProgramRingCost, heskavo_cost};
+pub use engine_answers::{RingCounts, heskavo_engine_counts, heskavo_engine_query};
+pub use engine_handle::EngineHandle;
+pub use engine_programs::{
+    heskavo_engine_close, heskavo_engine_load, heskavo_engine_open, heskavo_engine_run,
+};
+pub use engine_records::{TakenRecord, heskavo_engine_put, heskavo_engine_take};
 pub use explaining::heskavo_explain;
 pub use linux_record::{LinuxRecord, heskavo_linux_record};
 pub use running::heskavo_run;
-pub use status::{ARGUMENT, BROKEN, DONE, FAULT, MEMORY, MORE, REFUSED, ROOM};
+pub use status::{ARGUMENT, BROKEN, DONE, EMPTY, FAULT, FULL, MEMORY, MORE, REFUSED, ROOM};
 pub use tapes::{TapeRecord, heskavo_tape_next, heskavo_tape_put, heskavo_tape_put_discarded};
 pub use verdict::{BYTES, RULES, SHAPE, Verdict};
 pub use verifying::heskavo_verify;

@@ -23,3 +23,9 @@ pub const FAULT: u32 = 6;
 
 /// It is never answered: what a run leaves is always a tape, and all of it comes out. The number stays taken.
 pub const BROKEN: u32 = 7;
+
+/// The ring has no record. Nothing was written.
+pub const EMPTY: u32 = 8;
+
+/// The ring has no room for the record, and counts the refusal. Nothing was written.
+pub const FULL: u32 = 9;

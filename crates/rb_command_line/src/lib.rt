@@ -4,6 +4,7 @@
 //! reads and prints nothing.
 #![tactic(auto)]
 
+mod bounds;
 mod dispatch;
 mod options;
 mod progress;
@@ -11,5 +12,8 @@ mod reasons;
 mod refusal;
 mod request;
 mod sim_objects;
+mod taped_jobs;
+mod terminals;
 
 pub use dispatch::command;
+pub use terminals::Terminals;

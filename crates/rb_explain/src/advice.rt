@@ -41,7 +41,7 @@ pub(crate) fn shape_advice(kind: ShapeFaultKind) -> &'static str
 {
     match kind {
         ShapeFaultKind::Backward => {
-            "A jump leads backward. Programs here have no loops: unroll them (clang does so at -O2 where the count is a small constant)."
+            "A jump leads backward. If it closes a loop, unroll the loop: programs here have none, and clang unrolls one at -O2 if the count is a small constant. If it closes none, only the order of the instructions is wrong: tools/bpf-hex lays out such a program so that each jump leads forward."
         }
         ShapeFaultKind::OutOfProgram => {
             "A jump leads out of the program. Its distance counts units from the one behind the jump, and a wide instruction has two."

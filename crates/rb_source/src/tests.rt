@@ -1,5 +1,7 @@
 //! Pieces and lists with ample memory.
 
+mod framed_streams;
+
 use crate::listed::ListSource;
 use crate::piece::Piece;
 use crate::source::{Filled, Source};
