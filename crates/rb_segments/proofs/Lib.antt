@@ -1,5 +1,0 @@
-pub mod Directories
-pub mod RecordsHeld
-pub mod RecordsPut
-pub mod Restarting
-pub mod InMemory
