@@ -1,22 +1,20 @@
 -- The room rule by the bytes that were not taken, and by the jobs that they belong to.
-use Rattle.std.proofs.Common.{◌≡◌, inl, inr, ℕ, ◌+◌, ◌-◌, ◌*◌, ◌<◌, ◌≤◌, refl, sym, ◌∙◌, ap, subst, suc, cond, List, [], ◌∷◌, ◌++◌, length, get_or, arith, append_assoc}
+use Rattle.std.proofs.Common.{◌≡◌, inl, inr, ℕ, ◌+◌, ◌-◌, ◌*◌, ◌≤◌, refl, sym, ◌∙◌, ap, suc, cond, List, [], ◌∷◌, length, get_or, arith}
 use Rattle.std.proofs.Math.Nat.{mul-le-mul_right}
 use Rattle.std.specs.Prelude.{◌==◌}
-use Rattle.std.specs.List.{All, Contains, sum_by, count_by}
+use Rattle.std.specs.List.{All, Contains, sum_by}
 use Rattle.std.proofs.lemmas.Bool.{cases_eq, eq-eqb, ne_eqb}
 use Rattle.std.proofs.lemmas.List.Elements.{Contains-get_or}
 use Rattle.std.proofs.lemmas.List.Sums.{sum_by-cons, get_or-le-sum_by, sum_by-le}
 use Rattle.rb_history.specs.declared.entries.Entry.{Entry}
-use Rattle.rb_history.specs.declared.entries.Entry.TheVariants.{Res, Full, Sub, Dis, Take}
 use Rattle.rb_history.specs.Span.{span}
 use Rattle.rb_history.specs.History.{Shown, records, producer_of, consumer_of}
-use Rattle.rb_history.specs.Counting.{is_refusal_entry}
 use Rattle.rb_history.specs.Legal.{IsLegal}
-use Rattle.rb_history.specs.RoomRule.{Setup, HasRoomFor}
+use Rattle.rb_history.specs.RoomRule.{Setup}
 use Rattle.rb_history.specs.inner.RecordRows.{InRow}
-use Rattle.rb_history.proofs.Laws.{legal-front, kept-from-legal}
+use Rattle.rb_history.proofs.Laws.{kept-from-legal}
 use Rattle.rb_history.proofs.Lists.{sum_by-add}
-use Rattle.rb_cost.specs.RingSize.{untaken_bytes, IsBelowLimit, RoomIsLeft, AreOfJobs, NoneIsRefusedBehind, NoneIsRefused}
+use Rattle.rb_cost.specs.RingSize.{untaken_bytes, RoomIsLeft, AreOfJobs, NoneIsRefusedBehind}
 
 -- records that stand one behind the other reach as far as their spans
 row_sum : (from : ℕ) (ss : List Shown) (to : ℕ) → InRow from ss to → from + sum_by (λ s. span s.len) ss ≡ to
@@ -82,30 +80,3 @@ none_behind r h n workers behind most job jobs asking legal limit are few large 
     let within : untaken_bytes h + span n ≤ length jobs * most = within_jobs job jobs asking most n h are in
     let more : length jobs * most ≤ (behind + workers) * most = mul-le-mul_right most few in
     (room_left r h n legal limit).granted (omega arith)
-
-module _ (r : Setup) (h : List Entry) (workers behind most : ℕ) (legal : IsLegal r h) (large : (behind + workers) * most < r.size)
-    (premise : (before after : List Entry) (w n : ℕ) → h ≡ before ++ Full w n ∷ after → (job : Shown → ℕ) × (jobs : List ℕ) × (asking : ℕ) × IsBelowLimit r before n × AreOfJobs job jobs asking most before n × (length jobs ≤ behind + workers)) where
-  not_full : (before after : List Entry) (w n : ℕ) → h ≡ before ++ Full w n ∷ after → ⊥
-  not_full before after w n is =
-      let p = premise before after w n is in
-      let front : IsLegal r before = legal-front r before (Full w n ∷ after) (subst (IsLegal r) is legal) in
-      let room : HasRoomFor r before n = none_behind r before n workers behind most p.0 p.1 p.2 front p.3 p.4 p.5 large in
-      (legal.each before (Full w n) after is).1 room
-
-  -- no entry of the rest refuses a record
-  none_in : (before rest : List Entry) → h ≡ before ++ rest → count_by is_refusal_entry rest ≡ 0
-  none_in before [] is = refl
-  none_in before (e ∷ rest) is =
-      let further : h ≡ (before ++ e ∷ []) ++ rest = is ∙ sym (append_assoc before (e ∷ []) rest) in
-      let others : count_by is_refusal_entry rest ≡ 0 = none_in (before ++ e ∷ []) rest further in
-      sum_by-cons (λ x. cond (is_refusal_entry x) 1 0) e rest ∙ (ap (λ n. cond (is_refusal_entry e) 1 0 + n) others ∙ none_here e is)
-    where
-      none_here : (e : Entry) → h ≡ before ++ e ∷ rest → cond (is_refusal_entry e) 1 0 + 0 ≡ 0
-      none_here (Res w k n p) is = refl
-      none_here (Full w n) is = absurd (not_full before rest w n is)
-      none_here (Sub p) is = refl
-      none_here (Dis p) is = refl
-      none_here (Take p) is = refl
-
-pub none_refused : NoneIsRefused
-none_refused r h workers behind most legal large premise = none_in r h workers behind most legal large premise [] h refl

@@ -1,11 +1,9 @@
 -- How large a ring must be: when no record is refused for want of room.
-use Rattle.std.specs.Prelude.{◌≡◌, ℕ, ◌+◌, ◌-◌, ◌*◌, ◌<◌, ◌≤◌, ◌^◌, ◌==◌, nat_lt, List, [], ◌∷◌, ◌++◌, length, find, Option, Some, None, if◌then◌else◌}
-use Rattle.std.specs.List.{All, Contains, sum_by, count_by}
+use Rattle.std.specs.Prelude.{ℕ, ◌+◌, ◌-◌, ◌*◌, ◌<◌, ◌≤◌, ◌^◌, ◌==◌, nat_lt, List, [], ◌∷◌, length, find, Option, Some, None, if◌then◌else◌}
+use Rattle.std.specs.List.{All, Contains, sum_by}
 use Rattle.rb_history.specs.declared.entries.Entry.{Entry}
-use Rattle.rb_history.specs.declared.entries.Entry.TheVariants.{Full}
 use Rattle.rb_history.specs.Span.{span}
 use Rattle.rb_history.specs.History.{Shown, records, producer_of}
-use Rattle.rb_history.specs.Counting.{is_refusal_entry}
 use Rattle.rb_history.specs.Legal.{IsLegal}
 use Rattle.rb_history.specs.RingModel.{IsRingSize}
 use Rattle.rb_history.specs.RoomRule.{Setup, HasRoomFor}
@@ -43,14 +41,6 @@ abbrev pub NoneIsRefusedBehind : Type 0
 NoneIsRefusedBehind =
     (r : Setup) (h : List Entry) (n workers behind most : ℕ) (job : Shown → ℕ) (jobs : List ℕ) (asking : ℕ) → IsLegal r h → IsBelowLimit r h n
     → AreOfJobs job jobs asking most h n → length jobs ≤ behind + workers → (behind + workers) * most < r.size → HasRoomFor r h n
-
--- the same of all that a history refuses: where the jobs of each refused record were no more than those, none was refused
-abbrev pub NoneIsRefused : Type 0
-NoneIsRefused =
-    (r : Setup) (h : List Entry) (workers behind most : ℕ) → IsLegal r h → (behind + workers) * most < r.size
-    → ((before after : List Entry) (w n : ℕ) → h ≡ before ++ Full w n ∷ after
-    → (job : Shown → ℕ) × (jobs : List ℕ) × (asking : ℕ) × IsBelowLimit r before n × AreOfJobs job jobs asking most before n × (length jobs ≤ behind + workers))
-    → count_by is_refusal_entry h ≡ 0
 
 -- ---- the size to choose
 

@@ -1,6 +1,6 @@
 //! The laws on what runs cost, and on how large a ring must be.
 
-ghost use Rattle.rb_cost.specs.RingSize.{NoneIsRefused, NoneIsRefusedBehind, RoomIsLeft};
+ghost use Rattle.rb_cost.specs.RingSize.{NoneIsRefusedBehind, RoomIsLeft};
 ghost use Rattle.rb_cost.specs.RunMoments.{RunsHaveMoments};
 ghost use Rattle.rb_cost.specs.Runs.{RunsStayWithin};
 
@@ -22,9 +22,8 @@ pub fn room_is_what_is_left()
     ensures { RoomIsLeft }
 {}
 
-/// No record is refused for want of room where the ring has more bytes than the jobs ask for together whose records it may hold: those that the workers run,
-/// and those that the consumer is behind. Of one record, and of all that a history refuses.
+/// A record is not refused for want of room if the ring has more bytes than some jobs ask for together, and its untaken records and this one belong to these
+/// jobs: those that the workers run, and those by which the consumer is late.
 pub fn none_is_refused_behind()
-    ensures one { NoneIsRefusedBehind }
-    ensures all { NoneIsRefused }
+    ensures { NoneIsRefusedBehind }
 {}

@@ -3,6 +3,7 @@
 
 mod chapters;
 mod given;
+mod late_consumer;
 mod refused;
 mod runs;
 mod sheets;
