@@ -1,0 +1,119 @@
+-- Directories whose segments are known, through the calls of a store.
+use Rattle.std.proofs.Common.{◌≡◌, ℕ, List, [], ◌∷◌, ◌++◌, refl, sym, ap, ◌∙◌, subst, append_assoc, append-nil}
+use Rattle.std.specs.Prelude.{map, Option, None, Some, IfSome}
+use Rattle.std.specs.Io.KnownBytes.{Appends, Keeps}
+use Rattle.rb_history.specs.TapeBytes.{Item, end_of}
+use Rattle.rb_segments.specs.Segments.{Directory, HoldsRecords, Segment}
+use Rattle.rb_segments.specs.Known.{AddsSegment, HavePositions, IsOldest, RemovesOldest}
+use Rattle.rb_segments.specs.SegmentTape.{both, directory}
+use Rattle.rb_segments.specs.inner.Rolling.{DeletesOldest, KeepsRecords}
+use Rattle.rb_segments.proofs.RecordsHeld.{deletes, rolls}
+
+-- ---- what is known stays known
+
+pub bytes_kept : (bytes : List ℕ) (new : Option (List ℕ)) → Keeps (Some bytes) new → new ≡ Some bytes
+bytes_kept bytes None kept = absurd kept
+bytes_kept bytes (Some new) kept = ap Some kept
+
+pub bytes_added : (bytes more : List ℕ) (new : Option (List ℕ)) → Appends (Some bytes) new more → new ≡ Some (bytes ++ more)
+bytes_added bytes more None added = absurd added
+bytes_added bytes more (Some new) added = ap Some added
+
+pub some_of : {A : Type 0} (x y : A) → Some x ≡ Some y → x ≡ y
+some_of x y e = cc
+
+-- the parts of a known directory
+pub parts : (segments : Option (List Segment)) (bytes : Option (List ℕ)) (opened : ℕ) (known : Directory) → both segments bytes (directory opened) ≡ Some known
+    → (closed : List Segment) × (content : List ℕ) × (segments ≡ Some closed) × (bytes ≡ Some content) × (known ≡ directory opened closed content)
+parts None bytes opened known e = absurd (cc)
+parts (Some closed) None opened known e = absurd (cc)
+parts (Some closed) (Some content) opened known e = (closed, content, refl, refl, sym (some_of (directory opened closed content) known e))
+
+pub whole_of : (segments : Option (List Segment)) (bytes : Option (List ℕ)) (opened : ℕ) (closed : List Segment) (content : List ℕ) → segments ≡ Some closed → bytes ≡ Some content → both segments bytes (directory opened) ≡ Some (directory opened closed content)
+whole_of segments bytes opened closed content s b = ap (λ x. both x bytes (directory opened)) s ∙ ap (λ x. both (Some closed) x (directory opened)) b
+
+-- ---- records are kept
+
+pub keeps_same : (old new : Option Directory) (position : ℕ) → new ≡ old → KeepsRecords old position new
+keeps_same old new position same size start deleted d items known here holds =
+    ([], d, same ∙ known, subst (λ l. HoldsRecords size start l d items []) (sym (append-nil deleted)) holds)
+
+pub keeps_both : (old mid new : Option Directory) (position : ℕ) → KeepsRecords old position mid → KeepsRecords mid position new → KeepsRecords old position new
+keeps_both old mid new position one two size start deleted d items known here holds =
+    let first = one size start deleted d items known here holds in
+    let second = two size start (deleted ++ first.0) first.1 items first.2 here first.3 in
+    (first.0 ++ second.0, second.1, second.2, subst (λ l. HoldsRecords size start l second.1 items []) (append_assoc deleted first.0 second.0) second.3)
+
+-- nothing was closed
+pub keeps_parts : (old new : Option (List Segment)) (bytes after : Option (List ℕ)) (opened position : ℕ) → new ≡ old → Keeps bytes after → KeepsRecords (both old bytes (directory opened)) position (both new after (directory opened))
+keeps_parts old new bytes after opened position segments content size start deleted d items known here holds =
+    let p = parts old bytes opened d known in
+    let b = bytes_kept p.1 after (subst (λ x. Keeps x after) p.3 content) in
+    ([], d, whole_of new after opened p.0 p.1 (segments ∙ p.2) b ∙ ap Some (sym p.4), subst (λ l. HoldsRecords size start l d items []) (sym (append-nil deleted)) holds)
+
+-- the open segment was closed, and the next one created
+pub keeps_turned : (old closed : Option (List Segment)) (bytes out fresh : Option (List ℕ)) (opened position : ℕ) → Keeps bytes out → IfSome old (λ _. fresh ≡ Some []) → AddsSegment old opened out closed
+    → KeepsRecords (both old bytes (directory opened)) position (both closed fresh (directory position))
+keeps_turned old closed bytes out fresh opened position written empty added size start deleted d items known here holds =
+    let p = parts old bytes opened d known in
+    let b : out ≡ Some p.1 = bytes_kept p.1 out (subst (λ x. Keeps x out) p.3 written) in
+    let n : closed ≡ Some (p.0 ++ record { position = opened; bytes = p.1 } ∷ []) = subst (λ x. AddsSegment (Some p.0) opened x closed) b (subst (λ x. AddsSegment x opened out closed) p.2 added) in
+    let f : fresh ≡ Some [] = subst (λ x. IfSome x (λ _. fresh ≡ Some [])) p.2 empty in
+    let whole = rolls size start deleted p.0 opened p.1 items position here (subst (λ x. HoldsRecords size start deleted x items []) p.4 holds) in (
+      [],
+      directory position (p.0 ++ record { position = opened; bytes = p.1 } ∷ []) [],
+      whole_of closed fresh position (p.0 ++ record { position = opened; bytes = p.1 } ∷ []) [] n f,
+      subst (λ l. HoldsRecords size start l (directory position (p.0 ++ record { position = opened; bytes = p.1 } ∷ []) []) items []) (sym (append-nil deleted)) whole,
+    )
+
+-- some of the oldest segments were deleted
+pub keeps_deleted : (old new : Option (List Segment)) (bytes : Option (List ℕ)) (opened position : ℕ) → DeletesOldest old new → KeepsRecords (both old bytes (directory opened)) position (both new bytes (directory opened))
+keeps_deleted old new bytes opened position gone size start deleted d items known here holds =
+    let p = parts old bytes opened d known in
+    some_gone p.0 new (subst (λ x. DeletesOldest x new) p.2 gone) (subst (λ x. HoldsRecords size start deleted x items []) p.4 holds)
+  where
+    Goal : Option (List Segment) → Type 0
+    Goal after = (g : List Segment) × (e : Directory) × (both after bytes (directory opened) ≡ Some e) × HoldsRecords size start (deleted ++ g) e items []
+
+    some_gone : (closed : List Segment) (after : Option (List Segment)) → DeletesOldest (Some closed) after → HoldsRecords size start deleted (directory opened closed (parts old bytes opened d known).1) items [] → Goal after
+    some_gone closed None gone held = absurd gone
+    some_gone closed (Some left) gone held =
+        let content = (parts old bytes opened d known).1 in (
+          gone.0,
+          directory opened left content,
+          whole_of (Some left) bytes opened left content refl (parts old bytes opened d known).3,
+          deletes size start deleted gone.0 left opened content items [] (subst (λ l. HoldsRecords size start deleted (directory opened l content) items []) gone.1 held),
+        )
+
+-- ---- the oldest segments
+
+pub none_deleted : (segments : Option (List Segment)) → DeletesOldest segments segments
+none_deleted None = refl
+none_deleted (Some segments) = ([], refl)
+
+pub one_deleted : (old mid new : Option (List Segment)) → DeletesOldest old mid → RemovesOldest mid new → DeletesOldest old new
+one_deleted None None new so_far removed = removed
+one_deleted None (Some mid) new so_far removed = absurd (cc)
+one_deleted (Some old) None new so_far removed = absurd so_far
+one_deleted (Some old) (Some []) new so_far removed = absurd removed
+one_deleted (Some old) (Some (segment ∷ segments)) new so_far removed = subst (DeletesOldest (Some old)) (sym removed)
+    (so_far.0 ++ segment ∷ [], so_far.1 ∙ sym (append_assoc so_far.0 (segment ∷ []) segments))
+
+-- ---- the positions of closed segments
+
+-- the first position is that of the oldest
+pub oldest_is : (position : ℕ) (positions : List ℕ) (segments : Option (List Segment)) → HavePositions (position ∷ positions) segments → IsOldest position segments
+oldest_is position positions None have = tt
+oldest_is position positions (Some []) have = absurd (cc)
+oldest_is position positions (Some (segment ∷ segments)) have = cc
+
+pub positions_deleted : (position : ℕ) (positions : List ℕ) (old new : Option (List Segment)) → HavePositions (position ∷ positions) old → RemovesOldest old new → HavePositions positions new
+positions_deleted position positions None new have removed = subst (HavePositions positions) (sym removed) tt
+positions_deleted position positions (Some []) new have removed = absurd removed
+positions_deleted position positions (Some (segment ∷ segments)) new have removed = subst (HavePositions positions) (sym removed) (cc)
+
+pub positions_added : (position : ℕ) (positions : List ℕ) (bytes : Option (List ℕ)) (old new : Option (List Segment)) → HavePositions positions old → AddsSegment old position bytes new → HavePositions (positions ++ position ∷ []) new
+positions_added position positions bytes None new have added = subst (HavePositions (positions ++ position ∷ [])) (sym added) tt
+positions_added position positions None (Some segments) new have added = absurd added
+positions_added position positions (Some bytes) (Some segments) new have added =
+    subst (HavePositions (positions ++ position ∷ [])) (sym added) (map-append (λ (s : Segment). s.position) segments (record { position = position; bytes = bytes } ∷ []) ∙ ap (λ l. l ++ position ∷ []) have)

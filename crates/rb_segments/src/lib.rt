@@ -1,0 +1,26 @@
+//! The tape of a ring in segments: files of a directory, each a whole tape by itself, named by the position of its first record
+//! (`specs/Segments.antt`).
+#![tactic(auto)]
+
+mod directory_store;
+mod fault;
+mod memory_store;
+mod names;
+mod opening;
+mod plan;
+mod rolling;
+mod segment_file;
+mod store;
+mod stored;
+#[cfg(test)]
+mod tests;
+mod writer;
+
+pub use directory_store::DirectoryStore;
+pub use fault::{OpeningFault, SegmentFault};
+pub use memory_store::{MemoryFile, MemorySegment, MemoryStore};
+pub use plan::SegmentPlan;
+pub use segment_file::SegmentFile;
+pub use store::SegmentStore;
+pub use stored::StoredSegment;
+pub use writer::SegmentWriter;

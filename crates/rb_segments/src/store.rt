@@ -1,0 +1,56 @@
+//! Where segments are kept.
+
+ghost use Rattle.std.specs.Prelude.{◌≡◌, [], ℕ, List, Option, None, Some, IfOk, IfSome, OnErr, OnOk, map};
+ghost use Rattle.rb_segments.specs.Segments.{Segment};
+ghost use Rattle.rb_segments.specs.Known.{AddsSegment, IsNewest, IsOldest, RemovesOldest, Reopens, stored};
+
+use crate::stored::StoredSegment;
+use rb_io::{DeviceFault, Outgoing};
+use std::alloc::Global;
+
+/// Keeps segments, and creates those that are written. A segment that is being written is an `F`.
+pub trait SegmentStore<F: Outgoing> {
+    /// The closed segments, the oldest first, where they are known.
+    ghost segments: { Self → Option (List Segment) };
+
+    /// The segment that is written to this file was synced.
+    ghost is_synced: { Self → F → Type 0 };
+
+    /// Creates the segment of this position, which has no bytes yet.
+    fn create(&mut self, position: u64) -> Result<F, DeviceFault>
+        ensures segments { segments self.new ≡ segments self.old }
+        ensures empty { IfOk result (λ file. IfSome (segments self.old) (λ _. F.contents file ≡ Some [])) }
+        ensures synced { (file : F) → is_synced self.old file → is_synced self.new file };
+
+    /// Puts what was written to the file, of which nothing waits, onto the disk.
+    fn sync(&mut self, file: &F) -> Result<(), DeviceFault>
+        requires nothing_waits { F.waiting file.now ≡ [] }
+        ensures segments { segments self.new ≡ segments self.old }
+        ensures synced { OnOk result (is_synced self.new file.now) };
+
+    /// Counts the segment of this position, which was synced, among the closed ones. Nothing more is written to the file.
+    fn close(&mut self, position: u64, file: &F) -> Result<(), DeviceFault>
+        requires synced { is_synced self.old file.now }
+        ensures closed { OnOk result (AddsSegment (segments self.old) position (F.contents file.now) (segments self.new)) }
+        ensures kept { OnErr result (segments self.new ≡ segments self.old) };
+
+    /// Deletes the oldest closed segment, which has this position. Nothing changes at an error.
+    fn delete_oldest(&mut self, position: u64) -> Result<(), DeviceFault>
+        requires oldest { IsOldest position (segments self.old) }
+        ensures deleted { OnOk result (RemovesOldest (segments self.old) (segments self.new)) }
+        ensures kept { OnErr result (segments self.new ≡ segments self.old) };
+
+    /// Lists the closed segments, the oldest first.
+    fn list(&mut self, alloc: Global) -> Result<Vec<StoredSegment>, DeviceFault>
+        ensures segments { segments self.new ≡ segments self.old }
+        ensures listed { IfOk result (λ list. IfSome (segments self.old) (λ closed. list.items ≡ map stored closed)) };
+
+    /// Reads the newest closed segment, which has this position.
+    fn read_newest(&mut self, alloc: Global, position: u64) -> Result<Vec<u8>, DeviceFault>
+        ensures segments { segments self.new ≡ segments self.old }
+        ensures bytes { IfOk result (λ bytes. IfSome (segments self.old) (IsNewest bytes.items)) };
+
+    /// Opens the newest closed segment, which has this position, to write behind its first `length` bytes; the others are cut off.
+    fn reopen(&mut self, position: u64, length: u64) -> Result<F, DeviceFault>
+        ensures reopened { IfOk result (λ file. Reopens (segments self.old) length (F.contents file) (segments self.new)) };
+}

@@ -1,0 +1,188 @@
+//! Writing a ring's tape in segments.
+
+use crate::fault::SegmentFault;
+use crate::plan::SegmentPlan;
+use crate::rolling::{end, tend};
+use crate::store::SegmentStore;
+use rb_io::{DeviceFault, Outgoing};
+use rb_tape::{Item, TapeWriter};
+use std::alloc::Global;
+use std::collections::VecDeque;
+use std::marker::Model;
+
+/// Writes the records of a ring as a tape in segments.
+#[derive(Drop)]
+pub struct SegmentWriter<S: SegmentStore<F>, F: Outgoing + Drop> {
+    pub(crate) store: S,
+    // Writes the open segment.
+    pub(crate) tape: TapeWriter<F>,
+    // The positions of the closed segments, the oldest first.
+    pub(crate) closed: VecDeque<u64>,
+    // The position of the open segment.
+    pub(crate) opened: u64,
+    pub(crate) size: u64,
+    // The position of the oldest segment when the writer was made.
+    pub(crate) first: u64,
+    // Where the next record stands.
+    pub(crate) position: u64,
+    pub(crate) plan: SegmentPlan,
+    // What ended the tape.
+    pub(crate) fault: Option<SegmentFault>,
+    // How many records were not written since.
+    pub(crate) unwritten: u64,
+}
+
+impl<S: SegmentStore<F>, F: Outgoing + Drop> Model for SegmentWriter<S, F> {
+    ghost use Rattle.std.specs.Prelude.{◌≡◌, ◌≤◌, ◌*◌, None};
+    ghost use Rattle.rb_history.specs.RingModel.{IsRingSize};
+    ghost use Rattle.rb_segments.specs.Known.{HavePositions};
+    ghost use Rattle.rb_segments.specs.SegmentTape.{SegmentTape};
+
+    ghost Value = { SegmentTape S F };
+
+    ghost view = { λ t. record { store = t.store; writer = t.tape.writer; size = t.size; first = t.first; closed = t.closed.items; opened = t.opened; position = t.position; plan = t.plan; fault = t.fault; unwritten = t.unwritten } };
+
+    ghost invariant = { λ t. IsRingSize t.size × (t.tape.size ≡ t.size) × HavePositions t.closed.items (S.segments t.store) × (8 * t.unwritten ≤ t.position) × (t.fault ≡ None → (t.tape.position ≡ t.position) × (t.tape.unfinished ≡ None)) };
+}
+
+impl<S: SegmentStore<F>, F: Outgoing + Drop> SegmentWriter<S, F> {
+    ghost use Rattle.std.specs.Prelude.{◌≡◌, ◌≤◌, ◌<◌, ◌+◌, ◌^◌, ℕ, [], List, None, Some, IfNone, IfOk, IsSome};
+    ghost use Rattle.rb_history.specs.TapeBytes.{item_len, item_position, item_span, Item as TapeItem};
+    ghost use Rattle.rb_history.specs.RingModel.{IsRingSize, IsStartPosition};
+    ghost use Rattle.rb_tape.specs.Items.{item_of};
+    ghost use Rattle.rb_segments.specs.SegmentTape.{closed_after, HasEnded, HasWritten, kept, opened_after, WritesRecord};
+    ghost use Rattle.rb_segments.specs.Segments.{Segment};
+
+    /// Begins a tape in a directory without segments, whose first record stands at `start`: creates the segment of that position.
+    pub fn new(
+        alloc: Global,
+        mut store: S,
+        size: u64,
+        start: u64,
+        plan: SegmentPlan,
+    ) -> Result<SegmentWriter<S, F>, DeviceFault>
+    where
+        S: Drop,
+        requires size { IsRingSize size }
+        requires start { IsStartPosition start }
+        ensures nothing_written { IfOk result (λ t. S.segments store ≡ Some [] → HasWritten S.segments F.contents start [] [] t) }
+        ensures size { IfOk result (λ t. t.size ≡ size) }
+        ensures first { IfOk result (λ t. t.first ≡ start) }
+        ensures position { IfOk result (λ t. t.position ≡ start) }
+        ensures plan { IfOk result (λ t. t.plan ≡ plan) }
+        ensures fault { IfOk result (λ t. t.fault ≡ None) }
+    {
+        let file = store.create(start)?;
+        Ok(SegmentWriter {
+            store,
+            tape: TapeWriter::new(file, size, start),
+            closed: VecDeque::new(alloc),
+            opened: start,
+            size,
+            first: start,
+            position: start,
+            plan,
+            fault: None,
+            unwritten: 0,
+        })
+    }
+
+    /// Writes a record, which stands where the one before it ended. A fault ends the tape: from then on records are counted, and not written.
+    pub fn put(&mut self, item: &Item<'_>)
+        requires next { item_position (item_of item.now) ≡ self.old.position }
+        requires len { item_len (item_of item.now) < 2 ^ 32 }
+        requires end { self.old.position + item_span (item_of item.now) ≤ 2 ^ 62 }
+        ensures position { self.new.position ≡ self.old.position + item_span (item_of item.now) }
+        ensures written { WritesRecord S.segments F.contents self.old (item_of item.now) self.new }
+        ensures opened { IfNone self.new.fault (self.new.opened ≡ opened_after self.old.plan self.old.opened self.new.position) }
+        ensures closed { IfNone self.new.fault (self.new.closed ≡ kept self.old.plan.keep self.new.position (closed_after self.old.plan self.old.closed self.old.opened self.new.position)) }
+        ensures first_fault { IsSome self.old.fault → self.new.fault ≡ self.old.fault }
+        ensures size { self.new.size ≡ self.old.size }
+        ensures first { self.new.first ≡ self.old.first }
+        ensures plan { self.new.plan ≡ self.old.plan }
+    {
+        let span = item.span();
+        self.position += span;
+        if self.fault.is_some() {
+            self.unwritten += 1;
+            return;
+        }
+        if span >= self.size {
+            self.unwritten += 1;
+            self.fault = Some(SegmentFault::TooLong);
+            return;
+        }
+        if self.tape.put(item).is_err() {
+            self.unwritten += 1;
+            self.fault = Some(SegmentFault::Write);
+            return;
+        }
+        self.fault = tend(
+            &mut self.store,
+            &mut self.tape,
+            &mut self.closed,
+            &mut self.opened,
+            self.size,
+            self.plan,
+        )
+        .err();
+    }
+
+    /// Hands on what waits in the open segment's file. A fault ends the tape.
+    pub fn write_out(&mut self)
+        ensures holds { (start : ℕ) (deleted : List Segment) (items : List TapeItem) → HasWritten S.segments F.contents start deleted items self.old → HasWritten S.segments F.contents start deleted items self.new }
+        ensures nothing_waits { IfNone self.new.fault (F.waiting self.new.writer ≡ []) }
+        ensures first_fault { IsSome self.old.fault → self.new.fault ≡ self.old.fault }
+        ensures rest { self.new ≡ record self.old { writer = self.new.writer; fault = self.new.fault } }
+    {
+        if self.fault.is_none() && self.tape.write_out().is_err() {
+            self.fault = Some(SegmentFault::Write);
+        }
+    }
+
+    /// Ends the tape in order: hands on what waits, and syncs and closes the open segment. Returns the store, and what ended the tape before that.
+    pub fn finish(mut self) -> (S, Option<SegmentFault>)
+        ensures whole { (start : ℕ) (deleted : List Segment) (items : List TapeItem) → HasWritten S.segments F.contents start deleted items self → result.1 ≡ None → HasEnded S.segments self.size start deleted items result.0 }
+        ensures first_fault { IsSome self.fault → result.1 ≡ self.fault }
+    {
+        self.write_out();
+        let SegmentWriter {
+            mut store,
+            tape,
+            closed: _,
+            opened,
+            size: _,
+            first: _,
+            position: _,
+            plan: _,
+            fault,
+            unwritten: _,
+        } = self;
+        if fault.is_some() {
+            return (store, fault);
+        }
+        let fault = end(&mut store, tape.writer(), opened).err();
+        (store, fault)
+    }
+
+    /// Returns the position of the next record.
+    pub fn position(&self) -> u64
+        ensures value { result ≡ self.now.position }
+    {
+        self.position
+    }
+
+    /// Returns what ended the tape.
+    pub fn fault(&self) -> Option<SegmentFault>
+        ensures value { result ≡ self.now.fault }
+    {
+        self.fault
+    }
+
+    /// Returns how many records were not written, or not whole, since a fault ended the tape.
+    pub fn unwritten(&self) -> u64
+        ensures value { result ≡ self.now.unwritten }
+    {
+        self.unwritten
+    }
+}
