@@ -6,7 +6,7 @@ use std::alloc::{AllocError, Global};
 const DIGITS: usize = 20;
 
 /// Returns the path of the segment of this position: `FOLDER/RING.POSITION.tape`, the position in 20 digits.
-pub(crate) fn segment_path(
+pub fn segment_path(
     alloc: Global,
     folder: &str,
     ring: &str,

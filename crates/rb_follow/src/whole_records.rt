@@ -1,0 +1,32 @@
+//! Where whole records end among bytes of a segment.
+
+ghost use Rattle.std.specs.Prelude.{◌≤◌, length};
+
+use rb_history::{Header, span};
+
+/// How far the record at the front of these bytes reaches, or `None` if they have no header that a record may have.
+pub(crate) fn front_span(bytes: &[u8]) -> Option<u64> {
+    if bytes.len() < 8 {
+        return None;
+    }
+    let mut front = [0; 8];
+    front.copy_from_slice(&bytes[..8]);
+    match Header::from_bytes(&front) {
+        Ok(header) => Some(span(header.len)),
+        Err(_) => None,
+    }
+}
+
+/// How many bytes at the front are whole records.
+pub(crate) fn whole_length(bytes: &[u8]) -> usize
+    ensures { result ≤ length bytes.now }
+{
+    let mut rest = bytes;
+    while let Some(span) = front_span(rest) {
+        if span > rest.len() as u64 {
+            break;
+        }
+        rest = &rest[span as usize..];
+    }
+    bytes.len() - rest.len()
+}
