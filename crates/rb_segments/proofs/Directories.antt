@@ -1,13 +1,42 @@
 -- Directories whose segments are known, through the calls of a store.
-use Rattle.std.proofs.Common.{◌≡◌, ℕ, List, [], ◌∷◌, ◌++◌, refl, sym, ap, ◌∙◌, subst, append_assoc, append-nil}
-use Rattle.std.specs.Prelude.{map, Option, None, Some, IfSome}
+use Rattle.std.proofs.Common.{◌≡◌, ℕ, ◌-◌, ◌<◌, arith, List, [], ◌∷◌, ◌++◌, refl, sym, ap, ◌∙◌, subst, append_assoc, append-nil}
+use Rattle.std.specs.Prelude.{map, nat_lt, not, if◌then◌else◌, option_to_list, slice_index_or, Bool, true, false, IsSome, is_some, Option, None, Some, IfSome, Result, Ok, Err, OnOk, is_err}
+use Rattle.std.specs.Result.{result_err}
+use Rattle.std.proofs.lemmas.Bool.{false≢true, true≢false}
+use Rattle.std.proofs.lemmas.Bool.Decides.{nat_tests}
+use Rattle.std.proofs.lemmas.List.{map-append}
 use Rattle.std.specs.Io.KnownBytes.{Appends, Keeps}
 use Rattle.rb_history.specs.TapeBytes.{Item, end_of}
 use Rattle.rb_segments.specs.Segments.{Directory, HoldsRecords, Segment}
 use Rattle.rb_segments.specs.Known.{AddsSegment, HavePositions, IsOldest, RemovesOldest}
-use Rattle.rb_segments.specs.SegmentTape.{both, directory}
+use Rattle.rb_segments.specs.SegmentTape.{both, directory, kept}
 use Rattle.rb_segments.specs.inner.Rolling.{DeletesOldest, KeepsRecords}
 use Rattle.rb_segments.proofs.RecordsHeld.{deletes, rolls}
+
+-- ---- what a call answered
+
+pub on_ok : {T E : Type 0} (r : Result T E) (P : Type 0) (failed : Bool) → OnOk r P → failed ≡ is_err r → failed ≡ false → P
+on_ok (Ok x) P failed holds is sound = holds
+on_ok (Err x) P failed holds is sound = absurd (true≢false (sym is ∙ sound))
+
+pub on_no_error : {T E : Type 0} (r : Result T E) (P : Type 0) → OnOk r P → result_err r ≡ None → P
+on_no_error (Ok x) P holds none = holds
+on_no_error (Err e) P holds none = absurd (cc)
+
+-- a fault that is there, or not
+pub no_fault : {A : Type 0} (fault : Option A) (there : Bool) → there ≡ is_some fault → there ≡ false → fault ≡ None
+no_fault None there is none = refl
+no_fault (Some x) there is none = absurd (true≢false (sym is ∙ none))
+
+pub some_fault : {A : Type 0} (fault : Option A) (there : Bool) → there ≡ is_some fault → there ≡ true → fault ≡ None → ⊥
+some_fault None there is some none = true≢false (sym some ∙ is)
+some_fault (Some x) there is some none = cc
+
+pub not_none : {A : Type 0} (x : A) → Some x ≡ None → ⊥
+not_none x e = cc
+
+pub moved_on : (position before after : ℕ) (ok failed : Bool) → position ≡ (if ok then after else before) → ok ≡ not failed → failed ≡ false → position ≡ after
+moved_on position before after ok failed is e sound = is ∙ ap (λ b. if b then after else before) (e ∙ ap not sound)
 
 -- ---- what is known stays known
 
@@ -117,3 +146,22 @@ positions_added position positions bytes None new have added = subst (HavePositi
 positions_added position positions None (Some segments) new have added = absurd added
 positions_added position positions (Some bytes) (Some segments) new have added =
     subst (HavePositions (positions ++ position ∷ [])) (sym added) (map-append (λ (s : Segment). s.position) segments (record { position = position; bytes = bytes } ∷ []) ∙ ap (λ l. l ++ position ∷ []) have)
+
+pub none_yet : (segments : Option (List Segment)) → IfSome segments (λ closed. closed ≡ []) → HavePositions [] segments
+none_yet None fresh = tt
+none_yet (Some closed) fresh = ap (map (λ s. s.position)) fresh
+
+-- ---- which of the oldest go
+
+pub first_is : (items rest : List ℕ) (popped : Option ℕ) (oldest : ℕ) → items ≡ option_to_list popped ++ rest → IsSome popped → oldest ≡ slice_index_or items 0 oldest → items ≡ oldest ∷ rest
+first_is items rest None oldest is some first = absurd (false≢true some)
+first_is items rest (Some x) oldest is some first =
+    let here : oldest ≡ x = first ∙ ap (λ l. slice_index_or l 0 oldest) is in
+    is ∙ ap (λ n. n ∷ rest) (sym here)
+
+pub kept_on : (keep position oldest : ℕ) (items rest : List ℕ) → items ≡ oldest ∷ rest → keep < position - oldest → kept keep position items ≡ kept keep position rest
+kept_on keep position oldest items rest is beyond =
+    ap (kept keep position) is ∙ ap (λ b. if b then kept keep position rest else oldest ∷ rest) (is_beyond keep (position - oldest) beyond)
+  where
+    is_beyond : (a b : ℕ) → a < b → nat_lt a b ≡ true
+    is_beyond a b h = grind (arith, nat_tests)

@@ -1,3 +1,4 @@
 pub mod Directories
 pub mod RecordsHeld
 pub mod RecordsPut
+pub mod Restarting

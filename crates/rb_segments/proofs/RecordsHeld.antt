@@ -53,24 +53,27 @@ module _ (size start : ℕ) (deleted closed : List Segment) (opened : ℕ) (byte
     text = ap (λ l. l ++ part) (h.text ∙ append-nil (tape size h.in_open));
   }
 
-  -- the open segment is closed, and the next one has no bytes yet
-  pub rolls : (position : ℕ) → end_of start items ≡ position → HoldsRecords size start deleted (directory opened closed bytes) items []
-      → HoldsRecords size start deleted (directory position (closed ++ record { position = opened; bytes = bytes } ∷ []) []) items []
-  rolls position here h =
+  -- once the open segment is closed, the closed ones hold all records
+  pub all_closed : HoldsRecords size start deleted (directory opened closed bytes) items [] → AreSegmentsOf size start (deleted ++ (closed ++ record { position = opened; bytes = bytes } ∷ [])) items
+  all_closed h =
       let newest : Segment = record { position = opened; bytes = bytes } in
       let whole : IsTapeOf size newest h.in_open = record { stand = h.stand; text = h.text ∙ append-nil (tape size h.in_open) } in
       let all = closes size start (deleted ++ closed) h.in_closed newest h.in_open h.closed_hold h.named whole in
-      record {
-        in_closed = items;
-        in_open = [];
-        items_are = sym (append-nil items);
-        closed_hold =
-            subst (λ l. AreSegmentsOf size start l items) (append_assoc deleted closed (newest ∷ []))
-            (subst (AreSegmentsOf size start ((deleted ++ closed) ++ newest ∷ [])) (sym h.items_are) all);
-        named = sym here;
-        stand = tt;
-        text = refl;
-      }
+      subst (λ l. AreSegmentsOf size start l items) (append_assoc deleted closed (newest ∷ []))
+      (subst (AreSegmentsOf size start ((deleted ++ closed) ++ newest ∷ [])) (sym h.items_are) all)
+
+  -- the open segment is closed, and the next one has no bytes yet
+  pub rolls : (position : ℕ) → end_of start items ≡ position → HoldsRecords size start deleted (directory opened closed bytes) items []
+      → HoldsRecords size start deleted (directory position (closed ++ record { position = opened; bytes = bytes } ∷ []) []) items []
+  rolls position here h = record {
+    in_closed = items;
+    in_open = [];
+    items_are = sym (append-nil items);
+    closed_hold = all_closed h;
+    named = sym here;
+    stand = tt;
+    text = refl;
+  }
 
 -- some of the oldest segments are deleted
 pub deletes : (size start : ℕ) (deleted gone closed : List Segment) (opened : ℕ) (bytes : List ℕ) (items : List Item) (part : List ℕ) → HoldsRecords size start deleted (directory opened (gone ++ closed) bytes) items part

@@ -1,15 +1,24 @@
 -- What a writer of segments has written, record by record.
-use Rattle.std.proofs.Common.{◌≡◌, ℕ, ◌+◌, List, [], ◌∷◌, ◌++◌, length, take, drop, refl, sym, ap, ◌∙◌, subst, append_assoc, append-nil, arith, take-append-drop, length-append}
+use Rattle.std.proofs.Common.{◌≡◌, ℕ, ◌+◌, ◌^◌, ◌<◌, ◌≤◌, List, [], ◌∷◌, ◌++◌, length, take, drop, refl, sym, ap, ◌∙◌, subst, append_assoc, append-nil, arith, take-append-drop, length-append}
 use Rattle.std.specs.Prelude.{Option, None, Some}
 use Rattle.std.proofs.lemmas.List.{take_all}
 use Rattle.std.specs.Io.KnownBytes.{Appends}
-use Rattle.rb_history.specs.TapeBytes.{Item, item_bytes, item_span, tape, IsItemAt, end_of}
+use Rattle.rb_history.specs.TapeBytes.{Item, item_bytes, item_position, item_span, tape, IsItemAt, end_of}
+use Rattle.rb_history.specs.RingModel.{IsRingSize}
 use Rattle.rb_history.proofs.HeaderLaws.{length-item_bytes, tape-append, end_of-nil, end_of-cons, end_of-append}
 use Rattle.rb_segments.specs.Segments.{Directory, HoldsRecords, Segment}
-use Rattle.rb_segments.specs.SegmentTape.{SegmentTape, HasWritten, both, directory, directory_at, directory_of}
+use Rattle.rb_segments.specs.SegmentTape.{SegmentTape, HasEnded, HasWritten, both, directory, directory_at, directory_of}
+use Rattle.rb_segments.specs.Known.{AddsSegment}
 use Rattle.rb_segments.specs.inner.Rolling.{KeepsRecords}
 use Rattle.rb_segments.proofs.Directories.{bytes_added, parts, whole_of}
-use Rattle.rb_segments.proofs.RecordsHeld.{breaks, grows}
+use Rattle.rb_segments.proofs.RecordsHeld.{all_closed, breaks, grows}
+
+-- a record that the ring may have granted stands here
+pub item_stands : (size position len : ℕ) (item : Item) → IsRingSize size → item_position item ≡ position → len ≡ item_span item → len < size → position + item_span item ≤ 2 ^ 62 → IsItemAt size position item
+item_stands size position len item ring here span fits end =
+    let most = ring.2 in
+    let short : item_span item < size = omega arith in
+    record { here = here; has_header = omega arith; has_fitted = short; bounded = end }
 
 front_empty : (xs ys : List ℕ) → xs ++ ys ≡ [] → xs ≡ []
 front_empty [] ys e = refl
@@ -126,3 +135,42 @@ module _ {S F : Type 0} (segments : S → Option (List Segment)) (contents : F �
             counted = same ∙ (h.counted ∙ ap length (h.all sound));
           },
         )
+
+module _ {S F : Type 0} (segments : S → Option (List Segment)) (contents : F → Option (List ℕ)) (start : ℕ) (t : SegmentTape S F) (sound : t.fault ≡ None) where
+  -- before the first record
+  pub nothing_written : segments t.store ≡ Some [] → contents t.writer ≡ Some [] → t.opened ≡ start → t.position ≡ start → t.unwritten ≡ 0 → HasWritten segments contents start [] [] t
+  nothing_written none empty at here zero = record {
+    directory = directory t.opened [] [];
+    known = whole_of (segments t.store) (contents t.writer) t.opened [] [] none empty;
+    whole = [];
+    left = [];
+    items_are = refl;
+    part = [];
+    missing = [];
+    holds = record {
+      in_closed = [];
+      in_open = [];
+      items_are = refl;
+      closed_hold = refl;
+      named = at ∙ sym (end_of-nil start);
+      stand = tt;
+      text = refl;
+    };
+    cut = refl;
+    position = here ∙ sym (end_of-nil start);
+    all = λ _. refl;
+    counted = zero;
+  }
+
+  -- the open segment is closed at the end
+  pub ends_whole : (deleted : List Segment) (items : List Item) (store : S) → AddsSegment (segments t.store) t.opened (contents t.writer) (segments store) → HasWritten segments contents start deleted items t → HasEnded segments t.size start deleted items store
+  ends_whole deleted items store added h =
+      let p = parts (segments t.store) (contents t.writer) t.opened h.directory h.known in
+      let kept : segments store ≡ Some (p.0 ++ record { position = t.opened; bytes = p.1 } ∷ []) =
+      subst (λ x. AddsSegment (Some p.0) t.opened x (segments store)) p.3 (subst (λ x. AddsSegment x t.opened (contents t.writer) (segments store)) p.2 added) in
+      let no_part : h.part ≡ [] = front_empty h.part h.missing (h.cut ∙ ap (tape t.size) (h.all sound)) in
+      let whole : items ≡ h.whole = h.items_are ∙ (ap (λ l. h.whole ++ l) (h.all sound) ∙ append-nil h.whole) in
+      let held : HoldsRecords t.size start deleted (directory t.opened p.0 p.1) items [] =
+      subst (λ d. HoldsRecords t.size start deleted d items []) p.4
+      (subst (λ l. HoldsRecords t.size start deleted h.directory l []) (sym whole) (subst (HoldsRecords t.size start deleted h.directory h.whole) no_part h.holds)) in
+      (p.0 ++ record { position = t.opened; bytes = p.1 } ∷ [], kept, all_closed t.size start deleted p.0 t.opened p.1 items held)

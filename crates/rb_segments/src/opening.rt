@@ -1,8 +1,8 @@
 //! Opening a store: a new tape, or one that goes on where the last one ended.
 
-ghost use Rattle.std.specs.Prelude.{◌≡◌, ◌≤◌, ◌+◌, ◌^◌, [], None, Some, IfOk, IfSome, map};
+ghost use Rattle.std.specs.Prelude.{◌≡◌, [], ◌∷◌, ◌++◌, None, Some, IfOk, OnOk, map};
 ghost use Rattle.rb_history.specs.RingModel.{IsRingSize, IsStartPosition};
-ghost use Rattle.rb_segments.specs.Known.{stored};
+ghost use Rattle.rb_segments.specs.Known.{HavePositions};
 ghost use Rattle.rb_segments.specs.SegmentTape.{HasWritten};
 ghost use Rattle.rb_segments.specs.Restart.{EndsAt, Resumes};
 
@@ -58,7 +58,14 @@ fn resume<S: SegmentStore<F> + Drop, F: Outgoing + Drop>(
     plan: SegmentPlan,
     opened: u64,
     older: &[StoredSegment],
-) -> Result<SegmentWriter<S, F>, OpeningFault> {
+) -> Result<SegmentWriter<S, F>, OpeningFault>
+    requires size { IsRingSize size }
+    requires positions { HavePositions (map (λ s. s.position) older.now ++ opened ∷ []) (S.segments store) }
+    ensures resumed { IfOk result (λ t. Resumes S.segments F.contents size store t) }
+    ensures size { IfOk result (λ t. t.size ≡ size) }
+    ensures plan { IfOk result (λ t. t.plan ≡ plan) }
+    ensures fault { IfOk result (λ t. t.fault ≡ None) }
+{
     let closed = positions(alloc, older)?;
     let Ok(bytes) = store.read_newest(alloc, opened) else {
         return Err(OpeningFault::Device);

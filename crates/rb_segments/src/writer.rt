@@ -46,7 +46,7 @@ impl<S: SegmentStore<F>, F: Outgoing + Drop> Model for SegmentWriter<S, F> {
 }
 
 impl<S: SegmentStore<F>, F: Outgoing + Drop> SegmentWriter<S, F> {
-    ghost use Rattle.std.specs.Prelude.{◌≡◌, ◌≤◌, ◌<◌, ◌+◌, ◌^◌, ℕ, [], List, None, Some, IfNone, IfOk, IsSome};
+    ghost use Rattle.std.specs.Prelude.{◌≡◌, ◌≤◌, ◌<◌, ◌+◌, ◌^◌, ℕ, [], List, None, Some, IfNone, IfOk, IfSome, IsSome};
     ghost use Rattle.rb_history.specs.TapeBytes.{item_len, item_position, item_span, Item as TapeItem};
     ghost use Rattle.rb_history.specs.RingModel.{IsRingSize, IsStartPosition};
     ghost use Rattle.rb_tape.specs.Items.{item_of};
@@ -65,6 +65,7 @@ impl<S: SegmentStore<F>, F: Outgoing + Drop> SegmentWriter<S, F> {
         S: Drop,
         requires size { IsRingSize size }
         requires start { IsStartPosition start }
+        requires fresh { IfSome (S.segments store) (λ closed. closed ≡ []) }
         ensures nothing_written { IfOk result (λ t. S.segments store ≡ Some [] → HasWritten S.segments F.contents start [] [] t) }
         ensures size { IfOk result (λ t. t.size ≡ size) }
         ensures first { IfOk result (λ t. t.first ≡ start) }
