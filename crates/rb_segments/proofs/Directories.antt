@@ -6,7 +6,6 @@ use Rattle.std.proofs.lemmas.Bool.{false≢true, true≢false}
 use Rattle.std.proofs.lemmas.Bool.Decides.{nat_tests}
 use Rattle.std.proofs.lemmas.List.{map-append}
 use Rattle.std.specs.Io.KnownBytes.{Appends, Keeps}
-use Rattle.rb_history.specs.TapeBytes.{Item, end_of}
 use Rattle.rb_segments.specs.Segments.{Directory, HoldsRecords, Segment}
 use Rattle.rb_segments.specs.Known.{AddsSegment, HavePositions, IsOldest, RemovesOldest}
 use Rattle.rb_segments.specs.SegmentTape.{both, directory, kept}

@@ -1,9 +1,8 @@
 -- Records that a directory holds, as records are written, segments closed and the oldest ones deleted.
-use Rattle.std.proofs.Common.{◌≡◌, ℕ, ◌+◌, List, [], ◌∷◌, ◌++◌, refl, sym, ap, ◌∙◌, subst, append_assoc, append-nil}
-use Rattle.std.specs.Prelude.{Option, Some}
-use Rattle.rb_history.specs.TapeBytes.{Item, item_bytes, tape, IsItemAt, AreItemsFrom, end_of}
+use Rattle.std.proofs.Common.{◌≡◌, ℕ, List, [], ◌∷◌, ◌++◌, refl, sym, ap, ◌∙◌, subst, append_assoc, append-nil}
+use Rattle.rb_history.specs.TapeBytes.{Item, item_bytes, tape, IsItemAt, end_of}
 use Rattle.rb_history.proofs.HeaderLaws.{tape-append, end_of-nil, end_of-append, AreItemsFrom-push}
-use Rattle.rb_segments.specs.Segments.{AreSegmentsOf, Directory, HoldsRecords, IsTapeOf, Segment}
+use Rattle.rb_segments.specs.Segments.{AreSegmentsOf, HoldsRecords, IsTapeOf, Segment}
 use Rattle.rb_segments.specs.SegmentTape.{directory}
 
 -- one more closed segment

@@ -6,7 +6,7 @@ use Rattle.std.specs.Io.KnownBytes.{Appends}
 use Rattle.rb_history.specs.TapeBytes.{Item, item_bytes, item_position, item_span, tape, IsItemAt, end_of}
 use Rattle.rb_history.specs.RingModel.{IsRingSize}
 use Rattle.rb_history.proofs.HeaderLaws.{length-item_bytes, tape-append, end_of-nil, end_of-cons, end_of-append}
-use Rattle.rb_segments.specs.Segments.{Directory, HoldsRecords, Segment}
+use Rattle.rb_segments.specs.Segments.{HoldsRecords, Segment}
 use Rattle.rb_segments.specs.SegmentTape.{SegmentTape, HasEnded, HasWritten, both, directory, directory_at, directory_of}
 use Rattle.rb_segments.specs.Known.{AddsSegment}
 use Rattle.rb_segments.specs.inner.Rolling.{KeepsRecords}

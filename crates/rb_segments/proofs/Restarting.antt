@@ -1,16 +1,16 @@
 -- What a tape that goes on after a restart has written.
-use Rattle.std.proofs.Common.{◌≡◌, ℕ, ◌+◌, ◌-◌, ◌<◌, ◌≤◌, List, [], ◌∷◌, ◌++◌, length, take, refl, sym, ap, ◌∙◌, subst, append-nil, arith, length-append}
+use Rattle.std.proofs.Common.{◌≡◌, ℕ, ◌+◌, List, [], ◌∷◌, ◌++◌, length, take, refl, sym, ap, ◌∙◌, subst, append-nil, arith, length-append}
 use Rattle.std.specs.Prelude.{map, Option, None, Some, IfSome}
 use Rattle.std.proofs.lemmas.List.{map-append}
 use Rattle.std.proofs.Math.Seq.{take-append_seam}
-use Rattle.rb_history.specs.TapeBytes.{Item, tape, AreItemsFrom, end_of}
+use Rattle.rb_history.specs.TapeBytes.{tape, AreItemsFrom, end_of}
 use Rattle.rb_history.proofs.HeaderLaws.{end_of-tape, end_of-append}
 use Rattle.rb_tape.specs.declared.fault.TapeFault.{TapeFault}
 use Rattle.rb_tape.specs.LongestTape.{IsReadThrough}
-use Rattle.rb_segments.specs.Segments.{AreSegmentsOf, Segment}
+use Rattle.rb_segments.specs.Segments.{Segment}
 use Rattle.rb_segments.specs.Known.{HavePositions, IsNewest, Reopens, stored}
 use Rattle.rb_segments.specs.declared.stored.StoredSegment.{StoredSegment}
-use Rattle.rb_segments.specs.SegmentTape.{SegmentTape, HasWritten, directory}
+use Rattle.rb_segments.specs.SegmentTape.{SegmentTape, directory}
 use Rattle.rb_segments.specs.Restart.{AreWholeRecords, EndsAt, Resumes}
 use Rattle.rb_segments.proofs.Directories.{whole_of}
 

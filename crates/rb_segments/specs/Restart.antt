@@ -1,5 +1,5 @@
 -- A tape in segments that goes on where it was cut off (own).
-use Rattle.std.specs.Prelude.{ℕ, ◌≡◌, ◌+◌, ◌≤◌, List, [], ◌∷◌, ◌++◌, length, Option, Some}
+use Rattle.std.specs.Prelude.{ℕ, ◌≡◌, ◌+◌, List, [], ◌∷◌, ◌++◌, Option, Some}
 use Rattle.rb_history.specs.TapeBytes.{Item, end_of}
 use Rattle.rb_tape.specs.LongestTape.{IsTapeAndRest, IsLongestList}
 use Rattle.rb_segments.specs.Segments.{AreSegmentsOf, Segment}

@@ -1,5 +1,5 @@
 -- A ring's tape that is written in segments: what its writer is, and what a call leaves (own).
-use Rattle.std.specs.Prelude.{ℕ, ◌≡◌, ◌+◌, ◌-◌, ◌%◌, ◌^◌, ◌==◌, ◌&&◌, Bool, nat_le, nat_lt, if◌then◌else◌, List, [], ◌∷◌, ◌++◌, length, Option, None, Some}
+use Rattle.std.specs.Prelude.{ℕ, ◌≡◌, ◌-◌, ◌%◌, ◌^◌, ◌==◌, ◌&&◌, Bool, nat_le, nat_lt, if◌then◌else◌, List, [], ◌∷◌, ◌++◌, length, Option, None, Some}
 use Rattle.rb_history.specs.TapeBytes.{Item, end_of, tape}
 use Rattle.rb_segments.specs.Segments.{AreSegmentsOf, Directory, HoldsRecords, Segment}
 use Rattle.rb_segments.specs.declared.fault.SegmentFault.{SegmentFault}

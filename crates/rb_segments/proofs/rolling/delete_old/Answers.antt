@@ -1,4 +1,4 @@
-use Rattle.std.proofs.Common.{◌<◌, ◌-◌, ◌∙◌, refl, subst}
+use Rattle.std.proofs.Common.{◌<◌, ◌∙◌, refl, subst}
 use Rattle.rb_segments.specs.Known.{HavePositions}
 use Rattle.rb_segments.proofs.Directories.{first_is, kept_on, on_ok, one_deleted, positions_deleted}
 use Rattle.rb_segments.proofs.rolling.delete_old.Goals as goal
