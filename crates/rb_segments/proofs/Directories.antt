@@ -1,5 +1,5 @@
 -- Directories whose segments are known, through the calls of a store.
-use Rattle.std.proofs.Common.{◌≡◌, ℕ, ◌-◌, ◌<◌, arith, List, [], ◌∷◌, ◌++◌, refl, sym, ap, ◌∙◌, subst, append_assoc, append-nil}
+use Rattle.std.proofs.Common.{◌≡◌, ℕ, ◌-◌, ◌<◌, arith, List, [], ◌∷◌, ◌++◌, refl, sym, ap, ◌∙◌, subst, append_assoc, append-nil, length}
 use Rattle.std.specs.Prelude.{map, nat_lt, not, if◌then◌else◌, option_to_list, slice_index_or, Bool, true, false, IsSome, is_some, Option, None, Some, IfSome, Result, Ok, Err, OnOk, is_err}
 use Rattle.std.specs.Result.{result_err}
 use Rattle.std.proofs.lemmas.Bool.{false≢true, true≢false}
@@ -7,7 +7,7 @@ use Rattle.std.proofs.lemmas.Bool.Decides.{nat_tests}
 use Rattle.std.proofs.lemmas.List.{map-append}
 use Rattle.std.specs.Io.KnownBytes.{Appends, Keeps}
 use Rattle.rb_segments.specs.Segments.{Directory, HoldsRecords, Segment}
-use Rattle.rb_segments.specs.Known.{AddsSegment, HavePositions, IsOldest, RemovesOldest}
+use Rattle.rb_segments.specs.Known.{AddsSegment, ClosesFirst, Creates, HavePositions, IsFirstCreated, IsOldest, IsOnlyCreated, RemovesOldest}
 use Rattle.rb_segments.specs.SegmentTape.{both, directory, kept}
 use Rattle.rb_segments.specs.inner.Rolling.{DeletesOldest, KeepsRecords}
 use Rattle.rb_segments.proofs.RecordsHeld.{deletes, rolls}
@@ -164,3 +164,25 @@ kept_on keep position oldest items rest is beyond =
   where
     is_beyond : (a b : ℕ) → a < b → nat_lt a b ≡ true
     is_beyond a b h = grind (arith, nat_tests)
+
+-- ---- which segments were created
+
+pub first_created : (position : ℕ) (created : Option (List ℕ)) → IfSome created (λ c. c ≡ []) → (new : Option (List ℕ)) → Creates created position new → IsOnlyCreated position new
+first_created position None none new creates = subst (IsOnlyCreated position) (sym creates) tt
+first_created position (Some created) none new creates = subst (IsOnlyCreated position) (sym creates) (ap (λ l. l ++ position ∷ []) none)
+
+pub is_first_created : (position : ℕ) (created : Option (List ℕ)) → IsOnlyCreated position created → IsFirstCreated position created
+is_first_created position None only = tt
+is_first_created position (Some []) only = absurd (let l = ap length only in omega (arith, l))
+is_first_created position (Some (first ∷ rest)) only = cc
+
+pub next_created : (opened position : ℕ) (old mid new : Option (List ℕ)) → IsOnlyCreated opened old → Creates old position mid → ClosesFirst mid new → IsOnlyCreated position new
+next_created opened position None mid new only creates closes = subst (λ x. ClosesFirst x new → IsOnlyCreated position new) (sym creates) (λ none. subst (IsOnlyCreated position) (sym none) tt) closes
+next_created opened position (Some old) mid new only creates closes =
+    let all : mid ≡ Some (opened ∷ position ∷ []) = creates ∙ ap (λ l. Some (l ++ position ∷ [])) only in
+    let closed : new ≡ Some (position ∷ []) = subst (λ x. ClosesFirst x new) all closes in
+    subst (IsOnlyCreated position) (sym closed) refl
+
+pub first_of_two : (opened position : ℕ) (old mid : Option (List ℕ)) → IsOnlyCreated opened old → Creates old position mid → IsFirstCreated opened mid
+first_of_two opened position None mid only creates = subst (IsFirstCreated opened) (sym creates) tt
+first_of_two opened position (Some old) mid only creates = subst (IsFirstCreated opened) (sym (creates ∙ ap (λ l. Some (l ++ position ∷ [])) only)) refl

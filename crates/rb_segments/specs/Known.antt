@@ -1,4 +1,4 @@
--- What the calls of a store do to its closed segments, where they are known. A store over files knows none of them, one in memory all (own).
+-- What the calls of a store do to its segments, where they are known. Nothing is known of a store over files, all of one in memory (own).
 use Rattle.std.specs.Prelude.{ℕ, ◌≡◌, ⊤, List, [], ◌∷◌, ◌++◌, length, map, take, Option, None, Some}
 use Rattle.rb_segments.specs.Segments.{Segment}
 use Rattle.rb_segments.specs.declared.stored.StoredSegment.{StoredSegment}
@@ -20,6 +20,28 @@ abbrev pub RemovesOldest : Option (List Segment) → Option (List Segment) → T
 RemovesOldest None new = new ≡ None
 RemovesOldest (Some []) new = ⊥
 RemovesOldest (Some (segment ∷ segments)) new = new ≡ Some segments
+
+-- a segment of this position is the newest of those that were created and are not closed
+abbrev pub Creates : Option (List ℕ) → ℕ → Option (List ℕ) → Type 0
+Creates None position new = new ≡ None
+Creates (Some old) position new = new ≡ Some (old ++ position ∷ [])
+
+-- of those the oldest has this position
+abbrev pub IsFirstCreated : ℕ → Option (List ℕ) → Type 0
+IsFirstCreated position None = ⊤
+IsFirstCreated position (Some []) = ⊥
+IsFirstCreated position (Some (first ∷ rest)) = first ≡ position
+
+-- the oldest of those is closed
+abbrev pub ClosesFirst : Option (List ℕ) → Option (List ℕ) → Type 0
+ClosesFirst None new = new ≡ None
+ClosesFirst (Some []) new = ⊥
+ClosesFirst (Some (first ∷ rest)) new = new ≡ Some rest
+
+-- just one of them is left, which has this position
+abbrev pub IsOnlyCreated : ℕ → Option (List ℕ) → Type 0
+IsOnlyCreated position None = ⊤
+IsOnlyCreated position (Some created) = created ≡ position ∷ []
 
 -- these are the positions of the segments
 abbrev pub HavePositions : List ℕ → Option (List Segment) → Type 0

@@ -1,6 +1,6 @@
 //! Opening a store: a new tape, or one that goes on where the last one ended.
 
-ghost use Rattle.std.specs.Prelude.{◌≡◌, [], ◌∷◌, ◌++◌, None, Some, IfOk, OnOk, map};
+ghost use Rattle.std.specs.Prelude.{◌≡◌, [], ◌∷◌, ◌++◌, None, Some, IfOk, IfSome, OnOk, map};
 ghost use Rattle.rb_history.specs.RingModel.{IsRingSize, IsStartPosition};
 ghost use Rattle.rb_segments.specs.Known.{HavePositions};
 ghost use Rattle.rb_segments.specs.SegmentTape.{HasWritten};
@@ -31,6 +31,7 @@ impl<S: SegmentStore<F>, F: Outgoing + Drop> SegmentWriter<S, F> {
         S: Drop,
         requires size { IsRingSize size }
         requires start { IsStartPosition start }
+        requires none_created { IfSome (S.created store) (λ created. created ≡ []) }
         ensures fresh { IfOk result (λ t. S.segments store ≡ Some [] → HasWritten S.segments F.contents start [] [] t) }
         ensures resumed { IfOk result (λ t. Resumes S.segments F.contents size store t) }
         ensures size { IfOk result (λ t. t.size ≡ size) }
@@ -60,6 +61,7 @@ fn resume<S: SegmentStore<F> + Drop, F: Outgoing + Drop>(
     older: &[StoredSegment],
 ) -> Result<SegmentWriter<S, F>, OpeningFault>
     requires size { IsRingSize size }
+    requires none_created { IfSome (S.created store) (λ created. created ≡ []) }
     requires positions { HavePositions (map (λ s. s.position) older.now ++ opened ∷ []) (S.segments store) }
     ensures resumed { IfOk result (λ t. Resumes S.segments F.contents size store t) }
     ensures size { IfOk result (λ t. t.size ≡ size) }

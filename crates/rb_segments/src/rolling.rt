@@ -2,7 +2,7 @@
 
 ghost use Rattle.std.specs.Prelude.{◌≡◌, [], ◌∷◌, ◌++◌, None, OnErr, OnOk};
 ghost use Rattle.rb_history.specs.RingModel.{IsRingSize, IsStartPosition};
-ghost use Rattle.rb_segments.specs.Known.{AddsSegment, HavePositions};
+ghost use Rattle.rb_segments.specs.Known.{AddsSegment, HavePositions, IsOnlyCreated};
 ghost use Rattle.rb_segments.specs.SegmentTape.{closed_after, directory_at, kept, opened_after};
 ghost use Rattle.rb_segments.specs.inner.Rolling.{DeletesOldest, KeepsRecords};
 
@@ -26,7 +26,9 @@ pub(crate) fn tend<S: SegmentStore<F>, F: Outgoing + Drop>(
     requires finished { tape.old.unfinished ≡ None }
     requires size { IsRingSize size }
     requires same_size { tape.old.size ≡ size }
+    requires created { IsOnlyCreated opened.old (S.created store.old) }
     requires positions { HavePositions closed.old.items (S.segments store.old) }
+    ensures created { OnOk result (IsOnlyCreated opened.new (S.created store.new)) }
     ensures finished { tape.new.unfinished ≡ None }
     ensures same_size { tape.new.size ≡ size }
     ensures position { tape.new.position ≡ tape.old.position }
@@ -51,7 +53,9 @@ fn roll<S: SegmentStore<F>, F: Outgoing + Drop>(
     requires finished { tape.old.unfinished ≡ None }
     requires size { IsRingSize size }
     requires same_size { tape.old.size ≡ size }
+    requires created { IsOnlyCreated opened.old (S.created store.old) }
     requires positions { HavePositions closed.old.items (S.segments store.old) }
+    ensures created { OnOk result (IsOnlyCreated opened.new (S.created store.new)) }
     ensures finished { tape.new.unfinished ≡ None }
     ensures same_size { tape.new.size ≡ size }
     ensures position { tape.new.position ≡ tape.old.position }
@@ -83,7 +87,9 @@ fn turn<S: SegmentStore<F>, F: Outgoing + Drop>(
     requires size { IsRingSize size }
     requires same_size { tape.old.size ≡ size }
     requires start { IsStartPosition tape.old.position }
+    requires created { IsOnlyCreated opened (S.created store.old) }
     requires positions { HavePositions closed.old.items (S.segments store.old) }
+    ensures created { OnOk result (IsOnlyCreated tape.old.position (S.created store.new)) }
     ensures finished { tape.new.unfinished ≡ None }
     ensures same_size { tape.new.size ≡ size }
     ensures position { tape.new.position ≡ tape.old.position }
@@ -124,6 +130,7 @@ fn delete_old<S: SegmentStore<F>, F: Outgoing + Drop>(
     position: u64,
 ) -> Result<(), SegmentFault>
     requires positions { HavePositions closed.old.items (S.segments store.old) }
+    ensures created { S.created store.new ≡ S.created store.old }
     ensures positions { HavePositions closed.new.items (S.segments store.new) }
     ensures kept { OnOk result (closed.new.items ≡ kept keep position closed.old.items) }
     ensures deletes { DeletesOldest (S.segments store.old) (S.segments store.new) }
@@ -147,6 +154,7 @@ pub(crate) fn end<S: SegmentStore<F>, F: Outgoing + Drop>(
     opened: u64,
 ) -> Result<(), SegmentFault>
     requires nothing_waits { F.waiting file.now ≡ [] }
+    requires created { IsOnlyCreated opened (S.created store.old) }
     ensures closed { OnOk result (AddsSegment (S.segments store.old) opened (F.contents file.now) (S.segments store.new)) }
 {
     if store.sync(file).is_err() {

@@ -35,14 +35,14 @@ pub struct SegmentWriter<S: SegmentStore<F>, F: Outgoing + Drop> {
 impl<S: SegmentStore<F>, F: Outgoing + Drop> Model for SegmentWriter<S, F> {
     ghost use Rattle.std.specs.Prelude.{◌≡◌, ◌≤◌, ◌*◌, None};
     ghost use Rattle.rb_history.specs.RingModel.{IsRingSize};
-    ghost use Rattle.rb_segments.specs.Known.{HavePositions};
+    ghost use Rattle.rb_segments.specs.Known.{HavePositions, IsOnlyCreated};
     ghost use Rattle.rb_segments.specs.SegmentTape.{SegmentTape};
 
     ghost Value = { SegmentTape S F };
 
     ghost view = { λ t. record { store = t.store; writer = t.tape.writer; size = t.size; first = t.first; closed = t.closed.items; opened = t.opened; position = t.position; plan = t.plan; fault = t.fault; unwritten = t.unwritten } };
 
-    ghost invariant = { λ t. IsRingSize t.size × (t.tape.size ≡ t.size) × HavePositions t.closed.items (S.segments t.store) × (8 * t.unwritten ≤ t.position) × (t.fault ≡ None → (t.tape.position ≡ t.position) × (t.tape.unfinished ≡ None)) };
+    ghost invariant = { λ t. IsRingSize t.size × (t.tape.size ≡ t.size) × HavePositions t.closed.items (S.segments t.store) × (8 * t.unwritten ≤ t.position) × (t.fault ≡ None → (t.tape.position ≡ t.position) × (t.tape.unfinished ≡ None) × IsOnlyCreated t.opened (S.created t.store)) };
 }
 
 impl<S: SegmentStore<F>, F: Outgoing + Drop> SegmentWriter<S, F> {
@@ -66,6 +66,7 @@ impl<S: SegmentStore<F>, F: Outgoing + Drop> SegmentWriter<S, F> {
         requires size { IsRingSize size }
         requires start { IsStartPosition start }
         requires fresh { IfSome (S.segments store) (λ closed. closed ≡ []) }
+        requires none_created { IfSome (S.created store) (λ created. created ≡ []) }
         ensures nothing_written { IfOk result (λ t. S.segments store ≡ Some [] → HasWritten S.segments F.contents start [] [] t) }
         ensures size { IfOk result (λ t. t.size ≡ size) }
         ensures first { IfOk result (λ t. t.first ≡ start) }

@@ -14,6 +14,7 @@ oldest-preserved g c =
     let before = c.oldest.invariant in
     let beyond = subst (λ n. c.args.keep < n) c.saturating_sub.ensures c.if-saturating_sub-keep.false in
     record {
+      created = c.delete_oldest.ensures.created ∙ before.created;
       positions = positions_deleted oldest rest (segments c.oldest.store) (segments c.delete_oldest.new.self) (subst (λ l. HavePositions l (segments c.oldest.store)) items before.positions) removed;
       deletes = one_deleted (segments c.args.store.now) (segments c.oldest.store) (segments c.delete_oldest.new.self) before.deletes removed;
       same = before.same ∙ kept_on c.args.keep c.args.position oldest c.oldest.closed.items rest items beyond;

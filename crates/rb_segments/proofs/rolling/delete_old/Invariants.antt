@@ -6,6 +6,7 @@ use Rattle.rb_segments.proofs.rolling.delete_old.Given as goal
 
 abbrev pub invariant-oldest : goal.invariant-oldest
 invariant-oldest g l = record {
+  created : g.S.SegmentStore.created l.store ≡ g.S.SegmentStore.created l.fn.store;
   positions : HavePositions l.closed.items (g.S.SegmentStore.segments l.store);
   deletes : DeletesOldest (g.S.SegmentStore.segments l.fn.store) (g.S.SegmentStore.segments l.store);
   same : kept l.keep l.position l.fn.closed.items ≡ kept l.keep l.position l.closed.items;
