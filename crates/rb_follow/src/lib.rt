@@ -4,8 +4,6 @@
 mod follow_command;
 mod place;
 mod segment_reader;
-#[cfg(test)]
-mod tests;
 mod whole_records;
 
 pub use follow_command::{FollowRefusal, follow};

@@ -2,3 +2,4 @@ pub mod Directories
 pub mod RecordsHeld
 pub mod RecordsPut
 pub mod Restarting
+pub mod InMemory

@@ -2,4 +2,5 @@ pub mod Segments
 pub mod Known
 pub mod SegmentTape
 pub mod Restart
+pub mod MemorySegments
 pub mod inner

@@ -1,6 +1,6 @@
 //! A ring's directory on the file system, written and followed. Records of 16 bytes take 24, so three of them close a segment of 64.
 
-use crate::{FollowRefusal, follow};
+use rb_follow::{FollowRefusal, follow};
 use rb_json::LineForm;
 use rb_segments::{
     DirectoryStore, RingNumbers, SegmentFile, SegmentPlan, SegmentWriter, enter_ring, mark_end,
