@@ -20,6 +20,12 @@ pub record SegmentTape (S F : Type 0) : Type 0 where
   pub fault : Option SegmentFault
   pub unwritten : ℕ
 
+-- a writer for a ring of this size, by this plan, which no fault has ended
+pub record IsSetUp {S F : Type 0} (size : ℕ) (plan : SegmentPlan) (t : SegmentTape S F) : Type 0 where
+  pub size_is : t.size ≡ size
+  pub plan_is : t.plan ≡ plan
+  pub sound : t.fault ≡ None
+
 -- ---- when a segment is closed, and which are deleted
 
 -- a tape may start at this position

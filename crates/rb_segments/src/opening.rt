@@ -3,7 +3,7 @@
 ghost use Rattle.std.specs.Prelude.{◌≡◌, [], ◌∷◌, ◌++◌, None, Some, IfOk, IfSome, OnOk, map};
 ghost use Rattle.rb_history.specs.RingModel.{IsRingSize, IsStartPosition};
 ghost use Rattle.rb_segments.specs.Known.{HavePositions};
-ghost use Rattle.rb_segments.specs.SegmentTape.{HasWritten};
+ghost use Rattle.rb_segments.specs.SegmentTape.{HasWritten, IsSetUp};
 ghost use Rattle.rb_segments.specs.Restart.{EndsAt, Resumes};
 
 use crate::fault::OpeningFault;
@@ -34,9 +34,7 @@ impl<S: SegmentStore<F>, F: Outgoing + Drop> SegmentWriter<S, F> {
         requires none_created { IfSome (S.created store) (λ created. created ≡ []) }
         ensures fresh { IfOk result (λ t. S.segments store ≡ Some [] → HasWritten S.segments F.contents start [] [] t) }
         ensures resumed { IfOk result (λ t. Resumes S.segments F.contents size store t) }
-        ensures size { IfOk result (λ t. t.size ≡ size) }
-        ensures plan { IfOk result (λ t. t.plan ≡ plan) }
-        ensures fault { IfOk result (λ t. t.fault ≡ None) }
+        ensures set_up { IfOk result (IsSetUp size plan) }
     {
         let Ok(list) = store.list(alloc) else {
             return Err(OpeningFault::Device);
@@ -64,9 +62,7 @@ fn resume<S: SegmentStore<F> + Drop, F: Outgoing + Drop>(
     requires none_created { IfSome (S.created store) (λ created. created ≡ []) }
     requires positions { HavePositions (map (λ s. s.position) older.now ++ opened ∷ []) (S.segments store) }
     ensures resumed { IfOk result (λ t. Resumes S.segments F.contents size store t) }
-    ensures size { IfOk result (λ t. t.size ≡ size) }
-    ensures plan { IfOk result (λ t. t.plan ≡ plan) }
-    ensures fault { IfOk result (λ t. t.fault ≡ None) }
+    ensures set_up { IfOk result (IsSetUp size plan) }
 {
     let closed = positions(alloc, older)?;
     let Ok(bytes) = store.read_newest(alloc, opened) else {

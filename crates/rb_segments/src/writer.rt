@@ -50,7 +50,7 @@ impl<S: SegmentStore<F>, F: Outgoing + Drop> SegmentWriter<S, F> {
     ghost use Rattle.rb_history.specs.TapeBytes.{item_len, item_position, item_span, Item as TapeItem};
     ghost use Rattle.rb_history.specs.RingModel.{IsRingSize, IsStartPosition};
     ghost use Rattle.rb_tape.specs.Items.{item_of};
-    ghost use Rattle.rb_segments.specs.SegmentTape.{closed_after, HasEnded, HasWritten, kept, opened_after, WritesRecord};
+    ghost use Rattle.rb_segments.specs.SegmentTape.{closed_after, HasEnded, HasWritten, IsSetUp, kept, opened_after, WritesRecord};
     ghost use Rattle.rb_segments.specs.Segments.{Segment};
 
     /// Begins a tape in a directory without segments, whose first record stands at `start`: creates the segment of that position.
@@ -68,11 +68,9 @@ impl<S: SegmentStore<F>, F: Outgoing + Drop> SegmentWriter<S, F> {
         requires fresh { IfSome (S.segments store) (λ closed. closed ≡ []) }
         requires none_created { IfSome (S.created store) (λ created. created ≡ []) }
         ensures nothing_written { IfOk result (λ t. S.segments store ≡ Some [] → HasWritten S.segments F.contents start [] [] t) }
-        ensures size { IfOk result (λ t. t.size ≡ size) }
+        ensures set_up { IfOk result (IsSetUp size plan) }
         ensures first { IfOk result (λ t. t.first ≡ start) }
         ensures position { IfOk result (λ t. t.position ≡ start) }
-        ensures plan { IfOk result (λ t. t.plan ≡ plan) }
-        ensures fault { IfOk result (λ t. t.fault ≡ None) }
     {
         let file = store.create(start)?;
         Ok(SegmentWriter {
