@@ -22,7 +22,7 @@ pub enum FollowRefusal {
     /// The records at this position were deleted. The oldest that is there is at the position that is given.
     #[error("deleted; the oldest record is at {0}")]
     Deleted(u64),
-    /// No record stands at the position that was asked for.
+    /// No record starts at the requested position.
     #[error("no record stands there")]
     NoRecord,
     /// The ring's file is damaged, or could not be read.
@@ -40,7 +40,7 @@ impl From<Error> for FollowRefusal {
 }
 
 /// Prints a line for each record of a ring's segments, as `tape` does, from the record at `from` on, or from the oldest. It waits at the end of the newest segment
-/// until more comes, and returns where a host ended the tape in order.
+/// until more comes, and returns when a host has ended the tape in order.
 pub fn follow<R: Files + Clock + Alloc + Clone + Drop, W: Write>(
     rt: &R,
     alloc: Global,

@@ -33,7 +33,7 @@ pub(crate) fn segments<R: Files + Alloc + Clone + Drop>(
     }
 }
 
-/// Returns what comes after this position, where no segment of it was found.
+/// Returns what comes after this position, of which no segment was found.
 pub(crate) fn next_place<R: Files + Alloc + Clone + Drop>(
     rt: &R,
     alloc: Global,

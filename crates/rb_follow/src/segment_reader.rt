@@ -15,8 +15,8 @@ use std::time::Duration;
 /// How long it waits before it looks for more: 50 milliseconds.
 const LOOK_MILLIS: u64 = 50;
 
-/// Reads the whole records of a ring's segments. At the end of the newest segment it waits until a host writes more, and the input ends where the host marked the
-/// end of the tape. It never gives a part of a record that is not whole yet, since a restart of the host cuts it off.
+/// Reads the whole records of a ring's segments. At the end of the newest segment it waits until the host writes more. The input ends once the host has marked the
+/// end of the tape. It never returns a part of a record that is not whole yet, since a restart of the host cuts such a part off.
 #[derive(Drop)]
 pub struct SegmentReader<'a, R: Files> {
     rt: &'a R,
@@ -30,12 +30,12 @@ pub struct SegmentReader<'a, R: Files> {
     position: u64,
     // How many of the next bytes belong to a whole record of which others were given.
     owed: u64,
-    /// The oldest segment, where those that come next were deleted.
+    /// The oldest segment, if the next ones were deleted.
     pub oldest: Option<u64>,
 }
 
 impl<'a, R: Files + Alloc + Clone + Drop> SegmentReader<'a, R> {
-    /// Returns a reader of the ring's segments whose next byte stands at `position`, in the segment that is named `opened`. Nothing is read yet.
+    /// Returns a reader of the ring's segments from `position` on, in the segment that is named `opened`. Nothing is read yet.
     pub fn new(
         rt: &'a R,
         alloc: Global,

@@ -1,11 +1,13 @@
 //! Where whole records end among bytes of a segment.
 
-ghost use Rattle.std.specs.Prelude.{◌≤◌, length};
+ghost use Rattle.std.specs.Prelude.{◌≤◌, length, IfSome};
 
 use rb_history::{Header, span};
 
 /// How far the record at the front of these bytes reaches, or `None` if they have no header that a record may have.
-pub(crate) fn front_span(bytes: &[u8]) -> Option<u64> {
+pub(crate) fn front_span(bytes: &[u8]) -> Option<u64>
+    ensures { IfSome result (λ span. 8 ≤ span) }
+{
     if bytes.len() < 8 {
         return None;
     }
@@ -22,7 +24,7 @@ pub(crate) fn whole_length(bytes: &[u8]) -> usize
     ensures { result ≤ length bytes.now }
 {
     let mut rest = bytes;
-    while let Some(span) = front_span(rest) {
+    'records: while let Some(span) = front_span(rest) {
         if span > rest.len() as u64 {
             break;
         }

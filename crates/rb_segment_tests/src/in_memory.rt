@@ -27,7 +27,7 @@ fn put(writer: &mut MemoryWriter, byte: u8) {
     }));
 }
 
-// The store of a tape of so many records.
+// The store of a tape of `count` records.
 fn written(alloc: Global, plan: SegmentPlan, count: u8) -> Result<MemoryStore, Fail> {
     let store = MemoryStore::new(alloc);
     let mut writer: MemoryWriter = SegmentWriter::open(alloc, store, 4096, 0, plan)?;

@@ -13,7 +13,7 @@ use Rattle.rb_segments.specs.inner.Rolling.{KeepsRecords}
 use Rattle.rb_segments.proofs.Directories.{bytes_added, parts, whole_of}
 use Rattle.rb_segments.proofs.RecordsHeld.{all_closed, breaks, grows}
 
--- a record that the ring may have granted stands here
+-- a record that the ring may have granted comes at this position
 pub item_stands : (size position len : ℕ) (item : Item) → IsRingSize size → item_position item ≡ position → len ≡ item_span item → len < size → position + item_span item ≤ 2 ^ 62 → IsItemAt size position item
 item_stands size position len item ring here span fits end =
     let most = ring.2 in
@@ -48,7 +48,7 @@ module _ {S F : Type 0} (segments : S → Option (List Segment)) (contents : F �
   none_gone : HasWritten segments contents start deleted (items ++ item ∷ []) new → (gone : List Segment) × HasWritten segments contents start (deleted ++ gone) (items ++ item ∷ []) new
   none_gone h = ([], subst (λ l. HasWritten segments contents start l (items ++ item ∷ []) new) (sym (append-nil deleted)) h)
 
-  -- the record is counted, behind a fault
+  -- the record is counted, after a fault
   pub counts_on : (new.fault ≡ None → ⊥) → new.unwritten ≡ old.unwritten + 1 → directory_of segments contents new ≡ directory_of segments contents old → HasWritten segments contents start deleted items old
       → (gone : List Segment) × HasWritten segments contents start (deleted ++ gone) (items ++ item ∷ []) new
   counts_on ended more same h = none_gone (record {

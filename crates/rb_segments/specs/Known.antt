@@ -1,4 +1,4 @@
--- What the calls of a store do to its segments, where they are known. Nothing is known of a store over files, all of one in memory (own).
+-- What the calls of a store do to its segments, if they are known. Nothing is known of a store over files, everything of one in memory (own).
 use Rattle.std.specs.Prelude.{ℕ, ◌≡◌, ⊤, List, [], ◌∷◌, ◌++◌, length, map, take, Option, None, Some}
 use Rattle.rb_segments.specs.Segments.{Segment}
 use Rattle.rb_segments.specs.declared.stored.StoredSegment.{StoredSegment}

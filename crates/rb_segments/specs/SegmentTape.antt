@@ -6,7 +6,7 @@ use Rattle.rb_segments.specs.declared.fault.SegmentFault.{SegmentFault}
 use Rattle.rb_segments.specs.declared.plan.SegmentPlan.{SegmentPlan}
 
 -- A writer of segments: the store, what the open segment is written to, the ring's size, the position of the oldest segment when it began, the
--- positions of the closed segments and of the open one, where the next record stands, how segments are rolled and deleted, what ended the tape, and
+-- positions of the closed segments and of the open one, the position of the next record, how segments are rolled and deleted, what ended the tape, and
 -- how many records were not written since.
 pub record SegmentTape (S F : Type 0) : Type 0 where
   pub store : S
@@ -36,7 +36,7 @@ may_start position = (position % 8 == 0) && nat_le position (2 ^ 61)
 abbrev pub is_full : SegmentPlan → ℕ → ℕ → Bool
 is_full plan opened position = nat_le plan.segment (position - opened) && may_start position
 
--- the position of the open segment once the next record stands at `position`
+-- the position of the open segment once the next record comes at `position`
 abbrev pub opened_after : SegmentPlan → ℕ → ℕ → ℕ
 opened_after plan opened position = if is_full plan opened position then position else opened
 
@@ -50,6 +50,11 @@ abbrev pub kept : ℕ → ℕ → List ℕ → List ℕ
 kept keep position [] = []
 kept keep position (oldest ∷ closed) = if nat_lt keep (position - oldest) then kept keep position closed else oldest ∷ closed
 
+-- the first of these positions, or another one if there is none
+abbrev pub first_or : ℕ → List ℕ → ℕ
+first_or other [] = other
+first_or other (position ∷ positions) = position
+
 -- ---- what the directory holds
 
 -- a value of two that are known
@@ -62,7 +67,7 @@ both (Some a) (Some b) f = Some (f a b)
 abbrev pub directory : ℕ → List Segment → List ℕ → Directory
 directory opened closed bytes = record { closed = closed; newest = record { position = opened; bytes = bytes } }
 
--- The directory of a store and the file of its open segment, which has this position; where both are known. `segments` are the closed segments that a
+-- The directory of a store and the file of its open segment, which has this position, if both are known. `segments` are the closed segments that a
 -- store has, and `contents` the bytes that a file has.
 abbrev pub directory_at : {S F : Type 0} → (S → Option (List Segment)) → (F → Option (List ℕ)) → S → F → ℕ → Option Directory
 directory_at segments contents store writer opened = both (segments store) (contents writer) (directory opened)

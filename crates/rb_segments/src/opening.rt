@@ -1,4 +1,4 @@
-//! Opening a store: a new tape, or one that goes on where the last one ended.
+//! Opening a store: starts a tape, or continues the one that the store has.
 
 ghost use Rattle.std.specs.Prelude.{◌≡◌, [], ◌∷◌, ◌++◌, None, Some, IfOk, IfSome, OnOk, map};
 ghost use Rattle.rb_history.specs.RingModel.{IsRingSize, IsStartPosition};
@@ -18,8 +18,8 @@ use std::alloc::{AllocError, Global};
 use std::collections::VecDeque;
 
 impl<S: SegmentStore<F>, F: Outgoing + Drop> SegmentWriter<S, F> {
-    /// Opens a store. If it has no segments, a tape begins there, whose first record stands at `start`. Otherwise the newest segment is cut to the longest list
-    /// of whole records, and the tape goes on after them. The newest segment is read into memory for that.
+    /// Opens a store. If it has no segments, a tape starts there at position `start`. Otherwise the newest segment is cut to the longest list
+    /// of whole records, and the tape continues after them. This reads the newest segment into memory.
     pub fn open(
         alloc: Global,
         mut store: S,
@@ -49,7 +49,7 @@ impl<S: SegmentStore<F>, F: Outgoing + Drop> SegmentWriter<S, F> {
     }
 }
 
-// Goes on after the whole records of the newest segment.
+// Continues after the whole records of the newest segment.
 fn resume<S: SegmentStore<F> + Drop, F: Outgoing + Drop>(
     alloc: Global,
     mut store: S,

@@ -1,4 +1,4 @@
-//! A ring's own files beside its segments: `RING.ring` with its numbers, `RING.end` where its tape ended in order, and the folder's lock.
+//! The files of a ring beside its segments: `RING.ring` has its size and start, `RING.end` marks an ordered end. Also the folder's lock.
 
 use crate::names::ring_path;
 use std::alloc::Global;
@@ -26,7 +26,7 @@ pub enum DirectoryFault {
     /// Another host writes to the folder.
     #[error("another host writes to this folder")]
     Locked,
-    /// The ring had another size, which is given.
+    /// The folder has the ring with this other size.
     #[error("the ring of this folder has a size of {0}")]
     Size(u64),
     /// The ring's file has no such line as a host writes.

@@ -6,7 +6,7 @@ use std::fs::OpenFile;
 use std::io;
 use std::io::Write;
 
-/// A file behind a buffer, with a second handle by which it is synced.
+/// A buffered file, with a second handle through which it is synced.
 #[derive(Drop)]
 pub struct SegmentFile<F> {
     out: Buffered<F>,
@@ -14,7 +14,7 @@ pub struct SegmentFile<F> {
 }
 
 impl<F: Write + OpenFile + Drop> SegmentFile<F> {
-    /// Returns the file behind an empty buffer.
+    /// Returns the file with an empty buffer in front of it.
     pub(crate) fn new(alloc: Global, file: F) -> io::Result<SegmentFile<F>> {
         let handle = file.try_clone()?;
         let out = Buffered::new(alloc, file)?;

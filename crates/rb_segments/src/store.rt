@@ -10,10 +10,10 @@ use std::alloc::Global;
 
 /// Keeps segments, and creates those that are written. A segment that is being written is an `F`.
 pub trait SegmentStore<F: Outgoing> {
-    /// The closed segments, the oldest first, where they are known.
+    /// The closed segments, the oldest first, if they are known.
     ghost segments: { Self → Option (List Segment) };
 
-    /// The positions of the segments that were created and not closed, the oldest first, where they are known.
+    /// The positions of the segments that were created and not closed, the oldest first, if they are known.
     ghost created: { Self → Option (List ℕ) };
 
     /// The segment that is written to this file was synced.
@@ -62,7 +62,7 @@ pub trait SegmentStore<F: Outgoing> {
         ensures created { created self.new ≡ created self.old }
         ensures bytes { IfOk result (λ bytes. IfSome (segments self.old) (IsNewest bytes.items)) };
 
-    /// Opens the newest closed segment, which has this position, to write behind its first `length` bytes; the others are cut off.
+    /// Opens the newest closed segment, which has this position, truncates it to `length` bytes, and appends from there on.
     fn reopen(&mut self, position: u64, length: u64) -> Result<F, DeviceFault>
         ensures created { OnOk result (Creates (created self.old) position (created self.new)) }
         ensures reopened { IfOk result (λ file. Reopens (segments self.old) length (F.contents file) (segments self.new)) };

@@ -23,7 +23,7 @@ pub struct SegmentWriter<S: SegmentStore<F>, F: Outgoing + Drop> {
     pub(crate) size: u64,
     // The position of the oldest segment when the writer was made.
     pub(crate) first: u64,
-    // Where the next record stands.
+    // The position of the next record.
     pub(crate) position: u64,
     pub(crate) plan: SegmentPlan,
     // What ended the tape.
@@ -50,10 +50,10 @@ impl<S: SegmentStore<F>, F: Outgoing + Drop> SegmentWriter<S, F> {
     ghost use Rattle.rb_history.specs.TapeBytes.{item_len, item_position, item_span, Item as TapeItem};
     ghost use Rattle.rb_history.specs.RingModel.{IsRingSize, IsStartPosition};
     ghost use Rattle.rb_tape.specs.Items.{item_of};
-    ghost use Rattle.rb_segments.specs.SegmentTape.{closed_after, HasEnded, HasWritten, IsSetUp, kept, opened_after, WritesRecord};
+    ghost use Rattle.rb_segments.specs.SegmentTape.{closed_after, first_or, HasEnded, HasWritten, IsSetUp, kept, opened_after, WritesRecord};
     ghost use Rattle.rb_segments.specs.Segments.{Segment};
 
-    /// Begins a tape in a directory without segments, whose first record stands at `start`: creates the segment of that position.
+    /// Starts a tape in a store without segments: creates the segment of position `start`.
     pub fn new(
         alloc: Global,
         mut store: S,
@@ -87,7 +87,7 @@ impl<S: SegmentStore<F>, F: Outgoing + Drop> SegmentWriter<S, F> {
         })
     }
 
-    /// Writes a record, which stands where the one before it ended. A fault ends the tape: from then on records are counted, and not written.
+    /// Writes the next record. A fault ends the tape: later records are counted and not written.
     pub fn put(&mut self, item: &Item<'_>)
         requires next { item_position (item_of item.now) ≡ self.old.position }
         requires len { item_len (item_of item.now) < 2 ^ 32 }
@@ -170,6 +170,23 @@ impl<S: SegmentStore<F>, F: Outgoing + Drop> SegmentWriter<S, F> {
         ensures value { result ≡ self.now.position }
     {
         self.position
+    }
+
+    /// Returns the position of the oldest segment. What was deleted ends there.
+    pub fn oldest(&self) -> u64
+        ensures value { result ≡ first_or self.now.opened self.now.closed }
+    {
+        match self.closed.front() {
+            Some(position) => *position,
+            None => self.opened,
+        }
+    }
+
+    /// Returns the position of the oldest segment when the writer was made, so that `oldest() - first()` bytes were deleted since.
+    pub fn first(&self) -> u64
+        ensures value { result ≡ self.now.first }
+    {
+        self.first
     }
 
     /// Returns what ended the tape.
