@@ -8,7 +8,7 @@ use std::rt::Files;
 
 /// What comes after the bytes that were read.
 #[derive(Clone, Copy, Debug, PartialEq, Eq)]
-pub(crate) enum Place {
+pub(crate) enum NextSegment {
     /// More may be there already.
     More,
     /// Nothing yet.
@@ -40,13 +40,13 @@ pub(crate) fn next_place<R: Files + Alloc + Clone + Drop>(
     folder: &str,
     ring: &str,
     position: u64,
-) -> io::Result<Place> {
+) -> io::Result<NextSegment> {
     if marked_end(rt, alloc, folder, ring)? == Some(position) {
-        return Ok(Place::Ended);
+        return Ok(NextSegment::Ended);
     }
     let list = segments(rt, alloc, folder, ring)?;
     match list.first() {
-        Some(oldest) if oldest.position > position => Ok(Place::Deleted(oldest.position)),
-        _ => Ok(Place::Waiting),
+        Some(oldest) if oldest.position > position => Ok(NextSegment::Deleted(oldest.position)),
+        _ => Ok(NextSegment::Waiting),
     }
 }

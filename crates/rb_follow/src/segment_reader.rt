@@ -2,7 +2,7 @@
 
 ghost use Rattle.std.specs.Prelude.{◌≤◌, length, IfOk};
 
-use crate::place::{Place, next_place};
+use crate::place::{NextSegment, next_place};
 use crate::whole_records::{front_span, whole_length};
 use rb_segments::segment_path;
 use std::alloc::Global;
@@ -72,7 +72,7 @@ impl<'a, R: Files + Alloc + Clone + Drop> SegmentReader<'a, R> {
     }
 
     // Goes on to the next segment if there is one, and returns whether more may come.
-    fn go_on(&mut self) -> io::Result<Place> {
+    fn go_on(&mut self) -> io::Result<NextSegment> {
         let next = if self.file.is_none() {
             self.opened
         } else {
@@ -80,11 +80,11 @@ impl<'a, R: Files + Alloc + Clone + Drop> SegmentReader<'a, R> {
         };
         if next != self.opened || self.file.is_none() {
             if self.open(next)? {
-                return Ok(Place::More);
+                return Ok(NextSegment::More);
             }
         }
         let place = next_place(self.rt, self.alloc, self.folder, self.ring, self.position)?;
-        if let Place::Deleted(oldest) = place {
+        if let NextSegment::Deleted(oldest) = place {
             self.oldest = Some(oldest);
             return Err(Error::from(ErrorKind::NotFound));
         }
@@ -135,8 +135,8 @@ impl<'a, R: Files + Clock + Alloc + Clone + Drop> Read for SegmentReader<'a, R> 
                 }
             }
             match self.go_on()? {
-                Place::Ended => return Ok(0),
-                Place::Waiting => self.rt.sleep(Duration::from_millis(LOOK_MILLIS)),
+                NextSegment::Ended => return Ok(0),
+                NextSegment::Waiting => self.rt.sleep(Duration::from_millis(LOOK_MILLIS)),
                 _ => {}
             }
         }

@@ -3,7 +3,7 @@
 use rb_follow::{FollowRefusal, follow};
 use rb_json::LineForm;
 use rb_segments::{
-    DirectoryStore, RingNumbers, SegmentFile, SegmentPlan, SegmentWriter, enter_ring, mark_end,
+    DirectoryStore, SegmentFile, SegmentPlan, SegmentWriter, SegmentedRing, enter_ring, mark_end,
 };
 use rb_tape::{Event, Item};
 use std::fs;
@@ -12,7 +12,7 @@ use std::test::Fail;
 
 type DirectoryWriter<'a> = SegmentWriter<DirectoryStore<'a, HostRuntime>, SegmentFile<File>>;
 
-const NUMBERS: RingNumbers = RingNumbers {
+const NUMBERS: SegmentedRing = SegmentedRing {
     size: 4096,
     start: 0,
 };

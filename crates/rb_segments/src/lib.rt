@@ -21,7 +21,7 @@ pub use memory_store::{MemoryFile, MemorySegment, MemoryStore};
 pub use names::segment_path;
 pub use plan::SegmentPlan;
 pub use ring_files::{
-    DirectoryFault, RingNumbers, enter_ring, lock_folder, mark_end, marked_end, ring_numbers,
+    DirectoryFault, SegmentedRing, enter_ring, lock_folder, mark_end, marked_end, ring_numbers,
 };
 pub use segment_file::SegmentFile;
 pub use store::SegmentStore;

@@ -13,7 +13,7 @@ const WORDS: &str = "heskavo-segments 1 size ";
 
 /// The numbers of a ring that its file has.
 #[derive(Clone, Copy, Debug, PartialEq, Eq)]
-pub struct RingNumbers {
+pub struct SegmentedRing {
     /// The ring's size in bytes.
     pub size: u64,
     /// The position of its first record, when the directory was made.
@@ -64,7 +64,7 @@ pub fn ring_numbers<R: Files>(
     alloc: Global,
     folder: &str,
     ring: &str,
-) -> Result<Option<RingNumbers>, DirectoryFault> {
+) -> Result<Option<SegmentedRing>, DirectoryFault> {
     let path = ring_path(alloc, folder, ring, "ring").map_err(Error::from)?;
     let Some(text) = read_if_there(rt, alloc, path.as_str())? else {
         return Ok(None);
@@ -81,8 +81,8 @@ pub fn enter_ring<R: Files>(
     alloc: Global,
     folder: &str,
     ring: &str,
-    numbers: RingNumbers,
-) -> Result<RingNumbers, DirectoryFault> {
+    numbers: SegmentedRing,
+) -> Result<SegmentedRing, DirectoryFault> {
     let end = ring_path(alloc, folder, ring, "end").map_err(Error::from)?;
     match fs::remove_file(rt, end.as_str()) {
         Ok(()) => {}
@@ -162,12 +162,12 @@ fn read_if_there<R: Files>(rt: &R, alloc: Global, path: &str) -> io::Result<Opti
 }
 
 // The numbers in the line of a ring's file.
-fn parse_numbers(line: &str) -> Option<RingNumbers> {
+fn parse_numbers(line: &str) -> Option<SegmentedRing> {
     let (size, start) = line
         .strip_prefix(WORDS)?
         .strip_suffix('\n')?
         .split_once(" start ")?;
-    Some(RingNumbers {
+    Some(SegmentedRing {
         size: size.parse().ok()?,
         start: start.parse().ok()?,
     })
