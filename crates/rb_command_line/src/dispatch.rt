@@ -10,6 +10,7 @@ use crate::reasons::{Seen, reason_of};
 use crate::refusal::{CommandRefusal, object_of};
 use crate::request::{CommandLine, Subcommand, parse};
 use crate::sim_objects::print_objects;
+use crate::taped_jobs::TapedJobs;
 use clap::Error;
 use clap::error::ErrorKind;
 use rb_io::{NotedReader, NotedWriter, write_whole};
@@ -103,7 +104,12 @@ where
     let mut input = NotedReader::new(input);
     let mut out = NotedWriter::new(out);
     let mut seen = Seen::default();
-    let progress = Progress::new(rt, asked.progress, asked.request.jobs());
+    let progress = Progress::new(
+        rt,
+        asked.progress,
+        asked.request.jobs(),
+        taped_jobs(alloc, asked),
+    );
     let mut told = Vec::new(alloc);
     let answer = answer(
         rt, alloc, asked, &progress, &mut input, &mut out, &mut told, &mut seen,
@@ -118,6 +124,17 @@ where
             seen.printing = out.error;
             tell_refusal(alloc, &refusal, asked, &seen, &mut out, err)
         }
+    }
+}
+
+// The jobs of a run that writes a tape, if it is to be told how far the run is and there is memory to count them.
+fn taped_jobs(alloc: Global, asked: &CommandLine<'_>) -> Option<TapedJobs> {
+    match asked.request {
+        Subcommand::Run {
+            jobs,
+            tape: Some(_),
+        } if asked.progress => TapedJobs::new(alloc, jobs.workers, u64::from(jobs.jobs)).ok(),
+        _ => None,
     }
 }
 

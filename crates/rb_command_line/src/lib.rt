@@ -11,5 +11,6 @@ mod reasons;
 mod refusal;
 mod request;
 mod sim_objects;
+mod taped_jobs;
 
 pub use dispatch::command;

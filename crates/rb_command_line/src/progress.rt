@@ -1,15 +1,14 @@
-//! How far a long command is, told on standard error about once a second. It goes to the runtime's standard error and not to the command's writer, since
-//! workers tell it while the command waits for them. Tests show what is told; no contract speaks of it.
+//! How far a long command is, printed on standard error about once a second. It goes to the runtime's standard error and not to the command's writer, since
+//! workers print it while the command waits for them. Tests show what is printed; no contract speaks of it.
 
+use crate::taped_jobs::{JOBS, TapedJobs};
+use rb_run_commands::TapeWatch;
 use rb_script::TurnWatch;
 use rb_workers::Gate;
 use std::io;
 use std::io::{Eprint, Read};
 use std::sync::atomic::{AtomicU64, Ordering};
 use std::time::Clock;
-
-/// How many jobs of a worker pass before they are added to those of all workers, and the clock is looked at.
-const JOBS: u64 = 256;
 
 /// How many turns of a script pass before the clock is looked at.
 const TURNS: u64 = 256;
@@ -21,19 +20,28 @@ pub(crate) struct Progress<'a, T> {
     // How many jobs a run has in all, and how many of them have ended, but for the last few of each worker; or how many turns have.
     jobs: u64,
     ended: AtomicU64,
+    // The jobs of a run that writes a tape.
+    taped: Option<TapedJobs>,
     // When it began, in seconds of the clock, and the last second of which something was told, counted from then.
     began: u64,
     told: AtomicU64,
 }
 
 impl<'a, T: Clock + Eprint> Progress<'a, T> {
-    /// Begins now, for a command with so many jobs; nothing is told within the first second, nor where it is off.
-    pub(crate) fn new(rt: &'a T, is_on: bool, jobs: u64) -> Progress<'a, T> {
+    /// Begins now, for a command with so many jobs, which are counted once their records are on the tape if there is one; nothing is told within
+    /// the first second, nor if it is off.
+    pub(crate) fn new(
+        rt: &'a T,
+        is_on: bool,
+        jobs: u64,
+        taped: Option<TapedJobs>,
+    ) -> Progress<'a, T> {
         Progress {
             rt,
             is_on,
             jobs,
             ended: AtomicU64::new(0),
+            taped,
             began: seconds(rt),
             told: AtomicU64::new(0),
         }
@@ -68,6 +76,14 @@ impl<'a, T: Clock + Eprint> Progress<'a, T> {
         before.saturating_add(count)
     }
 
+    // How many of the jobs that have ended may be reported: with a tape those whose records are on it.
+    fn reportable(&self, ended: u64) -> u64 {
+        match &self.taped {
+            Some(taped) => taped.written(),
+            None => ended,
+        }
+    }
+
     /// Takes away what was told last.
     pub(crate) fn end(self) {
         let Progress {
@@ -75,6 +91,7 @@ impl<'a, T: Clock + Eprint> Progress<'a, T> {
             is_on: _,
             jobs: _,
             ended: _,
+            taped: _,
             began: _,
             told,
         } = self;
@@ -97,9 +114,24 @@ impl<T: Clock + Eprint> Gate for Progress<'_, T> {
     fn at(&self, _worker: u32, _call: u64) {}
 
     #[inline]
-    fn after(&self, _worker: u32, jobs: u64) {
-        if self.is_on && jobs % JOBS == 0 {
-            self.tell_parts(self.add(JOBS), self.jobs, "jobs");
+    fn after(&self, worker: u32, jobs: u64) {
+        if !self.is_on {
+            return;
+        }
+        if let Some(taped) = &self.taped {
+            taped.count(worker, jobs);
+        }
+        if jobs % JOBS == 0 {
+            let ended = self.add(JOBS);
+            self.tell_parts(self.reportable(ended), self.jobs, "jobs");
+        }
+    }
+}
+
+impl<T: Clock + Eprint> TapeWatch for Progress<'_, T> {
+    fn written_out(&self, position: u64, size: u64, caught_up: bool) {
+        if let Some(taped) = &self.taped {
+            taped.written_out(position, size, caught_up);
         }
     }
 }

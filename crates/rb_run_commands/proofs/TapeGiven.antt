@@ -50,12 +50,12 @@ first_of (Chapter c) items = refl
 first_of CaughtUp items = refl
 
 -- a sink's tape, by its parts
-abbrev pub sink_tape : {W : Type 0} → W → ℕ → ℕ → Bool → SinkTape W
-sink_tape writer size position failed = record { writer = writer; size = size; position = position; failed = failed }
+abbrev pub sink_tape : {W : Type 0} → W → ℕ → ℕ → Bool → Bool → SinkTape W
+sink_tape writer size position failed stalled = record { writer = writer; size = size; position = position; failed = failed; stalled = stalled }
 
-module _ {W : Type 0} (contents : W → Option (List ℕ)) (writer : W) (size before after : ℕ) (item : Item) where
+module _ {W : Type 0} (contents : W → Option (List ℕ)) (writer : W) (size before after : ℕ) (stalled : Bool) (item : Item) where
   -- the tape had ended
-  pub gives_up : (ended : Bool) → ended ≡ true → WritesOn contents (sink_tape writer size before ended) (item ∷ []) (sink_tape writer size after ended)
+  pub gives_up : (ended : Bool) → ended ≡ true → WritesOn contents (sink_tape writer size before ended stalled) (item ∷ []) (sink_tape writer size after ended stalled)
   gives_up ended is = record {
     out = [];
     missing = [];
@@ -68,7 +68,7 @@ module _ {W : Type 0} (contents : W → Option (List ℕ)) (writer : W) (size be
   }
 
   -- the tape ends before the record
-  pub ends_before : (ended : Bool) → ended ≡ false → WritesOn contents (sink_tape writer size before ended) (item ∷ []) (sink_tape writer size after true)
+  pub ends_before : (ended : Bool) → ended ≡ false → WritesOn contents (sink_tape writer size before ended stalled) (item ∷ []) (sink_tape writer size after true stalled)
   ends_before ended is = record {
     out = [];
     missing = tape size (item ∷ []);
@@ -83,7 +83,7 @@ module _ {W : Type 0} (contents : W → Option (List ℕ)) (writer : W) (size be
   -- the record is written, or some of it
   pub writes_record : {A E : Type 0} (later : W) (ended failed : Bool) (sent : ℕ) (answer : Result A E) → ended ≡ false → failed ≡ is_err answer
       → Appends (contents writer) (contents later) (take sent (item_bytes size item)) → OnOk answer (sent ≡ item_span item) → OnErr answer (sent < item_span item)
-      → WritesOn contents (sink_tape writer size before ended) (item ∷ []) (sink_tape later size after failed)
+      → WritesOn contents (sink_tape writer size before ended stalled) (item ∷ []) (sink_tape later size after failed stalled)
   writes_record {A} {E} later ended failed sent answer sound is went all short = record {
     out = take sent (item_bytes size item);
     missing = drop sent (item_bytes size item);
@@ -122,6 +122,19 @@ module _ {W : Type 0} (contents : W → Option (List ℕ)) where
     not_all_out = λ sound ended. absurd (true≢false (sym ended ∙ sound));
   }
 
+  -- the writer handed on what waits, and no record was written
+  pub only_handed_on : (old new : SinkTape W) → Keeps (contents old.writer) (contents new.writer) → new.size ≡ old.size → new.failed ≡ old.failed → WritesOn contents old [] new
+  only_handed_on old new kept size failed = record {
+    out = [];
+    missing = [];
+    wrote = Appends-kept (contents old.writer) (contents old.writer) (contents new.writer) [] (Appends-nil (contents old.writer)) kept;
+    size_same = size;
+    nothing = λ ended. (refl, failed ∙ ended);
+    beginning = λ _. refl;
+    all_out = λ _. refl;
+    not_all_out = λ sound ended. absurd (true≢false (sym ended ∙ (failed ∙ sound)));
+  }
+
   goes_on : (a b c : SinkTape W) (is js : List Item) → WritesOn contents a is b → WritesOn contents b js c → WritesOn contents a (is ++ js) c
   goes_on a b c is js one two = by b.failed refl
     where
@@ -156,11 +169,12 @@ module _ {W : Type 0} (contents : W → Option (List ℕ)) where
           }
 
   -- what a sink was given item by item
-  the_tape_of_what_is_given : (items : List SinkItem) (old new : SinkTape W) → TakesAll (tape_takes contents) old items new → WritesOn contents old (sink_tape_items items) new
-  the_tape_of_what_is_given [] old new same = subst (λ s. WritesOn contents old [] s) (sym same) (nothing_yet old)
-  the_tape_of_what_is_given (item ∷ items) old new given =
+  the_tape_of_what_is_given : (writes_out : W → Bool → W → Type 0) (items : List SinkItem) (old new : SinkTape W) → TakesAll (tape_takes contents writes_out) old items new
+      → WritesOn contents old (sink_tape_items items) new
+  the_tape_of_what_is_given writes_out [] old new same = subst (λ s. WritesOn contents old [] s) (sym same) (nothing_yet old)
+  the_tape_of_what_is_given writes_out (item ∷ items) old new given =
       subst (λ l. WritesOn contents old l new) (sym (first_of item items))
-      (goes_on old given.0 new (sink_tape_items (item ∷ [])) (sink_tape_items items) given.1 (the_tape_of_what_is_given items given.0 new given.2))
+      (goes_on old given.0 new (sink_tape_items (item ∷ [])) (sink_tape_items items) given.1.0 (the_tape_of_what_is_given writes_out items given.0 new given.2))
 
 -- ---- the run
 
@@ -194,23 +208,23 @@ by_part : {A B C : Type 0} → A ⊎ B → (A → C) → C ⊎ B
 by_part (inl a) f = inl (f a)
 by_part (inr b) f = inr b
 
-module _ {W : Type 0} (contents : W → Option (List ℕ)) (writer left : W) (subject : Subject) (request : JobsRequest) (report : JobsReport (SinkTape W)) (ran : RunsWorkers tape_position (tape_takes contents) (first_tape writer request) subject request report) where
-  ending : (e : Ended (SinkTape W)) × (row : List WorkerSeat) × (report.rings.items ≡ e ∷ []) × RingEnds tape_position (tape_takes contents) ran.opened e row
-  ending = one_ended tape_position (tape_takes contents) ran.opened report.rings.items ran.reported.seats ran.reported.rings_end
+module _ {W : Type 0} (contents : W → Option (List ℕ)) (writes_out : W → Bool → W → Type 0) (writer left : W) (subject : Subject) (request : JobsRequest) (report : JobsReport (SinkTape W)) (ran : RunsWorkers tape_position (tape_takes contents writes_out) (first_tape writer request) subject request report) where
+  ending : (e : Ended (SinkTape W)) × (row : List WorkerSeat) × (report.rings.items ≡ e ∷ []) × RingEnds tape_position (tape_takes contents writes_out) ran.opened e row
+  ending = one_ended tape_position (tape_takes contents writes_out) ran.opened report.rings.items ran.reported.seats ran.reported.rings_end
 
   pub one_ring : length report.rings.items ≡ 1
   one_ring = ap length ending.2
 
   -- what the sink of the ring that was taken out of the report wrote
-  pub ring_taped : (writes_out : W → Bool → W → Type 0) (front : List (Ended (SinkTape W))) (ended : Ended (SinkTape W)) (whole handed_out : Bool) → report.rings.items ≡ front ++ ended ∷ []
+  pub ring_taped : (front : List (Ended (SinkTape W))) (ended : Ended (SinkTape W)) (whole handed_out : Bool) → report.rings.items ≡ front ++ ended ∷ []
       → whole ≡ (handed_out && not ended.sink.failed) → Keeps (contents ended.sink.writer) (contents left) → writes_out ended.sink.writer handed_out left
       → All (TapesRing contents writes_out request.size whole writer left) report.rings.items
-  ring_taped writes_out front ended whole handed_out is told kept called =
+  ring_taped front ended whole handed_out is told kept called =
       let e = ending.0 in
       let ends = ending.3 in
       let same : ended ≡ e = last_of_one front e ended (sym ending.2 ∙ is) in
       let given = ends.sink_given in
-      let wrote = the_tape_of_what_is_given contents given.items (first_tape writer request) e.sink (subst (λ s. TakesAll (tape_takes contents) s given.items e.sink) ran.just_opened.sink_is given.given) in
+      let wrote = the_tape_of_what_is_given contents writes_out given.items (first_tape writer request) e.sink (subst (λ s. TakesAll (tape_takes contents writes_out) s given.items e.sink) ran.just_opened.sink_is given.given) in
       let on_e : whole ≡ (handed_out && not e.sink.failed) = subst (λ (x : Ended (SinkTape W)). whole ≡ (handed_out && not x.sink.failed)) same told in
       subst (All (TapesRing contents writes_out request.size whole writer left)) (sym ending.2)
       (All-cons (TapesRing contents writes_out request.size whole writer left) e [] (record {

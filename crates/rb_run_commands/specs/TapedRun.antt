@@ -1,6 +1,6 @@
 -- What `run --tape` writes: the tape of all that the ring's consumer took, up to the first write that fails (own; the tape's bytes are
 -- rb_history's).
-use Rattle.std.specs.Prelude.{◌≡◌, ◌≢◌, ◌⊎◌, ℕ, Bool, true, false, All, IfSome, List, [], ◌∷◌, ◌++◌, Option}
+use Rattle.std.specs.Prelude.{◌≡◌, ◌≢◌, ◌⊎◌, ℕ, Bool, true, false, not, All, IfSome, List, [], ◌∷◌, ◌++◌, Option}
 use Rattle.std.specs.Io.KnownBytes.{Appends, append_known}
 use Rattle.rb_history.specs.TapeBytes.{Item, tape}
 use Rattle.rb_ledger.specs.Seats.{WorkerSeat}
@@ -10,6 +10,7 @@ use Rattle.rb_verifier.specs.Subject.{Subject}
 use Rattle.rb_workers.specs.Reports.{ring_at_end}
 use Rattle.rb_tape.specs.Items.{tape_items}
 use Rattle.rb_workers.specs.Sink.{SinkItem, IsRecordIn, positions_among, records_among, takes_in}
+use Rattle.rb_workers.specs.Sink.SinkItem.{Record, Chapter, CaughtUp}
 use Rattle.rb_workers.specs.declared.opened.Ended.{Ended}
 use Rattle.rb_workers.specs.declared.opened.JobsReport.{JobsReport}
 use Rattle.rb_loader.specs.Acceptance.{IsAccepted}
@@ -20,17 +21,18 @@ use Rattle.rb_run_commands.specs.declared.run_command.JobsRequest.{JobsRequest}
 
 -- ---- the sink
 
--- a tape that a sink writes: the writer below, the ring's size, where the next record stands, and whether the tape ended with a record that did
--- not go out whole
+-- a tape that a sink writes: the writer below, the ring's size, where the next record stands, whether the tape ended with a record that did
+-- not go out whole, and whether the writer failed to hand on what waits before the end
 pub record SinkTape (W : Type 0) : Type 0 where
   pub writer : W
   pub size : ℕ
   pub position : ℕ
   pub failed : Bool
+  pub stalled : Bool
 
 -- before the first record
 abbrev pub first_tape : {W : Type 0} → W → JobsRequest → SinkTape W
-first_tape writer request = record { writer = writer; size = request.size; position = request.start; failed = false }
+first_tape writer request = record { writer = writer; size = request.size; position = request.start; failed = false; stalled = false }
 
 abbrev pub tape_position : {W : Type 0} → SinkTape W → ℕ
 tape_position sink = sink.position
@@ -51,9 +53,20 @@ pub record WritesOn {W : Type 0} (contents : W → Option (List ℕ)) (old : Sin
 abbrev pub sink_tape_items : List SinkItem → List Item
 sink_tape_items items = tape_items (records_among items)
 
+-- The writer was called to hand on what waits, unless the tape had ended or such a call had failed before. `writes_out` is what such a call makes
+-- of a writer.
+abbrev pub WritesOut : {W : Type 0} → (W → Bool → W → Type 0) → SinkTape W → SinkTape W → Type 0
+WritesOut writes_out old new = old.failed ≡ false → old.stalled ≡ false → writes_out old.writer (not new.stalled) new.writer
+
+-- the tape is written out where the consumer caught up and at each chapter; a record may wait
+abbrev pub WritesOutFor : {W : Type 0} → (W → Bool → W → Type 0) → SinkTape W → SinkItem → SinkTape W → Type 0
+WritesOutFor writes_out old (Record taken) new = Unit {0}
+WritesOutFor writes_out old (Chapter chapter) new = WritesOut writes_out old new
+WritesOutFor writes_out old CaughtUp new = WritesOut writes_out old new
+
 -- what taking one item makes of such a sink; a chapter has nothing for the tape
-abbrev pub tape_takes : {W : Type 0} → (W → Option (List ℕ)) → SinkTape W → SinkItem → SinkTape W → Type 0
-tape_takes contents old item new = WritesOn contents old (sink_tape_items (item ∷ [])) new
+abbrev pub tape_takes : {W : Type 0} → (W → Option (List ℕ)) → (W → Bool → W → Type 0) → SinkTape W → SinkItem → SinkTape W → Type 0
+tape_takes contents writes_out old item new = WritesOn contents old (sink_tape_items (item ∷ [])) new × WritesOutFor writes_out old item new
 
 -- ---- the run
 
@@ -81,7 +94,7 @@ pub record TapesRing {W : Type 0} (contents : W → Option (List ℕ)) (writes_o
 -- ring's consumer took was written as a tape
 pub record TapesRun {W : Type 0} (contents : W → Option (List ℕ)) (writes_out : W → Bool → W → Type 0) (writer : W) (subject : Subject) (request : JobsRequest) (before after told_before told_after : Option (List ℕ)) (whole : Bool) (left : W) : Type 0 where
   pub report : JobsReport (SinkTape W)
-  pub ran : RunsWorkers tape_position (tape_takes contents) (first_tape writer request) subject request report
+  pub ran : RunsWorkers tape_position (tape_takes contents writes_out) (first_tape writer request) subject request report
   pub printed : Appends before after (report_lines request.form report)
   pub told : Appends told_before told_after (unlogged_text report.unlogged)
   pub taped : All (TapesRing contents writes_out request.size whole writer left) report.rings.items

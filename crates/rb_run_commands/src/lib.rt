@@ -27,6 +27,7 @@ mod report_lines;
 mod report_objects;
 mod run_command;
 mod tape_sink;
+mod tape_watch;
 mod taped_run;
 mod worker_jobs;
 
@@ -34,4 +35,5 @@ pub use check_command::{Checked, check, check_text};
 pub use jobs_fault::JobsFault;
 pub use portable_check::check_portable;
 pub use run_command::{JOB_BOUNDS, JobsRequest, check_ring, run};
+pub use tape_watch::TapeWatch;
 pub use taped_run::{TapeFile, TapeFileFault, WrittenTape, run_taped, run_to_file};

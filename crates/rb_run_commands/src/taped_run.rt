@@ -11,6 +11,7 @@ ghost use Rattle.rb_run_commands.specs.TapedRun.{PrintsTaped, TapesRun};
 use crate::jobs_fault::JobsFault;
 use crate::run_command::{JOB_BOUNDS, JobsRequest, check_ring, run_and_print};
 use crate::tape_sink::TapeSink;
+use crate::tape_watch::TapeWatch;
 use crate::worker_jobs::{contexts_of, jobs_of};
 use rb_io::{Buffered, NotedWriter, Outgoing};
 use rb_loader::{ProgramFault, read_program};
@@ -32,9 +33,10 @@ pub struct WrittenTape<F> {
     pub is_whole: bool,
 }
 
-/// Runs the program as `run` does, prints and tells the same, and writes what the ring's consumer took as a tape, each record once it is taken. A write
-/// that fails or takes nothing ends the tape and not the run. The writer hands all of it on at the end; it is called a few times for each record:
-/// buffer it. Where the run is refused or memory runs out, the writer is dropped.
+/// Runs the program as `run` does, prints the same, and writes what the ring's consumer took as a tape, each record once it is taken. A write
+/// that fails or takes nothing ends the tape and not the run. The writer hands on what waits whenever the consumer has caught up, until that fails
+/// once, and again at the end; it is called a few times for each record, so buffer it. If the run is refused or memory runs out, the writer is
+/// dropped.
 pub fn run_taped<T: Threads + Wait + Sync, W: Write, E: Write, F: Outgoing + Send + Drop>(
     rt: &T,
     alloc: Global,
@@ -76,7 +78,7 @@ fn tape_jobs<
     W: Write,
     E: Write,
     F: Outgoing + Send + Drop,
-    G: Gate + Sync,
+    G: Gate + TapeWatch + Sync,
 >(
     rt: &T,
     alloc: Global,
@@ -99,7 +101,7 @@ fn tape_jobs<
     ensures nothing_printed { IfErr result (λ fault. fault ≢ JobsFault.Program ProgramFault.Device → Keeps (W.contents out.old) (W.contents out.new)) }
     ensures nothing_told { IfErr result (λ fault. fault ≢ JobsFault.Program ProgramFault.Device → Keeps (E.contents err.old) (E.contents err.new)) }
 {
-    let sink = TapeSink::new(tape, request.size, request.start);
+    let sink = TapeSink::new(tape, request.size, request.start, gate);
     let mut report = run_and_print(rt, alloc, program, jobs, out, err, request, sink, gate)?;
     let Some(ended) = report.rings.pop() else {
         unreachable!()
@@ -140,8 +142,15 @@ pub struct TapeFile<'a> {
 /// Verifies the program whose text is the input and runs it as `run` does, prints and tells the same, and writes the tape to this file, which is
 /// made, or emptied where it is there. That comes after all refusals of the program and the ring, and once there is memory for the list of all jobs, and
 /// before anything runs: `Device` where it can't be done, and, behind what was printed, where not all of the tape was written; the file then has what
-/// failed there.
-pub fn run_to_file<T, R: Read, W: Write, E: Write, F: Write + Send + Drop, G: Gate + Sync>(
+/// failed there. The gate is also called each time that the tape was written out.
+pub fn run_to_file<
+    T,
+    R: Read,
+    W: Write,
+    E: Write,
+    F: Write + Send + Drop,
+    G: Gate + TapeWatch + Sync,
+>(
     rt: &T,
     alloc: Global,
     input: &mut R,

@@ -1,5 +1,5 @@
--- What a sink is given: the records that a ring's consumer took and the chapters that it handed out, one by one, and word that there was
--- nothing to take (own).
+-- What a sink is given: the records that a ring's consumer took and the chapters that it handed out, one by one, and word that the consumer
+-- caught up (own).
 use Rattle.std.specs.Prelude.{◌≡◌, ℕ, true, List, [], ◌∷◌, ◌++◌, All, Option, Some, None, length}
 use Rattle.std.specs.List.{Contains, filter_map}
 use Rattle.std.specs.FinMap.{get}
@@ -14,8 +14,8 @@ use Rattle.rb_ledger.specs.ChapterSeats.{ChapterConsumerSeat}
 use Rattle.rb_ledger.specs.LockedCalls.{span_in}
 
 -- a record as the `take` that found it answered: an event with the worker that made it, the record's number among that worker's, and its
--- bytes, or a discarded record that was passed over, with its length; or a chapter that the ring handed out; or that the consumer found
--- nothing to take
+-- bytes, or a discarded record that was passed over, with its length; or a chapter that the ring handed out; or that the consumer took all
+-- that it could
 pub data SinkItem : Type 0 where
   Record : (taken : Taken) → SinkItem
   Chapter : (chapter : RingChapter) → SinkItem

@@ -7,7 +7,7 @@ ghost use Rattle.rb_workers.specs.Opened.{IsKeeperFor};
 ghost use Rattle.rb_workers.specs.Sink.{TakesAll};
 ghost use Rattle.rb_workers.specs.inner.ConsumerTasks.{IsConsumerTaskOf, IsSameConsumer, Consumed, HasGiven, items_among};
 
-use crate::pace::Pace;
+use crate::pace::{BATCH, Pace};
 use crate::sink::Sink;
 use rb_consumer::{Batch, Keeper};
 use rb_jobs::{SHORT, Stock};
@@ -56,13 +56,13 @@ impl<S: Sink> ConsumerTask<S> {
         )
     }
 
-    // Lets the sink know if there was nothing to take.
+    // Lets the sink know if the batch was not full: the ring is empty then, or its first record busy.
     fn report_count(&mut self, count: usize)
         requires follows { S.position_of self.old.sink ≡ self.old.consumer.position }
         requires keeper { IsKeeperFor self.old.consumer self.old.keeper }
         ensures reported { Consumed S.position_of S.takes self.old self.new }
     {
-        if count == 0 {
+        if count < BATCH {
             self.sink.caught_up();
         }
     }

@@ -35,8 +35,9 @@ pub trait Sink {
         ensures stays { position_of self.new ≡ position_of self.old }
         ensures took { takes self.old (ChapterItem chapter.now) self.new };
 
-    /// Is called whenever the ring's consumer found nothing to take: the ring was empty, or its first record busy. No record is given and the
-    /// position stays, so a sink that buffers its output flushes it here. It may be called again before the next record.
+    /// Is called after each batch of records that is not full, so when the ring's consumer has taken all that it could: the ring was empty then, or
+    /// its first record busy. No record is given and the position stays, so a sink that buffers its output flushes it here. It may be called again
+    /// before the next record.
     fn caught_up(&mut self)
         ensures stays { position_of self.new ≡ position_of self.old }
         ensures took { takes self.old CaughtUp self.new };

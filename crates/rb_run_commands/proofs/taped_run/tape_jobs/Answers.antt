@@ -13,7 +13,7 @@ returns-clause-taped g c =
     let report = c.in_ok-report.report in
     let subject = c.args.program.now in
     let request = c.args.request in
-    let ran = subst (λ s. RunsWorkers tape_position (tape_takes contents) s subject request report) c.new-sink.ensures.value c.in_ok-report.ensures.ran in
+    let ran = subst (λ s. RunsWorkers tape_position (tape_takes contents writes_out) s subject request report) c.new-sink.ensures.value c.in_ok-report.ensures.ran in
     let handed = c.write_out_all-is_whole.ensures in
     let left = c.write_out_all-is_whole.new.writer in
     let whole = c.write_out_all-is_whole.result in
@@ -25,5 +25,5 @@ returns-clause-taped g c =
       ran = ran;
       printed = c.in_ok-report.ensures.printed;
       told = c.in_ok-report.ensures.told;
-      taped = ring_taped contents c.args.tape left subject request report ran writes_out c.pop.new.self.items c.in-Some.ended whole handed.called.0 c.in-Some.ensures.items told kept called;
+      taped = ring_taped contents writes_out c.args.tape left subject request report ran c.pop.new.self.items c.in-Some.ended whole handed.called.0 c.in-Some.ensures.items told kept called;
     }

@@ -3,8 +3,8 @@ use Rattle.rb_ledger.proofs.Beginnings.{begins_with_all}
 use Rattle.rb_workers.proofs.SinkItems.{caught_up, consumed_none}
 use Rattle.rb_workers.proofs.consumer_task.ConsumerTask.report_count.Goals as goal
 
-pub returns-then-count-eq0 : goal.returns-then-count-eq0
-returns-then-count-eq0 g c =
+pub returns-then-count-lt-BATCH : goal.returns-then-count-lt-BATCH
+returns-then-count-lt-BATCH g c =
     let task = c.args.self.now in
     let told = c.caught_up.ensures in
     record {
@@ -17,5 +17,5 @@ returns-then-count-eq0 g c =
       );
     }
 
-pub returns-else-count-eq0 : goal.returns-else-count-eq0
-returns-else-count-eq0 g c = record { reported = consumed_none g.S.Sink.position_of g.S.Sink.takes c.args.self.now c.requires.follows c.requires.keeper }
+pub returns-else-count-lt-BATCH : goal.returns-else-count-lt-BATCH
+returns-else-count-lt-BATCH g c = record { reported = consumed_none g.S.Sink.position_of g.S.Sink.takes c.args.self.now c.requires.follows c.requires.keeper }
