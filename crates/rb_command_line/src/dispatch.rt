@@ -8,8 +8,9 @@ ghost use Rattle.rb_tape_commands.specs.inner.PayloadSteps.{IsWholeInput};
 use crate::progress::{Metered, Progress};
 use crate::reasons::{Seen, reason_of};
 use crate::refusal::{CommandRefusal, object_of};
-use crate::request::{CommandLine, Subcommand, parse};
+use crate::request::{Asked, CommandLine, Subcommand, parse};
 use crate::sim_objects::print_objects;
+use crate::stream_command::carry_out_stream;
 use crate::taped_jobs::TapedJobs;
 use clap::Error;
 use clap::error::ErrorKind;
@@ -35,8 +36,9 @@ use std::time::Clock;
 /// With `--progress`, and without it where `is_watched`, as by a person at a terminal, `feed`, `tape`, `run` and `sim` tell about once a second how far they are,
 /// on the runtime's standard error and not on `err`, and take it away at the end.
 ///
-/// `feed`, `tape`, `explain`, `cost` and `sim` wait for nobody. `check` and `run` hold a ring's lock for each call, and `run` starts threads.
-pub fn command<T, F: Write + Send + Drop, S: AsStr, R: Read, W: Write, E: Write>(
+/// `feed`, `tape`, `explain`, `cost` and `sim` wait for nobody. `check`, `run` and `stream` hold a ring's lock for each call, and `run` and `stream` start
+/// threads.
+pub fn command<T, F: Read + Write + Send + Drop, S: AsStr, R: Read + Send, W: Write + Send, E: Write>(
     rt: &T,
     alloc: Global,
     words: &[S],
@@ -51,10 +53,11 @@ where
     ensures usage { result ≡ 2 → Keeps (R.remaining input.old) (R.remaining input.new) × Keeps (W.contents out.old) (W.contents out.new) }
 {
     match parse(alloc, words) {
-        Ok(mut asked) => {
+        Ok(Asked::Command(mut asked)) => {
             asked.progress |= is_watched && asked.request.is_long();
             carry_out(rt, alloc, &asked, input, out, err)
         }
+        Ok(Asked::Stream(options)) => carry_out_stream(rt, alloc, &options, input, out, err),
         Err(error) => print_usage(&error, out, err),
     }
 }

@@ -5,12 +5,14 @@ ghost use Rattle.std.specs.Option.{SomeIff};
 ghost use Rattle.std.specs.Str.Parse.{IsNumeral, digits_value};
 
 use crate::options::program;
+use crate::stream_request::stream_options;
 use clap::error::ErrorKind;
 use clap::{ArgMatches, Command, Error};
 use rb_cost::JobsAtOnce;
 use rb_json::LineForm;
 use rb_loader::Bounds;
 use rb_run_commands::JobsRequest;
+use rb_service::StreamOptions;
 use std::alloc::{AllocError, Global};
 use std::convert::AsStr;
 
@@ -147,9 +149,18 @@ pub(crate) struct CommandLine<'a> {
     pub progress: bool,
 }
 
+/// A command of the command line.
+#[derive(Drop)]
+pub(crate) enum Asked<'a> {
+    /// Any command but `stream`.
+    Command(CommandLine<'a>),
+    /// The command `stream`.
+    Stream(StreamOptions<'a>),
+}
+
 /// The command that these words name, which follow the program's name on the command line. An error is help or the version that was
 /// asked for, wrong usage, or out of memory.
-pub(crate) fn parse<'a, S: AsStr>(alloc: Global, words: &'a [S]) -> Result<CommandLine<'a>, Error> {
+pub(crate) fn parse<'a, S: AsStr>(alloc: Global, words: &'a [S]) -> Result<Asked<'a>, Error> {
     let mut program = program(alloc)?;
     request_of(alloc, &mut program, words)
 }
@@ -159,16 +170,17 @@ fn request_of<'a, S: AsStr>(
     alloc: Global,
     program: &mut Command<'a>,
     words: &'a [S],
-) -> Result<CommandLine<'a>, Error> {
+) -> Result<Asked<'a>, Error> {
     let matches = program.try_get_matches_from_mut(words)?;
     match matches.subcommand() {
+        Some(("stream", options)) => Ok(Asked::Stream(stream_options(alloc, program, options)?)),
         Some((name, options)) => {
             let request = command_request(alloc, program, name, options)?;
-            Ok(CommandLine {
+            Ok(Asked::Command(CommandLine {
                 request,
                 why: options.get_flag("why"),
                 progress: request.is_long() && options.get_flag("progress"),
-            })
+            }))
         }
         None => Err(program.error(ErrorKind::MissingSubcommand, "no command was given")?),
     }
@@ -300,7 +312,7 @@ fn number(
 }
 
 // The number that an option has, which is bounded.
-fn bounded(
+pub(crate) fn bounded(
     alloc: Global,
     program: &mut Command<'_>,
     options: &ArgMatches<'_>,
@@ -331,14 +343,24 @@ fn out_of_bounds(
     most: u64,
 ) -> Result<Error, AllocError> {
     let value = options.get_str(name).unwrap_or("");
-    let message = format!(in alloc;
-        "the value '{value}' of '--{name}' is not a decimal number from {least} to {most}"
-    )?;
+    let wanted = format!(in alloc; "a decimal number from {least} to {most}")?;
+    wrong_value(alloc, program, name, value, wanted.as_str())
+}
+
+/// Returns the error of an option whose value is not what is wanted.
+pub(crate) fn wrong_value(
+    alloc: Global,
+    program: &mut Command<'_>,
+    name: &str,
+    value: &str,
+    wanted: &str,
+) -> Result<Error, AllocError> {
+    let message = format!(in alloc; "the value '{value}' of '--{name}' is not {wanted}")?;
     program.error(ErrorKind::ValueValidation, message.as_str())
 }
 
 // The number that decimal digits spell, if it is below 2^64. `parse` alone would take a plus in front.
-fn decimal(text: &str) -> Option<u64>
+pub(crate) fn decimal(text: &str) -> Option<u64>
     ensures { SomeIff result (IsNumeral 10 text.now × (digits_value 10 text.now < 2 ^ 64)) (digits_value 10 text.now) }
 {
     if text.as_bytes().first() == Some(&b'+') {

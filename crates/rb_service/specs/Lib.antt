@@ -1,0 +1,4 @@
+pub mod Counters
+pub mod Outputs
+pub mod Rings
+pub mod Service

@@ -1,0 +1,117 @@
+-- Rings whose seats submitted or discarded all that they made, before a stream and after it.
+use Rattle.std.proofs.Common.{refl, sym, ap, map, ◌≡◌, ℕ, zero, suc, ◌+◌, ◌<◌, ◌≤◌, List, [], ◌∷◌, length, subst, ◌∙◌, arith}
+use Rattle.std.proofs.lemmas.List.Elements.{All-head, All-tail, All-cons, All-nil, All-same, All-map}
+use Rattle.std.specs.Prelude.{slice_get}
+use Rattle.std.specs.List.{All, AllZip}
+use Rattle.rb_verifier.specs.Subject.{Subject}
+use Rattle.rb_history.specs.declared.answers.Counts.{Counts}
+use Rattle.rb_chapter_ring.specs.Chapters.{joined}
+use Rattle.rb_ledger.specs.Seats.{WorkerSeat, SettlesWithin, HasSettledAll}
+use Rattle.rb_ledger.specs.ChapterSeats.{whole_consumer}
+use Rattle.rb_ledger.proofs.BoundChapters.{gathered-continues}
+use Rattle.rb_ledger.proofs.Sums.{once-closed}
+use Rattle.rb_ledger.proofs.WholeCalls.{said}
+use Rattle.rb_jobs.specs.SeatHelpers.{made_in, submitted_in, discarded_in}
+use Rattle.rb_jobs.proofs.Returned.{jobs_balance}
+use Rattle.rb_workers.specs.declared.opened.Opened.{Opened}
+use Rattle.rb_workers.specs.declared.opened.Ended.{Ended}
+use Rattle.rb_workers.specs.inner.RingEnds.{Closes}
+use Rattle.rb_workers.specs.Opened.{IsOpened}
+use Rattle.rb_workers.specs.Reports.{ring_at_end}
+use Rattle.rb_workers.specs.SeatRows.{seat_rows, worker_column}
+use Rattle.rb_workers.specs.Settled.{AreSettled, EachSettled, IsEven, EndsSettled}
+use Rattle.rb_workers.proofs.Same.{opened_long}
+use Rattle.rb_workers.proofs.Sums.{number_at, cons_sum}
+use Rattle.rb_stream_worker.specs.Tasks.{TaskRun, RunsTasks}
+use Rattle.rb_stream.proofs.TaskRuns.{answer_of, task_at}
+
+-- ---- a worker's seats
+
+-- each run submits and discards as many records as it makes
+tasks_settle : (worker : ℕ) (programs : List Subject) (runs : List TaskRun) (old new : List WorkerSeat) → RunsTasks worker programs runs old new → AreSettled old → AreSettled new
+tasks_settle worker programs [] old new same settled = subst AreSettled (sym same) settled
+tasks_settle worker programs (run ∷ runs) old new turn settled =
+    let first = jobs_balance (task_at worker turn.1.program run) (answer_of run) old turn.0 turn.1.ran in
+    tasks_settle worker programs runs turn.0 new turn.2 (omega (arith, first, settled))
+
+-- ---- one row
+
+abbrev made_at : List WorkerSeat → ℕ → ℕ
+made_at row k = number_at (λ s. s.tally.made) (slice_get row k)
+
+abbrev submitted_at : List WorkerSeat → ℕ → ℕ
+submitted_at row k = number_at (λ s. s.tally.submitted) (slice_get row k)
+
+abbrev discarded_at : List WorkerSeat → ℕ → ℕ
+discarded_at row k = number_at (λ s. s.tally.discarded) (slice_get row k)
+
+within_at : (row : List WorkerSeat) (k : ℕ) → All SettlesWithin row → submitted_at row k + discarded_at row k ≤ made_at row k
+within_at [] k all = omega arith
+within_at (s ∷ row) zero all = All-head SettlesWithin s row all
+within_at (s ∷ row) (suc k) all = within_at row k (All-tail SettlesWithin s row all)
+
+row_settled : (row : List WorkerSeat) → ((k : ℕ) → k < length row → made_at row k ≡ submitted_at row k + discarded_at row k) → All HasSettledAll row
+row_settled [] each = All-nil HasSettledAll
+row_settled (s ∷ row) each = All-cons HasSettledAll s row (each 0 (omega arith)) (row_settled row (λ k below. each (suc k) (omega arith)))
+
+-- ---- all rows
+
+column_within : (k : ℕ) (seats : List (List WorkerSeat)) → All (All SettlesWithin) seats → submitted_in (worker_column k seats) + discarded_in (worker_column k seats) ≤ made_in (worker_column k seats)
+column_within k [] all = omega arith
+column_within k (row ∷ seats) all =
+    let here = within_at row k (All-head (All SettlesWithin) row seats all) in
+    let rest = column_within k seats (All-tail (All SettlesWithin) row seats all) in
+    let made = cons_sum (λ (s : WorkerSeat). s.tally.made) (slice_get row k) (worker_column k seats) in
+    let submitted = cons_sum (λ (s : WorkerSeat). s.tally.submitted) (slice_get row k) (worker_column k seats) in
+    let discarded = cons_sum (λ (s : WorkerSeat). s.tally.discarded) (slice_get row k) (worker_column k seats) in
+    omega (arith, here, rest, made, submitted, discarded)
+
+column_settled : (k : ℕ) (row : List WorkerSeat) (seats : List (List WorkerSeat)) → All (All SettlesWithin) (row ∷ seats) → AreSettled (worker_column k (row ∷ seats))
+    → (made_at row k ≡ submitted_at row k + discarded_at row k) × AreSettled (worker_column k seats)
+column_settled k row seats all settled =
+    let here = within_at row k (All-head (All SettlesWithin) row seats all) in
+    let rest = column_within k seats (All-tail (All SettlesWithin) row seats all) in
+    let made = cons_sum (λ (s : WorkerSeat). s.tally.made) (slice_get row k) (worker_column k seats) in
+    let submitted = cons_sum (λ (s : WorkerSeat). s.tally.submitted) (slice_get row k) (worker_column k seats) in
+    let discarded = cons_sum (λ (s : WorkerSeat). s.tally.discarded) (slice_get row k) (worker_column k seats) in
+    (omega (arith, here, rest, made, submitted, discarded, settled), omega (arith, here, rest, made, submitted, discarded, settled))
+
+-- no seat settles more than it made, so if each worker's seats together settled all, each seat did
+each_settled : (count : ℕ) (seats : List (List WorkerSeat)) → All (λ row. length row ≡ count) seats → All (All SettlesWithin) seats → EachSettled count seats → All (All HasSettledAll) seats
+each_settled count [] rows within settled = All-nil (All HasSettledAll)
+each_settled count (row ∷ seats) rows within settled =
+    let len : length row ≡ count = All-head (λ (r : List WorkerSeat). length r ≡ count) row seats rows in
+    All-cons (All HasSettledAll) row seats (row_settled row (λ k below. (column_settled k row seats within (settled k (omega (arith, len, below)))).0))
+    (each_settled count seats (All-tail (λ (r : List WorkerSeat). length r ≡ count) row seats rows) (All-tail (All SettlesWithin) row seats within) (λ k below. (column_settled k row seats within (settled k below)).1))
+
+-- ---- closed rings
+
+closed_within : {S : Type 0} (back : List (Opened S)) (ended : List (Ended S)) → AllZip Closes back ended → All (All SettlesWithin) (seat_rows back)
+closed_within [] [] closes = All-nil (All SettlesWithin)
+closed_within [] (e ∷ es) closes = absurd closes
+closed_within (o ∷ os) [] closes = absurd closes
+closed_within (o ∷ os) (e ∷ es) closes =
+    All-cons (All SettlesWithin) o.seats.items (seat_rows os) (once-closed (ring_at_end o.consumer e) o.seats.items (whole_consumer o.consumer) closes.0.closed.closed).within (closed_within os es closes.1)
+
+closed_settled : {S : Type 0} (back : List (Opened S)) (ended : List (Ended S)) → AllZip Closes back ended → All (All HasSettledAll) (seat_rows back) → All EndsSettled ended
+closed_settled [] [] closes all = All-nil EndsSettled
+closed_settled [] (e ∷ es) closes all = absurd closes
+closed_settled (o ∷ os) [] closes all = absurd closes
+closed_settled (o ∷ os) (e ∷ es) closes all =
+    let c = closes.0 in
+    let row = o.seats.items in
+    let last = e.closing.at_end in
+    let here = All-head (All HasSettledAll) row (seat_rows os) all in
+    let goes_on = gathered-continues last row o.consumer c.closed.gathered in
+    let one : EndsSettled e = record {
+      tallies_even = All-same IsEven e.tallies.items (map (λ (s : WorkerSeat). s.tally) row) c.tallies_are (All-map IsEven (λ (s : WorkerSeat). s.tally) row here);
+      none_busy = ap (λ (n : Counts). n.busy) (said (joined o.consumer.handed_out) last last goes_on).counts ∙ (once-closed (ring_at_end o.consumer e) row (whole_consumer o.consumer) c.closed.closed).none_busy.0 here;
+    } in
+    All-cons EndsSettled e es one (closed_settled os es closes.1 (All-tail (All HasSettledAll) row (seat_rows os) all))
+
+-- if each worker's seats were settled before, each ring ends settled
+pub all_settled : {S : Type 0} (position : S → ℕ) (count : ℕ) (programs : List Subject) (runs : ℕ → List TaskRun) (opened back : List (Opened S)) (ended : List (Ended S)) → All (IsOpened position count) back → AllZip Closes back ended
+    → ((k : ℕ) → k < count → RunsTasks k programs (runs k) (worker_column k (seat_rows opened)) (worker_column k (seat_rows back))) → EachSettled count (seat_rows opened) → All EndsSettled ended
+all_settled position count programs runs opened back ended again closes turns settled =
+    let still : EachSettled count (seat_rows back) = λ k below. tasks_settle k programs (runs k) (worker_column k (seat_rows opened)) (worker_column k (seat_rows back)) (turns k below) (settled k below) in
+    closed_settled back ended closes (each_settled count (seat_rows back) (opened_long position count back again) (closed_within back ended closes) still)

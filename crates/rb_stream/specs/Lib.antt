@@ -1,0 +1,4 @@
+pub mod Refusals
+pub mod Returned
+pub mod Streamed
+pub mod inner
