@@ -1,7 +1,6 @@
 -- What is printed of a stream's report, as bytes (own).
 use Rattle.std.specs.Prelude.{ℕ, ◌+◌, ◌==◌, if◌then◌else◌, List, [], ◌∷◌, ◌++◌, codes}
 use Rattle.std.specs.Fmt.{decimal}
-use Rattle.std.specs.List.{flat_map}
 use Rattle.rb_history.specs.declared.answers.Counts.{Counts}
 use Rattle.rb_chapter_ring.specs.OpenedRing.{told_counts}
 use Rattle.rb_io.specs.Lines.{line}
@@ -26,6 +25,7 @@ abbrev pub result_lines_from : (program value : ℕ) → List ℕ → List ℕ
 result_lines_from program value [] = []
 result_lines_from program value (runs ∷ more) = result_line program value runs ++ result_lines_from program (value + 1) more
 
+-- how many runs of this program ended with a result that is not counted for itself, if any did
 abbrev pub other_line : (program runs : ℕ) → List ℕ
 other_line program runs = if runs == 0 then [] else line (codes "program " ++ decimal program ++ codes " other runs " ++ decimal runs)
 
@@ -33,6 +33,7 @@ other_line program runs = if runs == 0 then [] else line (codes "program " ++ de
 abbrev pub program_lines : ℕ → ResultCounts → List ℕ
 program_lines program counts = result_lines_from program 0 counts.below.items ++ other_line program counts.other
 
+-- the results of programs, numbered on from this one
 abbrev pub programs_lines_from : ℕ → List ResultCounts → List ℕ
 programs_lines_from program [] = []
 programs_lines_from program (counts ∷ more) = program_lines program counts ++ programs_lines_from (program + 1) more
@@ -44,11 +45,13 @@ ring_line name counts =
     ++ codes " consumed " ++ decimal counts.consumed ++ codes " discarded " ++ decimal counts.discarded
     ++ codes " waiting " ++ decimal counts.waiting ++ codes " busy " ++ decimal counts.busy)
 
-abbrev pub ring_lines : {S : Type 0} → List (List ℕ) → List (Ended S) → List ℕ
-ring_lines (name ∷ names) (ended ∷ more) = ring_line name (told_counts ended.closing.at_end) ++ ring_lines names more
-ring_lines _ _ = []
+-- the lines of rings, each by its name
+abbrev pub rings_lines : {S : Type 0} → List (List ℕ) → List (Ended S) → List ℕ
+rings_lines (name ∷ names) (ended ∷ more) = ring_line name (told_counts ended.closing.at_end) ++ rings_lines names more
+rings_lines _ _ = []
 
+-- the counters: of the contexts, each program's results, each ring, and the failures that no ring explains
 abbrev pub counters : {S : Type 0} → StreamReport S → ContextCounts → List (List ℕ) → List ℕ
 counters report contexts names =
     contexts_line report.contexts report.ran report.dropped contexts ++ programs_lines_from 0 report.results.items
-    ++ ring_lines names report.rings.items ++ line (codes "unlogged " ++ decimal report.unlogged)
+    ++ rings_lines names report.rings.items ++ line (codes "unlogged " ++ decimal report.unlogged)

@@ -1,3 +1,4 @@
+pub mod Command
 pub mod Counters
 pub mod Outputs
 pub mod Rings

@@ -1,5 +1,5 @@
 -- What the outputs of rings are given (own).
-use Rattle.std.specs.Prelude.{◌≡◌, ℕ, ◌+◌, Bool, List, Option}
+use Rattle.std.specs.Prelude.{◌≡◌, ℕ, ◌+◌, Bool, false, List, Option}
 use Rattle.rb_workers.specs.Sink.{SinkItem, sink_span}
 use Rattle.rb_run_commands.specs.TapedRun.{tape_position, tape_takes}
 use Rattle.rb_service.specs.declared.outputs.RingOutput.{RingOutput}
@@ -16,3 +16,9 @@ output_takes stream out file file_out (Stream old) item (Stream new) = tape_take
 output_takes stream out file file_out (File old) item (File new) = tape_takes file file_out old item new
 output_takes stream out file file_out (Nowhere old) item (Nowhere new) = new.position ≡ old.position + sink_span item
 output_takes stream out file file_out _ item _ = ⊥
+
+-- whether a tape ended with a record that did not go out whole
+abbrev pub has_failed : {A B : Type 0} → RingOutput A B → Bool
+has_failed (Stream tape) = tape.failed
+has_failed (File tape) = tape.failed
+has_failed (Nowhere sink) = false

@@ -1,17 +1,18 @@
 //! The command `stream`.
 
-ghost use Rattle.std.specs.Prelude.{◌≡◌, ◌≤◌, All, IfOk, length};
+ghost use Rattle.std.specs.Prelude.{◌≡◌, ◌≤◌, ◌<◌, All, IfErr, IfOk, OnOk, length, vec_len};
 ghost use Rattle.rb_history.specs.RingModel.{IsRingSize};
 ghost use Rattle.rb_source.specs.Form.{IsForm};
+ghost use Rattle.rb_source.specs.declared.framing.Framing.TheVariants.{Fixed};
+ghost use Rattle.rb_service.specs.Command.{HasContexts, IsAllowed, IsLater, IsRightRefusal};
 ghost use Rattle.rb_service.specs.Outputs.{output_position};
-ghost use Rattle.rb_service.specs.declared.rings.RingPlan.{RingPlan};
 
 use crate::counters::counters_text;
 use crate::options::{NamedRing, StreamOptions};
 use crate::outputs::RingOutput;
 use crate::rings::RingPlan;
-use crate::service::{ServiceRequest, serve};
-use rb_history::{SetupFault, check_setup};
+use crate::service::{ServiceFault, ServiceRequest, serve};
+use rb_history::{is_size, is_worker_count};
 use rb_io::Buffered;
 use rb_loader::{Bounds, ProgramFault, read_program};
 use rb_run_commands::TapeSink;
@@ -30,28 +31,31 @@ use thiserror::Error;
 /// Why `stream` ended with a refusal.
 #[derive(Clone, Copy, Debug, PartialEq, Eq, Error)]
 pub enum StreamRefusal<'a> {
+    /// Contexts would be longer than 65,536 bytes, or `fixed` ones would have no bytes.
+    #[error("context length")]
+    Context,
+    /// The ring of this name is the first whose size is not a power of two from 4,096 to 67,108,864.
+    #[error("size of ring {0}")]
+    Size(&'a str),
+    /// The number of workers is not 1 to 256.
+    #[error("workers")]
+    Workers,
     /// This file could not be opened.
     #[error("file {0}")]
     Open(&'a str),
     /// The program in this file was refused.
     #[error("program {0}: {1}")]
     Program(&'a str, ProgramFault),
-    /// Contexts would be longer than 65,536 bytes, or `fixed` ones would have no bytes.
-    #[error("context length")]
-    Context,
-    /// The ring of this name has a size that is not a power of two from 4,096 to 67,108,864.
-    #[error("size of ring {0}")]
-    Size(&'a str),
-    /// The number of workers is not 1 to 256.
-    #[error("workers")]
-    Workers,
     /// The input could not be read, or ends inside a context. All contexts before were run.
     #[error("input: {0}")]
     Source(SourceFault),
     /// Not all of the tape of this ring was written.
     #[error("tape of ring {0}")]
     Tape(&'a str),
-    /// There was no memory to begin, or to go on.
+    /// The stream did not begin, or stopped.
+    #[error("{0}")]
+    Service(ServiceFault),
+    /// There was no memory to begin, or to print the counters.
     #[error("memory")]
     Memory,
 }
@@ -67,6 +71,26 @@ impl<'a> From<AllocError> for StreamRefusal<'a> {
     }
 }
 
+// Returns the first refusal of the options by themselves: of the contexts, of the rings' sizes in their order, and of the workers.
+fn check_options<'a>(options: &StreamOptions<'a>) -> Result<(), StreamRefusal<'a>>
+    ensures refused { IfErr result (IsRightRefusal options.now) }
+    ensures allowed { OnOk result (IsAllowed options.now) }
+{
+    if !options.form.is_lawful() || options.framing == Framing::Fixed && options.form.len == 0 {
+        return Err(StreamRefusal::Context);
+    }
+    for at in 0..options.rings.len() {
+        let ring = options.rings[at];
+        if !is_size(ring.size) {
+            return Err(StreamRefusal::Size(ring.name));
+        }
+    }
+    if !is_worker_count(options.workers) {
+        return Err(StreamRefusal::Workers);
+    }
+    Ok(())
+}
+
 // Reads and verifies the programs.
 fn read_programs<'a, T, F: Read + Drop>(
     rt: &T,
@@ -76,6 +100,7 @@ fn read_programs<'a, T, F: Read + Drop>(
 ) -> Result<Vec<Verified>, StreamRefusal<'a>>
 where
     T: Files<File = F>,
+    ensures later { IfErr result IsLater }
 {
     let rings = options.rings.len().min(16) as u32;
     let mut programs = Vec::new(alloc);
@@ -95,7 +120,7 @@ where
     Ok(programs)
 }
 
-// Opens the output of a ring.
+// Opens the output of a ring. `out` is standard output, until a ring has it.
 fn open_output<'a, T, F: Write + Drop, W: Write + Drop>(
     rt: &T,
     alloc: Global,
@@ -106,6 +131,8 @@ fn open_output<'a, T, F: Write + Drop, W: Write + Drop>(
 where
     T: Files<File = F>,
     requires size { IsRingSize ring.size }
+    ensures begins { IfOk result (λ output. output_position output ≡ 0) }
+    ensures later { IfErr result IsLater }
 {
     let Some(path) = ring.out else {
         return Ok(RingOutput::Nowhere(NullSink { position: 0 }));
@@ -135,19 +162,14 @@ fn plan_rings<'a, T, F: Write + Drop, W: Write + Drop>(
 ) -> Result<Vec<RingPlan<RingOutput<'a, Buffered<W>, Buffered<F>>>>, StreamRefusal<'a>>
 where
     T: Files<File = F>,
+    requires sizes { All (λ r. IsRingSize r.size) options.now.rings.items }
     ensures begins { IfOk result (λ plans. All (λ p. output_position p.sink ≡ 0) plans.items) }
+    ensures later { IfErr result IsLater }
 {
     let mut plans = Vec::new(alloc);
     let mut out = Some(out);
     for at in 0..options.rings.len() {
         let ring = options.rings[at];
-        match check_setup(ring.size, 0, options.workers) {
-            Ok(()) => {}
-            Err(SetupFault::Size) | Err(SetupFault::Start) => {
-                return Err(StreamRefusal::Size(ring.name));
-            }
-            Err(SetupFault::Workers) => return Err(StreamRefusal::Workers),
-        }
         let sink = open_output(rt, alloc, ring, &mut out, gate)?;
         plans.reserve(1)?;
         plans.push_reserved(RingPlan {
@@ -158,6 +180,41 @@ where
     Ok(plans)
 }
 
+// Returns the names of the rings of a report.
+fn ring_names<'a>(
+    alloc: Global,
+    options: &StreamOptions<'a>,
+    count: usize,
+) -> Result<Vec<&'a str>, AllocError>
+    ensures len { IfOk result (λ names. vec_len names ≡ count) }
+{
+    let mut names = Vec::new(alloc);
+    for at in 0..count {
+        let name = match options.rings.get(at) {
+            Some(ring) => ring.name,
+            None => "",
+        };
+        names.reserve(1)?;
+        names.push_reserved(name);
+    }
+    Ok(names)
+}
+
+// Ends the outputs, and returns the number of the first of which not all was written.
+fn finish_outputs<'a, A: Write + Drop, B: Write + Drop>(
+    report: StreamReport<RingOutput<'a, Buffered<A>, Buffered<B>>>,
+) -> Option<usize> {
+    let mut at = 0usize;
+    let mut torn = None;
+    for ended in report.rings {
+        if !ended.sink.finish() && torn.is_none() {
+            torn = Some(at);
+        }
+        at = at.saturating_add(1);
+    }
+    torn
+}
+
 // Appends the counters to what is printed on standard error, and ends the outputs.
 fn report_on<'a, A: Write + Drop, B: Write + Drop>(
     alloc: Global,
@@ -165,25 +222,17 @@ fn report_on<'a, A: Write + Drop, B: Write + Drop>(
     report: StreamReport<RingOutput<'a, Buffered<A>, Buffered<B>>>,
     contexts: ContextCounts,
     told: &mut Vec<u8>,
-) -> Result<(), StreamRefusal<'a>> {
-    let mut names = Vec::new(alloc);
-    for at in 0..options.rings.len() {
-        names.reserve(1)?;
-        names.push_reserved(options.rings[at].name);
-    }
+) -> Result<(), StreamRefusal<'a>>
+    ensures later { IfErr result IsLater }
+{
+    let names = ring_names(alloc, options, report.rings.len())?;
     let text = counters_text(alloc, &report, contexts, names.as_slice())?;
     told.extend_from_slice(text.as_bytes())?;
     let end = report.end;
-    let mut at = 0usize;
-    let mut torn = None;
-    for ended in report.rings {
-        if !ended.sink.finish() && torn.is_none() {
-            torn = names.get(at).copied();
-        }
-        at = at.saturating_add(1);
-    }
-    if let Some(name) = torn {
-        return Err(StreamRefusal::Tape(name));
+    if let Some(at) = finish_outputs(report)
+        && let Some(name) = names.get(at)
+    {
+        return Err(StreamRefusal::Tape(*name));
     }
     match end {
         StreamEnd::Over => Ok(()),
@@ -201,8 +250,9 @@ fn stream_from<'a, T: Threads + Wait + Sync, I: Read + Send + Drop, A: Write + S
     plans: Vec<RingPlan<RingOutput<'a, Buffered<A>, Buffered<B>>>>,
     told: &mut Vec<u8>,
 ) -> Result<(), StreamRefusal<'a>>
-    requires lawful { IsForm options.now.form }
+    requires contexts { HasContexts options.now }
     requires begins { All (λ p. output_position p.sink ≡ 0) plans.items }
+    ensures later { IfErr result IsLater }
 {
     let mut source = FramedReader::new(alloc, input, options.framing, options.form)?;
     let request = ServiceRequest {
@@ -212,7 +262,7 @@ fn stream_from<'a, T: Threads + Wait + Sync, I: Read + Send + Drop, A: Write + S
     };
     match serve(rt, alloc, programs, &mut source, plans, request) {
         Ok(report) => report_on(alloc, options, report, source.counts(), told),
-        Err(_fault) => Err(StreamRefusal::Memory),
+        Err(fault) => Err(StreamRefusal::Service(fault)),
     }
 }
 
@@ -221,8 +271,8 @@ fn stream_from<'a, T: Threads + Wait + Sync, I: Read + Send + Drop, A: Write + S
 ///
 /// # Errors
 ///
-/// What is refused first: the form of the contexts, then the programs in their order, the rings in their order with their outputs, the input's
-/// file. Nothing was read from the input then.
+/// `Context`, `Size` and `Workers` are refusals of the options, in this order, and come before any file is opened. Then the programs are read in their
+/// order, the outputs are opened in the order of the rings, and the input's file is opened; nothing is read of the input before.
 pub fn stream<'a, T, F: Read + Write + Send + Drop, R: Read + Send, W: Write + Send>(
     rt: &T,
     alloc: Global,
@@ -234,10 +284,28 @@ pub fn stream<'a, T, F: Read + Write + Send + Drop, R: Read + Send, W: Write + S
 ) -> Result<(), StreamRefusal<'a>>
 where
     T: Threads + Wait + Sync + Files<File = F>,
+    ensures refused { IfErr result (IsRightRefusal options.now) }
+    ensures allowed { OnOk result (IsAllowed options.now) }
 {
-    if !options.form.is_lawful() || options.framing == Framing::Fixed && options.form.len == 0 {
-        return Err(StreamRefusal::Context);
-    }
+    check_options(options)?;
+    stream_allowed(rt, alloc, options, gate, input, out, told)
+}
+
+// Runs the stream of these options, which are allowed by themselves.
+fn stream_allowed<'a, T, F: Read + Write + Send + Drop, R: Read + Send, W: Write + Send>(
+    rt: &T,
+    alloc: Global,
+    options: &StreamOptions<'a>,
+    gate: &'a OpenGate,
+    input: &mut R,
+    out: &mut W,
+    told: &mut Vec<u8>,
+) -> Result<(), StreamRefusal<'a>>
+where
+    T: Threads + Wait + Sync + Files<File = F>,
+    requires allowed { IsAllowed options.now }
+    ensures later { IfErr result IsLater }
+{
     let programs = read_programs(rt, alloc, options, options.form.ctx_len())?;
     let plans = plan_rings(rt, alloc, options, out, gate)?;
     let Some(path) = options.from else {

@@ -1,7 +1,7 @@
 //! What is printed of a service's report.
 
-ghost use Rattle.std.specs.Prelude.{◌≡◌, ◌++◌, IfOk, OnOk, length, string_bytes};
-ghost use Rattle.rb_service.specs.Counters.{contexts_line, counters, program_lines, programs_lines_from, result_line, result_lines_from, ring_line, ring_lines_from};
+ghost use Rattle.std.specs.Prelude.{◌≡◌, ◌++◌, IfOk, OnOk, length, map, string_bytes};
+ghost use Rattle.rb_service.specs.Counters.{contexts_line, counters, other_line, program_lines, programs_lines_from, result_line, result_lines_from, ring_line, rings_lines};
 
 use rb_history::Counts;
 use rb_source::ContextCounts;
@@ -19,31 +19,57 @@ pub fn counters_text<S>(
     names: &[&str],
 ) -> Result<String, AllocError>
     requires names { length names.now ≡ length report.now.rings.items }
-    ensures text { IfOk result (λ text. string_bytes text ≡ counters report.now contexts names.now) }
+    ensures text { IfOk result (λ text. string_bytes text ≡ counters report.now contexts (map (λ n. n.now) names.now)) }
 {
     let mut text = String::new(alloc);
-    let (read, run, dropped) = (report.contexts, report.ran, report.dropped);
-    let (skipped, cut) = (contexts.skipped, contexts.cut);
-    writeln!(text, "contexts read {read} run {run} dropped {dropped} skipped {skipped} cut {cut}")?;
-    for program in 0..report.results.len() {
-        push_results(&mut text, program, &report.results[program])?;
-    }
-    for ring in 0..report.rings.len() {
-        push_ring(&mut text, names[ring], report.rings[ring].closing.counts())?;
-    }
+    push_contexts(&mut text, report.contexts, report.ran, report.dropped, contexts)?;
+    push_programs(&mut text, report.results.as_slice())?;
+    push_rings(&mut text, report.rings.as_slice(), names)?;
     writeln!(text, "unlogged {}", report.unlogged)?;
     Ok(text)
+}
+
+// Appends the line of the contexts.
+fn push_contexts(
+    text: &mut String,
+    read: u64,
+    run: u64,
+    dropped: u64,
+    contexts: ContextCounts,
+) -> Result<(), AllocError>
+    ensures line { OnOk result (string_bytes text.new ≡ string_bytes text.old ++ contexts_line read run dropped contexts) }
+{
+    let (skipped, cut) = (contexts.skipped, contexts.cut);
+    writeln!(
+        text,
+        "contexts read {read} run {run} dropped {dropped} skipped {skipped} cut {cut}"
+    )
+}
+
+// Appends the lines of each program's results.
+fn push_programs(text: &mut String, results: &[ResultCounts]) -> Result<(), AllocError>
+    ensures lines { OnOk result (string_bytes text.new ≡ string_bytes text.old ++ programs_lines_from 0 results.now) }
+{
+    for program in 0..results.len() {
+        push_results(text, program, &results[program])?;
+    }
+    Ok(())
 }
 
 // Appends a line for each result with which runs of a program ended.
 fn push_results(text: &mut String, program: usize, counts: &ResultCounts) -> Result<(), AllocError>
     ensures lines { OnOk result (string_bytes text.new ≡ string_bytes text.old ++ program_lines program counts.now) }
 {
-    for value in 0..counts.below.len() {
-        push_result(text, program, value, counts.below[value])?;
-    }
-    if counts.other > 0 {
-        writeln!(text, "program {program} other runs {}", counts.other)?;
+    push_counted(text, program, counts.below.as_slice())?;
+    push_other(text, program, counts.other)
+}
+
+// Appends a line for each result that is counted for itself and with which runs of a program ended.
+fn push_counted(text: &mut String, program: usize, below: &[u64]) -> Result<(), AllocError>
+    ensures lines { OnOk result (string_bytes text.new ≡ string_bytes text.old ++ result_lines_from program 0 below.now) }
+{
+    for value in 0..below.len() {
+        push_result(text, program, value, below[value])?;
     }
     Ok(())
 }
@@ -52,8 +78,29 @@ fn push_results(text: &mut String, program: usize, counts: &ResultCounts) -> Res
 fn push_result(text: &mut String, program: usize, value: usize, runs: u64) -> Result<(), AllocError>
     ensures line { OnOk result (string_bytes text.new ≡ string_bytes text.old ++ result_line program value runs) }
 {
-    if runs > 0 {
-        writeln!(text, "program {program} result {value} runs {runs}")?;
+    if runs == 0 {
+        return Ok(());
+    }
+    writeln!(text, "program {program} result {value} runs {runs}")
+}
+
+// Appends the line of the runs with other results, if there are any.
+fn push_other(text: &mut String, program: usize, runs: u64) -> Result<(), AllocError>
+    ensures line { OnOk result (string_bytes text.new ≡ string_bytes text.old ++ other_line program runs) }
+{
+    if runs == 0 {
+        return Ok(());
+    }
+    writeln!(text, "program {program} other runs {runs}")
+}
+
+// Appends the lines of the rings, each by its name.
+fn push_rings<S>(text: &mut String, rings: &[Ended<S>], names: &[&str]) -> Result<(), AllocError>
+    requires names { length names.now ≡ length rings.now }
+    ensures lines { OnOk result (string_bytes text.new ≡ string_bytes text.old ++ rings_lines (map (λ n. n.now) names.now) rings.now) }
+{
+    for ring in 0..rings.len() {
+        push_ring(text, names[ring], rings[ring].closing.counts())?;
     }
     Ok(())
 }
@@ -62,7 +109,14 @@ fn push_result(text: &mut String, program: usize, value: usize, runs: u64) -> Re
 fn push_ring(text: &mut String, name: &str, counts: Counts) -> Result<(), AllocError>
     ensures line { OnOk result (string_bytes text.new ≡ string_bytes text.old ++ ring_line name.now counts) }
 {
-    let Counts { made, refused, consumed, discarded, waiting, busy } = counts;
+    let Counts {
+        made,
+        refused,
+        consumed,
+        discarded,
+        waiting,
+        busy,
+    } = counts;
     writeln!(
         text,
         "ring {name} made {made} refused {refused} consumed {consumed} discarded {discarded} waiting {waiting} busy {busy}"

@@ -15,8 +15,8 @@ pub use command::{StreamRefusal, stream};
 pub use counters::counters_text;
 pub use options::{NamedRing, StreamOptions};
 pub use outputs::RingOutput;
-pub use rings::{RingPlan, ServiceFault};
-pub use service::{ServiceRequest, serve};
+pub use rings::RingPlan;
+pub use service::{ServiceFault, ServiceRequest, serve};
 
 #[cfg(test)]
 mod tests;

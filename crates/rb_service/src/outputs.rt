@@ -18,8 +18,13 @@ pub enum RingOutput<'w, A, B> {
 }
 
 impl<'w, A: Outgoing + Drop, B: Outgoing + Drop> RingOutput<'w, A, B> {
+    ghost use Rattle.std.specs.Prelude.{◌≡◌, false, true};
+    ghost use Rattle.rb_service.specs.Outputs.{has_failed};
+
     /// Writes out what waits in the output's buffer, and returns whether all of the output was written.
-    pub fn finish(self) -> bool {
+    pub fn finish(self) -> bool
+        ensures whole { result ≡ true → has_failed self.entry ≡ false }
+    {
         match self {
             RingOutput::Stream(tape) => {
                 let failed = tape.failed();
