@@ -4,6 +4,7 @@
 //! reads and prints nothing.
 #![tactic(auto)]
 
+mod bounds;
 mod dispatch;
 mod options;
 mod progress;
@@ -12,5 +13,7 @@ mod refusal;
 mod request;
 mod sim_objects;
 mod taped_jobs;
+mod terminals;
 
 pub use dispatch::command;
+pub use terminals::Terminals;
