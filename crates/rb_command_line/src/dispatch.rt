@@ -12,6 +12,7 @@ use crate::request::{Asked, CommandLine, Subcommand, parse};
 use crate::sim_objects::print_objects;
 use crate::stream_command::carry_out_stream;
 use crate::taped_jobs::TapedJobs;
+use crate::terminals::Terminals;
 use clap::Error;
 use clap::error::ErrorKind;
 use rb_io::{NotedReader, NotedWriter, write_whole};
@@ -22,6 +23,7 @@ use rb_script::{SimFault, line_reason, sim};
 use rb_tape_commands::{feed_buffered, tape_buffered};
 use std::alloc::Global;
 use std::convert::AsStr;
+use std::fs::File;
 use std::io::{Eprint, Read, Write};
 use std::rt::Files;
 use std::sync::Wait;
@@ -31,18 +33,18 @@ use std::time::Clock;
 /// Carries out the command that the words name, which follow the program's name on the command line, and returns the status that
 /// the program ends with: 0; 1 where it was refused, with a line on `err` that begins with `refused `, with `--why` behind a line with the reason,
 /// and with `--json` as an object on `out` too; 2 for wrong usage, which goes to `err` before anything is read or written. Help and the version,
-/// where they are asked for, go to `out`.
+/// where they are asked for, go to `out`. A command that is given a FILE reads it in the place of `input`.
 ///
-/// With `--progress`, and without it where `is_watched`, as by a person at a terminal, `feed`, `tape`, `run` and `sim` tell about once a second how far they are,
-/// on the runtime's standard error and not on `err`, and take it away at the end.
+/// With `--progress`, and without it if standard error is a terminal and standard output is none, `feed`, `tape`, `run` and `sim` tell about once a
+/// second how far they are, on the runtime's standard error and not on `err`, and take it away at the end. If standard error is a terminal `--why` is
+/// the default, which `--no-why` turns off.
 ///
-/// `feed`, `tape`, `explain`, `cost` and `sim` wait for nobody. `check`, `run` and `stream` hold a ring's lock for each call, and `run` and `stream` start
-/// threads.
+/// `feed`, `tape`, `explain`, `cost` and `sim` wait for nobody. `check` and `run` hold a ring's lock for each call, and `run` starts threads.
 pub fn command<T, F: Read + Write + Send + Drop, S: AsStr, R: Read + Send, W: Write + Send, E: Write>(
     rt: &T,
     alloc: Global,
     words: &[S],
-    is_watched: bool,
+    terminals: Terminals,
     input: &mut R,
     out: &mut W,
     err: &mut E,
@@ -52,11 +54,8 @@ where
     ensures status { result ≤ 2 }
     ensures usage { result ≡ 2 → Keeps (R.remaining input.old) (R.remaining input.new) × Keeps (W.contents out.old) (W.contents out.new) }
 {
-    match parse(alloc, words) {
-        Ok(Asked::Command(mut asked)) => {
-            asked.progress |= is_watched && asked.request.is_long();
-            carry_out(rt, alloc, &asked, input, out, err)
-        }
+    match parse(alloc, words, terminals) {
+        Ok(Asked::Command(asked)) => carry_out_over(rt, alloc, &asked, input, out, err),
         Ok(Asked::Stream(options)) => carry_out_stream(rt, alloc, &options, input, out, err),
         Err(error) => print_usage(&error, out, err),
     }
@@ -91,7 +90,33 @@ fn print_refusal<E: Write>(refusal: &CommandRefusal, err: &mut E) -> u8
     1
 }
 
-// Carries out a command, and tells its refusal.
+// Carries out a command over the file that it is to read, or else over this input.
+fn carry_out_over<T, F: Read + Write + Send + Drop, R: Read, W: Write, E: Write>(
+    rt: &T,
+    alloc: Global,
+    asked: &CommandLine<'_>,
+    input: &mut R,
+    out: &mut W,
+    err: &mut E,
+) -> u8
+where
+    T: Threads + Wait + Sync + Files<File = F> + Clock + Eprint,
+    ensures { result ≤ 1 }
+{
+    let Some(path) = asked.file else {
+        return carry_out(rt, alloc, asked, input, out, err);
+    };
+    match File::open(rt, path) {
+        Ok(mut file) => carry_out(rt, alloc, asked, &mut file, out, err),
+        Err(error) => {
+            let seen = Seen::of_unopened(error);
+            let refusal = CommandRefusal::Program(ProgramFault::Device);
+            tell_refusal(alloc, &refusal, asked, &seen, out, err)
+        }
+    }
+}
+
+// Carries out a command over this input, and tells its refusal.
 fn carry_out<T, F: Write + Send + Drop, R: Read, W: Write, E: Write>(
     rt: &T,
     alloc: Global,
@@ -166,7 +191,7 @@ fn tell_refusal<W: Write, E: Write>(
 {
     let cause = refusal.cause();
     let reason = if asked.why {
-        reason_of(alloc, cause, &asked.request, seen).ok()
+        reason_of(alloc, cause, asked, seen).ok()
     } else {
         None
     };

@@ -4,6 +4,7 @@
 //! reads and prints nothing.
 #![tactic(auto)]
 
+mod bounds;
 mod dispatch;
 mod options;
 mod progress;
@@ -15,5 +16,7 @@ mod stream_command;
 mod stream_options;
 mod stream_request;
 mod taped_jobs;
+mod terminals;
 
 pub use dispatch::command;
+pub use terminals::Terminals;

@@ -23,6 +23,22 @@ pub(crate) fn program<'a>(alloc: Global) -> Result<Command<'a>, AllocError> {
     with(program, stream(alloc))
 }
 
+/// The command of this name, by itself.
+pub(crate) fn subcommand<'a>(alloc: Global, name: &str) -> Result<Command<'a>, AllocError> {
+    let bin_name = format!(in alloc; "rbhost {name}")?;
+    let command = match name {
+        "feed" => feed(alloc)?,
+        "tape" => tape(alloc)?,
+        "check" => check(alloc)?,
+        "explain" => explain(alloc)?,
+        "cost" => cost(alloc)?,
+        "run" => run(alloc)?,
+        "stream" => stream(alloc)?,
+        _ => sim(alloc)?,
+    };
+    command.bin_name(bin_name.as_str())
+}
+
 // The program with one command more.
 fn with<'a>(
     program: Command<'a>,
@@ -42,7 +58,9 @@ fn feed<'a>(alloc: Global) -> Result<Command<'a>, AllocError> {
         .arg(retry(alloc))?
         .arg(json(alloc))?
         .arg(why(alloc))?
-        .arg(progress(alloc))
+        .arg(no_why(alloc)?)?
+        .arg(progress(alloc))?
+        .arg(file(alloc))
 }
 
 fn tape<'a>(alloc: Global) -> Result<Command<'a>, AllocError> {
@@ -55,7 +73,9 @@ fn tape<'a>(alloc: Global) -> Result<Command<'a>, AllocError> {
         .arg(start(alloc))?
         .arg(json(alloc))?
         .arg(why(alloc))?
-        .arg(progress(alloc))
+        .arg(no_why(alloc)?)?
+        .arg(progress(alloc))?
+        .arg(file(alloc))
 }
 
 fn check<'a>(alloc: Global) -> Result<Command<'a>, AllocError> {
@@ -66,7 +86,9 @@ fn check<'a>(alloc: Global) -> Result<Command<'a>, AllocError> {
         .arg(rings(alloc))?
         .arg(portable(alloc))?
         .arg(json(alloc))?
-        .arg(why(alloc))
+        .arg(why(alloc))?
+        .arg(no_why(alloc)?)?
+        .arg(file(alloc))
 }
 
 fn explain<'a>(alloc: Global) -> Result<Command<'a>, AllocError> {
@@ -79,7 +101,9 @@ fn explain<'a>(alloc: Global) -> Result<Command<'a>, AllocError> {
         .arg(rings(alloc))?
         .arg(portable(alloc))?
         .arg(json(alloc))?
-        .arg(why(alloc))
+        .arg(why(alloc))?
+        .arg(no_why(alloc)?)?
+        .arg(file(alloc))
 }
 
 fn cost<'a>(alloc: Global) -> Result<Command<'a>, AllocError> {
@@ -95,7 +119,9 @@ fn cost<'a>(alloc: Global) -> Result<Command<'a>, AllocError> {
         .arg(at_once(alloc)?)?
         .arg(behind(alloc)?)?
         .arg(json(alloc))?
-        .arg(why(alloc))
+        .arg(why(alloc))?
+        .arg(no_why(alloc)?)?
+        .arg(file(alloc))
 }
 
 fn run<'a>(alloc: Global) -> Result<Command<'a>, AllocError> {
@@ -113,7 +139,9 @@ fn run<'a>(alloc: Global) -> Result<Command<'a>, AllocError> {
         .arg(tape_file(alloc))?
         .arg(json(alloc))?
         .arg(why(alloc))?
-        .arg(progress(alloc))
+        .arg(no_why(alloc)?)?
+        .arg(progress(alloc))?
+        .arg(file(alloc))
 }
 
 fn sim<'a>(alloc: Global) -> Result<Command<'a>, AllocError> {
@@ -125,7 +153,9 @@ fn sim<'a>(alloc: Global) -> Result<Command<'a>, AllocError> {
         .arg(draw(alloc))?
         .arg(json(alloc))?
         .arg(why(alloc))?
-        .arg(progress(alloc))
+        .arg(no_why(alloc)?)?
+        .arg(progress(alloc))?
+        .arg(file(alloc))
 }
 
 fn workers<'a>(alloc: Global) -> Arg<'a> {
@@ -165,7 +195,7 @@ fn ctx<'a>(alloc: Global) -> Arg<'a> {
     option(alloc, "ctx")
         .value_name("N")
         .default_value("16")
-        .help("The length of the context in bytes, at most 65536")
+        .help("The length of the context in bytes, at most 65536; K is allowed, as in 1K")
 }
 
 fn rings<'a>(alloc: Global) -> Arg<'a> {
@@ -177,7 +207,7 @@ fn rings<'a>(alloc: Global) -> Arg<'a> {
 
 fn size<'a>(alloc: Global) -> Arg<'a> {
     option(alloc, "size").value_name("N").required(true).help(
-        "The ring's size in bytes: a power of two from 4096 to 67108864",
+        "The ring's size in bytes: a power of two from 4096 to 67108864. K and M are allowed, as in 64K",
     )
 }
 
@@ -206,7 +236,23 @@ fn why<'a>(alloc: Global) -> Arg<'a> {
     Arg::new(alloc, "why")
         .long("why")
         .action(ArgAction::SetTrue)
-        .help("Print the reason of a refusal in front of it")
+        .help(
+            "Print the reason of a refusal in front of it, as is done if standard error is a terminal",
+        )
+}
+
+fn no_why<'a>(alloc: Global) -> Result<Arg<'a>, AllocError> {
+    Arg::new(alloc, "no-why")
+        .long("no-why")
+        .action(ArgAction::SetTrue)
+        .help("Print no reason of a refusal")
+        .conflicts_with("why")
+}
+
+fn file<'a>(alloc: Global) -> Arg<'a> {
+    Arg::new(alloc, "file").value_name("FILE").help(
+        "The file to read; standard input if there is none or it is -",
+    )
 }
 
 fn progress<'a>(alloc: Global) -> Arg<'a> {

@@ -1,7 +1,8 @@
 //! The reason of a refusal, in words for people: the one place where each is worded.
 
+use crate::bounds::{SIZES, STARTS, WORKERS};
 use crate::refusal::Cause;
-use crate::request::Subcommand;
+use crate::request::{CommandLine, Subcommand};
 use rb_history::POSITION_LIMIT;
 use rb_io::Front;
 use rb_program::DecodeKind;
@@ -13,9 +14,11 @@ use std::io::Error;
 /// What was seen of a command's input and of what it wrote to.
 #[derive(Default, Drop)]
 pub(crate) struct Seen {
-    /// The front of standard input.
+    /// The front of the input.
     pub front: Front,
-    /// The error of the last read of standard input, where it failed.
+    /// Why the input could not be opened.
+    pub opening: Option<Error>,
+    /// The error of the last read of the input, where it failed.
     pub reading: Option<Error>,
     /// The error of the last write to standard output, where it failed.
     pub printing: Option<Error>,
@@ -25,16 +28,50 @@ pub(crate) struct Seen {
     pub line: Option<String>,
 }
 
+impl Seen {
+    /// What was seen of an input that could not be opened.
+    pub(crate) fn of_unopened(error: Error) -> Seen {
+        Seen {
+            front: Front::default(),
+            opening: Some(error),
+            reading: None,
+            printing: None,
+            file: None,
+            line: None,
+        }
+    }
+}
+
 /// The reason of a refusal: what was asked for, with its bounds, or what was seen.
 pub(crate) fn reason_of(
     alloc: Global,
     cause: Cause,
+    asked: &CommandLine<'_>,
+    seen: &Seen,
+) -> Result<String, AllocError> {
+    let name = input_name(alloc, asked.file)?;
+    input_reason(alloc, cause, &asked.request, name.as_str(), seen)
+}
+
+// The name of the input.
+fn input_name(alloc: Global, file: Option<&str>) -> Result<String, AllocError> {
+    match file {
+        Some(path) => printable(alloc, path),
+        None => String::from_str(alloc, "standard input"),
+    }
+}
+
+// The reason of a refusal, by the name of the input.
+fn input_reason(
+    alloc: Global,
+    cause: Cause,
     request: &Subcommand<'_>,
+    input: &str,
     seen: &Seen,
 ) -> Result<String, AllocError> {
     match cause {
-        Cause::Text => text_reason(alloc, seen.front),
-        Cause::Decode(DecodeKind::Length, _) => length_reason(alloc, seen.front),
+        Cause::Text => text_reason(alloc, input, seen.front),
+        Cause::Decode(DecodeKind::Length, _) => length_reason(alloc, input, seen.front),
         Cause::Decode(kind, unit) => {
             format!(in alloc; "unit {unit}: {kind}; {}", mending(request))
         }
@@ -42,28 +79,25 @@ pub(crate) fn reason_of(
             format!(in alloc; "unit {unit}: {kind}; {}", mending(request))
         }
         Cause::Verify(rule, unit) => {
-            format!(in alloc; "unit {unit} breaks rule V{rule}; {}", mending(request))
+            format!(in alloc;
+                "unit {unit} breaks rule V{rule}; {}{}",
+                mending(request),
+                fixed_bounds(request)
+            )
         }
-        Cause::Size => option_reason(
-            alloc,
-            "size",
-            request.size(),
-            "a power of two from 4096 to 67108864",
+        Cause::Size => option_reason(alloc, "size", request.size(), SIZES),
+        Cause::Start => option_reason(alloc, "start", request.start(), STARTS),
+        Cause::Workers => option_reason(alloc, "workers", request.workers(), WORKERS),
+        Cause::Record(TapeKind::Truncated, offset) => format!(in alloc;
+            "the record behind {offset} bytes: {input} ends inside it"
         ),
-        Cause::Start => option_reason(
-            alloc,
-            "start",
-            request.start(),
-            "a multiple of 8 up to 2305843009213693952",
-        ),
-        Cause::Workers => option_reason(alloc, "workers", request.workers(), "1 to 256"),
         Cause::Record(kind, offset) => format!(in alloc;
             "the record behind {offset} bytes: {}",
             record_words(kind)
         ),
         Cause::Fit(payload) => fit_reason(alloc, payload, request.size()),
         Cause::Ends(payload) => format!(in alloc;
-            "standard input has {} bytes, and ends inside payload {payload} or the four bytes of its length",
+            "{input} has {} bytes, and ends inside payload {payload} or the four bytes of its length",
             seen.front.count
         ),
         Cause::Line(line) => match &seen.line {
@@ -71,7 +105,7 @@ pub(crate) fn reason_of(
             None => format!(in alloc; "line {line} of the script"),
         },
         Cause::Memory => memory_reason(alloc, request),
-        Cause::Device => device_reason(alloc, request, seen),
+        Cause::Device => device_reason(alloc, request, input, seen),
     }
 }
 
@@ -80,6 +114,14 @@ fn mending(request: &Subcommand<'_>) -> &'static str {
     match request {
         Subcommand::Explain { .. } => "standard output has what it wants and how programs mend it",
         _ => "`rbhost explain` says what it wants and how programs mend it",
+    }
+}
+
+// What a program of `run` is verified for, which no option changes.
+fn fixed_bounds(request: &Subcommand<'_>) -> &'static str {
+    match request {
+        Subcommand::Run { .. } => "; a job of `run` has a context of 16 bytes and one ring",
+        _ => "",
     }
 }
 
@@ -94,32 +136,31 @@ fn option_reason(
 }
 
 // Why a text is no program in hex.
-fn text_reason(alloc: Global, front: Front) -> Result<String, AllocError> {
+fn text_reason(alloc: Global, input: &str, front: Front) -> Result<String, AllocError> {
     match front.odd {
-        Some((0, 0x7f)) => String::from_str(
-            alloc,
-            "standard input is an ELF object: `tools/bpf-hex FILE.o` prints its hex",
+        Some((0, 0x7f)) => format!(in alloc;
+            "{input} is an ELF object: `tools/bpf-hex FILE.o` prints its hex"
         ),
         Some((at, byte)) if byte.is_ascii_graphic() => format!(in alloc;
-            "byte {at} of standard input is '{}', neither a hex digit nor white space",
+            "byte {at} of {input} is '{}', neither a hex digit nor white space",
             byte as char
         ),
         Some((at, byte)) => format!(in alloc;
-            "byte {at} of standard input is {byte:#04x}: these are raw bytes, and a program is text in hex, as `xxd -p` prints it"
+            "byte {at} of {input} is {byte:#04x}: these are raw bytes, and a program is text in hex, as `xxd -p` prints it"
         ),
         None if front.digits % 2 == 1 => format!(in alloc;
-            "standard input has {} hex digits, and a byte has two",
+            "{input} has {} hex digits, and a byte has two",
             front.digits
         ),
-        None => String::from_str(alloc, "standard input is no text in hex"),
+        None => format!(in alloc; "{input} is no text in hex"),
     }
 }
 
 // Why a program has no length.
-fn length_reason(alloc: Global, front: Front) -> Result<String, AllocError> {
+fn length_reason(alloc: Global, input: &str, front: Front) -> Result<String, AllocError> {
     if front.digits == 0 {
         return format!(in alloc;
-            "standard input is empty: it has {} bytes and no hex digit",
+            "{input} is empty: it has {} bytes and no hex digit",
             front.count
         );
     }
@@ -147,7 +188,7 @@ fn record_words(kind: TapeKind) -> &'static str {
         TapeKind::Padding => "the bytes that fill it up to eights are not zeros",
         TapeKind::TooLong => "it has no room in a ring of this --size, or ends past position 2^62",
         TapeKind::DiscardedBytes => "it was discarded, and its bytes are not zeros",
-        TapeKind::Truncated => "standard input ends inside it",
+        TapeKind::Truncated => "it is cut off",
         TapeKind::Memory => "there is no memory for it",
     }
 }
@@ -169,14 +210,19 @@ fn memory_reason(alloc: Global, request: &Subcommand<'_>) -> Result<String, Allo
 fn device_reason(
     alloc: Global,
     request: &Subcommand<'_>,
+    input: &str,
     seen: &Seen,
 ) -> Result<String, AllocError> {
+    if let Some(error) = seen.opening {
+        let words = words_of(alloc, error)?;
+        return format!(in alloc; "cannot open {input}: {words}");
+    }
     if let Some(fault) = seen.file {
         return file_reason(alloc, request.tape(), fault);
     }
     if let Some(error) = seen.reading {
         let words = words_of(alloc, error)?;
-        return format!(in alloc; "cannot read standard input: {words}");
+        return format!(in alloc; "cannot read {input}: {words}");
     }
     match seen.printing {
         Some(error) => {

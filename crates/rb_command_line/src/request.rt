@@ -1,13 +1,14 @@
 //! What the words of the command line ask for.
 
-ghost use Rattle.std.specs.Prelude.{◌<◌, ◌≤◌, ◌^◌, IfOk};
+ghost use Rattle.std.specs.Prelude.{◌<◌, ◌^◌};
 ghost use Rattle.std.specs.Option.{SomeIff};
 ghost use Rattle.std.specs.Str.Parse.{IsNumeral, digits_value};
 
-use crate::options::program;
-use crate::stream_request::stream_options;
+use crate::bounds::{SIZES, STARTS};
+use crate::options::{program, subcommand};
+use crate::terminals::Terminals;
 use clap::error::ErrorKind;
-use clap::{ArgMatches, Command, Error};
+use clap::{ArgMatches, Error};
 use rb_cost::JobsAtOnce;
 use rb_json::LineForm;
 use rb_loader::Bounds;
@@ -143,228 +144,232 @@ impl Subcommand<'_> {
 pub(crate) struct CommandLine<'a> {
     /// The command.
     pub request: Subcommand<'a>,
+    /// The file that is read in the place of standard input.
+    pub file: Option<&'a str>,
     /// Whether the reason of a refusal is printed.
     pub why: bool,
     /// Whether it is told how far a long command is.
     pub progress: bool,
 }
 
-/// A command of the command line.
+/// A command, whichever it is.
 #[derive(Drop)]
 pub(crate) enum Asked<'a> {
-    /// Any command but `stream`.
+    /// Any but `stream`.
     Command(CommandLine<'a>),
-    /// The command `stream`.
+    /// A stream.
     Stream(StreamOptions<'a>),
 }
 
 /// The command that these words name, which follow the program's name on the command line. An error is help or the version that was
 /// asked for, wrong usage, or out of memory.
-pub(crate) fn parse<'a, S: AsStr>(alloc: Global, words: &'a [S]) -> Result<Asked<'a>, Error> {
-    let mut program = program(alloc)?;
-    request_of(alloc, &mut program, words)
-}
-
-// The same by what the command line may say.
-fn request_of<'a, S: AsStr>(
+pub(crate) fn parse<'a, S: AsStr>(
     alloc: Global,
-    program: &mut Command<'a>,
     words: &'a [S],
+    terminals: Terminals,
 ) -> Result<Asked<'a>, Error> {
+    let mut program = program(alloc)?;
     let matches = program.try_get_matches_from_mut(words)?;
-    match matches.subcommand() {
-        Some(("stream", options)) => Ok(Asked::Stream(stream_options(alloc, program, options)?)),
-        Some((name, options)) => {
-            let request = command_request(alloc, program, name, options)?;
-            Ok(Asked::Command(CommandLine {
-                request,
-                why: options.get_flag("why"),
-                progress: request.is_long() && options.get_flag("progress"),
-            }))
-        }
-        None => Err(program.error(ErrorKind::MissingSubcommand, "no command was given")?),
+    let Some((name, options)) = matches.subcommand() else {
+        return Err(program.error(ErrorKind::MissingSubcommand, "no command was given")?);
+    };
+    if name == "stream" {
+        let values = Values {
+            alloc,
+            command: name,
+            options,
+        };
+        return Ok(Asked::Stream(values.stream()?));
     }
+    let request = command_request(alloc, name, options)?;
+    let is_watched = terminals.err && !terminals.out;
+    Ok(Asked::Command(CommandLine {
+        request,
+        file: options.get_str("file").filter(|path| *path != "-"),
+        why: options.get_flag("why") || (terminals.err && !options.get_flag("no-why")),
+        progress: request.is_long() && (is_watched || options.get_flag("progress")),
+    }))
 }
 
 // What the command of this name asks for, by its options.
 fn command_request<'a>(
     alloc: Global,
-    program: &mut Command<'_>,
     name: &str,
     options: &ArgMatches<'a>,
 ) -> Result<Subcommand<'a>, Error> {
+    let values = Values {
+        alloc,
+        command: name,
+        options,
+    };
     match name {
-        "feed" => feed_request(alloc, program, options),
-        "tape" => tape_request(alloc, program, options),
+        "feed" => values.feed(),
+        "tape" => values.tape(),
         "check" => Ok(Subcommand::Check {
-            bounds: bounds(alloc, program, options)?,
-            form: form(options),
+            bounds: values.bounds()?,
+            form: values.form(),
             portable: options.get_flag("portable"),
         }),
         "explain" => Ok(Subcommand::Explain {
-            bounds: bounds(alloc, program, options)?,
-            form: form(options),
+            bounds: values.bounds()?,
+            form: values.form(),
             portable: options.get_flag("portable"),
         }),
         "cost" => Ok(Subcommand::Cost {
-            bounds: bounds(alloc, program, options)?,
-            form: form(options),
-            jobs: jobs_at_once(alloc, program, options)?,
+            bounds: values.bounds()?,
+            form: values.form(),
+            jobs: values.jobs_at_once()?,
         }),
         "run" => Ok(Subcommand::Run {
-            jobs: jobs_request(alloc, program, options)?,
+            jobs: values.jobs()?,
             tape: options.get_str("tape"),
         }),
         _ => Ok(Subcommand::Sim {
             draw: options.get_flag("draw"),
-            form: form(options),
+            form: values.form(),
         }),
     }
 }
 
-fn feed_request<'a>(
-    alloc: Global,
-    program: &mut Command<'_>,
-    options: &ArgMatches<'_>,
-) -> Result<Subcommand<'a>, Error> {
-    Ok(Subcommand::Feed {
-        size: number(alloc, program, options, "size")?,
-        start: number(alloc, program, options, "start")?,
-        retries: bounded(alloc, program, options, "retry", 0, 100)?,
-        form: form(options),
-    })
+// The values of a command's options.
+#[derive(Clone, Copy)]
+pub(crate) struct Values<'v, 'a> {
+    pub(crate) alloc: Global,
+    pub(crate) command: &'v str,
+    pub(crate) options: &'v ArgMatches<'a>,
 }
 
-fn tape_request<'a>(
-    alloc: Global,
-    program: &mut Command<'_>,
-    options: &ArgMatches<'_>,
-) -> Result<Subcommand<'a>, Error> {
-    Ok(Subcommand::Tape {
-        size: number(alloc, program, options, "size")?,
-        start: number(alloc, program, options, "start")?,
-        form: form(options),
-    })
-}
+impl<'a> Values<'_, 'a> {
+    ghost use Rattle.std.specs.Prelude.{◌≤◌, IfOk};
 
-// What a program is verified for.
-fn bounds(
-    alloc: Global,
-    program: &mut Command<'_>,
-    options: &ArgMatches<'_>,
-) -> Result<Bounds, Error> {
-    Ok(Bounds {
-        ctx_len: bounded(alloc, program, options, "ctx", 0, 65_536)?,
-        rings: bounded(alloc, program, options, "rings", 0, 16)?,
-    })
-}
-
-// What is run, and over which ring.
-fn jobs_request(
-    alloc: Global,
-    program: &mut Command<'_>,
-    options: &ArgMatches<'_>,
-) -> Result<JobsRequest, Error> {
-    Ok(JobsRequest {
-        workers: number(alloc, program, options, "workers")?,
-        jobs: bounded(alloc, program, options, "jobs", 1, 1_000_000)?,
-        size: number(alloc, program, options, "size")?,
-        start: number(alloc, program, options, "start")?,
-        form: form(options),
-    })
-}
-
-// The jobs for which a ring's size is chosen, where that is asked for: the one option comes with the other.
-fn jobs_at_once(
-    alloc: Global,
-    program: &mut Command<'_>,
-    options: &ArgMatches<'_>,
-) -> Result<Option<JobsAtOnce>, Error> {
-    if options.get_str("workers").is_none() {
-        return Ok(None);
+    fn feed(&self) -> Result<Subcommand<'a>, Error> {
+        Ok(Subcommand::Feed {
+            size: self.size()?,
+            start: self.start()?,
+            retries: self.bounded("retry", 0, 100)?,
+            form: self.form(),
+        })
     }
-    Ok(Some(JobsAtOnce {
-        workers: bounded(alloc, program, options, "workers", 1, 256)?,
-        behind: bounded(alloc, program, options, "behind", 0, 1_000_000)?,
-    }))
-}
 
-// How lines of output are written.
-fn form(options: &ArgMatches<'_>) -> LineForm {
-    if options.get_flag("json") {
-        LineForm::Json
-    } else {
-        LineForm::Words
+    fn tape(&self) -> Result<Subcommand<'a>, Error> {
+        Ok(Subcommand::Tape {
+            size: self.size()?,
+            start: self.start()?,
+            form: self.form(),
+        })
     }
-}
 
-// The number that an option has, any below 2^64.
-fn number(
-    alloc: Global,
-    program: &mut Command<'_>,
-    options: &ArgMatches<'_>,
-    name: &str,
-) -> Result<u64, Error> {
-    match options.get_str(name).and_then(decimal) {
-        Some(number) => Ok(number),
-        None => Err(out_of_bounds(alloc, program, options, name, 0, u64::MAX)?),
+    // What a program is verified for.
+    fn bounds(&self) -> Result<Bounds, Error> {
+        Ok(Bounds {
+            ctx_len: self.bounded("ctx", 0, 65_536)?,
+            rings: self.bounded("rings", 0, 16)?,
+        })
     }
-}
 
-// The number that an option has, which is bounded.
-pub(crate) fn bounded(
-    alloc: Global,
-    program: &mut Command<'_>,
-    options: &ArgMatches<'_>,
-    name: &str,
-    least: u32,
-    most: u32,
-) -> Result<u32, Error>
-    ensures { IfOk result (λ n. (least ≤ n) × (n ≤ most)) }
-{
-    match options.get_str(name).and_then(decimal) {
-        Some(number) if u64::from(least) <= number && number <= u64::from(most) => {
-            Ok(number as u32)
+    // What is run, and over which ring.
+    fn jobs(&self) -> Result<JobsRequest, Error> {
+        Ok(JobsRequest {
+            workers: self.number("workers", "a decimal number from 1 to 256")?,
+            jobs: self.bounded("jobs", 1, 1_000_000)?,
+            size: self.size()?,
+            start: self.start()?,
+            form: self.form(),
+        })
+    }
+
+    // The jobs for which a ring's size is chosen, where that is asked for: the one option comes with the other.
+    fn jobs_at_once(&self) -> Result<Option<JobsAtOnce>, Error> {
+        if self.options.get_str("workers").is_none() {
+            return Ok(None);
         }
-        _ => {
-            let (least, most) = (u64::from(least), u64::from(most));
-            Err(out_of_bounds(alloc, program, options, name, least, most)?)
+        Ok(Some(JobsAtOnce {
+            workers: self.bounded("workers", 1, 256)?,
+            behind: self.bounded("behind", 0, 1_000_000)?,
+        }))
+    }
+
+    // How lines of output are written.
+    fn form(&self) -> LineForm {
+        if self.options.get_flag("json") {
+            LineForm::Json
+        } else {
+            LineForm::Words
         }
     }
-}
 
-// The error of an option whose value is no number that it takes.
-fn out_of_bounds(
-    alloc: Global,
-    program: &mut Command<'_>,
-    options: &ArgMatches<'_>,
-    name: &str,
-    least: u64,
-    most: u64,
-) -> Result<Error, AllocError> {
-    let value = options.get_str(name).unwrap_or("");
-    let wanted = format!(in alloc; "a decimal number from {least} to {most}")?;
-    wrong_value(alloc, program, name, value, wanted.as_str())
-}
+    fn size(&self) -> Result<u64, Error> {
+        match self.options.get_str("size").and_then(byte_count) {
+            Some(size) => Ok(size),
+            None => Err(self.refused("size", SIZES)?),
+        }
+    }
 
-/// Returns the error of an option whose value is not what is wanted.
-pub(crate) fn wrong_value(
-    alloc: Global,
-    program: &mut Command<'_>,
-    name: &str,
-    value: &str,
-    wanted: &str,
-) -> Result<Error, AllocError> {
-    let message = format!(in alloc; "the value '{value}' of '--{name}' is not {wanted}")?;
-    program.error(ErrorKind::ValueValidation, message.as_str())
+    fn start(&self) -> Result<u64, Error> {
+        self.number("start", STARTS)
+    }
+
+    // The number that an option has, any below 2^64. What it is refused for otherwise comes later.
+    fn number(&self, name: &str, wanted: &str) -> Result<u64, Error> {
+        match self.options.get_str(name).and_then(decimal) {
+            Some(number) => Ok(number),
+            None => Err(self.refused(name, wanted)?),
+        }
+    }
+
+    // The number that an option has, which is bounded. That of a context is a count of bytes.
+    pub(crate) fn bounded(&self, name: &str, least: u32, most: u32) -> Result<u32, Error>
+        ensures { IfOk result (λ n. (least ≤ n) × (n ≤ most)) }
+    {
+        let value = self.options.get_str(name);
+        let number = match name {
+            "ctx" => value.and_then(byte_count),
+            _ => value.and_then(decimal),
+        };
+        match number {
+            Some(number) if u64::from(least) <= number && number <= u64::from(most) => {
+                Ok(number as u32)
+            }
+            _ => Err(self.out_of_bounds(name, least, most)?),
+        }
+    }
+
+    // The error of an option whose value is no number that it takes.
+    fn out_of_bounds(&self, name: &str, least: u32, most: u32) -> Result<Error, AllocError> {
+        let wanted = format!(in self.alloc; "a decimal number from {least} to {most}")?;
+        self.refused(name, wanted.as_str())
+    }
+
+    // The error of an option whose value is none that it takes.
+    pub(crate) fn refused(&self, name: &str, wanted: &str) -> Result<Error, AllocError> {
+        self.wrong(name, self.options.get_str(name).unwrap_or(""), wanted)
+    }
+
+    // The error of this value of an option.
+    pub(crate) fn wrong(&self, name: &str, value: &str, wanted: &str) -> Result<Error, AllocError> {
+        let message = format!(in self.alloc; "the value '{value}' of '--{name}' is not {wanted}")?;
+        let mut command = subcommand(self.alloc, self.command)?;
+        command.error(ErrorKind::ValueValidation, message.as_str())
+    }
 }
 
 // The number that decimal digits spell, if it is below 2^64. `parse` alone would take a plus in front.
-pub(crate) fn decimal(text: &str) -> Option<u64>
+fn decimal(text: &str) -> Option<u64>
     ensures { SomeIff result (IsNumeral 10 text.now × (digits_value 10 text.now < 2 ^ 64)) (digits_value 10 text.now) }
 {
     if text.as_bytes().first() == Some(&b'+') {
         return None;
     }
     text.parse().ok()
+}
+
+// How many bytes a text names: a decimal number, of KiB with a `K` behind it and of MiB with an `M`.
+pub(crate) fn byte_count(text: &str) -> Option<u64> {
+    if let Some(kilobytes) = text.strip_suffix('K') {
+        return decimal(kilobytes)?.checked_mul(1 << 10);
+    }
+    if let Some(megabytes) = text.strip_suffix('M') {
+        return decimal(megabytes)?.checked_mul(1 << 20);
+    }
+    decimal(text)
 }

@@ -1,5 +1,5 @@
 -- What was explained of a text that was read was explained of the input.
-use Rattle.std.proofs.Common.{◌≡◌, ℕ, List, Option, Some, None, refl, sym, subst, inr}
+use Rattle.std.proofs.Common.{◌≡◌, ℕ, List, Option, Some, None, refl, sym, subst}
 use Rattle.std.specs.Io.KnownBytes.{Appends}
 use Rattle.rb_program.specs.declared.shape_fault.ShapeFaultKind.{ShapeFaultKind}
 use Rattle.rb_program.specs.declared.shape_fault.ShapeFaultKind.TheVariants.{Backward, OutOfProgram, IntoWide, FallsOff, Unreachable, Memory}
@@ -28,18 +28,18 @@ module _ (form : LineForm) (text : List ℕ) (ctx_len rings : ℕ) where
     shape_refusal : (unit : ℕ) (kind : ShapeFaultKind) → PrintsExplanation form text ctx_len rings (Some (Shape (record { unit = unit; kind = kind }))) before after
         → ExplainsRefusal form text ctx_len rings before after (shape_fault_at kind unit)
     shape_refusal unit Memory printed = absurd printed.explained.2.2.here.stands
-    shape_refusal unit Backward printed = inr (record { reason = Shape (record { unit = unit; kind = Backward }); fault_is = refl; printed = printed })
-    shape_refusal unit OutOfProgram printed = inr (record { reason = Shape (record { unit = unit; kind = OutOfProgram }); fault_is = refl; printed = printed })
-    shape_refusal unit IntoWide printed = inr (record { reason = Shape (record { unit = unit; kind = IntoWide }); fault_is = refl; printed = printed })
-    shape_refusal unit FallsOff printed = inr (record { reason = Shape (record { unit = unit; kind = FallsOff }); fault_is = refl; printed = printed })
-    shape_refusal unit Unreachable printed = inr (record { reason = Shape (record { unit = unit; kind = Unreachable }); fault_is = refl; printed = printed })
+    shape_refusal unit Backward printed = record { reason = Shape (record { unit = unit; kind = Backward }); fault_is = refl; printed = printed }
+    shape_refusal unit OutOfProgram printed = record { reason = Shape (record { unit = unit; kind = OutOfProgram }); fault_is = refl; printed = printed }
+    shape_refusal unit IntoWide printed = record { reason = Shape (record { unit = unit; kind = IntoWide }); fault_is = refl; printed = printed }
+    shape_refusal unit FallsOff printed = record { reason = Shape (record { unit = unit; kind = FallsOff }); fault_is = refl; printed = printed }
+    shape_refusal unit Unreachable printed = record { reason = Shape (record { unit = unit; kind = Unreachable }); fault_is = refl; printed = printed }
 
     -- so was that of any reason
     refusal : (reason : Reason) → PrintsExplanation form text ctx_len rings (Some reason) before after → ExplainsRefusal form text ctx_len rings before after (fault_of_reason reason)
-    refusal Text printed = inr (record { reason = Text; fault_is = refl; printed = printed })
-    refusal (Decode fault) printed = inr (record { reason = Decode fault; fault_is = refl; printed = printed })
+    refusal Text printed = record { reason = Text; fault_is = refl; printed = printed }
+    refusal (Decode fault) printed = record { reason = Decode fault; fault_is = refl; printed = printed }
     refusal (Shape fault) printed = shape_refusal fault.unit fault.kind printed
-    refusal (Rule unit rule) printed = inr (record { reason = Rule unit rule; fault_is = refl; printed = printed })
+    refusal (Rule unit rule) printed = record { reason = Rule unit rule; fault_is = refl; printed = printed }
 
     pub refusal_of : (found : Option Reason) (reason : Reason) (fault : ProgramFault) (told out : List ℕ) → found ≡ Some reason → fault ≡ fault_of_reason reason
         → ExplainsAs form text (record { ctx_len = ctx_len; rings = rings }) found told → out ≡ told → Appends before after out → ExplainsRefusal form text ctx_len rings before after fault

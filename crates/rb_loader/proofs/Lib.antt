@@ -1,3 +1,7 @@
+mod DigitLists
+mod DigitTests
 mod Explaining
-pub mod InputText
+mod HexTexts
+mod KeptDigits
 mod Refusing
+pub mod StandIns

@@ -1,5 +1,5 @@
 -- When the text of a program is accepted, and else what it is refused for: the first fault of the first layer that has one (own).
-use Rattle.std.specs.Prelude.{◌≡◌, ◌⊎◌, ℕ, List, IsUtf8}
+use Rattle.std.specs.Prelude.{◌≡◌, ℕ, List}
 use Rattle.rb_insn.specs.declared.insn.Insn.{Insn}
 use Rattle.rb_insn.specs.Spelling.{SpellsAll}
 use Rattle.rb_program.specs.FirstDecodeFault.{IsFirstDecodeFault}
@@ -70,10 +70,6 @@ IsRightFault text ctx_len rings (Shape kind unit) = HasFirstShapeFault text kind
 IsRightFault text ctx_len rings (Verify number unit) = HasFirstBrokenRule text ctx_len rings number unit
 IsRightFault text ctx_len rings Memory = Unit {0}
 IsRightFault text ctx_len rings Device = Unit {0}
-
--- the input as a whole: what is no UTF-8 is no text
-abbrev pub IsRightProgramFault : List ℕ → ℕ → ℕ → ProgramFault → Type 0
-IsRightProgramFault input ctx_len rings fault = ((fault ≡ Text) × ¬ IsUtf8 input) ⊎ IsRightFault input ctx_len rings fault
 
 -- ---- faults of lower layers, as faults of a program
 

@@ -1,5 +1,5 @@
 -- What `explain` prints of a program's text, and what it answers (own).
-use Rattle.std.specs.Prelude.{◌≡◌, ◌⊎◌, ℕ, List, Option, Some, IsUtf8}
+use Rattle.std.specs.Prelude.{◌≡◌, ℕ, List, Option, Some}
 use Rattle.std.specs.Io.KnownBytes.{Appends, Keeps}
 use Rattle.rb_explain.specs.Explanations.{ExplainsAs}
 use Rattle.rb_explain.specs.declared.explanation.Reason.{Reason}
@@ -29,10 +29,8 @@ pub record ExplainsFault (form : LineForm) (text : List ℕ) (ctx_len rings : �
   pub fault_is : fault ≡ fault_of_reason reason
   pub printed : PrintsExplanation form text ctx_len rings (Some reason) before after
 
--- what was printed of an input that is refused so: nothing where it is no UTF-8 or memory ran out, and where the device did not fail
--- the explanation
+-- what was printed of an input that is refused so: nothing if memory ran out, and the explanation if the device did not fail
 abbrev pub ExplainsRefusal : LineForm → List ℕ → ℕ → ℕ → Option (List ℕ) → Option (List ℕ) → ProgramFault → Type 0
 ExplainsRefusal form input ctx_len rings before after Memory = Keeps before after
 ExplainsRefusal form input ctx_len rings before after Device = Unit {0}
-ExplainsRefusal form input ctx_len rings before after fault =
-    ((fault ≡ Text) × ¬ IsUtf8 input × Keeps before after) ⊎ ExplainsFault form input ctx_len rings before after fault
+ExplainsRefusal form input ctx_len rings before after fault = ExplainsFault form input ctx_len rings before after fault

@@ -3,3 +3,5 @@ pub mod CostCommand
 pub mod Explained
 pub mod MachineFaults
 pub mod PortableExplanation
+pub mod StandIn
+pub mod inner

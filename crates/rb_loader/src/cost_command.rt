@@ -2,10 +2,11 @@
 
 ghost use Rattle.std.specs.Prelude.{◌≡◌, ◌≢◌, IfErr, IfSome, OnOk};
 ghost use Rattle.std.specs.Io.KnownBytes.{Keeps};
-ghost use Rattle.rb_loader.specs.Acceptance.{IsRightProgramFault};
+ghost use Rattle.rb_loader.specs.Acceptance.{IsRightFault};
 ghost use Rattle.rb_loader.specs.CostCommand.{PrintsCost};
 
-use crate::program::{Bounds, ProgramFault, accept, read_all, text_of};
+use crate::input_text::read_text;
+use crate::program::{Bounds, ProgramFault, accept};
 use rb_cost::{JobsAtOnce, cost_of, cost_text};
 use rb_io::write_whole;
 use rb_json::LineForm;
@@ -14,7 +15,7 @@ use std::io::{Read, Write};
 
 /// Verifies the program whose text is the input, and prints what it can cost at most: `accepted`, its steps and calls, and for each ring the records and bytes
 /// that it asks for and the bytes that it holds, in this form; where jobs are given, also the smallest ring of more bytes than those jobs ask for together.
-/// Input that is no UTF-8 is `Text`. Nothing is run, and nothing is printed where the program is refused or memory runs out.
+/// The text is read as `read_text` does. Nothing is run, and nothing is printed where the program is refused or memory runs out.
 pub fn cost<R: Read, W: Write>(
     alloc: Global,
     input: &mut R,
@@ -24,11 +25,11 @@ pub fn cost<R: Read, W: Write>(
     jobs: Option<JobsAtOnce>,
 ) -> Result<(), ProgramFault>
     ensures printed { OnOk result (IfSome (R.remaining input.old) (λ text. PrintsCost form jobs text bounds.ctx_len bounds.rings (W.contents out.old) (W.contents out.new))) }
-    ensures refused { IfErr result (λ fault. IfSome (R.remaining input.old) (λ text. IsRightProgramFault text bounds.ctx_len bounds.rings fault)) }
+    ensures refused { IfErr result (λ fault. IfSome (R.remaining input.old) (λ text. IsRightFault text bounds.ctx_len bounds.rings fault)) }
     ensures nothing_printed { IfErr result (λ fault. fault ≢ ProgramFault.Device → Keeps (W.contents out.old) (W.contents out.new)) }
 {
-    let bytes = read_all(alloc, input)?;
-    let text = text_of(bytes.as_slice())?;
+    let text = read_text(alloc, input)?;
+    let text = text.as_str();
     let verified = accept(alloc, text, bounds)?;
     let cost = cost_of(alloc, &verified)?;
     let lines = cost_text(alloc, &cost, form, jobs)?;

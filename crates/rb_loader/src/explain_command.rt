@@ -5,7 +5,8 @@ ghost use Rattle.rb_verifier.specs.Subject.{Subject};
 ghost use Rattle.rb_loader.specs.Acceptance.{IsAccepted};
 ghost use Rattle.rb_loader.specs.Explained.{ExplainsRefusal, PrintsExplanation, fault_of_reason};
 
-use crate::program::{Bounds, ProgramFault, read_all, shape_fault, text_of};
+use crate::input_text::read_text;
+use crate::program::{Bounds, ProgramFault, shape_fault};
 use rb_explain::Reason;
 use rb_io::write_whole;
 use rb_json::LineForm;
@@ -15,7 +16,7 @@ use std::io::{Read, Write};
 
 /// Explains the program whose text is the input: of an accepted one each instruction with what the verifier knows before it, and then what the program can
 /// cost at most, as `cost` prints it; of a refused one the units around its first fault, and how programs mend it; in words or as objects of JSON. The
-/// explanation is printed before a refusal is answered. Input that is no UTF-8 is `Text`, without an explanation.
+/// explanation is printed before a refusal is answered. The text is read as `read_text` does.
 pub fn explain<R: Read, W: Write>(
     alloc: Global,
     input: &mut R,
@@ -27,8 +28,8 @@ pub fn explain<R: Read, W: Write>(
     ensures explained { OnOk result (IfSome (R.remaining input.old) (λ text. PrintsExplanation form text bounds.ctx_len bounds.rings None (W.contents out.old) (W.contents out.new))) }
     ensures refused { IfErr result (λ fault. IfSome (R.remaining input.old) (λ text. ExplainsRefusal form text bounds.ctx_len bounds.rings (W.contents out.old) (W.contents out.new) fault)) }
 {
-    let bytes = read_all(alloc, input)?;
-    let text = text_of(bytes.as_slice())?;
+    let text = read_text(alloc, input)?;
+    let text = text.as_str();
     let explained = rb_explain::explain(alloc, text, bounds.ctx_len, bounds.rings, form);
     let Ok(explanation) = explained else {
         return Err(ProgramFault::Memory);

@@ -5,7 +5,8 @@ ghost use Rattle.rb_loader.specs.Explained.{ExplainsRefusal};
 ghost use Rattle.rb_loader.specs.PortableExplanation.{ExplainsPortably, PrintsPortably};
 
 use crate::explain_command::fault_of;
-use crate::program::{Bounds, ProgramFault, accept, read_all, text_of};
+use crate::input_text::read_text;
+use crate::program::{Bounds, ProgramFault, accept};
 use rb_explain::Explanation;
 use rb_io::write_whole;
 use rb_json::LineForm;
@@ -24,8 +25,8 @@ pub fn explain_portable<R: Read, W: Write>(
     ensures explained { OnOk result (IfSome (R.remaining input.old) (λ text. PrintsPortably form text bounds.ctx_len bounds.rings (W.contents out.old) (W.contents out.new))) }
     ensures refused { IfErr result (λ fault. IfSome (R.remaining input.old) (λ text. ExplainsRefusal form text bounds.ctx_len bounds.rings (W.contents out.old) (W.contents out.new) fault)) }
 {
-    let bytes = read_all(alloc, input)?;
-    let text = text_of(bytes.as_slice())?;
+    let text = read_text(alloc, input)?;
+    let text = text.as_str();
     let Ok(explanation) = explanation_of(alloc, text, bounds, form) else {
         return Err(ProgramFault::Memory);
     };

@@ -1,9 +1,10 @@
 //! A verified program from its text.
 
-ghost use Rattle.std.specs.Prelude.{◌≡◌, ◌≢◌, ◌≤◌, ◌↔◌, Err, IfErr, IfOk, IfSome, IsErr, IsUtf8};
-ghost use Rattle.rb_loader.specs.Acceptance.{IsAccepted, IsRightFault, IsRightProgramFault, fault_of_text, fault_of_shape};
+ghost use Rattle.std.specs.Prelude.{◌≡◌, ◌≢◌, ◌≤◌, Err, IfErr, IfOk, IfSome};
+ghost use Rattle.rb_loader.specs.Acceptance.{IsAccepted, IsRightFault, fault_of_text, fault_of_shape};
 ghost use Rattle.rb_loader.specs.MachineFaults.{IsMachineFault};
 
+use crate::input_text::read_text;
 use rb_program::{
     DecodeFault, DecodeKind, ShapeFault, ShapeFaultKind, TextFault, from_text, shape,
 };
@@ -27,7 +28,7 @@ pub struct Bounds {
 /// Why a program was not accepted.
 #[derive(Clone, Copy, Debug, PartialEq, Eq, Error)]
 pub enum ProgramFault {
-    /// The input is no UTF-8, or without its white space no pairs of hex digits.
+    /// The input is, without its white space, no pairs of hex digits.
     #[error("text")]
     Text,
     /// The bytes are no program.
@@ -88,7 +89,7 @@ pub fn accept(alloc: Global, text: &str, bounds: Bounds) -> Result<Verified, Pro
     }
 }
 
-/// The verified program whose text is the input, as `accept` says; `Text` where the input is no UTF-8.
+/// The verified program whose text is the input, as `accept` says. The text is read as `read_text` does.
 pub fn read_program<R: Read>(
     alloc: Global,
     input: &mut R,
@@ -96,11 +97,10 @@ pub fn read_program<R: Read>(
 ) -> Result<Verified, ProgramFault>
     ensures accepted { IfOk result (λ program. IfSome (R.remaining input.old) (λ text. IsAccepted text bounds.ctx_len bounds.rings program)) }
     ensures rings { IfOk result (λ program. program.rings ≡ bounds.rings) }
-    ensures refused { IfErr result (λ fault. IfSome (R.remaining input.old) (λ text. IsRightProgramFault text bounds.ctx_len bounds.rings fault)) }
+    ensures refused { IfErr result (λ fault. IfSome (R.remaining input.old) (λ text. IsRightFault text bounds.ctx_len bounds.rings fault)) }
 {
-    let bytes = read_all(alloc, input)?;
-    let text = text_of(bytes.as_slice())?;
-    accept(alloc, text, bounds)
+    let text = read_text(alloc, input)?;
+    accept(alloc, text.as_str(), bounds)
 }
 
 /// All bytes of the input.
@@ -115,18 +115,6 @@ pub fn read_all<R: Read>(alloc: Global, input: &mut R) -> Result<Vec<u8>, Progra
             io::ErrorKind::OutOfMemory => ProgramFault::Memory,
             _ => ProgramFault::Device,
         }),
-    }
-}
-
-/// The bytes as text; `Text` where they are no UTF-8.
-pub fn text_of(bytes: &[u8]) -> Result<&str, ProgramFault>
-    ensures text { IfOk result (λ text. text.now ≡ bytes.now) }
-    ensures only_utf8 { IsErr result ↔ ¬ IsUtf8 bytes.now }
-    ensures fault { IfErr result (λ fault. fault ≡ ProgramFault.Text) }
-{
-    match str::from_utf8(bytes) {
-        Ok(text) => Ok(text),
-        Err(_) => Err(ProgramFault::Text),
     }
 }
 

@@ -1,7 +1,7 @@
 //! Command lines of `rbhost`, over inputs in memory.
 
 use crate::bytes::{bytes_of, tell_escaped, unescaped};
-use rb_command_line::command;
+use rb_command_line::{Terminals, command};
 use std::alloc::{AllocError, Global};
 use std::fmt::Write;
 use std::fs::File;
@@ -119,7 +119,7 @@ fn ended<R: Threads + Wait + Sync + Files<File = File> + Clock + Eprint>(
         rt,
         alloc,
         words,
-        false,
+        Terminals::default(),
         &mut reader,
         &mut printed,
         &mut told,

@@ -17,7 +17,7 @@ use Rattle.rb_workers.specs.Settled.{EndsSettled}
 use Rattle.rb_workers.specs.Sink.{SinkItem, sink_span}
 use Rattle.rb_workers.specs.declared.opened.Opened.{Opened}
 use Rattle.rb_workers.specs.declared.opened.JobsReport.{JobsReport}
-use Rattle.rb_loader.specs.Acceptance.{IsAccepted, IsRightProgramFault}
+use Rattle.rb_loader.specs.Acceptance.{IsAccepted, IsRightFault}
 use Rattle.rb_run_commands.specs.ReportLines.{report_lines, unlogged_text}
 use Rattle.rb_run_commands.specs.WorkerJobs.{tasks_of_workers}
 use Rattle.rb_run_commands.specs.declared.jobs_fault.JobsFault.{JobsFault}
@@ -89,5 +89,5 @@ IsRightRingFault request Workers = IsRingSize request.size × IsStartPosition re
 
 -- the first fault of the input as a program's text, and else that of the ring
 abbrev pub IsRightJobsFault : List ℕ → JobsRequest → JobsFault → Type 0
-IsRightJobsFault input request (Program fault) = IsRightProgramFault input 16 1 fault
+IsRightJobsFault input request (Program fault) = IsRightFault input 16 1 fault
 IsRightJobsFault input request fault = ((subject : Subject) × IsAccepted input 16 1 subject) × IsRightRingFault request fault

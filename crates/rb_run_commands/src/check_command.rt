@@ -3,7 +3,7 @@
 ghost use Rattle.std.specs.Prelude.{◌≡◌, ◌≢◌, ◌≤◌, ℕ, List, Ok, Err, IfErr, IfOk, IfSome, IsErr, OnErr, OnOk, length, map, take};
 ghost use Rattle.std.specs.Io.KnownBytes.{Keeps};
 ghost use Rattle.rb_jobs.specs.SeatHelpers.{AtRings};
-ghost use Rattle.rb_loader.specs.Acceptance.{IsRightFault, IsRightProgramFault};
+ghost use Rattle.rb_loader.specs.Acceptance.{IsRightFault};
 ghost use Rattle.rb_run_commands.specs.Check.{Checks, PrintsCheck, RunsOnce};
 
 use crate::check_lines::lines_of_check;
@@ -14,7 +14,7 @@ use rb_history::Taken;
 use rb_io::write_whole;
 use rb_jobs::{Gate, Job, run_job};
 use rb_json::LineForm;
-use rb_loader::{Bounds, ProgramFault, accept, read_all, text_of};
+use rb_loader::{Bounds, ProgramFault, accept, read_text};
 use rb_shared_ring::{Seat, SharedRing};
 use rb_verifier::Verified;
 use rb_workers::used_sheets::UsedSheets;
@@ -32,7 +32,7 @@ pub struct Checked {
 }
 
 /// Verifies the program whose text is the input, runs it once with a context of zeros over fresh rings of 4,096 bytes, and prints
-/// `accepted`, what it ended with, and a line for each record that it left, in this form. Input that is no UTF-8 is `Text`. Nothing is printed where
+/// `accepted`, what it ended with, and a line for each record that it left, in this form. The text is read as `read_text` does. Nothing is printed where
 /// the program is refused or memory runs out. The gate is called before each helper call.
 pub fn check<T: Wait, R: Read, W: Write, G: Gate>(
     rt: &T,
@@ -44,11 +44,11 @@ pub fn check<T: Wait, R: Read, W: Write, G: Gate>(
     gate: &G,
 ) -> Result<(), ProgramFault>
     ensures printed { OnOk result (IfSome (R.remaining input.old) (λ text. PrintsCheck text bounds.ctx_len bounds.rings form (W.contents out.old) (W.contents out.new))) }
-    ensures refused { IfErr result (λ fault. IfSome (R.remaining input.old) (λ text. IsRightProgramFault text bounds.ctx_len bounds.rings fault)) }
+    ensures refused { IfErr result (λ fault. IfSome (R.remaining input.old) (λ text. IsRightFault text bounds.ctx_len bounds.rings fault)) }
     ensures nothing_printed { IfErr result (λ fault. fault ≢ ProgramFault.Device → Keeps (W.contents out.old) (W.contents out.new)) }
 {
-    let bytes = read_all(alloc, input)?;
-    let text = text_of(bytes.as_slice())?;
+    let text = read_text(alloc, input)?;
+    let text = text.as_str();
     let Checked { value, records } = check_text(rt, alloc, text, bounds, gate)?;
     let printed = lines_of_check(alloc, value, records.as_slice(), form)?;
     match write_whole(out, printed.as_slice()) {

@@ -2,7 +2,7 @@
 
 ghost use Rattle.std.specs.Prelude.{◌≡◌, ◌≢◌, IfErr, IfSome, OnOk};
 ghost use Rattle.std.specs.Io.KnownBytes.{Keeps};
-ghost use Rattle.rb_loader.specs.Acceptance.{IsRightProgramFault};
+ghost use Rattle.rb_loader.specs.Acceptance.{IsRightFault};
 ghost use Rattle.rb_run_commands.specs.PortableCheck.{PrintsPortableCheck};
 
 use crate::check_command::{Checked, check_text};
@@ -10,7 +10,7 @@ use crate::check_lines::lines_of_check;
 use rb_io::write_whole;
 use rb_jobs::Gate;
 use rb_json::LineForm;
-use rb_loader::{Bounds, ProgramFault, accept, read_all, text_of};
+use rb_loader::{Bounds, ProgramFault, accept, read_text};
 use rb_portable::findings_text;
 use std::alloc::Global;
 use std::io::{Read, Write};
@@ -28,11 +28,11 @@ pub fn check_portable<T: Wait, R: Read, W: Write, G: Gate>(
     gate: &G,
 ) -> Result<(), ProgramFault>
     ensures printed { OnOk result (IfSome (R.remaining input.old) (λ text. PrintsPortableCheck text bounds.ctx_len bounds.rings form (W.contents out.old) (W.contents out.new))) }
-    ensures refused { IfErr result (λ fault. IfSome (R.remaining input.old) (λ text. IsRightProgramFault text bounds.ctx_len bounds.rings fault)) }
+    ensures refused { IfErr result (λ fault. IfSome (R.remaining input.old) (λ text. IsRightFault text bounds.ctx_len bounds.rings fault)) }
     ensures nothing_printed { IfErr result (λ fault. fault ≢ ProgramFault.Device → Keeps (W.contents out.old) (W.contents out.new)) }
 {
-    let bytes = read_all(alloc, input)?;
-    let text = text_of(bytes.as_slice())?;
+    let text = read_text(alloc, input)?;
+    let text = text.as_str();
     let Checked { value, records } = check_text(rt, alloc, text, bounds, gate)?;
     let verified = accept(alloc, text, bounds)?;
     let lines = findings_text(alloc, &verified, form)?;

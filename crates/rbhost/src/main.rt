@@ -12,7 +12,7 @@
 //! those of a world's turns.
 #![tactic(auto)]
 
-use rb_command_line::command;
+use rb_command_line::{Terminals, command};
 use std::io::IsTerminal;
 use std::process::ExitCode;
 use std::{env, io};
@@ -23,13 +23,15 @@ fn main(rt: HostRuntime) -> ExitCode {
         Err(error) => return print_unreadable(&rt, &error),
     };
     let (mut input, mut out, mut err) = (rt.stdin(), rt.stdout(), rt.stderr());
-    // Where lines go to the terminal too, they would be mixed up.
-    let is_watched = err.is_terminal() && !out.is_terminal();
+    let terminals = Terminals {
+        out: out.is_terminal(),
+        err: err.is_terminal(),
+    };
     ExitCode::from(command(
         &rt,
         rt.alloc(),
         words.as_slice(),
-        is_watched,
+        terminals,
         &mut input,
         &mut out,
         &mut err,

@@ -3,7 +3,7 @@
 use crate::endings::ending;
 use crate::expected::same_of;
 use crate::fakes::{FakeReader, FakeWriter, Trouble};
-use rb_command_line::command;
+use rb_command_line::{Terminals, command};
 use std::alloc::Global;
 use std::fs::File;
 use std::io::{Eprint, ErrorKind};
@@ -31,7 +31,7 @@ fn told_of_trouble<T: Abort + Threads + Wait + Sync + Files<File = File> + Clock
         rt,
         alloc,
         &["check"],
-        false,
+        Terminals::default(),
         &mut reader,
         &mut writer,
         &mut told,

@@ -3,7 +3,7 @@
 use crate::endings::{ended, ending};
 use crate::expected::{same, same_of};
 use crate::fakes::{FakeReader, FakeWriter, Trouble};
-use rb_command_line::command;
+use rb_command_line::{Terminals, command};
 use std::alloc::Global;
 use std::fs::File;
 use std::io::{Eprint, ErrorKind};
@@ -25,7 +25,15 @@ fn is_help<T: Threads + Wait + Sync + Files<File = File> + Clock + Eprint>(
     let mut reader = FakeReader::new(&[1], 5);
     let mut text = Vec::new(alloc);
     let mut told = Vec::new(alloc);
-    let status = command(rt, alloc, words, false, &mut reader, &mut text, &mut told);
+    let status = command(
+        rt,
+        alloc,
+        words,
+        Terminals::default(),
+        &mut reader,
+        &mut text,
+        &mut told,
+    );
     let is_one_text = text.as_slice().ends_with(b"\n") && !text.as_slice().ends_with(b"\n\n");
     status == 0 && is_one_text && told.is_empty() && reader.rest.len() == 1
 }
@@ -52,7 +60,15 @@ fn fed_with<T: Abort + Threads + Wait + Sync + Files<File = File> + Clock + Epri
     mut told: FakeWriter,
 ) -> (String, usize) {
     let words = ["feed", "--size", "4096"];
-    let status = command(rt, alloc, &words, false, &mut reader, &mut tape, &mut told);
+    let status = command(
+        rt,
+        alloc,
+        &words,
+        Terminals::default(),
+        &mut reader,
+        &mut tape,
+        &mut told,
+    );
     (
         ending(rt, alloc, status, &told.taken, &[]),
         tape.taken.len(),
@@ -114,7 +130,15 @@ fn fed_with_reason<T: Abort + Threads + Wait + Sync + Files<File = File> + Clock
 ) -> String {
     let words = ["feed", "--size", "4096", "--why"];
     let mut told = Vec::new(alloc);
-    let status = command(rt, alloc, &words, false, &mut reader, &mut tape, &mut told);
+    let status = command(
+        rt,
+        alloc,
+        &words,
+        Terminals::default(),
+        &mut reader,
+        &mut tape,
+        &mut told,
+    );
     ending(rt, alloc, status, &told, &[])
 }
 
@@ -140,7 +164,7 @@ fn what_failed_is_told_in_front(rt: HostRuntime) {
 
 #[test]
 fn numbers_that_no_command_takes_are_told_in_one_form(rt: HostRuntime) {
-    let rows: [(&[&str], &str); 3] = [
+    let rows: [(&[&str], &str); 7] = [
         (
             &["run", "--workers", "1", "--jobs", "0", "--size", "4096"],
             "2 error: the value '0' of '--jobs' is not a decimal number from 1 to 1000000\n",
@@ -151,7 +175,23 @@ fn numbers_that_no_command_takes_are_told_in_one_form(rt: HostRuntime) {
         ),
         (
             &["feed", "--size", "+4096"],
-            "2 error: the value '+4096' of '--size' is not a decimal number from 0 to 18446744073709551615\n",
+            "2 error: the value '+4096' of '--size' is not a power of two from 4096 to 67108864\n\nUsage: rbhost feed",
+        ),
+        (
+            &["check", "--ctx", "65K"],
+            "2 error: the value '65K' of '--ctx' is not a decimal number from 0 to 65536\n\nUsage: rbhost check",
+        ),
+        (
+            &["feed", "--size", "17592186044416M"],
+            "2 error: the value '17592186044416M' of '--size' is not a power of two from 4096 to 67108864\n",
+        ),
+        (
+            &["tape", "--size", "4K", "--start", "8K"],
+            "2 error: the value '8K' of '--start' is not a multiple of 8 up to 2305843009213693952\n",
+        ),
+        (
+            &["feed", "--size", "5K", "--why"],
+            "1 --size 5120: a power of two from 4096 to 67108864\nrefused size\n",
         ),
     ];
     for (words, wanted) in &rows {

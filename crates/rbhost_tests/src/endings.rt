@@ -1,7 +1,7 @@
 //! What commands end with, as one text or one answer.
 
 use crate::fakes::FakeReader;
-use rb_command_line::command;
+use rb_command_line::{Terminals, command};
 use std::alloc::Global;
 use std::fs::File;
 use std::io::Eprint;
@@ -34,7 +34,7 @@ pub(crate) fn ended_over<T: Abort + Threads + Wait + Sync + Files<File = File> +
         rt,
         alloc,
         words,
-        false,
+        Terminals::default(),
         &mut reader,
         &mut printed,
         &mut told,

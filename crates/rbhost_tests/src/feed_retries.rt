@@ -3,7 +3,7 @@
 use crate::endings::ending;
 use crate::expected::same_of;
 use crate::fakes::{FakeReader, FakeWriter, OneFailure, Trouble};
-use rb_command_line::command;
+use rb_command_line::{Terminals, command};
 use rb_io::ReadAhead;
 use rb_tape_commands::{FeedFault, feed};
 use std::alloc::Global;
@@ -89,7 +89,7 @@ fn told<T: Abort + Threads + Wait + Sync + Files<File = File> + Clock + Eprint>(
         rt,
         alloc,
         &words,
-        false,
+        Terminals::default(),
         &mut reader,
         &mut writer,
         &mut told,

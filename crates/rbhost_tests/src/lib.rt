@@ -17,6 +17,8 @@ mod feed_command;
 #[cfg(test)]
 mod feed_retries;
 #[cfg(test)]
+mod inputs;
+#[cfg(test)]
 mod json_lines;
 #[cfg(test)]
 mod kept_file;

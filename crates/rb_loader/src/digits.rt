@@ -1,0 +1,92 @@
+//! The hex digits of a text, as many as are needed.
+
+ghost use Rattle.std.specs.Prelude.{◌≡◌, ◌++◌, ◌∷◌, [], ℕ, List, true, false, IfOk, string_bytes};
+ghost use Rattle.std.specs.List.{list_all};
+ghost use Rattle.std.specs.Char.{is_ascii_hexdigit};
+ghost use Rattle.rb_loader.specs.inner.Digits.{KeepsOf, has_odd, one_more, shortened};
+
+use std::alloc::{AllocError, Global};
+use std::marker::Model;
+
+// How many digits are kept: those of a program and of two units more, of which the last is given up once it is whole.
+const MOST: usize = 65_568;
+
+// How many stay then.
+const STAY: usize = 65_552;
+
+/// The hex digits of a text that was read in pieces. Of a text that is too long for a program it keeps fewer, but more than a program has and
+/// as many more than a whole number of units.
+#[derive(Drop)]
+pub(crate) struct Digits {
+    kept: Vec<u8>,
+}
+
+impl Model for Digits {
+    ghost use Rattle.std.specs.Prelude.{◌≡◌, ◌≤◌, ℕ, List, true, length};
+    ghost use Rattle.std.specs.List.{list_all};
+    ghost use Rattle.std.specs.Char.{is_ascii_hexdigit};
+
+    ghost Value = { List ℕ };
+
+    ghost view = { λ d. d.kept.items };
+
+    ghost invariant = { λ d. (list_all is_ascii_hexdigit d.kept.items ≡ true) × (length d.kept.items ≤ 65568) };
+}
+
+impl Digits {
+    /// No digits.
+    pub(crate) fn new(alloc: Global) -> Digits
+        ensures none { result ≡ [] }
+    {
+        Digits {
+            kept: Vec::new(alloc),
+        }
+    }
+
+    // Adds a digit.
+    fn push(&mut self, digit: u8) -> Result<(), AllocError>
+        requires digit { is_ascii_hexdigit digit ≡ true }
+        ensures more { IfOk result (λ _. self.new ≡ one_more self.old digit) }
+    {
+        shorten(&mut self.kept);
+        self.kept.push(digit)?;
+        Ok(())
+    }
+
+    /// Adds the digits of a piece, up to the first byte that is neither a digit nor white space. Returns whether there is none.
+    pub(crate) fn add(&mut self, piece: &[u8]) -> Result<bool, AllocError>
+        ensures kept { IfOk result (λ all. all ≡ true → (text : List ℕ) → KeepsOf text self.old → KeepsOf (text ++ piece.now) self.new) }
+        ensures odd { IfOk result (λ all. all ≡ false → has_odd piece.now ≡ true) }
+    {
+        for byte in piece {
+            if byte.is_ascii_whitespace() {
+                continue;
+            }
+            if !byte.is_ascii_hexdigit() {
+                return Ok(false);
+            }
+            self.push(*byte)?;
+        }
+        Ok(true)
+    }
+
+    /// The digits as text.
+    pub(crate) fn into_text(self) -> String
+        ensures text { string_bytes result ≡ self }
+        ensures digits { list_all is_ascii_hexdigit self ≡ true }
+    {
+        match String::from_utf8(self.kept) {
+            Ok(text) => text,
+            Err(_) => unreachable!(),
+        }
+    }
+}
+
+// Gives up the last unit's digits once there are as many as are kept.
+fn shorten(kept: &mut Vec<u8>)
+    ensures { kept.new.items ≡ shortened kept.old.items }
+{
+    if kept.len() == MOST {
+        kept.truncate(STAY);
+    }
+}
