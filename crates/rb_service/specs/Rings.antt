@@ -1,5 +1,5 @@
 -- The rings of a service: which plans are wrong, and how rings are opened (own).
-use Rattle.std.specs.Prelude.{◌≡◌, ◌<◌, ℕ, List, length}
+use Rattle.std.specs.Prelude.{◌≡◌, ◌<◌, ℕ, false, List, length}
 use Rattle.std.specs.List.{AllWithin, HoldsAt}
 use Rattle.rb_history.specs.RingModel.{IsRingSize}
 use Rattle.rb_chapter_ring.specs.Chapters.{empty_chapter}

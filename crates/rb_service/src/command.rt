@@ -1,10 +1,8 @@
 //! The command `stream`.
 
-ghost use Rattle.std.specs.Prelude.{◌≡◌, ◌≤◌, ◌<◌, All, IfErr, IfOk, OnOk, length, vec_len};
+ghost use Rattle.std.specs.Prelude.{◌≡◌, ◌↔◌, All, IfErr, IfNone, IfOk, IfSome, IsTrue, OnOk, vec_len};
 ghost use Rattle.rb_history.specs.RingModel.{IsRingSize};
-ghost use Rattle.rb_source.specs.Form.{IsForm};
-ghost use Rattle.rb_source.specs.declared.framing.Framing.TheVariants.{Fixed};
-ghost use Rattle.rb_service.specs.Command.{HasContexts, IsAllowed, IsLater, IsRightRefusal};
+ghost use Rattle.rb_service.specs.Command.{HasContexts, IsAllowed, IsLater, IsRightRefusal, IsWrongFirst};
 ghost use Rattle.rb_service.specs.Outputs.{output_position};
 
 use crate::counters::counters_text;
@@ -71,19 +69,44 @@ impl<'a> From<AllocError> for StreamRefusal<'a> {
     }
 }
 
+// Whether contexts have a length that is allowed, and some bytes if nothing but their length divides them.
+fn has_contexts(options: &StreamOptions<'_>) -> bool
+    ensures value { IsTrue result ↔ HasContexts options.now }
+{
+    if !options.form.is_lawful() {
+        return false;
+    }
+    match options.framing {
+        Framing::Fixed => options.form.len > 0,
+        Framing::Frames => true,
+        Framing::Lines => true,
+    }
+}
+
+// Returns the first ring whose size is wrong.
+fn find_wrong<'a>(rings: &[NamedRing<'a>]) -> Option<NamedRing<'a>>
+    ensures found { IfSome result (IsWrongFirst rings.now) }
+    ensures right { IfNone result (All (λ r. IsRingSize r.size) rings.now) }
+{
+    for at in 0..rings.len() {
+        let ring = rings[at];
+        if !is_size(ring.size) {
+            return Some(ring);
+        }
+    }
+    None
+}
+
 // Returns the first refusal of the options by themselves: of the contexts, of the rings' sizes in their order, and of the workers.
 fn check_options<'a>(options: &StreamOptions<'a>) -> Result<(), StreamRefusal<'a>>
     ensures refused { IfErr result (IsRightRefusal options.now) }
     ensures allowed { OnOk result (IsAllowed options.now) }
 {
-    if !options.form.is_lawful() || options.framing == Framing::Fixed && options.form.len == 0 {
+    if !has_contexts(options) {
         return Err(StreamRefusal::Context);
     }
-    for at in 0..options.rings.len() {
-        let ring = options.rings[at];
-        if !is_size(ring.size) {
-            return Err(StreamRefusal::Size(ring.name));
-        }
+    if let Some(ring) = find_wrong(options.rings.as_slice()) {
+        return Err(StreamRefusal::Size(ring.name));
     }
     if !is_worker_count(options.workers) {
         return Err(StreamRefusal::Workers);

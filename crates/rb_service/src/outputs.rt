@@ -1,5 +1,7 @@
 //! Where the records of a ring go.
 
+ghost use Rattle.std.specs.Prelude.{◌≡◌, false, true};
+
 use rb_chapter_ring::Chapter;
 use rb_io::Outgoing;
 use rb_run_commands::TapeSink;
@@ -26,17 +28,19 @@ impl<'w, A: Outgoing + Drop, B: Outgoing + Drop> RingOutput<'w, A, B> {
         ensures whole { result ≡ true → has_failed self.entry ≡ false }
     {
         match self {
-            RingOutput::Stream(tape) => {
-                let failed = tape.failed();
-                tape.into_writer().write_out().is_ok() && !failed
-            }
-            RingOutput::File(tape) => {
-                let failed = tape.failed();
-                tape.into_writer().write_out().is_ok() && !failed
-            }
+            RingOutput::Stream(tape) => finish_tape(tape),
+            RingOutput::File(tape) => finish_tape(tape),
             RingOutput::Nowhere(_) => true,
         }
     }
+}
+
+// Writes out what waits in the tape's buffer, and returns whether all of the tape was written.
+fn finish_tape<W: Outgoing + Drop>(tape: TapeSink<'_, W, OpenGate>) -> bool
+    ensures whole { result ≡ true → tape.entry.failed ≡ false }
+{
+    let failed = tape.failed();
+    tape.into_writer().write_out().is_ok() && !failed
 }
 
 impl<'w, A: Outgoing, B: Outgoing> Sink for RingOutput<'w, A, B> {

@@ -6,7 +6,7 @@ ghost use Rattle.rb_workers.specs.Rest.{LeavesNothing};
 ghost use Rattle.rb_stream.specs.Refusals.{has_other_length, has_unknown_ring};
 ghost use Rattle.rb_stream.specs.Streamed.{EndsSource};
 ghost use Rattle.rb_service.specs.Rings.{IsFirstWrong};
-ghost use Rattle.rb_service.specs.Service.{Serves};
+ghost use Rattle.rb_service.specs.Service.{Serves, reported_fault};
 ghost use Rattle.rb_service.specs.declared.service.ServiceFault.TheVariants.{ContextLength, Memory, NoRing, Size, UnknownRing, Workers};
 
 use crate::rings::{PlanFault, RingPlan, check_plans, open_rings};
@@ -80,20 +80,51 @@ pub fn serve<T: Threads + Wait + Sync, I: Source + Send, S: Sink + Send + Drop>(
     ensures nothing_left { IfOk result (λ r. All LeavesNothing r.rings.items) }
 {
     match check_plans(&plans, request.workers) {
-        Ok(()) => {}
-        Err(PlanFault::Size(number)) => return Err(ServiceFault::Size(number)),
-        Err(PlanFault::Workers) => return Err(ServiceFault::Workers),
+        Ok(()) => serve_planned(rt, alloc, programs, source, plans, request),
+        Err(PlanFault::Size(number)) => Err(ServiceFault::Size(number)),
+        Err(PlanFault::Workers) => Err(ServiceFault::Workers),
     }
+}
+
+// Serves over rings whose sizes and whose number of workers are right.
+fn serve_planned<T: Threads + Wait + Sync, I: Source + Send, S: Sink + Send + Drop>(
+    rt: &T,
+    alloc: Global,
+    programs: &[Verified],
+    source: &mut I,
+    plans: Vec<RingPlan<S>>,
+    request: ServiceRequest,
+) -> Result<StreamReport<S>, ServiceFault>
+    requires begins { All (λ p. S.position_of p.sink ≡ 0) plans.items }
+    requires sizes { All (λ p. IsRingSize p.size) plans.items }
+    requires workers { IsWorkerCount request.workers }
+    ensures no_size { (number : ℕ) → ¬ IsErrOf result (Size number) }
+    ensures no_workers { ¬ IsErrOf result Workers }
+    ensures unknown_ring { IsErrOf result UnknownRing → has_unknown_ring (vec_len plans) programs.now ≡ true }
+    ensures context_length { IsErrOf result ContextLength → (has_unknown_ring (vec_len plans) programs.now ≡ false) × (has_other_length (I.ctx_len_of source.old) programs.now ≡ true) }
+    ensures nothing_read { IfErr result (λ fault. fault ≢ Memory → source.new ≡ source.old) }
+    ensures served { IfOk result (Serves S.position_of S.takes I.gives plans.items programs.now request source.old source.new) }
+    ensures end { IfOk result (λ r. EndsSource I.is_over I.fails source.new r.end) }
+    ensures no_strays { IfOk result (λ r. r.strays ≡ 0) }
+    ensures nothing_left { IfOk result (λ r. All LeavesNothing r.rings.items) }
+{
     let Ok(opened) = open_rings(rt, alloc, plans, request.workers) else {
         return Err(ServiceFault::Memory);
     };
     match run_stream(rt, alloc, opened, programs, source, request.late, request.results) {
         Ok(report) => Ok(report),
-        Err(stop) => match stop.fault {
-            StreamFault::UnknownRing => Err(ServiceFault::UnknownRing),
-            StreamFault::ContextLength => Err(ServiceFault::ContextLength),
-            StreamFault::NoWorker => Err(ServiceFault::NoRing),
-            StreamFault::Memory => Err(ServiceFault::Memory),
-        },
+        Err(stop) => Err(fault_of(stop.fault)),
+    }
+}
+
+// Returns the fault of a service whose stream stopped for this one.
+fn fault_of(fault: StreamFault) -> ServiceFault
+    ensures value { result ≡ reported_fault fault }
+{
+    match fault {
+        StreamFault::UnknownRing => ServiceFault::UnknownRing,
+        StreamFault::ContextLength => ServiceFault::ContextLength,
+        StreamFault::NoWorker => ServiceFault::NoRing,
+        StreamFault::Memory => ServiceFault::Memory,
     }
 }

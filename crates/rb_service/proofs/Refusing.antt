@@ -1,0 +1,39 @@
+-- Options that are refused by themselves.
+use Rattle.std.proofs.Common.{◌≡◌, ℕ, ◌+◌, ◌<◌, ◌≤◌, List, get_or, length, Result, Ok, Err, sym, subst, ◌∙◌, inl, inr, arith}
+use Rattle.std.proofs.lemmas.Bool.{cases_lt}
+use Rattle.std.proofs.lemmas.List.{get_or_default}
+use Rattle.std.specs.Prelude.{IfErr}
+use Rattle.std.specs.List.{AllWithin}
+use Rattle.rb_history.specs.RingModel.{IsRingSize}
+use Rattle.rb_service.specs.Command.{IsAllowed, IsLater, IsRightRefusal, IsWrongFirst}
+use Rattle.rb_service.specs.declared.command.StreamRefusal.{StreamRefusal}
+use Rattle.rb_service.specs.declared.command.StreamRefusal.TheVariants.{Context, Size, Workers}
+use Rattle.rb_service.specs.declared.options.NamedRing.{NamedRing}
+use Rattle.rb_service.specs.declared.options.StreamOptions.{StreamOptions}
+
+-- this ring is the first whose size is wrong
+pub wrong_first : (rings : List NamedRing) (n : ℕ) (ring : NamedRing) → n < length rings → ring ≡ get_or rings n ring → ¬ IsRingSize ring.size → AllWithin (λ r. IsRingSize r.size) rings 0 n → IsWrongFirst rings ring
+wrong_first rings n ring below is wrong right = record {
+  number = n;
+  below = below;
+  is = λ d. sym (is ∙ get_or_default rings n ring d below);
+  wrong = wrong;
+  right_before = right;
+}
+
+-- one right size more
+pub one_right : (rings : List NamedRing) (n : ℕ) (ring : NamedRing) → n < length rings → ring ≡ get_or rings n ring → IsRingSize ring.size → AllWithin (λ r. IsRingSize r.size) rings 0 n → AllWithin (λ r. IsRingSize r.size) rings 0 (n + 1)
+one_right rings n ring below is right so_far k d low within = elim (cases_lt k n) [
+  | inl less ↦ so_far k d low less
+  | inr near ↦
+      let e : k ≡ n = omega arith in
+      subst (λ m. IsRingSize (get_or rings m d).size) (sym e) (subst (λ (r : NamedRing). IsRingSize r.size) (is ∙ get_or_default rings n ring d below) right)
+]
+
+-- if the options are allowed, a refusal that is not due to them alone is right
+pub later_right : {A : Type 0} (options : StreamOptions) (answer : Result A StreamRefusal) → IsAllowed options → IfErr answer IsLater → IfErr answer (IsRightRefusal options)
+later_right options (Ok a) allowed later = tt
+later_right options (Err Context) allowed later = absurd later
+later_right options (Err (Size name)) allowed later = absurd later
+later_right options (Err Workers) allowed later = absurd later
+later_right options (Err _) allowed later = allowed

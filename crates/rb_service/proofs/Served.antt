@@ -1,0 +1,72 @@
+-- What a service comes to, put together of what its calls say.
+use Rattle.std.proofs.Common.{◌≡◌, ◌≢◌, ℕ, Bool, true, false, List, length, Result, Ok, Err, sym, ap, subst, ◌∙◌}
+use Rattle.std.specs.Prelude.{◌↔◌, All, IsErrOf}
+use Rattle.rb_history.specs.RingModel.{IsRingSize}
+use Rattle.rb_stream.specs.declared.report.StreamFault.{StreamFault}
+use Rattle.rb_stream.specs.declared.report.StreamFault.TheVariants.{UnknownRing as StreamUnknownRing, ContextLength as StreamContextLength, NoWorker as StreamNoWorker, Memory as StreamMemory}
+use Rattle.rb_service.specs.Rings.{IsFirstWrong}
+use Rattle.rb_service.specs.Service.{reported_fault}
+use Rattle.rb_service.specs.declared.rings.PlanFault.{PlanFault}
+use Rattle.rb_service.specs.declared.rings.PlanFault.TheVariants.{Size as PlanSize, Workers as PlanWorkers}
+use Rattle.rb_service.specs.declared.rings.RingPlan.{RingPlan}
+use Rattle.rb_service.specs.declared.service.ServiceFault.{ServiceFault}
+use Rattle.rb_service.specs.declared.service.ServiceFault.TheVariants.{Size, Workers, UnknownRing, ContextLength, NoRing, Memory}
+
+same_size : {T : Type 0} (n m : ℕ) → ◌≡◌ {A = Result T ServiceFault} (Err (Size n)) (Err (Size m)) → n ≡ m
+same_size n m e = cc
+
+same_plan_size : {T : Type 0} (n m : ℕ) → ◌≡◌ {A = Result T PlanFault} (Err (PlanSize n)) (Err (PlanSize m)) → n ≡ m
+same_plan_size n m e = cc
+
+-- the number of a wrong plan is handed on
+pub size_handed_on : {S T : Type 0} (plans : List (RingPlan S)) (answer : Result (Unit {0}) PlanFault) (n : ℕ) → answer ≡ Err (PlanSize n)
+    → ((m : ℕ) → IsErrOf answer (PlanSize m) ↔ IsFirstWrong plans m) → (m : ℕ) → IsErrOf {T = T} (Err (Size n)) (Size m) ↔ IsFirstWrong plans m
+size_handed_on plans answer n is checked m =
+    (λ e. (checked m).0 (is ∙ ap (λ k. Err (PlanSize k)) (same_size n m e)), λ first. ap (λ k. Err (Size k)) (same_plan_size n m (sym is ∙ (checked m).1 first)))
+
+-- a stream's fault is reported as no other
+fault_no_size : (fault : StreamFault) (n : ℕ) → reported_fault fault ≡ Size n → ⊥
+fault_no_size StreamUnknownRing n e = cc
+fault_no_size StreamContextLength n e = cc
+fault_no_size StreamNoWorker n e = cc
+fault_no_size StreamMemory n e = cc
+
+fault_no_workers : (fault : StreamFault) → reported_fault fault ≡ Workers → ⊥
+fault_no_workers StreamUnknownRing e = cc
+fault_no_workers StreamContextLength e = cc
+fault_no_workers StreamNoWorker e = cc
+fault_no_workers StreamMemory e = cc
+
+reported_unknown : (fault : StreamFault) → reported_fault fault ≡ UnknownRing → fault ≡ StreamUnknownRing
+reported_unknown StreamUnknownRing e = cc
+reported_unknown StreamContextLength e = cc
+reported_unknown StreamNoWorker e = cc
+reported_unknown StreamMemory e = cc
+
+reported_length : (fault : StreamFault) → reported_fault fault ≡ ContextLength → fault ≡ StreamContextLength
+reported_length StreamUnknownRing e = cc
+reported_length StreamContextLength e = cc
+reported_length StreamNoWorker e = cc
+reported_length StreamMemory e = cc
+
+reported_memory : (fault : StreamFault) → fault ≡ StreamMemory → reported_fault fault ≡ Memory
+reported_memory fault e = ap reported_fault e
+
+same_fault : {T : Type 0} (a b : ServiceFault) → ◌≡◌ {A = Result T ServiceFault} (Err a) (Err b) → a ≡ b
+same_fault a b e = cc
+
+module _ {T : Type 0} (stop : StreamFault) (fault : ServiceFault) (is : fault ≡ reported_fault stop) where
+  pub is_no_size : (n : ℕ) → ◌≡◌ {A = Result T ServiceFault} (Err fault) (Err (Size n)) → ⊥
+  is_no_size n e = fault_no_size stop n (sym is ∙ same_fault fault (Size n) e)
+
+  pub is_no_workers : ◌≡◌ {A = Result T ServiceFault} (Err fault) (Err Workers) → ⊥
+  is_no_workers e = fault_no_workers stop (sym is ∙ same_fault fault Workers e)
+
+  pub is_unknown : ◌≡◌ {A = Result T ServiceFault} (Err fault) (Err UnknownRing) → stop ≡ StreamUnknownRing
+  is_unknown e = reported_unknown stop (sym is ∙ same_fault fault UnknownRing e)
+
+  pub is_length : ◌≡◌ {A = Result T ServiceFault} (Err fault) (Err ContextLength) → stop ≡ StreamContextLength
+  is_length e = reported_length stop (sym is ∙ same_fault fault ContextLength e)
+
+  pub is_memory : fault ≢ Memory → stop ≢ StreamMemory
+  is_memory other e = other (is ∙ reported_memory stop e)
