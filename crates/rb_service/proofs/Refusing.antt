@@ -1,8 +1,9 @@
 -- Options that are refused by themselves.
-use Rattle.std.proofs.Common.{◌≡◌, ℕ, ◌+◌, ◌<◌, ◌≤◌, List, get_or, length, Result, Ok, Err, sym, subst, ◌∙◌, inl, inr, arith}
+use Rattle.std.proofs.Common.{◌≡◌, ℕ, ◌+◌, ◌<◌, ◌≤◌, List, [], ◌∷◌, ◌++◌, get_or, length, Result, Ok, Err, sym, subst, ◌∙◌, inl, inr, arith}
 use Rattle.std.proofs.lemmas.Bool.{cases_lt}
+use Rattle.std.proofs.lemmas.List.Elements.{All-push, All-same}
 use Rattle.std.proofs.lemmas.List.{get_or_default}
-use Rattle.std.specs.Prelude.{IfErr}
+use Rattle.std.specs.Prelude.{All, IfErr}
 use Rattle.std.specs.List.{AllWithin}
 use Rattle.rb_history.specs.RingModel.{IsRingSize}
 use Rattle.rb_service.specs.Command.{IsAllowed, IsLater, IsRightRefusal, IsWrongFirst}
@@ -10,6 +11,9 @@ use Rattle.rb_service.specs.declared.command.StreamRefusal.{StreamRefusal}
 use Rattle.rb_service.specs.declared.command.StreamRefusal.TheVariants.{Context, Size, Workers}
 use Rattle.rb_service.specs.declared.options.NamedRing.{NamedRing}
 use Rattle.rb_service.specs.declared.options.StreamOptions.{StreamOptions}
+use Rattle.rb_service.specs.declared.outputs.RingOutput.{RingOutput}
+use Rattle.rb_service.specs.declared.rings.RingPlan.{RingPlan}
+use Rattle.rb_service.specs.Outputs.{output_position}
 
 -- this ring is the first whose size is wrong
 pub wrong_first : (rings : List NamedRing) (n : ℕ) (ring : NamedRing) → n < length rings → ring ≡ get_or rings n ring → ¬ IsRingSize ring.size → AllWithin (λ r. IsRingSize r.size) rings 0 n → IsWrongFirst rings ring
@@ -37,3 +41,10 @@ later_right options (Err Context) allowed later = absurd later
 later_right options (Err (Size name)) allowed later = absurd later
 later_right options (Err Workers) allowed later = absurd later
 later_right options (Err _) allowed later = allowed
+
+-- a plan more whose output begins at position 0
+pub begins_more : {A B : Type 0} (old mid new : List (RingPlan (RingOutput A B))) (plan : RingPlan (RingOutput A B)) → mid ≡ old → new ≡ mid ++ plan ∷ []
+    → All (λ (p : RingPlan (RingOutput A B)). output_position p.sink ≡ 0) old → output_position plan.sink ≡ 0 → All (λ (p : RingPlan (RingOutput A B)). output_position p.sink ≡ 0) new
+begins_more {A} {B} old mid new plan same grown so_far begins =
+    let at_0 = λ (p : RingPlan (RingOutput A B)). output_position p.sink ≡ 0 in
+    All-same at_0 new (mid ++ plan ∷ []) grown (All-push at_0 mid plan (All-same at_0 mid old same so_far) begins)

@@ -68,5 +68,5 @@ module _ {T : Type 0} (stop : StreamFault) (fault : ServiceFault) (is : fault �
   pub is_length : ◌≡◌ {A = Result T ServiceFault} (Err fault) (Err ContextLength) → stop ≡ StreamContextLength
   is_length e = reported_length stop (sym is ∙ same_fault fault ContextLength e)
 
-  pub is_memory : fault ≢ Memory → stop ≢ StreamMemory
-  is_memory other e = other (is ∙ reported_memory stop e)
+pub is_memory : (stop : StreamFault) (fault : ServiceFault) → fault ≡ reported_fault stop → fault ≢ Memory → stop ≢ StreamMemory
+is_memory stop fault is other e = other (is ∙ reported_memory stop e)

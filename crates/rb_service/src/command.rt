@@ -119,20 +119,19 @@ fn read_programs<'a, T, F: Read + Drop>(
     rt: &T,
     alloc: Global,
     options: &StreamOptions<'a>,
-    ctx_len: u32,
+    bounds: Bounds,
 ) -> Result<Vec<Verified>, StreamRefusal<'a>>
 where
     T: Files<File = F>,
     ensures later { IfErr result IsLater }
 {
-    let rings = options.rings.len().min(16) as u32;
     let mut programs = Vec::new(alloc);
     for at in 0..options.programs.len() {
         let path = options.programs[at];
         let Ok(mut file) = File::open(rt, path) else {
             return Err(StreamRefusal::Open(path));
         };
-        match read_program(alloc, &mut file, Bounds { ctx_len, rings }) {
+        match read_program(alloc, &mut file, bounds) {
             Ok(program) => {
                 programs.reserve(1)?;
                 programs.push_reserved(program);
@@ -329,7 +328,9 @@ where
     requires allowed { IsAllowed options.now }
     ensures later { IfErr result IsLater }
 {
-    let programs = read_programs(rt, alloc, options, options.form.ctx_len())?;
+    let ctx_len = options.form.ctx_len();
+    let rings = options.rings.len().min(16) as u32;
+    let programs = read_programs(rt, alloc, options, Bounds { ctx_len, rings })?;
     let plans = plan_rings(rt, alloc, options, out, gate)?;
     let Some(path) = options.from else {
         return stream_from(rt, alloc, options, programs.as_slice(), input, plans, told);

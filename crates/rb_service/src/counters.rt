@@ -1,7 +1,7 @@
 //! What is printed of a service's report.
 
 ghost use Rattle.std.specs.Prelude.{◌≡◌, ◌++◌, IfOk, OnOk, length, map, string_bytes};
-ghost use Rattle.rb_service.specs.Counters.{contexts_line, counters, other_line, program_lines, programs_lines_from, result_line, result_lines_from, ring_line, rings_lines};
+ghost use Rattle.rb_service.specs.Counters.{contexts_line, counters, counts_line, other_line, program_lines, programs_lines_from, result_line, result_lines_from, ring_line, rings_lines};
 
 use rb_history::Counts;
 use rb_source::ContextCounts;
@@ -109,6 +109,15 @@ fn push_rings<S>(text: &mut String, rings: &[Ended<S>], names: &[&str]) -> Resul
 fn push_ring(text: &mut String, name: &str, counts: Counts) -> Result<(), AllocError>
     ensures line { OnOk result (string_bytes text.new ≡ string_bytes text.old ++ ring_line name.now counts) }
 {
+    text.push_str("ring ")?;
+    text.push_str(name)?;
+    push_counts(text, counts)
+}
+
+// Appends what the line of a ring says after its name.
+fn push_counts(text: &mut String, counts: Counts) -> Result<(), AllocError>
+    ensures counts { OnOk result (string_bytes text.new ≡ string_bytes text.old ++ counts_line counts) }
+{
     let Counts {
         made,
         refused,
@@ -119,6 +128,6 @@ fn push_ring(text: &mut String, name: &str, counts: Counts) -> Result<(), AllocE
     } = counts;
     writeln!(
         text,
-        "ring {name} made {made} refused {refused} consumed {consumed} discarded {discarded} waiting {waiting} busy {busy}"
+        " made {made} refused {refused} consumed {consumed} discarded {discarded} waiting {waiting} busy {busy}"
     )
 }

@@ -49,7 +49,6 @@ pub(crate) fn check_plans<S>(plans: &[RingPlan<S>], workers: u32) -> Result<(), 
 }
 
 // Opens the ring of this number at position 0.
-#[tactic(auto, using(rb_run_commands::proofs::Sizes::first_start))]
 fn open_ring<T: Wait, S: Sink + Drop>(
     rt: &T,
     alloc: Global,

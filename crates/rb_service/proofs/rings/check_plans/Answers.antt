@@ -1,4 +1,4 @@
-use Rattle.std.proofs.Common.{◌<◌, length, refl, sym, ◌∙◌, rules, arith}
+use Rattle.std.proofs.Common.{◌<◌, length, refl, sym, subst, ◌∙◌, arith}
 use Rattle.std.specs.Prelude.{All}
 use Rattle.std.proofs.lemmas.Bool.{true≢false}
 use Rattle.rb_history.specs.RingModel.{IsRingSize, IsWorkerCount}
@@ -10,19 +10,19 @@ use Rattle.rb_service.proofs.rings.check_plans.Goals as goal
 
 pub loop-number-preserved : goal.loop-number-preserved
 loop-number-preserved g c =
-    right_more c.args.plans.now c.loop-number.number c.index-plans-number.result (omega (arith, c.loop-number-test.true)) c.index-plans-number.is (c.is_size.ensures.test.0 c.if-not-is_size.false) c.loop-number.invariant
+    right_more c.args.plans.now c.loop-number.number c.index-plans-number.result (omega (arith, c.loop-number-test.true)) c.index-plans-number.is (subst (λ (q : RingPlan _). IsRingSize q.size) (sym c.index-plans-number.is) (c.is_size.ensures.test.0 c.if-not-is_size.false)) c.loop-number.invariant
 
 pub returns-then-not-is_size-clause-size : goal.returns-then-not-is_size-clause-size
 returns-then-not-is_size-clause-size g c =
     let n = c.loop-number.number in
     let p = c.index-plans-number.result in
-    size_refused c.args.plans.now n p (is_first c.args.plans.now n p (omega (arith, c.loop-number-test.true)) c.index-plans-number.is (λ right. true≢false (sym (c.is_size.ensures.test.1 right) ∙ c.if-not-is_size.true)) c.loop-number.invariant)
+    size_refused c.args.plans.now n p (is_first c.args.plans.now n p (omega (arith, c.loop-number-test.true)) c.index-plans-number.is (λ right. true≢false (sym (c.is_size.ensures.test.1 (subst (λ (q : RingPlan _). IsRingSize q.size) c.index-plans-number.is right)) ∙ c.if-not-is_size.true)) c.loop-number.invariant)
 
 pub returns-then-not-is_size-clause-workers : goal.returns-then-not-is_size-clause-workers
 returns-then-not-is_size-clause-workers g c =
     let n = c.loop-number.number in
     let p = c.index-plans-number.result in
-    workers_unseen c.args.plans.now n (IsWorkerCount c.args.workers) (is_first c.args.plans.now n p (omega (arith, c.loop-number-test.true)) c.index-plans-number.is (λ right. true≢false (sym (c.is_size.ensures.test.1 right) ∙ c.if-not-is_size.true)) c.loop-number.invariant)
+    workers_unseen c.args.plans.now n (IsWorkerCount c.args.workers) (is_first c.args.plans.now n p (omega (arith, c.loop-number-test.true)) c.index-plans-number.is (λ right. true≢false (sym (c.is_size.ensures.test.1 (subst (λ (q : RingPlan _). IsRingSize q.size) c.index-plans-number.is right)) ∙ c.if-not-is_size.true)) c.loop-number.invariant)
 
 pub returns-then-not-is_worker_count-clause-size : goal.returns-then-not-is_worker_count-clause-size
 returns-then-not-is_worker_count-clause-size g c =
