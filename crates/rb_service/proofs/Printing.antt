@@ -9,7 +9,7 @@ use Rattle.rb_io.specs.Lines.{line}
 use Rattle.rb_source.specs.declared.counts.ContextCounts.{ContextCounts}
 use Rattle.rb_stream_worker.specs.declared.result_counts.ResultCounts.{ResultCounts}
 use Rattle.rb_workers.specs.declared.opened.Ended.{Ended}
-use Rattle.rb_service.specs.Counters.{contexts_line, counts_line, other_line, program_lines, programs_lines_from, result_line, result_lines_from, ring_line, rings_lines}
+use Rattle.rb_service.specs.Counters.{contexts_line, other_line, program_lines, programs_lines_from, records_line, requests_part, result_line, result_lines_from, ring_line, rings_lines}
 
 -- the text of the line of the contexts, as it is put together
 contexts_pieces : (read run dropped skipped cut : List ℕ)
@@ -59,23 +59,36 @@ other_written (Ok a) old new program (suc n) some wrote =
     wrote ∙ ap (λ l. old ++ l) (other_pieces (decimal program) (decimal (suc n)) ∙ sym (some_other program n))
 other_written (Err e) old new program runs some wrote = tt
 
--- the text of a ring's line after its name, as it is put together
-counts_pieces : (made refused consumed discarded waiting busy : List ℕ)
-    → codes " made " ++ (made ++ (codes " refused " ++ (refused ++ (codes " consumed " ++ (consumed ++ (codes " discarded " ++ (discarded ++ (codes " waiting " ++ (waiting ++ (codes " busy " ++ (busy ++ 10 ∷ [])))))))))))
-    ≡ line (codes " made " ++ made ++ codes " refused " ++ refused ++ codes " consumed " ++ consumed ++ codes " discarded " ++ discarded ++ codes " waiting " ++ waiting ++ codes " busy " ++ busy)
-counts_pieces made refused consumed discarded waiting busy = simp append_assoc refl
+-- the text of a ring's requests, as it is put together
+requests_pieces : (made refused : List ℕ) → codes " made " ++ (made ++ (codes " refused " ++ (refused ++ codes " "))) ≡ codes " made " ++ made ++ codes " refused " ++ refused ++ codes " "
+requests_pieces made refused = simp append_assoc refl
 
-pub counts_written : {A B : Type 0} (answer : Result A B) (old new : List ℕ) (c : Counts)
-    → OnOk answer (new ≡ old ++ (codes " made " ++ (decimal c.made ++ (codes " refused " ++ (decimal c.refused ++ (codes " consumed " ++ (decimal c.consumed ++ (codes " discarded " ++ (decimal c.discarded ++ (codes " waiting " ++ (decimal c.waiting ++ (codes " busy " ++ (decimal c.busy ++ 10 ∷ [])))))))))))))
-    → OnOk answer (new ≡ old ++ counts_line c)
-counts_written (Ok a) old new c wrote = wrote ∙ ap (λ l. old ++ l) (counts_pieces (decimal c.made) (decimal c.refused) (decimal c.consumed) (decimal c.discarded) (decimal c.waiting) (decimal c.busy))
-counts_written (Err e) old new c wrote = tt
+pub requests_written : {A B : Type 0} (answer : Result A B) (old new : List ℕ) (c : Counts)
+    → OnOk answer (new ≡ old ++ (codes " made " ++ (decimal c.made ++ (codes " refused " ++ (decimal c.refused ++ codes " ")))))
+    → OnOk answer (new ≡ old ++ requests_part c)
+requests_written (Ok a) old new c wrote = wrote ∙ ap (λ l. old ++ l) (requests_pieces (decimal c.made) (decimal c.refused))
+requests_written (Err e) old new c wrote = tt
 
-pub ring_written : {A B : Type 0} (answer : Result A B) (old one two new name : List ℕ) (c : Counts) → one ≡ old ++ codes "ring " → two ≡ one ++ name
-    → OnOk answer (new ≡ two ++ counts_line c) → OnOk answer (new ≡ old ++ ring_line name c)
-ring_written (Ok a) old one two new name c first second third =
-    third ∙ (ap (λ l. l ++ counts_line c) (second ∙ ap (λ l. l ++ name) first) ∙ (append_assoc (old ++ codes "ring ") name (counts_line c) ∙ append_assoc old (codes "ring ") (name ++ counts_line c)))
-ring_written (Err e) old one two new name c first second third = tt
+-- the text of what became of a ring's records, as it is put together
+records_pieces : (consumed discarded waiting busy : List ℕ)
+    → codes "consumed " ++ (consumed ++ (codes " discarded " ++ (discarded ++ (codes " waiting " ++ (waiting ++ (codes " busy " ++ (busy ++ 10 ∷ [])))))))
+    ≡ line (codes "consumed " ++ consumed ++ codes " discarded " ++ discarded ++ codes " waiting " ++ waiting ++ codes " busy " ++ busy)
+records_pieces consumed discarded waiting busy = simp append_assoc refl
+
+pub records_written : {A B : Type 0} (answer : Result A B) (old new : List ℕ) (c : Counts)
+    → OnOk answer (new ≡ old ++ (codes "consumed " ++ (decimal c.consumed ++ (codes " discarded " ++ (decimal c.discarded ++ (codes " waiting " ++ (decimal c.waiting ++ (codes " busy " ++ (decimal c.busy ++ 10 ∷ [])))))))))
+    → OnOk answer (new ≡ old ++ records_line c)
+records_written (Ok a) old new c wrote = wrote ∙ ap (λ l. old ++ l) (records_pieces (decimal c.consumed) (decimal c.discarded) (decimal c.waiting) (decimal c.busy))
+records_written (Err e) old new c wrote = tt
+
+ring_pieces : (old a name b d : List ℕ) → old ++ a ++ name ++ b ++ d ≡ old ++ (a ++ name ++ b ++ d)
+ring_pieces old a name b d = simp append_assoc refl
+
+pub ring_written : {A B : Type 0} (answer : Result A B) (old one two three new name : List ℕ) (c : Counts) → one ≡ old ++ codes "ring " → two ≡ one ++ name → three ≡ two ++ requests_part c
+    → OnOk answer (new ≡ three ++ records_line c) → OnOk answer (new ≡ old ++ ring_line name c)
+ring_written (Ok a) old one two three new name c first second third fourth =
+    fourth ∙ (ap (λ l. l ++ records_line c) (third ∙ ap (λ l. l ++ requests_part c) (second ∙ ap (λ l. l ++ name) first)) ∙ ring_pieces old (codes "ring ") name (requests_part c) (records_line c))
+ring_written (Err e) old one two three new name c first second third fourth = tt
 
 -- the rest of a list begins with the element at this place
 next_is : {A : Type 0} (xs : List A) (i : ℕ) (x : A) → i < length xs → x ≡ get_or xs i x → drop i xs ≡ x ∷ drop (i + 1) xs

@@ -1,5 +1,5 @@
 -- Options that are refused by themselves.
-use Rattle.std.proofs.Common.{◌≡◌, ℕ, ◌+◌, ◌<◌, ◌≤◌, List, [], ◌∷◌, ◌++◌, get_or, length, Result, Ok, Err, sym, subst, ◌∙◌, inl, inr, arith}
+use Rattle.std.proofs.Common.{◌≡◌, ℕ, ◌+◌, ◌<◌, ◌≤◌, List, [], ◌∷◌, ◌++◌, get_or, length, Result, Ok, Err, sym, subst, inl, inr, arith}
 use Rattle.std.proofs.lemmas.Bool.{cases_lt}
 use Rattle.std.proofs.lemmas.List.Elements.{All-push, All-same}
 use Rattle.std.proofs.lemmas.List.{get_or_default}
@@ -16,22 +16,22 @@ use Rattle.rb_service.specs.declared.rings.RingPlan.{RingPlan}
 use Rattle.rb_service.specs.Outputs.{output_position}
 
 -- this ring is the first whose size is wrong
-pub wrong_first : (rings : List NamedRing) (n : ℕ) (ring : NamedRing) → n < length rings → ring ≡ get_or rings n ring → ¬ IsRingSize ring.size → AllWithin (λ r. IsRingSize r.size) rings 0 n → IsWrongFirst rings ring
-wrong_first rings n ring below is wrong right = record {
+pub wrong_first : (rings : List NamedRing) (n : ℕ) (e : NamedRing) → n < length rings → ¬ IsRingSize (get_or rings n e).size → AllWithin (λ r. IsRingSize r.size) rings 0 n → IsWrongFirst rings (get_or rings n e)
+wrong_first rings n e below wrong right = record {
   number = n;
   below = below;
-  is = λ d. sym (is ∙ get_or_default rings n ring d below);
+  is = λ d. get_or_default rings n d e below;
   wrong = wrong;
   right_before = right;
 }
 
 -- one right size more
-pub one_right : (rings : List NamedRing) (n : ℕ) (ring : NamedRing) → n < length rings → ring ≡ get_or rings n ring → IsRingSize ring.size → AllWithin (λ r. IsRingSize r.size) rings 0 n → AllWithin (λ r. IsRingSize r.size) rings 0 (n + 1)
-one_right rings n ring below is right so_far k d low within = elim (cases_lt k n) [
+pub one_right : (rings : List NamedRing) (n : ℕ) (e : NamedRing) → n < length rings → IsRingSize (get_or rings n e).size → AllWithin (λ r. IsRingSize r.size) rings 0 n → AllWithin (λ r. IsRingSize r.size) rings 0 (n + 1)
+one_right rings n e below right so_far k d low within = elim (cases_lt k n) [
   | inl less ↦ so_far k d low less
   | inr near ↦
-      let e : k ≡ n = omega arith in
-      subst (λ m. IsRingSize (get_or rings m d).size) (sym e) (subst (λ (r : NamedRing). IsRingSize r.size) (is ∙ get_or_default rings n ring d below) right)
+      let same : k ≡ n = omega arith in
+      subst (λ m. IsRingSize (get_or rings m d).size) (sym same) (subst (λ (r : NamedRing). IsRingSize r.size) (get_or_default rings n e d below) right)
 ]
 
 -- if the options are allowed, a refusal that is not due to them alone is right

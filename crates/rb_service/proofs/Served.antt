@@ -1,5 +1,5 @@
 -- What a service comes to, put together of what its calls say.
-use Rattle.std.proofs.Common.{◌≡◌, ◌≢◌, ℕ, Bool, true, false, List, length, Result, Ok, Err, sym, ap, subst, ◌∙◌}
+use Rattle.std.proofs.Common.{◌≡◌, ◌≢◌, ℕ, Bool, true, false, List, length, Result, Ok, Err, refl, sym, ap, subst, ◌∙◌}
 use Rattle.std.specs.Prelude.{◌↔◌, All, IsErrOf}
 use Rattle.rb_history.specs.RingModel.{IsRingSize}
 use Rattle.rb_stream.specs.declared.report.StreamFault.{StreamFault}
@@ -18,11 +18,35 @@ same_size n m e = cc
 same_plan_size : {T : Type 0} (n m : ℕ) → ◌≡◌ {A = Result T PlanFault} (Err (PlanSize n)) (Err (PlanSize m)) → n ≡ m
 same_plan_size n m e = cc
 
--- the number of a wrong plan is handed on
-pub size_handed_on : {S T : Type 0} (plans : List (RingPlan S)) (answer : Result (Unit {0}) PlanFault) (n : ℕ) → answer ≡ Err (PlanSize n)
-    → ((m : ℕ) → IsErrOf answer (PlanSize m) ↔ IsFirstWrong plans m) → (m : ℕ) → IsErrOf {T = T} (Err (Size n)) (Size m) ↔ IsFirstWrong plans m
-size_handed_on plans answer n is checked m =
-    (λ e. (checked m).0 (is ∙ ap (λ k. Err (PlanSize k)) (same_size n m e)), λ first. ap (λ k. Err (Size k)) (same_plan_size n m (sym is ∙ (checked m).1 first)))
+plan_size_no_workers : {T : Type 0} (n : ℕ) → ◌≡◌ {A = Result T PlanFault} (Err (PlanSize n)) (Err PlanWorkers) → ⊥
+plan_size_no_workers n e = cc
+
+size_no_workers : {T : Type 0} (n : ℕ) → ◌≡◌ {A = Result T ServiceFault} (Err (Size n)) (Err Workers) → ⊥
+size_no_workers n e = cc
+
+module _ {S T : Type 0} (slice plans : List (RingPlan S)) (W : Type 0) (same : slice ≡ plans) (answer : Result (Unit {0}) PlanFault)
+    (sizes : (m : ℕ) → IsErrOf answer (PlanSize m) ↔ IsFirstWrong slice m) (workers : IsErrOf answer PlanWorkers ↔ (All (λ p. IsRingSize p.size) slice × ¬ W)) where
+  -- the number of a wrong plan is handed on
+  pub size_handed_on : (n : ℕ) → answer ≡ Err (PlanSize n) → (m : ℕ) → IsErrOf {T = T} (Err (Size n)) (Size m) ↔ IsFirstWrong plans m
+  size_handed_on n is m = (
+    (λ e. subst (λ (l : List (RingPlan S)). IsFirstWrong l m) same ((sizes m).0 (is ∙ ap (λ k. Err (PlanSize k)) (same_size n m e)))),
+    (λ first. ap (λ k. Err (Size k)) (same_plan_size n m (sym is ∙ (sizes m).1 (subst (λ (l : List (RingPlan S)). IsFirstWrong l m) (sym same) first)))),
+  )
+
+  pub size_hides_workers : (n : ℕ) → answer ≡ Err (PlanSize n) → IsErrOf {T = T} (Err (Size n)) Workers ↔ (All (λ p. IsRingSize p.size) plans × ¬ W)
+  size_hides_workers n is = (
+    (λ e. absurd (size_no_workers n e)),
+    (λ h. absurd (plan_size_no_workers n (sym is ∙ workers.1 (subst (λ (l : List (RingPlan S)). All (λ (p : RingPlan S). IsRingSize p.size) l) (sym same) h.0, h.1)))),
+  )
+
+  pub workers_hide_size : answer ≡ Err PlanWorkers → (m : ℕ) → IsErrOf {T = T} (Err Workers) (Size m) ↔ IsFirstWrong plans m
+  workers_hide_size is m = (
+    (λ e. absurd (size_no_workers m (sym e))),
+    (λ first. absurd (plan_size_no_workers m (sym ((sizes m).1 (subst (λ (l : List (RingPlan S)). IsFirstWrong l m) (sym same) first)) ∙ is))),
+  )
+
+  pub workers_handed_on : answer ≡ Err PlanWorkers → IsErrOf {T = T} (Err Workers) Workers ↔ (All (λ p. IsRingSize p.size) plans × ¬ W)
+  workers_handed_on is = ((λ e. (let h = workers.0 is in (subst (λ (l : List (RingPlan S)). All (λ (p : RingPlan S). IsRingSize p.size) l) same h.0, h.1))), λ h. refl)
 
 -- a stream's fault is reported as no other
 fault_no_size : (fault : StreamFault) (n : ℕ) → reported_fault fault ≡ Size n → ⊥

@@ -38,15 +38,18 @@ abbrev pub programs_lines_from : ℕ → List ResultCounts → List ℕ
 programs_lines_from program [] = []
 programs_lines_from program (counts ∷ more) = program_lines program counts ++ programs_lines_from (program + 1) more
 
--- a ring's records: those that were made, and what became of them; and how many reservations were refused
-abbrev pub counts_line : Counts → List ℕ
-counts_line counts =
-    line (codes " made " ++ decimal counts.made ++ codes " refused " ++ decimal counts.refused ++ codes " consumed " ++ decimal counts.consumed
-    ++ codes " discarded " ++ decimal counts.discarded ++ codes " waiting " ++ decimal counts.waiting ++ codes " busy " ++ decimal counts.busy)
+-- how many reservations and outputs got a record, and how many were refused
+abbrev pub requests_part : Counts → List ℕ
+requests_part counts = codes " made " ++ decimal counts.made ++ codes " refused " ++ decimal counts.refused ++ codes " "
 
--- the same with the ring's name in front
+-- what became of a ring's records
+abbrev pub records_line : Counts → List ℕ
+records_line counts =
+    line (codes "consumed " ++ decimal counts.consumed ++ codes " discarded " ++ decimal counts.discarded ++ codes " waiting " ++ decimal counts.waiting ++ codes " busy " ++ decimal counts.busy)
+
+-- the line of a ring, by its name
 abbrev pub ring_line : List ℕ → Counts → List ℕ
-ring_line name counts = codes "ring " ++ name ++ counts_line counts
+ring_line name counts = codes "ring " ++ name ++ requests_part counts ++ records_line counts
 
 -- the lines of rings, each by its name
 abbrev pub rings_lines : {S : Type 0} → List (List ℕ) → List (Ended S) → List ℕ

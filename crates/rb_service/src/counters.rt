@@ -1,7 +1,8 @@
 //! What is printed of a service's report.
 
 ghost use Rattle.std.specs.Prelude.{◌≡◌, ◌++◌, IfOk, OnOk, length, map, string_bytes};
-ghost use Rattle.rb_service.specs.Counters.{contexts_line, counters, counts_line, other_line, program_lines, programs_lines_from, result_line, result_lines_from, ring_line, rings_lines};
+ghost use Rattle.rb_chapter_ring.specs.OpenedRing.{told_counts};
+ghost use Rattle.rb_service.specs.Counters.{contexts_line, counters, other_line, program_lines, programs_lines_from, records_line, requests_part, result_line, result_lines_from, ring_line, rings_lines};
 
 use rb_history::Counts;
 use rb_source::ContextCounts;
@@ -100,9 +101,16 @@ fn push_rings<S>(text: &mut String, rings: &[Ended<S>], names: &[&str]) -> Resul
     ensures lines { OnOk result (string_bytes text.new ≡ string_bytes text.old ++ rings_lines (map (λ n. n.now) names.now) rings.now) }
 {
     for ring in 0..rings.len() {
-        push_ring(text, names[ring], rings[ring].closing.counts())?;
+        push_ended(text, names[ring], &rings[ring])?;
     }
     Ok(())
+}
+
+// Appends the line of a ring at its end.
+fn push_ended<S>(text: &mut String, name: &str, ended: &Ended<S>) -> Result<(), AllocError>
+    ensures line { OnOk result (string_bytes text.new ≡ string_bytes text.old ++ ring_line name.now (told_counts ended.now.closing.at_end)) }
+{
+    push_ring(text, name, ended.closing.counts())
 }
 
 // Appends the line of a ring.
@@ -111,16 +119,24 @@ fn push_ring(text: &mut String, name: &str, counts: Counts) -> Result<(), AllocE
 {
     text.push_str("ring ")?;
     text.push_str(name)?;
-    push_counts(text, counts)
+    push_requests(text, counts)?;
+    push_records(text, counts)
 }
 
-// Appends what the line of a ring says after its name.
-fn push_counts(text: &mut String, counts: Counts) -> Result<(), AllocError>
-    ensures counts { OnOk result (string_bytes text.new ≡ string_bytes text.old ++ counts_line counts) }
+// Appends how many reservations and outputs got a record, and how many were refused.
+fn push_requests(text: &mut String, counts: Counts) -> Result<(), AllocError>
+    ensures requests { OnOk result (string_bytes text.new ≡ string_bytes text.old ++ requests_part counts) }
+{
+    write!(text, " made {} refused {} ", counts.made, counts.refused)
+}
+
+// Appends what became of a ring's records.
+fn push_records(text: &mut String, counts: Counts) -> Result<(), AllocError>
+    ensures records { OnOk result (string_bytes text.new ≡ string_bytes text.old ++ records_line counts) }
 {
     let Counts {
-        made,
-        refused,
+        made: _,
+        refused: _,
         consumed,
         discarded,
         waiting,
@@ -128,6 +144,6 @@ fn push_counts(text: &mut String, counts: Counts) -> Result<(), AllocError>
     } = counts;
     writeln!(
         text,
-        " made {made} refused {refused} consumed {consumed} discarded {discarded} waiting {waiting} busy {busy}"
+        "consumed {consumed} discarded {discarded} waiting {waiting} busy {busy}"
     )
 }

@@ -79,7 +79,7 @@ pub fn serve<T: Threads + Wait + Sync, I: Source + Send, S: Sink + Send + Drop>(
     ensures no_strays { IfOk result (λ r. r.strays ≡ 0) }
     ensures nothing_left { IfOk result (λ r. All LeavesNothing r.rings.items) }
 {
-    match check_plans(&plans, request.workers) {
+    match check_plans(plans.as_slice(), request.workers) {
         Ok(()) => serve_planned(rt, alloc, programs, source, plans, request),
         Err(PlanFault::Size(number)) => Err(ServiceFault::Size(number)),
         Err(PlanFault::Workers) => Err(ServiceFault::Workers),
