@@ -35,5 +35,6 @@ pub use check_command::{Checked, check, check_text};
 pub use jobs_fault::JobsFault;
 pub use portable_check::check_portable;
 pub use run_command::{JOB_BOUNDS, JobsRequest, check_ring, run};
+pub use tape_sink::TapeSink;
 pub use tape_watch::TapeWatch;
 pub use taped_run::{TapeFile, TapeFileFault, WrittenTape, run_taped, run_to_file};

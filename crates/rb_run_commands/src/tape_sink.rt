@@ -41,7 +41,7 @@ impl<'w, W: Write, G> TapeSink<'w, W, G> {
     ghost use Rattle.rb_history.specs.RingModel.{IsRingSize, IsStartPosition};
 
     /// A tape of a ring of `size` bytes, whose first record stands at `start`. Nothing is written yet.
-    pub(crate) fn new(writer: W, size: u64, start: u64, watch: &'w G) -> TapeSink<'w, W, G>
+    pub fn new(writer: W, size: u64, start: u64, watch: &'w G) -> TapeSink<'w, W, G>
         requires size { IsRingSize size }
         requires start { IsStartPosition start }
         ensures value { result ≡ record { writer = writer; size = size; position = start; failed = false; stalled = false } }
@@ -57,14 +57,14 @@ impl<'w, W: Write, G> TapeSink<'w, W, G> {
     }
 
     /// Whether the tape ended with a record that did not go out whole.
-    pub(crate) fn failed(&self) -> bool
+    pub fn failed(&self) -> bool
         ensures value { result ≡ self.now.failed }
     {
         self.failed
     }
 
     /// The writer, with what was written to it.
-    pub(crate) fn into_writer(self) -> W
+    pub fn into_writer(self) -> W
         ensures value { result ≡ self.entry.writer }
     {
         self.tape.into_writer()

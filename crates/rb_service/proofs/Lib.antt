@@ -1,0 +1,5 @@
+pub mod Opening
+pub mod Plans
+pub mod Printing
+pub mod Refusing
+pub mod Served

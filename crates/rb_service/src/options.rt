@@ -1,0 +1,36 @@
+//! What a service is asked for.
+
+use rb_source::{Form, Framing};
+use rb_stream::Late;
+
+/// A ring by its name.
+#[derive(Clone, Copy, Debug, PartialEq, Eq)]
+pub struct NamedRing<'a> {
+    /// Its name, which the counters print.
+    pub name: &'a str,
+    /// Its size in bytes.
+    pub size: u64,
+    /// The file to which its tape is written, `-` for standard output. Without one its records are counted and given up.
+    pub out: Option<&'a str>,
+}
+
+/// What a service is asked for.
+#[derive(Drop)]
+pub struct StreamOptions<'a> {
+    /// The rings, in the order in which programs number them.
+    pub rings: Vec<NamedRing<'a>>,
+    /// The files of the programs, in hex, in the order in which each context is run by them.
+    pub programs: Vec<&'a str>,
+    /// How many workers there are.
+    pub workers: u32,
+    /// How contexts stand in the input.
+    pub framing: Framing,
+    /// How contexts of another length are treated.
+    pub form: Form,
+    /// The file that is read in place of the input.
+    pub from: Option<&'a str>,
+    /// What happens to contexts when all workers are behind.
+    pub late: Late,
+    /// Results below this bound are counted each for itself.
+    pub results: u32,
+}
