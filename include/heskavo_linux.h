@@ -1,8 +1,10 @@
 /*
  * A reader of Linux's BPF ring buffers with the interface of libbpf's: include this header in place of <bpf/libbpf.h>, and link with libheskavo.a.
  *
- * Header only. It maps a ring (Linux Documentation/bpf/ringbuf.rst), loads each record's header as one number, and has heskavo_linux_record say what that
- * number means; so the meaning of a header is proved, and the loads, the stores and the mapping are this file's. Differences from libbpf 1.x:
+ * Header only. It maps a ring (Linux Documentation/bpf/ringbuf.rst), and loads each record's header as one number.
+ * heskavo_linux_page reports, once for a page, which numbers are the headers of submitted records, and
+ * heskavo_linux_record what another number means. So the meaning of a header is proved. The loads, the stores, the
+ * mapping, and the comparison of a number with these bounds are this file's. Differences from libbpf 1.x:
  * a header that no kernel writes ends a call with -EBADMSG, where libbpf trusts it; and of the interface there are new, free, add, poll, consume and epoll_fd.
  *
  * As with libbpf, one thread at a time uses a `struct ring_buffer`.
@@ -95,25 +97,51 @@ static inline uint64_t heskavo_linux_load(const unsigned char *header) {
     return number;
 }
 
+/* Passes over the record at `*position`, whose header is not that of a submitted record: returns 1 if it was discarded,
+ * 0 if it is busy, and -EBADMSG if no kernel writes such a header. */
+static inline int heskavo_linux_pass(const struct heskavo_linux_ring *ring, uint64_t number, uint64_t *position) {
+    struct heskavo_linux_record record;
+    const uint32_t pages = HESKAVO_LINUX_PAGES_BEFORE_DATA;
+    uint32_t status = heskavo_linux_record(number, ring->size, *position, pages, &record);
+    if (status == HESKAVO_MORE) return 0;
+    if (status != HESKAVO_DONE || !record.discarded) return -EBADMSG;
+    *position = record.next;
+    return 1;
+}
+
 /* Consumes the records of a ring up to the first that is busy; returns how many samples there were, or a negative error: the callback's, whose record is
  * consumed, or -EBADMSG for a header that no kernel writes, at which the consumer stays. */
 static inline int64_t heskavo_linux_drain(const struct heskavo_linux_ring *ring) {
     unsigned char *const data = ring->data;
     const uint64_t size = ring->size;
     uint64_t position = __atomic_load_n(ring->consumer, __ATOMIC_ACQUIRE), end;
+    uint64_t first = 0, to_span = 0, max_len = 0, page_end = 0;
     int64_t samples = 0;
     while (position < (end = __atomic_load_n(ring->producer, __ATOMIC_ACQUIRE)))
         while (position < end) {
-            struct heskavo_linux_record record;
+            if (position >= page_end) {
+                struct heskavo_linux_page page;
+                const uint32_t pages = HESKAVO_LINUX_PAGES_BEFORE_DATA;
+                if (heskavo_linux_page(size, position, pages, &page) != HESKAVO_DONE) return -EBADMSG;
+                first = page.first;
+                to_span = 15 - first;
+                max_len = page.max_len;
+                page_end = page.end;
+            }
             unsigned char *header = data + (position & (size - 1));
-            uint32_t status = heskavo_linux_record(heskavo_linux_load(header), size, position, HESKAVO_LINUX_PAGES_BEFORE_DATA, &record);
-            if (status == HESKAVO_MORE) return samples;
-            if (status != HESKAVO_DONE) return -EBADMSG;
-            position = record.next;
-            int answer = record.discarded ? 0 : ring->sample_cb(ring->ctx, header + 8, record.len);
-            samples += !record.discarded;
-            __atomic_store_n(ring->consumer, position, __ATOMIC_RELEASE);
-            if (answer < 0) return answer;
+            const uint64_t number = heskavo_linux_load(header), len = number - first;
+            if (len <= max_len) {
+                /* 8 and `len`, rounded up to a multiple of 8; without `len`, since the next load waits for this sum. */
+                position += (number + to_span) & ~(uint64_t)7;
+                samples++;
+                int answer = ring->sample_cb(ring->ctx, header + 8, (size_t)len);
+                __atomic_store_n(ring->consumer, position, __ATOMIC_RELEASE);
+                if (answer < 0) return answer;
+            } else {
+                int passed = heskavo_linux_pass(ring, number, &position);
+                if (passed <= 0) return passed < 0 ? passed : samples;
+                __atomic_store_n(ring->consumer, position, __ATOMIC_RELEASE);
+            }
         }
     return samples;
 }

@@ -152,6 +152,10 @@ static void read_linux_headers(void) {
     expect(heskavo_linux_record(page | 20, 8192, at + 4, 3, &found) == HESKAVO_ARGUMENT, "heskavo_linux_record at no position");
     for (int i = 0; i < 3; i++)
         expect(heskavo_linux_record(faulty[i], 8192, at, 3, &found) == HESKAVO_FAULT && found.fault == faults[i], "a fault of heskavo_linux_record");
+    struct heskavo_linux_page on_page = {0, 0, 0};
+    expect(heskavo_linux_page(8192, at + 24, 3, &on_page) == HESKAVO_DONE, "heskavo_linux_page");
+    expect(on_page.first == page && on_page.end == at + 4096 && on_page.max_len == 8176, "the page of heskavo_linux_page");
+    expect(heskavo_linux_page(8192, at + 4, 3, &on_page) == HESKAVO_ARGUMENT, "heskavo_linux_page at no position");
 }
 
 /* A ring of 4,096 bytes, and one of 8,192: PROGRAM leaves a discarded record of 24 bytes and one of 8 in the second, and the caller puts three bytes there. */

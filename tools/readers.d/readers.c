@@ -157,7 +157,7 @@ int main(int argc, char **argv) {
     uint32_t rounds = argc == 2 ? (uint32_t)atoi(argv[1]) : 0;
     if (rounds == 0) return fprintf(stderr, "usage: readers ROUNDS\n"), 2;
     int same = compare(rounds);
-    if (same > 0) same = time_turns(10);
+    if (same > 0) same = time_turns(20);
     if (same < 0) return refused_here();
     return same ? 0 : 1;
 }

@@ -4,6 +4,8 @@ use Rattle.rb_linux_ring.specs.LinuxHeaders.{IsLinuxFault, ShowsLinuxFront}
 use Rattle.rb_linux_ring.specs.declared.linux_header.LinuxFault.{LinuxFault}
 use Rattle.rb_linux_ring.specs.declared.linux_header.LinuxFault.TheVariants.{BothBits, OtherPage, NoRoom}
 use Rattle.rb_linux_ring.specs.declared.linux_header.LinuxFront.TheVariants.{Record}
+use Rattle.rb_linux_ring.specs.declared.header_window.LinuxWindow.{LinuxWindow}
+use Rattle.heskavo_c.specs.declared.linux_page.LinuxPage.{LinuxPage}
 use Rattle.heskavo_c.specs.declared.linux_record.LinuxRecord.{LinuxRecord}
 
 -- the number is the header of a committed record, and this is reported of it
@@ -24,3 +26,7 @@ pub record FindsLinuxFault (size position pages number : ℕ) (found : LinuxReco
   pub fault : LinuxFault
   pub shown : IsLinuxFault size position pages number fault
   pub found_is : found ≡ record { next = 0; len = 0; discarded = 0; fault = linux_fault_number fault }
+
+-- what is reported of a page, as the window that it is
+abbrev pub window_of_page : LinuxPage → LinuxWindow
+window_of_page page = record { first = page.first; max_len = page.max_len; end = page.end }

@@ -2,9 +2,10 @@
 
 use crate::costing::{ProgramCost, ProgramRingCost, heskavo_cost};
 use crate::explaining::heskavo_explain;
+use crate::linux_page::{LinuxPage, heskavo_linux_page};
 use crate::linux_record::{LinuxRecord, heskavo_linux_record};
 use crate::running::heskavo_run;
-use crate::status::{DONE, FAULT, MORE, REFUSED, ROOM};
+use crate::status::{ARGUMENT, DONE, FAULT, MORE, REFUSED, ROOM};
 use crate::tapes::{TapeRecord, heskavo_tape_next, heskavo_tape_put, heskavo_tape_put_discarded};
 use crate::verdict::{RULES, Verdict};
 use crate::verifying::heskavo_verify;
@@ -80,6 +81,23 @@ fn a_header_of_linux_is_read(rt: HostRuntime) {
         (submitted, busy.0, other_page),
         ((DONE, 4128, [20, 0, 0]), MORE, (FAULT, 0, [0, 0, 2]))
     );
+}
+
+#[test]
+fn the_headers_of_a_page_of_linux_are_told(rt: HostRuntime) {
+    let mut page = LinuxPage {
+        first: 0,
+        end: 0,
+        max_len: 0,
+    };
+    let inside = heskavo_linux_page(8192, 4120, 3, &mut page);
+    let no_place = heskavo_linux_page(8192, 4121, 3, &mut page);
+    let many_pages = heskavo_linux_page(8192, 4120, 1 << 31, &mut page);
+    assert_eq!(rt;
+        (page.first, page.end, page.max_len),
+        (0x4_0000_0000, 8192, 8176)
+    );
+    assert_eq!(rt; (inside, no_place, many_pages), (DONE, ARGUMENT, ARGUMENT));
 }
 
 #[test]

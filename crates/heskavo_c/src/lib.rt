@@ -15,6 +15,7 @@ mod engine_handle;
 mod engine_programs;
 mod engine_records;
 mod explaining;
+mod linux_page;
 mod linux_record;
 mod load;
 mod loose;
@@ -36,6 +37,7 @@ pub use engine_programs::{
 };
 pub use engine_records::{TakenRecord, heskavo_engine_put, heskavo_engine_take};
 pub use explaining::heskavo_explain;
+pub use linux_page::{LinuxPage, heskavo_linux_page};
 pub use linux_record::{LinuxRecord, heskavo_linux_record};
 pub use running::heskavo_run;
 pub use status::{ARGUMENT, BROKEN, DONE, EMPTY, FAULT, FULL, MEMORY, MORE, REFUSED, ROOM};

@@ -1,1 +1,2 @@
 pub mod LinuxHeaders
+pub mod LinuxWindows

@@ -1,4 +1,4 @@
-//! The header of a record of Linux.
+//! The header of a record in a Linux ring.
 
 ghost use Rattle.std.specs.Prelude.{◌≡◌, ◌^◌, ◌≤◌, ◌↔◌, IsTrue, IfErr, IfOk};
 ghost use Rattle.rb_tape.specs.TapeFront.{FitsAt};
@@ -7,19 +7,19 @@ ghost use Rattle.rb_linux_ring.specs.LinuxHeaders.{HasLinuxPage, IsLinuxFault, I
 use rb_history::{Header, is_start, page_of, span};
 use thiserror::Error;
 
-/// The most bytes of data that a ring of Linux has: 64 GiB (kernel/bpf/ringbuf.c, RINGBUF_MAX_DATA_SZ).
+/// The maximal number of data bytes of a Linux ring: 64 GiB (kernel/bpf/ringbuf.c, RINGBUF_MAX_DATA_SZ).
 const MAX_SIZE: u64 = 1 << 36;
 
-/// What a header shows.
+/// What a header describes.
 #[derive(Clone, Copy, Debug, PartialEq, Eq)]
 pub enum LinuxFront {
     /// A committed record.
     Record {
         /// The length of the payload in bytes.
         len: u32,
-        /// Whether the record was discarded, so that the consumer passes over it.
+        /// Whether the record was discarded, so that the consumer skips it.
         discarded: bool,
-        /// The position of the record after it, in bytes.
+        /// The position of the next record, in bytes.
         next: u64,
     },
     /// A reserved record that is neither submitted nor discarded yet.
@@ -35,12 +35,12 @@ pub enum LinuxFault {
     /// The header names another page than that of its position.
     #[error("the header names another page")]
     OtherPage,
-    /// The record has no room in the ring.
+    /// The record does not fit in the ring.
     #[error("the record has no room in the ring")]
     NoRoom,
 }
 
-// Whether a ring of Linux may have this size in bytes.
+// Returns whether a Linux ring may have this size in bytes.
 fn is_linux_size(size: u64) -> bool
     ensures test { IsTrue result ↔ IsLinuxRingSize size }
 {
@@ -50,15 +50,15 @@ fn is_linux_size(size: u64) -> bool
     size.next_power_of_two() == size
 }
 
-/// Returns whether a header may be read at this position of a ring with `size` bytes of data: the size is a power of two from 4,096 to 2^36, and the
-/// position is a multiple of 8 up to 2^61. In constant time.
+/// Returns whether a header may be read at this position of a ring with `size` bytes of data: the size is a power of
+/// two from 4,096 to 2^36, and the position is a multiple of 8 up to 2^61. Takes constant time.
 pub fn is_linux_place(size: u64, position: u64) -> bool
     ensures test { IsTrue result ↔ IsLinuxPlace size position }
 {
     is_linux_size(size) && is_start(position)
 }
 
-// Whether the header names the page of its position.
+// Returns whether the header names the page of its position.
 fn has_page(header: &Header, size: u64, position: u64, pages: u32) -> bool
     requires size { IsLinuxRingSize size }
     ensures test { IsTrue result ↔ HasLinuxPage size position pages header.now }
@@ -66,7 +66,7 @@ fn has_page(header: &Header, size: u64, position: u64, pages: u32) -> bool
     u64::from(header.page) == u64::from(pages) + page_of(size, position)
 }
 
-// Whether the record has room in the ring.
+// Returns whether the record fits in the ring.
 fn has_room(len: u32, size: u64, position: u64) -> bool
     requires size { IsLinuxRingSize size }
     requires position { position ≤ 2 ^ 61 }
@@ -75,10 +75,14 @@ fn has_room(len: u32, size: u64, position: u64) -> bool
     span(len) < size
 }
 
-/// Returns what a record's header shows at this position of a ring with `size` bytes of data, or the first of `LinuxFault` that applies.
+/// Decodes a record's header at this position of a ring with `size` bytes of data. Returns what it describes, or the
+/// first `LinuxFault` that applies.
 ///
-/// `header` is the header's eight bytes as one number: the length word, which the kernel writes last, in the lower half, and the page in the upper one.
-/// `pages_before_data` is the number of pages that the ring's memory has before its data; 3 in Linux 5.8 and later. In constant time, and without memory.
+/// `header` is the header's eight bytes as one number: the length word, which the kernel writes last, in the lower
+/// half, and the page in the upper half. `pages_before_data` is the number of pages that the ring's memory has before
+/// its data: 3 in Linux 5.8 and later.
+///
+/// Takes constant time and does not allocate.
 pub fn read_header(
     header: u64,
     size: u64,

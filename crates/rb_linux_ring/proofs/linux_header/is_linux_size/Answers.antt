@@ -3,7 +3,7 @@ use Rattle.std.proofs.lemmas.Bool.{cases_order, eq-eqb, eqb-true}
 use Rattle.std.proofs.lemmas.Nat.{pow_below, pow_pos, pow-add}
 use Rattle.rb_linux_ring.proofs.linux_header.is_linux_size.Goals as goal
 
--- a higher power of two is at least the double
+-- a higher power of two is at least twice the lower one
 doubles : (j k : ℕ) → k < j → 2 ^ k * 2 ≤ 2 ^ j
 doubles j k more = elim (cases_order (k + 1) j) [
   | inl e ↦ let last : 2 ^ (k + 1) ≡ 2 ^ j = ap (λ x. 2 ^ x) e in let twice : 2 ^ (k + 1) ≡ 2 ^ k * 2 = pow-add 2 k 1 in omega arith

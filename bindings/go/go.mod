@@ -1,0 +1,3 @@
+module heskavo
+
+go 1.19
