@@ -19,6 +19,7 @@ use Rattle.rb_stream_worker.specs.Tasks.{TaskRun}
 use Rattle.rb_stream_worker.specs.ContextRuns.{IsNewCounts, IsReadyWorker, RunsContexts, WorkerRuns, results_of}
 use Rattle.rb_stream_worker.specs.declared.stream_counts.StreamCounts.{StreamCounts}
 use Rattle.rb_stream_worker.specs.declared.stream_worker.StreamWorker.{StreamWorker}
+use Rattle.rb_stream_worker.specs.declared.when_full.WhenFull.{WhenFull}
 use Rattle.rb_stream.specs.Streamed.{CountsEach, RunsFirst, of_all, unlogged_in}
 use Rattle.rb_stream.specs.inner.Counts.{AddsCounts, SameTables, below_in, below_of, other_in, other_of}
 use Rattle.rb_stream.specs.inner.Runs.{StreamRan}
@@ -26,7 +27,7 @@ use Rattle.rb_stream.proofs.OfAll.{counted_together}
 
 -- ---- numbers and lists
 
--- a count of 0, raised
+-- raising a count of 0
 pub raised_zero : (count n : ℕ) → count ≡ 0 → raised count n ≡ saturated n
 raised_zero count n e = omega (arith, e)
 
@@ -68,9 +69,9 @@ pub record Part : Type 0 where
   pub left : List (List ℕ)
 
 -- these are the worker's runs, and the contexts that it ran and left of those that it got; it counted them
-pub record IsPart (worker : ℕ) (programs : List Subject) (bound : ℕ) (contexts : List (List ℕ)) (old new : List WorkerSeat) (counts : StreamCounts) (part : Part) : Type 0 where
+pub record IsPart (worker : ℕ) (programs : List Subject) (full : WhenFull) (bound : ℕ) (contexts : List (List ℕ)) (old new : List WorkerSeat) (counts : StreamCounts) (part : Part) : Type 0 where
   pub dealt_is : contexts ≡ part.done ++ part.left
-  pub first : RunsFirst worker programs part.runs part.done part.left old new
+  pub first : RunsFirst full worker programs part.runs part.done part.left old new
   pub none_left : counts.stopped ≡ false → part.left ≡ []
   pub contexts_is : counts.contexts ≡ saturated (length part.done)
   pub left_is : counts.left ≡ saturated (length part.left)
@@ -78,9 +79,9 @@ pub record IsPart (worker : ℕ) (programs : List Subject) (bound : ℕ) (contex
   pub below_are : (p r : ℕ) → p < length programs → r < bound → below_of p r counts ≡ saturated (times_of r (results_of p part.runs))
   pub other_are : (p : ℕ) → p < length programs → other_of p counts ≡ saturated (times_from bound (results_of p part.runs))
 
-part_of : (worker : ℕ) (programs : List Subject) (bound : ℕ) (contexts : List (List ℕ)) (old new : List WorkerSeat) (before after : StreamCounts) → IsNewCounts (length programs) bound before
-    → RunsContexts worker programs contexts old new before after → (part : Part) × IsPart worker programs bound contexts old new after part
-part_of worker programs bound contexts old new before after none ran =
+part_of : (worker : ℕ) (programs : List Subject) (full : WhenFull) (bound : ℕ) (contexts : List (List ℕ)) (old new : List WorkerSeat) (before after : StreamCounts) → IsNewCounts (length programs) bound before
+    → RunsContexts full worker programs contexts old new before after → (part : Part) × IsPart worker programs full bound contexts old new after part
+part_of worker programs full bound contexts old new before after none ran =
     let c = ran.counted in
     let long : length before.results.items ≡ length programs = none.as_many in
     let many : length after.results.items ≡ length before.results.items = c.as_many in
@@ -109,10 +110,10 @@ part_of worker programs bound contexts old new before after none ran =
       },
     )
 
--- its tables stay as large
-pub tables_of : (worker : ℕ) (programs : List Subject) (bound : ℕ) (contexts : List (List ℕ)) (old new : List WorkerSeat) (before after total : StreamCounts) → IsNewCounts (length programs) bound before → IsNewCounts (length programs) bound total
-    → RunsContexts worker programs contexts old new before after → SameTables after total
-tables_of worker programs bound contexts old new before after total none zeros ran =
+-- the sizes of its tables do not change
+pub tables_of : (worker : ℕ) (programs : List Subject) (full : WhenFull) (bound : ℕ) (contexts : List (List ℕ)) (old new : List WorkerSeat) (before after total : StreamCounts) → IsNewCounts (length programs) bound before → IsNewCounts (length programs) bound total
+    → RunsContexts full worker programs contexts old new before after → SameTables after total
+tables_of worker programs full bound contexts old new before after total none zeros ran =
     let c = ran.counted in
     record {
       as_many = c.as_many ∙ (none.as_many ∙ sym zeros.as_many);
@@ -134,8 +135,8 @@ times-append test p xs ys =
     ap (count_by test) (ap (map result) (filter-append own xs ys) ∙ map-append result (filter own xs) (filter own ys))
     ∙ sum_by-append (λ (n : ℕ). cond (test n) 1 0) (results_of p xs) (results_of p ys)
 
-module _ (programs : List Subject) (bound : ℕ) (contexts : ℕ → List (List ℕ)) (old new : ℕ → List WorkerSeat) (all : List StreamCounts) (pick : ℕ → Part)
-    (parts : (k : ℕ) → k < length all → (d : StreamCounts) → IsPart k programs bound (contexts k) (old k) (new k) (get_or all k d) (pick k))
+module _ (programs : List Subject) (full : WhenFull) (bound : ℕ) (contexts : ℕ → List (List ℕ)) (old new : ℕ → List WorkerSeat) (all : List StreamCounts) (pick : ℕ → Part)
+    (parts : (k : ℕ) → k < length all → (d : StreamCounts) → IsPart k programs full bound (contexts k) (old k) (new k) (get_or all k d) (pick k))
     (before total : StreamCounts) (none : IsNewCounts (length programs) bound before) (added : AddsCounts all before total) where
   all_contexts : total.contexts ≡ saturated (length (of_all (length all) (λ k. (pick k).done)))
   all_contexts =
@@ -192,49 +193,51 @@ module _ (programs : List Subject) (bound : ℕ) (contexts : ℕ → List (List 
 -- ---- a whole stream
 
 -- the worker of a lane before a stream: it has this number, these programs and these seats, and has counted nothing
-pub record IsStarted {R K : Type 0} (number : ℕ) (programs : List Subject) (bound : ℕ) (seats : List WorkerSeat) (w : StreamWorker R K) : Type 0 where
+pub record IsStarted {R K : Type 0} (number : ℕ) (programs : List Subject) (full : WhenFull) (bound : ℕ) (seats : List WorkerSeat) (w : StreamWorker R K) : Type 0 where
   pub number_is : w.number ≡ number
   pub programs_are : w.programs.now ≡ programs
+  pub full_is : w.full.now ≡ full
   pub seats_are : w.seats.items ≡ seats
   pub none_counted : IsNewCounts (length programs) bound w.counts
 
--- the same runs under other names
-runs_as : (n n' : ℕ) (ps ps' : List Subject) (contexts : List (List ℕ)) (o o' s s' : List WorkerSeat) (b a : StreamCounts) → n ≡ n' → ps ≡ ps' → o ≡ o' → s ≡ s'
-    → RunsContexts n ps contexts o s b a → RunsContexts n' ps' contexts o' s' b a
-runs_as n n' ps ps' contexts o o' s s' b a en eps eo es h =
-    subst (λ x. RunsContexts x ps' contexts o' s' b a) en (subst (λ x. RunsContexts n x contexts o' s' b a) eps (subst (λ x. RunsContexts n ps contexts x s' b a) eo (subst (λ x. RunsContexts n ps contexts o x b a) es h)))
+-- the same runs for equal values
+runs_as : (f f' : WhenFull) (n n' : ℕ) (ps ps' : List Subject) (contexts : List (List ℕ)) (o o' s s' : List WorkerSeat) (b a : StreamCounts) → f ≡ f' → n ≡ n' → ps ≡ ps' → o ≡ o' → s ≡ s'
+    → RunsContexts f n ps contexts o s b a → RunsContexts f' n' ps' contexts o' s' b a
+runs_as f f' n n' ps ps' contexts o o' s s' b a ef en eps eo es h =
+    subst (λ x. RunsContexts x n' ps' contexts o' s' b a) ef
+    (subst (λ x. RunsContexts f x ps' contexts o' s' b a) en (subst (λ x. RunsContexts f n x contexts o' s' b a) eps (subst (λ x. RunsContexts f n ps contexts x s' b a) eo (subst (λ x. RunsContexts f n ps contexts o x b a) es h))))
 
 abbrev pub counts_in : {R K : Type 0} → List (Lane (StreamWorker R K)) → List StreamCounts
 counts_in lanes = map (λ lane. lane.worker.counts) lanes
 
-module _ {I R K : Type 0} (gives : I → List (List ℕ) → I → Type 0) (programs : List Subject) (bound : ℕ) (source later : I) (os ls : List (Lane (StreamWorker R K))) (old new : ℕ → List WorkerSeat) (dealt : Dealt)
+module _ {I R K : Type 0} (gives : I → List (List ℕ) → I → Type 0) (programs : List Subject) (full : WhenFull) (bound : ℕ) (source later : I) (os ls : List (Lane (StreamWorker R K))) (old new : ℕ → List WorkerSeat) (dealt : Dealt)
     (stream : RunsStream gives IsReadyWorker WorkerRuns source later os ls dealt)
-    (started : (k : ℕ) (d : Lane (StreamWorker R K)) → k < length os → IsStarted k programs bound (old k) (get_or os k d).worker)
+    (started : (k : ℕ) (d : Lane (StreamWorker R K)) → k < length os → IsStarted k programs full bound (old k) (get_or os k d).worker)
     (ended : (k : ℕ) (d : Lane (StreamWorker R K)) → k < length ls → (get_or ls k d).worker.seats.items ≡ new k) where
   -- what the worker in a lane did
-  ran_at : (k : ℕ) (d : Lane (StreamWorker R K)) → k < length os → RunsContexts k programs (dealt_to k stream.pieces) (old k) (new k) (get_or os k d).worker.counts (get_or ls k d).worker.counts
+  ran_at : (k : ℕ) (d : Lane (StreamWorker R K)) → k < length os → RunsContexts full k programs (dealt_to k stream.pieces) (old k) (new k) (get_or os k d).worker.counts (get_or ls k d).worker.counts
   ran_at k d below =
       let s = started k d below in
-      runs_as (get_or os k d).worker.number k (get_or os k d).worker.programs.now programs (dealt_to k stream.pieces) (get_or os k d).worker.seats.items (old k) (get_or ls k d).worker.seats.items (new k)
-      (get_or os k d).worker.counts (get_or ls k d).worker.counts s.number_is s.programs_are s.seats_are (ended k d (omega (arith, below, stream.as_many))) (stream.ran k d below).ran
+      runs_as (get_or os k d).worker.full.now full (get_or os k d).worker.number k (get_or os k d).worker.programs.now programs (dealt_to k stream.pieces) (get_or os k d).worker.seats.items (old k) (get_or ls k d).worker.seats.items (new k)
+      (get_or os k d).worker.counts (get_or ls k d).worker.counts s.full_is s.number_is s.programs_are s.seats_are (ended k d (omega (arith, below, stream.as_many))) (stream.ran k d below).ran
 
-  part_at : (k : ℕ) → k < length os → (part : Part) × ((c : StreamCounts) → IsPart k programs bound (dealt_to k stream.pieces) (old k) (new k) (get_or (counts_in ls) k c) part)
+  part_at : (k : ℕ) → k < length os → (part : Part) × ((c : StreamCounts) → IsPart k programs full bound (dealt_to k stream.pieces) (old k) (new k) (get_or (counts_in ls) k c) part)
   part_at k below =
       let d = element_of os k below in
-      let own = part_of k programs bound (dealt_to k stream.pieces) (old k) (new k) (get_or os k d).worker.counts (get_or ls k d).worker.counts (started k d below).none_counted (ran_at k d below) in
-      (own.0, (λ c. subst (λ x. IsPart k programs bound (dealt_to k stream.pieces) (old k) (new k) x own.0) (sym (get_or-map (λ (lane : Lane (StreamWorker R K)). lane.worker.counts) ls k d c (omega (arith, below, stream.as_many)))) own.1))
+      let own = part_of k programs full bound (dealt_to k stream.pieces) (old k) (new k) (get_or os k d).worker.counts (get_or ls k d).worker.counts (started k d below).none_counted (ran_at k d below) in
+      (own.0, (λ c. subst (λ x. IsPart k programs full bound (dealt_to k stream.pieces) (old k) (new k) x own.0) (sym (get_or-map (λ (lane : Lane (StreamWorker R K)). lane.worker.counts) ls k d c (omega (arith, below, stream.as_many)))) own.1))
 
-  -- the tables of each worker are as large as those of all
+  -- the tables of each worker have the sizes of those of all
   pub same_tables_at : (total : StreamCounts) → IsNewCounts (length programs) bound total → (k : ℕ) (d : Lane (StreamWorker R K)) → k < length os → SameTables (get_or ls k d).worker.counts total
   same_tables_at total zeros k d below =
-      tables_of k programs bound (dealt_to k stream.pieces) (old k) (new k) (get_or os k d).worker.counts (get_or ls k d).worker.counts total (started k d below).none_counted zeros (ran_at k d below)
+      tables_of k programs full bound (dealt_to k stream.pieces) (old k) (new k) (get_or os k d).worker.counts (get_or ls k d).worker.counts total (started k d below).none_counted zeros (ran_at k d below)
 
-  pub stream_ran : (before total : StreamCounts) → IsNewCounts (length programs) bound before → AddsCounts (counts_in ls) before total → StreamRan gives (length os) programs bound source later old new dealt total
+  pub stream_ran : (before total : StreamCounts) → IsNewCounts (length programs) bound before → AddsCounts (counts_in ls) before total → StreamRan gives (length os) programs full bound source later old new dealt total
   stream_ran before total none added =
       let n = length os in
       let all = counts_in ls in
       let len : length all ≡ n = length-map ls (λ (lane : Lane (StreamWorker R K)). lane.worker.counts) ∙ stream.as_many in
-      let P = λ (k : ℕ) (part : Part). (c : StreamCounts) → IsPart k programs bound (dealt_to k stream.pieces) (old k) (new k) (get_or all k c) part in
+      let P = λ (k : ℕ) (part : Part). (c : StreamCounts) → IsPart k programs full bound (dealt_to k stream.pieces) (old k) (new k) (get_or all k c) part in
       let chosen = choose P n (record { runs = []; done = []; left = [] }) part_at in
       let pick = chosen.0 in
       let parts = λ (k : ℕ) (below : k < length all) (c : StreamCounts). chosen.1 k (omega (arith, below, len)) c in
@@ -248,11 +251,11 @@ module _ {I R K : Type 0} (gives : I → List (List ℕ) → I → Type 0) (prog
         known = stream.known;
         dealt_are = λ k below. (chosen.1 k below before).dealt_is;
         ran_first = λ k below. (chosen.1 k below before).first;
-        none_left = λ e k below. none_left_of programs bound contexts old new all pick parts before total none added e k (omega (arith, below, len));
+        none_left = λ e k below. none_left_of programs full bound contexts old new all pick parts before total none added e k (omega (arith, below, len));
         contexts_are = stream.contexts_are;
         dropped_are = stream.dropped_are;
-        ran_are = all_contexts programs bound contexts old new all pick parts before total none added ∙ ap (λ m. saturated (length (of_all m (λ k. (pick k).done)))) len;
-        left_is = all_left programs bound contexts old new all pick parts before total none added ∙ ap (λ m. saturated (length (of_all m (λ k. (pick k).left)))) len;
-        results_are = subst (λ m. CountsEach (length programs) bound (of_all m (λ k. (pick k).runs)) total.results.items) len (all_results programs bound contexts old new all pick parts before total none added);
-        unlogged_is = all_unlogged programs bound contexts old new all pick parts before total none added ∙ ap (λ m. saturated (unlogged_in (of_all m (λ k. (pick k).runs)))) len;
+        ran_are = all_contexts programs full bound contexts old new all pick parts before total none added ∙ ap (λ m. saturated (length (of_all m (λ k. (pick k).done)))) len;
+        left_is = all_left programs full bound contexts old new all pick parts before total none added ∙ ap (λ m. saturated (length (of_all m (λ k. (pick k).left)))) len;
+        results_are = subst (λ m. CountsEach (length programs) bound (of_all m (λ k. (pick k).runs)) total.results.items) len (all_results programs full bound contexts old new all pick parts before total none added);
+        unlogged_is = all_unlogged programs full bound contexts old new all pick parts before total none added ∙ ap (λ m. saturated (unlogged_in (of_all m (λ k. (pick k).runs)))) len;
       }

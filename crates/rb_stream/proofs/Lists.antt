@@ -1,4 +1,4 @@
--- Laws of lists that stand beside each other, and of counts that are added.
+-- Laws about lists that are related elementwise, and about counts that are added.
 use Rattle.std.proofs.Common.{◌≡◌, ◌≢◌, ℕ, ◌+◌, ◌<◌, ◌||◌, Bool, true, false, List, [], ◌∷◌, ◌++◌, length, get_or, set, refl, sym, ap, ◌∙◌, subst, ⊎_elim, arith}
 use Rattle.std.proofs.lemmas.Bool.{cases_eq}
 use Rattle.std.proofs.lemmas.List.{get_or-set_same, get_or-set_other, get_or_default, get_or_append_left, get_or_push}
@@ -11,7 +11,7 @@ use Rattle.rb_stream.specs.inner.Counts.{AddsCounts, SameTables, below_of, other
 
 -- ---- lists
 
--- what holds of each element of two lists before one, and of that one, holds of each up to it
+-- what holds for each element of two lists before one, and for that one, holds for each up to it
 pub both_more : {A B : Type 0} (R : A → A → B → B → Type 0) (olds xs : List A) (starts ys : List B) (at : ℕ) (x new : A) (y later : B) → at < length xs → at < length ys → at < length olds → at < length starts
     → get_or olds at x ≡ x → get_or starts at y ≡ y → R x new y later → ((k : ℕ) (d : A) (e : B) → k < at → R (get_or olds k d) (get_or xs k d) (get_or starts k e) (get_or ys k e))
     → (k : ℕ) (d : A) (e : B) → k < at + 1 → R (get_or olds k d) (get_or (set xs at new) k d) (get_or starts k e) (get_or (set ys at later) k e)
@@ -26,7 +26,7 @@ both_more R olds xs starts ys at x new y later ix iy io is ex ey one before k d 
     (subst (λ b. R (get_or olds k d) (get_or xs k d) (get_or starts k e) b) (sym (get_or-set_other ys at k later e other)) (before k d e (omega (arith, below, other)))))
     (cases_eq k at)
 
--- what holds of each element by its number, and of one that is appended, holds of each
+-- what holds for each element by its number, and for one that is appended, holds for each
 pub each_appended : {A : Type 0} (P : ℕ → A → Type 0) (xs : List A) (n : ℕ) (x : A) → length xs ≡ n → ((k : ℕ) (d : A) → k < n → P k (get_or xs k d)) → P n x → (k : ℕ) (d : A) → k < n + 1 → P k (get_or (xs ++ x ∷ []) k d)
 each_appended P xs n x len each last k d below =
     ⊎_elim
@@ -63,7 +63,7 @@ adds_none counts =
       stopped_is = or_false counts.stopped;
     }
 
--- a number that was raised, and then again
+-- a number that was raised twice
 raised_on : (f : StreamCounts → ℕ) (all : List StreamCounts) (one : StreamCounts) (old mid new : ℕ) → mid ≡ raised old (sum_by f all) → new ≡ raised mid (sum_by f (one ∷ [])) → new ≡ raised old (sum_by f (all ++ one ∷ []))
 raised_on f all one old mid new first second =
     second ∙ (ap (λ n. raised n (sum_by f (one ∷ []))) first ∙ (raised_both old (sum_by f all) (sum_by f (one ∷ [])) ∙ ap (raised old) (sym (sum_by-append f all (one ∷ [])))))
@@ -90,7 +90,7 @@ adds_more all one a b c first second =
           ∙ (or_assoc a.stopped (list_any stops all) (list_any stops (one ∷ [])) ∙ ap (λ t. a.stopped || t) (sym (list_any-append stops all (one ∷ [])))));
     }
 
--- tables of the same sizes as a third one's
+-- tables of the same sizes as those of a third
 pub same_tables_on : (x a b : StreamCounts) → SameTables x a → SameTables b a → SameTables x b
 same_tables_on x a b first second =
     record {

@@ -10,7 +10,7 @@ pub sum_to_last : (n : ℕ) (f : ℕ → ℕ) → sum_to (suc n) f ≡ sum_to n 
 sum_to_last zero f = omega arith
 sum_to_last (suc n) f = let rest = sum_to_last n (λ k. f (suc k)) in omega (arith, rest)
 
--- a number that lists one after another have together is the sum of their numbers
+-- a measure of concatenated lists is the sum of their measures
 pub measure_of_all : {A : Type 0} (m : List A → ℕ) → m [] ≡ 0 → ((xs ys : List A) → m (xs ++ ys) ≡ m xs + m ys) → (n : ℕ) (lists : ℕ → List A) → m (of_all n lists) ≡ sum_to n (λ k. m (lists k))
 measure_of_all m none both zero lists = none
 measure_of_all m none both (suc n) lists =
@@ -34,9 +34,9 @@ sum_of_items f (x ∷ xs) g each =
     let sum = sum_by-cons f x xs in
     omega (arith, first, rest, sum)
 
--- ---- numbers that stay at the greatest one
+-- ---- numbers that saturate
 
--- what counts come to together that stay at the greatest number
+-- the sum of saturating counts
 pub saturated_sum : (n : ℕ) (f g : ℕ → ℕ) → ((k : ℕ) → k < n → f k ≡ saturated (g k)) → saturated (sum_to n f) ≡ saturated (sum_to n g)
 saturated_sum zero f g each = refl
 saturated_sum (suc n) f g each =

@@ -1,4 +1,4 @@
--- Rings that come back are those that went out, and may be run again.
+-- Rings that are returned are those that were passed in, and may be run again.
 use Rattle.std.proofs.Common.{◌≡◌, ℕ, ◌<◌, List, [], ◌∷◌, length, map, refl, ap, sym, ◌∙◌, subst, arith}
 use Rattle.std.specs.Prelude.{All}
 use Rattle.std.specs.List.{AllZip}
@@ -45,7 +45,7 @@ opens_again position takes count o b is ring consumed same =
 
 -- ---- all rings
 
--- what consumers and sinks keep
+-- what consumers and sinks preserve
 record ConsumersKeep {S : Type 0} (takes : S → SinkItem → S → Type 0) (opened back : List (Opened S)) : Type 0 where
   same : AllZip (λ o b. IsSameChapterConsumer o.consumer b.consumer) opened back
   begin : AllZip (λ o b. BeginsWith b.consumer.seen o.consumer.seen) opened back
@@ -80,7 +80,7 @@ count_same [] (b ∷ bs) same = absurd same
 count_same (o ∷ os) [] same = absurd same
 count_same (o ∷ os) (b ∷ bs) same = sym (zip_length IsSameSeat o.seats.items b.seats.items same.0)
 
--- the rings came back, each with its seats
+-- the rings were returned, each with its seats
 pub rows_returned : {S : Type 0} (position : S → ℕ) (takes : S → SinkItem → S → Type 0) (opened back : List (Opened S)) → AreOpened position opened → map (λ o. o.ring) back ≡ map (λ o. o.ring) opened
     → AllZip (IsConsumed position takes) opened back → AllZip (AllZip IsSameSeat) (seat_rows opened) (seat_rows back) → AllZip (AllZip SeatBegins) (seat_rows opened) (seat_rows back)
     → AreReturned position takes opened back
@@ -98,7 +98,7 @@ rows_returned {S} position takes opened back all rings consumed same begin =
       workers_same = many;
     }
 
--- what each worker keeps between its seats, all rows keep
+-- a relation that each worker's seats preserve holds for all rows
 pub rows_keep : {S : Type 0} (R : WorkerSeat → WorkerSeat → Type 0) (position : S → ℕ) (takes : S → SinkItem → S → Type 0) (opened back : List (Opened S)) → AreOpened position opened
     → AllZip (IsConsumed position takes) opened back → All (λ o. length o.seats.items ≡ workers_of opened) back
     → ((k : ℕ) → k < workers_of opened → AllZip R (worker_column k (seat_rows opened)) (worker_column k (seat_rows back)))
@@ -107,7 +107,7 @@ rows_keep R position takes opened back all consumed long each =
     let len : length (seat_rows opened) ≡ length (seat_rows back) = rows_length opened ∙ (zip_length (IsConsumed position takes) opened back consumed ∙ sym (rows_length back)) in
     rows_of_columns R (workers_of opened) (seat_rows opened) (seat_rows back) (opened_long position (workers_of opened) opened all) (long_rows (workers_of opened) back long) len each
 
--- so they did once what was left in them was taken
+-- the same after what was left in them is taken
 pub emptied : {S : Type 0} (position : S → ℕ) (takes : S → SinkItem → S → Type 0) (opened back left : List (Opened S)) → AreOpened position opened → AreReturned position takes opened back → AllZip (IsConsumed position takes) opened back
     → AllZip (TakesRest position takes) back left → AreReturned position takes opened left
 emptied position takes opened back left all returned consumed rests =

@@ -1,4 +1,4 @@
--- Lanes whose workers got their seats, and gave them back.
+-- Lanes whose workers got their seats, and returned them.
 use Rattle.std.proofs.Common.{◌≡◌, ℕ, suc, ◌<◌, List, [], ◌∷◌, length, get_or, map, refl, ap, sym, ◌∙◌, subst, arith}
 use Rattle.std.specs.List.{All}
 use Rattle.rb_verifier.specs.Subject.{Subject}
@@ -12,7 +12,9 @@ use Rattle.rb_dealing.specs.declared.lane.Lane.{Lane}
 use Rattle.rb_workers.specs.declared.workers.Worker.{Worker}
 use Rattle.rb_stream_worker.specs.ContextRuns.{IsNewCounts, IsProgramFor, IsReadyWorker, WorkerRuns}
 use Rattle.rb_stream_worker.specs.declared.stream_counts.StreamCounts.{StreamCounts}
+use Rattle.rb_stream_worker.specs.Turns.{FitsRings}
 use Rattle.rb_stream_worker.specs.declared.stream_worker.StreamWorker.{StreamWorker}
+use Rattle.rb_stream_worker.specs.declared.when_full.WhenFull.{WhenFull}
 use Rattle.rb_stream.specs.declared.lanes.Lanes.{Lanes}
 use Rattle.rb_stream.specs.inner.Lanes.{AreNewLanes, SwapsSeats}
 use Rattle.rb_stream.specs.inner.Counts.{AddsCounts, SameTables}
@@ -20,17 +22,17 @@ use Rattle.rb_stream.specs.inner.Runs.{StreamRan, seats_of}
 use Rattle.rb_stream.proofs.Counted.{IsStarted, counts_in, element_of, same_tables_at, stream_ran}
 use Rattle.rb_stream.proofs.Streams.{seats_of_at}
 
--- ---- seats that went in
+-- ---- seats that were moved in
 
-module _ {R K : Type 0} (rings : List Shared) (programs : List Subject) (ctx_len bound : ℕ) (fresh : Lanes R K) (olds news : List Worker) (later : List (Lane (StreamWorker R K)))
-    (made : AreNewLanes (length olds) rings programs ctx_len bound fresh) (many : length later ≡ length fresh.lanes.items) (swapped : SwapsSeats olds news fresh.lanes.items later) where
-  -- the lane as it was made, but for the seats
+module _ {R K : Type 0} (rings : List Shared) (programs : List Subject) (full : WhenFull) (ctx_len bound : ℕ) (fresh : Lanes R K) (olds news : List Worker) (later : List (Lane (StreamWorker R K)))
+    (made : AreNewLanes (length olds) rings programs full ctx_len bound fresh) (many : length later ≡ length fresh.lanes.items) (swapped : SwapsSeats olds news fresh.lanes.items later) where
+  -- the lane as it was made, except for the seats
   lane_at : (k : ℕ) (d : Lane (StreamWorker R K)) → k < length later → (w : Worker) × (get_or later k d ≡ record (get_or fresh.lanes.items k d) { worker = record (get_or fresh.lanes.items k d).worker { seats = (get_or olds k w).seats } })
   lane_at k d below =
       let w = element_of olds k (omega (arith, below, many, made.as_many)) in
       (w, (swapped k w d (omega (arith, below, many))).1)
 
-  pub started_at : (k : ℕ) (d : Lane (StreamWorker R K)) → k < length later → IsStarted k programs bound (seats_of olds k) (get_or later k d).worker
+  pub started_at : (k : ℕ) (d : Lane (StreamWorker R K)) → k < length later → IsStarted k programs full bound (seats_of olds k) (get_or later k d).worker
   started_at k d below =
       let one = lane_at k d below in
       let e = one.1 in
@@ -39,6 +41,7 @@ module _ {R K : Type 0} (rings : List Shared) (programs : List Subject) (ctx_len
       record {
         number_is = ap (λ (l : Lane (StreamWorker R K)). l.worker.number) e ∙ new.number_is;
         programs_are = ap (λ (l : Lane (StreamWorker R K)). l.worker.programs.now) e ∙ new.programs_are;
+        full_is = ap (λ (l : Lane (StreamWorker R K)). l.worker.full.now) e ∙ new.full_is;
         seats_are = ap (λ (l : Lane (StreamWorker R K)). l.worker.seats.items) e ∙ sym (seats_of_at olds k one.0 inside);
         none_counted = subst (IsNewCounts (length programs) bound) (sym (ap (λ (l : Lane (StreamWorker R K)). l.worker.counts) e)) new.nothing_counted;
       }
@@ -46,8 +49,8 @@ module _ {R K : Type 0} (rings : List Shared) (programs : List Subject) (ctx_len
   pub rings_at : (k : ℕ) (d : Lane (StreamWorker R K)) → k < length later → (get_or later k d).worker.rings.now ≡ rings
   rings_at k d below = ap (λ (l : Lane (StreamWorker R K)). l.worker.rings.now) (lane_at k d below).1 ∙ (made.new k d (omega (arith, below, many, made.as_many))).rings_are
 
-  pub ready_at : All (λ w. AtRings rings w.seats.items) olds → All (IsProgramFor (length rings) ctx_len) programs → All (λ lane. IsReadyWorker lane.worker) later
-  ready_at seats fit k d below =
+  pub ready_at : All (λ w. AtRings rings w.seats.items) olds → All (IsProgramFor (length rings) ctx_len) programs → FitsRings full (length rings) → All (λ lane. IsReadyWorker lane.worker) later
+  ready_at seats fit limits k d below =
       let one = lane_at k d below in
       let e = one.1 in
       let inside : k < length olds = omega (arith, below, many, made.as_many) in
@@ -64,6 +67,9 @@ module _ {R K : Type 0} (rings : List Shared) (programs : List Subject) (ctx_len
             (subst (λ (n : ℕ). All (IsProgramFor (length rings) n) (get_or later k d).worker.programs.now) (sym len)
             (subst (All (IsProgramFor (length rings) ctx_len)) (sym ps) fit));
         one_each = counts ∙ sym (ap length ps);
+        limits_fit =
+            let own_full : (get_or later k d).worker.full.now ≡ full = ap (λ (l : Lane (StreamWorker R K)). l.worker.full.now) e ∙ new.full_is in
+            subst (λ (r : List Shared). FitsRings (get_or later k d).worker.full.now (length r)) (sym rs) (subst (λ (f : WhenFull). FitsRings f (length rings)) (sym own_full) limits);
       }
 
   pub pairs_at : AreFeedsOf fresh.feeds.items later
@@ -78,7 +84,7 @@ module _ {R K : Type 0} (rings : List Shared) (programs : List Subject) (ctx_len
       let none = made.empty k d e (omega (arith, below, many)) in
       (none.0, ap (λ (l : Lane (StreamWorker R K)). received l.pieces) (lane_at k e below).1 ∙ none.1)
 
--- ---- seats that came out
+-- ---- seats that were moved out
 
 module _ {R K : Type 0} (olds news : List Worker) (lanes later : List (Lane (StreamWorker R K))) (as_many : length olds ≡ length lanes) (now_many : length news ≡ length olds) (swapped : SwapsSeats olds news lanes later) where
   pub ended_at : (k : ℕ) (d : Lane (StreamWorker R K)) → k < length lanes → (get_or lanes k d).worker.seats.items ≡ seats_of news k
@@ -86,13 +92,13 @@ module _ {R K : Type 0} (olds news : List Worker) (lanes later : List (Lane (Str
       let w = element_of olds k (omega (arith, below, as_many)) in
       sym (seats_of_at news k w (omega (arith, below, as_many, now_many)) ∙ ap (λ (x : Worker). x.seats.items) (swapped k w d below).0)
 
-  -- the workers in the lanes counted the same
+  -- the workers in the lanes have the same counts
   pub counts_at : (k : ℕ) (d : Lane (StreamWorker R K)) → k < length lanes → (get_or later k d).worker.counts ≡ (get_or lanes k d).worker.counts
   counts_at k d below =
       let w = element_of olds k (omega (arith, below, as_many)) in
       ap (λ (l : Lane (StreamWorker R K)). l.worker.counts) (swapped k w d below).1
 
--- lists that have the same at each place
+-- lists with equal elements
 same_maps : {A B : Type 0} (f : A → B) (xs ys : List A) → length xs ≡ length ys → ((k : ℕ) (d : A) → k < length ys → f (get_or xs k d) ≡ f (get_or ys k d)) → map f xs ≡ map f ys
 same_maps f [] [] len each = refl
 same_maps f [] (y ∷ ys) len each = absurd (omega (arith, len))
@@ -102,16 +108,16 @@ same_maps f (x ∷ xs) (y ∷ ys) len each = λ i. each 0 x (omega arith) i ∷ 
 pub counts_same : {R K : Type 0} (lanes later : List (Lane (StreamWorker R K))) → length later ≡ length lanes → ((k : ℕ) (d : Lane (StreamWorker R K)) → k < length lanes → (get_or later k d).worker.counts ≡ (get_or lanes k d).worker.counts) → counts_in later ≡ counts_in lanes
 counts_same {R} {K} lanes later len each = same_maps (λ (lane : Lane (StreamWorker R K)). lane.worker.counts) later lanes len each
 
--- ---- a stream over lanes whose workers got their seats and gave them back
+-- ---- a stream over lanes whose workers got their seats and returned them
 
-module _ {I R K : Type 0} (gives : I → List (List ℕ) → I → Type 0) (rings : List Shared) (programs : List Subject) (ctx_len bound : ℕ) (source later : I) (fresh : Lanes R K) (workers held back : List Worker) (os ls ends : List (Lane (StreamWorker R K))) (dealt : Dealt)
-    (made : AreNewLanes (length workers) rings programs ctx_len bound fresh) (as_many : length os ≡ length fresh.lanes.items) (first : SwapsSeats workers held fresh.lanes.items os) (stream : RunsStream gives IsReadyWorker WorkerRuns source later os ls dealt)
+module _ {I R K : Type 0} (gives : I → List (List ℕ) → I → Type 0) (rings : List Shared) (programs : List Subject) (full : WhenFull) (ctx_len bound : ℕ) (source later : I) (fresh : Lanes R K) (workers held back : List Worker) (os ls ends : List (Lane (StreamWorker R K))) (dealt : Dealt)
+    (made : AreNewLanes (length workers) rings programs full ctx_len bound fresh) (as_many : length os ≡ length fresh.lanes.items) (first : SwapsSeats workers held fresh.lanes.items os) (stream : RunsStream gives IsReadyWorker WorkerRuns source later os ls dealt)
     (held_many : length held ≡ length workers) (back_many : length back ≡ length held) (ends_many : length ends ≡ length ls) (second : SwapsSeats held back ls ends) where
   lanes_many : length ls ≡ length workers
   lanes_many = stream.as_many ∙ (as_many ∙ made.as_many)
 
-  start_at : (k : ℕ) (d : Lane (StreamWorker R K)) → k < length os → IsStarted k programs bound (seats_of workers k) (get_or os k d).worker
-  start_at = started_at rings programs ctx_len bound fresh workers held os made as_many first
+  start_at : (k : ℕ) (d : Lane (StreamWorker R K)) → k < length os → IsStarted k programs full bound (seats_of workers k) (get_or os k d).worker
+  start_at = started_at rings programs full ctx_len bound fresh workers held os made as_many first
 
   end_at : (k : ℕ) (d : Lane (StreamWorker R K)) → k < length ls → (get_or ls k d).worker.seats.items ≡ seats_of back k
   end_at = ended_at held back ls ends (held_many ∙ sym lanes_many) back_many second
@@ -120,19 +126,19 @@ module _ {I R K : Type 0} (gives : I → List (List ℕ) → I → Type 0) (ring
   split_tables total zeros k d below =
       let here : k < length ls = omega (arith, below, ends_many) in
       subst (λ (c : StreamCounts). SameTables c total) (sym (counts_at held back ls ends (held_many ∙ sym lanes_many) back_many second k d here))
-      (same_tables_at gives programs bound source later os ls (seats_of workers) (seats_of back) dealt stream start_at end_at total zeros k d (omega (arith, here, stream.as_many)))
+      (same_tables_at gives programs full bound source later os ls (seats_of workers) (seats_of back) dealt stream start_at end_at total zeros k d (omega (arith, here, stream.as_many)))
 
-  pub split_ran : (before total : StreamCounts) → IsNewCounts (length programs) bound before → AddsCounts (counts_in ends) before total → StreamRan gives (length workers) programs bound source later (seats_of workers) (seats_of back) dealt total
+  pub split_ran : (before total : StreamCounts) → IsNewCounts (length programs) bound before → AddsCounts (counts_in ends) before total → StreamRan gives (length workers) programs full bound source later (seats_of workers) (seats_of back) dealt total
   split_ran before total none added =
       let counts : counts_in ends ≡ counts_in ls = counts_same ls ends ends_many (counts_at held back ls ends (held_many ∙ sym lanes_many) back_many second) in
-      subst (λ (n : ℕ). StreamRan gives n programs bound source later (seats_of workers) (seats_of back) dealt total) (as_many ∙ made.as_many)
-      (stream_ran gives programs bound source later os ls (seats_of workers) (seats_of back) dealt stream start_at end_at before total none (subst (λ (l : List StreamCounts). AddsCounts l before total) counts added))
+      subst (λ (n : ℕ). StreamRan gives n programs full bound source later (seats_of workers) (seats_of back) dealt total) (as_many ∙ made.as_many)
+      (stream_ran gives programs full bound source later os ls (seats_of workers) (seats_of back) dealt stream start_at end_at before total none (subst (λ (l : List StreamCounts). AddsCounts l before total) counts added))
 
   pub split_seats : All (λ w. AtRings rings w.seats.items) back
   split_seats k w below =
       let here : k < length ls = omega (arith, below, back_many, held_many, lanes_many) in
       let there : k < length os = omega (arith, here, stream.as_many) in
       let d = element_of ls k here in
-      let same : (get_or ls k d).worker.rings.now ≡ rings = (stream.ran k d there).same.rings_same ∙ rings_at rings programs ctx_len bound fresh workers held os made as_many first k d there in
+      let same : (get_or ls k d).worker.rings.now ≡ rings = (stream.ran k d there).same.rings_same ∙ rings_at rings programs full ctx_len bound fresh workers held os made as_many first k d there in
       subst (AtRings rings) (sym (ap (λ (x : Worker). x.seats.items) (second k w d here).0))
       (subst (λ (r : List Shared). AtRings r (get_or ls k d).worker.seats.items) same (stream.ready_still k d here).at_rings)

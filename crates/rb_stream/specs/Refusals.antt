@@ -1,4 +1,4 @@
--- What keeps a stream from beginning (own).
+-- Why a stream is refused before it starts (own).
 use Rattle.std.specs.Prelude.{◌≡◌, ℕ, ◌==◌, nat_lt, not, List, Bool, Result, Ok, Err}
 use Rattle.std.specs.List.{list_any}
 use Rattle.rb_verifier.specs.Subject.{Subject}
@@ -13,7 +13,7 @@ has_unknown_ring rings programs = list_any (λ p. nat_lt rings p.rings) programs
 abbrev pub has_other_length : ℕ → List Subject → Bool
 has_other_length ctx_len programs = list_any (λ p. not (p.ctx_len == ctx_len)) programs
 
--- it stopped for this fault
+-- it stopped with this fault
 abbrev pub StopsFor : {T S : Type 0} → StreamFault → Result T (StreamStop S) → Type 0
 StopsFor fault (Ok _) = ⊥
 StopsFor fault (Err stop) = stop.fault ≡ fault

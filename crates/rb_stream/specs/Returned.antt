@@ -1,4 +1,4 @@
--- Rings that come back from a run (own).
+-- Rings that are returned from a run (own).
 use Rattle.std.specs.Prelude.{◌≡◌, ℕ, List, map}
 use Rattle.std.specs.List.{AllZip}
 use Rattle.rb_ledger.specs.Roles.{BeginsWith}
@@ -10,8 +10,9 @@ use Rattle.rb_workers.specs.Opened.{AreOpened, SinkGetsTaken, workers_of}
 use Rattle.rb_workers.specs.SeatRows.{seat_rows}
 use Rattle.rb_workers.specs.Sink.{SinkItem}
 
--- All came back, each at its place, and may be run again: the same rings, seats and consumers. What each seat and each consumer sees begins
--- with what it had seen, and each sink was given just what its ring's consumer took and handed out.
+-- Everything was returned in its place, and may be run again: the same rings, seats and consumers. What each seat and
+-- each consumer has seen begins with what it had seen, and each sink was given exactly what its ring's consumer took
+-- and handed out.
 pub record AreReturned {S : Type 0} (position : S → ℕ) (takes : S → SinkItem → S → Type 0) (opened back : List (Opened S)) : Type 0 where
   pub rings_same : map (λ o. o.ring) back ≡ map (λ o. o.ring) opened
   pub seats_same : AllZip (AllZip IsSameSeat) (seat_rows opened) (seat_rows back)

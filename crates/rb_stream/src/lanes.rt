@@ -1,4 +1,4 @@
-//! The lanes of a stream: a worker in each, whose seats go in before the stream and out after it.
+//! The lanes of a stream: each has a worker, which gets its seats before the stream and returns them after it.
 
 ghost use Rattle.std.specs.Prelude.{ℕ, ◌≡◌, ◌<◌, IfOk, length, map, slice_index_or};
 ghost use Rattle.std.specs.List.{All};
@@ -8,7 +8,7 @@ ghost use Rattle.rb_stream.specs.inner.Lanes.{AreNewLanes, SwapsSeats};
 use crate::totals::add_counts;
 use rb_dealing::{Lane, LaneFeed, add_lane};
 use rb_shared_ring::SharedRing;
-use rb_stream_worker::{StreamCounts, StreamWorker};
+use rb_stream_worker::{StreamCounts, StreamWorker, WhenFull};
 use rb_verifier::Verified;
 use rb_workers::run_parts::Worker;
 use std::alloc::{AllocError, Global};
@@ -28,19 +28,22 @@ pub(crate) fn make_lanes<'w, R, K>(
     alloc: Global,
     rings: &'w [SharedRing],
     programs: &'w [Verified],
+    full: &'w WhenFull,
     ctx_len: u32,
     bound: u32,
     stock: &'w K,
     workers: &[Worker],
 ) -> Result<Lanes<'w, R, K>, AllocError>
     requires numbered { (k : ℕ) (d : _) → k < length workers.now → (slice_index_or workers.now k d).number ≡ k }
-    ensures new { IfOk result (AreNewLanes (length workers.now) rings.now programs.now ctx_len bound) }
+    ensures new { IfOk result (AreNewLanes (length workers.now) rings.now programs.now full.now ctx_len bound) }
 {
     let mut feeds = Vec::new(alloc);
     let mut lanes = Vec::new(alloc);
     for at in 0..workers.len() {
         let number = workers[at].number;
-        let worker = StreamWorker::new(rt, alloc, number, rings, programs, ctx_len, stock, bound)?;
+        let worker = StreamWorker::new(
+            rt, alloc, number, rings, programs, full, ctx_len, stock, bound,
+        )?;
         add_lane(alloc, worker, &mut feeds, &mut lanes)?;
     }
     Ok(Lanes { feeds, lanes })
@@ -56,7 +59,7 @@ pub(crate) fn swap_seats<R, K>(workers: &mut [Worker], lanes: &mut [Lane<StreamW
     }
 }
 
-/// Adds up what the workers in the lanes counted.
+/// Adds up the counts of the workers in the lanes.
 pub(crate) fn add_up<R, K>(lanes: &[Lane<StreamWorker<'_, R, K>>], total: &mut StreamCounts)
     requires tables { All (λ lane. SameTables lane.worker.counts total.old) lanes.now }
     ensures added { AddsCounts (map (λ lane. lane.worker.counts) lanes.now) total.old total.new }

@@ -1,14 +1,17 @@
-//! Runs verified programs over a stream of contexts: a reader deals the contexts of a `Source` to workers, each worker runs every program on
-//! each of its contexts, and a consumer for each ring gives the records to its sink.
+//! Running verified programs over a stream of contexts: a reader deals the contexts of a `Source` to workers, each
+//! worker runs every program over each of its contexts, and a consumer for each ring gives the records to the ring's
+//! sink.
 //!
-//! `run_stream` promises that each context that the source gives is dealt to one worker or counted as dropped; that each worker runs every
-//! program exactly once on each context dealt to it, in order, and each run is one that the program's meaning gives; that results are counted
-//! for each program; and that rings, seats and sinks end as they do after `rb_workers::run_jobs`, with no record left in a ring in which none
-//! is busy. Memory does not grow with the number of contexts.
+//! Proved for `run_stream`: each context that the source gives is dealt to one worker or counted as dropped. Each
+//! worker runs every program exactly once over each context dealt to it, in order, and each run is one that the
+//! program's semantics gives. Results are counted for each program. Rings, seats and sinks end as they do after
+//! `rb_workers::run_jobs`, and no record is left in a ring in which none is busy. Waiting, fairness and time are
+//! outside of the proofs.
 //!
-//! No proof speaks of waiting, fairness or time.
+//! Memory does not grow with the number of contexts.
 #![tactic(auto)]
 
+mod at_once;
 mod lanes;
 mod refusals;
 mod report;
@@ -16,6 +19,7 @@ mod stream_run;
 mod threads;
 mod totals;
 
+pub use at_once::run_stream;
 pub use rb_dealing::Late;
 pub use report::{StreamEnd, StreamFault, StreamReport, StreamStop};
-pub use stream_run::run_stream;
+pub use stream_run::run_stream_as;

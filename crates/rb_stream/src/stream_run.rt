@@ -5,6 +5,7 @@ ghost use Rattle.std.specs.List.{AllZip};
 ghost use Rattle.rb_jobs.specs.SeatHelpers.{AtRings};
 ghost use Rattle.rb_dealing.specs.Streams.{IsEndOf};
 ghost use Rattle.rb_stream_worker.specs.ContextRuns.{IsNewCounts, IsProgramFor};
+ghost use Rattle.rb_stream_worker.specs.Turns.{FitsRings};
 ghost use Rattle.rb_workers.specs.Opened.{AreOpened, IsOpened, workers_of};
 ghost use Rattle.rb_workers.specs.Rest.{IsDrained, LeavesNothing};
 ghost use Rattle.rb_workers.specs.SeatRows.{seat_rows, worker_column};
@@ -14,7 +15,7 @@ ghost use Rattle.rb_workers.specs.inner.RunBuffers.{HasRoomForRun};
 ghost use Rattle.rb_workers.specs.inner.WorkerRuns.{IsNew};
 ghost use Rattle.rb_stream.specs.Refusals.{StopsFor, has_other_length, has_unknown_ring};
 ghost use Rattle.rb_stream.specs.Returned.{AreReturned};
-ghost use Rattle.rb_stream.specs.Streamed.{EndsSource, IsStopped, IsStreamed};
+ghost use Rattle.rb_stream.specs.Streamed.{EndsSource, IsStoppedAs, IsStreamedAs};
 ghost use Rattle.rb_stream.specs.inner.Runs.{StreamRan, reported_as, seats_of};
 
 use crate::lanes::{Lanes, add_up, make_lanes, swap_seats};
@@ -27,7 +28,7 @@ use rb_dealing::{DealEnd, Dealt, Late};
 use rb_lend::Sheet;
 use rb_shared_ring::SharedRing;
 use rb_source::Source;
-use rb_stream_worker::StreamCounts;
+use rb_stream_worker::{StreamCounts, WhenFull};
 use rb_verifier::Verified;
 use rb_workers::run_parts::{
     ConsumerTask, RunBuffers, Worker, close_all, count_workers, make_buffers, merge, split,
@@ -39,13 +40,14 @@ use std::alloc::Global;
 use std::sync::Wait;
 use std::thread::Threads;
 
-// Runs the stream over rings whose seats the workers hold, and adds up what they counted. If there is no memory for the lanes, nothing is
-// read.
+// Runs the stream over rings whose seats the workers hold, and adds up the workers' counts. If the lanes can't be
+// allocated, nothing is read.
 fn run_split<R: Threads + Wait + Sync, I: Source + Send, S: Sink + Send>(
     rt: &R,
     alloc: Global,
     rings: &[SharedRing],
     programs: &[Verified],
+    full: &WhenFull,
     ctx_len: u32,
     source: &mut I,
     late: Late,
@@ -57,19 +59,22 @@ fn run_split<R: Threads + Wait + Sync, I: Source + Send, S: Sink + Send>(
     total: &mut StreamCounts,
 )
     requires fit { All (IsProgramFor (length rings.now) ctx_len) programs.now }
+    requires limits { FitsRings full.now (length rings.now) }
     requires numbered { (k : ℕ) (d : _) → k < length workers.old → (slice_index_or workers.old k d).number ≡ k }
     requires seats { All (λ w. AtRings rings.now w.seats.items) workers.old }
     requires consumers { AllZip (IsConsumerTaskOf S.position_of) rings.now consumers.old }
     requires dealt { (dealt.old.contexts ≡ 0) × (dealt.old.dropped ≡ 0) × IsEndOf I.is_over I.fails source.old dealt.old.end }
     requires total { IsNewCounts (length programs.now) bound total.old }
-    ensures ran { StreamRan I.gives (length workers.old) programs.now bound source.old source.new (seats_of workers.old) (seats_of workers.new) dealt.new total.new }
+    ensures ran { StreamRan I.gives (length workers.old) programs.now full.now bound source.old source.new (seats_of workers.old) (seats_of workers.new) dealt.new total.new }
     ensures end { IsEndOf I.is_over I.fails source.new dealt.new.end }
     ensures seats { All (λ w. AtRings rings.now w.seats.items) workers.new }
     ensures consumers { AllZip (Consumed S.position_of S.takes) consumers.old consumers.new }
 {
     gives_nothing::<I>();
     let stock = UsedSheets { rt, sheets };
-    let made = make_lanes(rt, alloc, rings, programs, ctx_len, bound, &stock, workers);
+    let made = make_lanes(
+        rt, alloc, rings, programs, full, ctx_len, bound, &stock, workers,
+    );
     let Ok(
         Lanes {
             mut feeds,
@@ -96,12 +101,13 @@ fn run_split<R: Threads + Wait + Sync, I: Source + Send, S: Sink + Send>(
     add_up(lanes.as_slice(), total);
 }
 
-// Takes the rings apart, runs the stream in threads, and puts the rings together again.
+// Splits the rings, runs the stream in threads, and merges the rings again.
 fn run_in<R: Threads + Wait + Sync, I: Source + Send, S: Sink + Send + Drop>(
     rt: &R,
     alloc: Global,
     opened: Vec<Opened<S>>,
     programs: &[Verified],
+    full: &WhenFull,
     ctx_len: u32,
     source: &mut I,
     late: Late,
@@ -116,6 +122,7 @@ fn run_in<R: Threads + Wait + Sync, I: Source + Send, S: Sink + Send + Drop>(
     total: &mut StreamCounts,
 ) -> Vec<Opened<S>>
     requires fit { All (IsProgramFor (vec_len opened) ctx_len) programs.now }
+    requires limits { FitsRings full.now (vec_len opened) }
     requires opened { All (IsOpened S.position_of (length workers.old)) opened.items }
     requires count { length workers.old ≡ workers_of opened.items }
     requires batches { vec_len batches ≡ vec_len opened }
@@ -126,7 +133,7 @@ fn run_in<R: Threads + Wait + Sync, I: Source + Send, S: Sink + Send + Drop>(
     requires total { IsNewCounts (length programs.now) bound total.old }
     ensures returned { AreReturned S.position_of S.takes opened.items result.items }
     ensures consumed { AllZip (IsConsumed S.position_of S.takes) opened.items result.items }
-    ensures ran { StreamRan I.gives (workers_of opened.items) programs.now bound source.old source.new (λ k. worker_column k (seat_rows opened.items)) (λ k. worker_column k (seat_rows result.items)) dealt.new total.new }
+    ensures ran { StreamRan I.gives (workers_of opened.items) programs.now full.now bound source.old source.new (λ k. worker_column k (seat_rows opened.items)) (λ k. worker_column k (seat_rows result.items)) dealt.new total.new }
     ensures end { IsEndOf I.is_over I.fails source.new dealt.new.end }
 {
     split(opened, &mut rings, &mut consumers, batches, workers);
@@ -135,6 +142,7 @@ fn run_in<R: Threads + Wait + Sync, I: Source + Send, S: Sink + Send + Drop>(
         alloc,
         &rings,
         programs,
+        full,
         ctx_len,
         source,
         late,
@@ -148,12 +156,13 @@ fn run_in<R: Threads + Wait + Sync, I: Source + Send, S: Sink + Send + Drop>(
     merge(rings, consumers, workers, merged)
 }
 
-// Runs the stream, as `run_in`, and then takes what is left in the rings.
+// Runs the stream, like `run_in`, and then takes what is left in the rings.
 fn run_and_empty<R: Threads + Wait + Sync, I: Source + Send, S: Sink + Send + Drop>(
     rt: &R,
     alloc: Global,
     opened: Vec<Opened<S>>,
     programs: &[Verified],
+    full: &WhenFull,
     ctx_len: u32,
     source: &mut I,
     late: Late,
@@ -169,6 +178,7 @@ fn run_and_empty<R: Threads + Wait + Sync, I: Source + Send, S: Sink + Send + Dr
     total: &mut StreamCounts,
 ) -> Vec<Opened<S>>
     requires fit { All (IsProgramFor (vec_len opened) ctx_len) programs.now }
+    requires limits { FitsRings full.now (vec_len opened) }
     requires opened { All (IsOpened S.position_of (length workers.old)) opened.items }
     requires count { length workers.old ≡ workers_of opened.items }
     requires batches { vec_len batches ≡ vec_len opened }
@@ -179,18 +189,18 @@ fn run_and_empty<R: Threads + Wait + Sync, I: Source + Send, S: Sink + Send + Dr
     requires total { IsNewCounts (length programs.now) bound total.old }
     ensures returned { AreReturned S.position_of S.takes opened.items result.items }
     ensures drained { All IsDrained result.items }
-    ensures ran { StreamRan I.gives (workers_of opened.items) programs.now bound source.old source.new (λ k. worker_column k (seat_rows opened.items)) (λ k. worker_column k (seat_rows result.items)) dealt.new total.new }
+    ensures ran { StreamRan I.gives (workers_of opened.items) programs.now full.now bound source.old source.new (λ k. worker_column k (seat_rows opened.items)) (λ k. worker_column k (seat_rows result.items)) dealt.new total.new }
     ensures end { IsEndOf I.is_over I.fails source.new dealt.new.end }
 {
     let mut merged = run_in(
-        rt, alloc, opened, programs, ctx_len, source, late, rings, consumers, batches, sheets,
-        merged, workers, bound, dealt, total,
+        rt, alloc, opened, programs, full, ctx_len, source, late, rings, consumers, batches,
+        sheets, merged, workers, bound, dealt, total,
     );
     take_rests(rt, merged.as_mut_slice(), rest);
     merged
 }
 
-// Returns why the stream ended, if all contexts that the source had were dealt and run.
+// Returns why the stream ended, if all contexts of the source were dealt and run.
 fn end_of(end: DealEnd, stopped: bool) -> Option<StreamEnd>
     ensures not_stopped { IfSome result (λ _. stopped ≡ false) }
     ensures end { IfSome result (λ e. end ≡ reported_as e) }
@@ -206,12 +216,13 @@ fn end_of(end: DealEnd, stopped: bool) -> Option<StreamEnd>
     }
 }
 
-// Runs the stream, and closes the rings if it came to its end.
+// Runs the stream, and closes the rings if the stream reached its end.
 fn run_known<R: Threads + Wait + Sync, I: Source + Send, S: Sink + Send + Drop>(
     rt: &R,
     alloc: Global,
     opened: Vec<Opened<S>>,
     programs: &[Verified],
+    full: &WhenFull,
     ctx_len: u32,
     source: &mut I,
     late: Late,
@@ -221,15 +232,16 @@ fn run_known<R: Threads + Wait + Sync, I: Source + Send, S: Sink + Send + Drop>(
 ) -> Result<StreamReport<S>, StreamStop<S>>
     requires opened { AreOpened S.position_of opened.items }
     requires fit { All (IsProgramFor (vec_len opened) ctx_len) programs.now }
+    requires limits { FitsRings full.now (vec_len opened) }
     requires buffers { HasRoomForRun (workers_of opened.items) (vec_len opened) 0 buffers }
     requires total { IsNewCounts (length programs.now) bound total }
     ensures memory { IfErr result (λ stop. stop.fault ≡ StreamFault.Memory) }
-    ensures streamed { IfOk result (IsStreamed S.position_of S.takes I.gives opened.items programs.now bound source.old source.new) }
+    ensures streamed { IfOk result (IsStreamedAs full.now S.position_of S.takes I.gives opened.items programs.now bound source.old source.new) }
     ensures end { IfOk result (λ r. EndsSource I.is_over I.fails source.new r.end) }
     ensures no_strays { IfOk result (λ r. r.strays ≡ 0) }
     ensures nothing_left { IfOk result (λ r. All LeavesNothing r.rings.items) }
     ensures settled { IfOk result (λ r. EachSettled (workers_of opened.items) (seat_rows opened.items) → All EndsSettled r.rings.items) }
-    ensures stopped { IfErr result (IsStopped S.position_of S.takes I.gives opened.items programs.now source.old source.new) }
+    ensures stopped { IfErr result (IsStoppedAs full.now S.position_of S.takes I.gives opened.items programs.now source.old source.new) }
 {
     let RunBuffers {
         rings,
@@ -253,6 +265,7 @@ fn run_known<R: Threads + Wait + Sync, I: Source + Send, S: Sink + Send + Drop>(
         alloc,
         opened,
         programs,
+        full,
         ctx_len,
         source,
         late,
@@ -294,30 +307,17 @@ fn run_known<R: Threads + Wait + Sync, I: Source + Send, S: Sink + Send + Drop>(
     })
 }
 
-/// Runs every program on each context that the source gives, over the rings that were opened, and closes the rings once the source has ended
-/// or failed.
+/// Runs a stream like `run_stream`, with workers that run contexts at once or wait for room, according to `full`.
 ///
-/// A thread reads the source and deals its contexts in pieces to the workers, one for each seat of a ring: each piece to the next worker in
-/// turn whose queue has room. If none has, the reader waits or drops the piece, as `late` says. Each worker runs in a thread of its own: every
-/// program, in order, on each context that is dealt to it. Each ring's consumer runs in a thread of its own and gives its records and its
-/// chapters to the ring's sink, as in `rb_workers::run_jobs`. Once all have ended, the calling thread takes what is left, up to the first
-/// record that is still busy: if no record of a closed ring is busy, none waits. If no thread can be started, its work is done on the
-/// calling thread.
-///
-/// For each program, results below `bound` are counted each for itself, and all others together. Without a program, contexts are read
-/// and dealt, and nothing runs on them.
-///
-/// A source that fails ends the stream like one that is over; the report has its fault. A report has all that was run.
+/// Workers that wait for room (`WhenFull::Wait`) run the contexts of a piece in turns. Before each turn a worker
+/// queries every ring for its untaken bytes until they are within the ring's limit, and sleeps in between, never
+/// without a timeout. A worker that waits holds no record, so the consumers can make room. If no thread can be started
+/// for the consumers, it waits forever.
 ///
 /// # Errors
 ///
-/// `UnknownRing` comes before `ContextLength`, and that before `NoWorker`; all come before anything is read, and all is handed back as it was.
-/// `Memory` is returned if there is no memory to begin, for a piece, or for a worker's next run. Then the reader stops, that worker runs
-/// nothing more, the others run what was dealt to them, and all rings are handed back open.
-///
-/// All memory but that of the pieces and of each worker's trace is taken before the first read. Pieces are used again, so memory does not grow
-/// with the number of contexts.
-pub fn run_stream<R: Threads + Wait + Sync, I: Source + Send, S: Sink + Send + Drop>(
+/// The same as those of `run_stream`.
+pub fn run_stream_as<R: Threads + Wait + Sync, I: Source + Send, S: Sink + Send + Drop>(
     rt: &R,
     alloc: Global,
     opened: Vec<Opened<S>>,
@@ -325,14 +325,16 @@ pub fn run_stream<R: Threads + Wait + Sync, I: Source + Send, S: Sink + Send + D
     source: &mut I,
     late: Late,
     bound: u32,
+    full: &WhenFull,
 ) -> Result<StreamReport<S>, StreamStop<S>>
     requires opened { AreOpened S.position_of opened.items }
+    requires limits { FitsRings full.now (vec_len opened) }
     ensures unknown_ring { StopsFor StreamFault.UnknownRing result ↔ (has_unknown_ring (vec_len opened) programs.now ≡ true) }
     ensures context_length { StopsFor StreamFault.ContextLength result ↔ ((has_unknown_ring (vec_len opened) programs.now ≡ false) × (has_other_length (I.ctx_len_of source.old) programs.now ≡ true)) }
     ensures no_worker { StopsFor StreamFault.NoWorker result ↔ ((has_unknown_ring (vec_len opened) programs.now ≡ false) × (has_other_length (I.ctx_len_of source.old) programs.now ≡ false) × (workers_of opened.items ≡ 0)) }
     ensures nothing_read { IfErr result (λ stop. stop.fault ≢ StreamFault.Memory → (stop.opened ≡ opened) × (source.new ≡ source.old)) }
-    ensures stopped { IfErr result (IsStopped S.position_of S.takes I.gives opened.items programs.now source.old source.new) }
-    ensures streamed { IfOk result (IsStreamed S.position_of S.takes I.gives opened.items programs.now bound source.old source.new) }
+    ensures stopped { IfErr result (IsStoppedAs full.now S.position_of S.takes I.gives opened.items programs.now source.old source.new) }
+    ensures streamed { IfOk result (IsStreamedAs full.now S.position_of S.takes I.gives opened.items programs.now bound source.old source.new) }
     ensures end { IfOk result (λ r. EndsSource I.is_over I.fails source.new r.end) }
     ensures no_strays { IfOk result (λ r. r.strays ≡ 0) }
     ensures nothing_left { IfOk result (λ r. All LeavesNothing r.rings.items) }
@@ -358,7 +360,7 @@ pub fn run_stream<R: Threads + Wait + Sync, I: Source + Send, S: Sink + Send + D
         return Err(StreamStop::refusal(StreamFault::Memory, opened));
     };
     match run_known(
-        rt, alloc, opened, programs, ctx_len, source, late, buffers, bound, total,
+        rt, alloc, opened, programs, full, ctx_len, source, late, buffers, bound, total,
     ) {
         Ok(report) => Ok(report),
         Err(stop) => Err(stop),

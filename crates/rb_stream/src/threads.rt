@@ -1,4 +1,4 @@
-//! The reader, the workers and the consumers in threads of their own.
+//! The threads of the reader, the workers and the consumers.
 
 ghost use Rattle.std.specs.Prelude.{All};
 ghost use Rattle.std.specs.List.{AllZip};
@@ -18,8 +18,9 @@ use std::sync::Wait;
 use std::sync::atomic::{AtomicBool, Ordering};
 use std::thread::{Threads, join_mut};
 
-/// Deals the contexts of the source to the lanes, runs the lanes and consumes the rings, until the lanes have ended and what is there is
-/// taken. If no thread can be started all of it is done here, the consumers' part last.
+/// Deals the contexts of the source to the lanes, runs the lanes and consumes the rings, until the lanes have ended and
+/// the records that are there are taken. If no thread can be started, everything is done on the calling thread, the
+/// consumers' part last.
 pub(crate) fn run_threads<
     R: Threads + Wait + Sync,
     I: Source + Send,

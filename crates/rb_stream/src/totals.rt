@@ -1,11 +1,11 @@
-//! What all workers counted together.
+//! The counts of all workers together.
 
 ghost use Rattle.std.specs.Prelude.{◌≡◌, ◌∷◌, [], length};
 ghost use Rattle.rb_stream.specs.inner.Counts.{AddsCounts, AddsResults, SameTables};
 
 use rb_stream_worker::{ResultCounts, StreamCounts};
 
-// Adds one table to another of the same bound.
+// Adds one table to another with the same bound.
 fn add_results(total: &mut ResultCounts, own: &ResultCounts)
     requires bound { length own.now.below.items ≡ length total.old.below.items }
     ensures added { AddsResults own.now total.old total.new }
@@ -16,7 +16,7 @@ fn add_results(total: &mut ResultCounts, own: &ResultCounts)
     total.other = total.other.saturating_add(own.other);
 }
 
-/// Adds what one worker counted.
+/// Adds the counts of one worker.
 pub(crate) fn add_counts(total: &mut StreamCounts, own: &StreamCounts)
     requires tables { SameTables own.now total.old }
     ensures added { AddsCounts (own.now ∷ []) total.old total.new }

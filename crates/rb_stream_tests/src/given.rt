@@ -14,15 +14,15 @@ use std::process::Abort;
 use std::sync::Wait;
 use std::thread;
 
-/// Outputs the first eight bytes of the context to the first ring, and ends with the answer.
+/// Outputs the first eight bytes of the context to the first ring, and returns the answer.
 pub(crate) const OUTPUT_CONTEXT: &str = "bf12000000000000 1851000000000000 0000000000000000
     b703000008000000 b704000000000000 8500000082000000 9500000000000000";
 
-/// Outputs the first eight bytes of the context to the second ring, and ends with the answer.
+/// Outputs the first eight bytes of the context to the second ring, and returns the answer.
 pub(crate) const OUTPUT_TO_SECOND: &str = "bf12000000000000 1851000001000000 0000000000000000
     b703000008000000 b704000000000000 8500000082000000 9500000000000000";
 
-/// Ends with the first byte of the context.
+/// Returns the first byte of the context.
 pub(crate) const FIRST_BYTE: &str = "7110000000000000 9500000000000000";
 
 /// Ends the test if the two differ, and prints both.
@@ -30,7 +30,7 @@ pub(crate) fn same<T: PartialEq + Debug>(rt: &impl Abort, found: &T, wanted: &T)
     assert_eq!(rt; *found, *wanted);
 }
 
-/// A program, verified for a context of this length and so many rings.
+/// Returns a program, verified for contexts of this length and for `rings` rings.
 pub(crate) fn verified(
     rt: &impl Abort,
     alloc: Global,
@@ -46,7 +46,7 @@ pub(crate) fn verified(
     verify(alloc, shape, ctx_len, rings).expect(rt, "a verified program")
 }
 
-/// Contexts of 16 bytes, which begin with their number, counted from 1, in two bytes.
+/// Returns contexts of 16 bytes, which begin with their number, counted from 1, in two bytes.
 pub(crate) fn contexts<A: Abort>(rt: &A, alloc: Global, count: u32) -> Vec<Vec<u8>>
     ensures { All (λ c. length c.items ≡ 16) result.items }
 {
@@ -84,7 +84,7 @@ impl EventSum {
         }
     }
 
-    // Adds an event of these bytes.
+    // Adds an event with these bytes.
     fn add(&mut self, bytes: &[u8])
         ensures { self.new.position ≡ self.old.position }
     {
@@ -131,7 +131,7 @@ impl Sink for EventSum {
     fn caught_up(&mut self) {}
 }
 
-// A ring of this size for so many workers.
+// Returns a ring of this size with a seat for each worker.
 fn opened<R: Wait + Abort>(
     rt: &R,
     alloc: Global,
@@ -149,7 +149,7 @@ fn opened<R: Wait + Abort>(
     }
 }
 
-/// Two rings, with tags 0 and 1, whose sinks yield so often for each event.
+/// Returns two rings, with tags 0 and 1, whose sinks yield `pause` times for each event.
 pub(crate) fn two_rings<R: Wait + Abort>(
     rt: &R,
     alloc: Global,

@@ -1,4 +1,4 @@
-//! Tests of streams, by public calls alone and on threads.
+//! Tests of streams, through the public interface alone and on threads.
 #![tactic(auto)]
 
 #[cfg(test)]
@@ -7,3 +7,5 @@ mod given;
 mod refused;
 #[cfg(test)]
 mod runs;
+#[cfg(test)]
+mod waiting;

@@ -1,4 +1,4 @@
-//! Streams that are refused.
+//! Tests of streams that are refused.
 
 ghost use Rattle.std.specs.Prelude.{◌≡◌, ◌≤◌};
 
@@ -12,7 +12,8 @@ use std::process::Abort;
 use std::sync::Wait;
 use std::thread::Threads;
 
-// What a stream of three contexts of 16 bytes over two rings, or over none, is refused for, and how many rings come back.
+// Returns why a stream of three contexts of 16 bytes over two rings, or over none, is refused, and how many rings are
+// returned.
 fn refusal<R: Threads + Wait + Sync + Abort>(
     rt: &R,
     alloc: Global,

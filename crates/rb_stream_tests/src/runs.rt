@@ -1,4 +1,4 @@
-//! Streams that come to a report.
+//! Tests of streams that have a report.
 
 ghost use Rattle.std.specs.Prelude.{◌≡◌};
 ghost use Rattle.rb_workers.specs.Opened.{AreOpened};
@@ -17,7 +17,7 @@ use std::process::Abort;
 use std::sync::Wait;
 use std::thread::Threads;
 
-// The report of a stream that is not refused.
+// Returns the report of a stream that is not refused.
 fn report<R: Threads + Wait + Sync + Abort, I: Source + Send>(
     rt: &R,
     alloc: Global,
@@ -34,7 +34,7 @@ fn report<R: Threads + Wait + Sync + Abort, I: Source + Send>(
     }
 }
 
-// Three programs: one for each of two rings, and one that ends with the first byte.
+// Returns three programs: one for each of two rings, and one that returns the first byte.
 fn three_programs<A: Abort>(rt: &A, alloc: Global) -> Vec<Verified> {
     let first = verified(rt, alloc, OUTPUT_CONTEXT, 16, 2);
     let second = verified(rt, alloc, OUTPUT_TO_SECOND, 16, 2);
@@ -42,7 +42,7 @@ fn three_programs<A: Abort>(rt: &A, alloc: Global) -> Vec<Verified> {
     vec![in alloc; first, second, third].expect(rt, "memory")
 }
 
-// How often the results 0 and 3, and others than 0 to 15, were counted for a program.
+// Returns how often the results 0 and 3, and results other than 0 to 15, were counted for a program.
 fn counted<A: Abort>(rt: &A, results: &[ResultCounts], program: usize) -> (u64, u64, u64) {
     match results.get(program) {
         Some(counts) => (at(&counts.below, 0), at(&counts.below, 3), counts.other),
@@ -54,7 +54,7 @@ fn at(counts: &[u64], index: usize) -> u64 {
     counts.get(index).copied().unwrap_or(u64::MAX)
 }
 
-// What the sinks of both rings took: events, the sum of their numbers, and all else.
+// Returns what the sinks of both rings took: the number of events, the sum of their numbers, and everything else.
 fn taken(report: &StreamReport<EventSum>) -> (u64, u64, u64) {
     let mut all: (u64, u64, u64) = (0, 0, 0);
     for ended in &report.rings {

@@ -1,7 +1,8 @@
--- Runs of one program, of all programs over a context, and of a whole context.
-use Rattle.std.proofs.Common.{◌≡◌, ℕ, ◌+◌, ◌-◌, ◌<◌, ◌≤◌, true, false, true≢false, List, [], ◌∷◌, ◌++◌, length, get_or, map, refl, sym, ap, ◌∙◌, subst, append-nil, arith, take, Some, Ok, Err, slice_get}
+-- Runs of one program, of all programs over a context, and over several contexts.
+use Rattle.std.proofs.Common.{◌≡◌, ℕ, ◌+◌, ◌-◌, ◌<◌, ◌≤◌, true, false, true≢false, List, [], ◌∷◌, ◌++◌, length, get_or, map, refl, sym, ap, ◌∙◌, subst, append-nil, arith, drop, take, Some, Ok, Err, slice_get}
 use Rattle.std.specs.List.{All}
-use Rattle.std.proofs.lemmas.List.{map-append, take_more}
+use Rattle.std.proofs.lemmas.List.{drop-append-le, length-take, length-take-le, map-append, take_more}
+use Rattle.std.proofs.Math.ListN.{drop_of_length-le}
 use Rattle.std.proofs.lemmas.List.FromFn.{map-range_with_len_more}
 use Rattle.rb_verifier.specs.Subject.{Subject}
 use Rattle.rb_ledger.specs.Seats.{WorkerSeat}
@@ -14,9 +15,11 @@ use Rattle.rb_stream_worker.specs.Results.{raised}
 use Rattle.rb_stream_worker.specs.Tasks.{StreamTask, TaskRun, tasks_over}
 use Rattle.rb_stream_worker.specs.ContextRuns.{CountsRuns, IsBegun, IsProgramFor, IsSameWorker, RunsContexts, WorkerRuns}
 use Rattle.rb_stream_worker.specs.inner.RanTasks.{RanTasks, SameContexts}
-use Rattle.rb_stream_worker.specs.inner.RunLaws.{contexts_twice, counted_as, counted_none, counted_twice, raised_none, runs_twice}
+use Rattle.rb_stream_worker.specs.inner.RunLaws.{contexts_none, contexts_twice, counted_as, counted_none, counted_twice, none_run, raised_none, runs_twice}
 use Rattle.rb_stream_worker.specs.declared.stream_counts.StreamCounts.{StreamCounts}
 use Rattle.rb_stream_worker.specs.declared.stream_worker.StreamWorker.{StreamWorker}
+use Rattle.rb_stream_worker.specs.declared.when_full.WhenFull.{WhenFull}
+use Rattle.rb_stream_worker.specs.declared.when_full.WhenFull.TheVariants.{Refuse}
 
 -- one program was run over one context, and the run was counted
 pub task_ran : (w : ℕ) (ps : List Subject) (index : ℕ) (context : List ℕ) (program : Subject) (answer : JobAnswer) (n : ℕ) (a b : List WorkerSeat) (c d : StreamCounts)
@@ -47,7 +50,7 @@ tasks_twice w ps ts us a b c d e f one two = record {
   same = (two.same.0 ∙ one.same.0, two.same.1 ∙ one.same.1, two.same.2 ∙ one.same.2);
 }
 
--- one program more over the same context
+-- one more program over the same context
 pub tasks_more : (w : ℕ) (ps : List Subject) (context : List ℕ) (n : ℕ) (a b c : List WorkerSeat) (d e f : StreamCounts)
     → RanTasks w ps (tasks_over n context) a b d e → RanTasks w ps (record { program = n; context = context } ∷ []) b c e f → RanTasks w ps (tasks_over (n + 1) context) a c d f
 tasks_more w ps context n a b c d e f one two =
@@ -57,7 +60,7 @@ tasks_more w ps context n a b c d e f one two =
 
 -- every program was run over the context
 pub context_done : (w : ℕ) (ps : List Subject) (context : List ℕ) (a b : List WorkerSeat) (c d e : StreamCounts) → c.stopped ≡ false → RanTasks w ps (tasks_over (length ps) context) a b c d
-    → e.results ≡ d.results → e.unlogged ≡ d.unlogged → e.left ≡ d.left → e.contexts ≡ raised d.contexts 1 → RunsContexts w ps (context ∷ []) a b c e
+    → e.results ≡ d.results → e.unlogged ≡ d.unlogged → e.left ≡ d.left → e.contexts ≡ raised d.contexts 1 → RunsContexts Refuse w ps (context ∷ []) a b c e
 context_done w ps context a b c d e going ran results unlogged left contexts =
     let ts = tasks_over (length ps) context in
     record {
@@ -76,9 +79,9 @@ context_done w ps context a b c d e going ran results unlogged left contexts =
       left_counted = (left ∙ ran.same.1) ∙ raised_none c.left;
     }
 
--- only some first programs were run over the context
+-- only a prefix of the programs was run over the context
 pub context_left : (w : ℕ) (ps : List Subject) (context : List ℕ) (n : ℕ) (a b : List WorkerSeat) (c d e : StreamCounts) → c.stopped ≡ false → n ≤ length ps - 1
-    → RanTasks w ps (tasks_over n context) a b c d → e ≡ record d { left = raised d.left 1; stopped = true } → RunsContexts w ps (context ∷ []) a b c e
+    → RanTasks w ps (tasks_over n context) a b c d → e ≡ record d { left = raised d.left 1; stopped = true } → RunsContexts Refuse w ps (context ∷ []) a b c e
 context_left w ps context n a b c d e going few ran is = record {
   runs = ran.runs;
   done = [];
@@ -99,9 +102,9 @@ none_begun : (n : ℕ) (contexts : List (List ℕ)) → IsBegun n [] contexts
 none_begun n [] = refl
 none_begun n (context ∷ more) = (0, omega arith, refl)
 
--- the worker ran nothing, as it stopped or had stopped
-pub contexts_left : (w : ℕ) (ps : List Subject) (contexts : List (List ℕ)) (a : List WorkerSeat) (c d : StreamCounts) (n : ℕ) → length contexts ≡ n → d ≡ record c { left = raised c.left n; stopped = true } → RunsContexts w ps contexts a a c d
-contexts_left w ps contexts a c d n many is = record {
+-- the worker ran nothing, because it stopped or had stopped
+pub contexts_left : (full : WhenFull) (w : ℕ) (ps : List Subject) (contexts : List (List ℕ)) (a : List WorkerSeat) (c d : StreamCounts) (n : ℕ) → length contexts ≡ n → d ≡ record c { left = raised c.left n; stopped = true } → RunsContexts full w ps contexts a a c d
+contexts_left full w ps contexts a c d n many is = record {
   runs = [];
   done = [];
   left = contexts;
@@ -111,7 +114,7 @@ contexts_left w ps contexts a c d n many is = record {
   begun_of = none_begun (length ps) contexts;
   all_done = λ went. absurd (true≢false (sym (ap (λ (s : StreamCounts). s.stopped) is) ∙ went));
   stays = λ before. (ap (λ (s : StreamCounts). s.stopped) is, refl, refl);
-  in_turn = refl;
+  in_turn = none_run full w ps a;
   counted = counted_as [] c c d (ap (λ (s : StreamCounts). s.results) is) (ap (λ (s : StreamCounts). s.unlogged) is) (counted_none c);
   contexts_counted = ap (λ (s : StreamCounts). s.contexts) is ∙ raised_none c.contexts;
   left_counted = ap (λ (s : StreamCounts). s.left) is ∙ ap (raised c.left) (sym many);
@@ -126,12 +129,23 @@ pub returns_number : (task : Task) (answer : JobAnswer) (old new : List WorkerSe
 returns_number task answer old new ContextLength ran same is = let other = subst (TellsLength task.program task.context) is ran.length_is in absurd (other same)
 returns_number task answer old new Stray ran same is = absurd (ran.never_stray is)
 
--- one context more
-pub contexts_more : (w : ℕ) (ps : List Subject) (contexts : List (List ℕ)) (at : ℕ) (context : List ℕ) (a b c : List WorkerSeat) (d e f : StreamCounts)
-    → RunsContexts w ps (take at contexts) a b d e → RunsContexts w ps (context ∷ []) b c e f → at < length contexts → context ≡ get_or contexts at [] → RunsContexts w ps (take (at + 1) contexts) a c d f
-contexts_more w ps contexts at context a b c d e f one two below is =
-    subst (λ xs. RunsContexts w ps xs a c d f) (sym (take_more contexts at [] below ∙ ap (λ x. take at contexts ++ x ∷ []) (sym is)))
-    (contexts_twice w ps (take at contexts) (context ∷ []) a b c d e f one two)
+-- one more context of a part
+pub contexts_more : (w : ℕ) (ps : List Subject) (contexts : List (List ℕ)) (from at : ℕ) (context : List ℕ) (a b c : List WorkerSeat) (d e f : StreamCounts)
+    → RunsContexts Refuse w ps (drop from (take at contexts)) a b d e → RunsContexts Refuse w ps (context ∷ []) b c e f → from ≤ at → at < length contexts → context ≡ get_or contexts at []
+    → RunsContexts Refuse w ps (drop from (take (at + 1) contexts)) a c d f
+contexts_more w ps contexts from at context a b c d e f one two begun below is =
+    let long : length (take at contexts) ≡ at = length-take-le at contexts (omega (arith, below)) in
+    let more : drop from (take (at + 1) contexts) ≡ drop from (take at contexts) ++ context ∷ [] =
+    ap (drop from) (take_more contexts at [] below ∙ ap (λ x. take at contexts ++ x ∷ []) (sym is)) ∙ drop-append-le from (take at contexts) (context ∷ []) (omega (arith, begun, long))
+    in
+    subst (λ xs. RunsContexts Refuse w ps xs a c d f) (sym more)
+    (contexts_twice Refuse w ps (drop from (take at contexts)) (context ∷ []) a b c d e f one two)
+
+-- a part without contexts
+pub part_none : (w : ℕ) (ps : List Subject) (contexts : List (List ℕ)) (from : ℕ) (a : List WorkerSeat) (c : StreamCounts) → RunsContexts Refuse w ps (drop from (take from contexts)) a a c c
+part_none w ps contexts from a c =
+    let short = length-take from contexts in
+    subst (λ xs. RunsContexts Refuse w ps xs a a c c) (sym (drop_of_length-le (take from contexts) (omega (arith, short)))) (contexts_none Refuse w ps a c)
 
 -- a worker that leaves what it is given
 pub worker_left : {R K : Type 0} (contexts : List (List ℕ)) (n : ℕ) (old new : StreamWorker R K) → new.counts ≡ record old.counts { left = raised old.counts.left n; stopped = true } → n ≡ length contexts
@@ -139,6 +153,6 @@ pub worker_left : {R K : Type 0} (contexts : List (List ℕ)) (n : ℕ) (old new
 worker_left contexts n old new counts many same seats = record {
   same = same;
   ran =
-      subst (λ (s : List WorkerSeat). RunsContexts old.number old.programs.now contexts old.seats.items s old.counts new.counts) (sym seats)
-      (contexts_left old.number old.programs.now contexts old.seats.items old.counts new.counts n (sym many) counts);
+      subst (λ (s : List WorkerSeat). RunsContexts old.full.now old.number old.programs.now contexts old.seats.items s old.counts new.counts) (sym seats)
+      (contexts_left old.full.now old.number old.programs.now contexts old.seats.items old.counts new.counts n (sym many) counts);
 }

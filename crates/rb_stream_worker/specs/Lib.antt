@@ -1,4 +1,5 @@
 pub mod Results
 pub mod Tasks
+pub mod Turns
 pub mod ContextRuns
 pub mod inner

@@ -1,8 +1,9 @@
 //! Runs of programs over contexts.
 
-ghost use Rattle.std.specs.Prelude.{◌≡◌, ◌≤◌, ◌<◌, ◌∷◌, [], false, length};
+ghost use Rattle.std.specs.Prelude.{◌≡◌, ◌≤◌, ◌<◌, ◌∷◌, [], drop, false, length, take};
 ghost use Rattle.std.specs.List.{All};
 ghost use Rattle.rb_stream_worker.specs.ContextRuns.{IsProgramFor, RunsContexts};
+ghost use Rattle.rb_stream_worker.specs.declared.when_full.WhenFull.TheVariants.{Refuse};
 ghost use Rattle.rb_stream_worker.specs.inner.RanTasks.{TriesContext, TriesTask};
 
 use crate::stream_counts::StreamCounts;
@@ -11,7 +12,7 @@ use rb_source::Piece;
 use rb_verifier::Verified;
 use std::sync::Wait;
 
-// Runs program `index` over a context and counts the run, and returns whether there was memory for it. If there was none, nothing ran.
+// Runs program `index` over a context and counts the run. Returns false if an allocation failed: then nothing ran.
 fn run_program<'j, R: Wait, K: Stock>(
     runner: &mut JobRunner<'_, 'j, R, OpenGate, K>,
     counts: &mut StreamCounts,
@@ -41,7 +42,8 @@ fn run_program<'j, R: Wait, K: Stock>(
     true
 }
 
-// Runs each program over a context, in order, up to the first for which there is no memory. Returns whether all were run.
+// Runs each program over a context, in order, up to the first for which an allocation fails. Returns whether all were
+// run.
 fn run_programs<'j, R: Wait, K: Stock>(
     runner: &mut JobRunner<'_, 'j, R, OpenGate, K>,
     counts: &mut StreamCounts,
@@ -62,7 +64,7 @@ fn run_programs<'j, R: Wait, K: Stock>(
     true
 }
 
-// Runs each program over a context and counts the context as run, or else as left.
+// Runs each program over a context and counts the context as run, or otherwise as left.
 fn run_context<'j, R: Wait, K: Stock>(
     runner: &mut JobRunner<'_, 'j, R, OpenGate, K>,
     counts: &mut StreamCounts,
@@ -73,7 +75,7 @@ fn run_context<'j, R: Wait, K: Stock>(
     requires fit { All (IsProgramFor (length runner.old.rings) (length context.now)) programs.now }
     requires one_each { length counts.old.results.items ≡ length programs.now }
     ensures rings { runner.new.rings ≡ runner.old.rings }
-    ensures ran { RunsContexts worker programs.now (context.now ∷ []) runner.old.seats runner.new.seats counts.old counts.new }
+    ensures ran { RunsContexts Refuse worker programs.now (context.now ∷ []) runner.old.seats runner.new.seats counts.old counts.new }
 {
     if counts.stopped {
         counts.leave(1);
@@ -86,20 +88,23 @@ fn run_context<'j, R: Wait, K: Stock>(
     }
 }
 
-/// Runs each program over each context of a piece, in order.
-pub(crate) fn run_piece<'j, R: Wait, K: Stock>(
+/// Runs each program over the contexts of a piece from number `from` up to but excluding number `to`, in order.
+pub(crate) fn run_part<'j, R: Wait, K: Stock>(
     runner: &mut JobRunner<'_, 'j, R, OpenGate, K>,
     counts: &mut StreamCounts,
     worker: u32,
     programs: &'j [Verified],
     piece: &'j Piece,
+    from: usize,
+    to: usize,
 )
     requires fit { All (IsProgramFor (length runner.old.rings) piece.now.ctx_len) programs.now }
     requires one_each { length counts.old.results.items ≡ length programs.now }
+    requires part { (from ≤ to) × (to ≤ length piece.now.contexts) }
     ensures rings { runner.new.rings ≡ runner.old.rings }
-    ensures ran { RunsContexts worker programs.now piece.now.contexts runner.old.seats runner.new.seats counts.old counts.new }
+    ensures ran { RunsContexts Refuse worker programs.now (drop from (take to piece.now.contexts)) runner.old.seats runner.new.seats counts.old counts.new }
 {
-    for at in 0..piece.len() {
+    for at in from..to {
         run_context(runner, counts, worker, programs, piece.get(at));
     }
 }

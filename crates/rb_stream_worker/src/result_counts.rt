@@ -1,11 +1,12 @@
-//! How many runs of a program ended with each result.
+//! Counts of a program's results.
 
 ghost use Rattle.std.specs.Prelude.{◌≡◌, ◌<◌, ◌∷◌, [], IfOk, length, slice_index_or, vec_len};
 ghost use Rattle.rb_stream_worker.specs.Results.{CountsResults, IsNewResults};
 
 use std::alloc::{AllocError, Global};
 
-/// Counts results: each one below a bound for itself, and all others together. Each count saturates at `u64::MAX`.
+/// Counts of results: a separate count for each result below a bound, and one for all others together. Each count
+/// saturates at `u64::MAX`.
 ///
 /// `new` allocates the table, and no other call allocates.
 #[derive(Drop)]
@@ -17,7 +18,8 @@ pub struct ResultCounts {
 }
 
 impl ResultCounts {
-    /// Returns counts of 0 for the results below `bound` and for all others, or `AllocError` if there is no memory for them.
+    /// Returns counts of 0 for the results below `bound` and for all others, or `AllocError` if the table can't be
+    /// allocated.
     pub fn new(alloc: Global, bound: u32) -> Result<ResultCounts, AllocError>
         ensures zero { IfOk result (IsNewResults bound) }
     {

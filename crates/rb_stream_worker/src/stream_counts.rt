@@ -1,4 +1,4 @@
-//! What a worker of a stream counts.
+//! The counts of a worker of a stream.
 
 ghost use Rattle.std.specs.Prelude.{◌≡◌, ◌<◌, ◌∷◌, [], IfOk, length, true};
 ghost use Rattle.rb_stream_worker.specs.ContextRuns.{CountsRuns, IsNewCounts};
@@ -9,18 +9,19 @@ ghost use Rattle.rb_stream_worker.specs.inner.RanTasks.{SameContexts};
 use crate::result_counts::ResultCounts;
 use std::alloc::{AllocError, Global};
 
-/// What a worker of a stream counts. Each number saturates at `u64::MAX`.
+/// The counts of a worker of a stream. Each number saturates at `u64::MAX`.
 #[derive(Drop)]
 pub struct StreamCounts {
-    /// How the runs of each program ended.
+    /// The results of each program's runs.
     pub results: Vec<ResultCounts>,
-    /// How many contexts were run.
+    /// The number of contexts that were run.
     pub contexts: u64,
-    /// How many contexts were left, since the worker had stopped.
+    /// The number of contexts that were left because the worker had stopped.
     pub left: u64,
-    /// How many nulls for flags 0 and answers `-EAGAIN` of helper calls no entry of a ring explains.
+    /// The number of helper calls that returned null for flags 0, or `-EAGAIN`, without an entry in a ring's history
+    /// that explains it.
     pub unlogged: u64,
-    /// Whether the worker stopped, as there was no memory for a run.
+    /// Whether the worker stopped because an allocation for a run failed.
     pub stopped: bool,
 }
 
@@ -42,7 +43,7 @@ impl StreamCounts {
         })
     }
 
-    /// Counts a run of program `index`, which returned this number.
+    /// Counts a run of program `index` that returned this number.
     pub(crate) fn count_run(&mut self, index: usize, number: u64, unlogged: u64)
         requires index { index < length self.old.results.items }
         ensures counted { (run : TaskRun) → run.task.program ≡ index → run.result ≡ number → run.unlogged ≡ unlogged → CountsRuns (run ∷ []) self.old self.new }
@@ -52,7 +53,7 @@ impl StreamCounts {
         self.unlogged = self.unlogged.saturating_add(unlogged);
     }
 
-    /// Counts this many contexts as left, as the worker stops or has stopped.
+    /// Counts this many contexts as left, because the worker stops or has stopped.
     pub(crate) fn leave(&mut self, count: usize)
         ensures { self.new ≡ record self.old { left = raised self.old.left count; stopped = true } }
     {

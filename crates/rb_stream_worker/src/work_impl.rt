@@ -1,11 +1,9 @@
 //! The worker as one that runs the pieces of a lane.
 
-use crate::context_runs::run_piece;
 use crate::stream_worker::StreamWorker;
 use rb_dealing::Work;
-use rb_jobs::{JobRunner, OpenGate, Stock};
+use rb_jobs::Stock;
 use rb_source::Piece;
-use std::mem;
 use std::sync::Wait;
 
 impl<'w, R: Wait, K: Stock> Work for StreamWorker<'w, R, K> {
@@ -20,26 +18,15 @@ impl<'w, R: Wait, K: Stock> Work for StreamWorker<'w, R, K> {
 
     ghost runs_both = { runs_in_turn };
 
-    /// Runs every program over every context of the piece, in order. If there is no memory for a run, or if the contexts have another length
-    /// than the programs expect, the worker stops: it leaves the rest of the contexts, and all that come after, and counts them.
+    /// Runs every program over every context of the piece, in order, at once or in turns. If an allocation for a run
+    /// fails, or if the contexts don't have the length that the programs expect, the worker stops: it leaves the
+    /// remaining contexts and all later ones, and counts them.
     fn run(&mut self, piece: &Piece) {
         if piece.ctx_len() != self.ctx_len {
             self.counts.leave(piece.len());
             return;
         }
-        let seats = mem::replace(&mut self.seats, Vec::new(self.alloc));
-        let mut runner = JobRunner::new(
-            self.rt, self.alloc, self.rings, seats, &OpenGate, self.stock, 0,
-        );
-        run_piece(
-            &mut runner,
-            &mut self.counts,
-            self.number,
-            self.programs,
-            piece,
-        );
-        let (seats, _calls) = runner.into_seats();
-        self.seats = seats;
+        self.run_piece(piece);
     }
 
     /// Returns whether the worker stopped.

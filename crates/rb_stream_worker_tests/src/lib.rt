@@ -1,4 +1,4 @@
-//! Tests of a stream's worker, by public calls alone.
+//! Tests of a stream's worker, through the public interface alone.
 #![tactic(auto)]
 
 #[cfg(test)]

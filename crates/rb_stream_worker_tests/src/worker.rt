@@ -1,4 +1,4 @@
-//! A worker that runs programs over contexts, at one ring.
+//! A worker that runs programs over contexts, with one ring.
 
 ghost use Rattle.std.specs.Prelude.{◌≡◌, ◌≤◌, length};
 ghost use Rattle.rb_jobs.specs.SeatHelpers.{IsAt};
@@ -11,7 +11,7 @@ use rb_lend::Lent;
 use rb_program::{from_text, shape};
 use rb_shared_ring::{ConsumerSeat, Seat, SharedRing, open};
 use rb_source::Piece;
-use rb_stream_worker::StreamWorker;
+use rb_stream_worker::{StreamWorker, WhenFull};
 use rb_verifier::{Verified, verify};
 use std::alloc::Global;
 use std::fmt::Debug;
@@ -30,7 +30,7 @@ fn same<T: PartialEq + Debug>(rt: &impl Abort, found: &T, wanted: &T) {
     assert_eq!(rt; *found, *wanted);
 }
 
-// A program that was verified for contexts of eight bytes and one ring.
+// Returns a program that was verified for contexts of eight bytes and one ring.
 fn verified(rt: &impl Abort, alloc: Global, text: &str) -> Verified
     ensures rings { result.rings ≡ 1 }
     ensures ctx_len { result.ctx_len ≡ 8 }
@@ -40,7 +40,7 @@ fn verified(rt: &impl Abort, alloc: Global, text: &str) -> Verified
     verify(alloc, shape, 8, 1).expect(rt, "a verified program")
 }
 
-// A ring with one seat.
+// Returns a ring with one seat.
 fn opened<R: Wait + Abort>(rt: &R, alloc: Global) -> (SharedRing, Seat, ConsumerSeat)
     ensures seat { IsAt result.0 result.1 }
     ensures consumer { result.2.ring ≡ result.0.ring }
@@ -54,7 +54,7 @@ fn opened<R: Wait + Abort>(rt: &R, alloc: Global) -> (SharedRing, Seat, Consumer
     }
 }
 
-// A piece of contexts of this length, each of which is filled with one of these numbers.
+// Returns a piece of contexts of this length, one for each number, filled with it.
 fn piece_of(rt: &impl Abort, alloc: Global, ctx_len: u32, numbers: &[u8]) -> Piece
     requires { ctx_len ≤ 65536 }
 {
@@ -68,7 +68,7 @@ fn piece_of(rt: &impl Abort, alloc: Global, ctx_len: u32, numbers: &[u8]) -> Pie
     piece
 }
 
-// Returns the first byte of the next record, and 255 if there is none or if it is not of eight bytes.
+// Returns the first byte of the next record, or 255 if there is none or if it does not have eight bytes.
 fn next_byte<R: Wait + Abort>(rt: &R, ring: &SharedRing, consumer: &mut ConsumerSeat) -> u8
     requires { consumer.old.ring ≡ ring.now.ring }
     ensures { consumer.new.ring ≡ consumer.old.ring }
@@ -87,16 +87,17 @@ fn has_stopped<W: Work + Send>(worker: &W) -> bool {
     worker.is_short()
 }
 
-// A worker of these programs at these rings, without seats.
+// Returns a worker of these programs at these rings, without seats.
 fn new_worker<'w, R: Wait + Abort>(
     rt: &'w R,
     alloc: Global,
     rings: &'w [SharedRing],
     programs: &'w [Verified],
+    full: &'w WhenFull,
 ) -> StreamWorker<'w, R, NoStock>
-    ensures { IsNewWorker 0 rings.now programs.now 8 16 result }
+    ensures { IsNewWorker 0 rings.now programs.now full.now 8 16 result }
 {
-    match StreamWorker::new(rt, alloc, 0, rings, programs, 8, &NoStock, 16) {
+    match StreamWorker::new(rt, alloc, 0, rings, programs, full, 8, &NoStock, 16) {
         Ok(worker) => worker,
         Err(_) => rt.panic("no memory"),
     }
@@ -111,7 +112,7 @@ fn two_programs_over_three_contexts(rt: HostRuntime) {
     ];
     let (ring, seat, mut consumer) = opened(&rt, alloc);
     let rings = [ring];
-    let mut worker = new_worker(&rt, alloc, &rings, &programs);
+    let mut worker = new_worker(&rt, alloc, &rings, &programs, &WhenFull::Refuse);
     worker.seats.push_reserved(seat);
     worker.run(&piece_of(&rt, alloc, 8, &[7, 99, 7]));
     let counts = &worker.counts;
@@ -144,7 +145,7 @@ fn a_worker_that_stopped_runs_nothing_more(rt: HostRuntime) {
     let programs = [verified(&rt, alloc, OUTPUT_CONTEXT)];
     let (ring, seat, mut consumer) = opened(&rt, alloc);
     let rings = [ring];
-    let mut worker = new_worker(&rt, alloc, &rings, &programs);
+    let mut worker = new_worker(&rt, alloc, &rings, &programs, &WhenFull::Refuse);
     worker.seats.push_reserved(seat);
     worker.run(&piece_of(&rt, alloc, 9, &[1, 2]));
     worker.run(&piece_of(&rt, alloc, 8, &[3]));

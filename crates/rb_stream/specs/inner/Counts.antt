@@ -1,4 +1,4 @@
--- Counts of all workers together.
+-- The counts of all workers together.
 use Rattle.std.specs.Prelude.{◌≡◌, ℕ, ◌<◌, ◌||◌, List, Option, None, Some, length, slice_get, slice_index_or}
 use Rattle.std.specs.List.{list_any, sum_by}
 use Rattle.rb_stream_worker.specs.Results.{raised}
@@ -14,19 +14,19 @@ abbrev pub other_in : Option ResultCounts → ℕ
 other_in None = 0
 other_in (Some counts) = counts.other
 
--- how often this result, and how often any that has no count of its own, was counted for a program
+-- how often this result, and how often any result without a separate count, was counted for a program
 abbrev pub below_of : ℕ → ℕ → StreamCounts → ℕ
 below_of program result counts = below_in result (slice_get counts.results.items program)
 
 abbrev pub other_of : ℕ → StreamCounts → ℕ
 other_of program counts = other_in (slice_get counts.results.items program)
 
--- both have tables for as many programs, and for as many results of each
+-- both have tables for the same number of programs, and for the same number of results of each
 pub record SameTables (a b : StreamCounts) : Type 0 where
   pub as_many : length a.results.items ≡ length b.results.items
   pub bounds_same : (p : ℕ) (d : ResultCounts) → p < length b.results.items → length (slice_index_or a.results.items p d).below.items ≡ length (slice_index_or b.results.items p d).below.items
 
--- a table was added to another of the same bound
+-- a table was added to another with the same bound
 pub record AddsResults (own old new : ResultCounts) : Type 0 where
   pub bound_same : length new.below.items ≡ length old.below.items
   pub below_are : (r : ℕ) → r < length old.below.items → slice_index_or new.below.items r 0 ≡ raised (slice_index_or old.below.items r 0) (slice_index_or own.below.items r 0)

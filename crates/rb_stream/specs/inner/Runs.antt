@@ -1,4 +1,4 @@
--- What a stream did to the seats of its workers.
+-- The effect of a stream on the seats of its workers.
 use Rattle.std.specs.Prelude.{◌≡◌, ℕ, ◌<◌, List, [], ◌++◌, false, Option, None, Some, length, slice_get}
 use Rattle.rb_verifier.specs.Subject.{Subject}
 use Rattle.rb_ledger.specs.Seats.{WorkerSeat}
@@ -8,6 +8,7 @@ use Rattle.rb_dealing.specs.declared.dealing.DealEnd.{DealEnd}
 use Rattle.rb_dealing.specs.declared.dealing.DealEnd.TheVariants.{Over as DealOver, Failed as DealFailed}
 use Rattle.rb_stream_worker.specs.Tasks.{TaskRun}
 use Rattle.rb_stream_worker.specs.declared.stream_counts.StreamCounts.{StreamCounts}
+use Rattle.rb_stream_worker.specs.declared.when_full.WhenFull.{WhenFull}
 use Rattle.rb_workers.specs.declared.workers.Worker.{Worker}
 use Rattle.rb_stream.specs.Streamed.{CountsEach, RunsFirst, of_all, unlogged_in}
 use Rattle.rb_stream.specs.declared.report.StreamEnd.{StreamEnd}
@@ -21,9 +22,10 @@ seats_in (Some worker) = worker.seats.items
 abbrev pub seats_of : List Worker → ℕ → List WorkerSeat
 seats_of workers k = seats_in (slice_get workers k)
 
--- The contexts that the source gave were dealt in pieces, and each worker ran the first of those that were dealt to it, which took its seats
--- from the one state to the other; all but the last unless one stopped. All was counted.
-pub record StreamRan {I : Type 0} (gives : I → List (List ℕ) → I → Type 0) (count : ℕ) (programs : List Subject) (bound : ℕ) (source later : I) (old new : ℕ → List WorkerSeat) (dealt : Dealt) (total : StreamCounts) : Type 0 where
+-- The contexts that the source gave were dealt in pieces, and each worker ran a prefix of those that were dealt to it,
+-- which led from the old state of its seats to the new one; it ran all of them unless it stopped. Everything was
+-- counted.
+pub record StreamRan {I : Type 0} (gives : I → List (List ℕ) → I → Type 0) (count : ℕ) (programs : List Subject) (full : WhenFull) (bound : ℕ) (source later : I) (old new : ℕ → List WorkerSeat) (dealt : Dealt) (total : StreamCounts) : Type 0 where
   pub pieces : List DealtPiece
   pub runs : ℕ → List TaskRun
   pub done : ℕ → List (List ℕ)
@@ -31,7 +33,7 @@ pub record StreamRan {I : Type 0} (gives : I → List (List ℕ) → I → Type 
   pub gave : gives source (contexts_in pieces) later
   pub known : AreDealtAmong count pieces
   pub dealt_are : (k : ℕ) → k < count → dealt_to k pieces ≡ done k ++ left k
-  pub ran_first : (k : ℕ) → k < count → RunsFirst k programs (runs k) (done k) (left k) (old k) (new k)
+  pub ran_first : (k : ℕ) → k < count → RunsFirst full k programs (runs k) (done k) (left k) (old k) (new k)
   pub none_left : total.stopped ≡ false → (k : ℕ) → k < count → left k ≡ []
   pub contexts_are : dealt.contexts ≡ saturated (length (contexts_in pieces))
   pub dropped_are : dealt.dropped ≡ saturated (length (dropped_in pieces))

@@ -1,4 +1,4 @@
--- Tasks that were all run, at a runner and in counts.
+-- Tasks that were all run and counted.
 use Rattle.std.specs.Prelude.{◌≡◌, ℕ, ◌-◌, ◌≤◌, Bool, true, false, List, [], ◌∷◌, length, map}
 use Rattle.rb_verifier.specs.Subject.{Subject}
 use Rattle.rb_ledger.specs.Seats.{WorkerSeat}
@@ -23,7 +23,7 @@ abbrev pub TriesTask : Bool → ℕ → List Subject → StreamTask → List Wor
 TriesTask true worker programs task old new before after = RanTasks worker programs (task ∷ []) old new before after
 TriesTask false worker programs task old new before after = (new ≡ old) × (after ≡ before)
 
--- every program was run over the context, or some first ones were, but not all
+-- every program was run over the context, or only a prefix of the programs
 abbrev pub TriesContext : Bool → ℕ → List Subject → List ℕ → List WorkerSeat → List WorkerSeat → StreamCounts → StreamCounts → Type 0
 TriesContext true worker programs context old new before after = RanTasks worker programs (tasks_over (length programs) context) old new before after
 TriesContext false worker programs context old new before after = (n : ℕ) × (n ≤ length programs - 1) × RanTasks worker programs (tasks_over n context) old new before after

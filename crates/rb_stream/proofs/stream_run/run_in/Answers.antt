@@ -11,6 +11,7 @@ use Rattle.rb_workers.specs.Opened.{IsOpened, workers_of}
 use Rattle.rb_workers.proofs.Numbered.{seats_length}
 use Rattle.rb_workers.proofs.Whole.{column_at, takers_at, homes_at, lent_whole, rings_length, ends_at}
 use Rattle.rb_stream_worker.specs.ContextRuns.{IsProgramFor}
+use Rattle.rb_stream_worker.specs.Turns.{FitsRings}
 use Rattle.rb_stream.proofs.Counted.{element_of}
 use Rattle.rb_stream.proofs.Streams.{columns, returned_of, seats_of_at, stream_at}
 use Rattle.rb_stream.proofs.stream_run.run_in.Goals as goal
@@ -22,6 +23,11 @@ pub run_split-requires-clause-fit : goal.run_split-requires-clause-fit
 run_split-requires-clause-fit g c κs within =
     let rings : length c.deref.result.now ≡ length c.args.opened.items = ap length (c.deref.ensures.value ∙ c.split.ensures.rings) ∙ rings_length c.args.opened.items in
     subst (λ n. All (IsProgramFor n c.args.ctx_len) c.args.programs.now) (c.args.opened.ok.0 ∙ sym rings) c.requires.fit
+
+pub run_split-requires-clause-limits : goal.run_split-requires-clause-limits
+run_split-requires-clause-limits g c κs within =
+    let rings : length c.deref.result.now ≡ length c.args.opened.items = ap length (c.deref.ensures.value ∙ c.split.ensures.rings) ∙ rings_length c.args.opened.items in
+    subst (λ n. FitsRings c.args.full.now n) (c.args.opened.ok.0 ∙ sym rings) c.requires.limits
 
 pub run_split-requires-clause-seats : goal.run_split-requires-clause-seats
 run_split-requires-clause-seats g c κs within =
@@ -75,7 +81,7 @@ returns-clause-ran g c =
     let opened = c.args.opened.items in
     let back = c.merge.result.items in
     let same : length c.split.new.workers ≡ workers_of opened = c.split.auto.workers ∙ c.requires.count in
-    stream_at g.I.Source.gives (length c.split.new.workers) (workers_of opened) c.args.programs.now c.args.bound c.args.source.now c.run_split.new.source _ _ (columns opened) (columns back) c.run_split.new.dealt c.run_split.new.total same
+    stream_at g.I.Source.gives (length c.split.new.workers) (workers_of opened) c.args.programs.now c.args.full.now c.args.bound c.args.source.now c.run_split.new.source _ _ (columns opened) (columns back) c.run_split.new.dealt c.run_split.new.total same
     (λ k below.
     let here : k < length c.args.workers.now = omega (arith, below, c.requires.count) in
     let d = element_of c.split.new.workers k (omega (arith, below, same)) in
@@ -91,7 +97,7 @@ returns-clause-returned g c =
     let pos = g.S.Sink.position_of in
     let opened = c.args.opened.items in
     let back = c.merge.result.items in
-    returned_of pos g.S.Sink.takes g.I.Source.gives opened back c.args.programs.now c.args.bound c.args.source.now c.run_split.new.source c.run_split.new.dealt c.run_split.new.total
+    returned_of pos g.S.Sink.takes g.I.Source.gives opened back c.args.programs.now c.args.full.now c.args.bound c.args.source.now c.run_split.new.source c.run_split.new.dealt c.run_split.new.total
     (subst (λ n. All (IsOpened pos n) opened) c.requires.count c.requires.opened) (c.merge.ensures.rings ∙ c.split.ensures.rings) (returns-clause-consumed g c)
     (λ k d below. c.merge.ensures.seats k d below ∙ (c.run_split.auto.workers ∙ (c.split.auto.workers ∙ c.requires.count)))
     (returns-clause-ran g c)

@@ -39,7 +39,7 @@ close_all-rings-requires-clause-tallies g c =
 pub returns-clause-streamed : goal.returns-clause-streamed
 returns-clause-streamed g c =
     let run = c.run_and_empty-merged in
-    streamed_of g.S.Sink.position_of g.S.Sink.takes g.I.Source.gives c.args.opened.items run.result.items c.args.programs.now c.args.bound c.args.source.now run.new.source run.new.dealt run.new.total _
+    streamed_of g.S.Sink.position_of g.S.Sink.takes g.I.Source.gives c.args.opened.items run.result.items c.args.programs.now c.args.full.now c.args.bound c.args.source.now run.new.source run.new.dealt run.new.total _
     c.requires.opened run.ensures.returned run.ensures.ran c.in-Some.ensures.not_stopped c.close_all-rings.ensures.closes refl refl refl refl refl
 
 pub returns-clause-end : goal.returns-clause-end
@@ -57,4 +57,4 @@ returns-clause-settled g c =
     let opened = c.args.opened.items in
     let returned = run.ensures.returned in
     let again : All (IsOpened g.S.Sink.position_of (workers_of opened)) run.result.items = subst (λ n. All (IsOpened g.S.Sink.position_of n) run.result.items) returned.workers_same returned.runs_again in
-    all_settled g.S.Sink.position_of (workers_of opened) c.args.programs.now run.ensures.ran.runs opened run.result.items c.close_all-rings.result.items again c.close_all-rings.ensures.closes (λ k below. (run.ensures.ran.ran_first k below).in_turn)
+    all_settled g.S.Sink.position_of (workers_of opened) c.args.programs.now c.args.full.now run.ensures.ran.runs opened run.result.items c.close_all-rings.result.items again c.close_all-rings.ensures.closes (λ k below. (run.ensures.ran.ran_first k below).in_turn)

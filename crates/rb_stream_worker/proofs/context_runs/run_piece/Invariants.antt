@@ -1,9 +1,0 @@
-use Rattle.std.proofs.Common.{◌≡◌, take}
-use Rattle.rb_stream_worker.specs.ContextRuns.{RunsContexts}
-use Rattle.rb_stream_worker.proofs.context_runs.run_piece.Given as goal
-
-abbrev pub invariant-loop-at : goal.invariant-loop-at
-invariant-loop-at g l = record {
-  rings : l.runner.rings ≡ l.initial.runner.rings;
-  ran : RunsContexts l.worker l.programs (take l.at l.piece.contexts) l.initial.runner.seats l.runner.seats l.initial.counts l.counts;
-}

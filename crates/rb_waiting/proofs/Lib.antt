@@ -1,0 +1,4 @@
+mod Asked
+mod Looked
+mod Rings
+mod Sums
