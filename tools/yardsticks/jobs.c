@@ -1,6 +1,6 @@
 // Whole jobs as a user would build them from known parts: DPDK's eBPF interpreter runs a program that reserves a record of eight bytes, ends with
 // 1 if it got none, and otherwise stores 42 there and submits it; its two helpers are the kernel ring's logic, on worker threads with one consumer.
-// Usage: jobs WORKERS JOBS     (JOBS for each worker)
+// Usage: jobs WORKERS JOBS     (JOBS for each worker; with 0 workers one thread runs JOBS jobs, and takes each record itself)
 // Prints a line for each of three rounds: its nanoseconds, and the number of jobs that got no record.
 #define SIZE (1u << 20)
 #include "kernel_ring.h"
@@ -33,6 +33,15 @@ static void *work(void *worker) {
     }
     atomic_fetch_add(&refused, none);
     return 0;
+}
+
+static void work_alone(void) {
+    uint64_t context[2] = {0, 0}, sum = 0;
+    refused = 0;
+    for (uint64_t job = 0; job < jobs; job++) {
+        context[1] = job;
+        if (rte_bpf_exec(program, context) || !ring_take(&sum)) refused++;
+    }
 }
 
 static void *consume(void *unused) {
@@ -84,13 +93,14 @@ int main(int count, char **words) {
     if (count != 3) return 2;
     int workers = atoi(words[1]);
     jobs = strtoull(words[2], 0, 10);
-    if (workers < 1 || workers > 64) return 2;
+    if (workers < 0 || workers > 64) return 2;
     program = load();
     if (!program) return 1;
     pthread_spin_init(&lock, 0);
     for (int round = 0; round <= ROUNDS; round++) {
         uint64_t began = now();
-        all_jobs(workers, work, consume);
+        if (workers == 0) work_alone();
+        else all_jobs(workers, work, consume);
         if (round > 0) tell(now() - began, refused);
     }
     return 0;

@@ -39,7 +39,7 @@ static void ring_submit(void *record) {
 }
 
 // Returns whether there was a record to take; its first byte is added to the sum.
-static int ring_take(uint64_t *sum) {
+static inline int ring_take(uint64_t *sum) {
     uint64_t position = atomic_load(&consumer_position);
     if (position == atomic_load(&producer_position)) return 0;
     _Atomic uint32_t *header = header_at(position);

@@ -8,8 +8,9 @@ ghost use Rattle.rb_tape_commands.specs.inner.PayloadSteps.{IsWholeInput};
 use crate::progress::{Metered, Progress};
 use crate::reasons::{Seen, reason_of};
 use crate::refusal::{CommandRefusal, object_of};
-use crate::request::{CommandLine, Subcommand, parse};
+use crate::request::{CommandLine, ParsedCommand, Subcommand, parse};
 use crate::sim_objects::print_objects;
+use crate::stream_command::carry_out_stream;
 use crate::taped_jobs::TapedJobs;
 use crate::terminals::Terminals;
 use clap::Error;
@@ -39,7 +40,14 @@ use std::time::Clock;
 /// the default, which `--no-why` turns off.
 ///
 /// `feed`, `tape`, `explain`, `cost` and `sim` wait for nobody. `check` and `run` hold a ring's lock for each call, and `run` starts threads.
-pub fn command<T, F: Read + Write + Send + Drop, S: AsStr, R: Read, W: Write, E: Write>(
+pub fn command<
+    T,
+    F: Read + Write + Send + Drop,
+    S: AsStr,
+    R: Read + Send,
+    W: Write + Send,
+    E: Write,
+>(
     rt: &T,
     alloc: Global,
     words: &[S],
@@ -54,7 +62,10 @@ where
     ensures usage { result ≡ 2 → Keeps (R.remaining input.old) (R.remaining input.new) × Keeps (W.contents out.old) (W.contents out.new) }
 {
     match parse(alloc, words, terminals) {
-        Ok(asked) => carry_out_over(rt, alloc, &asked, input, out, err),
+        Ok(ParsedCommand::Command(asked)) => carry_out_over(rt, alloc, &asked, input, out, err),
+        Ok(ParsedCommand::Stream(options)) => carry_out_stream(
+            rt, alloc, &options, input, out, err,
+        ),
         Err(error) => print_usage(&error, out, err),
     }
 }

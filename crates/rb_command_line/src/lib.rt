@@ -12,6 +12,9 @@ mod reasons;
 mod refusal;
 mod request;
 mod sim_objects;
+mod stream_command;
+mod stream_options;
+mod stream_request;
 mod taped_jobs;
 mod terminals;
 

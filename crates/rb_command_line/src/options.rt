@@ -1,5 +1,6 @@
 //! What the command line may say.
 
+use crate::stream_options::stream;
 use clap::{Arg, ArgAction, Command};
 use rb_version::VERSION;
 use std::alloc::{AllocError, Global};
@@ -18,7 +19,8 @@ pub(crate) fn program<'a>(alloc: Global) -> Result<Command<'a>, AllocError> {
     let program = with(program, explain(alloc))?;
     let program = with(program, cost(alloc))?;
     let program = with(program, run(alloc))?;
-    with(program, sim(alloc))
+    let program = with(program, sim(alloc))?;
+    with(program, stream(alloc))
 }
 
 /// The command of this name, by itself.
@@ -31,6 +33,7 @@ pub(crate) fn subcommand<'a>(alloc: Global, name: &str) -> Result<Command<'a>, A
         "explain" => explain(alloc)?,
         "cost" => cost(alloc)?,
         "run" => run(alloc)?,
+        "stream" => stream(alloc)?,
         _ => sim(alloc)?,
     };
     command.bin_name(bin_name.as_str())

@@ -13,6 +13,7 @@ use rb_cost::JobsAtOnce;
 use rb_json::LineForm;
 use rb_loader::Bounds;
 use rb_run_commands::JobsRequest;
+use rb_service::StreamOptions;
 use std::alloc::{AllocError, Global};
 use std::convert::AsStr;
 
@@ -151,26 +152,43 @@ pub(crate) struct CommandLine<'a> {
     pub progress: bool,
 }
 
+/// A command, whichever it is.
+#[derive(Drop)]
+pub(crate) enum ParsedCommand<'a> {
+    /// Any but `stream`.
+    Command(CommandLine<'a>),
+    /// A stream.
+    Stream(StreamOptions<'a>),
+}
+
 /// The command that these words name, which follow the program's name on the command line. An error is help or the version that was
 /// asked for, wrong usage, or out of memory.
 pub(crate) fn parse<'a, S: AsStr>(
     alloc: Global,
     words: &'a [S],
     terminals: Terminals,
-) -> Result<CommandLine<'a>, Error> {
+) -> Result<ParsedCommand<'a>, Error> {
     let mut program = program(alloc)?;
     let matches = program.try_get_matches_from_mut(words)?;
     let Some((name, options)) = matches.subcommand() else {
         return Err(program.error(ErrorKind::MissingSubcommand, "no command was given")?);
     };
+    if name == "stream" {
+        let values = Values {
+            alloc,
+            command: name,
+            options,
+        };
+        return Ok(ParsedCommand::Stream(values.stream()?));
+    }
     let request = command_request(alloc, name, options)?;
     let is_watched = terminals.err && !terminals.out;
-    Ok(CommandLine {
+    Ok(ParsedCommand::Command(CommandLine {
         request,
         file: options.get_str("file").filter(|path| *path != "-"),
         why: options.get_flag("why") || (terminals.err && !options.get_flag("no-why")),
         progress: request.is_long() && (is_watched || options.get_flag("progress")),
-    })
+    }))
 }
 
 // What the command of this name asks for, by its options.
@@ -215,10 +233,10 @@ fn command_request<'a>(
 
 // The values of a command's options.
 #[derive(Clone, Copy)]
-struct Values<'v, 'a> {
-    alloc: Global,
-    command: &'v str,
-    options: &'v ArgMatches<'a>,
+pub(crate) struct Values<'v, 'a> {
+    pub(crate) alloc: Global,
+    pub(crate) command: &'v str,
+    pub(crate) options: &'v ArgMatches<'a>,
 }
 
 impl<'a> Values<'_, 'a> {
@@ -300,7 +318,7 @@ impl<'a> Values<'_, 'a> {
     }
 
     // The number that an option has, which is bounded. That of a context is a count of bytes.
-    fn bounded(&self, name: &str, least: u32, most: u32) -> Result<u32, Error>
+    pub(crate) fn bounded(&self, name: &str, least: u32, most: u32) -> Result<u32, Error>
         ensures { IfOk result (λ n. (least ≤ n) × (n ≤ most)) }
     {
         let value = self.options.get_str(name);
@@ -323,8 +341,12 @@ impl<'a> Values<'_, 'a> {
     }
 
     // The error of an option whose value is none that it takes.
-    fn refused(&self, name: &str, wanted: &str) -> Result<Error, AllocError> {
-        let value = self.options.get_str(name).unwrap_or("");
+    pub(crate) fn refused(&self, name: &str, wanted: &str) -> Result<Error, AllocError> {
+        self.wrong(name, self.options.get_str(name).unwrap_or(""), wanted)
+    }
+
+    // The error of this value of an option.
+    pub(crate) fn wrong(&self, name: &str, value: &str, wanted: &str) -> Result<Error, AllocError> {
         let message = format!(in self.alloc; "the value '{value}' of '--{name}' is not {wanted}")?;
         let mut command = subcommand(self.alloc, self.command)?;
         command.error(ErrorKind::ValueValidation, message.as_str())
@@ -342,7 +364,7 @@ fn decimal(text: &str) -> Option<u64>
 }
 
 // How many bytes a text names: a decimal number, of KiB with a `K` behind it and of MiB with an `M`.
-fn byte_count(text: &str) -> Option<u64> {
+pub(crate) fn byte_count(text: &str) -> Option<u64> {
     if let Some(kilobytes) = text.strip_suffix('K') {
         return decimal(kilobytes)?.checked_mul(1 << 10);
     }

@@ -16,7 +16,8 @@ use std::time::Clock;
 // r0 = 0, and exit.
 const EXIT_ZERO: &str = "b700000000000000 9500000000000000";
 
-// What is told of a reader that fails behind the program, and of a writer that has room for so many bytes, or can't be flushed.
+// Returns what is reported about a reader that fails after the program, and about a writer with room for `room` bytes,
+// or one that can't be flushed.
 fn told_of_trouble<T: Abort + Threads + Wait + Sync + Files<File = File> + Clock + Eprint>(
     rt: &T,
     alloc: Global,
@@ -40,7 +41,7 @@ fn told_of_trouble<T: Abort + Threads + Wait + Sync + Files<File = File> + Clock
 }
 
 #[test]
-// A beginning of the text was printed where a write fails, and nothing where a read does.
+// If a write fails, a prefix of the text was printed; if a read fails, nothing was.
 fn check_with_devices_that_fail(rt: HostRuntime) {
     let rows = [
         (

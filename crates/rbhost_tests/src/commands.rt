@@ -1,4 +1,4 @@
-//! Commands, with all that they print.
+//! Commands, with everything that they print.
 
 use crate::endings::{ended, ending};
 use crate::expected::{same, same_of};
@@ -13,10 +13,10 @@ use std::sync::Wait;
 use std::thread::Threads;
 use std::time::Clock;
 
-// One byte and none.
+// A payload of one byte, and an empty one.
 const TWO: [u8; 9] = [1, 0, 0, 0, 0xff, 0, 0, 0, 0];
 
-// Whether the words print a help that ends in one line feed, and nothing is read or told.
+// Returns whether the arguments print a help text that ends with a single line feed, while nothing is read or reported.
 fn is_help<T: Threads + Wait + Sync + Files<File = File> + Clock + Eprint>(
     rt: &T,
     alloc: Global,
@@ -51,7 +51,7 @@ fn help(rt: HostRuntime) {
     }
 }
 
-// What `feed` ends with over this reader and writers with so much room, and how many bytes it wrote.
+// Returns the status of `feed` over this reader and a writer with `room` bytes of room, and how many bytes it wrote.
 fn fed_with<T: Abort + Threads + Wait + Sync + Files<File = File> + Clock + Eprint>(
     rt: &T,
     alloc: Global,
@@ -121,7 +121,7 @@ fn positions_that_cannot_be_told(rt: HostRuntime) {
     same(&rt, &(ending.as_str(), written), &("1 pro", 24));
 }
 
-// What `feed --why` ends with over this reader and this writer.
+// Returns the status of `feed --why` over this reader and this writer.
 fn fed_with_reason<T: Abort + Threads + Wait + Sync + Files<File = File> + Clock + Eprint>(
     rt: &T,
     alloc: Global,

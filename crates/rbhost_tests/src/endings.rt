@@ -1,4 +1,4 @@
-//! What commands end with, as one text or one answer.
+//! The results of commands, as one text or one status.
 
 use crate::fakes::FakeReader;
 use rb_command_line::{Terminals, command};
@@ -11,7 +11,7 @@ use std::sync::Wait;
 use std::thread::Threads;
 use std::time::Clock;
 
-/// The status, what was told on the error output, and what was printed, which is text too.
+/// Returns the status, what was reported on stderr, and what was printed, which must be text, too.
 pub(crate) fn ended<T: Abort + Threads + Wait + Sync + Files<File = File> + Clock + Eprint>(
     rt: &T,
     alloc: Global,
@@ -21,7 +21,7 @@ pub(crate) fn ended<T: Abort + Threads + Wait + Sync + Files<File = File> + Cloc
     ended_over(rt, alloc, words, FakeReader::new(input, 7))
 }
 
-/// The same, over this reader.
+/// Returns the same, over this reader.
 pub(crate) fn ended_over<T: Abort + Threads + Wait + Sync + Files<File = File> + Clock + Eprint>(
     rt: &T,
     alloc: Global,
@@ -42,7 +42,7 @@ pub(crate) fn ended_over<T: Abort + Threads + Wait + Sync + Files<File = File> +
     ending(rt, alloc, status, &told, &printed)
 }
 
-/// The status, what was told, and what was printed, as one text.
+/// Returns the status, what was reported, and what was printed, as one text.
 pub(crate) fn ending(
     rt: &impl Abort,
     alloc: Global,
@@ -55,7 +55,7 @@ pub(crate) fn ending(
     format!(in alloc; "{status} {told}{printed}").expect(rt, "memory")
 }
 
-/// The number at a place of a line's words; none is the greatest.
+/// Returns the number at an index of a line's words, or the greatest number if there is none.
 pub(crate) fn number(line: &str, place: usize) -> u64 {
     match line.split(' ').nth(place) {
         Some(word) => word.parse().unwrap_or(u64::MAX),

@@ -1,14 +1,14 @@
-//! What the tests compare, in one call that ends the test where it fails.
+//! Comparisons that end the test if they fail.
 
 use std::fmt::Debug;
 use std::process::Abort;
 
-/// Ends the test where the two differ, and prints both.
+/// Ends the test if the two differ, and prints both.
 pub(crate) fn same<T: PartialEq + Debug>(rt: &impl Abort, found: &T, wanted: &T) {
     assert_eq!(rt; *found, *wanted);
 }
 
-/// Ends the test where the two differ, and prints both and the row of the table that they are of.
+/// Ends the test if the two differ, and prints both and the row of the table that they belong to.
 pub(crate) fn same_of<T: PartialEq + Debug>(
     rt: &impl Abort,
     found: &T,

@@ -1,10 +1,10 @@
-//! Readers and writers that give and take little at a time, and fail.
+//! Readers and writers that transfer little at a time, and fail.
 
 use rb_io::Outgoing;
 use std::alloc::Global;
 use std::io::{Error, ErrorKind, Read, Result, Write};
 
-/// Gives its bytes, at most `most` at a time, and then the end, or fails if it has a `fault`.
+/// A reader that gives its bytes, at most `most` at a time, and then the end, or fails if it has a `fault`.
 #[derive(Drop)]
 pub struct FakeReader<'a> {
     pub rest: &'a [u8],
@@ -46,14 +46,14 @@ impl Read for FakeReader<'_> {
     }
 }
 
-/// What a `FakeWriter` does when its room is used up.
+/// What a `FakeWriter` does when its room is exhausted.
 #[derive(Clone, Copy)]
 pub enum Trouble {
     TakesNothing,
     Fails(ErrorKind),
 }
 
-/// Takes bytes, at most `most` at a time, until `room` is used up.
+/// A writer that accepts bytes, at most `most` at a time, until `room` is exhausted.
 #[derive(Drop)]
 pub struct FakeWriter {
     pub taken: Vec<u8>,
@@ -76,7 +76,7 @@ impl FakeWriter {
         }
     }
 
-    /// One that takes all.
+    /// Returns a writer that accepts everything.
     pub(crate) fn open(alloc: Global) -> FakeWriter {
         FakeWriter::new(alloc, usize::MAX, usize::MAX, Trouble::TakesNothing)
     }
@@ -121,7 +121,7 @@ impl Outgoing for FakeWriter {
     }
 }
 
-/// Takes one byte a write, but for the write of number `fails_at`, counted from 1, which fails.
+/// A writer that accepts one byte in each write, except for write number `fails_at`, counted from 1, which fails.
 #[derive(Drop)]
 pub struct OneFailure {
     pub taken: Vec<u8>,
@@ -176,8 +176,8 @@ impl Outgoing for OneFailure {
     }
 }
 
-/// A writer over one that fails once, which fails once more: at the write of number `fails_at`, counted from 1. Its first `opens` calls of
-/// `write_out` succeed, and the `closed` calls after them fail.
+/// A writer over one that fails once, which fails a second time: at write number `fails_at`, counted from 1. Its first
+/// `opens` calls of `write_out` succeed, and the `closed` calls after them fail.
 #[derive(Drop)]
 pub struct MoreFailures {
     pub inner: OneFailure,

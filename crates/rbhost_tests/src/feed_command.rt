@@ -1,4 +1,4 @@
-//! Payloads in, their tape out, over devices that fail.
+//! Feeding payloads and writing their tape, over devices that fail.
 
 ghost use Rattle.std.specs.Prelude.{◌≤◌};
 
@@ -10,7 +10,7 @@ use std::alloc::Global;
 use std::io::ErrorKind;
 use std::process::Abort;
 
-// One byte and none, and their tape.
+// A payload of one byte, and an empty one, and their tape.
 const TWO: [u8; 9] = [1, 0, 0, 0, 0xff, 0, 0, 0, 0];
 
 const TWO_TAPE: [u8; 24] = [
@@ -18,7 +18,7 @@ const TWO_TAPE: [u8; 24] = [
     0, 0, 0, 0, 0, 0, 0, 0, // none
 ];
 
-// What is answered of a feed of these payloads, what was written, and how much of it was flushed.
+// The result of a feed of these payloads, what was written, and how much of it was flushed.
 type Fed = (Result<(u64, u64), FeedFault>, Vec<u8>, usize);
 
 fn feed_to(alloc: Global, reader: FakeReader<'_>, sink: FakeWriter) -> Fed {
@@ -55,7 +55,8 @@ fn readers_that_fail(rt: HostRuntime) {
     }
 }
 
-// Ends the test where what went out to a writer with so much room, which takes so many bytes at most, is no beginning of the tape.
+// Ends the test unless the output to a writer with `room` bytes of room, which accepts at most `most` bytes at a time,
+// is a prefix of the tape.
 fn stops(rt: &impl Abort, alloc: Global, room: usize, most: usize, trouble: Trouble)
     requires { room ≤ 24 }
 {
@@ -75,7 +76,7 @@ fn stops(rt: &impl Abort, alloc: Global, room: usize, most: usize, trouble: Trou
 }
 
 #[test]
-// Wherever a write fails or takes nothing, what went out is a beginning of the tape.
+// Wherever a write fails or accepts nothing, the output is a prefix of the tape.
 fn writers_that_stop(rt: HostRuntime) {
     for trouble in &[
         Trouble::TakesNothing,
@@ -90,12 +91,12 @@ fn writers_that_stop(rt: HostRuntime) {
     }
 }
 
-// How many bytes of the input's tape are flushed.
+// Returns how many bytes of the input's tape are flushed.
 fn flushed(alloc: Global, input: &[u8]) -> usize {
     feed_to(alloc, FakeReader::new(input, 100), FakeWriter::open(alloc)).2
 }
 
-// What is answered where each flush fails, and how much was written: the first flush comes before the first read.
+// Returns the result if each flush fails, and how much was written: the first flush comes before the first read.
 fn unflushed(alloc: Global, input: &[u8]) -> (Result<(u64, u64), FeedFault>, usize) {
     let mut failing = FakeWriter::open(alloc);
     failing.flush_fails = true;

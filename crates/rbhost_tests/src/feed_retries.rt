@@ -1,4 +1,4 @@
-//! Writing that goes on after a write that failed.
+//! Writing that continues after a write that failed.
 
 use crate::endings::ending;
 use crate::expected::same_of;
@@ -20,7 +20,7 @@ const ONE: [u8; 12] = [8, 0, 0, 0, 0x2a, 0, 0, 0, 0, 0, 0, 0];
 
 const ONE_TAPE: [u8; 16] = [8, 0, 0, 0, 0, 0, 0, 0, 0x2a, 0, 0, 0, 0, 0, 0, 0];
 
-// What `feed` answers over a writer that takes one byte a write and fails once, and what went out.
+// Returns the result of `feed` over a writer that accepts one byte in each write and fails once, and its output.
 fn fed(
     alloc: Global,
     fails_at: usize,
@@ -42,7 +42,7 @@ const TROUBLES: [Trouble; 3] = [
 ];
 
 #[test]
-// At each write, without a retry the bytes before went out.
+// For each write that fails without a retry, the bytes before it were written.
 fn one_write_fails(rt: HostRuntime) {
     for trouble in &TROUBLES {
         for k in 1..17usize {
@@ -58,7 +58,7 @@ fn one_write_fails(rt: HostRuntime) {
 }
 
 #[test]
-// At each write, with a retry all bytes went out.
+// For each write that fails, with a retry all bytes were written.
 fn one_write_is_tried_again(rt: HostRuntime) {
     for trouble in &TROUBLES {
         for k in 1..17usize {
@@ -73,7 +73,7 @@ fn one_write_is_tried_again(rt: HostRuntime) {
     }
 }
 
-// The same by the command: its status, what it told, and what went out.
+// Returns the same for the command: its status, what it reported, and its output.
 fn told<T: Abort + Threads + Wait + Sync + Files<File = File> + Clock + Eprint>(
     rt: &T,
     alloc: Global,
@@ -103,7 +103,7 @@ const TOLD_TROUBLES: [Trouble; 2] = [
 ];
 
 #[test]
-// Without a retry the command is refused. The last handing on comes in any case, and what the failed write left goes out there.
+// Without a retry the command is refused. The last flush comes in any case, and writes what the failed write left.
 fn one_write_of_the_command_fails(rt: HostRuntime) {
     for trouble in &TOLD_TROUBLES {
         for k in 1..17usize {
@@ -133,7 +133,8 @@ fn one_write_of_the_command_is_tried_again(rt: HostRuntime) {
     }
 }
 
-// What is answered of a hundred retries of a writer that has room for so many bytes and then fails again and again, and what went out.
+// Returns the result of a hundred retries over a writer that has room for `room` bytes and then fails again and again,
+// and its output.
 fn retried(alloc: Global, room: usize) -> (Result<(u64, u64), FeedFault>, Vec<u8>) {
     let sink = FakeWriter::new(alloc, room, 3, Trouble::TakesNothing);
     let Ok(mut reader) = ReadAhead::new(alloc, FakeReader::new(&ONE, 5)) else {

@@ -13,7 +13,7 @@ use std::sync::Wait;
 use std::thread::Threads;
 use std::time::Clock;
 
-// Gives this byte for ever, or so often and then the end.
+// A reader that gives this byte for ever, or a number of times and then the end.
 #[derive(Drop)]
 struct Repeated {
     byte: u8,
@@ -31,7 +31,7 @@ impl Read for Repeated {
     }
 }
 
-// What a command ends with over this reader, with these streams as terminals.
+// Returns the result of a command over this reader, with these streams as terminals.
 fn ended_at<T: Abort + Threads + Wait + Sync + Files<File = File> + Clock + Eprint>(
     rt: &T,
     alloc: Global,
@@ -54,7 +54,7 @@ fn ended_at<T: Abort + Threads + Wait + Sync + Files<File = File> + Clock + Epri
 }
 
 #[test]
-// A byte that is no digit decides at once, and of a text that is too long for a program the digits after it are counted.
+// A byte that is no digit decides at once; the digits of a text that is too long for a program are counted to its end.
 fn text_is_read_as_far_as_needed(rt: HostRuntime) {
     let rows = [
         (0, None, "1 refused text\n"),
@@ -73,7 +73,7 @@ fn text_is_read_as_far_as_needed(rt: HostRuntime) {
 }
 
 #[test]
-// A file is read in the place of the input, and `-` is the input.
+// A file is read in place of stdin, and `-` is stdin.
 fn a_file_is_read(rt: HostRuntime) {
     let path = "a_program_that_is_read";
     let program = b"b700000000000000 9500000000000000";
@@ -96,7 +96,7 @@ fn a_file_is_read(rt: HostRuntime) {
 }
 
 #[test]
-// A terminal at standard error asks for reasons, as `--why` does, unless `--no-why` is there.
+// If stderr is a terminal, reasons are printed, as with `--why`, unless `--no-why` is given.
 fn a_terminal_asks_for_reasons(rt: HostRuntime) {
     let reason =
         "1 byte 0 of standard input is 'z', neither a hex digit nor white space\nrefused text\n";

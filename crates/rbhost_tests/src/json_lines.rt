@@ -1,4 +1,4 @@
-//! Lines of JSON, of `tape`, `check`, `run` and `explain`.
+//! JSON lines of `tape`, `check`, `run` and `explain`.
 
 use crate::endings::ended;
 use crate::expected::same_of;
@@ -22,10 +22,10 @@ const TEXT_TAPE: [u8; 32] = [
     0, 0, 0, 0, 0, 0,
 ];
 
-// A byte that is no UTF-8.
+// A byte that is not UTF-8.
 const BYTE_TAPE: [u8; 16] = [1, 0, 0, 0, 0, 0, 0, 0, 0xff, 0, 0, 0, 0, 0, 0, 0];
 
-// Looks whether each command line ends, over its input, with what begins so.
+// Checks that the result of each command line, over its input, begins with this text.
 fn each_ends_so<T: Abort + Threads + Wait + Sync + Files<File = File> + Clock + Eprint>(
     rt: &T,
     alloc: Global,

@@ -1,4 +1,4 @@
-//! Runs that are refused, over a file of a tape that is there.
+//! Runs that are refused, with an existing tape file.
 
 use crate::endings::ended;
 use crate::expected::same_of;
@@ -15,7 +15,8 @@ use std::time::Clock;
 const OUTPUT_CONTEXT: &[u8] = b"bf12000000000000 1851000000000000 0000000000000000
     b703000008000000 b704000000000000 8500000082000000 9500000000000000";
 
-// What the command ends with over this program, with the ring's size and start and the number of workers, and a tape in this file.
+// Returns the result of the command over this program, with the ring's size and start and the number of workers, and a
+// tape in this file.
 fn refused_with<
     T: Abort + AllocGlobal + Threads + Wait + Sync + Files<File = File> + Clock + Eprint,
 >(rt: &T, path: &str, ring: [&str; 3], program: &[u8]) -> String {
@@ -38,7 +39,7 @@ fn refused_with<
 const KEPT: &[u8] = b"what was there";
 
 #[test]
-// Each refusal of the program and the ring comes before the file is touched: one that is there stays as it was.
+// Each refusal of the program and the ring comes before the file is touched: an existing file does not change.
 fn a_refused_run_leaves_the_file_that_is_there(rt: HostRuntime) {
     let path = "kept_by_refused_runs";
     let fine = ["4096", "8", "1"];

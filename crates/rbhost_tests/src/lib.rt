@@ -1,5 +1,6 @@
-//! Tests of the program by its command line, over readers and writers in memory that fail, and of `feed`, `tape` and `run_taped` over such writers.
-//! Command lines over devices that do not fail are rows of `rb_program_rows`, but for those with lines of JSON.
+//! Tests of the program by its command line, over readers and writers in memory that fail, and of `feed`, `tape` and
+//! `run_taped` over such writers. Command lines over devices that do not fail are rows of `rb_program_rows`, except for
+//! those with JSON lines.
 #![tactic(auto)]
 
 #[cfg(test)]

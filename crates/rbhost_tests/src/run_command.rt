@@ -1,18 +1,18 @@
-//! The command `run` with more than one outcome.
+//! The command `run` with more than one possible result.
 
 use crate::endings::{ended, number};
 use crate::expected::{same, same_of};
 use std::alloc::Global;
 use std::process::Abort;
 
-// Reserves a record of eight bytes, and submits 42 where it was granted.
+// Reserves a record of eight bytes, and submits 42 if it was granted.
 const SUBMIT_42: &str = "1851000000000000 0000000000000000
     b702000008000000 b703000000000000 8500000083000000
     1500040000000000 7a0000002a000000 bf01000000000000 b702000000000000 8500000084000000
     b700000000000000 9500000000000000";
 
-// What the line says was made, where it is this worker's line of a worker whose hundred jobs were granted or refused a record each, and
-// submitted each that was granted; else the greatest number.
+// Returns the number of records made by the line of this worker, if all of the worker's hundred jobs were granted or
+// refused a record each and submitted the granted ones; otherwise the greatest number.
 fn made_by(line: &str, worker: u64) -> u64 {
     let made = number(line, 3);
     let is_its_own = number(line, 1) == worker;
@@ -25,7 +25,7 @@ fn made_by(line: &str, worker: u64) -> u64 {
     }
 }
 
-// What the first four lines say was made in all, and how many lines these are.
+// Returns the number of records made by the first four lines together, and the number of these lines.
 fn made_by_all(text: &str) -> (u64, u64) {
     let mut all = 0u64;
     let mut workers = 0u64;
@@ -36,7 +36,7 @@ fn made_by_all(text: &str) -> (u64, u64) {
     (all, workers)
 }
 
-// The last lines of a run that consumed all that was made.
+// Returns the last lines of a run that consumed all records.
 fn end_of(rt: &impl Abort, alloc: Global, all: u64) -> String {
     let text = format!(in alloc;
         "ring made {all} consumed {all} discarded 0 waiting 0 busy 0\nstrays 0\n"

@@ -16,7 +16,7 @@ const ONE_RECORD: [u8; 16] = [8, 0, 0, 0, 0, 0, 0, 0, 0x2a, 0, 0, 0, 0, 0, 0, 0]
 const WORDS: [&str; 3] = ["tape", "--size", "4096"];
 
 #[test]
-// Wherever a read fails, the lines of the records before were printed.
+// Wherever a read fails, the lines of the records before it were printed.
 fn reads_that_fail(rt: HostRuntime) {
     for kind in &[ErrorKind::BrokenPipe, ErrorKind::Interrupted] {
         for end in &[0usize, 5, 15, 16] {
@@ -32,7 +32,7 @@ fn reads_that_fail(rt: HostRuntime) {
     }
 }
 
-// What `tape` answers over these bytes and a writer with so much room, and what was printed.
+// Returns the result of `tape` over these bytes and a writer with `room` bytes of room, and what was printed.
 fn printed(alloc: Global, bytes: &[u8], room: usize) -> (Result<(), TapeRefusal>, Vec<u8>) {
     let mut sink = FakeWriter::new(alloc, room, 3, Trouble::TakesNothing);
     let Ok(mut reader) = ReadAhead::new(alloc, FakeReader::new(bytes, 5)) else {

@@ -21,7 +21,7 @@ use std::time::Clock;
 const OUTPUT_CONTEXT: &str = "bf12000000000000 1851000000000000 0000000000000000
     b703000008000000 b704000000000000 8500000082000000 9500000000000000";
 
-// The program that outputs the first eight bytes of its context: its worker's number.
+// Returns the program that outputs the first eight bytes of its context: its worker's number.
 fn output_context(rt: &(impl Abort + AllocGlobal)) -> Verified
     ensures rings { result.rings ≡ 1 }
 {
@@ -32,7 +32,8 @@ fn output_context(rt: &(impl Abort + AllocGlobal)) -> Verified
     }
 }
 
-// What is printed by a run of so many workers and jobs whose tape goes to this writer, and the tape. Each record has room, so nothing is told beside it.
+// Returns what a run with these workers and jobs prints while its tape goes to this writer, and the tape. There is room
+// for each record, so nothing else is reported.
 fn run_over<T: Abort + AllocGlobal + Threads + Wait + Sync + Files<File = File> + Clock + Eprint>(
     rt: &T,
     workers: u64,
@@ -62,7 +63,7 @@ fn run_over<T: Abort + AllocGlobal + Threads + Wait + Sync + Files<File = File> 
     (printed, written)
 }
 
-// How many of a tape's lines are of a record of eight bytes that tells this worker's number.
+// Returns how many of a tape's lines are records of eight bytes with this worker's number.
 fn records_of(rt: &(impl Abort + AllocGlobal), lines: &str, worker: u64) -> u64 {
     let end = format!(in rt.alloc(); " len 8 0{worker}00000000000000").expect(rt, "memory");
     let mut count = 0u64;
@@ -74,7 +75,7 @@ fn records_of(rt: &(impl Abort + AllocGlobal), lines: &str, worker: u64) -> u64 
     count
 }
 
-// How many records of four workers are on the tape, each as often as its worker's line says.
+// Returns how many records of four workers are on the tape, each as often as its worker's line says.
 fn counted_on_tape(rt: &(impl Abort + AllocGlobal), printed: &str, lines: &str) -> u64 {
     let mut counted = 0u64;
     for (worker, line) in printed.lines().take(4).enumerate() {
@@ -109,7 +110,7 @@ strays 0
 ";
 
 #[test]
-// Wherever a write fails, the tape ends there, and the run goes on.
+// Wherever a write fails, the tape ends there, and the run continues.
 fn writes_that_fail(rt: HostRuntime) {
     for trouble in &[
         Trouble::TakesNothing,
@@ -144,7 +145,7 @@ fn a_flush_that_fails(rt: HostRuntime) {
     );
 }
 
-// What the command ends with, with a tape in this file and so many workers.
+// Returns the result of the command with a tape in this file and these workers.
 fn taped<T: Abort + AllocGlobal + Threads + Wait + Sync + Files<File = File> + Clock + Eprint>(
     rt: &T,
     path: &str,
@@ -165,19 +166,19 @@ fn taped<T: Abort + AllocGlobal + Threads + Wait + Sync + Files<File = File> + C
     ended(rt, rt.alloc(), &words, program.as_bytes())
 }
 
-// What the run of three records prints, behind this.
+// Returns what the run of three records prints, after this text.
 fn before_three(rt: &(impl Abort + AllocGlobal), head: &str) -> String {
     format!(in rt.alloc(); "{head}{THREE_PRINTED}").expect(rt, "memory")
 }
 
-// Ends the test where the command with a tape in this file ended otherwise.
+// Ends the test unless the command with a tape in this file had this result.
 fn is_told(rt: &impl Abort, ending: &String, wanted: &str, path: &str) {
     assert_eq!(rt; ending.as_str(), wanted, "of {path}");
 }
 
 #[test]
-// A file that can't be made is told behind the refusals of the program and the ring, and before anything is printed; one that can't be written
-// behind what is printed.
+// A file that can't be created is reported after the refusals of the program and the ring, and before anything is
+// printed; one that can't be written is reported after what is printed.
 fn files_of_tapes(rt: HostRuntime) {
     let whole = before_three(&rt, "0 ");
     let not_whole = before_three(&rt, "1 refused device\n");

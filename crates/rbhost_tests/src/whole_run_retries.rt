@@ -1,4 +1,4 @@
-//! The retries of a whole run: those of all payloads, and of each handing on.
+//! The retries of a whole run, which cover all payloads and all flushes.
 
 use crate::expected::same_of;
 use crate::fakes::{FakeReader, MoreFailures, OneFailure, Trouble};
@@ -16,8 +16,9 @@ const TWO_TAPES: [u8; 32] = [
     0, 0,
 ];
 
-// What `feed` answers of the two payloads, which come in one read, over a writer that takes one byte a write and fails at these two writes, and of whose
-// calls to hand on the first `opens` succeed and the next `closed` fail; how many bytes went out, and whether they are the first ones of the tape.
+// Returns the result of `feed` for the two payloads, which arrive in one read, over a writer that accepts one byte in
+// each write and fails at these two writes, and whose first `opens` flushes succeed while the next `closed` fail; how
+// many bytes were written, and whether they are a prefix of the tape.
 fn fed_two(
     alloc: Global,
     (first, second): (usize, usize),
@@ -40,7 +41,8 @@ fn fed_two(
 }
 
 #[test]
-// A failure in each of two payloads: one retry is for the whole run, so the tape ends in the second one; two are enough.
+// A failure in each of two payloads: one retry covers the whole run, so the tape ends in the second payload; two are
+// enough.
 fn retries_are_for_the_whole_run(rt: HostRuntime) {
     for (first, second, out) in [(1, 18, 16), (9, 25, 23), (16, 33, 31)] {
         let cut = fed_two(rt.alloc(), (first, second), (0, 0), 1);
@@ -58,8 +60,8 @@ fn retries_are_for_the_whole_run(rt: HostRuntime) {
 }
 
 #[test]
-// Each handing on has the retries that the writes before it left: that before the first read, that before the second, and the last one. Without enough of
-// them the first one leaves none for the write that fails in the first payload.
+// Each flush has the retries that the writes before it left: the one before the first read, the one before the second,
+// and the last one. Without enough of them, the first one leaves none for the write that fails in the first payload.
 fn each_handing_on_is_tried_again(rt: HostRuntime) {
     for (opens, out_then) in [(0, 8), (1, 32), (2, 32)] {
         for (closed, retries, is_out) in [

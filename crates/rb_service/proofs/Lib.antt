@@ -1,0 +1,6 @@
+pub mod Dealt
+pub mod Opening
+pub mod Plans
+pub mod Printing
+pub mod Refusing
+pub mod Served

@@ -1,0 +1,8 @@
+use Rattle.std.proofs.Common.{◌≡◌, rules}
+use Rattle.rb_service.proofs.Printing.{other_written}
+use Rattle.rb_service.proofs.counters.push_other.Goals as goal
+
+pub returns : goal.returns
+returns c =
+    let some : ¬ (c.args.runs ≡ 0) = search rules in
+    record { line = other_written _ _ _ c.args.program c.args.runs some c.writeln.ensures.bytes }
