@@ -1,4 +1,4 @@
--- Laws of pieces that are dealt one after another.
+-- Laws about pieces that are dealt one after another.
 use Rattle.std.proofs.Common.{◌≡◌, ◌≢◌, ℕ, ◌+◌, ◌<◌, Bool, cond, List, [], ◌∷◌, ◌++◌, Option, None, Some, length, get_or, set, filter, refl, sym, ap, ◌∙◌, subst, append-nil, append_assoc, arith, zero, suc, ⊎_elim}
 use Rattle.std.specs.Prelude.{is_none, IfSome}
 use Rattle.std.proofs.lemmas.Bool.{cases_eq, eq-eqb, ne_eqb}
@@ -44,7 +44,7 @@ fed_on os bs cs ps qs one two = (
       (gets_on (get_or os k d) (get_or bs k d) (get_or cs k d) (dealt_to k ps) (dealt_to k qs) (one.1 k d below) (two.1 k d (let e = one.0 in omega (arith, e, below)))),
 )
 
--- one queue was looked at, or got a piece
+-- one queue was polled, or got a piece
 set_length : (fs : List LaneFeed) (at : ℕ) (f : LaneFeed) → length (set fs at f) ≡ length fs
 set_length [] at f = refl
 set_length (x ∷ fs) zero f = refl
@@ -119,14 +119,14 @@ deals_on ps qs os bs cs a b c one two =
       dropped_are = omega (arith, lost, d₁, d₂);
     }
 
--- the feeds were looked at
+-- the feeds were polled
 pub deals_looked : (ps : List DealtPiece) (os bs cs : List LaneFeed) (a b : Dealing) → Deals ps os bs a b → Fed bs [] cs → Deals ps os cs a b
 deals_looked ps os bs cs a b one two = record { known = one.known; fed = subst (λ l. Fed os l cs) (append-nil ps) (fed_on os bs cs ps [] one.fed two); contexts_are = one.contexts_are; dropped_are = one.dropped_are }
 
 -- ---- what the source gave
 
 module _ {I : Type 0} (gives : I → List (List ℕ) → I → Type 0) (both : (x y z : I) (xs ys : List (List ℕ)) → gives x xs y → gives y ys z → gives x (xs ++ ys) z) where
-  -- one piece more
+  -- one more piece
   pub given_piece : (s t u : I) (contexts : List (List ℕ)) (os bs cs es : List LaneFeed) (a b c : Dealing) → DealsGiven gives s t os bs a b → Fed bs [] cs → gives t contexts u → DealsPiece contexts cs es b c → DealsGiven gives s u os es a c
   given_piece s t u contexts os bs cs es a b c one looked gave more =
       let p : DealtPiece = record { contexts = contexts; worker = more.0 } in

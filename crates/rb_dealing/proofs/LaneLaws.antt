@@ -1,4 +1,4 @@
--- Laws of lanes that run one piece after another.
+-- Laws about lanes that run one piece after another.
 use Rattle.std.proofs.Common.{◌≡◌, ◌≢◌, ℕ, ◌+◌, ◌<◌, ⊎_elim, get_or, set, length, arith, List, [], ◌∷◌, ◌++◌, refl, sym, ap, ◌∙◌, subst, append-nil, append_assoc}
 use Rattle.std.proofs.lemmas.List.Concat.{flat_map-append}
 use Rattle.rtrb.specs.Ring.{received, SameConsumer}
@@ -22,7 +22,7 @@ module _ {W : Type 0} (ready : W → Type 0) (runs : W → List (List ℕ) → W
     ready_still = is;
   }
 
-  -- the queue was looked at
+  -- the queue was polled
   pub lane_looked : (a b c : Lane W) → LaneRan ready runs a b → SameConsumer b.pieces c.pieces → received c.pieces ≡ received b.pieces → c.worker ≡ b.worker → LaneRan ready runs a c
   lane_looked a b c one same none stays = record {
     contexts = one.contexts;
@@ -32,7 +32,7 @@ module _ {W : Type 0} (ready : W → Type 0) (runs : W → List (List ℕ) → W
     ready_still = subst ready (sym stays) one.ready_still;
   }
 
-  -- one piece more was taken and run
+  -- one more piece was taken and run
   pub lane_more : ((x y z : W) (xs ys : List (List ℕ)) → runs x xs y → runs y ys z → runs x (xs ++ ys) z)
       → (a b c : Lane W) (piece : PieceContents) (q : _) → LaneRan ready runs a b → SameConsumer b.pieces q → received q ≡ received b.pieces ++ piece ∷ [] → c.pieces ≡ q → runs b.worker piece.contexts c.worker → ready c.worker → LaneRan ready runs a c
   lane_more both a b c piece q one same more is_q ran is = record {
@@ -50,7 +50,7 @@ module _ {W : Type 0} (ready : W → Type 0) (runs : W → List (List ℕ) → W
     ready_still = is;
   }
 
-  -- one lane more was finished
+  -- one more lane was finished
   pub finished_more : (feeds : List LaneFeed) (olds lanes : List (Lane W)) (at : ℕ) (f : LaneFeed) (l new : Lane W) → at < length lanes → at < length feeds → at < length olds → LaneFinished ready runs (get_or feeds at f) (get_or olds at l) new
       → ((k : ℕ) (d : LaneFeed) (e : Lane W) → k < at → LaneFinished ready runs (get_or feeds k d) (get_or olds k e) (get_or lanes k e))
       → (k : ℕ) (d : LaneFeed) (e : Lane W) → k < at + 1 → LaneFinished ready runs (get_or feeds k d) (get_or olds k e) (get_or (set lanes at new) k e)
@@ -64,7 +64,7 @@ module _ {W : Type 0} (ready : W → Type 0) (runs : W → List (List ℕ) → W
       (λ (other : k ≢ at). subst (LaneFinished ready runs (get_or feeds k d) (get_or olds k e)) (sym (get_or-set_other lanes at k new e other)) (before k d e (omega arith)))
       (cases_eq k at)
 
--- ---- one lane more
+-- ---- one more lane
 
 pub feeds_more : {W : Type 0} (feeds : List LaneFeed) (lanes : List (Lane W)) (f : LaneFeed) (l : Lane W) → AreFeedsOf feeds lanes → IsFeedOf f l → AreFeedsOf (feeds ++ f ∷ []) (lanes ++ l ∷ [])
 feeds_more {W} feeds lanes f l pairs one =

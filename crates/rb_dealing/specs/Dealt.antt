@@ -1,7 +1,7 @@
 -- How the contexts of a stream are dealt to workers (own).
 use Rattle.std.specs.Prelude.{ℕ, ◌-◌, ◌<◌, ◌^◌, ◌==◌, min, Bool, false, List, filter, flat_map, All, IfSome, Option, None, Some, is_none}
 
--- contexts that were dealt together, in their order: the worker that got them, or none if they were dropped
+-- contexts that were dealt together, in order: the worker that got them, or none if they were dropped
 pub record DealtPiece : Type 0 where
   pub contexts : List (List ℕ)
   pub worker : Option ℕ
@@ -22,10 +22,10 @@ dealt_to k pieces = contexts_in (filter (λ p. is_worker k p.worker) pieces)
 abbrev pub dropped_in : List DealtPiece → List (List ℕ)
 dropped_in pieces = contexts_in (filter (λ p. is_none p.worker) pieces)
 
--- each piece was dealt to one of so many workers, or dropped
+-- each piece was dealt to one of `count` workers, or dropped
 abbrev pub AreDealtAmong : ℕ → List DealtPiece → Type 0
 AreDealtAmong count pieces = All (λ p. IfSome p.worker (λ k. k < count)) pieces
 
--- a count in 64 bits, which stays at the greatest number
+-- a 64-bit count, which saturates at the greatest number
 abbrev pub saturated : ℕ → ℕ
 saturated n = min n (2 ^ 64 - 1)

@@ -12,7 +12,7 @@ IsFeedOf feed lane = IsPair feed.pieces lane.pieces
 abbrev pub IsEmptyQueue : {W : Type 0} → LaneFeed → Lane W → Type 0
 IsEmptyQueue feed lane = (sent feed.pieces ≡ []) × (received lane.pieces ≡ [])
 
--- each feed is that of the lane beside it
+-- each feed belongs to the lane at the same index
 abbrev pub AreFeedsOf : {W : Type 0} → List LaneFeed → List (Lane W) → Type 0
 AreFeedsOf {W} feeds lanes = (length feeds ≡ length lanes) × ((k : ℕ) (d : LaneFeed) (e : Lane W) → k < length lanes → IsFeedOf (slice_index_or feeds k d) (slice_index_or lanes k e))
 

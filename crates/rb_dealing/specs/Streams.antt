@@ -7,8 +7,8 @@ use Rattle.rb_dealing.specs.declared.dealing.DealEnd.{DealEnd}
 use Rattle.rb_dealing.specs.declared.dealing.DealEnd.TheVariants.{Over, Memory, Failed, Short}
 use Rattle.rb_dealing.specs.declared.lane.Lane.{Lane}
 
--- Pieces of the contexts that the source gave, in order, were each dealt to one worker or dropped; each worker ran just the contexts that
--- were dealt to it, each once and in order; and all and those that were dropped were counted.
+-- Pieces of the contexts that the source gave, in order, were each dealt to one worker or dropped. Each worker ran
+-- exactly the contexts that were dealt to it, each once and in order. All contexts and the dropped ones were counted.
 pub record RunsStream {I W : Type 0} (gives : I → List (List ℕ) → I → Type 0) (ready : W → Type 0) (runs : W → List (List ℕ) → W → Type 0) (source later : I) (old new : List (Lane W)) (dealt : Dealt) : Type 0 where
   pub pieces : List DealtPiece
   pub gave : gives source (contexts_in pieces) later
@@ -19,7 +19,7 @@ pub record RunsStream {I W : Type 0} (gives : I → List (List ℕ) → I → Ty
   pub contexts_are : dealt.contexts ≡ saturated (length (contexts_in pieces))
   pub dropped_are : dealt.dropped ≡ saturated (length (dropped_in pieces))
 
--- what the end says of the source
+-- the meaning of the end for the source
 abbrev pub IsEndOf : {I : Type 0} → (I → Type 0) → (I → SourceFault → Type 0) → I → DealEnd → Type 0
 IsEndOf over fails source Over = over source
 IsEndOf over fails source (Failed fault) = fails source fault

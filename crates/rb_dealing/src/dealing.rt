@@ -1,4 +1,4 @@
-//! The reader, which deals pieces to the lanes as they come.
+//! The reader, which deals pieces to the lanes as they arrive.
 
 ghost use Rattle.std.specs.Prelude.{◌≡◌, ◌<◌, ◌≤◌, ◌^◌, [], ◌∷◌, IfErr, IfOk, IfSome, Some, length};
 ghost use Rattle.rb_source.specs.Piece.{empty_piece as no_contexts};
@@ -14,10 +14,10 @@ use std::alloc::Global;
 use std::sync::Wait;
 use std::sync::atomic::{AtomicBool, Ordering};
 
-/// What happens to a piece when all workers are behind, so that every queue is full.
+/// What happens to a piece if the queues of all workers are full.
 #[derive(Clone, Copy, Debug, PartialEq, Eq)]
 pub enum Late {
-    /// The reader waits for a place. A pipe then fills, and its writer waits too.
+    /// The reader waits until a queue has room. A pipe then fills up, and its writer waits, too (back-pressure).
     Block,
     /// The piece is dropped, and its contexts are counted.
     Drop,
@@ -28,18 +28,18 @@ pub enum Late {
 pub enum DealEnd {
     /// The source has ended.
     Over,
-    /// There was no memory for a piece.
+    /// A piece could not be allocated.
     Memory,
     /// The source failed.
     Failed(SourceFault),
-    /// A worker could not go on.
+    /// A worker could not continue.
     Short,
 }
 
-/// What a reader has dealt. Each count stays at `u64::MAX`.
+/// What a reader has dealt. Each count saturates at `u64::MAX`.
 #[derive(Clone, Copy, Debug, PartialEq, Eq)]
 pub struct Dealt {
-    /// How many contexts the source gave.
+    /// The number of contexts that the source gave.
     pub contexts: u64,
     /// How many of them were dropped.
     pub dropped: u64,
@@ -55,7 +55,8 @@ pub(crate) struct Dealing {
     pub(crate) next: usize,
 }
 
-// Pushes a piece to the first lane that has room for it, from `next` on, and returns which; or returns the piece if none has.
+// Pushes a piece to the first lane that has room for it, from `next` on, and returns its index; or returns the piece if
+// no lane has room.
 fn offer(feeds: &mut [LaneFeed], next: usize, piece: Piece) -> Result<usize, Piece>
     ensures dealt { IfOk result (λ at. (at < length feeds.old) × Fed feeds.old (record { contexts = piece.contexts; worker = Some at } ∷ []) feeds.new) }
     ensures full { IfErr result (λ back. (back ≡ piece) × Fed feeds.old [] feeds.new) }
@@ -71,7 +72,7 @@ fn offer(feeds: &mut [LaneFeed], next: usize, piece: Piece) -> Result<usize, Pie
     Err(piece)
 }
 
-// Deals a piece: to a lane, or to none if all are full and pieces may be dropped. Returns a piece that was dropped.
+// Deals a piece to a lane, or to none if all are full and pieces may be dropped. Returns a piece that was dropped.
 fn deal_piece<R: Wait>(
     rt: &R,
     feeds: &mut [LaneFeed],
@@ -106,7 +107,7 @@ fn deal_piece<R: Wait>(
     unreachable!()
 }
 
-// Returns an empty piece: one that a lane has run, or else a new one. `None` if there is no memory for it.
+// Returns an empty piece: one that a lane has run, or else a new one. Returns `None` if it can't be allocated.
 fn empty_piece(alloc: Global, feeds: &mut [LaneFeed], ctx_len: u32) -> Option<Piece>
     requires bound { ctx_len ≤ 65536 }
     ensures fed { Fed feeds.old [] feeds.new }
@@ -123,7 +124,8 @@ fn empty_piece(alloc: Global, feeds: &mut [LaneFeed], ctx_len: u32) -> Option<Pi
     Piece::new(alloc, ctx_len).ok()
 }
 
-/// Deals the contexts of the source to the lanes, until it ends or fails, there is no memory for a piece, or a worker cannot go on.
+/// Deals the contexts of the source to the lanes, until the source ends or fails, a piece can't be allocated, or a
+/// worker can't continue.
 pub(crate) fn deal<R: Wait, I: Source>(
     rt: &R,
     alloc: Global,

@@ -1,25 +1,25 @@
-//! How long a thread waits that finds nothing to do.
+//! How long an idle thread waits.
 
 use crossbeam_utils::Backoff;
 use std::sync::Wait;
 use std::thread::Parker;
 use std::time::Duration;
 
-// How often a thread backs off before it sleeps.
+// The number of times that a thread backs off before it sleeps.
 const LOOKS: u32 = 256;
 
-// How long it then sleeps, in milliseconds.
+// The length of a sleep, in milliseconds.
 const SLEEP: u64 = 2;
 
-/// The waits of a thread that finds nothing to do, one after another: it backs off at first, and then sleeps. It never sleeps without a time
-/// limit, so no wake-up can be lost.
+/// The consecutive waits of an idle thread: it backs off at first, and then sleeps. It never sleeps without a timeout,
+/// so no wake-up can be lost.
 #[derive(Clone, Copy, Debug)]
 pub struct Idle {
     looks: u32,
 }
 
 impl Idle {
-    /// Returns the waits of a thread that has just had something to do.
+    /// Returns the waits of a thread that has just been busy.
     pub fn new() -> Idle {
         Idle { looks: 0 }
     }

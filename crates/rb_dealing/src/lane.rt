@@ -1,4 +1,4 @@
-//! A lane: a worker with the queue of its pieces, and the queue by which they go back.
+//! A lane: a worker with the queue of its pieces, and the queue that returns them.
 
 ghost use Rattle.std.specs.Prelude.{◌≡◌, ◌++◌, ◌∷◌, [], IfOk, OnErr, OnOk, map};
 ghost use Rattle.rtrb.specs.Ring.{sent};
@@ -14,10 +14,10 @@ use std::alloc::{AllocError, Global};
 use std::sync::Wait;
 use std::sync::atomic::{AtomicBool, Ordering};
 
-/// How many pieces wait for a worker at most.
+/// The maximal number of pieces that wait for a worker.
 pub const PIECES: usize = 64;
 
-// How many pieces wait at most to be used again: all of a queue, and those that are being run and read.
+// The maximal number of pieces that wait for reuse: all of a queue, and those that are being run and read.
 const USED: usize = 2 * PIECES;
 
 /// A worker, the queue of its pieces, and the queue for those that it has run.
@@ -37,7 +37,8 @@ pub struct LaneFeed {
 }
 
 impl<W: Drop> Lane<W> {
-    // Returns a lane with this worker, and the reader's ends of its two empty queues. If there is no memory for them the worker is dropped.
+    // Returns a lane with this worker, and the reader's ends of its two empty queues. If they can't be allocated, the
+    // worker is dropped.
     fn new(alloc: Global, worker: W) -> Result<(LaneFeed, Lane<W>), AllocError>
         ensures worker { IfOk result (λ r. r.1.worker ≡ worker) }
         ensures pair { IfOk result (λ r. IsFeedOf r.0 r.1) }
@@ -60,8 +61,8 @@ impl<W: Drop> Lane<W> {
     }
 }
 
-/// Adds a lane with this worker, and the reader's ends of its queues, which are empty. If there is no memory for it the worker is dropped and
-/// no lane is added.
+/// Adds a lane with this worker, and the reader's ends of its queues, which are empty. If an allocation fails, the
+/// worker is dropped and no lane is added.
 pub fn add_lane<W: Drop>(
     alloc: Global,
     worker: W,
@@ -84,7 +85,7 @@ pub fn add_lane<W: Drop>(
 }
 
 impl<W: Work> Lane<W> {
-    // Runs a piece and sends it back. If there is no room for it, its memory is freed.
+    // Runs a piece and sends it back. If the queue has no room for it, the piece is freed.
     fn run_piece(&mut self, piece: Piece)
         requires ready { W.ready self.old.worker }
         ensures ready { W.ready self.new.worker }
@@ -95,7 +96,7 @@ impl<W: Work> Lane<W> {
         let _full = self.used.push(piece);
     }
 
-    /// Runs the pieces that come, until the reader has ended and a look that began after that finds none.
+    /// Runs the pieces that arrive, until the reader has ended and a poll that was started after that finds none.
     pub(crate) fn work<R: Wait>(&mut self, rt: &R, ended: &AtomicBool, short: &AtomicBool)
         requires ready { W.ready self.old.worker }
         ensures ran { LaneRan W.ready W.runs self.old self.new }
@@ -122,7 +123,7 @@ impl<W: Work> Lane<W> {
         unreachable!()
     }
 
-    /// Runs the pieces that are left in the queue, once the reader has ended.
+    /// Runs the pieces that are left in the queue after the reader has ended.
     pub(crate) fn finish(&mut self, feed: &mut LaneFeed)
         requires ready { W.ready self.old.worker }
         requires pair { IsFeedOf feed.old self.old }

@@ -1,11 +1,11 @@
-//! Contexts of a stream, dealt to workers: a reader takes pieces from a `Source` and puts each into the queue of one worker, and each worker
-//! runs its pieces in a thread of its own.
+//! Dealing the contexts of a stream to workers: a reader takes pieces from a `Source` and puts each into the queue of
+//! one worker, and each worker runs its pieces in a separate thread.
 //!
-//! `run_lanes` promises that each context that the source gives is dealt to one worker or counted as dropped, and that each worker runs just
-//! the contexts that were dealt to it, each once and in order. The queues are bounded, and a piece that was run is used again, so a steady
-//! stream allocates nothing.
+//! Proved for `run_lanes`: each context that the source gives is dealt to one worker or counted as dropped, and each
+//! worker runs exactly the contexts that were dealt to it, each once and in order. Waiting, fairness and time are
+//! outside of the proofs.
 //!
-//! No proof speaks of waiting, fairness or time.
+//! The queues are bounded, and a piece that was run is reused, so a steady stream does not allocate.
 #![tactic(auto)]
 
 mod dealing;

@@ -1,4 +1,4 @@
-//! The reader and the lanes in threads of their own.
+//! The threads of the reader and the lanes.
 
 ghost use Rattle.std.specs.Prelude.{◌≡◌, ◌<◌, ℕ, [], All, length, slice_index_or};
 ghost use Rattle.rtrb.specs.Ring.{sent, received};
@@ -18,7 +18,7 @@ use std::sync::atomic::{AtomicBool, Ordering};
 use std::thread;
 use std::thread::{Threads, join_mut};
 
-// Runs each lane in a thread of its own, or here if none can be started.
+// Runs each lane in a separate thread, or on the calling thread if none can be started.
 fn work_all<R: Threads + Wait + Sync, W: Work + Send>(
     rt: &R,
     ended: &AtomicBool,
@@ -36,7 +36,7 @@ fn work_all<R: Threads + Wait + Sync, W: Work + Send>(
     thread::for_each_mut(rt, lanes, threads, &work);
 }
 
-// Runs what is left in the lanes' queues, once the reader has ended.
+// Runs what is left in the lanes' queues after the reader has ended.
 fn finish_all<W: Work>(feeds: &mut [LaneFeed], lanes: &mut [Lane<W>])
     requires ready { All (λ lane. W.ready lane.worker) lanes.old }
     requires pairs { AreFeedsOf feeds.old lanes.old }
@@ -47,7 +47,8 @@ fn finish_all<W: Work>(feeds: &mut [LaneFeed], lanes: &mut [Lane<W>])
     }
 }
 
-// Reads and deals in one thread, and runs the lanes in others.
+// Reads and deals in the calling thread, and runs the lanes in others. If no thread can be started, the lanes run last,
+// because they end only after the reader has ended.
 fn deal_and_work<R: Threads + Wait + Sync, I: Source + Send, W: Work + Send>(
     rt: &R,
     alloc: Global,
@@ -71,25 +72,28 @@ fn deal_and_work<R: Threads + Wait + Sync, I: Source + Send, W: Work + Send>(
     join_mut(
         rt,
         &mut ||
+            requires { All (λ lane. W.ready lane.worker) lanes.now }
+            ensures { (k : ℕ) (d : Lane _) → k < length lanes.entry.now → LaneRan W.ready W.runs (slice_index_or lanes.entry.now k d) (slice_index_or lanes.exit.now k d) }
+        { work_all(rt, is_ended, is_short, lanes) },
+        &mut ||
             requires { (dealing.now.contexts ≡ 0) × (dealing.now.dropped ≡ 0) }
             ensures { DealsGiven I.gives source.entry.now source.exit.now feeds.entry.now feeds.exit.now dealing.entry.now dealing.exit.now × IsEndOf I.is_over I.fails source.exit.now end.exit.now }
         {
             *end = deal(rt, alloc, source, late, feeds, is_short, dealing);
             is_ended.store(true, Ordering::SeqCst);
         },
-        &mut ||
-            requires { All (λ lane. W.ready lane.worker) lanes.now }
-            ensures { (k : ℕ) (d : Lane _) → k < length lanes.entry.now → LaneRan W.ready W.runs (slice_index_or lanes.entry.now k d) (slice_index_or lanes.exit.now k d) }
-        { work_all(rt, is_ended, is_short, lanes) },
     );
 }
 
-/// Deals the contexts of the source to the lanes, and runs them: a thread for the reader and one for each lane. Returns once the reader has
-/// ended and every lane has run what was dealt to it.
+/// Deals the contexts of the source to the lanes, and runs them, with a thread for the reader and one for each lane.
+/// Returns after the reader has ended and every lane has run what was dealt to it.
 ///
-/// A piece goes to the next lane in turn whose queue has room. If none has, the reader waits or drops the piece, as `late` says. The
-/// reader ends when the source ends or fails, when there is no memory for a piece, or when a worker says that it cannot go on; what was
-/// dealt before is run. If no thread can be started, its work is done here.
+/// A piece goes to the next lane in turn whose queue has room. If none has, the reader waits or drops the piece,
+/// according to `late`. The reader ends when the source ends or fails, when a piece can't be allocated, or when a
+/// worker reports that it can't continue; what was dealt before is run.
+///
+/// If no thread can be started for the lanes, they run after the reader. With `Late::Block`, the reader then waits
+/// forever if the source gives more pieces than their queues hold.
 pub fn run_lanes<R: Threads + Wait + Sync, I: Source + Send, W: Work + Send>(
     rt: &R,
     alloc: Global,

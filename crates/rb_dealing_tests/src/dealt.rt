@@ -1,4 +1,4 @@
-//! Contexts that are dealt to workers, by public calls alone.
+//! Dealing contexts to workers, through the public interface alone.
 
 ghost use Rattle.std.specs.Prelude.{◌≡◌, ℕ, All, length};
 
@@ -11,7 +11,8 @@ use std::sync::Wait;
 use std::thread;
 use std::thread::Threads;
 
-// A worker that adds up the numbers of its contexts, which are their first two bytes, and looks whether each is above the one before it.
+// A worker that adds up the numbers of its contexts, which are their first two bytes, and checks that each is greater
+// than the previous one.
 #[derive(Drop)]
 struct Adder {
     contexts: u64,
@@ -20,7 +21,7 @@ struct Adder {
     wrong: u64,
     // How often it yields for each piece.
     pause: u32,
-    // After how many contexts it cannot go on.
+    // The number of contexts after which it can't continue.
     most: u64,
 }
 
@@ -68,7 +69,7 @@ fn same<T: PartialEq + Debug>(rt: &impl Abort, found: &T, wanted: &T) {
     assert_eq!(rt; *found, *wanted);
 }
 
-// Contexts of four bytes, numbered from 1.
+// Returns contexts of four bytes, numbered from 1.
 fn contexts<A: Abort>(rt: &A, alloc: Global, count: u32) -> Vec<Vec<u8>>
     ensures { All (λ c. length c.items ≡ 4) result.items }
 {
@@ -82,7 +83,7 @@ fn contexts<A: Abort>(rt: &A, alloc: Global, count: u32) -> Vec<Vec<u8>>
     all
 }
 
-// What dealing contexts came to: the reader's counts, what the workers added up, and how many contexts came out of order.
+// The result of dealing contexts: the reader's counts, the workers' sums, and how many contexts came out of order.
 #[derive(Clone, Copy, Debug, PartialEq, Eq)]
 struct Came {
     dealt: Dealt,
@@ -92,7 +93,7 @@ struct Came {
     busiest: u64,
 }
 
-// Deals so many contexts to workers that yield so often for each piece.
+// Deals `count` contexts to workers that yield `pause` times for each piece.
 fn deal_to<R: Threads + Wait + Sync + Abort>(
     rt: &R,
     alloc: Global,

@@ -1,4 +1,4 @@
-//! Tests of dealing contexts to workers, by public calls alone and on threads.
+//! Tests of dealing contexts to workers, through the public interface alone and on threads.
 #![tactic(auto)]
 
 #[cfg(test)]

@@ -34,7 +34,7 @@ begins_on x y z first second = begins_through x.seen y.seen z.seen first second
 
 -- ---- one seat
 
--- it made a call of the ring, whose history goes on
+-- the seat made a call of the ring, whose history grows at its end
 seat_begins : (b a : WorkerSeat) (Call : Ring → Ring → Type 0) → SeatCallsRing Call b a → ((old new : Ring) → Call old new → BeginsWith (book_of new) (book_of old)) → SeatBegins b a
 seat_begins b a Call call goes_on = call_begins (Worker b.worker) b.seen a.seen Call goes_on (without-room (Worker b.worker) b.seen a.seen b.room a.cut Call Call (λ old new called. called) call)
 
@@ -75,7 +75,7 @@ sent_begins bytes flags due b a did =
     × (a ≡ record b { seen = a.seen; cut = a.cut; tally = output_by b.tally (Ok (notice_of due)); sent = sent_by_output b.sent (producer_now old) bytes (Ok (notice_of due)) })) did
     (λ old new called. logged_begins old new _ called.0.0.logged)
 
--- ---- all seats, by one call
+-- ---- all seats, after one call
 
 begins_nowhere : (old new : List WorkerSeat) → new ≡ old → AllZip SeatBegins old new
 begins_nowhere old new same = subst (λ xs. AllZip SeatBegins old xs) (sym same) (zip_self SeatBegins begins_itself old)

@@ -1,4 +1,4 @@
--- A ring that was called again and again, since its chapter had no room: all calls together are the last one.
+-- A ring that was called repeatedly because its chapter was full: all calls together are like the last one.
 use Rattle.std.proofs.Common.{◌≡◌, ◌≢◌, ℕ, ◌+◌, ◌<◌, ◌≤◌, Bool, List, [], ◌∷◌, ◌++◌, length, Option, Some, None, refl, ap, sym, ◌∙◌, subst, arith, length-append}
 use Rattle.std.specs.Prelude.{IsSome}
 use Rattle.rb_history.specs.RingModel.{Ring}
@@ -22,7 +22,7 @@ abbrev seen_now : WorkerSeat → Book → ℕ → WorkerSeat
 seen_now b seen cut = record b { seen = seen; cut = cut }
 
 module _ (n : ℕ) (b : WorkerSeat) (seen : Book) (cut : ℕ) (full : SeatFindsChapterFull n b (seen_now b seen cut)) where
-  -- a call after one that found the chapter full goes on from what the seat had seen before both
+  -- a call after one that found the chapter full, seen from before both
   call-after : (after : Book) (call : Ring → Ring → Type 0) → LockedCall (Worker b.worker) seen after call → LockedCall (Worker b.worker) b.seen after call
   call-after after call t =
       let first = full.0 in
@@ -50,7 +50,7 @@ module _ (n : ℕ) (b : WorkerSeat) (seen : Book) (cut : ℕ) (full : SeatFindsC
   output-after : (bytes : List ℕ) (flags : ℕ) (due : Bool) (a : WorkerSeat) → SeatOutputs bytes flags due (seen_now b seen cut) a → SeatOutputs bytes flags due b a
   output-after bytes flags due a sent = call-after a.seen _ sent
 
--- the same by the seat itself
+-- the same for the seat itself
 module _ (n : ℕ) (b m : WorkerSeat) (full : SeatFindsChapterFull n b m) where
   known : SeatFindsChapterFull n b (seen_now b m.seen m.cut)
   known = subst (λ s. SeatFindsChapterFull n b s) full.1 full
@@ -81,7 +81,7 @@ each-more : (n : ℕ) (b : WorkerSeat) (ms : List WorkerSeat) (m a : WorkerSeat)
 each-more n b [] m a each found = (subst (λ s. SeatFindsChapterFull n s a) each found, refl)
 each-more n b (s ∷ ss) m a each found = (each.0, each-more n s ss m a each.1 found)
 
--- after so many calls the chapter was full at each; the seat has hands as before, and is at its ring
+-- the chapter was full at each of the calls so far; the seat's hands are as before, and it is at its ring
 pub record FullSoFar (n calls : ℕ) (entry now : WorkerSeat) : Type 0 where
   pub behind : List WorkerSeat
   pub as_often : length behind ≡ calls
@@ -114,13 +114,13 @@ one-more-full n calls entry m a so_far same found =
 pub still-at : (ring : Shared) (entry m : WorkerSeat) → IsAt ring entry → IsSameSeat entry m → IsAt ring m
 still-at ring entry m at same = (same.tag_same ∙ at.0, same.ring_same ∙ at.1)
 
--- ---- what the last call answers
+-- ---- the result of the last call
 
--- the answer was this fault
+-- the result was this fault
 pub found-full : (n : ℕ) (fault : ReserveFault) (m a : WorkerSeat) → fault ≡ ChapterFull → SeatFailsOnce n fault m a → SeatFindsChapterFull n m a
 found-full n fault m a is fails = subst (λ f. SeatFailsOnce n f m a) is fails
 
--- it gave up
+-- the worker gave up
 pub gave-up : (n calls : ℕ) (entry now : WorkerSeat) → calls ≡ chapter_tries → FullSoFar n calls entry now → SeatGivesUp n entry now
 gave-up n calls entry now last so_far = all-together so_far.behind so_far.as_often so_far.each where
   all-together : (behind : List WorkerSeat) → length behind ≡ calls → FindsChapterFullEach n entry behind now → SeatGivesUp n entry now
@@ -128,7 +128,7 @@ gave-up n calls entry now last so_far = all-together so_far.behind so_far.as_oft
   all-together (m ∷ ms) often each = record { behind_each = m ∷ ms; as_often = often ∙ last; each = each; at_last = all-full n entry m ms now each.0 each.1 }
 
 module _ (n calls : ℕ) (entry m : WorkerSeat) (so_far : FullSoFar n calls entry m) where
-  -- what holds from where the last call began holds from the first on
+  -- what holds from the start of the last call holds from the start of the first
   from-first : (a : WorkerSeat) (P : WorkerSeat → Type 0) → ((s : WorkerSeat) → SeatFindsChapterFull n s m → P m → P s) → P m → P entry
   from-first a P later holds = of so_far.behind so_far.each where
     of : (behind : List WorkerSeat) → FindsChapterFullEach n entry behind m → P entry
@@ -169,12 +169,12 @@ module _ (bytes : List ℕ) (flags calls : ℕ) (entry m : WorkerSeat) (so_far :
 pub gave-up-sending : (n calls : ℕ) (entry now : WorkerSeat) → calls ≡ chapter_tries → FullSoFar n calls entry now → SeatGivesUp n entry now × ◌≢◌ {A = NoRecord} (Refused ChapterFull) (Refused HandsFull)
 gave-up-sending n calls entry now last so_far = (gave-up n calls entry now last so_far, λ is. cc)
 
--- ---- a sheet that can't be had
+-- ---- a sheet that can't be allocated
 
 above : (n : ℕ) → ¬ (n ≤ 16) → 16 < n
 above n many = omega (arith, many)
 
--- one of up to 16 bytes is always there
+-- one of up to 16 bytes always can
 pub needs-memory : {X : Type 0} (sheet : Option X) (n : ℕ) → (n ≤ 16 → IsSome sheet) → sheet ≡ None → 16 < n
 needs-memory None n short none = above n (λ few. let some = short few in cc)
 needs-memory (Some x) n short none = absurd (cc)

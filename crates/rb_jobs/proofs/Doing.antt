@@ -1,4 +1,4 @@
--- What a run of the helpers over seats shows of a job.
+-- What a run of the helpers over seats shows about a job.
 use Rattle.std.proofs.Common.{false, ◌≡◌, ◌≢◌, Err, ℕ, ◌+◌, ◌≤◌, List, [], ◌∷◌, ◌++◌, length, ap, sym, ◌∙◌, subst, arith}
 use Rattle.std.proofs.lemmas.List.{length_push, length-map}
 use Rattle.std.proofs.lemmas.List.Sums.{count_by-le-length}
@@ -19,7 +19,7 @@ use Rattle.rb_jobs.proofs.Totals.{totals_rise}
 use Rattle.rb_jobs.specs.declared.job.JobAnswer.{JobAnswer}
 use Rattle.rb_jobs.specs.Jobs.{Task, JobRan, JobRanCounted, counted_on}
 
--- the calls led from the one state of the seats to the other
+-- the calls led from the old state of the seats to the new one
 abbrev ran_by : (task : Task) (answer : JobAnswer) (calls : List (AnsweredCall SeatRecord)) (old new : List WorkerSeat)
     → TellsLength task.program task.context answer.result → RunMatches reserved_bytes with_record_bytes task.program task.context calls answer.result
     → answer.result ≢ Err Stray → OnOk answer.result (TraceBalances [] (notes_of calls)) → SeatsLead old calls answer.unlogged new → JobRan task answer old new
@@ -40,7 +40,7 @@ ran_by task answer calls old new told shows kept balanced led =
       failed_is = rise.failed_is;
     }
 
--- the helpers were new, and came to be so
+-- the helpers were new, and are in this state after the run
 pub did_counted : (task : Task) (answer : JobAnswer) (calls : List (AnsweredCall SeatRecord)) (start now : AtSeats) (rings : List Shared) (room : ℕ)
     (old new : List WorkerSeat) (before mid after : ℕ) → start ≡ record { rings = rings; seats = old; trace = []; room = room; unlogged = 0; due = false }
     → answer.unlogged ≡ now.unlogged → new ≡ now.seats → mid ≡ before → after ≡ counted_on mid (length now.trace)
@@ -61,7 +61,7 @@ did_counted task answer calls start now rings room old new before mid after fres
       after_is ∙ ap (λ n. counted_on n (length now.trace)) mid_is ∙ ap (counted_on before) (ap length trace ∙ length-map calls note_of),
     )
 
--- each call is noted, and takes a place of the room
+-- each call is appended to the trace and uses one place of the room
 calls_take_room : (start now : AtSeats) (calls : List (AnsweredCall SeatRecord)) → Leads start calls now → length now.trace + now.room ≡ length start.trace + start.room
 calls_take_room start now [] same = ap (λ (h : AtSeats). length h.trace + h.room) same
 calls_take_room start now (call ∷ more) leads =
@@ -72,11 +72,11 @@ calls_take_room start now (call ∷ more) leads =
     let room = made.room_is in
     omega (arith, rest, noted, room)
 
--- a program has no more calls than units
+-- a program has at most as many calls as units
 calls_within : (program : List Insn) → call_count program ≤ unit_count program
 calls_within program = let e = count-units_of program in let few = count_by-le-length calls (units_of program) in omega (arith, e, few)
 
--- so no job leaves more failures unlogged than a program has units
+-- a job leaves at most as many failures unlogged as a program has units
 pub few_unlogged : (start now : AtSeats) (calls : List (AnsweredCall SeatRecord)) (program : List Insn) (rings : List Shared) (seats : List WorkerSeat) (unlogged : ℕ)
     → start ≡ record { rings = rings; seats = seats; trace = []; room = call_count program; unlogged = 0; due = false } → Leads start calls now → unlogged ≤ length now.trace → unit_count program ≤ 4096
     → unlogged ≤ 4096
@@ -87,7 +87,7 @@ few_unlogged start now calls program rings seats unlogged fresh leads within lon
     let few = calls_within program in
     omega (arith, all, empty, room, few, within, long)
 
--- the same of seats and counts that are these
+-- the same for seats and counts that are equal to these
 pub counted_as : (task : Task) (answer : JobAnswer) (old start new now : List WorkerSeat) (before count after counted : ℕ) → old ≡ start → new ≡ now → before ≡ count → after ≡ counted
     → JobRanCounted task answer old new before after → JobRanCounted task answer start now count counted
 counted_as task answer old start new now before count after counted old_is new_is before_is after_is ran =

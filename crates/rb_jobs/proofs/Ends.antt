@@ -1,4 +1,4 @@
--- What the helpers' call says of the end of a record.
+-- The helpers' call for the end of a record.
 use Rattle.std.proofs.Common.{◌≡◌, ℕ, Bool, List, refl}
 use Rattle.rb_chapter_ring.specs.HandGranted.{HandGranted}
 use Rattle.rb_chapter_ring.specs.declared.record_end.RecordEnd.{RecordEnd}
@@ -14,7 +14,7 @@ pub is_note : (end : RecordEnd) (owned : SeatRecord) (flags : ℕ) (taken : Bool
 is_note Submit owned flags taken = refl
 is_note Discard owned flags taken = refl
 
--- an answer that says the one says the other
+-- an answer that means the first means the second
 answered_as : (ring : ℕ) (taken due : Bool) (First Second : WorkerSeat → WorkerSeat → Type 0) (old new : List WorkerSeat) → ((b a : WorkerSeat) → First b a → Second b a)
     → RecordAnswered ring taken due First old new → RecordAnswered ring taken due Second old new
 answered_as ring taken due First Second old new entails led = record { at_ring = λ below. at_seat_as First Second ring old new entails (led.at_ring below); no_ring = led.no_ring }
@@ -33,7 +33,7 @@ module _ (r : HandGranted) (flags : ℕ) (taken due : Bool) (b a : WorkerSeat) w
   ends_discard did = record { exact = did.exact; takes = did.takes; hands_back = did.hands_back }
 
 module _ (owned : SeatRecord) (flags : ℕ) (taken due : Bool) (unlogged : ℕ) (old new : List WorkerSeat) where
-  -- what the seats did, by the end
+  -- what the seats did, by the kind of end
   abbrev pub Ended : RecordEnd → Type 0
   Ended end = RecordAnswered owned.ring taken due (SeatEnds end owned.reservation flags taken due) old new × (unlogged ≡ 0)
 

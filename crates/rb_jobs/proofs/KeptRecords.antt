@@ -1,4 +1,4 @@
--- What each call leaves of the records that helpers over seats keep.
+-- What each call does to the records that helpers over seats keep.
 use Rattle.std.proofs.Common.{◌≡◌, ◌≢◌, ℕ, zero, suc, ◌<◌, ◌≤◌, ◌⊎◌, inl, inr, ℤ, pos, negsuc, Bool, true, false, List, [], ◌∷◌, length, set, get_or, Option, Some, None, refl, sym, ap, ◌∙◌, subst, arith}
 use Rattle.std.specs.Prelude.{slice_get, IfSome}
 use Rattle.std.proofs.lemmas.Bool.{cases_eq, cases_lt}
@@ -38,18 +38,18 @@ some-below [] i x at = absurd (cc)
 some-below (y ∷ xs) zero x at = omega arith
 some-below (y ∷ xs) (suc i) x at = let below = some-below xs i x at in omega (arith, below)
 
--- ---- what a call leaves of one seat's hands
+-- ---- what a call does to one seat's hands
 
 none-some : (o : OutRecord) → ◌≡◌ {A = Option OutRecord} None (Some o) → ⊥
 none-some o e = cc
 
--- a hand that was freed has nothing
+-- a freed hand is empty
 freed : (hands : Hands) (h : ℕ) → get_or (set hands h None) h None ≡ None
 freed [] h = refl
 freed (x ∷ hands) zero = refl
 freed (x ∷ hands) (suc h) = freed hands h
 
--- it is the same worker's seat at the same ring, and each such hand that is out stays out
+-- the seat of the same worker at the same ring, where each hand of these that is out stays out
 record StaysOut (At : ℕ → Type 0) (b a : WorkerSeat) : Type 0 where
   tag_same : a.tag ≡ b.tag
   worker_same : a.worker ≡ b.worker
@@ -80,7 +80,7 @@ sent : (bytes : List ℕ) (flags : ℕ) (due : Bool) (b a : WorkerSeat) → Seat
 sent bytes flags due b a did =
     let is = did.called.called.1 in same-hands Anywhere b a (ap (λ (s : WorkerSeat). s.tag) is) (ap (λ (s : WorkerSeat). s.worker) is) (ap (λ (s : WorkerSeat). s.hands) is)
 
--- a change of one hand leaves the others
+-- a change of one hand does not change the others
 one-changed : (b a : WorkerSeat) (hand : ℕ) (x : Option OutRecord) → a.tag ≡ b.tag → a.worker ≡ b.worker → a.hands ≡ set b.hands hand x → StaysOut (ButAt hand) b a
 one-changed b a hand x tag worker hands = record {
   tag_same = tag;
@@ -110,7 +110,7 @@ still-out At r b a left at out = record {
   out = left.still r.hand (out_record r.granted.pos r.granted.serial (length r.granted.bytes)) at out.out;
 }
 
--- ---- what was given back is out no more
+-- ---- a record that was submitted or discarded is not out
 
 hand-freed : (r : HandGranted) (b a : WorkerSeat) → a.hands ≡ set b.hands r.hand None → IsOutAtSeat a r → ⊥
 hand-freed r b a hands out = none-some (out_record r.granted.pos r.granted.serial (length r.granted.bytes)) (sym (ap (λ hs. in_hand hs r.hand) hands ∙ freed b.hands r.hand) ∙ out.out)

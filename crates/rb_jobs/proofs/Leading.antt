@@ -1,4 +1,4 @@
--- What follows where calls lead on.
+-- Consequences of sequences of calls.
 use Rattle.std.proofs.Common.{◌≡◌, ℕ, ◌+◌, ◌-◌, ◌<◌, ◌≤◌, Bool, false, List, [], ◌∷◌, ◌++◌, Some, None, refl, ap, sym, ◌∙◌, arith, append-nil, append_assoc, if◌then◌else◌, ◌==◌}
 use Rattle.std.proofs.lemmas.Bool.{ne_eqb}
 use Rattle.rb_history.specs.NoticesAndQueries.{query_answer}
@@ -17,7 +17,7 @@ use Rattle.rb_jobs.specs.SeatLaws.{HelpersLead, SeatsMayAnswer}
 not_equal : (what n : ℕ) → n ≤ 3 → 3 < what → what == n ≡ false
 not_equal what n few many = ne_eqb what n (λ e. absurd (omega (arith, e, few, many)))
 
--- there is no number to ask for above 3
+-- there is no query above 3
 no_number : (r : Setup) (h : List Entry) (what : ℕ) → 3 < what → query_answer r h what ≡ 0
 no_number r h what many =
     let zeroth : what == 0 ≡ false = not_equal what 0 (omega arith) many in

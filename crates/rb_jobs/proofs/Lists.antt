@@ -1,4 +1,4 @@
--- Laws of lists that stand beside each other.
+-- Laws about lists that are related elementwise.
 use Rattle.std.proofs.Common.{◌≡◌, ◌≢◌, ℕ, zero, suc, ◌<◌, List, [], ◌∷◌, length, get_or, set, Some, refl, ap, sym, subst, arith}
 use Rattle.std.specs.Prelude.{slice_get, unwrap_or}
 use Rattle.std.specs.List.{AllZip}
@@ -35,7 +35,7 @@ get_set_other (x ∷ xs) zero (suc j) y other = refl
 get_set_other (x ∷ xs) (suc i) zero y other = refl
 get_set_other (x ∷ xs) (suc i) (suc j) y other = get_set_other xs i j y (λ e. other (ap suc e))
 
--- ---- a list beside itself, and beside one that follows
+-- ---- a list related to itself, and to the next one
 
 pub zip_self : {A : Type 0} (R : A → A → Type 0) → ((x : A) → R x x) → (xs : List A) → AllZip R xs xs
 zip_self R same [] = tt
@@ -48,7 +48,7 @@ zip_through R then (x ∷ xs) [] zs first second = absurd first
 zip_through R then (x ∷ xs) (y ∷ ys) [] first second = absurd second
 zip_through R then (x ∷ xs) (y ∷ ys) (z ∷ zs) first second = (then x y z first.0 second.0, zip_through R then xs ys zs first.1 second.1)
 
--- one element is another
+-- one element changes
 pub zip_one : {A : Type 0} (R : A → A → Type 0) → ((x : A) → R x x) → (xs : List A) (i : ℕ) (before after : A) → slice_get xs i ≡ Some before → R before after → AllZip R xs (set xs i after)
 zip_one R same [] i before after at is = tt
 zip_one R same (x ∷ xs) zero before after at is = (subst (λ b. R b after) (sym (ap (λ o. unwrap_or o before) at)) is, zip_self R same xs)

@@ -1,4 +1,4 @@
--- A call that was made at a seat and noted is a call of the helpers.
+-- A call that was made with a seat and appended to the trace is a call of the helpers.
 use Rattle.std.proofs.Common.{◌≡◌, ◌≢◌, ◌↔◌, ℕ, zero, suc, ◌+◌, ◌<◌, ◌≤◌, inl, inr, ℤ, pos, negsuc, Bool, false, cond, List, [], ◌∷◌, length, Option, Some, None, Result, Ok, Err, IsErrOf, is_ok, refl, ap, sym, ◌∙◌, subst, arith, w64, to_z, of_z}
 use Rattle.rb_history.specs.declared.answers.Notice.{Notice}
 use Rattle.rb_chapter_ring.specs.HandGranted.{HandGranted}
@@ -18,7 +18,7 @@ use Rattle.rb_jobs.specs.inner.RecordEnds.{SeatEnds, ended_call, ended_note}
 use Rattle.rb_jobs.proofs.OneSeat.{at_seat_as}
 use Rattle.rb_jobs.proofs.Ends.{is_note, of_ended}
 
--- one call leads on
+-- one call is a sequence of calls
 pub one_call : (call : AnsweredCall SeatRecord) (old new : AtSeats) → CallsHelpers call old new → Leads old (call ∷ []) new
 one_call call old new made = (new, made, refl)
 
@@ -40,7 +40,7 @@ fault_number NoSheet = 1
 fault_number (Refused _) = 2
 fault_number BadFlags = 3
 
--- 0 for what was made, else the fault
+-- 0 for success, else the number of the fault
 abbrev answer_number : {T : Type 0} → Result T NoRecord → ℕ
 answer_number (Ok x) = 0
 answer_number (Err fault) = fault_number fault
@@ -79,7 +79,7 @@ refused_for ring n (Refused Flags) old new at = absurd at.did
 refused_for ring n (Refused Foreign) old new at = absurd at.did
 refused_for ring n (Refused HandsFull) old new at = at_seat_as (SeatFails n (Refused HandsFull)) (SeatIsRefused (NoHandOrSheet n) n 1) ring old new (λ b a none. inr (inr (inl none.0, none.1, refl))) at
 
--- for an output, which takes no hand
+-- the same for an output, which takes no hand
 abbrev FailsWithHands : ℕ → NoRecord → WorkerSeat → WorkerSeat → Type 0
 FailsWithHands n fault b a = SeatFails n fault b a × (fault ≢ Refused HandsFull)
 
@@ -147,7 +147,7 @@ ended end old mid next owned flags answer taken logged due note taken_is logged_
 
 -- ---- output
 
--- the number fits 64 bits with a sign
+-- the number fits a signed 64-bit integer
 pub number_fits : (answer : Result Notice NoRecord) (number : ℤ) → number ≡ output_number answer → to_z w64 (of_z w64 number) ≡ output_number answer
 number_fits (Ok _) number is = ap (λ n. to_z w64 (of_z w64 n)) is
 number_fits (Err BadFlags) number is = ap (λ n. to_z w64 (of_z w64 n)) is

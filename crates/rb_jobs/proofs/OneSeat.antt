@@ -1,4 +1,4 @@
--- What the ring's answer to one call makes of the seat that made it.
+-- What the ring's result of one call means for the seat that made it.
 use Rattle.std.proofs.Common.{◌≡◌, ◌≢◌, ℕ, zero, suc, ◌+◌, ◌<◌, ◌≤◌, Bool, false, List, [], ◌∷◌, length, get_or, set, Some, Result, Ok, Err, None, IfOk, IfErr, is_ok, ◌↔◌, ◌⊎◌, inr, refl, ap, sym, ◌∙◌, subst, arith}
 use Rattle.std.proofs.lemmas.Option.{slice_get_read}
 use Rattle.std.proofs.lemmas.List.{length-replicate, get_or-set_same}
@@ -28,7 +28,7 @@ use Rattle.rb_jobs.proofs.RingCalls.{called_as}
 
 -- ---- the seat itself
 
--- the seat is as before but for these
+-- the seat is unchanged except for these fields
 pub seat_is : (b a : WorkerSeat) (tally : Tally) (hands : Hands) (sent : Contents) → IsSameSeat b a → (b.out ≡ None) × (a.out ≡ None) → a.tally ≡ tally → a.hands ≡ hands → a.sent ≡ sent
     → a ≡ record b { seen = a.seen; cut = a.cut; tally = tally; hands = hands; sent = sent }
 seat_is b a tally hands sent same released tally_is hands_are sent_is =
@@ -69,7 +69,7 @@ fails_at n Flags b a same released tally hands sent call = absurd (call.called.c
 fails_at n Foreign b a same released tally hands sent call = absurd call.called.called.0
 fails_at n HandsFull b a same released tally hands sent call = absurd call.called.called.0
 
--- of a reservation: where no hand is free the ring is not called
+-- for a reservation: if no hand is free, the ring is not called
 pub refused_at : (n : ℕ) (fault : ReserveFault) (b a : WorkerSeat) → IsSameSeat b a → (b.out ≡ None) × (a.out ≡ None) → a.tally ≡ refused_in_room_by b.tally fault → a.hands ≡ b.hands → a.sent ≡ b.sent
     → (fault ≡ HandsFull → AreAllOut b.hands) → (AreAllOut b.hands → fault ≡ HandsFull) → (AreAllOut b.hands → a ≡ b) → (¬ AreAllOut b.hands → Refuses b.worker n fault b a) → SeatFailsOnce n fault b a
 refused_at n HandsFull b a same released tally hands sent full all unchanged call = (full refl, unchanged (full refl))
@@ -79,7 +79,7 @@ refused_at n ChapterFull b a same released tally hands sent full all unchanged c
 refused_at n Flags b a same released tally hands sent full all unchanged call = fails_at n Flags b a same released tally hands sent (call (λ out. let no_way : Flags ≡ HandsFull = all out in cc))
 refused_at n Foreign b a same released tally hands sent full all unchanged call = fails_at n Foreign b a same released tally hands sent (call (λ out. let no_way : Foreign ≡ HandsFull = all out in cc))
 
--- the answer, whichever it is
+-- for any result
 pub reserved_once : (n tag : ℕ) (answer : Result HandGranted (ReserveFault × List ℕ)) (b a : WorkerSeat) → length b.hands ≡ 4 → b.tag ≡ tag → IsSameSeat b a → (b.out ≡ None) × (a.out ≡ None)
     → a.tally ≡ reserved_in_room_by b.tally (granted_in answer) → a.hands ≡ hands_after_reserve b.hands n answer → a.sent ≡ b.sent → IfOk answer (λ r. r.granted.serial ≡ b.tally.made) → IfOk answer (λ r. r.tag ≡ b.tag)
     → IfOk answer (λ r. IsLowestFree b.hands r.hand) → IsRefusedInRoomAs HandsFull answer ↔ ((b.tag ≡ tag) × AreAllOut b.hands) → ((b.tag ≢ tag) ⊎ AreAllOut b.hands → a ≡ b)
@@ -89,7 +89,7 @@ reserved_once n tag (Ok r) b a four at same released tally hands sent serial tag
 reserved_once n tag (Err e) b a four at same released tally hands sent serial tags lowest full unchanged call =
     refused_at n e.0 b a same released tally hands sent (λ is. (full.0 is).1) (λ out. full.1 (at, out)) (λ out. unchanged (inr out)) (call at)
 
--- where the chapter has no room the hands are not all out
+-- if the chapter is full, the hands are not all out
 pub free_once : (tag : ℕ) (answer : Result HandGranted (ReserveFault × List ℕ)) (b : WorkerSeat) → b.tag ≡ tag → IsRefusedInRoomAs HandsFull answer ↔ ((b.tag ≡ tag) × AreAllOut b.hands)
     → IfErr answer (λ e. e.0 ≡ ChapterFull → ¬ AreAllOut b.hands)
 free_once tag (Ok r) b at full = tt
@@ -97,7 +97,7 @@ free_once tag (Err e) b at full = λ is out. let no_way : ChapterFull ≡ HandsF
 
 -- ---- submit and discard
 
--- what a refusal leaves, and what an answer adds
+-- what a refusal leaves unchanged, and what a success adds
 pub unchanged : {T E : Type 0} (answer : Result T E) (b a : WorkerSeat) (given : E) → IfErr answer (λ back. (back ≡ given) × (a ≡ b)) → IfErr answer (λ _. a ≡ b)
 unchanged (Ok x) b a given back = tt
 unchanged (Err e) b a given back = back.1
@@ -106,7 +106,7 @@ pub tallied : {E : Type 0} (answer : Result Notice E) (now then : Tally) → IfO
 tallied (Ok n) now then is = is
 tallied (Err e) now then is = tt
 
--- at the ring's seat, what may be given back is what is out there
+-- at the ring's seat, the reservations that can be submitted or discarded are those that are out there
 pub out_at : (ring : Shared) (seat : WorkerSeat) (r : HandGranted) → seat.tag ≡ ring.tag → IsInSeatsHand ring seat r ↔ IsOutAtSeat seat r
 out_at ring seat r tag = (
   (λ in_hands. record { tag_is = in_hands.tag_is; worker_is = in_hands.worker_is; out = in_hands.out }),
@@ -134,7 +134,7 @@ ended_at end ring r flags (Err x) b a tag same released exact back call tally ha
 
 -- ---- output
 
--- the bytes stand where the producer was
+-- the bytes are at the former producer position
 sends_told : (bytes : List ℕ) (flags : ℕ) (notice : Notice) (b a : WorkerSeat) → IsSameSeat b a → (b.out ≡ None) × (a.out ≡ None) → a.tally ≡ output_in_room_by b.tally (Ok notice) → a.hands ≡ b.hands
     → SeatCallsRing (λ old new. OutputsInRoom b.room a.cut b.worker bytes flags (Ok notice) old new × (a.sent ≡ sent_by_output_in_room b.sent (producer_now old) bytes (Ok notice))) b a
     → SeatCallsRing (λ old new.
@@ -167,7 +167,7 @@ called_with_hands room cut old new w n Flags refuses is = cc
 called_with_hands room cut old new w n Foreign refuses is = cc
 called_with_hands room cut old new w n HandsFull refuses is = refuses
 
--- the answer, whichever it is
+-- for any result
 pub sent_once : (bytes : List ℕ) (flags : ℕ) (answer : Result Notice (ReserveFault × List ℕ)) (b a : WorkerSeat) → flags ≤ 3 → IsSameSeat b a → (b.out ≡ None) × (a.out ≡ None)
     → a.tally ≡ output_in_room_by b.tally answer → a.hands ≡ b.hands
     → SeatCallsRing (λ old new. OutputsInRoom b.room a.cut b.worker bytes flags answer old new × (a.sent ≡ sent_by_output_in_room b.sent (producer_now old) bytes answer)) b a → SeatSendsOnce bytes flags answer b a
@@ -187,24 +187,24 @@ queried_at what answer b a same released tally hands sent call = (call, seat_is 
 pub is_seat : (rings : List Shared) (seats : List WorkerSeat) (i : ℕ) → AtRings rings seats → i < length rings → i < length seats
 is_seat rings seats i all below = omega (arith, zip_length IsAt rings seats all, below)
 
--- it has four hands
+-- the seat has four hands
 pub is_four : (seats : List WorkerSeat) (i : ℕ) (read before : WorkerSeat) → i < length seats → read ≡ get_or seats i read → before ≡ get_or seats i before → length read.hands ≡ 4 → length before.hands ≡ 4
 is_four [] i read before below there here four = absurd (omega arith)
 is_four (s ∷ seats) zero read before below there here four = subst (λ (x : WorkerSeat). length x.hands ≡ 4) (there ∙ sym here) four
 is_four (s ∷ seats) (suc i) read before below there here four = is_four seats i read before (omega arith) there here four
 
--- the seat there is at the ring there
+-- the seat at an index is at the ring of this index
 pub seat_there : (rings : List Shared) (seats : List WorkerSeat) (i : ℕ) (ring : Shared) (seat : WorkerSeat) → AtRings rings seats → i < length rings
     → seat ≡ get_or seats i seat → IsAt (get_or rings i ring) seat
 seat_there rings seats i ring seat all below here = subst (λ s. IsAt (get_or rings i ring) s) (sym here) (zip_at IsAt rings seats i ring seat all below)
 
--- a seat in the same place is still at its ring
+-- the same seat after a change is still at its ring
 pub stays_at : (rings : List Shared) (seats : List WorkerSeat) (i : ℕ) (before after : WorkerSeat) → AtRings rings seats → before ≡ get_or seats i before
     → IsSameSeat before after → AtRings rings (set seats i after)
 stays_at rings seats i before after all here same = zip_set IsAt rings seats i before after all
     (λ ring at. (same.tag_same ∙ ap (λ (s : WorkerSeat). s.tag) here ∙ at.0, same.ring_same ∙ ap (λ (s : WorkerSeat). s.ring) here ∙ at.1))
 
--- the call was made at the seat in this place of the helpers
+-- the call was made with the helpers' seat at this index
 pub at_seat : (Did : WorkerSeat → WorkerSeat → Type 0) (now : AtSeats) (rings : List Shared) (seats : List WorkerSeat) (ring : ℕ) (before after : WorkerSeat)
     → seats ≡ now.seats → AtRings rings seats → ring < length rings → before ≡ get_or seats ring before → Did before after → AtSeat ring Did now.seats (set seats ring after)
 at_seat Did now rings seats ring before after are all below here did = record {
@@ -220,20 +220,20 @@ get_below [] i below = absurd (omega arith)
 get_below (s ∷ seats) zero below = (s, refl, refl)
 get_below (s ∷ seats) (suc i) below = let more = get_below seats i (omega arith) in (more.0, more.1, ap (λ xs. s ∷ xs) more.2)
 
--- no step was made at it
+-- the seat did not change
 pub at_same : (Did : WorkerSeat → WorkerSeat → Type 0) (now : AtSeats) (rings : List Shared) (seats : List WorkerSeat) (ring : ℕ)
     → seats ≡ now.seats → AtRings rings seats → ring < length rings → ((s : WorkerSeat) → Did s s) → AtSeat ring Did now.seats now.seats
 at_same Did now rings seats ring are all below did =
     let here = get_below now.seats ring (subst (λ xs. ring < length xs) are (is_seat rings seats ring all below)) in
     record { before = here.0; after = here.0; before_is = here.1; new_is = here.2; did = did here.0 }
 
--- a call that did the one did the other
+-- a call that did the first did the second
 pub at_seat_as : (First Second : WorkerSeat → WorkerSeat → Type 0) (ring : ℕ) (old new : List WorkerSeat) → ((b a : WorkerSeat) → First b a → Second b a)
     → AtSeat ring First old new → AtSeat ring Second old new
 at_seat_as First Second ring old new entails at =
     record { before = at.before; after = at.after; before_is = at.before_is; new_is = at.new_is; did = entails at.before at.after at.did }
 
--- ---- a record that goes back
+-- ---- a record that is submitted or discarded
 
 -- its ring is none of these
 pub at_no_ring : (Did : WorkerSeat → WorkerSeat → Type 0) (now : AtSeats) (rings : List Shared) (seats : List WorkerSeat) (ring : ℕ)
@@ -249,7 +249,7 @@ at_own_ring taken due Did now rings seats new ring are all below at =
     let same = zip_length IsAt rings seats all in let count : length seats ≡ length now.seats = ap (λ (xs : List WorkerSeat). length xs) are in
     record { at_ring = λ _. at; no_ring = λ beyond. absurd (omega (arith, below, beyond, same, count)) }
 
--- ---- by the answer
+-- ---- by the result
 
 pub granted_as : (n ring : ℕ) (answer : Result HandGranted NoRecord) (r : HandGranted) (old new : List WorkerSeat) → answer ≡ Ok r
     → AtSeat ring (SeatIsGranted n r) old new → AtSeat ring (SeatReserves n answer) old new

@@ -1,4 +1,4 @@
--- A job submitted and discarded as many records as it made.
+-- A job submits and discards as many records as it makes.
 use Rattle.std.proofs.Common.{◌≡◌, ◌≢◌, ℕ, zero, suc, ◌+◌, pos, negsuc, true, false, cond, List, [], ◌∷◌, map, Result, Ok, Err, refl, sym, subst, arith}
 use Rattle.std.specs.Prelude.{count_by, OnOk}
 use Rattle.rb_verifier.specs.Subject.{Subject}
@@ -32,7 +32,7 @@ abbrev AreTaken : List Done → Type 0
 AreTaken [] = Unit {0}
 AreTaken (d ∷ notes) = IsTaken d × AreTaken notes
 
--- the records that are held, each under its id
+-- the records that are held, each with its id
 abbrev Held : Type 0
 Held = List (ℕ × SeatRecord)
 
@@ -54,7 +54,7 @@ taken_on held (Discard id bytes f) (Discarded owned flags false) s t so goes = a
 taken_on held _ _ s t so goes = absurd so
 
 module _ (subject : Subject) (n : ℕ) where
-  -- the runs with so many steps that return the result hand no record back
+  -- the runs with this many steps that return the result hand no record back
   abbrev AreSmooth : ℕ → Type 0
   AreSmooth steps = (held : Held) (s : State) (made : List (AnsweredCall SeatRecord)) → MakesAll held (run_of subject.program steps s (map traced_answer (notes_of made))).calls made
       → (run_of subject.program steps s (map traced_answer (notes_of made))).outcome ≡ Returns n → AreTaken (notes_of made)
@@ -84,7 +84,7 @@ module _ (subject : Subject) (n : ℕ) where
 
 -- ---- the counts of a trace
 
--- an output that was answered 0 makes a record and submits it
+-- an output that answered 0 makes a record and submits it
 abbrev outputs : Done → ℕ
 outputs (done.Output ring len flags (pos zero)) = 1
 outputs _ = 0

@@ -1,4 +1,4 @@
--- The call of the ring that a seat made, of which less is said.
+-- The call of the ring that a seat made, with a weaker relation.
 use Rattle.rb_history.specs.RingModel.{Ring}
 use Rattle.rb_ledger.specs.Roles.Role.{Worker}
 use Rattle.rb_ledger.specs.Seats.{WorkerSeat}

@@ -1,4 +1,4 @@
--- How the numbers of a worker's seats rise together where calls lead on.
+-- How the counts of a worker's seats together grow over a sequence of calls.
 use Rattle.std.proofs.Common.{◌≡◌, ◌≢◌, ℕ, zero, suc, ◌+◌, ◌<◌, ◌≤◌, ◌⊎◌, inl, inr, ℤ, pos, negsuc, Bool, true, false, List, [], ◌∷◌, length, set, Option, Some, None, refl, ap, sym, ◌∙◌, subst, arith}
 use Rattle.std.proofs.lemmas.Bool.{cases_lt}
 use Rattle.std.proofs.lemmas.Option.{none-some}
@@ -27,7 +27,7 @@ pub same_through : (x y z : WorkerSeat) → IsSameSeat x y → IsSameSeat y z �
 same_through x y z first second =
     record { tag_same = second.tag_same ∙ first.tag_same; ring_same = second.ring_same ∙ first.ring_same; room_same = second.room_same ∙ first.room_same; worker_same = second.worker_same ∙ first.worker_same }
 
--- ---- one seat's numbers
+-- ---- one seat's counts
 
 one_set : (f : WorkerSeat → ℕ) (seats : List WorkerSeat) (i : ℕ) (before after : WorkerSeat) → slice_get seats i ≡ Some before → sum_by f (set seats i after) + f before ≡ sum_by f seats + f after
 one_set f [] i before after at = absurd (none-some before at)
@@ -37,13 +37,13 @@ one_set f (s ∷ ss) (suc i) before after at = let e = one_set f ss i before aft
 one_rises : (f : WorkerSeat → ℕ) (seats : List WorkerSeat) (i : ℕ) (before after : WorkerSeat) (n : ℕ) → slice_get seats i ≡ Some before → f after ≡ f before + n → sum_by f (set seats i after) ≡ sum_by f seats + n
 one_rises f seats i before after n at rose = let e = one_set f seats i before after at in omega (arith, e, rose)
 
--- it is the same seat, whose numbers rose by these
+-- the same seat, whose counts grew by these numbers
 abbrev Adds : ℕ → ℕ → ℕ → ℕ → WorkerSeat → WorkerSeat → Type 0
 Adds m r s d b a =
     IsSameSeat b a × (a.tally.made ≡ b.tally.made + m) × (a.tally.refused ≡ b.tally.refused + r) × (a.tally.submitted ≡ b.tally.submitted + s)
     × (a.tally.discarded ≡ b.tally.discarded + d)
 
--- the seat is this one, of the same worker
+-- the seat is equal to this one
 adds_as : (m r s d : ℕ) (b a is : WorkerSeat) → a ≡ is → Adds m r s d b is → Adds m r s d b a
 adds_as m r s d b a is e adds = subst (λ x. Adds m r s d b x) (sym e) adds
 
@@ -53,7 +53,7 @@ add_zero n = omega arith
 none_added : (n : ℕ) → n ≡ 0 → 0 + n ≡ 0
 none_added n none = omega (arith, none)
 
--- ---- the numbers of all seats, by one call
+-- ---- the counts of all seats, by one call
 
 record CallRises (d : Done) (unlogged : ℕ) (old new : List WorkerSeat) : Type 0 where
   same : AllZip IsSameSeat old new
@@ -77,7 +77,7 @@ rises_at d unlogged m r s c ring Did old new at adds makes_is fails_is submits_i
       failed_is = omega (arith, refused, fails_is);
     })
 
--- no step was made
+-- nothing changed
 rises_nowhere : (d : Done) (unlogged : ℕ) (old new : List WorkerSeat) → new ≡ old → unlogged ≡ 0 → 0 ≡ makes d → 0 ≡ fails d → 0 ≡ submits d → 0 ≡ discards d → CallRises d unlogged old new
 rises_nowhere d unlogged old new is none makes_is fails_is submits_is discards_is =
     subst (λ xs. CallRises d unlogged old xs) (sym is) (record {

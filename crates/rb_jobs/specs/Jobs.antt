@@ -12,7 +12,7 @@ use Rattle.rb_jobs.specs.SeatHelpers.{SeatsLead, makes, submits, discards, fails
 use Rattle.rb_jobs.specs.declared.job.Job.{Job}
 use Rattle.rb_jobs.specs.declared.job.JobAnswer.{JobAnswer}
 
--- whose job it is, the program that was verified, and the bytes of the context
+-- the worker that runs the job, the verified program, and the bytes of the context
 pub record Task : Type 0 where
   pub worker : ℕ
   pub program : Subject
@@ -21,15 +21,16 @@ pub record Task : Type 0 where
 abbrev pub task_of : Job → Task
 task_of job = record { worker = job.worker; program = job.program.now; context = job.ctx.now }
 
--- a worker's seats at some rings, in the rings' order, and how many helper calls it has finished
+-- a worker's seats at its rings, in the rings' order, and the number of helper calls that it has finished
 pub record WorkerAtRings : Type 0 where
   pub rings : List Shared
   pub seats : List WorkerSeat
   pub calls : ℕ
 
--- The job was run: it made these calls, with these answers. They are those of the program's meaning, which gives this answer; no record was handed
--- back; they lead from the one state of the worker's seats to the other; and the seats' numbers together rose by what they say. Each null for flags 0
--- and each answer -EAGAIN is refused in a ring's history, or unlogged.
+-- The job was run: it made these calls, with these answers. They are those of the program's semantics, which gives this
+-- result; no record was handed back; they lead from the old state of the worker's seats to the new one; and the seats'
+-- counts together grew by what the calls say. Each null for flags 0 and each answer -EAGAIN is a refusal in a ring's
+-- history, or unlogged.
 pub record JobRan (task : Task) (answer : JobAnswer) (old new : List WorkerSeat) : Type 0 where
   pub calls : List (AnsweredCall SeatRecord)
   pub length_is : TellsLength task.program task.context answer.result
@@ -44,7 +45,7 @@ pub record JobRan (task : Task) (answer : JobAnswer) (old new : List WorkerSeat)
   pub discarded_is : discarded_in new ≡ discarded_in old + call_total discards (notes_of calls)
   pub failed_is : refused_in new + answer.unlogged ≡ refused_in old + call_total fails (notes_of calls)
 
--- a count of calls, once so many more were made: it stays at the greatest number of 64 bits
+-- a count of calls after `calls` more, which saturates at the greatest number of 64 bits
 abbrev pub counted_on : ℕ → ℕ → ℕ
 counted_on count calls = min (count + calls) (2 ^ 64 - 1)
 
@@ -52,7 +53,7 @@ counted_on count calls = min (count + calls) (2 ^ 64 - 1)
 abbrev pub JobRanCounted : Task → JobAnswer → List WorkerSeat → List WorkerSeat → ℕ → ℕ → Type 0
 JobRanCounted task answer old new count counted = (ran : JobRan task answer old new) × (counted ≡ counted_on count (length ran.calls))
 
--- a job submitted and discarded as many records as it made
+-- a job submits and discards as many records as it makes
 abbrev pub JobsGiveBack : Type 0
 JobsGiveBack =
     (task : Task) (answer : JobAnswer) (old new : List WorkerSeat) → JobRan task answer old new

@@ -1,4 +1,5 @@
--- Helpers over the seats of one worker: what contracts see of them, and how calls lead from one value of them to another (own).
+-- Helpers over the seats of one worker: what contracts see of them, and how calls lead from one value of them to
+-- another (own).
 use Rattle.std.specs.Ordering.{int_eq}
 use Rattle.std.specs.Prelude.{◌≡◌, ℕ, zero, ◌+◌, cond, ℤ, pos, neg_ℤ, Bool, true, false, List, [], ◌∷◌, ◌++◌, length, nat_lt}
 use Rattle.std.specs.List.{AllZip, sum_by}
@@ -10,8 +11,8 @@ use Rattle.rb_interp.specs.AnsweredCalls.{AnsweredCall, note_of}
 use Rattle.rb_jobs.specs.declared.seat_record.SeatRecord.{SeatRecord}
 use Rattle.rb_jobs.specs.SeatCalls.{CallsSeats}
 
--- the rings, the worker's seat at each of them, the calls so far, the room for more, how many of the nulls for flags 0 and of the
--- answers -EAGAIN no entry of a ring explains, and whether the last call made a notice due
+-- the rings, the worker's seat at each of them, the calls so far, the room for more, the number of nulls for flags 0
+-- and of -EAGAIN answers that no entry of a ring explains, and whether a notice is due after the last call
 pub record AtSeats : Type 0 where
   pub rings : List Shared
   pub seats : List WorkerSeat
@@ -20,7 +21,7 @@ pub record AtSeats : Type 0 where
   pub unlogged : ℕ
   pub due : Bool
 
--- a ring of this number is among them
+-- a ring with this number is among them
 abbrev pub has_number : AtSeats → ℕ → Bool
 has_number h ring = nat_lt ring (length h.rings)
 
@@ -32,7 +33,7 @@ IsAt ring seat = (seat.tag ≡ ring.tag) × (seat.ring ≡ ring.ring)
 abbrev pub AtRings : List Shared → List WorkerSeat → Type 0
 AtRings rings seats = AllZip IsAt rings seats
 
--- one call was made at one of the seats, and noted with its answer
+-- one call was made with one of the seats, and appended to the trace with its answer
 pub record CallsHelpers (call : AnsweredCall SeatRecord) (old new : AtSeats) : Type 0 where
   pub rings_same : new.rings ≡ old.rings
   pub trace_is : new.trace ≡ old.trace ++ note_of call ∷ []
@@ -41,18 +42,19 @@ pub record CallsHelpers (call : AnsweredCall SeatRecord) (old new : AtSeats) : T
   pub unlogged_is : new.unlogged ≡ old.unlogged + unlogged
   pub seats : CallsSeats call new.due unlogged old.seats new.seats
 
--- these calls, the oldest first, lead from the one value to the other
+-- these calls, the oldest first, lead from the old value to the new one
 abbrev pub Leads : AtSeats → List (AnsweredCall SeatRecord) → AtSeats → Type 0
 Leads start [] now = now ≡ start
 Leads start (call ∷ more) now = (mid : AtSeats) × CallsHelpers call start mid × Leads mid more now
 
--- these calls lead from the one state of the seats to the other, and so many of their failures no history says
+-- these calls lead from the old state of the seats to the new one, and this many of their failures are recorded in no
+-- history
 abbrev pub SeatsLead : List WorkerSeat → List (AnsweredCall SeatRecord) → ℕ → List WorkerSeat → Type 0
 SeatsLead old [] unlogged new = (new ≡ old) × (unlogged ≡ 0)
 SeatsLead old (call ∷ more) unlogged new =
     (due : Bool) × (mid : List WorkerSeat) × (first rest : ℕ) × CallsSeats call due first old mid × SeatsLead mid more rest new × (unlogged ≡ first + rest)
 
--- ---- what a call adds to the seats' numbers, all seats together
+-- ---- what a call adds to the counts of all seats together
 
 -- a record was made: a reservation was granted, or an output answered 0
 abbrev pub makes : Done → ℕ
@@ -73,18 +75,18 @@ discards _ = 0
 abbrev pub is_no_record : ℤ → Bool
 is_no_record answer = int_eq answer (neg_ℤ EAGAIN)
 
--- no record was made, since the ring or its chapter had no room or there was no memory: null for flags 0, or -EAGAIN
+-- no record was made, because the ring or its chapter had no room or an allocation failed: null for flags 0, or -EAGAIN
 abbrev pub fails : Done → ℕ
 fails (Reserve ring len zero false) = 1
 fails (Output ring len flags answer) = cond (is_no_record answer) 1 0
 fails _ = 0
 
--- how often the calls did so
+-- the sum over the calls
 abbrev pub call_total : (Done → ℕ) → List Done → ℕ
 call_total what [] = 0
 call_total what (call ∷ more) = what call + call_total what more
 
--- the numbers of all seats together
+-- the counts of all seats together
 abbrev pub made_in : List WorkerSeat → ℕ
 made_in seats = sum_by (λ s. s.tally.made) seats
 

@@ -1,4 +1,4 @@
--- What follows where calls lead from one state of a worker's seats to another: how the seats' numbers rise, which
+-- The consequences of calls that lead from one state of a worker's seats to another: how the seats' counts grow, which
 -- answers there are, and that the seats have seen what they had seen before (own).
 use Rattle.std.specs.Prelude.{◌≡◌, ℕ, ◌+◌, List, ◌++◌, length}
 use Rattle.std.specs.List.{AllZip}
@@ -9,8 +9,8 @@ use Rattle.rb_interp.specs.AnsweredCalls.{AnsweredCall, notes_of, AllMayAnswer}
 use Rattle.rb_jobs.specs.declared.seat_record.SeatRecord.{SeatRecord}
 use Rattle.rb_jobs.specs.SeatHelpers.{AtSeats, Leads, SeatsLead, makes, submits, discards, fails, call_total, made_in, refused_in, submitted_in, discarded_in}
 
--- the same seats, whose numbers rose by what these calls say; each call that failed since a ring or its chapter had no room or there was no
--- memory is refused in a ring's history, or unlogged
+-- the same seats, whose counts grew by what these calls say; each call that failed because a ring or its chapter had no
+-- room or an allocation failed is a refusal in a ring's history, or unlogged
 pub record TotalsRise (calls : List Done) (unlogged : ℕ) (old new : List WorkerSeat) : Type 0 where
   pub same : AllZip IsSameSeat old new
   pub made_is : made_in new ≡ made_in old + call_total makes calls
@@ -18,26 +18,26 @@ pub record TotalsRise (calls : List Done) (unlogged : ℕ) (old new : List Worke
   pub discarded_is : discarded_in new ≡ discarded_in old + call_total discards calls
   pub failed_is : refused_in new + unlogged ≡ refused_in old + call_total fails calls
 
--- where calls lead from seats to seats, the seats' numbers rise by what the calls say
+-- if calls lead from seats to seats, the seats' counts grow by what the calls say
 abbrev pub SeatsRise : Type 0
 SeatsRise =
     (old new : List WorkerSeat) (calls : List (AnsweredCall SeatRecord)) (unlogged : ℕ) → SeatsLead old calls unlogged new → TotalsRise (notes_of calls) unlogged old new
 
--- their answers are those that helpers may give
+-- their answers are answers that helpers may give
 abbrev pub SeatsMayAnswer : Type 0
 SeatsMayAnswer =
     (old new : List WorkerSeat) (calls : List (AnsweredCall SeatRecord)) (unlogged : ℕ) → SeatsLead old calls unlogged new → AllMayAnswer (notes_of calls)
 
--- what the seat sees begins with what it had seen before
+-- what the seat has seen begins with what it had seen before
 abbrev pub SeatBegins : WorkerSeat → WorkerSeat → Type 0
 SeatBegins before after = BeginsWith after.seen before.seen
 
--- so it is for each of the seats
+-- the same for each of the seats
 abbrev pub SeatsGoOn : Type 0
 SeatsGoOn =
     (old new : List WorkerSeat) (calls : List (AnsweredCall SeatRecord)) (unlogged : ℕ) → SeatsLead old calls unlogged new → AllZip SeatBegins old new
 
--- what calls that lead from one value of the helpers to another leave of them
+-- the effect of calls that lead from one value of the helpers to another
 pub record LeadsSeats (start : AtSeats) (calls : List (AnsweredCall SeatRecord)) (now : AtSeats) : Type 0 where
   pub rings_same : now.rings ≡ start.rings
   pub trace_is : now.trace ≡ start.trace ++ notes_of calls
@@ -46,6 +46,6 @@ pub record LeadsSeats (start : AtSeats) (calls : List (AnsweredCall SeatRecord))
   pub unlogged_is : now.unlogged ≡ start.unlogged + unlogged
   pub seats_led : SeatsLead start.seats calls unlogged now.seats
 
--- where calls lead from helpers to helpers, they lead from the seats of the one to those of the other
+-- if calls lead from helpers to helpers, they lead from the seats of the former to those of the latter
 abbrev pub HelpersLead : Type 0
 HelpersLead = (start now : AtSeats) (calls : List (AnsweredCall SeatRecord)) → Leads start calls now → LeadsSeats start calls now

@@ -1,4 +1,4 @@
--- The bytes of the record that helpers over seats granted, which are its reservation's (own).
+-- The bytes of a record that helpers over seats granted, which are those of its reservation (own).
 use Rattle.std.specs.Prelude.{ℕ, List}
 use Rattle.rb_lend.specs.Ranges.{in_place_of}
 use Rattle.rb_jobs.specs.declared.seat_record.SeatRecord.{SeatRecord}
@@ -6,6 +6,6 @@ use Rattle.rb_jobs.specs.declared.seat_record.SeatRecord.{SeatRecord}
 abbrev pub reserved_bytes : SeatRecord → List ℕ
 reserved_bytes owned = owned.reservation.granted.bytes
 
--- with these bytes written into it
+-- the record with these bytes written to it
 abbrev pub with_record_bytes : SeatRecord → List ℕ → SeatRecord
 with_record_bytes owned bytes = record owned { reservation = record owned.reservation { granted = record owned.reservation.granted { bytes = in_place_of owned.reservation.granted.bytes bytes } } }

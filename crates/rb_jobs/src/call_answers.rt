@@ -1,4 +1,4 @@
-//! What the answer of a ring says.
+//! What a ring's result means for the helper call.
 
 ghost use Rattle.std.specs.Prelude.{◌≡◌};
 ghost use Rattle.rb_jobs.specs.inner.CallAnswers.{due_in, output_number, unlogged_in};
@@ -14,7 +14,7 @@ pub(crate) fn is_due<E>(answer: &Result<Notice, E>) -> bool
     matches!(answer, Ok(Notice::Due))
 }
 
-// Whether the call failed and no history says so.
+// Returns whether the call failed and no history records the failure.
 pub(crate) fn is_unlogged<T>(answer: &Result<T, NoRecord>) -> bool
     ensures { result ≡ unlogged_in answer.now }
 {

@@ -1,4 +1,4 @@
-//! Helpers with a gate before each call.
+//! Helpers that pass a gate before each call.
 
 ghost use Rattle.std.specs.Prelude.{◌≡◌, ℕ, ◌+◌, ◌<◌, List, [], ◌∷◌, ◌++◌, length, replicate, refl, IfErr, IfSome, is_some, is_ok, true};
 ghost use Rattle.std.proofs.Common.{◌∙◌};
@@ -10,19 +10,19 @@ use crate::job::Gate;
 use rb_interp::{Done, Helpers};
 use rb_lend::Lent;
 
-/// Helpers of which each call goes through a worker's gate first. They answer as the inner helpers do. A call is counted by their trace alone, so a
-/// gate that looks at no number costs nothing.
+/// A wrapper around helpers that calls a worker's gate before each call, and returns what the inner helpers return. The
+/// calls are counted by the trace of the inner helpers alone, so a gate that ignores the number costs nothing.
 #[derive(Drop)]
 pub(crate) struct GatedHelpers<'g, H, G> {
     pub(crate) inner: H,
     pub(crate) worker: u32,
     gate: &'g G,
-    /// How many calls the worker had finished before those of the trace.
+    /// The number of calls that the worker had finished before the first call of the trace.
     pub(crate) calls: u64,
 }
 
 impl<'g, H: Helpers + Drop, G: Gate> GatedHelpers<'g, H, G> {
-    /// The inner helpers behind the gate of a worker that has finished so many calls.
+    /// Wraps the inner helpers in the gate of a worker that has finished `calls` calls.
     pub(crate) fn new(inner: H, gate: &'g G, calls: u64) -> GatedHelpers<'g, H, G>
         ensures inner { result.inner ≡ inner }
         ensures calls { result.calls ≡ calls }
@@ -35,21 +35,21 @@ impl<'g, H: Helpers + Drop, G: Gate> GatedHelpers<'g, H, G> {
         }
     }
 
-    /// The inner helpers.
+    /// Returns the inner helpers.
     pub(crate) fn into_inner(self) -> H
         ensures { result ≡ self.entry.inner }
     {
         self.inner
     }
 
-    /// How many calls the worker has finished.
+    /// Returns the number of calls that the worker has finished.
     pub(crate) fn finished(&self) -> u64
         ensures { result ≡ counted_on self.now.calls (length (H.trace_of self.now.inner)) }
     {
         self.calls.saturating_add(self.inner.trace().len() as u64)
     }
 
-    // Calls the gate with the number of calls that were finished.
+    // Calls the gate with the number of finished calls.
     fn pass_gate(&self) {
         self.gate.at(self.worker, self.finished());
     }

@@ -1,8 +1,9 @@
-//! The laws on jobs.
+//! The laws about jobs.
 
 ghost use Rattle.rb_jobs.specs.Jobs.{JobsGiveBack};
 
-/// A job submitted and discarded as many records as it made. The function does nothing; its contract is the law.
+/// The law that a job submits and discards as many records as it makes. The function does nothing; its contract is the
+/// law.
 pub fn jobs_give_back()
     ensures { JobsGiveBack }
 {}

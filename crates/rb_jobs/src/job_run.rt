@@ -14,9 +14,11 @@ use std::alloc::{AllocError, Global};
 use std::marker::Model;
 use std::sync::Wait;
 
-/// A worker that runs one job after another, over its seats, one at each of the rings and in their order. The memory of a job's trace and of its
-/// machine is used again for the next. Contracts see the rings, the seats and how many helper calls the worker has finished, which stays at the
-/// greatest `u64`.
+/// A runner that executes one job after another for a worker, over the worker's seats: one at each of the rings, in the
+/// rings' order. It reuses the memory of a job's trace and of its machine for the next job.
+///
+/// Contracts see the rings, the seats, and the number of helper calls that the worker has finished, which saturates at
+/// `u64::MAX`.
 #[derive(Drop)]
 pub struct JobRunner<'r, 'j, R, G, K> {
     helpers: GatedHelpers<'r, SeatHelpers<'r, R, K>, G>,
@@ -40,8 +42,9 @@ impl<'r, 'j, R, G, K> Model for JobRunner<'r, 'j, R, G, K> {
 }
 
 impl<'r, 'j, R: Wait, G: Gate, K: Stock> JobRunner<'r, 'j, R, G, K> {
-    /// A worker at its seats that has finished so many helper calls. Sheets of the stock are used again for its records; of used bytes nothing is
-    /// seen. It takes no memory.
+    /// Returns a runner for a worker with these seats that has finished `calls` helper calls. Does not allocate.
+    ///
+    /// Its records reuse sheets (byte buffers) from the stock; programs see nothing of their old contents.
     pub fn new(
         rt: &'r R,
         alloc: Global,
@@ -61,11 +64,12 @@ impl<'r, 'j, R: Wait, G: Gate, K: Stock> JobRunner<'r, 'j, R, G, K> {
         }
     }
 
-    /// Runs a job to its end over the worker's seats. Before each helper call the gate is called, with the number of calls that the worker has
-    /// finished, which is then raised.
+    /// Runs a job to its end over the worker's seats. Before each helper call it calls the gate with the number of
+    /// calls that the worker has finished, and counts the call afterwards.
     ///
-    /// `AllocError` is returned where there is no memory for the trace of the calls: nothing ran. It may wait for other threads at each call,
-    /// and takes as many steps as the program has units at most. Memory is taken only where the trace has room for fewer calls than the program has.
+    /// Returns `AllocError` if the trace of the calls can't be allocated: then nothing ran. It allocates only if the
+    /// trace has room for fewer calls than the program contains. It may wait for other threads at each call, and
+    /// executes at most as many steps as the program has units.
     pub fn run(&mut self, job: &Job<'j>) -> Result<JobAnswer, AllocError>
         requires rings { job.now.program.now.rings ≤ length self.old.rings }
         ensures ran { IfOk result (λ answer. JobRanCounted (task_of job.now) answer self.old.seats self.new.seats self.old.calls self.new.calls) }
@@ -77,7 +81,7 @@ impl<'r, 'j, R: Wait, G: Gate, K: Stock> JobRunner<'r, 'j, R, G, K> {
         Ok(run_begun(&mut self.helpers, &mut self.machine, job))
     }
 
-    /// The seats, and how many helper calls the worker has finished.
+    /// Returns the seats, and the number of helper calls that the worker has finished.
     pub fn into_seats(self) -> (Vec<Seat>, u64)
         ensures seats { result.0.items ≡ self.entry.seats }
         ensures at_rings { AtRings self.entry.rings result.0.items }
@@ -88,7 +92,7 @@ impl<'r, 'j, R: Wait, G: Gate, K: Stock> JobRunner<'r, 'j, R, G, K> {
     }
 }
 
-// Runs a job over helpers that have begun, with room for its calls.
+// Runs a job with helpers that have no calls yet and room for the job's calls.
 fn run_begun<'j, R: Wait, G: Gate, K: Stock>(
     helpers: &mut GatedHelpers<'_, SeatHelpers<'_, R, K>, G>,
     machine: &mut MachineRoom<'j, SeatRecord>,
@@ -108,12 +112,13 @@ fn run_begun<'j, R: Wait, G: Gate, K: Stock>(
     JobAnswer { result, unlogged }
 }
 
-/// Runs a job to its end over the worker's seats, one at each of the rings and in their order, and hands the seats back. Before each
-/// helper call the gate is called, with the number of calls that the worker has finished, which is then raised. Sheets of the stock are used
-/// again for its records; of used bytes nothing is seen.
+/// Runs a job to its end over the worker's seats, one at each of the rings and in the rings' order, and returns the
+/// seats. Before each helper call it calls the gate with the number of calls that the worker has finished, and counts
+/// the call afterwards.
 ///
-/// `AllocError` is returned where there is no memory for the trace of the calls: nothing ran. It may wait for other threads at each call,
-/// and takes as many steps as the program has units at most.
+/// The job's records reuse sheets from the stock; the program sees nothing of their old contents. Returns `AllocError`
+/// if the trace of the calls can't be allocated: then nothing ran. It may wait for other threads at each call, and
+/// executes at most as many steps as the program has units.
 pub fn run_job<R: Wait, G: Gate, K: Stock>(
     rt: &R,
     alloc: Global,

@@ -1,23 +1,28 @@
-//! A job: one run of a verified program (RFC 9669, with the helper calls of bpf-helpers(7)) over a worker's seats at shared rings.
+//! Jobs: a job is one run of a verified program (RFC 9669, with the helper calls of bpf-helpers(7)) over a worker's
+//! seats (its handles to shared rings).
 //!
-//! `run_job` is for whoever runs a program over shared rings, and a `JobRunner` for whoever runs many one after another, as rb_workers does:
-//! its helpers, with the memory of their calls, and the room of its machine live as long as its jobs. What is promised: the result is the one
-//! that the program's meaning gives under the calls that were made; the numbers of the worker's seats rise by just what these calls
-//! say; no record is handed back in it, so it submitted and discarded as many as it made (`jobs_give_back`); and
-//! the seats come back, whatever the result. Before each helper call a `Gate` is called outside every lock.
+//! `run_job` runs one program. A `JobRunner` runs many programs one after another, as rb_workers does: its helpers,
+//! with the memory for their calls, and the room of its machine live as long as the runner.
+//!
+//! Proved: the result is the one that the program's semantics gives under the calls that were made. The counts of the
+//! worker's seats grow exactly by these calls. No record is handed back to the program, so it submitted and discarded
+//! as many records as it made (`jobs_give_back`). The seats are returned, whatever the result.
+//!
+//! Before each helper call, a `Gate` is called while no lock is held; this is tested, not proved.
 //!
 //! # Helpers over seats
 //!
-//! `SeatHelpers` carries out what bpf-helpers(7) says of `bpf_ringbuf_reserve`, `submit`, `discard`, `output` and `query`, each call
-//! at the seat of the ring that it names, and keeps the trace of the calls. It is for whoever runs programs in several threads
-//! over the same rings: each worker has helpers of its own.
+//! `SeatHelpers` implements `bpf_ringbuf_reserve`, `submit`, `discard`, `output` and `query` as bpf-helpers(7) defines
+//! them. Each call uses the seat at the ring that it names, and is appended to a trace. Several threads can run
+//! programs over the same rings if each worker has its own helpers.
 //!
-//! What is promised: each call is one call of the shared ring that it names, on the very record, bytes and flags that it was given,
-//! and is answered as that ring answers over its whole history; a call changes no seat but its ring's, and one with
-//! bad flags none; the trace has each call with its answer; each null for flags 0 and each -EAGAIN is either refused in a ring's history
-//! or counted as unlogged, where the ring had no room for entries or memory ran out; a record that was granted is taken back, whatever other
-//! threads did meanwhile (`specs/KeptRecords.antt`); and a notice that is due is told (`due`). What follows
-//! for the seats' numbers is stated as laws (`seats_rise`).
+//! Proved: each call is one call of the shared ring that it names, with exactly the record, bytes and flags that it was
+//! given, and has the result that this ring gives over its whole history. A call changes only its ring's seat; a call
+//! with bad flags changes none. The trace has each call with its result. Each null for flags 0 and each -EAGAIN is
+//! either recorded as a refusal in a ring's history, or counted as unlogged because the ring had no room for entries or
+//! memory could not be allocated. A granted record is accepted when it is submitted or discarded, whatever other
+//! threads did meanwhile (`specs/KeptRecords.antt`). A notice that is due is reported (`due`). The consequences for the
+//! seats' counts are stated as laws (`seats_rise`).
 #![tactic(auto)]
 
 mod call_answers;

@@ -1,4 +1,4 @@
-//! Why a helper made no record.
+//! Why a helper call made no record.
 
 use rb_shared_ring::{ReserveFault, WaitBackoff};
 
@@ -7,16 +7,17 @@ use rb_shared_ring::{ReserveFault, WaitBackoff};
 pub(crate) enum NoRecord {
     /// The flags are unknown. Nothing was tried.
     BadFlags,
-    /// There was no memory for the record's sheet, or no sheet has so many bytes. The ring was not called.
+    /// The record's sheet could not be allocated, or a sheet can't have that many bytes. The ring was not called.
     NoSheet,
-    /// The ring granted none.
+    /// The ring refused it.
     Refused(ReserveFault),
 }
 
 #[cold]
 #[inline(never)]
-/// Waits for some microseconds where the ring has no room, and gives up the processor: the ring's consumer is late, perhaps for want of one.
-/// The next calls would find no room either, and be done with it much sooner than calls that find some. Where its chapter has none the worker has waited.
+/// If the ring is full, waits for a few microseconds and yields the processor: the ring's consumer is late, perhaps
+/// because it has no processor. The next calls would find no room either, and would finish much sooner than calls that
+/// find some. If the ring's chapter was full, the worker has waited already.
 pub(crate) fn give_way(fault: ReserveFault) {
     if matches!(fault, ReserveFault::Full) {
         WaitBackoff::new().wait();
@@ -25,8 +26,9 @@ pub(crate) fn give_way(fault: ReserveFault) {
 
 #[cold]
 #[inline(never)]
-/// Waits where the ring's chapter had no room at so many calls and one more: some microseconds behind the first, twice as long behind each of the next
-/// three, and then as long as behind the fourth. The processor is given up.
+/// Waits after the ring's chapter was full at `calls` + 1 calls, and yields the processor. It waits for a few
+/// microseconds after the first call, twice as long after each of the next three, and from then on as long as after the
+/// fourth.
 pub(crate) fn wait_for_keeper(calls: u32) {
     let times = match calls {
         0 => 1,

@@ -1,5 +1,5 @@
-//! Calls of a ring for a record, at one seat. Where the ring's chapter has no room the ring is called again: its keeper may hand the chapter out
-//! meanwhile.
+//! Calls of a ring for a record, with one seat. If the ring's chapter (the bounded segment of its history) is full, the
+//! ring is called again: its keeper may hand out the chapter meanwhile.
 
 ghost use Rattle.std.specs.Prelude.{◌≡◌, ◌↔◌, ◌≤◌, IfErr, IfOk, IsErrOf, IsTrue, length, replicate};
 ghost use Rattle.rb_chapter_ring.specs.Hands.{AreAllOut};
@@ -17,12 +17,14 @@ use rb_lend::Sheet;
 use rb_shared_ring::{Reservation, ReserveFault, Seat, SharedRing};
 use std::sync::Wait;
 
-/// How often a ring is called for one record before its full chapter is told. Between the calls the worker waits, some microseconds at first and some
-/// thirty at most, and gives up the processor each time: two milliseconds in all, and longer where other threads have the processor.
+/// The number of calls of a ring for one record before a full chapter is reported.
+///
+/// Between the calls the worker waits, a few microseconds at first and about thirty at most, and yields the processor
+/// each time. That is two milliseconds in all, and more if other threads use the processor.
 pub(crate) const CHAPTER_TRIES: u32 = 64;
 
 #[inline(always)]
-// Whether the ring's chapter had no room.
+// Returns whether the ring's chapter was full.
 fn is_chapter_full(fault: ReserveFault) -> bool
     ensures exact { IsTrue result ↔ (fault ≡ ChapterFull) }
 {
@@ -31,7 +33,7 @@ fn is_chapter_full(fault: ReserveFault) -> bool
 
 #[cold]
 #[inline(never)]
-// Puts the sheet of a refused call into the stock, and gives way where the ring has no room.
+// Puts the sheet of a refused call into the stock, and yields if the ring is full.
 fn take_back<S: Stock>(stock: &S, sheet: Sheet, fault: ReserveFault) {
     stock_sheet(stock, sheet);
     give_way(fault);
@@ -59,8 +61,10 @@ fn reserve_once<R: Wait>(
 }
 
 #[inline(always)]
-/// Calls the ring for a reservation, and again where its chapter has no room. There is one call of the ring, in a loop, so that it stands in line and a
-/// reservation that is granted at once goes out as it is.
+/// Calls the ring for a reservation, and again if its chapter is full.
+///
+/// The call of the ring occurs once, in a loop, so that it is inlined, and a reservation that is granted at once is
+/// returned without a copy.
 pub(crate) fn reserve_at<R: Wait, S: Stock>(
     rt: &R,
     stock: &S,
@@ -113,7 +117,7 @@ fn output_once<R: Wait>(
 }
 
 #[inline(always)]
-/// Calls the ring for an output, likewise.
+/// Calls the ring for an output, and again if its chapter is full.
 pub(crate) fn output_at<R: Wait, S: Stock>(
     rt: &R,
     stock: &S,

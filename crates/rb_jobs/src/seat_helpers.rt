@@ -25,7 +25,8 @@ use std::alloc::{AllocError, Global};
 use std::marker::Model;
 use std::sync::Wait;
 
-/// Helpers over the seats of one worker, one at each of some rings. A ring's number is its place among them.
+/// Helper functions over the seats of one worker, one at each of a list of rings. A ring's number is its index in the
+/// list.
 #[derive(Drop)]
 pub struct SeatHelpers<'h, R, S> {
     rt: &'h R,
@@ -60,8 +61,8 @@ impl<'h, R, S> Model for SeatHelpers<'h, R, S> {
 }
 
 impl<'h, R: Wait, S: Stock> SeatHelpers<'h, R, S> {
-    /// Helpers over these rings and the worker's seats there, in the rings' order, with room for `room` calls. Where there is no memory
-    /// for the trace, the seats are handed back.
+    /// Returns helpers over these rings and the worker's seats there, in the rings' order, with room for `room` calls.
+    /// If the trace can't be allocated, returns the seats with the error.
     pub fn new(
         rt: &'h R,
         alloc: Global,
@@ -90,7 +91,8 @@ impl<'h, R: Wait, S: Stock> SeatHelpers<'h, R, S> {
         }
     }
 
-    /// Helpers over these rings and the worker's seats there, in the rings' order, with room for no call: `begin` makes some. It takes no memory.
+    /// Returns helpers over these rings and the worker's seats there, in the rings' order, with no room for calls:
+    /// `begin` makes room. Does not allocate.
     pub(crate) fn at_rest(
         rt: &'h R,
         alloc: Global,
@@ -114,8 +116,8 @@ impl<'h, R: Wait, S: Stock> SeatHelpers<'h, R, S> {
         }
     }
 
-    /// Forgets the calls so far, and makes room for `room` more: memory is taken only where the trace never had room for as many. Where there is
-    /// none, there is room for no call.
+    /// Clears the trace and makes room for `room` calls. Allocates only if the trace never had that much room. If the
+    /// allocation fails, there is no room for a call.
     pub(crate) fn begin(&mut self, room: usize) -> Result<(), AllocError>
         ensures begun { IfOk result (λ _. self.new ≡ record { rings = self.old.rings; seats = self.old.seats; trace = []; room = room; unlogged = 0; due = false }) }
         ensures refused { IfErr result (λ _. self.new ≡ record { rings = self.old.rings; seats = self.old.seats; trace = []; room = 0; unlogged = 0; due = false }) }
@@ -129,7 +131,7 @@ impl<'h, R: Wait, S: Stock> SeatHelpers<'h, R, S> {
         Ok(())
     }
 
-    /// The seats, in the rings' order.
+    /// Returns the seats, in the rings' order.
     pub fn into_seats(self) -> Vec<Seat>
         ensures seats { result.items ≡ self.entry.seats }
         ensures at_rings { AtRings self.entry.rings result.items }
@@ -137,7 +139,7 @@ impl<'h, R: Wait, S: Stock> SeatHelpers<'h, R, S> {
         self.seats
     }
 
-    /// How many of the nulls for flags 0 and of the answers `-EAGAIN` no entry of a ring explains.
+    /// Returns the number of nulls for flags 0 and of `-EAGAIN` results that no entry of a ring explains.
     pub fn unlogged(&self) -> u64
         ensures count { result ≡ self.now.unlogged }
         ensures within { result ≤ length self.now.trace }
@@ -145,8 +147,8 @@ impl<'h, R: Wait, S: Stock> SeatHelpers<'h, R, S> {
         self.unlogged
     }
 
-    /// Whether the last call made a notice due: it was a submit, a discard or an output that its ring took, and the ring's consumer is to be
-    /// told (bpf-helpers(7), BPF_RB_NO_WAKEUP and BPF_RB_FORCE_WAKEUP).
+    /// Returns whether a notice is due after the last call: it was a submit, a discard or an output that its ring
+    /// accepted, and the ring's consumer must be notified (bpf-helpers(7), BPF_RB_NO_WAKEUP and BPF_RB_FORCE_WAKEUP).
     pub fn due(&self) -> bool
         ensures due { result ≡ self.now.due }
     {
@@ -155,7 +157,8 @@ impl<'h, R: Wait, S: Stock> SeatHelpers<'h, R, S> {
 }
 
 impl<'h, R: Wait, S: Stock> SeatHelpers<'h, R, S> {
-    // Reserves a record at the ring's seat, without noting the call. Its sheet is made before the ring is held.
+    // Reserves a record with the ring's seat, without adding the call to the trace. Its sheet is made before the ring's
+    // lock is taken.
     fn try_reserve(&mut self, ring: u32, n: u32, flags: u64) -> Result<Reservation, NoRecord>
         requires ring { has_number self.old ring ≡ true }
         ensures rest { self.new ≡ record self.old { seats = self.new.seats } }
@@ -173,7 +176,8 @@ impl<'h, R: Wait, S: Stock> SeatHelpers<'h, R, S> {
         reserve_at(self.rt, self.stock, shared, seat, n, sheet)
     }
 
-    // Outputs the bytes at the ring's seat, without noting the call. Its sheet is made before the ring is held.
+    // Outputs the bytes with the ring's seat, without adding the call to the trace. The sheet is made before the ring's
+    // lock is taken.
     fn try_output(&mut self, ring: u32, bytes: &[u8], flags: u64) -> Result<Notice, NoRecord>
         requires ring { has_number self.old ring ≡ true }
         ensures rest { self.new ≡ record self.old { seats = self.new.seats } }
@@ -190,7 +194,7 @@ impl<'h, R: Wait, S: Stock> SeatHelpers<'h, R, S> {
         output_at(self.rt, self.stock, shared, seat, sheet, flags)
     }
 
-    // Asks the ring for a number at its seat, without noting the call.
+    // Queries the ring with its seat, without adding the call to the trace.
     fn try_query(&mut self, ring: u32, what: u64) -> u64
         requires ring { has_number self.old ring ≡ true }
         ensures rest { self.new ≡ record self.old { seats = self.new.seats } }
@@ -203,7 +207,8 @@ impl<'h, R: Wait, S: Stock> SeatHelpers<'h, R, S> {
         }
     }
 
-    // Notes a call and its answer, with one failure that no history says where `unlogged` says so, and whether a notice is due.
+    // Adds a call with its result to the trace, counts it as unlogged if `unlogged` is set, and stores whether a notice
+    // is due.
     fn log(&mut self, done: Done, unlogged: bool, due: bool)
         requires room { 0 < self.old.room }
         ensures noted { self.new ≡ with_call self.old done unlogged due }
@@ -247,9 +252,12 @@ impl<'h, R: Wait, S: Stock> Helpers for SeatHelpers<'h, R, S> {
 
     ghost leads_on = { called_on };
 
-    /// Null where flags are not 0, without memory and without a step of the ring; where the ring has no room, which its history says; and
-    /// where its chapter has no room, at 64 calls between which the worker waits, where none of the seat's four hands is free, or where memory is
-    /// refused for more than 16 bytes, which are unlogged.
+    /// Reserves a record of `n` bytes, or returns null.
+    ///
+    /// Returns null if the flags are not 0, without allocating or calling the ring; if the ring has no room, which its
+    /// history records; and, as an unlogged failure, if the ring's chapter is full at 64 calls, between which the
+    /// worker waits, if none of the seat's four hands (slots for records that are out) is free, or if an allocation for
+    /// more than 16 bytes fails.
     fn reserve(&mut self, ring: u32, n: u32, flags: u64) -> Option<SeatRecord>
         requires room { 0 < self.old.room }
         requires ring { has_number self.old ring ≡ true }
@@ -286,8 +294,10 @@ impl<'h, R: Wait, S: Stock> Helpers for SeatHelpers<'h, R, S> {
         }
     }
 
-    /// Takes each record that these helpers granted and that was not given back since. Hands one back where its ring is none of these, or where it
-    /// is out in no hand of the seat there.
+    /// Submits a record. It accepts each record that these helpers granted and that was not submitted or discarded
+    /// since.
+    ///
+    /// Returns the record if its ring is not among the helpers' rings, or if it is not out in a hand of the seat there.
     fn submit(&mut self, owned: SeatRecord, flags: u64) -> Result<(), SeatRecord>
         requires room { 0 < self.old.room }
         ensures trace { self.new.trace ≡ self.old.trace ++ Submit flags (is_ok result) ∷ [] }
@@ -300,8 +310,10 @@ impl<'h, R: Wait, S: Stock> Helpers for SeatHelpers<'h, R, S> {
         self.give_back(owned, RecordEnd::Submit, flags)
     }
 
-    /// Takes each record that these helpers granted and that was not given back since. Hands one back where its ring is none of these, or where it
-    /// is out in no hand of the seat there.
+    /// Discards a record. It accepts each record that these helpers granted and that was not submitted or discarded
+    /// since.
+    ///
+    /// Returns the record if its ring is not among the helpers' rings, or if it is not out in a hand of the seat there.
     fn discard(&mut self, owned: SeatRecord, flags: u64) -> Result<(), SeatRecord>
         requires room { 0 < self.old.room }
         ensures trace { self.new.trace ≡ self.old.trace ++ Discard flags (is_ok result) ∷ [] }
@@ -314,9 +326,12 @@ impl<'h, R: Wait, S: Stock> Helpers for SeatHelpers<'h, R, S> {
         self.give_back(owned, RecordEnd::Discard, flags)
     }
 
-    /// `-EINVAL` where flags are above 3, without memory and without a step of the ring; `-EAGAIN` where the ring has no room, which its
-    /// history says, where its chapter has no room, at 64 calls between which the worker waits, where memory is refused for more than 16
-    /// bytes, and for more bytes than a record can have, which are unlogged; else 0.
+    /// Outputs the bytes as a record and returns 0, `-EINVAL` or `-EAGAIN`.
+    ///
+    /// Returns `-EINVAL` if the flags are above 3, without allocating or calling the ring. Returns `-EAGAIN` if the
+    /// ring has no room, which its history records; and, as an unlogged failure, if the ring's chapter is full at 64
+    /// calls, between which the worker waits, if an allocation for more than 16 bytes fails, or if there are more bytes
+    /// than a record can have.
     fn output(&mut self, ring: u32, bytes: &[u8], flags: u64) -> i64
         requires room { 0 < self.old.room }
         requires ring { has_number self.old ring ≡ true }
@@ -342,7 +357,7 @@ impl<'h, R: Wait, S: Stock> Helpers for SeatHelpers<'h, R, S> {
         number
     }
 
-    /// The ring's answer. It changes no seat's counts.
+    /// Returns the ring's answer to the query. It changes no counts of a seat.
     fn query(&mut self, ring: u32, what: u64) -> u64
         requires room { 0 < self.old.room }
         requires ring { has_number self.old ring ≡ true }

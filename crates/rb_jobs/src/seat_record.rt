@@ -3,7 +3,7 @@
 use rb_lend::Lent;
 use rb_shared_ring::Reservation;
 
-/// A record that was granted at one of the helpers' rings: the reservation, and the ring's number among them.
+/// A record that was granted at one of the helpers' rings: the reservation, and the number of its ring.
 #[derive(Drop)]
 pub struct SeatRecord {
     /// The ring's number.

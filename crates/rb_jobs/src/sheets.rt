@@ -1,4 +1,4 @@
-//! The sheets of a call, which are made before the ring is held.
+//! The sheets (byte buffers) of a call, which are made before the ring's lock is taken.
 
 ghost use Rattle.std.specs.Prelude.{◌≡◌, ◌≤◌, IfSome, IsSome, length, replicate};
 
@@ -12,7 +12,8 @@ pub(crate) fn stock_sheet<S: Stock>(stock: &S, sheet: Sheet) {
 }
 
 #[inline(always)]
-// A sheet of `n` zero bytes; where they take memory, a used one if the stock has one. None only where they do.
+// Returns a sheet of `n` zero bytes. If they need an allocation, reuses a sheet of the stock if it has one. Returns
+// `None` only if an allocation fails.
 pub(crate) fn zero_sheet<S: Stock>(alloc: Global, stock: &S, n: u32) -> Option<Sheet>
     ensures zeros { IfSome result (λ s. s ≡ replicate n 0) }
     ensures short { n ≤ 16 → IsSome result }
@@ -24,7 +25,7 @@ pub(crate) fn zero_sheet<S: Stock>(alloc: Global, stock: &S, n: u32) -> Option<S
 }
 
 #[inline(never)]
-// The same, where the bytes take memory.
+// Does the same for bytes that need an allocation.
 fn long_sheet<S: Stock>(alloc: Global, stock: &S, n: u32) -> Option<Sheet>
     ensures { IfSome result (λ s. s ≡ replicate n 0) }
 {
@@ -40,7 +41,8 @@ fn long_sheet<S: Stock>(alloc: Global, stock: &S, n: u32) -> Option<Sheet>
     }
 }
 
-// A sheet with a copy of these bytes; none for more than a sheet can have. None only where they take memory.
+// Returns a sheet with a copy of the bytes, or `None` if an allocation fails or there are more bytes than a sheet can
+// have.
 pub(crate) fn copied_sheet<S: Stock>(alloc: Global, stock: &S, bytes: &[u8]) -> Option<Sheet>
     ensures copy { IfSome result (λ s. s ≡ bytes.now) }
     ensures short { length bytes.now ≤ 16 → IsSome result }

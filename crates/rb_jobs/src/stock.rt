@@ -1,18 +1,19 @@
-//! Used sheets.
+//! Stocks of used sheets.
 
 ghost use Rattle.std.specs.Prelude.{◌≡◌, IfSome, IsSome, None};
 
 use rb_lend::Sheet;
 
-/// A sheet of at most so many bytes takes no memory, so it is made new and not had from a stock.
+/// The greatest length in bytes of a sheet that needs no allocation. Such a sheet is made new and not taken from a
+/// stock.
 pub const SHORT: u32 = 16;
 
-/// Used sheets that can be had again. Nothing is promised of what a stock keeps.
+/// A stock of used sheets (byte buffers) for reuse. Nothing is assumed about which sheets a stock keeps.
 pub trait Stock {
-    /// A used sheet, where there is one.
+    /// Returns a used sheet, if there is one.
     fn used(&self) -> Option<Sheet>;
 
-    /// Keeps the sheet, or hands it back.
+    /// Keeps the sheet, or returns it.
     fn put(&self, sheet: Sheet) -> Option<Sheet>
         ensures handed_back { IfSome result (λ back. back ≡ sheet) };
 }

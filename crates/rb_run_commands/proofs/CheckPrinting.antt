@@ -7,13 +7,13 @@ use Rattle.rb_history.specs.declared.answers.Taken.TheVariants.{Event}
 use Rattle.rb_io.specs.Lines.{hex_text, line}
 use Rattle.rb_run_commands.specs.Printed.{record_line}
 
--- the text of an event's line, as it is put together
+-- the text of an event's line, from its pieces
 pieces : (ring pos worker serial len : List ℕ) (hex : List ℕ)
     → codes "ring " ++ (ring ++ (codes " pos " ++ (pos ++ (codes " worker " ++ (worker ++ (codes " serial " ++ (serial ++ (codes " len " ++ (len ++ (codes " " ++ hex))))))))))
     ≡ codes "ring " ++ ring ++ codes " pos " ++ pos ++ codes " worker " ++ worker ++ codes " serial " ++ serial ++ codes " len " ++ len ++ codes " " ++ hex
 pieces ring pos worker serial len hex = simp append_assoc refl
 
--- the line of an event was written, from the hex of its bytes and from their number
+-- the line of an event was written, from the hex of its bytes and their number
 pub event_written : {A B : Type 0} (answer : Result A B) (old new hex bytes : List ℕ) (ring pos worker serial len : ℕ) (taken : Taken)
     → taken ≡ Event pos worker serial bytes → hex ≡ hex_text bytes → len ≡ length bytes
     → OnOk answer (new ≡ old ++ line (codes "ring " ++ (decimal ring ++ (codes " pos " ++ (decimal pos ++ (codes " worker " ++ (decimal worker ++ (codes " serial " ++ (decimal serial ++ (codes " len " ++ (decimal len ++ (codes " " ++ hex))))))))))))

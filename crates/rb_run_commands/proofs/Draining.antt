@@ -1,4 +1,4 @@
--- What is taken of rings, record after record and ring after ring.
+-- What is taken from rings, record by record and ring by ring.
 use Rattle.std.proofs.Common.{◌≡◌, ℕ, ◌+◌, ◌<◌, ◌≤◌, List, [], ◌∷◌, ◌++◌, length, get_or, drop, set, map, refl, sym, ap, ◌∙◌, subst, append_assoc, append-nil, arith}
 use Rattle.std.proofs.lemmas.List.{drop_all, drop_more, drop-set-lt, map_push}
 use Rattle.rb_history.specs.Calls.{producer_now}
@@ -34,36 +34,36 @@ none_on a b c first second = record {
   chapters_same = second.chapters_same ∙ first.chapters_same;
 }
 
--- then none was taken
+-- then no record was taken
 pub each_then_none : (start : ChapterConsumerSeat) (records : List Taken) (now next : ChapterConsumerSeat) → TakesRecords start records now → TakesNone now next → TakesRecords start records next
 each_then_none start [] now next each none = none_on start now next each none
 each_then_none start (taken ∷ more) now next each none = (each.0, each.1, each.2, each.3, each_then_none each.1 more now next each.4 none)
 
--- then one more was taken
+-- then one more record was taken
 pub each_then_one : (start : ChapterConsumerSeat) (records : List Taken) (now next : ChapterConsumerSeat) (taken : Taken) → TakesRecords start records now → TakesRecord now taken next → TakesRecords start (records ++ taken ∷ []) next
 each_then_one start [] now next taken each one = (now, next, each, one, none_yet next)
 each_then_one start (first ∷ more) now next taken each one = (each.0, each.1, each.2, each.3, each_then_one each.1 more now next taken each.4 one)
 
 -- ---- rings
 
--- an audit told where the producer stands
+-- an audit returned the producer position
 pub told_end : (worker : ℕ) (seen now : Book) (room cut : ℕ) (audit : Audit) (position : ℕ) → position ≡ audit.producer → LockedCall (Worker worker) seen now (InRoom room cut (Audits worker audit))
     → LockedCall (Worker worker) seen now (InRoom room cut (λ old new. (new ≡ old) × (producer_now old ≡ position)))
 told_end worker seen now room cut audit position is =
     called-as (Worker worker) seen now room cut (Audits worker audit) (λ old new. (new ≡ old) × (producer_now old ≡ position)) (λ old new audits. (audits.same, sym audits.producer_is ∙ sym is))
 
--- lists that are the same from some place on
+-- lists that are equal from some index on
 pub left_at : {X : Type 0} (xs ys : List X) (n : ℕ) (d : X) → n < length xs → n < length ys → drop n xs ≡ drop n ys → get_or xs n d ≡ get_or ys n d
 left_at xs ys n d below within same = ap (λ l. get_or l 0 d) (sym (drop_more xs n d below) ∙ same ∙ drop_more ys n d within)
 
--- they are so too from the next place on, where the one is another there
+-- they are equal from the next index on, even if one is changed at this index
 pub left_behind : {X : Type 0} (xs ys : List X) (n : ℕ) (d x : X) → n < length xs → n < length ys → drop n xs ≡ drop n ys → drop (n + 1) (set xs n x) ≡ drop (n + 1) ys
 left_behind xs ys n d x below within same =
     drop-set-lt (n + 1) xs n x (omega arith) ∙ ap (drop 1) (sym (drop_more xs n d below) ∙ same ∙ drop_more ys n d within)
 
 module _ {X : Type 0} (records_of : X → List Taken) (seats : List WorkerSeat) (consumers : List ChapterConsumerSeat) (n : ℕ) (drained : List X)
     (so_far : (rest : List (List Taken)) → DrainsRings (drop n seats) (drop n consumers) rest → DrainsRings seats consumers (map records_of drained ++ rest)) where
-  -- one ring more
+  -- one more ring
   pub drained_more : (seat : WorkerSeat) (consumer : ChapterConsumerSeat) (more : List X) (records : X) → n < length seats → n < length consumers → more ≡ drained ++ records ∷ []
       → DrainsRing (get_or seats n seat) (get_or consumers n consumer) (records_of records)
       → (rest : List (List Taken)) → DrainsRings (drop (n + 1) seats) (drop (n + 1) consumers) rest → DrainsRings seats consumers (map records_of more ++ rest)

@@ -11,7 +11,7 @@ use Rattle.rb_io.specs.Lines.{line}
 use Rattle.rb_workers.specs.declared.opened.Ended.{Ended}
 use Rattle.rb_run_commands.specs.ReportLines.{closing_lines, closing_objects, closing_objects_from, counts_line, tally_line, unlogged_text}
 
--- the text of a seat's line, as it is put together
+-- the text of a seat's line, from its pieces
 tally_pieces : (worker made refused submitted discarded : List ℕ)
     → codes "worker " ++ (worker ++ (codes " made " ++ (made ++ (codes " refused " ++ (refused ++ (codes " submitted " ++ (submitted ++ (codes " discarded " ++ (discarded ++ 10 ∷ [])))))))))
     ≡ line (codes "worker " ++ worker ++ codes " made " ++ made ++ codes " refused " ++ refused ++ codes " submitted " ++ submitted ++ codes " discarded " ++ discarded)
@@ -23,7 +23,7 @@ pub tally_written : {A B : Type 0} (answer : Result A B) (old new : List ℕ) (w
 tally_written (Ok a) old new worker t wrote = wrote ∙ ap (λ l. old ++ l) (tally_pieces (decimal worker) (decimal t.made) (decimal t.refused) (decimal t.submitted) (decimal t.discarded))
 tally_written (Err e) old new worker t wrote = tt
 
--- the text of the line of a ring's counts, as it is put together
+-- the text of the line of a ring's counts, from its pieces
 counts_pieces : (made consumed discarded waiting busy : List ℕ)
     → codes "ring made " ++ (made ++ (codes " consumed " ++ (consumed ++ (codes " discarded " ++ (discarded ++ (codes " waiting " ++ (waiting ++ (codes " busy " ++ (busy ++ 10 ∷ [])))))))))
     ≡ line (codes "ring made " ++ made ++ codes " consumed " ++ consumed ++ codes " discarded " ++ discarded ++ codes " waiting " ++ waiting ++ codes " busy " ++ busy)
@@ -35,7 +35,7 @@ pub counts_written : {A B : Type 0} (answer : Result A B) (old new : List ℕ) (
 counts_written (Ok a) old new c wrote = wrote ∙ ap (λ l. old ++ l) (counts_pieces (decimal c.made) (decimal c.consumed) (decimal c.discarded) (decimal c.waiting) (decimal c.busy))
 counts_written (Err e) old new c wrote = tt
 
--- what is told beside a report, as it is put together
+-- the message on unlogged calls, from its pieces
 unlogged_pieces : (unlogged : List ℕ) → codes "unlogged " ++ (unlogged ++ (codes " (reservations and outputs that found no room in the ring's chapter, no free hand or no memory)" ++ 10 ∷ []))
     ≡ line (codes "unlogged " ++ unlogged ++ codes " (reservations and outputs that found no room in the ring's chapter, no free hand or no memory)")
 unlogged_pieces unlogged = simp append_assoc refl
@@ -53,7 +53,7 @@ unlogged_written old new (suc n) some none wrote =
     ∙ (ap (λ l. l ++ (codes "unlogged " ++ (decimal (suc n) ++ (codes " (reservations and outputs that found no room in the ring's chapter, no free hand or no memory)" ++ 10 ∷ [])))) none
     ∙ (unlogged_pieces (decimal (suc n)) ∙ sym (some_unlogged n)))
 
--- the lines of one ring more
+-- the lines of one more ring
 pub closing_written : {S : Type 0} (old new : List ℕ) (rings : List (Ended S)) (i : ℕ) (ended : Ended S) → i < length rings → ended ≡ get_or rings i ended → old ≡ flat_map closing_lines (take i rings) → new ≡ old ++ closing_lines ended
     → new ≡ flat_map closing_lines (take (i + 1) rings)
 closing_written old new rings i ended below is before wrote =
@@ -62,7 +62,7 @@ closing_written old new rings i ended below is before wrote =
     ∙ (flat_map_more closing_lines [] (take i rings) ended
     ∙ ap (flat_map closing_lines) (ap (λ e. take i rings ++ e ∷ []) is ∙ sym (take_more rings i ended below))))
 
--- the objects of one ring more
+-- the objects of one more ring
 pub rings_more : {S : Type 0} (rings : List (Ended S)) (i : ℕ) (ended : Ended S) (lines new whole : List ℕ) → i < length rings → ended ≡ get_or rings i ended → lines ++ closing_objects_from i (drop i rings) ≡ whole
     → new ≡ lines ++ closing_objects i ended → new ++ closing_objects_from (i + 1) (drop (i + 1) rings) ≡ whole
 rings_more rings i ended lines new whole below is so_far wrote =
@@ -71,7 +71,7 @@ rings_more rings i ended lines new whole below is so_far wrote =
     ∙ (append_assoc lines (closing_objects i ended) (closing_objects_from (i + 1) (drop (i + 1) rings))
     ∙ (ap (λ rs. lines ++ closing_objects_from i rs) (sym next) ∙ so_far))
 
--- three fields, one after the other
+-- three fields in sequence
 three_pieces : (old a x b y d z : List ℕ) → old ++ a ++ x ++ b ++ y ++ d ++ z ≡ old ++ (a ++ x ++ b ++ y ++ d ++ z)
 three_pieces old a x b y d z = simp append_assoc refl
 

@@ -1,4 +1,4 @@
--- A run over one ring that was just opened.
+-- A run over one newly opened ring.
 use Rattle.std.proofs.Common.{◌≡◌, ◌≤◌, ℕ, false, List, Result, Ok, Err, arith, [], ◌∷◌, length, map, sym, ◌∙◌, subst, inr}
 use Rattle.std.specs.Prelude.{All}
 use Rattle.std.specs.Result.{OkIff, result_unwrap_or}
@@ -27,7 +27,7 @@ use Rattle.rb_run_commands.specs.declared.jobs_fault.JobsFault.TheVariants.{Prog
 use Rattle.rb_run_commands.specs.declared.run_command.JobsRequest.{JobsRequest}
 
 module _ {S : Type 0} (position : S → ℕ) (workers : ℕ) (one : Opened S) (opened : List (Opened S)) (is : opened ≡ one ∷ []) (is_opened : IsOpened position workers one) where
-  -- one ring may be run
+  -- the ring may be run
   pub one_opened : AreOpened position opened
   one_opened =
       let count = seats_length position workers one is_opened in
@@ -43,7 +43,7 @@ one_settled one opened is settled =
     subst (λ o. EachSettled (workers_of o) (seat_rows o)) (sym is)
     (settled_together (length one.seats.items) (one.seats.items ∷ []) (All-cons (All HasSettledAll) one.seats.items [] settled (All-nil (All HasSettledAll))))
 
--- what such a run is, put together of what its calls say
+-- such a run, combined from the contracts of its calls
 module _ {S : Type 0} (position : S → ℕ) (takes : S → SinkItem → S → Type 0) (sink : S) (subject : Subject) (request : JobsRequest) (workers room margin : ℕ) (one : Opened S) (opened : List (Opened S)) (jobs : List Job) (report : JobsReport S) where
   pub ran_workers :
       workers ≡ request.workers → room ≡ room_of request.size → margin ≡ margin_of request.size → opened ≡ one ∷ []
@@ -72,7 +72,7 @@ module _ {S : Type 0} (position : S → ℕ) (takes : S → SinkItem → S → T
     settled = settled (one_settled one opened is nothing_made);
   }
 
--- a number that was cut to 32 bits, and is small, was not cut
+-- a small number is unchanged by the cut to 32 bits
 pub same_number : {E : Type 0} (cut : Result ℕ E) (Fits : Type 0) (whole got : ℕ) → OkIff cut Fits whole → got ≡ result_unwrap_or cut 4294967295 → got ≤ 256 → got ≡ whole
 same_number (Ok n) Fits whole got is unwrapped few = unwrapped ∙ is.1
 same_number (Err e) Fits whole got is unwrapped few = let most : got ≡ 4294967295 = unwrapped in absurd (omega (arith, most, few))

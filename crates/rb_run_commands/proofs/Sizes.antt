@@ -1,9 +1,9 @@
--- Bounds of a ring that are met.
+-- Bounds of a ring that are satisfied.
 use Rattle.std.proofs.Common.{◌≡◌, ℕ, refl, sym, subst, arith}
 use Rattle.rb_history.specs.RingModel.{IsRingSize, IsStartPosition, IsWorkerCount}
 use Rattle.rb_chapter_ring.specs.Chapters.{IsChapterRoom}
 
--- the least size is one
+-- the minimum size is valid
 pub least_size : {size : ℕ} → size ≡ 4096 → IsRingSize size
 least_size refl = ((12, refl), omega arith, omega arith)
 

@@ -1,4 +1,4 @@
--- What a sink wrote of the records that it was given, and what a run wrote of what its ring gave.
+-- What a sink wrote for its records, and what a run wrote for its ring's.
 use Rattle.std.proofs.Common.{◌≡◌, ℕ, ◌+◌, ◌<◌, ◌≤◌, Bool, true, false, List, [], ◌∷◌, ◌++◌, length, take, drop, Option, refl, sym, ap, ◌∙◌, subst, arith, append_assoc, append-nil, take-append-drop, inl, inr}
 use Rattle.std.specs.Prelude.{◌≢◌, ◌⊎◌, ◌&&◌, All, not, Result, Ok, Err, OnOk, OnErr, is_err}
 use Rattle.std.proofs.lemmas.Bool.{true≢false}
@@ -36,7 +36,7 @@ one_tape size item = append-nil (item_bytes size item)
 some_bytes : (size : ℕ) (item : Item) → tape size (item ∷ []) ≢ []
 some_bytes size item e = let l = ap length (sym (one_tape size item) ∙ e) in let n = length-item_bytes size item in absurd (omega (arith, l, n))
 
--- what a record that is lent is for the tape
+-- a lent record, as a record of the tape
 pub lent_is : (item : Lent) → sink_tape_items (Record (item_taken item) ∷ []) ≡ item_of item ∷ []
 lent_is (kinds.Event e) = refl
 lent_is (kinds.Skip pos n) = refl
@@ -49,7 +49,7 @@ first_of (Record Empty) items = refl
 first_of (Chapter c) items = refl
 first_of CaughtUp items = refl
 
--- a sink's tape, by its parts
+-- a sink's tape, from its fields
 abbrev pub sink_tape : {W : Type 0} → W → ℕ → ℕ → Bool → Bool → SinkTape W
 sink_tape writer size position failed stalled = record { writer = writer; size = size; position = position; failed = failed; stalled = stalled }
 
@@ -108,7 +108,7 @@ module _ {W : Type 0} (contents : W → Option (List ℕ)) (writer : W) (size be
           absurd (omega (arith, n, l, z, part))
 
 module _ {W : Type 0} (contents : W → Option (List ℕ)) where
-  -- ---- one record after another
+  -- ---- records in sequence
 
   pub nothing_yet : (sink : SinkTape W) → WritesOn contents sink [] sink
   nothing_yet sink = record {
@@ -122,7 +122,7 @@ module _ {W : Type 0} (contents : W → Option (List ℕ)) where
     not_all_out = λ sound ended. absurd (true≢false (sym ended ∙ sound));
   }
 
-  -- the writer handed on what waits, and no record was written
+  -- the writer flushed, and no record was written
   pub only_handed_on : (old new : SinkTape W) → Keeps (contents old.writer) (contents new.writer) → new.size ≡ old.size → new.failed ≡ old.failed → WritesOn contents old [] new
   only_handed_on old new kept size failed = record {
     out = [];
@@ -168,7 +168,7 @@ module _ {W : Type 0} (contents : W → Option (List ℕ)) where
             not_all_out = λ before _ none. one.not_all_out before ended (front_empty one.missing (tape a.size js) none);
           }
 
-  -- what a sink was given item by item
+  -- what a sink received, item by item
   the_tape_of_what_is_given : (writes_out : W → Bool → W → Type 0) (items : List SinkItem) (old new : SinkTape W) → TakesAll (tape_takes contents writes_out) old items new
       → WritesOn contents old (sink_tape_items items) new
   the_tape_of_what_is_given writes_out [] old new same = subst (λ s. WritesOn contents old [] s) (sym same) (nothing_yet old)
@@ -178,7 +178,7 @@ module _ {W : Type 0} (contents : W → Option (List ℕ)) where
 
 -- ---- the run
 
--- one ring was opened, so one ended
+-- one ring was opened, so one was closed
 pub one_ended : {S : Type 0} (position : S → ℕ) (takes : S → SinkItem → S → Type 0) (o : Opened S) (es : List (Ended S)) (seats : List (List WorkerSeat)) → RingsEnd position takes (o ∷ []) es seats
     → (e : Ended S) × (row : List WorkerSeat) × (es ≡ e ∷ []) × RingEnds position takes o e row
 one_ended position takes o [] seats ends = absurd ends
@@ -193,7 +193,7 @@ last_of_one [] x y e = cc
 last_of_one (z ∷ []) x y e = absurd (let l = ap length e in omega (arith, l))
 last_of_one (z ∷ w ∷ front) x y e = absurd (let l = ap length e in omega (arith, l))
 
--- what a tape that is told as whole, or as not whole, says of its parts
+-- what it means for the parts that a tape is reported as whole, or as not whole
 told_whole : (whole handed_out failed : Bool) → whole ≡ (handed_out && not failed) → whole ≡ true → (handed_out ≡ true) × (failed ≡ false)
 told_whole whole true false is told = (refl, refl)
 told_whole whole true true is told = absurd (true≢false (sym told ∙ is))
@@ -215,7 +215,7 @@ module _ {W : Type 0} (contents : W → Option (List ℕ)) (writes_out : W → B
   pub one_ring : length report.rings.items ≡ 1
   one_ring = ap length ending.2
 
-  -- what the sink of the ring that was taken out of the report wrote
+  -- what the sink of the ring taken out of the report wrote
   pub ring_taped : (front : List (Ended (SinkTape W))) (ended : Ended (SinkTape W)) (whole handed_out : Bool) → report.rings.items ≡ front ++ ended ∷ []
       → whole ≡ (handed_out && not ended.sink.failed) → Keeps (contents ended.sink.writer) (contents left) → writes_out ended.sink.writer handed_out left
       → All (TapesRing contents writes_out request.size whole writer left) report.rings.items

@@ -1,4 +1,4 @@
--- The jobs over the contexts of workers, and what is known of each.
+-- The jobs with the workers' contexts, and what is known of each.
 use Rattle.std.proofs.Common.{◌≡◌, ℕ, zero, suc, ◌<◌, ◌≤◌, ◌||◌, Bool, true, false, List, [], ◌∷◌, ◌++◌, ◌+◌, map, refl, ap, sym, ◌∙◌, add-one, append_assoc, append-nil, arith}
 use Rattle.std.specs.Prelude.{nat_lt, not}
 use Rattle.std.specs.List.{flat_map, list_any}
@@ -19,7 +19,7 @@ use Rattle.rb_run_commands.specs.inner.JobContexts.{contexts_of_workers, numbere
 abbrev own_context : ℕ → List ℕ → JobContext
 own_context worker bytes = record { worker = worker; bytes = bytes }
 
--- the context of one job more
+-- the context of one more job
 pub context_more : (worker job : ℕ) (first old new : List JobContext) (bytes : List ℕ) → new ≡ old ++ own_context worker bytes ∷ [] → old ≡ first ++ worker_contexts job worker → bytes ≡ job_context worker job → new ≡ first ++ worker_contexts (job + 1) worker
 context_more worker job first old new bytes grown is last =
     rw (add-one job)
@@ -41,7 +41,7 @@ over_all subject jobs (w ∷ workers) =
     ∙ (ap (λ tasks. tasks ++ map (task_over subject) (flat_map (worker_contexts jobs) workers)) (over_own subject w (numbers_below jobs))
     ∙ ap (λ tasks. worker_tasks subject jobs w ++ tasks) (over_all subject jobs workers))
 
--- the jobs that run the program over the contexts of all workers, as they are lent
+-- the jobs that run the program with the contexts of all workers, as they are lent
 pub tasks_lent : (subject : Subject) (workers often : ℕ) (contexts given : List JobContext) (jobs lent : List Job) → contexts ≡ contexts_of_workers workers often → given ≡ contexts → map task_of jobs ≡ map (task_over subject) given → lent ≡ jobs
     → map task_of lent ≡ tasks_of_workers subject workers often
 tasks_lent subject workers often contexts given jobs lent all same over as_they_are =
@@ -82,13 +82,13 @@ not_not_below : (a b : ℕ) → a < b → not (nat_lt a b) ≡ false
 not_not_below a b lt = grind arith
 
 module _ (subject : Subject) (workers often : ℕ) (jobs : List Job) (tasks : map task_of jobs ≡ tasks_of_workers subject workers often) where
-  -- the program knows no more rings than there are
+  -- the program uses no more rings than there are
   pub rings_known : (rings : ℕ) → subject.rings ≤ rings → has_unknown_ring rings jobs ≡ false
   rings_known rings few =
       unknown_ring_in rings jobs
       ∙ (ap (list_any (λ (t : Task). nat_lt rings t.program.rings)) tasks ∙ none_of_all (λ (t : Task). nat_lt rings t.program.rings) subject often workers (λ worker job below. not_above rings subject.rings few))
 
-  -- each job is of one of the workers
+  -- each job belongs to one of the workers
   pub workers_known : has_unknown_worker workers jobs ≡ false
   workers_known =
       unknown_worker_in workers jobs

@@ -1,5 +1,5 @@
--- What `check` does with the text of a program: it runs the program over fresh rings, and prints its result and the records that it
--- left in them (own).
+-- What `check` does with the text of a program: it runs the program over fresh rings, and prints its result and the
+-- records that it left in them (own).
 use Rattle.std.specs.Prelude.{ℕ, List, map, replicate, Option, Result, Ok}
 use Rattle.std.specs.Io.KnownBytes.{Appends}
 use Rattle.rb_history.specs.declared.answers.Taken.{Taken}
@@ -15,23 +15,23 @@ use Rattle.rb_json.specs.declared.form.LineForm.{LineForm}
 
 -- ---- the run
 
--- the program as a job of worker 0, over a context of zeros
+-- the program as a job of worker 0, with a context of zeros
 abbrev pub zero_task : Subject → Task
 zero_task subject = record { worker = 0; program = subject; context = replicate subject.ctx_len 0 }
 
--- the program was run once, over a context of zeros, which took the seats from the one state to the other: its calls are those of its meaning under
--- the answers of the rings, and so is what came of it
+-- the program was run once, with a context of zeros, and this run took the seats from one state to the other: its calls
+-- and its outcome follow from the program's semantics and the rings' answers
 abbrev pub RunsOnce : Subject → Result ℕ RunFault → List WorkerSeat → List WorkerSeat → Type 0
 RunsOnce subject outcome old new = (unlogged : ℕ) × JobRan (zero_task subject) (record { result = outcome; unlogged = unlogged }) old new
 
--- the program of this text was run over fresh rings, as many as were asked for, and so ended
+-- the program of this text was run over the requested number of fresh rings, with this outcome
 pub record RunsText (text : List ℕ) (ctx_len ring_count : ℕ) (outcome : Result ℕ RunFault) (rings : List Shared) (seats : List WorkerSeat) : Type 0 where
   pub subject : Subject
   pub accepted : IsAccepted text ctx_len ring_count subject
   pub numbered : AreNumbered ring_count rings
   pub ran : RunsOnce subject outcome (map fresh_worker rings) seats
 
--- ---- what is answered and printed
+-- ---- what is returned and printed
 
 -- the program of this text returned this value, and these are the records that it left in each ring
 pub record Checks (text : List ℕ) (ctx_len ring_count value : ℕ) (records : List (List Taken)) : Type 0 where
@@ -40,7 +40,7 @@ pub record Checks (text : List ℕ) (ctx_len ring_count value : ℕ) (records : 
   pub ran : RunsText text ctx_len ring_count (Ok value) rings seats
   pub drained : DrainsRings seats (map fresh_taker rings) records
 
--- the program that the input spells was checked, and what `check` prints of it was printed, and nothing else
+-- the program of the input was checked, and exactly the output of `check` for it was printed
 pub record PrintsCheck (input : List ℕ) (ctx_len ring_count : ℕ) (form : LineForm) (before after : Option (List ℕ)) : Type 0 where
   pub value : ℕ
   pub records : List (List Taken)

@@ -1,4 +1,5 @@
--- What is taken of rings, each up to where its producer stands. Each call is told over the ring's whole history (own).
+-- What is taken from rings, each up to its producer position. Each call is described over the ring's whole history
+-- (own).
 use Rattle.std.specs.Prelude.{◌≡◌, ℕ, ◌+◌, List, [], ◌∷◌}
 use Rattle.std.specs.List.{AllZip}
 use Rattle.rb_history.specs.Calls.{producer_now}
@@ -13,7 +14,7 @@ use Rattle.rb_ledger.specs.EntryRoom.{InRoom, InRoomBehind}
 
 -- ---- one ring
 
--- the consumer's seat is one of the ring
+-- the consumer's seat belongs to the ring
 abbrev pub IsConsumerOf : Shared → ChapterConsumerSeat → Type 0
 IsConsumerOf ring consumer = (consumer.tag ≡ ring.tag) × (consumer.ring ≡ ring.ring)
 
@@ -24,7 +25,7 @@ IsRecord (Skipped pos len) = Unit {0}
 IsRecord BusyFront = ⊥
 IsRecord Empty = ⊥
 
--- the consumer took this record, which stood at its position, at one call of the ring; it handed no chapter out
+-- the consumer took this record, from its position, in one call of the ring; it handed no chapter out
 pub record TakesRecord (before : ChapterConsumerSeat) (taken : Taken) (after : ChapterConsumerSeat) : Type 0 where
   pub is_record : IsRecord taken
   pub call : LockedCall Consumer before.seen after.seen (InRoomBehind before.room (entries_out before) (TakesAt taken))
@@ -33,20 +34,21 @@ pub record TakesRecord (before : ChapterConsumerSeat) (taken : Taken) (after : C
   pub got : after.got ≡ got_by before.got taken
   pub chapters_same : after.handed_out ≡ before.handed_out
 
--- the consumer took no record meanwhile, and handed no chapter out; it may have seen what others did
+-- meanwhile, the consumer took no record and handed no chapter out; others may have made calls that it has seen
 pub record TakesNone (before after : ChapterConsumerSeat) : Type 0 where
   pub seen : BeginsWith after.seen before.seen
   pub stayed : after.position ≡ before.position
   pub got_same : after.got ≡ before.got
   pub chapters_same : after.handed_out ≡ before.handed_out
 
--- the consumer took these records, one after another, and no other
+-- the consumer took these records, in sequence, and no others
 abbrev pub TakesRecords : ChapterConsumerSeat → List Taken → ChapterConsumerSeat → Type 0
 TakesRecords before [] after = TakesNone before after
 TakesRecords before (taken ∷ more) after =
     (here next : ChapterConsumerSeat) × TakesNone before here × TakesRecord here taken next × TakesRecords next more after
 
--- the consumer took these records, up to the producer position that the worker's seat was told: none is left that the worker knows of
+-- the consumer took these records, up to the producer position that the worker's seat read: the worker knows of no
+-- further record
 pub record DrainsRing (seat : WorkerSeat) (consumer : ChapterConsumerSeat) (records : List Taken) : Type 0 where
   pub seen : Book
   pub cut : ℕ
@@ -60,7 +62,7 @@ pub record DrainsRing (seat : WorkerSeat) (consumer : ChapterConsumerSeat) (reco
 abbrev pub AreConsumersOf : List Shared → List ChapterConsumerSeat → Type 0
 AreConsumersOf rings consumers = AllZip IsConsumerOf rings consumers
 
--- the rings were drained, in their order
+-- the rings were drained, in order
 abbrev pub DrainsRings : List WorkerSeat → List ChapterConsumerSeat → List (List Taken) → Type 0
 DrainsRings [] [] [] = Unit {0}
 DrainsRings (seat ∷ seats) (consumer ∷ consumers) (records ∷ more) = DrainsRing seat consumer records × DrainsRings seats consumers more

@@ -9,7 +9,8 @@ use Rattle.rb_verifier.specs.Subject.{Subject}
 use Rattle.rb_run_commands.specs.Check.{Checks}
 use Rattle.rb_run_commands.specs.Printed.{check_lines}
 
--- the program that the input spells was checked, and what `check` prints of it and the lines of its units that Linux refuses were printed, and nothing else
+-- the program of the input was checked, and exactly the output of `check` for it and the lines of its units that Linux
+-- refuses were printed
 pub record PrintsPortableCheck (input : List ℕ) (ctx_len ring_count : ℕ) (form : LineForm) (before after : Option (List ℕ)) : Type 0 where
   pub value : ℕ
   pub records : List (List Taken)

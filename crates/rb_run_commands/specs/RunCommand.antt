@@ -1,5 +1,5 @@
--- What `run` does with the text of a program: its workers run it as jobs over a ring that was just opened, and it prints what the report says
--- (own).
+-- What `run` does with the text of a program: its workers run it as jobs over a newly opened ring, and it prints the
+-- report (own).
 use Rattle.std.specs.Prelude.{◌≡◌, ◌+◌, ℕ, false, All, List, [], ◌∷◌, map, Option, IfSome}
 use Rattle.std.specs.Io.KnownBytes.{Appends}
 use Rattle.rb_history.specs.RingModel.{IsRingSize, IsStartPosition, IsWorkerCount}
@@ -28,35 +28,36 @@ use Rattle.rb_workers.specs.declared.null_sink.NullSink.{NullSink}
 
 -- ---- the run
 
--- the position of a sink that gives up its records
+-- the position of a sink that discards its records
 abbrev pub null_position : NullSink → ℕ
 null_position sink = sink.position
 
--- it passes over each
+-- it skips each of them
 abbrev pub null_takes : NullSink → SinkItem → NullSink → Type 0
 null_takes old item new = new.position ≡ old.position + sink_span item
 
--- it begins where the ring does
+-- it starts where the ring does
 abbrev pub first_null : JobsRequest → NullSink
 first_null request = record { position = request.start }
 
--- the history of the ring that is asked for, as it begins
+-- the initial history of the requested ring
 abbrev pub first_book : JobsRequest → Book
 first_book request = fresh_book request.size request.start request.workers
 
--- the keeper of its chapters, before any was handed out, with the room and the margin that the ring's size asks for
+-- the keeper of its chapters before any was handed out, with the room and the margin for the ring's size
 abbrev pub first_keeper : JobsRequest → KeeperValue
 first_keeper request = record { chapter = empty_chapter (room_of request.size) request.workers; margin = margin_of request.size; is_lent = false }
 
--- the ring was just opened, with the size, the start and the workers that are asked for and chapters of that room, and with this sink
+-- the ring was just opened, with the requested size, start and workers, chapters of that room, and this sink
 pub record IsJustOpened {S : Type 0} (sink : S) (request : JobsRequest) (o : Opened S) : Type 0 where
   pub seats_are : o.seats.items ≡ fresh_seats 0 o.ring.ring (room_of request.size) (first_book request) 0 request.workers
   pub consumer_is : o.consumer ≡ fresh_chapter_consumer 0 o.ring.ring (room_of request.size) (first_book request)
   pub keeper_is : o.keeper ≡ first_keeper request
   pub sink_is : o.sink ≡ sink
 
--- each worker ran the program as often as is asked for, over one ring that was just opened with this sink, and this is the report on these jobs
--- and this ring; no job had a record handed back, and the ring ends with none that is busy
+-- each worker ran the program the requested number of times, over one ring that was just opened with this sink, and
+-- this is the report on these jobs and this ring; no job had a record handed back, and the ring ends without busy
+-- records
 pub record RunsWorkers {S : Type 0} (position : S → ℕ) (takes : S → SinkItem → S → Type 0) (sink : S) (subject : Subject) (request : JobsRequest) (report : JobsReport S) : Type 0 where
   pub opened : Opened S
   pub jobs : List Job
@@ -68,8 +69,9 @@ pub record RunsWorkers {S : Type 0} (position : S → ℕ) (takes : S → SinkIt
 
 -- ---- what is printed
 
--- a program that the input spells, where that is known, was run so for contexts of 16 bytes and one ring; what the report says was printed, and nothing
--- else; and beside it was told, and nothing else, how many reservations and outputs are neither granted nor refused in the ring's history
+-- A program was run in this way for contexts of 16 bytes and one ring: the input's program, if the input is known.
+-- Exactly the report was printed. Exactly the number of reservations and outputs that are neither granted nor refused
+-- in the ring's history was reported besides.
 pub record PrintsRun (input : Option (List ℕ)) (request : JobsRequest) (before after told_before told_after : Option (List ℕ)) : Type 0 where
   pub subject : Subject
   pub report : JobsReport NullSink
@@ -80,14 +82,14 @@ pub record PrintsRun (input : Option (List ℕ)) (request : JobsRequest) (before
 
 -- ---- what is refused
 
--- the first of the ring's numbers that is out of bounds, or else memory
+-- the first of the ring's numbers that is out of bounds, otherwise memory
 abbrev pub IsRightRingFault : JobsRequest → JobsFault → Type 0
 IsRightRingFault request (Program fault) = fault ≡ Memory
 IsRightRingFault request Size = ¬ IsRingSize request.size
 IsRightRingFault request Start = IsRingSize request.size × ¬ IsStartPosition request.start
 IsRightRingFault request Workers = IsRingSize request.size × IsStartPosition request.start × ¬ IsWorkerCount request.workers
 
--- the first fault of the input as a program's text, and else that of the ring
+-- the first fault of the input as a program's text, otherwise that of the ring
 abbrev pub IsRightJobsFault : List ℕ → JobsRequest → JobsFault → Type 0
 IsRightJobsFault input request (Program fault) = IsRightFault input 16 1 fault
 IsRightJobsFault input request fault = ((subject : Subject) × IsAccepted input 16 1 subject) × IsRightRingFault request fault

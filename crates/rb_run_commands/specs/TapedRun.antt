@@ -1,5 +1,5 @@
--- What `run --tape` writes: the tape of all that the ring's consumer took, up to the first write that fails (own; the tape's bytes are
--- rb_history's).
+-- What `run --tape` writes: the tape of everything that the ring's consumer took, up to the first write that fails
+-- (own; `rb_history` defines the bytes of a tape).
 use Rattle.std.specs.Prelude.{◌≡◌, ◌≢◌, ◌⊎◌, ℕ, Bool, true, false, not, All, IfSome, List, [], ◌∷◌, ◌++◌, Option}
 use Rattle.std.specs.Io.KnownBytes.{Appends, append_known}
 use Rattle.rb_history.specs.TapeBytes.{Item, tape}
@@ -21,8 +21,8 @@ use Rattle.rb_run_commands.specs.declared.run_command.JobsRequest.{JobsRequest}
 
 -- ---- the sink
 
--- a tape that a sink writes: the writer below, the ring's size, where the next record stands, whether the tape ended with a record that did
--- not go out whole, and whether the writer failed to hand on what waits before the end
+-- a tape that a sink writes: the underlying writer, the ring's size, the position of the next record, whether the tape
+-- ended with a record that was not written whole, and whether the writer failed to flush before the end
 pub record SinkTape (W : Type 0) : Type 0 where
   pub writer : W
   pub size : ℕ
@@ -37,8 +37,8 @@ first_tape writer request = record { writer = writer; size = request.size; posit
 abbrev pub tape_position : {W : Type 0} → SinkTape W → ℕ
 tape_position sink = sink.position
 
--- Over these records a beginning of their tape went out, all of it where the tape has not failed, and not all of it where it failed
--- meanwhile; behind a failure nothing goes out. `contents` are the bytes that a writer has, where they are known.
+-- For these records, a prefix of their tape was written: all of it if the tape has not failed, and not all of it if it
+-- failed meanwhile. After a failure nothing is written. `contents` are a writer's bytes, if they are known.
 pub record WritesOn {W : Type 0} (contents : W → Option (List ℕ)) (old : SinkTape W) (items : List Item) (new : SinkTape W) : Type 0 where
   pub out : List ℕ
   pub missing : List ℕ
@@ -49,31 +49,31 @@ pub record WritesOn {W : Type 0} (contents : W → Option (List ℕ)) (old : Sin
   pub all_out : new.failed ≡ false → missing ≡ []
   pub not_all_out : old.failed ≡ false → new.failed ≡ true → missing ≢ []
 
--- the records among items, as those of a tape
+-- the records among the items, as records of a tape
 abbrev pub sink_tape_items : List SinkItem → List Item
 sink_tape_items items = tape_items (records_among items)
 
--- The writer was called to hand on what waits, unless the tape had ended or such a call had failed before. `writes_out` is what such a call makes
--- of a writer.
+-- The writer was called to flush, unless the tape had ended or a flush had failed before. `writes_out` is the effect of
+-- such a call on a writer.
 abbrev pub WritesOut : {W : Type 0} → (W → Bool → W → Type 0) → SinkTape W → SinkTape W → Type 0
 WritesOut writes_out old new = old.failed ≡ false → old.stalled ≡ false → writes_out old.writer (not new.stalled) new.writer
 
--- the tape is written out where the consumer caught up and at each chapter; a record may wait
+-- the tape is flushed when the consumer has caught up and at each chapter; a record may wait in a buffer
 abbrev pub WritesOutFor : {W : Type 0} → (W → Bool → W → Type 0) → SinkTape W → SinkItem → SinkTape W → Type 0
 WritesOutFor writes_out old (Record taken) new = Unit {0}
 WritesOutFor writes_out old (Chapter chapter) new = WritesOut writes_out old new
 WritesOutFor writes_out old CaughtUp new = WritesOut writes_out old new
 
--- what taking one item makes of such a sink; a chapter has nothing for the tape
+-- the effect of one item on such a sink; a chapter adds nothing to the tape
 abbrev pub tape_takes : {W : Type 0} → (W → Option (List ℕ)) → (W → Bool → W → Type 0) → SinkTape W → SinkItem → SinkTape W → Type 0
 tape_takes contents writes_out old item new = WritesOn contents old (sink_tape_items (item ∷ [])) new × WritesOutFor writes_out old item new
 
 -- ---- the run
 
--- A beginning of the tape of all that the closed ring's whole history took went out, from the first record on and in order. At last the writer was
--- called to hand on what waits. The tape is told as whole where all of it went out and that call succeeded, and as not whole only where
--- some of it did not go out or that call failed. The records are the history's, with the bytes that the consumer got, which are those that the
--- seats sent. `writes_out` is what such a call makes of a writer.
+-- A prefix of the tape of everything that the closed ring's whole history took was written, from the first record on
+-- and in order. Finally the writer was called to flush. The tape is reported as whole exactly if all of it was written
+-- and that call succeeded. The records are the history's, with the bytes that the consumer got, which are those that
+-- the seats sent. `writes_out` is the effect of such a call on a writer.
 pub record TapesRing {W : Type 0} (contents : W → Option (List ℕ)) (writes_out : W → Bool → W → Type 0) (size : ℕ) (whole : Bool) (writer left : W) (ended : Ended (SinkTape W)) : Type 0 where
   pub seats : List WorkerSeat
   pub consumer : ChapterConsumerSeat
@@ -90,8 +90,8 @@ pub record TapesRing {W : Type 0} (contents : W → Option (List ℕ)) (writes_o
   pub all_out : whole ≡ true → (missing ≡ []) × (handed_out ≡ true)
   pub not_all_out : whole ≡ false → (missing ≢ []) ⊎ (handed_out ≡ false)
 
--- the program was run with such a sink, what the report says was printed, and nothing else, what is unlogged was told, and nothing else, and what the
--- ring's consumer took was written as a tape
+-- the program was run with such a sink, exactly the report was printed, exactly the unlogged calls were reported, and
+-- what the ring's consumer took was written as a tape
 pub record TapesRun {W : Type 0} (contents : W → Option (List ℕ)) (writes_out : W → Bool → W → Type 0) (writer : W) (subject : Subject) (request : JobsRequest) (before after told_before told_after : Option (List ℕ)) (whole : Bool) (left : W) : Type 0 where
   pub report : JobsReport (SinkTape W)
   pub ran : RunsWorkers tape_position (tape_takes contents writes_out) (first_tape writer request) subject request report
@@ -99,8 +99,8 @@ pub record TapesRun {W : Type 0} (contents : W → Option (List ℕ)) (writes_ou
   pub told : Appends told_before told_after (unlogged_text report.unlogged)
   pub taped : All (TapesRing contents writes_out request.size whole writer left) report.rings.items
 
--- a program that the input spells, where that is known, was run so, and all of its tape went through a buffer, in which nothing waits any more,
--- to a writer whose bytes are known to nobody
+-- A program was run in this way: the input's program, if the input is known. All of its tape went through a buffer, in
+-- which nothing is left, to a writer whose bytes are unknown.
 pub record PrintsTaped (F : Type 0) (contents : F → Option (List ℕ)) (input : Option (List ℕ)) (request : JobsRequest) (before after told_before told_after : Option (List ℕ)) : Type 0 where
   pub subject : Subject
   pub accepted : IfSome input (λ text. IsAccepted text 16 1 subject)

@@ -1,4 +1,4 @@
-//! A program from its text: verified, run once over fresh rings, and what it left in them.
+//! Verifies a program from its text, runs it once over fresh rings, and collects the records that it left.
 
 ghost use Rattle.std.specs.Prelude.{◌≡◌, ◌≢◌, ◌≤◌, ℕ, List, Ok, Err, IfErr, IfOk, IfSome, IsErr, OnErr, OnOk, length, map, take};
 ghost use Rattle.std.specs.Io.KnownBytes.{Keeps};
@@ -22,18 +22,20 @@ use std::alloc::{AllocError, Global};
 use std::io::{Read, Write};
 use std::sync::Wait;
 
-/// What a run left: its result, and the records of each ring.
+/// The outcome of a run: the program's result, and the records of each ring.
 #[derive(Drop)]
 pub struct Checked {
-    /// What the program ended with.
+    /// The program's result.
     pub value: u64,
-    /// The records that were taken of each ring, in the order of the rings' numbers.
+    /// The records that were taken from each ring, in the order of the rings' numbers.
     pub records: Vec<Vec<Taken>>,
 }
 
-/// Verifies the program whose text is the input, runs it once with a context of zeros over fresh rings of 4,096 bytes, and prints
-/// `accepted`, what it ended with, and a line for each record that it left, in this form. The text is read as `read_text` does. Nothing is printed where
-/// the program is refused or memory runs out. The gate is called before each helper call.
+/// Verifies the program whose text is the input, and runs it once over fresh rings of 4,096 bytes with a context of
+/// zeros. Prints `accepted`, the result, and a line for each record that it left, in this form. The text is read as by
+/// `read_text`. The gate is called before each helper call.
+///
+/// If the program is refused or memory runs out, nothing is printed.
 pub fn check<T: Wait, R: Read, W: Write, G: Gate>(
     rt: &T,
     alloc: Global,
@@ -57,7 +59,7 @@ pub fn check<T: Wait, R: Read, W: Write, G: Gate>(
     }
 }
 
-/// Verifies the program of a text in hex, and runs it once with a context of zeros over fresh rings.
+/// Verifies a program from its text in hex, and runs it once over fresh rings with a context of zeros.
 pub fn check_text<T: Wait, G: Gate>(
     rt: &T,
     alloc: Global,
@@ -86,8 +88,9 @@ pub fn check_text<T: Wait, G: Gate>(
     Ok(Checked { value, records })
 }
 
-// What a program ends with over a context of zeros, and the seats as the run left them. Its stock is of the kind that the workers of `run` have, and its
-// gate may be, so that `rbhost` has one copy of a run's loop for both, and a step stands in line there.
+// Returns the result of a program over a context of zeros, and the seats as the run left them. Its stock has the same
+// type as the stocks of `run`'s workers, and its gate may too, so `rbhost` has one copy of the loop that runs a
+// program, with the step inlined.
 fn run_once<T: Wait, G: Gate>(
     rt: &T,
     alloc: Global,

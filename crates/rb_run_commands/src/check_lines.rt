@@ -1,4 +1,4 @@
-//! What `check` prints of a program's run, in the form that is asked for.
+//! The output of `check` for a program's run, in the requested form.
 
 ghost use Rattle.std.specs.Prelude.{◌≡◌, IfOk, map};
 ghost use Rattle.rb_run_commands.specs.Printed.{check_lines};
@@ -9,7 +9,7 @@ use rb_history::Taken;
 use rb_json::LineForm;
 use std::alloc::{AllocError, Global};
 
-/// The lines of a run that ended with this value and left these records, ring by ring from ring 0 on.
+/// Returns the lines of a run with this result and these records, ring by ring from ring 0.
 pub(crate) fn lines_of_check(
     alloc: Global,
     value: u64,

@@ -1,4 +1,4 @@
-//! Taking what a run left in its rings.
+//! Takes what a run left in its rings.
 
 ghost use Rattle.std.specs.Prelude.{◌≡◌, IfOk, IfSome, IsNone, map};
 ghost use Rattle.rb_jobs.specs.SeatHelpers.{AtRings, IsAt};
@@ -10,8 +10,9 @@ use rb_shared_ring::{ConsumerSeat, Foreign, Seat, SharedRing};
 use std::alloc::{AllocError, Global};
 use std::sync::Wait;
 
-/// Takes the records of each ring, up to where its producer stands, and returns them ring by ring. The seats are those of the rings'
-/// worker, which runs no more, and the consumers those of the rings. `AllocError` where there is no memory for the records.
+/// Takes the records of each ring, up to its producer position, and returns them ring by ring. The seats belong to the
+/// rings' worker, which no longer runs; the consumers are the rings' own. Returns `AllocError` if the records cannot be
+/// allocated.
 pub(crate) fn drain_rings<T: Wait>(
     rt: &T,
     alloc: Global,
@@ -39,7 +40,7 @@ pub(crate) fn drain_rings<T: Wait>(
     Ok(records)
 }
 
-// Takes the records of a ring, up to where its producer stood when its worker's seat asked.
+// Takes the records of a ring, up to the producer position at the time of the call, as the worker's seat reads it.
 fn drain_ring<T: Wait>(
     rt: &T,
     alloc: Global,

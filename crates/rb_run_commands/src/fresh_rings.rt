@@ -7,13 +7,13 @@ use rb_shared_ring::{ConsumerSeat, OpenFault, Seat, SharedRing, open};
 use std::alloc::{AllocError, Global};
 use std::sync::Wait;
 
-/// The size in bytes of each ring over which a program is checked: the least that there is.
+/// The size in bytes of each ring over which a program is checked: the minimum.
 const RING_SIZE: u64 = 4096;
 
-/// The room of each ring's chapters, in entries: the one that a command has where none is given.
+/// The room of each ring's chapters, in entries: the commands' default.
 const ROOM: u32 = 65_536;
 
-/// Rings that were just opened, the seat of each one's worker, and each one's consumer.
+/// Newly opened rings, each with its worker's seat (the worker's handle to it) and its consumer.
 pub struct Fresh {
     /// The rings, in the order of their numbers.
     pub rings: Vec<SharedRing>,
@@ -23,8 +23,8 @@ pub struct Fresh {
     pub consumers: Vec<ConsumerSeat>,
 }
 
-/// So many rings of 4,096 bytes, each for one worker, with chapters of 65,536 entries. A ring's tag is its number. `AllocError` where there is
-/// no memory for them.
+/// Opens `number` rings of 4,096 bytes, each for one worker, with chapters of 65,536 entries. A ring's tag is its
+/// number. Returns `AllocError` if they cannot be allocated.
 pub(crate) fn fresh_rings<T: Wait>(rt: &T, alloc: Global, number: u32) -> Result<Fresh, AllocError>
     ensures len { IfOk result (λ f. length f.rings.items ≡ number) }
     ensures numbered { IfOk result (λ f. AreNumbered number f.rings.items) }

@@ -1,4 +1,4 @@
-//! Why jobs were not run, or their report not printed.
+//! Errors of running jobs and printing their report.
 
 use rb_loader::ProgramFault;
 use std::alloc::AllocError;
@@ -7,13 +7,13 @@ use thiserror::Error;
 /// Why jobs were not run, or their report could not be printed.
 #[derive(Clone, Copy, Debug, PartialEq, Eq, Error)]
 pub enum JobsFault {
-    /// The program was not accepted, memory ran out, or a read or a write failed.
+    /// The program was not accepted, memory could not be allocated, or a read or a write failed.
     #[error("{0}")]
     Program(ProgramFault),
-    /// The size is no power of two from 4,096 to 67,108,864.
+    /// The size is not a power of two from 4,096 to 67,108,864.
     #[error("size")]
     Size,
-    /// The start is no multiple of 8, or above 2^61.
+    /// The start is not a multiple of 8, or is above 2^61.
     #[error("start")]
     Start,
     /// The number of workers is not 1 to 256.

@@ -1,13 +1,16 @@
-//! The commands that run a verified program: `check`, once over fresh rings, with the records that it left in them; `run`, as jobs on threads over a
-//! fresh ring; and `run --tape`, which writes what the ring's consumer took as a tape.
+//! The commands that run a verified program. `check` runs it once over fresh rings and prints the records that it left.
+//! `run` runs it as jobs on threads over a fresh ring. `run --tape` also writes what the ring's consumer took as a
+//! tape.
 //!
-//! For `rbhost`, and for whoever wants them over readers and writers of his own. What is promised: each result is one that the program's
-//! meaning gives (RFC 9669) under the answers of these rings, the records that `check` prints are those that the rings handed out, up to where their
-//! producers stood, the report's lines of `run` are those of closed rings, and the tape is that of the records taken.
+//! For `rbhost`, and for embedding over other readers and writers. The contracts promise that each result follows from
+//! the program's semantics (RFC 9669) and the answers of these rings, that the records that `check` prints are those
+//! that the rings handed out, up to their producer positions, that the report's lines of `run` are those of closed
+//! rings, and that the tape is that of the records taken.
 //!
 //! ```text
 //! let bounds = Bounds { ctx_len: 0, rings: 1 };
-//! check(rt, alloc, &mut input, &mut out, bounds, LineForm::Words, &OpenGate)?; // the hex of a program that submits 42, and exits with 0
+//! // The input is the hex of a program that submits 42 and exits with 0.
+//! check(rt, alloc, &mut input, &mut out, bounds, LineForm::Words, &OpenGate)?;
 //! // accepted
 //! // result 0
 //! // ring 0 pos 0 worker 0 serial 0 len 8 2a00000000000000
@@ -35,5 +38,6 @@ pub use check_command::{Checked, check, check_text};
 pub use jobs_fault::JobsFault;
 pub use portable_check::check_portable;
 pub use run_command::{JOB_BOUNDS, JobsRequest, check_ring, run};
+pub use tape_sink::TapeSink;
 pub use tape_watch::TapeWatch;
 pub use taped_run::{TapeFile, TapeFileFault, WrittenTape, run_taped, run_to_file};

@@ -16,8 +16,10 @@ use std::alloc::Global;
 use std::io::{Read, Write};
 use std::sync::Wait;
 
-/// Verifies the program whose text is the input, runs it and prints what came of it, as `check` does, and behind that a line for each unit at which Linux
-/// refuses the program. Nothing is printed where the program is refused here or memory runs out. The gate is called before each helper call.
+/// Verifies the program whose text is the input, runs it, and prints the output of `check`, followed by a line for each
+/// unit at which Linux refuses the program. The gate is called before each helper call.
+///
+/// If the program is refused here or memory runs out, nothing is printed.
 pub fn check_portable<T: Wait, R: Read, W: Write, G: Gate>(
     rt: &T,
     alloc: Global,

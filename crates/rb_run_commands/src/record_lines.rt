@@ -1,4 +1,4 @@
-//! What `check` prints of a program's run: its result, and a line for each record of each ring.
+//! The output of `check` for a program's run: its result, and a line for each record of each ring.
 
 ghost use Rattle.std.specs.Prelude.{◌≡◌, ◌++◌, IfOk, OnOk, map, string_bytes};
 ghost use Rattle.rb_io.specs.Lines.{hex_text};
@@ -8,8 +8,9 @@ use rb_history::Taken;
 use rb_lend::Lent;
 use std::alloc::{AllocError, Global};
 
-/// The text of a run that ended with this value and left these records, ring by ring from ring 0 on: `accepted`, `result R`, and for
-/// each record `ring I pos P worker W serial S len N HEX`, or `ring I pos P len N discarded`. An empty payload is `-`.
+/// Returns the text of a run with this result and these records, ring by ring from ring 0: `accepted`, `result R`, and
+/// for each record `ring I pos P worker W serial S len N HEX`, or `ring I pos P len N discarded`. An empty payload is
+/// `-`.
 pub(crate) fn text_of_run(
     alloc: Global,
     value: u64,
@@ -26,7 +27,7 @@ pub(crate) fn text_of_run(
     Ok(text)
 }
 
-// The lines of a ring's records more.
+// Appends the lines of a ring's records.
 fn push_ring(
     alloc: Global,
     text: &mut String,
@@ -41,7 +42,7 @@ fn push_ring(
     Ok(())
 }
 
-// The line of a record more.
+// Appends the line of a record.
 fn push_record(
     alloc: Global,
     text: &mut String,
@@ -64,7 +65,7 @@ fn push_record(
     }
 }
 
-// The bytes in hex; `-` where there are none.
+// Returns the bytes in hex, or `-` if there are none.
 fn hex_of(alloc: Global, bytes: &[u8]) -> Result<String, AllocError>
     ensures text { IfOk result (λ text. string_bytes text ≡ hex_text bytes.now) }
 {

@@ -1,4 +1,4 @@
-//! What `check` prints of a program's run as objects of JSON, one a line: its result, and one for each record of each ring.
+//! The output of `check` as JSON objects, one per line: one for the result, and one for each record of each ring.
 
 ghost use Rattle.std.specs.Prelude.{◌≡◌, ◌++◌, IfOk, OnOk, map};
 ghost use Rattle.rb_run_commands.specs.Printed.{grant_fields, record_object, ring_objects, run_objects};
@@ -8,8 +8,9 @@ use rb_json::{push_field, push_payload};
 use rb_lend::Lent;
 use std::alloc::{AllocError, Global};
 
-/// The objects of a run that ended with this value and left these records, ring by ring from ring 0 on: `accepted` and `result`, and for each record
-/// `ring`, `pos`, `worker`, `serial`, `len`, `discarded` and its payload, or `ring`, `pos`, `len` and `discarded`.
+/// Returns the objects of a run with this result and these records, ring by ring from ring 0: `accepted` and `result`,
+/// and for each record `ring`, `pos`, `worker`, `serial`, `len`, `discarded` and its payload, or `ring`, `pos`, `len`
+/// and `discarded`.
 pub(crate) fn objects_of_run(
     alloc: Global,
     value: u64,
@@ -26,7 +27,7 @@ pub(crate) fn objects_of_run(
     Ok(lines)
 }
 
-// The objects of a ring's records more.
+// Appends the objects of a ring's records.
 fn push_ring(
     alloc: Global,
     lines: &mut Vec<u8>,
@@ -42,7 +43,7 @@ fn push_ring(
 }
 
 #[tactic(auto, unfolding(crate::specs::Printed::grant_fields))]
-// The fields of a record that was granted to a worker more.
+// Appends the fields of a record that was granted to a worker.
 fn push_grant(
     lines: &mut Vec<u8>,
     ring: usize,
@@ -58,7 +59,7 @@ fn push_grant(
     push_field(lines, b",\"serial\":", serial)
 }
 
-// The object of a submitted record more.
+// Appends the object of a submitted record.
 fn push_event(
     alloc: Global,
     lines: &mut Vec<u8>,
@@ -77,7 +78,7 @@ fn push_event(
     lines.extend_from_slice(b"}\n")
 }
 
-// The object of a discarded record more.
+// Appends the object of a discarded record.
 fn push_discarded(lines: &mut Vec<u8>, ring: usize, pos: u64, len: u32) -> Result<(), AllocError>
     ensures object { OnOk result (lines.new.items ≡ lines.old.items ++ record_object ring (Taken.Skipped pos len)) }
 {
@@ -87,7 +88,7 @@ fn push_discarded(lines: &mut Vec<u8>, ring: usize, pos: u64, len: u32) -> Resul
     lines.extend_from_slice(b",\"discarded\":true}\n")
 }
 
-// The object of a record more.
+// Appends the object of a record.
 fn push_record(
     alloc: Global,
     lines: &mut Vec<u8>,

@@ -1,4 +1,4 @@
-//! What `run` prints of its report, in the form that is asked for.
+//! The output of `run` for its report, in the requested form.
 
 ghost use Rattle.std.specs.Prelude.{◌≡◌, IfOk};
 ghost use Rattle.rb_run_commands.specs.ReportLines.{report_lines};
@@ -9,7 +9,7 @@ use rb_json::LineForm;
 use rb_workers::JobsReport;
 use std::alloc::{AllocError, Global};
 
-/// The lines of a report. `AllocError` where there is no memory for them.
+/// Returns the lines of a report, or `AllocError` if they cannot be allocated.
 pub(crate) fn lines_of_report<S>(
     alloc: Global,
     report: &JobsReport<S>,

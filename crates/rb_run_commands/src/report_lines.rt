@@ -1,5 +1,5 @@
-//! What `run` prints of its report: a line for each worker, one for the ring, and one for the strays; and what it
-//! tells beside that.
+//! The output of `run` for its report: a line for each worker, one for the ring, and one for the strays; and its
+//! message on unlogged calls.
 
 ghost use Rattle.std.specs.Prelude.{◌≡◌, ◌++◌, IfOk, OnOk, string_bytes};
 ghost use Rattle.rb_run_commands.specs.ReportLines.{closing_lines, counts_line, report_text, tally_line, tally_lines_from, unlogged_text};
@@ -8,8 +8,9 @@ use rb_history::{Counts, Tally};
 use rb_workers::{Ended, JobsReport};
 use std::alloc::{AllocError, Global};
 
-/// The text of a report: for each ring a line `worker W made M refused R submitted S discarded D` for each worker, from worker 0 on, and
-/// `ring made M consumed C discarded D waiting W busy B`; then `strays N`. `AllocError` where there is no memory for it.
+/// Returns the text of a report: for each ring a line `worker W made M refused R submitted S discarded D` for each
+/// worker, from worker 0, and `ring made M consumed C discarded D waiting W busy B`; then `strays N`. Returns
+/// `AllocError` if it cannot be allocated.
 pub(crate) fn text_of_report<S>(alloc: Global, report: &JobsReport<S>) -> Result<String, AllocError>
     ensures text { IfOk result (λ text. string_bytes text ≡ report_text report.now) }
 {
@@ -21,8 +22,8 @@ pub(crate) fn text_of_report<S>(alloc: Global, report: &JobsReport<S>) -> Result
     Ok(text)
 }
 
-/// What is told beside a report: nothing where no reservation and no output is unlogged; else a line `unlogged U`, with words for what they are.
-/// `AllocError` where there is no memory for it.
+/// Returns the message printed besides a report: a line `unlogged U` that explains itself, or nothing if no reservation
+/// or output is unlogged. Returns `AllocError` if it cannot be allocated.
 pub(crate) fn text_of_unlogged(alloc: Global, unlogged: u128) -> Result<String, AllocError>
     ensures text { IfOk result (λ text. string_bytes text ≡ unlogged_text unlogged) }
 {
@@ -37,7 +38,7 @@ pub(crate) fn text_of_unlogged(alloc: Global, unlogged: u128) -> Result<String, 
     Ok(text)
 }
 
-// The lines of a ring more.
+// Appends the lines of a ring.
 fn push_ended<S>(text: &mut String, ended: &Ended<S>) -> Result<(), AllocError>
     ensures lines { OnOk result (string_bytes text.new ≡ string_bytes text.old ++ closing_lines ended.now) }
 {
@@ -45,7 +46,7 @@ fn push_ended<S>(text: &mut String, ended: &Ended<S>) -> Result<(), AllocError>
     push_counts(text, ended.closing.counts())
 }
 
-// The lines of the workers' seats more, from worker 0 on.
+// Appends the lines of the workers' seats, from worker 0.
 fn push_tallies(text: &mut String, tallies: &[Tally]) -> Result<(), AllocError>
     ensures lines { OnOk result (string_bytes text.new ≡ string_bytes text.old ++ tally_lines_from 0 tallies.now) }
 {
@@ -55,7 +56,7 @@ fn push_tallies(text: &mut String, tallies: &[Tally]) -> Result<(), AllocError>
     Ok(())
 }
 
-// The line of a worker's seat more.
+// Appends the line of a worker's seat.
 fn push_tally(text: &mut String, worker: usize, tally: Tally) -> Result<(), AllocError>
     ensures line { OnOk result (string_bytes text.new ≡ string_bytes text.old ++ tally_line worker tally) }
 {
@@ -71,7 +72,7 @@ fn push_tally(text: &mut String, worker: usize, tally: Tally) -> Result<(), Allo
     )
 }
 
-// The line of a ring's counts more.
+// Appends the line of a ring's counts.
 fn push_counts(text: &mut String, counts: Counts) -> Result<(), AllocError>
     ensures line { OnOk result (string_bytes text.new ≡ string_bytes text.old ++ counts_line counts) }
 {

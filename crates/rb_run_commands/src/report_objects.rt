@@ -1,5 +1,5 @@
-//! What `run` prints of its report as objects of JSON, one a line: for each ring one for each worker and one for the ring, and one for the strays and
-//! what is unlogged.
+//! The output of `run` for its report as JSON objects, one per line: for each ring one for each worker and one for the
+//! ring; then one for the strays and the unlogged calls.
 
 ghost use Rattle.std.specs.Prelude.{◌≡◌, ◌++◌, IfOk, OnOk};
 ghost use Rattle.std.specs.Prelude.{codes};
@@ -11,9 +11,9 @@ use rb_json::{push_field, push_wide_number};
 use rb_workers::{Ended, JobsReport};
 use std::alloc::{AllocError, Global};
 
-/// The objects of a report: for each ring, from ring 0 on, one with `ring`, `worker`, `made`, `refused`, `submitted` and `discarded` for each worker, from
-/// worker 0 on, and one with `ring`, `made`, `consumed`, `discarded`, `waiting` and `busy`; then one with `strays` and
-/// `unlogged`. `AllocError` where there is no memory for them.
+/// Returns the objects of a report: for each ring, from ring 0, one with `ring`, `worker`, `made`, `refused`,
+/// `submitted` and `discarded` for each worker, from worker 0, and one with `ring`, `made`, `consumed`, `discarded`,
+/// `waiting` and `busy`; then one with `strays` and `unlogged`. Returns `AllocError` if they cannot be allocated.
 pub(crate) fn objects_of_report<S>(
     alloc: Global,
     report: &JobsReport<S>,
@@ -28,7 +28,7 @@ pub(crate) fn objects_of_report<S>(
     Ok(lines)
 }
 
-// What is unlogged more.
+// Appends the `unlogged` field.
 fn push_unlogged(lines: &mut Vec<u8>, unlogged: u128) -> Result<(), AllocError>
     ensures field { OnOk result (lines.new.items ≡ lines.old.items ++ codes ",\"unlogged\":" ++ json_number unlogged) }
 {
@@ -36,7 +36,7 @@ fn push_unlogged(lines: &mut Vec<u8>, unlogged: u128) -> Result<(), AllocError>
     push_wide_number(lines, unlogged)
 }
 
-// The objects of the rings more, from ring 0 on.
+// Appends the objects of the rings, from ring 0.
 fn push_rings<S>(lines: &mut Vec<u8>, rings: &[Ended<S>]) -> Result<(), AllocError>
     ensures objects { OnOk result (lines.new.items ≡ lines.old.items ++ closing_objects_from 0 rings.now) }
 {
@@ -46,7 +46,7 @@ fn push_rings<S>(lines: &mut Vec<u8>, rings: &[Ended<S>]) -> Result<(), AllocErr
     Ok(())
 }
 
-// The objects of a ring more.
+// Appends the objects of a ring.
 fn push_ended<S>(lines: &mut Vec<u8>, ring: usize, ended: &Ended<S>) -> Result<(), AllocError>
     ensures objects { OnOk result (lines.new.items ≡ lines.old.items ++ closing_objects ring ended.now) }
 {
@@ -54,7 +54,7 @@ fn push_ended<S>(lines: &mut Vec<u8>, ring: usize, ended: &Ended<S>) -> Result<(
     push_counts(lines, ring, ended.closing.counts())
 }
 
-// The objects of the workers' seats at a ring more, from worker 0 on.
+// Appends the objects of the workers' seats at a ring, from worker 0.
 fn push_tallies(lines: &mut Vec<u8>, ring: usize, tallies: &[Tally]) -> Result<(), AllocError>
     ensures objects { OnOk result (lines.new.items ≡ lines.old.items ++ tally_objects_from ring 0 tallies.now) }
 {
@@ -64,7 +64,7 @@ fn push_tallies(lines: &mut Vec<u8>, ring: usize, tallies: &[Tally]) -> Result<(
     Ok(())
 }
 
-// The object of a worker's seat more.
+// Appends the object of a worker's seat.
 fn push_tally(
     lines: &mut Vec<u8>,
     ring: usize,
@@ -79,7 +79,7 @@ fn push_tally(
 }
 
 #[tactic(auto, unfolding(crate::specs::ReportLines::grant_fields))]
-// A worker's seat at a ring, and how many records it was granted, more.
+// Appends the fields for a worker's seat at a ring and the number of records it was granted.
 fn push_grants(
     lines: &mut Vec<u8>,
     ring: usize,
@@ -94,7 +94,8 @@ fn push_grants(
 }
 
 #[tactic(auto, unfolding(crate::specs::ReportLines::outcome_fields))]
-// How often it was refused one, and what became of those that it was granted, more.
+// Appends the fields for how often it was refused a record, and for how many of its records were submitted and
+// discarded.
 fn push_outcome(lines: &mut Vec<u8>, tally: Tally) -> Result<(), AllocError>
     ensures fields { OnOk result (lines.new.items ≡ lines.old.items ++ outcome_fields tally) }
 {
@@ -103,7 +104,7 @@ fn push_outcome(lines: &mut Vec<u8>, tally: Tally) -> Result<(), AllocError>
     push_field(lines, b",\"discarded\":", tally.discarded)
 }
 
-// The object of a ring's counts more.
+// Appends the object of a ring's counts.
 fn push_counts(lines: &mut Vec<u8>, ring: usize, counts: Counts) -> Result<(), AllocError>
     ensures object { OnOk result (lines.new.items ≡ lines.old.items ++ counts_object ring counts) }
 {
@@ -113,7 +114,7 @@ fn push_counts(lines: &mut Vec<u8>, ring: usize, counts: Counts) -> Result<(), A
 }
 
 #[tactic(auto, unfolding(crate::specs::ReportLines::consumed_fields))]
-// A ring, and how many of its records were made and consumed, more.
+// Appends the fields for a ring and the numbers of its records that were made and consumed.
 fn push_consumed(lines: &mut Vec<u8>, ring: usize, counts: Counts) -> Result<(), AllocError>
     ensures fields { OnOk result (lines.new.items ≡ lines.old.items ++ consumed_fields ring counts) }
 {
@@ -123,7 +124,7 @@ fn push_consumed(lines: &mut Vec<u8>, ring: usize, counts: Counts) -> Result<(),
 }
 
 #[tactic(auto, unfolding(crate::specs::ReportLines::other_fields))]
-// What became of the others more.
+// Appends the fields for its discarded, waiting and busy records.
 fn push_others(lines: &mut Vec<u8>, counts: Counts) -> Result<(), AllocError>
     ensures fields { OnOk result (lines.new.items ≡ lines.old.items ++ other_fields counts) }
 {

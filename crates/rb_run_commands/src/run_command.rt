@@ -1,4 +1,4 @@
-//! A program from its text, run as jobs on threads over one ring.
+//! Runs a program from its text as jobs on threads over one ring.
 
 ghost use Rattle.std.specs.Prelude.{◌≡◌, ◌≢◌, ◌⊎◌, [], ◌∷◌, vec_len, map, IfErr, IfOk, IfSome, OnOk};
 ghost use Rattle.std.specs.Io.KnownBytes.{Appends, Keeps};
@@ -27,32 +27,36 @@ use std::io::{Read, Write};
 use std::sync::Wait;
 use std::thread::Threads;
 
-/// What a program of jobs is verified for: contexts of 16 bytes and one ring.
+/// The limits that a program of jobs is verified for: contexts of 16 bytes and one ring.
 pub const JOB_BOUNDS: Bounds = Bounds {
     ctx_len: CONTEXT as u32,
     rings: 1,
 };
 
-/// What is run, over which ring, and how what came of it is printed.
+/// The jobs to run, the ring to run them over, and the form of the output.
 #[derive(Clone, Copy, Debug, PartialEq, Eq)]
 pub struct JobsRequest {
-    /// How many workers there are.
+    /// The number of workers.
     pub workers: u64,
-    /// How often each worker runs the program.
+    /// The number of times that each worker runs the program.
     pub jobs: u32,
     /// The ring's size in bytes.
     pub size: u64,
     /// The ring's first position.
     pub start: u64,
-    /// How the report is printed.
+    /// The form in which the report is printed.
     pub form: LineForm,
 }
 
-/// Verifies the program whose text is the input for one ring and contexts of 16 bytes, and has each worker run it so often, each on a thread
-/// of its own, over one ring. A job's context is the worker's number and the job's, each in eight bytes, the lowest first. Prints what each
-/// seat counted, and what the closed ring did, once all have ended; then tells on `err` how many reservations and outputs are unlogged, where any are.
-/// Input that is no UTF-8 is `Text`; the program's refusals come before those of size, start and workers. Nothing is printed or told where the
-/// program or the ring is refused or memory runs out, and `Device` where not all of it was. The gate is called before each helper call.
+/// Verifies the program whose text is the input, for one ring and contexts of 16 bytes. Runs it `jobs` times on each
+/// worker, each worker on its own thread, over one ring. A job's context is the worker's number followed by the job's
+/// number, each in eight bytes, little-endian. When all workers have ended, prints each seat's counts and the closed
+/// ring's counts, and reports on `err` how many reservations and outputs are unlogged, if any are. The gate is called
+/// before each helper call.
+///
+/// Input that is not UTF-8 is refused as `Text`. Refusals of the program come before those of size, start and workers.
+/// If the program or the ring is refused or memory runs out, nothing is printed or reported. Returns `Device` if the
+/// output was not written whole.
 pub fn run<T: Threads + Wait + Sync, R: Read, W: Write, E: Write, G: Gate + Sync>(
     rt: &T,
     alloc: Global,
@@ -91,8 +95,8 @@ pub fn run<T: Threads + Wait + Sync, R: Read, W: Write, E: Write, G: Gate + Sync
     }
 }
 
-/// Runs these jobs of the program and tells what is unlogged as `run` does, with a sink that is given what the ring's consumer takes; it comes back in
-/// the report.
+/// Runs these jobs of the program and reports unlogged calls as `run` does. What the ring's consumer takes goes to the
+/// sink, which the report returns.
 pub(crate) fn run_and_print<
     T: Threads + Wait + Sync,
     W: Write,
@@ -133,7 +137,7 @@ pub(crate) fn run_and_print<
     }
 }
 
-// Runs the jobs, which are the program's on each worker so often, over one ring, whose records are given to the sink as they are taken.
+// Runs the program `jobs` times on each worker, over one ring whose records go to the sink as they are taken.
 fn run_program<T: Threads + Wait + Sync, S: Sink + Send + Drop, G: Gate + Sync>(
     rt: &T,
     alloc: Global,
@@ -181,7 +185,7 @@ fn run_program<T: Threads + Wait + Sync, S: Sink + Send + Drop, G: Gate + Sync>(
     }
 }
 
-// A list of this alone. `AllocError` where there is no memory for it.
+// Returns a list with one element, or `AllocError` if it cannot be allocated.
 fn list_of_one<A: Drop>(alloc: Global, one: A) -> Result<Vec<A>, AllocError>
     ensures items { IfOk result (λ list. list.items ≡ one ∷ []) }
     ensures len { IfOk result (λ list. vec_len list ≡ 1) }
@@ -191,7 +195,7 @@ fn list_of_one<A: Drop>(alloc: Global, one: A) -> Result<Vec<A>, AllocError>
     Ok(list)
 }
 
-/// The number of workers, where a ring may be opened with these numbers; else the refusal that opening it gives.
+/// Returns the number of workers if a ring can be opened with these numbers. Otherwise returns the error of opening it.
 pub fn check_ring(request: JobsRequest) -> Result<u32, JobsFault>
     ensures bounds { OnOk result (IsRingSize request.size × IsStartPosition request.start × IsWorkerCount request.workers) }
     ensures workers { IfOk result (λ workers. workers ≡ request.workers) }
@@ -204,7 +208,7 @@ pub fn check_ring(request: JobsRequest) -> Result<u32, JobsFault>
     }
 }
 
-// Why no ring can be opened with these numbers.
+// Returns why no ring can be opened with these numbers.
 fn setup_fault(fault: SetupFault) -> JobsFault
     ensures { result ≡ fault_of_opening fault }
 {

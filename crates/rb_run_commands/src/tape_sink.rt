@@ -8,18 +8,18 @@ use rb_workers::Sink;
 use std::io::Write;
 use std::marker::Model;
 
-/// Writes the records that it is given as a tape, one after the other. The first write that fails or takes nothing ends the tape; what comes
-/// after it is given up. Each record is written in a few pieces, so let the writer be a buffered one.
+/// Writes its records as a tape, in order. The first write that fails or writes nothing ends the tape; everything after
+/// it is discarded. Each record takes a few writes, so use a buffered writer.
 ///
-/// It has the writer hand on what waits whenever the ring's consumer has caught up or handed a chapter out, until that fails once. After each
-/// success it calls the watch.
+/// Whenever the ring's consumer has caught up or handed a chapter out, the sink makes the writer flush, until that
+/// fails once. After each success it calls the watch.
 #[derive(Drop)]
 pub struct TapeSink<'w, W, G> {
     tape: TapeWriter<W>,
     size: u64,
     position: u64,
     failed: bool,
-    // Whether the writer failed to hand on what waits.
+    // Whether the writer failed to flush.
     stalled: bool,
     watch: &'w G,
 }
@@ -40,8 +40,8 @@ impl<'w, W: Write, G> TapeSink<'w, W, G> {
     ghost use Rattle.std.specs.Prelude.{◌≡◌, false};
     ghost use Rattle.rb_history.specs.RingModel.{IsRingSize, IsStartPosition};
 
-    /// A tape of a ring of `size` bytes, whose first record stands at `start`. Nothing is written yet.
-    pub(crate) fn new(writer: W, size: u64, start: u64, watch: &'w G) -> TapeSink<'w, W, G>
+    /// A tape of a ring of `size` bytes whose first record is at `start`. Nothing is written yet.
+    pub fn new(writer: W, size: u64, start: u64, watch: &'w G) -> TapeSink<'w, W, G>
         requires size { IsRingSize size }
         requires start { IsStartPosition start }
         ensures value { result ≡ record { writer = writer; size = size; position = start; failed = false; stalled = false } }
@@ -56,15 +56,15 @@ impl<'w, W: Write, G> TapeSink<'w, W, G> {
         }
     }
 
-    /// Whether the tape ended with a record that did not go out whole.
-    pub(crate) fn failed(&self) -> bool
+    /// Whether the tape ended with a record that was not written whole.
+    pub fn failed(&self) -> bool
         ensures value { result ≡ self.now.failed }
     {
         self.failed
     }
 
-    /// The writer, with what was written to it.
-    pub(crate) fn into_writer(self) -> W
+    /// Returns the writer, with what was written to it.
+    pub fn into_writer(self) -> W
         ensures value { result ≡ self.entry.writer }
     {
         self.tape.into_writer()
@@ -76,7 +76,7 @@ impl<'w, W: Outgoing, G: TapeWatch> TapeSink<'w, W, G> {
     ghost use Rattle.std.specs.Io.KnownBytes.{Keeps};
     ghost use Rattle.rb_run_commands.specs.TapedRun.{WritesOut};
 
-    // Has the writer hand on what waits, unless the tape ended or that failed before, and calls the watch if it succeeds.
+    // Makes the writer flush, unless the tape ended or a flush failed before, and calls the watch on success.
     fn write_out(&mut self, caught_up: bool)
         ensures bytes { Keeps (W.contents self.old.writer) (W.contents self.new.writer) }
         ensures size { self.new.size ≡ self.old.size }
@@ -105,7 +105,7 @@ impl<'w, W: Outgoing, G: TapeWatch> Sink for TapeSink<'w, W, G> {
         self.position
     }
 
-    // A record as long as the ring ends the tape too: no ring grants one.
+    // A record as long as the ring ends the tape as well. No ring grants one.
     fn record(&mut self, item: &Item<'_>) {
         let span = item.span();
         self.position += span;

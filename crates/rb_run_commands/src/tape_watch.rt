@@ -1,11 +1,12 @@
-//! What is called as a tape is written.
+//! An observer of a tape being written.
 
 use rb_workers::OpenGate;
 
-/// What the sink of a tape calls each time that all records up to a position have been written to what is below its buffer.
+/// An observer that a tape's sink calls each time all records up to a position have been flushed below its buffer.
 pub trait TapeWatch {
-    /// Is called on the consumer's thread, with the position up to which the tape of a ring of `size` bytes is written, which is the
-    /// consumer position. `caught_up` is whether the consumer had just taken all that it could. Nothing is promised of what a watch does.
+    /// Called on the consumer's thread with the position up to which the tape of a ring of `size` bytes is written,
+    /// which is the consumer position. `caught_up` is whether the consumer had just taken everything that it could.
+    /// Nothing is promised about what a watch does.
     fn written_out(&self, position: u64, size: u64, caught_up: bool);
 }
 

@@ -27,16 +27,18 @@ use std::thread::Threads;
 /// A tape that was written.
 #[derive(Drop)]
 pub struct WrittenTape<F> {
-    /// What it was written to.
+    /// The writer that it was written to.
     pub writer: F,
-    /// Whether all of it was written and handed on.
+    /// Whether all of it was written and flushed.
     pub is_whole: bool,
 }
 
-/// Runs the program as `run` does, prints the same, and writes what the ring's consumer took as a tape, each record once it is taken. A write
-/// that fails or takes nothing ends the tape and not the run. The writer hands on what waits whenever the consumer has caught up, until that fails
-/// once, and again at the end; it is called a few times for each record, so buffer it. If the run is refused or memory runs out, the writer is
-/// dropped.
+/// Runs the program as `run` does, prints the same, and writes what the ring's consumer took as a tape, each record as
+/// it is taken.
+///
+/// A write that fails or writes nothing ends the tape, but not the run. The writer flushes whenever the consumer has
+/// caught up, until that fails once, and again at the end. It is called a few times for each record, so use a buffered
+/// one. If the run is refused or memory runs out, the writer is dropped.
 pub fn run_taped<T: Threads + Wait + Sync, W: Write, E: Write, F: Outgoing + Send + Drop>(
     rt: &T,
     alloc: Global,
@@ -112,7 +114,7 @@ fn tape_jobs<
     Ok(WrittenTape { writer, is_whole })
 }
 
-// Has the writer hand on what waits: whether the tape is whole then, where all of it was written to the writer or not.
+// Makes the writer flush. Returns whether the tape is whole, given whether all of it was written to the writer.
 fn write_out_all<F: Outgoing>(writer: &mut F, is_out: bool) -> bool
     ensures bytes { Keeps (F.contents writer.old) (F.contents writer.new) }
     ensures nothing_waits { result ≡ true → F.waiting writer.new ≡ [] }
@@ -121,12 +123,12 @@ fn write_out_all<F: Outgoing>(writer: &mut F, is_out: bool) -> bool
     writer.write_out().is_ok() && is_out
 }
 
-/// What failed at the file of a tape, with the system's words where it had some.
+/// What failed at the file of a tape, with the system's error if it reported one.
 #[derive(Clone, Copy)]
 pub enum TapeFileFault {
-    /// It could not be made, or opened for writing.
+    /// The file could not be created, or opened for writing.
     Opening(Error),
-    /// A write failed, or took nothing.
+    /// A write failed, or wrote nothing.
     Writing(Option<Error>),
 }
 
@@ -139,10 +141,12 @@ pub struct TapeFile<'a> {
     pub fault: Option<TapeFileFault>,
 }
 
-/// Verifies the program whose text is the input and runs it as `run` does, prints and tells the same, and writes the tape to this file, which is
-/// made, or emptied where it is there. That comes after all refusals of the program and the ring, and once there is memory for the list of all jobs, and
-/// before anything runs: `Device` where it can't be done, and, behind what was printed, where not all of the tape was written; the file then has what
-/// failed there. The gate is also called each time that the tape was written out.
+/// Verifies the program whose text is the input, and runs it, prints and reports as `run` does. Writes the tape to this
+/// file, which is created, or truncated if it exists.
+///
+/// The file is opened after all refusals of the program and the ring, and after the list of jobs is allocated, but
+/// before anything runs. Returns `Device` if it cannot be opened, or, after the output was printed, if the tape was not
+/// written whole; `file` then contains what failed there. The gate is also called each time the tape was flushed.
 pub fn run_to_file<
     T,
     R: Read,

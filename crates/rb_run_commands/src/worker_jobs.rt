@@ -1,4 +1,4 @@
-//! The jobs of a run: each worker runs the program so often, each time over a context of its own.
+//! The jobs of a run: each worker runs the program a number of times, each time with its own context.
 
 ghost use Rattle.std.specs.Prelude.{◌≡◌, ◌++◌, IfOk, OnOk, map};
 ghost use Rattle.rb_jobs.specs.Jobs.{task_of};
@@ -10,10 +10,10 @@ use rb_verifier::Verified;
 use rb_workers::Job;
 use std::alloc::{AllocError, Global};
 
-/// The length of a job's context in bytes: the worker's and the job's number, each in eight bytes, the lowest first.
+/// The length of a job's context in bytes: the worker's number and the job's, each in eight bytes, little-endian.
 pub const CONTEXT: usize = 16;
 
-/// Whose job it is, and the bytes of its context.
+/// The worker of a job, and the bytes of the job's context.
 #[derive(Clone, Copy)]
 pub struct JobContext {
     /// The worker that runs the job.
@@ -22,8 +22,8 @@ pub struct JobContext {
     pub bytes: [u8; CONTEXT],
 }
 
-/// The contexts of so many jobs of each of so many workers, worker by worker, each worker's in the order of their numbers.
-/// `AllocError` where there is no memory for them.
+/// Returns the contexts of `jobs` jobs of each of `workers` workers, worker by worker, each worker's in the order of
+/// their numbers, or `AllocError` if they cannot be allocated.
 pub(crate) fn contexts_of(
     alloc: Global,
     workers: u32,
@@ -39,7 +39,7 @@ pub(crate) fn contexts_of(
     Ok(contexts)
 }
 
-// The contexts of one worker's jobs more.
+// Appends the contexts of one worker's jobs.
 fn push_contexts(contexts: &mut Vec<JobContext>, worker: u32, jobs: u32) -> Result<(), AllocError>
     ensures contexts { OnOk result (contexts.new.items ≡ contexts.old.items ++ worker_contexts jobs worker) }
 {
@@ -53,7 +53,7 @@ fn push_contexts(contexts: &mut Vec<JobContext>, worker: u32, jobs: u32) -> Resu
     Ok(())
 }
 
-// The worker's and the job's number, each in eight bytes, the lowest first.
+// Returns the worker's and the job's number, each in eight bytes, little-endian.
 fn context_of(worker: u32, job: u32) -> [u8; CONTEXT]
     ensures context { result ≡ job_context worker job }
 {
@@ -63,7 +63,7 @@ fn context_of(worker: u32, job: u32) -> [u8; CONTEXT]
     context
 }
 
-/// A job of the program over each of the contexts, in their order. `AllocError` where there is no memory for them.
+/// Returns a job of the program for each of the contexts, in order, or `AllocError` if they cannot be allocated.
 pub(crate) fn jobs_of<'j>(
     alloc: Global,
     program: &'j Verified,

@@ -5,14 +5,15 @@ use Rattle.rb_history.specs.Span.{span}
 use Rattle.rb_consumer.specs.BetweenLooks.{records_at_once}
 use Rattle.rb_workers.specs.ChapterSizes.{IsEnoughFor, ChaptersFollowTheirRing}
 
--- so many records at once leave room for what is logged between two looks, both where the limit cuts the room and where it does not
+-- this number of records at once leaves room for what is logged between two looks, whether or not the limit cuts the
+-- room
 enough : (size least : ℕ) → records_at_once size least ≤ size / 8 → records_at_once size least ≤ 294912 → IsEnoughFor size least
 enough size least by_size by_room = record { room_is = omega (arith, by_size, by_room); margin_is = omega (arith, by_size, by_room) }
 
 few : (size least most : ℕ) → size - 1 ≤ span least * most → records_at_once size least ≤ most
 few size least most short = div-le_of_le-mul (span least) short
 
--- no more than one for each eight bytes
+-- at most one record for each eight bytes
 by-eights : (size least : ℕ) → records_at_once size least ≤ size / 8
 by-eights size least =
     let many = records_at_once size least in

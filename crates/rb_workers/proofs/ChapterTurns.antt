@@ -1,4 +1,4 @@
--- A turn of a keeper gives the sink the chapter that was handed out, and takes nothing.
+-- A keeper's turn gives the sink the chapter that was handed out, and takes no record.
 use Rattle.std.proofs.Common.{◌≡◌, ℕ, List, [], ◌∷◌, ◌++◌, refl, ap, sym, ◌∙◌, subst, append-nil, arith}
 use Rattle.std.proofs.lemmas.List.Elements.{All-nil, All-cons}
 use Rattle.std.specs.FinMap.{get}

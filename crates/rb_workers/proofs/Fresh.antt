@@ -15,7 +15,7 @@ use Rattle.rb_workers.specs.Opened.{AreOpened, IsOpened}
 use Rattle.rb_workers.proofs.Numbered.{seats_length}
 use Rattle.rb_workers.proofs.Parts.{all_first}
 
--- one worker more at the end
+-- one more worker at the end
 last_worker : (tag : ℕ) (ring : TableId) (room : ℕ) (seen : Book) (first n : ℕ) → map (λ (s : WorkerSeat). s.worker) (fresh_seats tag ring room seen first (suc n)) ≡ map (λ (s : WorkerSeat). s.worker) (fresh_seats tag ring room seen first n) ++ (first + n) ∷ []
 last_worker tag ring room seen first zero = let e : first ≡ first + 0 = omega arith in ap (λ k. k ∷ []) e
 last_worker tag ring room seen first (suc n) =
@@ -59,7 +59,7 @@ all_opened position count [] all = λ k d below. absurd (omega arith)
 all_opened position count (o ∷ more) all =
     subst (λ n. All (IsOpened position n) (o ∷ more)) (sym (seats_length position count o (all_first (IsOpened position count) (o ∷ more) more o refl all))) all
 
--- seats that have made nothing
+-- seats that have made no record
 pub fresh_settled : (tag : ℕ) (ring : TableId) (room : ℕ) (seen : Book) (first n : ℕ) → All HasSettledAll (fresh_seats tag ring room seen first n)
 fresh_settled tag ring room seen first zero = λ k d below. absurd (omega arith)
 fresh_settled tag ring room seen first (suc n) = All-cons HasSettledAll (fresh_seat tag ring room first seen) (fresh_seats tag ring room seen (first + 1) n) refl (fresh_settled tag ring room seen (first + 1) n)

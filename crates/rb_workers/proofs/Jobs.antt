@@ -1,4 +1,4 @@
--- Laws of jobs, one after another.
+-- Laws about sequences of jobs.
 use Rattle.std.proofs.Common.{◌≡◌, ℕ, ◌+◌, ◌<◌, ◌==◌, true, true≢false, List, [], ◌∷◌, ◌++◌, length, get_or, take, drop, refl, sym, subst, ap, ◌∙◌, arith}
 use Rattle.std.proofs.lemmas.List.{take-append-drop}
 use Rattle.std.proofs.lemmas.List.Elements.{filter_more, filter-append}
@@ -20,7 +20,7 @@ ran_more (k ∷ ks) (b ∷ bs) j a old mid new ran did = (ran.0, ran.1, ran_more
 pub own_more : (w : ℕ) (js : List Job) (i : ℕ) (d : Job) → i < length js → (get_or js i d).worker ≡ w → own_jobs w (take (i + 1) js) ≡ own_jobs w (take i js) ++ get_or js i d ∷ []
 own_more w js i d below same = let e = filter_more (λ (j : Job). j.worker == w) js i d below in grind (arith, nat_tests)
 
--- up to here the worker ran its jobs
+-- up to this index the worker ran its jobs
 pub worked_short : (w : ℕ) (js : List Job) (i : ℕ) (short : Bool) (given : List JobAnswer) (old new : List WorkerSeat) → short ≡ true → RunsJobs (own_jobs w (take i js)) given old new → RunsOwnJobs (own_jobs w js) short given old new
 worked_short w js i short given old new e ran =
     (own_jobs w (take i js), own_jobs w (drop i js), ap (own_jobs w) (sym (take-append-drop i js)) ∙ filter-append (λ (j : Job). j.worker == w) (take i js) (drop i js), (λ no. absurd (true≢false (sym e ∙ no))), ran)

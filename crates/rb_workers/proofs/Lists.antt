@@ -1,4 +1,4 @@
--- Laws of lists that stand beside each other.
+-- Laws about lists that are related elementwise.
 use Rattle.std.proofs.lemmas.Bool.{cases_eq}
 use Rattle.std.proofs.lemmas.List.{get_or-set_same, get_or-set_other, get_or_default}
 use Rattle.std.proofs.Common.{◌≡◌, ◌≢◌, ℕ, zero, suc, ◌+◌, ◌<◌, ⊎_elim, set, List, [], ◌∷◌, length, get_or, Some, refl, sym, subst, arith}
@@ -18,7 +18,7 @@ zip_seen R [] (z ∷ zs) i y all below e = absurd all
 zip_seen R (x ∷ xs) (z ∷ zs) zero y all below e = (x, refl, subst (R x) (sym e) all.0)
 zip_seen R (x ∷ xs) (z ∷ zs) (suc i) y all below e = zip_seen R xs zs i y all.1 (omega arith) e
 
--- what holds of each element before one, and of that one, holds of each up to it
+-- what holds for each element before one, and for that one, holds for each up to it
 pub each_more : {A : Type 0} (R : A → A → Type 0) (olds xs : List A) (at : ℕ) (e new : A) → at < length xs → at < length olds → R (get_or olds at e) new → ((k : ℕ) (d : A) → k < at → R (get_or olds k d) (get_or xs k d))
     → (k : ℕ) (d : A) → k < at + 1 → R (get_or olds k d) (get_or (set xs at new) k d)
 each_more R olds xs at e new inside within one before k d below =

@@ -15,7 +15,8 @@ use Rattle.rb_workers.specs.declared.workers.Worker.{Worker}
 use Rattle.rb_workers.specs.JobRuns.{own_jobs}
 use Rattle.rb_workers.specs.inner.WorkerRuns.{own_answers}
 
--- of the jobs from `at` on there are these answers: what each worker has still, with its own among them, is what it had
+-- the answers of the jobs from `at` on were gathered: each worker's remaining answers, followed by its own among these,
+-- are those that it had
 pub record IsGathered (js : List Job) (olds : List Worker) (at : ℕ) (results : List (Result ℕ RunFault)) (unlogged : ℕ) (workers : List Worker) : Type 0 where
   pub answers : List JobAnswer
   pub results_are : results ≡ reverse (map (λ a. a.result) answers)
@@ -40,12 +41,12 @@ gathered_none js olds results empty each =
       taken = λ k d below. ap (λ l. (get_or olds k d).answers.items ++ own_answers k l []) (drop-length js) ∙ append-nil (get_or olds k d).answers.items;
     }
 
--- the answers of the jobs from `at` on, of which the first is this one
+-- the answers of the jobs from `at` on, the first of which is this one
 own_on : (k : ℕ) (js : List Job) (at : ℕ) (d : Job) (a : JobAnswer) (answers : List JobAnswer) → at < length js
     → own_answers k (drop at js) (a ∷ answers) ≡ cond ((get_or js at d).worker == k) (a ∷ own_answers k (drop (at + 1) js) answers) (own_answers k (drop (at + 1) js) answers)
 own_on k js at d a answers below = rw (add-one, drop-cons js at d) refl
 
--- one job more, from the last on: what is left of each worker's own
+-- one more job, from the last on: what remains of each worker's own
 left_on : (k : ℕ) (js : List Job) (at : ℕ) (workers : List Worker) (dj : Job) (dw new d : Worker) (a : JobAnswer) (own : Bool) → ((get_or js at dj).worker == k) ≡ own
     → at < length js → (get_or js at dj).worker < length workers → (get_or workers (get_or js at dj).worker dw).answers.items ≡ new.answers.items ++ a ∷ [] → k < length workers
     → length (get_or workers k d).answers.items ≡ length (own_jobs k (take (at + 1) js))
@@ -88,7 +89,7 @@ taken_on k js at answers workers dj dw new d a false e below known taken within 
     let first : own_answers k (drop at js) (a ∷ answers) ≡ rest = own_on k js at dj a answers below ∙ ap (λ b. cond b (a ∷ rest) rest) e in
     ap (λ l. (get_or (slice_set workers (get_or js at dj).worker new) k d).answers.items ++ l) first ∙ ap (λ (w : Worker). w.answers.items ++ rest) there
 
--- one job more, from the last on
+-- one more job, from the last on
 pub gathered_more : (js : List Job) (olds : List Worker) (rest at : ℕ) (results grown : List (Result ℕ RunFault)) (unlogged more : ℕ) (workers : List Worker) (dj : Job) (dw new : Worker) (a : JobAnswer)
     → rest ≡ at + 1 → at < length js → length workers ≡ length olds → (get_or js at dj).worker < length olds
     → (get_or workers (get_or js at dj).worker dw).answers.items ≡ new.answers.items ++ a ∷ [] → a.unlogged < 2 ^ 64 → grown ≡ results ++ a.result ∷ [] → more ≡ a.unlogged

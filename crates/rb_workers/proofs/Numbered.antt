@@ -1,4 +1,4 @@
--- Seats that stand in the order of their workers' numbers.
+-- Seats in the order of their workers' numbers.
 use Rattle.std.proofs.Common.{◌≡◌, ℕ, zero, suc, ◌<◌, ◌==◌, List, [], ◌∷◌, Bool, true, false, ◌||◌, ◌&&◌, length, map, refl, ap, sym, ◌∙◌, length-append, ⊎_elim, arith}
 use Rattle.std.proofs.lemmas.List.{length-map}
 use Rattle.std.proofs.lemmas.Bool.{true≢false}
@@ -16,7 +16,7 @@ numbers_length : (n : ℕ) → length (numbers_below n) ≡ n
 numbers_length zero = refl
 numbers_length (suc n) = let e = numbers_length n in let a = length-append (numbers_below n) (n ∷ []) in omega arith
 
--- as many seats as workers
+-- there are as many seats as workers
 pub seats_length : {S : Type 0} (position : S → ℕ) (count : ℕ) (o : Opened S) → IsOpened position count o → length o.seats.items ≡ count
 seats_length position count o is = sym (length-map o.seats.items (λ (s : WorkerSeat). s.worker)) ∙ (ap length is.numbered ∙ numbers_length count)
 

@@ -1,4 +1,4 @@
--- What a whole run tells.
+-- What a whole run reports.
 use Rattle.std.proofs.Common.{◌≡◌, ℕ, suc, ◌<◌, ◌≤◌, List, [], ◌∷◌, ◌++◌, Bool, true, false, ◌||◌, length, get_or, map, refl, ap, sym, ◌∙◌, subst, append-nil, ⊎_elim, arith}
 use Rattle.std.proofs.lemmas.Bool.{true≢false}
 use Rattle.std.proofs.lemmas.Bool.Decides.{leb_tells}
@@ -38,7 +38,7 @@ use Rattle.rb_workers.proofs.Parts.{all_first, all_rest}
 
 -- ---- rings
 
--- what a history begins with, it begins with each beginning of that
+-- a prefix of a prefix of a history is a prefix of the history
 all_begin : (b : Book) (opened seats : List WorkerSeat) → AllZip SeatBegins opened seats → All (Accounts b) seats → All (λ s. BeginsWith b s.seen) opened
 all_begin b opened seats begins ties =
     λ k d below.
@@ -46,7 +46,7 @@ all_begin b opened seats begins ties =
     begins_through (get_or opened k d).seen (get_or seats k d).seen b (AllZip-get_or SeatBegins opened seats k d d begins below)
     (extended_begins (WorkerRole (get_or seats k d).worker) (get_or seats k d).seen b (ties k d (omega (arith, same, below))).goes_on)
 
--- each ring that was closed with what came back is one that was opened
+-- each ring that was closed after the run is one that was opened
 pub rings_end : {S : Type 0} (position : S → ℕ) (takes : S → SinkItem → S → Type 0) (opened back : List (Opened S)) (ended : List (Ended S)) (count : ℕ) → All (IsOpened position count) back → map (λ o. o.ring) back ≡ map (λ o. o.ring) opened
     → AllZip (AllZip IsSameSeat) (seat_rows opened) (seat_rows back) → AllZip (λ o b. IsSameChapterConsumer o.consumer b.consumer) opened back → AllZip (λ o b. BeginsWith b.consumer.seen o.consumer.seen) opened back
     → AllZip (AllZip SeatBegins) (seat_rows opened) (seat_rows back) → AllZip (SinkGetsTaken takes) opened back → AllZip Closes back ended → RingsEnd position takes opened ended (seat_rows back)
@@ -84,7 +84,7 @@ or_parts : (a b : Bool) → (a || b) ≡ false → (a ≡ false) × (b ≡ false
 or_parts true b e = absurd (true≢false e)
 or_parts false b e = (refl, e)
 
--- where no worker is unknown, each job's is one of them
+-- if no worker is unknown, each job names one of the workers
 pub known_workers : (count : ℕ) (jobs : List Job) → has_unknown_worker count jobs ≡ false → All (λ j. j.worker < count) jobs
 known_workers count [] e = λ k d below. absurd (omega arith)
 known_workers count (j ∷ js) e =
@@ -94,7 +94,7 @@ known_workers count (j ∷ js) e =
     below_known : (w n : ℕ) → not (nat_lt w n) ≡ false → w < n
     below_known w n e = ⊎_elim (λ is. omega (arith, is.1)) (λ above. absurd (true≢false (sym (ap not above.0) ∙ e))) (leb_tells (suc w) n)
 
--- where no ring is unknown, each job's program knows rings among these
+-- if no ring is unknown, each job's program uses rings among these
 pub known_rings : (rings : ℕ) (jobs : List Job) → has_unknown_ring rings jobs ≡ false → All (λ j. j.program.now.rings ≤ rings) jobs
 known_rings rings [] e = λ k d below. absurd (omega arith)
 known_rings rings (j ∷ js) e =
@@ -104,14 +104,14 @@ known_rings rings (j ∷ js) e =
     within_known : (n r : ℕ) → nat_lt n r ≡ false → r ≤ n
     within_known n r e = ⊎_elim (λ is. absurd (true≢false (sym is.0 ∙ e))) (λ above. omega (arith, above.1)) (leb_tells (suc n) r)
 
--- no worker was short of memory
+-- no allocation failed for a worker
 none_short : (workers : List Worker) → list_any (λ w. w.short) workers ≡ false → All (λ w. w.short ≡ false) workers
 none_short [] e = λ k d below. absurd (omega arith)
 none_short (w ∷ ws) e =
     let parts = or_parts w.short (list_any (λ x. x.short) ws) e in
     All-cons (λ (x : Worker). x.short ≡ false) w ws parts.0 (none_short ws parts.1)
 
--- a worker that was not short ran all its jobs
+-- a worker without a failed allocation ran all its jobs
 ran_all : (jobs : List Job) (short : Bool) (answers : List JobAnswer) (old new : List WorkerSeat) → RunsOwnJobs jobs short answers old new → short ≡ false → RunsJobs jobs answers old new
 ran_all jobs short answers old new w e =
     subst (λ l. RunsJobs l answers old new) (sym (w.2 ∙ (ap (λ l. w.0 ++ l) (w.3 e) ∙ append-nil w.0))) w.4
@@ -131,7 +131,7 @@ element_of : {A : Type 0} (xs : List A) (k : ℕ) → k < length xs → A
 element_of [] k below = absurd (omega arith)
 element_of (x ∷ xs) k below = x
 
--- each worker ran the first of its own jobs
+-- each worker ran a prefix of its own jobs
 pub each_ran : (count : ℕ) (jobs : List Job) (old new : List (List WorkerSeat)) (workers : List Worker) → length workers ≡ count
     → ((k : ℕ) (d : Worker) → k < count → HasRun k jobs (worker_column k old) (worker_column k new) (get_or workers k d))
     → (k : ℕ) → k < count → RunsFirst (own_jobs k jobs) (worker_column k old) (worker_column k new)
@@ -139,14 +139,14 @@ each_ran count jobs old new workers len run k below =
     let d = element_of workers k (omega (arith, len, below)) in
     ran_first (own_jobs k jobs) (get_or workers k d).short (get_or workers k d).answers.items (worker_column k old) (worker_column k new) (run k d below).1
 
--- where none was short, each worker has an answer to each of its own jobs
+-- without failed allocations, each worker has an answer to each of its own jobs
 pub each_answered : (count : ℕ) (jobs : List Job) (old new : List (List WorkerSeat)) (workers : List Worker) → length workers ≡ count → list_any (λ w. w.short) workers ≡ false
     → ((k : ℕ) (d : Worker) → k < count → HasRun k jobs (worker_column k old) (worker_column k new) (get_or workers k d))
     → (k : ℕ) (d : Worker) → k < count → RunsJobs (own_jobs k jobs) (get_or workers k d).answers.items (worker_column k old) (worker_column k new)
 each_answered count jobs old new workers len short run k d below =
     ran_all (own_jobs k jobs) (get_or workers k d).short (get_or workers k d).answers.items (worker_column k old) (worker_column k new) (run k d below).1 (none_short workers short k d (omega (arith, len, below)))
 
--- so with the answers put together
+-- the same with the collected answers
 pub each_told : (count : ℕ) (jobs : List Job) (answers : List JobAnswer) (old new : List (List WorkerSeat)) (workers : List Worker) → length workers ≡ count
     → ((k : ℕ) (d : Worker) → k < count → RunsJobs (own_jobs k jobs) (get_or workers k d).answers.items (worker_column k old) (worker_column k new))
     → ((k : ℕ) (d : Worker) → k < count → own_answers k jobs answers ≡ (get_or workers k d).answers.items)
@@ -155,7 +155,7 @@ each_told count jobs answers old new workers len ran merged k below =
     let d = element_of workers k (omega (arith, len, below)) in
     subst (λ l. RunsJobs (own_jobs k jobs) l (worker_column k old) (worker_column k new)) (sym (merged k d below)) (ran k d below)
 
--- ---- the whole
+-- ---- the whole report
 
 pub reported : {S : Type 0} (position : S → ℕ) (takes : S → SinkItem → S → Type 0) (opened back : List (Opened S)) (jobs : List Job) (answers : List JobAnswer) (report : JobsReport S) → AreOpened position opened → IsHandedBack position takes opened jobs back
     → length answers ≡ length jobs → All (λ j. j.worker < workers_of opened) jobs

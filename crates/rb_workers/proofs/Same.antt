@@ -1,4 +1,4 @@
--- Seats and consumers that come back are those that went out.
+-- Seats and consumers that are returned are those that were passed in.
 use Rattle.std.proofs.Common.{◌≡◌, ℕ, ◌<◌, List, [], ◌∷◌, length, get_or, map, drop, refl, ap, sym, ◌∙◌, subst, arith}
 use Rattle.std.specs.Prelude.{All}
 use Rattle.std.specs.List.{AllZip}
@@ -100,7 +100,7 @@ sinks_given position takes [] (b ∷ bs) consumed = absurd consumed
 sinks_given position takes (o ∷ os) [] consumed = absurd consumed
 sinks_given position takes (o ∷ os) (b ∷ bs) consumed = (consumed.0.2.gets, sinks_given position takes os bs consumed.1)
 
--- what came back of a run may be run again
+-- what a run returned may be run again
 pub handed_back : {S : Type 0} (position : S → ℕ) (takes : S → SinkItem → S → Type 0) (opened back : List (Opened S)) (jobs : List Job) → AreOpened position opened → map (λ o. o.ring) back ≡ map (λ o. o.ring) opened
     → AllZip (IsConsumed position takes) opened back → All (λ o. length o.seats.items ≡ workers_of opened) back
     → ((k : ℕ) → k < workers_of opened → RunsFirst (own_jobs k jobs) (worker_column k (seat_rows opened)) (worker_column k (seat_rows back)))
@@ -124,7 +124,7 @@ handed_back {S} position takes opened back jobs all rings consumed long ran =
       worked = ran;
     }
 
--- the rings that came back are the same once what was left in them is taken
+-- the returned rings are the same after what was left in them is taken
 long_left : {S : Type 0} (position : S → ℕ) (takes : S → SinkItem → S → Type 0) (count : ℕ) (back left : List (Opened S)) → AllZip (TakesRest position takes) back left → All (IsOpened position count) back → All (λ o. length o.seats.items ≡ count) left
 long_left {S} position takes count [] [] rests all = λ k d below. absurd (omega arith)
 long_left {S} position takes count [] (n ∷ left) rests all = absurd rests

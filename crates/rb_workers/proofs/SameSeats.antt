@@ -1,4 +1,4 @@
--- A worker's seats stay the same seats, whatever it ran; so do all rows, where all columns do.
+-- A worker's seats stay the same seats, whatever it ran; and so do all rows if all columns do.
 use Rattle.std.proofs.Common.{◌≡◌, ℕ, zero, suc, ◌<◌, List, [], ◌∷◌, length, sym, subst, arith}
 use Rattle.std.proofs.lemmas.List.Elements.{All-head, All-tail}
 use Rattle.std.specs.Prelude.{slice_get}
@@ -18,7 +18,7 @@ use Rattle.rb_workers.specs.SeatRows.{worker_column}
 pub same_seats : (xs : List WorkerSeat) → AllZip IsSameSeat xs xs
 same_seats xs = zip_self IsSameSeat same_seat xs
 
--- what every job keeps between its worker's seats before and after it, all jobs keep
+-- a relation between a worker's seats before and after each job holds for all jobs together
 zip_of_runs : (R : WorkerSeat → WorkerSeat → Type 0) → ((s : WorkerSeat) → R s s) → ((x y z : WorkerSeat) → R x y → R y z → R x z)
     → ((task : Task) (answer : JobAnswer) (old new : List WorkerSeat) → JobRan task answer old new → AllZip R old new)
     → (runs : List JobRun) (old new : List WorkerSeat) → RunsInTurn runs old new → AllZip R old new
@@ -48,7 +48,7 @@ row_zip R (suc n) (x ∷ xs) (y ∷ ys) aboves belows lx ly each =
     let rest = row_zip R n xs ys (λ k. aboves (suc k)) (λ k. belows (suc k)) (omega arith) (omega arith) (λ k below. each (suc k) (omega arith)) in
     ((first.0, rest.0), elim [ zero ↦ λ below. first.1 | suc k ↦ λ below. rest.1 k (omega arith) ])
 
--- what holds between all columns holds between all rows
+-- a relation that holds for all columns holds for all rows
 pub rows_of_columns : (R : WorkerSeat → WorkerSeat → Type 0) (count : ℕ) (old new : List (List WorkerSeat)) → All (λ row. length row ≡ count) old → All (λ row. length row ≡ count) new → length old ≡ length new
     → ((k : ℕ) → k < count → AllZip R (worker_column k old) (worker_column k new)) → AllZip (AllZip R) old new
 rows_of_columns R count [] [] old_rows new_rows len columns = tt

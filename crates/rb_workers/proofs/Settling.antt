@@ -1,4 +1,4 @@
--- Where each worker's seats together are settled, each seat is, and so no closed ring has a busy record.
+-- If each worker's seats together are settled, each seat is, so no closed ring has a busy record.
 use Rattle.std.proofs.Common.{refl, sym, ap, map, ◌≡◌, ℕ, zero, suc, ◌+◌, ◌<◌, ◌≤◌, List, [], ◌∷◌, length, ◌∙◌, arith}
 use Rattle.std.proofs.lemmas.List.Elements.{All-head, All-tail, All-cons, All-nil, All-same, All-map}
 use Rattle.std.proofs.lemmas.Slice.Zip.{AllZip-long}
@@ -77,7 +77,7 @@ column_settled k row seats all settled =
     let discarded = cons_sum (λ (s : WorkerSeat). s.tally.discarded) (slice_get row k) (worker_column k seats) in
     (omega (arith, here, rest, made, submitted, discarded, settled), omega (arith, here, rest, made, submitted, discarded, settled))
 
--- no seat settles more than it made, so where each worker's seats together settled all, each seat did
+-- no seat settles more than it made, so if each worker's seats together settled all, each seat did
 each_settled : (count : ℕ) (seats : List (List WorkerSeat)) → All (λ row. length row ≡ count) seats → All (All SettlesWithin) seats → EachSettled count seats → All (All HasSettledAll) seats
 each_settled count [] seat_rows within settled = All-nil (All HasSettledAll)
 each_settled count (row ∷ seats) seat_rows within settled =
@@ -103,7 +103,7 @@ settled_together count (row ∷ seats) all k below =
 
 -- ---- closed rings
 
--- the busy records that a closed ring tells are those of its whole history
+-- the busy records that a closed ring reports are those of its whole history
 busy_told : (handed_out : List Chapter) (last : ChapterRing) → ContinuesHistory (joined handed_out) last.chapter → (told_counts last).busy ≡ (counts_of (whole_of (chaptered_ring handed_out last)).history).busy
 busy_told handed_out last goes_on = ap (λ (n : Counts). n.busy) (said (joined handed_out) last last goes_on).counts
 
@@ -163,7 +163,7 @@ rings_settled position takes (o ∷ os) (e ∷ es) (row ∷ more) ends settled =
 
 -- ---- a report
 
--- the rows that rings end with are as long as those that were opened
+-- the rows with which the rings end are as long as those that were opened
 rows_at_end : {S : Type 0} (position : S → ℕ) (takes : S → SinkItem → S → Type 0) (count : ℕ) (opened : List (Opened S)) (ended : List (Ended S)) (seats : List (List WorkerSeat)) → All (IsOpened position count) opened
     → RingsEnd position takes opened ended seats → All (λ row. length row ≡ count) seats
 rows_at_end position takes count [] [] [] each ends = All-nil (λ (row : List WorkerSeat). length row ≡ count)
@@ -182,7 +182,7 @@ rows_at_end position takes count (o ∷ os) (e ∷ es) (row ∷ more) each ends 
 pub no_strays : {S : Type 0} (position : S → ℕ) (takes : S → SinkItem → S → Type 0) (opened : List (Opened S)) (jobs : List Job) (report : JobsReport S) → IsReport position takes opened jobs report → report.strays ≡ 0
 no_strays position takes opened jobs report told = told.strays_are ∙ ap (count_by is_stray) told.answers_are ∙ none_strays told.runs told.runs_match
 
--- where each worker's seats were settled before, each ring ends settled
+-- if each worker's seats were settled before, each ring ends settled
 pub all_settled : {S : Type 0} (position : S → ℕ) (takes : S → SinkItem → S → Type 0) (opened : List (Opened S)) (jobs : List Job) (report : JobsReport S) → AreOpened position opened → IsReport position takes opened jobs report
     → EachSettled (workers_of opened) (seat_rows opened) → All EndsSettled report.rings.items
 all_settled position takes opened jobs report each told settled =

@@ -43,7 +43,7 @@ submitted_on h more p is = list_any-append (is_submit p) h more ∙ ap (λ b. b 
 discarded_on : (h more : List Entry) (p : ℕ) → is_discarded_at h p ≡ true → is_discarded_at (h ++ more) p ≡ true
 discarded_on h more p is = list_any-append (is_discard p) h more ∙ ap (λ b. b || list_any (is_discard p) more) is
 
--- a record of a history is one of each longer history, where the bytes there are the same
+-- a record of a history is one of each longer history, if the bytes there are the same
 record_on : (h more : List Entry) (got now : Contents) (at : ℕ) (item : SinkItem) → IsBefore at item → ((p : ℕ) → p < at → get now p ≡ get got p) → IsRecordIn h got item → IsRecordIn (h ++ more) now item
 record_on h more got now at (Record (TakenEvent p w k bytes)) before same is = (Contains-append_left h more (Res w k (length bytes) p) is.0, submitted_on h more p is.1, same p before ∙ is.2)
 record_on h more got now at (Record BusyFront) before same is = absurd is
@@ -92,7 +92,7 @@ records_on h more now got kept at (item ∷ items) is below keeps records =
     (record_on h more got kept at item (All-head (IsBefore at) item items below) keeps (All-head (IsRecordIn h got) item items records)))
     (records_on h more now got kept at items is (All-tail (IsBefore at) item items below) keeps (All-tail (IsRecordIn h got) item items records))
 
--- what stands before a position stands before each later one
+-- what is before a position is before each later one
 before_later : (at end : ℕ) → at ≤ end → (item : SinkItem) → IsBefore at item → IsBefore end item
 before_later at end later (Record (TakenEvent p w k bytes)) before = omega (arith, later, before)
 before_later at end later (Record (Skipped p n)) before = omega (arith, later, before)
@@ -101,7 +101,7 @@ before_later at end later (Record Empty) before = tt
 before_later at end later (Chapter c) before = tt
 before_later at end later CaughtUp before = tt
 
--- what was given, and then more
+-- what was given first, and then more
 pub given_on : {S : Type 0} (takes : S → SinkItem → S → Type 0) (a b c : ChapterConsumerSeat) (x y z : S) → BeginsWith c.seen b.seen → HasGiven takes a b x y → HasGiven takes b c y z → HasGiven takes a c x z
 given_on takes a b c x y z begins one two =
     let first = one.gets.items in
@@ -133,7 +133,7 @@ given_on takes a b c x y z begins one two =
 pub one_item : (at : ℕ) (item : SinkItem) → IsBefore at item → All (IsBefore at) (item ∷ [])
 one_item at item below = All-cons (IsBefore at) item [] below (All-nil (IsBefore at))
 
--- the sink was told that there was nothing to take
+-- the sink was notified that there was nothing to take
 pub caught_up : {S : Type 0} (takes : S → SinkItem → S → Type 0) (seat : ChapterConsumerSeat) (x y : S) → takes x CaughtUp y → HasGiven takes seat seat x y
 caught_up takes seat x y took =
     record {
@@ -244,7 +244,7 @@ given_by takes Empty old new point left x y goes taken found seen place position
 abbrev seat_after : ChapterConsumerSeat → Ring → Taken → ChapterConsumerSeat
 seat_after c left t = record c { seen = book_of left; position = c.position + span_in t; got = got_by c.got t }
 
--- what was seen at the last take has nothing behind it
+-- nothing follows what was seen at the last take
 nothing_behind : (r : Ring) → ExtendsSeen Consumer (book_of r) (book_of r)
 nothing_behind r = record { setup_same = refl; behind = []; history_is = sym (append-nil r.history); none_own = tt }
 
@@ -265,22 +265,22 @@ each_given takes (t ∷ ts) old new point left x y goes each seen place position
 
 -- ---- consumers' threads
 
--- takes under one holding of the lock, whose items the sink was given
+-- takes under one acquisition of the lock, whose items the sink was given
 pub many_given : {S : Type 0} (takes : S → SinkItem → S → Type 0) (n : ℕ) (ts : List Taken) (old new : ChapterConsumerSeat) (x y : S) → LockedCall Consumer old.seen new.seen (TakesMany n ts) → AreTakenFrom old.position ts
     → new.position ≡ old.position + span_among ts → new.got ≡ got_by_all old.got ts → new.handed_out ≡ old.handed_out → TakesAll takes x (items_among ts) y → HasGiven takes old new x y
 many_given takes n ts old new x y call place moved got chapters given = each_given takes ts old new call.point call.left x y call.goes_on call.called.each call.seen place moved got chapters given
 
--- and by which it is the same consumer
+-- and it is the same consumer
 pub same_by_many : (n : ℕ) (ts : List Taken) (old new : ChapterConsumerSeat) → IsSameChapterConsumer old new → LockedCall Consumer old.seen new.seen (TakesMany n ts) → IsSameConsumer old new
 same_by_many n ts old new same call =
     record { tag_same = same.tag_same; ring_same = same.ring_same; room_same = same.room_same; begins = call_begins Consumer old.seen new.seen (TakesMany n ts) (λ a b called. each_begins a b ts called.each) call }
 
--- the same consumer, later and later
+-- the same consumer, transitively
 pub same_on : (a b c : ChapterConsumerSeat) → IsSameConsumer a b → IsSameConsumer b c → IsSameConsumer a c
 same_on a b c one two =
     record { tag_same = two.tag_same ∙ one.tag_same; ring_same = two.ring_same ∙ one.ring_same; room_same = two.room_same ∙ one.room_same; begins = begins_through a.seen b.seen c.seen one.begins two.begins }
 
--- a keeper is one for the consumer's ring, later too
+-- a keeper that fits the consumer's ring still fits it later
 pub keeper_on : (old new : ChapterConsumerSeat) (k : KeeperValue) → IsSameConsumer old new → IsKeeperFor old k → IsKeeperFor new k
 keeper_on old new k same is = record {
   no_entries = is.no_entries;
@@ -303,14 +303,14 @@ pub consumed_none : {S : Type 0} (position : S → ℕ) (takes : S → SinkItem 
 consumed_none position takes task follows keeper =
     (record { tag_same = refl; ring_same = refl; room_same = refl; begins = begins_with_all task.consumer.seen }, follows, refl, nothing_given takes task.consumer task.sink, keeper)
 
--- what was taken, and then more
+-- what was taken first, and then more
 pub consumed_on : {S : Type 0} (position : S → ℕ) (takes : S → SinkItem → S → Type 0) (a b c : ConsumerTask S) → Consumed position takes a b → Consumed position takes b c → Consumed position takes a c
 consumed_on position takes a b c one two =
     (same_on a.consumer b.consumer c.consumer one.0 two.0, two.1, two.2 ∙ one.2, given_on takes a.consumer b.consumer c.consumer a.sink b.sink c.sink two.0.begins one.3 two.3, two.4)
 
 -- ---- rings
 
--- the same, under other names
+-- the same for equal values
 pub given_same : {S : Type 0} (takes : S → SinkItem → S → Type 0) (c c' d d' : ChapterConsumerSeat) (x x' y y' : S) → c' ≡ c → d' ≡ d → x' ≡ x → y' ≡ y
     → HasGiven takes c d x y → HasGiven takes c' d' x' y'
 given_same takes c c' d d' x x' y y' ec ed ex ey given =
@@ -327,7 +327,7 @@ record_in_longer h more got (Record Empty) is = absurd is
 record_in_longer h more got (Chapter c) is = tt
 record_in_longer h more got CaughtUp is = tt
 
--- what no take adds to, the sink keeps
+-- the sink keeps what no take adds to
 pub gets_at_close : {S : Type 0} (takes : S → SinkItem → S → Type 0) (before seat : ChapterConsumerSeat) (closed : Book) (x y z : S) → ExtendsSeen Consumer seat.seen closed → z ≡ y
     → GetsTaken takes before seat seat.seen.history x y → GetsTaken takes before seat closed.history x z
 gets_at_close takes before seat closed x y z goes same gets =

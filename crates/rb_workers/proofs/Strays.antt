@@ -52,7 +52,7 @@ runs_give_back worker (run ∷ runs) all =
     let discarded = own_times discards run (own_runs worker runs) b in
     omega (arith, one, rest, made, submitted, discarded)
 
--- what a worker's seats made more they submitted or discarded more
+-- the additional records that a worker's seats made were submitted or discarded
 gives_all_back : (worker : ℕ) (runs : List JobRun) (old new : List WorkerSeat) → All IsRun runs → HasRisen (own_runs worker runs) old new → made_in new + submitted_in old + discarded_in old ≡ made_in old + submitted_in new + discarded_in new
 gives_all_back worker runs old new all rose =
     let given = runs_give_back worker runs all in

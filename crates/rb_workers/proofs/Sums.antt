@@ -42,7 +42,7 @@ sum_to_but_one (suc n) (suc at) f g inside same =
 
 -- ---- tables
 
--- the number of what stands there, and 0 where nothing does
+-- the number of the element, or 0 if there is none
 abbrev pub number_at : {A : Type 0} → (A → ℕ) → Option A → ℕ
 number_at f None = 0
 number_at f (Some x) = f x

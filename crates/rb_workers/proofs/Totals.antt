@@ -1,4 +1,4 @@
--- What all workers' runs come to: from each worker's runs of its own jobs, the runs of all jobs in their order, and their sums.
+-- The totals of all workers: from each worker's runs of its own jobs, the runs of all jobs in order, and their sums.
 use Rattle.std.proofs.Common.{◌≡◌, ℕ, ◌+◌, ◌<◌, ◌==◌, Bool, true, false, cond, List, [], ◌∷◌, length, map, refl, ap, sym, subst, arith}
 use Rattle.std.proofs.lemmas.Bool.{eqb-true, eq-eqb, ne_eqb, false≢true}
 use Rattle.std.proofs.lemmas.List.Elements.{All-head, All-tail, All-cons, All-nil}
@@ -34,7 +34,7 @@ runs_of (j ∷ js) (a ∷ rest) old new ran =
     let run : JobRun = record { job = j; answer = a; calls = ran.1.calls } in
     (run ∷ more.0, ap (λ l. j ∷ l) more.1, ap (λ l. a ∷ l) more.2, (ran.0, (ran.1, refl), more.3))
 
--- a number that each job raises by what its calls say, runs raise so
+-- a count that grows with each job by what its calls say grows with the runs by what theirs say
 turn_rises : (number : List WorkerSeat → ℕ) (what : Done → ℕ)
     → ((task : Task) (answer : JobAnswer) (old new : List WorkerSeat) (did : JobRan task answer old new) → number new ≡ number old + call_total what (notes_of did.calls))
     → (runs : List JobRun) (old new : List WorkerSeat) → RunsInTurn runs old new → number new ≡ number old + times_in what runs
@@ -67,7 +67,7 @@ turns_rise runs old new turn =
 
 -- ---- the runs of all jobs, in their order
 
--- the seats of each worker, once this one's came to be so
+-- the seats of each worker, after this worker's changed
 abbrev after : ℕ → List WorkerSeat → (ℕ → List WorkerSeat) → ℕ → List WorkerSeat
 after w mid old k = cond (w == k) mid (old k)
 
@@ -76,7 +76,7 @@ ran_first : (b : Bool) (j : Job) (js : List Job) (a : JobAnswer) (rest : List Jo
 ran_first true j js a rest old new e ran = ran
 ran_first false j js a rest old new e ran = absurd (false≢true e)
 
--- what is left of each worker's jobs
+-- the remaining jobs of each worker
 ran_rest : (j : Job) (js : List Job) (a : JobAnswer) (rest : List JobAnswer) (mid : List WorkerSeat) (old new : ℕ → List WorkerSeat) (k : ℕ) (b : Bool) → (j.worker == k) ≡ b
     → RunsJobs (own_jobs j.worker js) (own_answers j.worker js rest) mid (new j.worker) → RunsJobs (own_jobs k (j ∷ js)) (own_answers k (j ∷ js) (a ∷ rest)) (old k) (new k)
     → RunsJobs (own_jobs k js) (own_answers k js rest) (after j.worker mid old k) (new k)
@@ -87,14 +87,14 @@ ran_rest j js a rest mid old new k false e here ran =
     subst (λ b. RunsJobs (own_jobs k js) (own_answers k js rest) (cond b mid (old k)) (new k)) (sym e)
     (subst (λ b. RunsJobs (cond b (j ∷ own_jobs k js) (own_jobs k js)) (cond b (a ∷ own_answers k js rest) (own_answers k js rest)) (old k) (new k)) e ran)
 
--- one run of a worker before those that it made then, and before those that the others made
+-- one run of a worker before its later ones, and before those of the others
 turn_on : (run : JobRun) (runs : List JobRun) (w : ℕ) (mid : List WorkerSeat) (old : ℕ → List WorkerSeat) (new : List WorkerSeat) (k : ℕ) (b : Bool) → (w == k) ≡ b → RunsJob run (old w) mid
     → RunsInTurn runs (after w mid old k) new → RunsInTurn (cond b (run ∷ runs) runs) (old k) new
 turn_on run runs w mid old new k true e did rest =
     (mid, subst (λ i. RunsJob run (old i) mid) (eqb-true w k e) did, subst (λ b. RunsInTurn runs (cond b mid (old k)) new) e rest)
 turn_on run runs w mid old new k false e did rest = subst (λ b. RunsInTurn runs (cond b mid (old k)) new) e rest
 
--- the runs of all jobs, each worker's in turn
+-- the runs of all jobs, each worker's in order
 record AllRuns (count : ℕ) (jobs : List Job) (answers : List JobAnswer) (old new : ℕ → List WorkerSeat) : Type 0 where
   runs : List JobRun
   jobs_are : map (λ run. run.job) runs ≡ jobs
@@ -137,7 +137,7 @@ own_other : (f : JobRun → ℕ) (run : JobRun) (runs : List JobRun) (b : Bool) 
 own_other f run runs true e = absurd (false≢true (sym e))
 own_other f run runs false e = refl
 
--- what all runs come to is what the workers' own come to
+-- the sum over all runs is the sum over the workers of their own
 sum_of_own : (f : JobRun → ℕ) (count : ℕ) (runs : List JobRun) → All (λ run. run.job.worker < count) runs → sum_to count (λ k. sum_by f (own_runs k runs)) ≡ sum_by f runs
 sum_of_own f count [] known = sum_to_none count
 sum_of_own f count (run ∷ runs) known =
@@ -156,7 +156,7 @@ known_runs count (run ∷ runs) jobs are known =
     All-cons (λ (r : JobRun). r.job.worker < count) run runs (All-head (λ (j : Job). j.worker < count) run.job (map (λ r. r.job) runs) all)
     (known_runs count runs (map (λ r. r.job) runs) refl (All-tail (λ (j : Job). j.worker < count) run.job (map (λ r. r.job) runs) all))
 
--- what the answers of runs have
+-- the results in the answers of runs
 pub results_of_runs : (runs : List JobRun) → map (λ a. a.result) (map (λ run. run.answer) runs) ≡ map (λ run. run.answer.result) runs
 results_of_runs [] = refl
 results_of_runs (run ∷ runs) = ap (λ l. run.answer.result ∷ l) (results_of_runs runs)
@@ -169,7 +169,7 @@ unlogged_of_runs (run ∷ runs) =
     let right = sum_by-cons (λ (r : JobRun). r.answer.unlogged) run runs in
     omega (arith, rest, left, right)
 
--- what the runs of all jobs come to, where the seats were these and came to be those
+-- the totals of the runs of all jobs, which led from these seats to those
 pub record AllTold (count : ℕ) (jobs : List Job) (answers : List JobAnswer) (old new : List (List WorkerSeat)) : Type 0 where
   pub runs : List JobRun
   pub jobs_are : map (λ run. run.job) runs ≡ jobs

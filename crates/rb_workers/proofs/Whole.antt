@@ -36,7 +36,7 @@ column_at position count k (o ∷ os) all below =
     subst (λ (l : List WorkerSeat). AllZip IsAt (o.ring ∷ map (λ x. x.ring) os) l) (sym (column_cons k row (seat_rows os) (get_or row k s) (slice_get-get_or row k s inside)))
     (first.seats_at k s inside, column_at position count k os (all_rest (IsOpened position count) (o ∷ os) os o refl all) below)
 
--- a keeper for a ring, under other names
+-- a keeper that fits a ring, for equal values
 keeper_at : (c d : ChapterConsumerSeat) (k l : KeeperValue) → d ≡ c → l ≡ k → IsKeeperFor c k → IsKeeperFor d l
 keeper_at c d k l ec ek is = subst (λ s. IsKeeperFor s l) (sym ec) (subst (IsKeeperFor c) (sym ek) is)
 
@@ -85,7 +85,7 @@ HasEnded position takes o u =
     IsSameConsumer o.consumer u.consumer × (position u.sink ≡ u.consumer.position)
     × HasGiven takes o.consumer u.consumer o.sink u.sink × IsKeeperFor u.consumer u.keeper
 
--- what one ring's consumer took, and then more
+-- what one ring's consumer took first, and then more
 pub consumed_then : {S : Type 0} (position : S → ℕ) (takes : S → SinkItem → S → Type 0) (a b c : Opened S) → IsConsumed position takes a b → IsConsumed position takes b c → IsConsumed position takes a c
 consumed_then position takes a b c one two =
     (same_on a.consumer b.consumer c.consumer one.0 two.0, two.1, given_on takes a.consumer b.consumer c.consumer a.sink b.sink c.sink two.0.begins one.2 two.2, two.3)
@@ -110,12 +110,12 @@ ends_at {S} position takes opened back consumers ended parts ends from =
     opened consumers ended parts ends)
     from
 
--- what was consumed, and then more
+-- what was consumed first, and then more
 pub consumed_again : {S : Type 0} (position : S → ℕ) (takes : S → SinkItem → S → Type 0) (opened back left : List (Opened S)) → AllZip (IsConsumed position takes) opened back → AllZip (IsConsumed position takes) back left → AllZip (IsConsumed position takes) opened left
 consumed_again position takes opened back left first second =
     zip_through (IsConsumed position takes) (IsConsumed position takes) (IsConsumed position takes) (consumed_then position takes) opened back left first second
 
--- nothing was consumed, and a batch more
+-- nothing was consumed, and then one more batch
 pub consumed_itself : {S : Type 0} (position : S → ℕ) (takes : S → SinkItem → S → Type 0) (o : Opened S) → position o.sink ≡ o.consumer.position → IsKeeperFor o.consumer o.keeper → IsConsumed position takes o o
 consumed_itself position takes o follows keeper =
     (record { tag_same = refl; ring_same = refl; room_same = refl; begins = begins_with_all o.consumer.seen }, follows, nothing_given takes o.consumer o.sink, keeper)

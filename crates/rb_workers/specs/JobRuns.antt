@@ -1,4 +1,4 @@
--- What jobs do at the seats of their worker (own).
+-- The effect of jobs on the seats of their worker (own).
 use Rattle.std.specs.Prelude.{◌≡◌, ℕ, ◌==◌, List, [], ◌∷◌, Bool, true, false, Result, Ok, Err}
 use Rattle.std.specs.List.{filter}
 use Rattle.rb_interp.specs.AnsweredCalls.{AnsweredCall}
@@ -10,17 +10,18 @@ use Rattle.rb_jobs.specs.declared.job.Job.{Job}
 use Rattle.rb_jobs.specs.declared.job.JobAnswer.{JobAnswer}
 use Rattle.rb_jobs.specs.Jobs.{JobRan, task_of}
 
--- one run: the job, what it came to, and its calls with their answers
+-- one run: the job, its result, and its calls with their answers
 pub record JobRun : Type 0 where
   pub job : Job
   pub answer : JobAnswer
   pub calls : List (AnsweredCall SeatRecord)
 
--- the job was run, came to this answer and made these calls, which took its worker's seats from the one state to the other
+-- the job was run, had this result and made these calls, which led from the old state of its worker's seats to the new
+-- one
 abbrev pub RunsJob : JobRun → List WorkerSeat → List WorkerSeat → Type 0
 RunsJob run old new = (ran : JobRan (task_of run.job) run.answer old new) × (ran.calls ≡ run.calls)
 
--- the runs, one after another, took the seats from the one state to the other
+-- the runs, one after another, led from the old state of the seats to the new one
 abbrev pub RunsInTurn : List JobRun → List WorkerSeat → List WorkerSeat → Type 0
 RunsInTurn [] old new = new ≡ old
 RunsInTurn (run ∷ runs) old new = (mid : List WorkerSeat) × RunsJob run old mid × RunsInTurn runs mid new

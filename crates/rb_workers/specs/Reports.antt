@@ -1,4 +1,4 @@
--- What a run of jobs over rings gives (own).
+-- The report on a run of jobs over rings (own).
 use Rattle.std.specs.Prelude.{◌≡◌, ◌≢◌, All, ℕ, ◌+◌, ◌<◌, nat_lt, not, List, [], ◌∷◌, ◌++◌, Bool, map, Result, Ok, Err, OnOk}
 use Rattle.std.specs.List.{AllZip, count_by, list_any, sum_by}
 use Rattle.rb_interp.specs.declared.done.Done.{Done}
@@ -32,21 +32,22 @@ use Rattle.rb_workers.specs.Sink.{SinkItem, GetsTaken}
 abbrev pub has_unknown_ring : ℕ → List Job → Bool
 has_unknown_ring rings jobs = list_any (λ j. nat_lt rings j.program.now.rings) jobs
 
--- some job is of a worker that is none of these
+-- some job names a worker that does not exist
 abbrev pub has_unknown_worker : ℕ → List Job → Bool
 has_unknown_worker count jobs = list_any (λ j. not (nat_lt j.worker count)) jobs
 
--- it is refused for this fault
+-- the call was refused with this fault
 abbrev pub IsRefusedFor : {T B : Type 0} → JobFault → Result T (JobFault × B) → Type 0
 IsRefusedFor fault (Ok _) = ⊥
 IsRefusedFor fault (Err e) = e.0 ≡ fault
 
--- the worker ran the first of these jobs, which took its seats from the one state to the other
+-- the worker ran a prefix of these jobs, which led from the old state of its seats to the new one
 abbrev pub RunsFirst : List Job → List WorkerSeat → List WorkerSeat → Type 0
 RunsFirst jobs old new = (runs : List JobRun) × (left : List Job) × (jobs ≡ map (λ run. run.job) runs ++ left) × RunsInTurn runs old new
 
--- all came back, each at its place, and may be run again: the same rings, seats and consumers; what each seat and each consumer sees begins
--- with what it had seen; each sink was given just what its ring's consumer took and handed out; and each worker ran the first of its own jobs
+-- Everything was returned in its place, and may be run again: the same rings, seats and consumers; what each seat and
+-- each consumer has seen begins with what it had seen; each sink was given exactly what its ring's consumer took and
+-- handed out; and each worker ran a prefix of its own jobs.
 pub record IsHandedBack {S : Type 0} (position : S → ℕ) (takes : S → SinkItem → S → Type 0) (opened : List (Opened S)) (jobs : List Job) (back : List (Opened S)) : Type 0 where
   pub rings_same : map (λ o. o.ring) back ≡ map (λ o. o.ring) opened
   pub seats_same : AllZip (AllZip IsSameSeat) (seat_rows opened) (seat_rows back)
@@ -60,14 +61,16 @@ pub record IsHandedBack {S : Type 0} (position : S → ℕ) (takes : S → SinkI
 
 -- ---- reports
 
--- the ring at its end, with its whole history: the entries of the chapters that the consumer was handed, then those of the last one
+-- the ring at its end, with its whole history: the entries of the chapters that the consumer was handed, then those of
+-- the last one
 abbrev pub ring_at_end : {S : Type 0} → ChapterConsumerSeat → Ended S → Ring
 ring_at_end consumer ended = whole_of (chaptered_ring consumer.handed_out ended.closing.at_end)
 
--- the ring that was opened was closed, with these seats and a consumer, which are those that were opened with it; its setup is the one that
--- they had seen, and its whole history begins with what each of them had seen; the tallies are the seats'; the keeper is one for the ring
--- still; and the sink is the one that was opened with it: it was given just the records that the whole history took since and the chapters
--- that were handed out since, which with the last one are a ring's, and its position is the consumer position there
+-- The opened ring was closed, with these seats and a consumer, which are those that it was opened with. Its setup is
+-- the one that they had seen, and its whole history begins with what each of them had seen. The tallies are the seats'.
+-- The keeper still fits the ring. The sink is the one that it was opened with: it was given exactly the records that
+-- the whole history took since, and the chapters that were handed out since, which together with the last one are a
+-- ring's; and its position is the consumer position there.
 pub record RingEnds {S : Type 0} (position : S → ℕ) (takes : S → SinkItem → S → Type 0) (o : Opened S) (ended : Ended S) (seats : List WorkerSeat) : Type 0 where
   pub consumer : ChapterConsumerSeat
   pub which : ended.closing.shared ≡ o.ring
@@ -86,8 +89,8 @@ RingsEnd position takes [] [] [] = Unit {0}
 RingsEnd position takes (o ∷ os) (e ∷ es) (seats ∷ more) = RingEnds position takes o e seats × RingsEnd position takes os es more
 RingsEnd position takes _ _ _ = ⊥
 
--- The run is that of the program's meaning under its calls, whose answers are such as helpers may give, and ends so. A record that was given
--- back is the one that was granted, as its ring made it.
+-- The run follows the program's semantics with these calls, whose answers are such as helpers may give, and has this
+-- result. A record that was submitted or discarded is the one that was granted, as its ring made it.
 pub record IsRun (run : JobRun) : Type 0 where
   pub length_is : TellsLength run.job.program.now run.job.ctx.now run.answer.result
   pub shows : RunMatches reserved_bytes with_record_bytes run.job.program.now run.job.ctx.now run.calls run.answer.result
@@ -95,11 +98,11 @@ pub record IsRun (run : JobRun) : Type 0 where
   pub balanced : OnOk run.answer.result (TraceBalances [] (notes_of run.calls))
   pub may_answer : AllMayAnswer (notes_of run.calls)
 
--- how often the calls of these runs did so
+-- the sum over the calls of these runs
 abbrev pub times_in : (Done → ℕ) → List JobRun → ℕ
 times_in what runs = sum_by (λ run. call_total what (notes_of run.calls)) runs
 
--- the numbers of a worker's seats together rose by what the calls of these runs say
+-- the counts of a worker's seats together grew by what the calls of these runs say
 pub record HasRisen (runs : List JobRun) (old new : List WorkerSeat) : Type 0 where
   pub made_is : made_in new ≡ made_in old + times_in makes runs
   pub submitted_is : submitted_in new ≡ submitted_in old + times_in submits runs
@@ -109,10 +112,11 @@ pub record HasRisen (runs : List JobRun) (old new : List WorkerSeat) : Type 0 wh
 abbrev pub refused_by_all : List (List WorkerSeat) → ℕ
 refused_by_all seats = sum_by refused_in seats
 
--- There are the seats as they were at the end, a row for each ring, and a run of each job, in the order of the jobs: each ring was closed with
--- its row; each worker's runs, one after another in the order of the list, took its seats from what they were to what they are; each run
--- is the meaning's under its calls; the answers, the strays and the unlogged failures are those of the runs; each worker's seats rose by the
--- calls of its own runs; and each null for flags 0 and each answer -EAGAIN is refused in a ring's history, or unlogged.
+-- There are the seats at the end, a row for each ring, and a run of each job, in the order of the jobs. Each ring was
+-- closed with its row. Each worker's runs, one after another in the order of the list, led from the initial state of
+-- its seats to the final one. Each run follows the semantics with its calls. The answers, the strays and the unlogged
+-- failures are those of the runs. Each worker's seats grew by the calls of its own runs. Each null for flags 0 and each
+-- answer -EAGAIN is a refusal in a ring's history, or unlogged.
 pub record IsReport {S : Type 0} (position : S → ℕ) (takes : S → SinkItem → S → Type 0) (opened : List (Opened S)) (jobs : List Job) (report : JobsReport S) : Type 0 where
   pub seats : List (List WorkerSeat)
   pub runs : List JobRun

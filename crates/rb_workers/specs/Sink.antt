@@ -1,5 +1,5 @@
--- What a sink is given: the records that a ring's consumer took and the chapters that it handed out, one by one, and word that the consumer
--- caught up (own).
+-- What a sink is given, one by one: the records that a ring's consumer took, the chapters that it handed out, and the
+-- notice that the consumer caught up (own).
 use Rattle.std.specs.Prelude.{◌≡◌, ℕ, true, List, [], ◌∷◌, ◌++◌, All, Option, Some, None, length}
 use Rattle.std.specs.List.{Contains, filter_map}
 use Rattle.std.specs.FinMap.{get}
@@ -13,31 +13,31 @@ use Rattle.rb_chapter_ring.specs.Chapters.{Chapter as RingChapter}
 use Rattle.rb_ledger.specs.ChapterSeats.{ChapterConsumerSeat}
 use Rattle.rb_ledger.specs.LockedCalls.{span_in}
 
--- a record as the `take` that found it answered: an event with the worker that made it, the record's number among that worker's, and its
--- bytes, or a discarded record that was passed over, with its length; or a chapter that the ring handed out; or that the consumer took all
--- that it could
+-- A record as the `take` that found it returned it: an event with the worker that made it, the record's number among
+-- that worker's, and its bytes, or a discarded record that was skipped, with its length; or a chapter that the ring
+-- handed out; or the notice that the consumer took all that it could.
 pub data SinkItem : Type 0 where
   Record : (taken : Taken) → SinkItem
   Chapter : (chapter : RingChapter) → SinkItem
   CaughtUp : SinkItem
 
--- the record that the item is, where it is one
+-- the item's record, if it is one
 abbrev pub sink_record : SinkItem → Option Taken
 sink_record (Record taken) = Some taken
 sink_record (Chapter chapter) = None
 sink_record CaughtUp = None
 
--- the records among the items, in their order
+-- the records among the items, in order
 abbrev pub records_among : List SinkItem → List Taken
 records_among items = filter_map sink_record items
 
--- how far the item moves a sink's position
+-- how far the item advances a sink's position
 abbrev pub sink_span : SinkItem → ℕ
 sink_span (Record taken) = span_in taken
 sink_span (Chapter chapter) = 0
 sink_span CaughtUp = 0
 
--- where the item's record stands, where it is a record
+-- the position of the item's record, if it is a record
 abbrev pub sink_position : SinkItem → Option ℕ
 sink_position (Record (Event position worker serial bytes)) = Some position
 sink_position (Record (Skipped position len)) = Some position
@@ -46,21 +46,21 @@ sink_position (Record Empty) = None
 sink_position (Chapter chapter) = None
 sink_position CaughtUp = None
 
--- the positions of the records among the items, in their order
+-- the positions of the records among the items, in order
 abbrev pub positions_among : List SinkItem → List ℕ
 positions_among items = filter_map sink_position items
 
--- the chapter that the item is, where it is one
+-- the item's chapter, if it is one
 abbrev pub sink_chapter : SinkItem → Option RingChapter
 sink_chapter (Record taken) = None
 sink_chapter (Chapter chapter) = Some chapter
 sink_chapter CaughtUp = None
 
--- the chapters among the items, in their order
+-- the chapters among the items, in order
 abbrev pub chapters_among : List SinkItem → List RingChapter
 chapters_among items = filter_map sink_chapter items
 
--- the sink took the items one by one, in this order, and so came from the one value to the other
+-- taking the items one by one, in this order, led the sink from the old value to the new one
 abbrev pub TakesAll : {S : Type 0} → (S → SinkItem → S → Type 0) → S → List SinkItem → S → Type 0
 TakesAll takes old [] new = new ≡ old
 TakesAll takes old (item ∷ items) new = (mid : _) × takes old item mid × TakesAll takes mid items new
@@ -70,12 +70,13 @@ abbrev pub take_of : Entry → Option ℕ
 take_of (Take p) = Some p
 take_of _ = None
 
--- the positions of the records that a history takes, in its order
+-- the positions of the records that a history takes, in order
 abbrev pub takes_in : List Entry → List ℕ
 takes_in h = filter_map take_of h
 
--- Where the item is a record, it is one of the history: an event one that was submitted, with the worker, the serial and the length that it
--- was granted with, and its bytes are those that the consumer got there; a skip a discarded one, with the length that it was granted with.
+-- If the item is a record, it is one of the history: an event is a submitted record, with the worker, the serial and
+-- the length that it was granted with, and its bytes are those that the consumer got there; a skip is a discarded
+-- record, with the length that it was granted with.
 abbrev pub IsRecordIn : List Entry → Contents → SinkItem → Type 0
 IsRecordIn h got (Record (Event p w k bytes)) = Contains h (Res w k (length bytes) p) × (is_submitted_at h p ≡ true) × (get got p ≡ Some bytes)
 IsRecordIn h got (Record (Skipped p n)) = HasLength h p n × (is_discarded_at h p ≡ true)
@@ -84,9 +85,9 @@ IsRecordIn h got (Record Empty) = ⊥
 IsRecordIn h got (Chapter chapter) = Unit {0}
 IsRecordIn h got CaughtUp = Unit {0}
 
--- Where the consumer's seat went on from `before` to `after`, and the whole history to this one, the sink was given just the records that
--- were taken meanwhile, one by one, in the order in which they were taken and with the bytes that the consumer got; and just the chapters
--- that were handed out meanwhile, each once and in order.
+-- While the consumer's seat went from `before` to `after`, and the whole history became this one, the sink was given
+-- exactly the records that were taken meanwhile, one by one, in the order in which they were taken and with the bytes
+-- that the consumer got; and exactly the chapters that were handed out meanwhile, each once and in order.
 pub record GetsTaken {S : Type 0} (takes : S → SinkItem → S → Type 0) (before after : ChapterConsumerSeat) (history : List Entry) (old new : S) : Type 0 where
   pub items : List SinkItem
   pub taken_are : takes_in history ≡ takes_in before.seen.history ++ positions_among items

@@ -1,4 +1,4 @@
-//! A ring's consumer.
+//! The consumer of a ring, as a task of a thread.
 
 ghost use Rattle.std.specs.Prelude.{◌≡◌, ℕ};
 ghost use Rattle.rb_history.specs.TapeBytes.{AreItemsFrom, end_of};
@@ -16,25 +16,25 @@ use rb_tape::Items;
 use std::sync::Wait;
 use std::sync::atomic::{AtomicBool, Ordering};
 
-/// A ring's consumer and its keeper, what the records and chapters are given to, the place to which the ring's seats come back, and the
-/// records that were taken last.
+/// A ring's consumer task: the consumer and the keeper (which hands out the ring's chapters), the sink that receives
+/// the records and chapters, the vector to which the ring's seats are returned, and the last batch.
 #[derive(Drop)]
 pub struct ConsumerTask<S> {
     /// The consumer's seat.
     pub consumer: ConsumerSeat,
     /// The keeper of the ring's chapters.
     pub keeper: Keeper,
-    /// What takes the records and the chapters.
+    /// The sink for the records and the chapters.
     pub sink: S,
-    /// The ring's seats, once they came back.
+    /// The ring's seats, after they were returned.
     pub returned_seats: Vec<Seat>,
     /// The records that were taken last.
     pub batch: Batch,
 }
 
 impl<S: Sink> ConsumerTask<S> {
-    // Hands the ring's chapter out if the keeper is to look and it is due, then takes a batch. Gives all of it to the sink, and returns how
-    // many records they are.
+    // Hands out the ring's chapter if the keeper is to look and the chapter is due, then takes a batch. Gives
+    // everything to the sink, and returns the number of records.
     fn take_batch<R: Wait>(&mut self, rt: &R, ring: &SharedRing, looks: bool) -> usize
         requires ready { IsConsumerTaskOf S.position_of ring.now self.old }
         ensures taken { Consumed S.position_of S.takes self.old self.new }
@@ -56,7 +56,7 @@ impl<S: Sink> ConsumerTask<S> {
         )
     }
 
-    // Lets the sink know if the batch was not full: the ring is empty then, or its first record busy.
+    // Notifies the sink if the batch was not full: then the ring is empty, or its first record busy.
     fn report_count(&mut self, count: usize)
         requires follows { S.position_of self.old.sink ≡ self.old.consumer.position }
         requires keeper { IsKeeperFor self.old.consumer self.old.keeper }
@@ -67,7 +67,8 @@ impl<S: Sink> ConsumerTask<S> {
         }
     }
 
-    // Hands the sheets of the records that were taken last to the stock, where one of them is worth a place there. One that finds none is dropped.
+    // Gives the sheets of the last records to the stock, if one of them is long enough to be kept. A sheet for which
+    // the stock has no place is dropped.
     fn hand_on<K: Stock>(&mut self, stock: &K, count: usize)
         ensures consumer { self.new.consumer ≡ self.old.consumer }
         ensures keeper { self.new.keeper ≡ self.old.keeper }
@@ -86,8 +87,8 @@ impl<S: Sink> ConsumerTask<S> {
     }
 }
 
-// Gives the sink the ring's chapter, where the keeper is to look at it and it is due to be handed out. A keeper that does not fit is passed
-// over: one for the ring does, up to the last number that a chapter has.
+// Gives the sink the ring's chapter, if the keeper is to look at it and it is due. A keeper that does not fit the ring
+// is skipped; one that was made for the ring fits until the numbers of chapters are exhausted.
 fn turn_chapter<R: Wait, S: Sink>(
     rt: &R,
     ring: &SharedRing,
@@ -114,7 +115,8 @@ fn turn_chapter<R: Wait, S: Sink>(
     }
 }
 
-/// Takes as many records as there are and the batch has room for, and gives them to the sink, in their order. Returns how many they are.
+/// Takes as many records as there are and as the batch has room for, and gives them to the sink in order. Returns the
+/// number of records.
 pub(crate) fn pass_batch<R: Wait, S: Sink>(
     rt: &R,
     ring: &SharedRing,
@@ -137,7 +139,7 @@ pub(crate) fn pass_batch<R: Wait, S: Sink>(
     }
 }
 
-// Gives the sink each of the records, in their order.
+// Gives each of the records to the sink, in order.
 fn pass_items<S: Sink>(sink: &mut S, mut items: Items<'_>)
     requires stand { (size : ℕ) × AreItemsFrom size (S.position_of sink.old) (tape_items items) }
     ensures moved { S.position_of sink.new ≡ end_of (S.position_of sink.old) (tape_items items.entry) }
@@ -148,7 +150,8 @@ fn pass_items<S: Sink>(sink: &mut S, mut items: Items<'_>)
     }
 }
 
-/// Takes records until the workers have ended and a look that began after that finds none, and waits between its batches.
+/// Takes records, with waits between the batches, until the workers have ended and a batch that was started after that
+/// is empty.
 pub(crate) fn consume<R: Wait, S: Sink, K: Stock>(
     rt: &R,
     ring: &SharedRing,
@@ -172,6 +175,6 @@ pub(crate) fn consume<R: Wait, S: Sink, K: Stock>(
         if count == 0 && over {
             break;
         }
-        pace.wait(ended, looks, count, bytes);
+        pace.wait(rt, ended, looks, count, bytes);
     }
 }

@@ -1,4 +1,4 @@
-//! A ring's seats go one to each worker before the run, and back to the ring after it.
+//! Distributing a ring's seats to the workers before the run, and returning them after it.
 
 ghost use Rattle.std.specs.Prelude.{ℕ, ◌≡◌, ◌<◌, ◌≤◌, [], All, length, map, slice_index_or, vec_capacity, vec_len};
 ghost use Rattle.std.specs.List.{AllZip};
@@ -40,7 +40,8 @@ fn return_ring(workers: &mut [Worker], returned_seats: &mut Vec<Seat>)
     }
 }
 
-/// Takes the rings apart: what all threads share, what each ring's thread owns, a batch among it, and each worker's seats.
+/// Splits the rings into what all threads share, what each ring's thread owns (including a batch), and each worker's
+/// seats.
 pub fn split<S: Drop>(
     opened: Vec<Opened<S>>,
     rings: &mut Vec<SharedRing>,
@@ -80,7 +81,7 @@ pub fn split<S: Drop>(
     }
 }
 
-/// Puts the rings together again, each with its seats.
+/// Merges the parts into rings again, each with its seats.
 pub fn merge<S: Drop>(
     mut rings: Vec<SharedRing>,
     mut consumers: Vec<ConsumerTask<S>>,

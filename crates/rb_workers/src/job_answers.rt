@@ -1,4 +1,4 @@
-//! The answers of all jobs, in the list's order.
+//! The results of all jobs, in the list's order.
 
 ghost use Rattle.std.specs.Prelude.{ℕ, ◌≡◌, ◌<◌, ◌≤◌, [], All, length, slice_index_or, true, vec_capacity};
 ghost use Rattle.std.specs.List.{list_any};
@@ -9,7 +9,7 @@ use crate::workers::Worker;
 use rb_interp::RunFault;
 use rb_jobs::Job;
 
-/// Whether some worker found no memory for a job.
+/// Returns whether an allocation failed for some worker's job.
 pub(crate) fn is_any_short(workers: &[Worker]) -> bool
     ensures { result ≡ list_any (λ w. w.short) workers.now }
 {
@@ -21,14 +21,14 @@ pub(crate) fn is_any_short(workers: &[Worker]) -> bool
     false
 }
 
-/// What the runs of all jobs answered, in the list's order, and how many of their failures no entry of a ring explains.
+/// The results of all jobs, in the list's order, and the number of their failures that no entry of a ring explains.
 pub(crate) struct Gathered {
     pub(crate) results: Vec<Result<u64, RunFault>>,
     pub(crate) unlogged: u128,
 }
 
-/// Takes the workers' answers, from that of the last job to that of the first, and puts what they say together in the order of the jobs.
-/// Linear in the jobs.
+/// Takes the workers' answers, from the last job to the first, and collects them in the order of the jobs. Takes time
+/// linear in the number of jobs.
 pub(crate) fn gather_answers(
     jobs: &[Job<'_>],
     workers: &mut [Worker],

@@ -33,14 +33,15 @@ use std::alloc::Global;
 use std::sync::Wait;
 use std::thread::Threads;
 
-// Whether some job's program knows more rings than there are, and whether some job's worker is none of those that there are.
+// Whether some job's program uses more rings than there are, and whether some job names a worker that does not exist.
 #[derive(Clone, Copy)]
 struct Unknown {
     ring: bool,
     worker: bool,
 }
 
-// What the jobs name that is not there, of so many rings and workers. It counts each worker's jobs where there is a place for that. One pass over the jobs.
+// Returns which of the two the jobs name, for this number of rings and workers. Counts each worker's jobs if `counts`
+// has an element for the worker. Makes one pass over the jobs.
 fn find_unknown(jobs: &[Job<'_>], rings: usize, count: u32, counts: &mut [usize]) -> Unknown
     ensures ring { result.ring ≡ has_unknown_ring rings jobs.now }
     ensures worker { result.worker ≡ has_unknown_worker count jobs.now }
@@ -75,7 +76,7 @@ pub fn count_workers<S: Sink>(opened: &[Opened<S>]) -> u32
     }
 }
 
-// Takes the rings apart, runs the jobs in threads, and puts the rings together again.
+// Splits the rings, runs the jobs in threads, and merges the rings again.
 fn run_in<R: Threads + Wait + Sync, G: Gate + Sync, S: Sink + Send + Drop>(
     rt: &R,
     alloc: Global,
@@ -114,7 +115,7 @@ fn run_in<R: Threads + Wait + Sync, G: Gate + Sync, S: Sink + Send + Drop>(
     merge(rings, consumers, workers, merged)
 }
 
-// Runs the jobs in threads, as `run_in`, and then takes what is left in the rings.
+// Runs the jobs in threads, like `run_in`, and then takes what is left in the rings.
 fn run_and_empty<R: Threads + Wait + Sync, G: Gate + Sync, S: Sink + Send + Drop>(
     rt: &R,
     alloc: Global,
@@ -147,7 +148,7 @@ fn run_and_empty<R: Threads + Wait + Sync, G: Gate + Sync, S: Sink + Send + Drop
     merged
 }
 
-// What jobs over these closed rings came to, where each worker ran all of its own.
+// Returns the report on jobs over these closed rings, after each worker ran all its jobs.
 fn report_on<S: Drop>(
     rings: Vec<Ended<S>>,
     jobs: &[Job<'_>],
@@ -169,7 +170,7 @@ fn report_on<S: Drop>(
     }
 }
 
-// Runs the jobs, and closes the rings where each worker ran all of its own.
+// Runs the jobs, and closes the rings if each worker ran all its jobs.
 fn run_known<R: Threads + Wait + Sync, S: Sink + Send + Drop, G: Gate + Sync>(
     rt: &R,
     alloc: Global,
@@ -219,25 +220,30 @@ fn run_known<R: Threads + Wait + Sync, S: Sink + Send + Drop, G: Gate + Sync>(
     Ok(report_on(rings, jobs, workers.as_mut_slice(), results))
 }
 
-/// Runs the jobs over the rings that were opened, a thread for each worker and for each ring, and closes the rings.
+/// Runs the jobs over the opened rings, with a thread for each worker and for each ring, and closes the rings.
 ///
-/// Each worker runs its own jobs in the order of the list, at its seats, one at each ring in their order: ring k of a program is the k-th,
-/// and so is ring k of the report.
+/// Each worker runs its own jobs in the order of the list, with its seats: one at each ring, in the rings' order. Ring
+/// k of a program is the k-th ring, and so is ring k of the report.
 ///
-/// Each ring's consumer gives each record that it takes to the ring's sink, and each chapter that the ring's keeper hands out: the keeper
-/// looks at the ring's chapter between batches of records. A worker that comes when the chapter has no room gets no record, and that
-/// failure is unlogged. After all workers have ended, the calling thread takes what is left, up to the first record that is still busy: if no
-/// record of a closed ring is busy, none waits.
+/// Each ring's consumer gives the ring's sink each record that it takes and each chapter that the ring's keeper hands
+/// out; the keeper looks at the ring's chapter between batches of records. A worker that finds the chapter full gets no
+/// record, and that failure is unlogged. After all workers have ended, the calling thread takes what is left, up to the
+/// first record that is still busy: if no record of a closed ring is busy, none waits.
 ///
-/// The gate is called before each helper call, and once more after a worker's last job, with the number of helper calls that the worker has
-/// finished; so a worker without jobs calls it once, with 0. Where no thread can be made its work is done on the calling thread, the
-/// workers' first.
+/// The gate is called before each helper call, and once more after a worker's last job, with the number of helper calls
+/// that the worker has finished; so for a worker without jobs it is called once, with 0. If a thread can't be created,
+/// its work is done on the calling thread, the workers' first.
 ///
-/// `UnknownRing` comes before `UnknownWorker`, both before anything runs, and all is handed back as it was. `Memory` is returned where
-/// there is none to begin, or none for a worker's next job: that worker then runs no more, the others run on, and all is handed back as
-/// it then is, with no ring closed.
+/// # Errors
 ///
-/// It takes memory for each job and each seat before the threads start, and for each worker's trace as it runs. A ring takes none.
+/// `UnknownRing` takes precedence over `UnknownWorker`; both are returned before anything runs, and everything is
+/// handed back unchanged. `Memory` is returned if an allocation fails before the start or for a worker's next job: that
+/// worker then stops, the others continue, and everything is handed back in its current state, with no ring closed.
+///
+/// # Memory
+///
+/// Allocates for each job and each seat before the threads start, and for each worker's trace during the run. The rings
+/// do not allocate.
 pub fn run_jobs<R: Threads + Wait + Sync, S: Sink + Send + Drop, G: Gate + Sync>(
     rt: &R,
     alloc: Global,

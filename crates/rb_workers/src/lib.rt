@@ -1,20 +1,23 @@
-//! Jobs on threads over shared BPF ring buffers: a thread for each worker, which runs its jobs in their order, and one for each
-//! ring, which consumes its records.
+//! Jobs on threads over shared BPF ring buffers: one thread for each worker, which runs the worker's jobs in order, and
+//! one for each ring, which consumes its records.
 //!
-//! `run_jobs` is for whoever has many verified programs run at once. What is promised: each result is one that the program's
-//! meaning gives (RFC 9669); each worker's seats counted just what the calls of its own jobs say; each ring was closed with all its
-//! seats, so the law of closed rings holds of its whole history, which are the entries of the chapters that it handed out and of its last
-//! one (rb_ledger); each ring's sink was given just the records that were taken, in their order and with their bytes, and just the
-//! chapters that were handed out meanwhile, each once and in order, so that with the last one they may be bound; and where there is an
-//! error, all comes back and may be run again. Records are taken many at a time, and the sheets of long ones are used again. A ring's
-//! memory does not grow: its consumer's thread looks at its chapter between its batches, and hands it out in time: with the room and the margin that the
-//! ring's size asks for no chapter is full before the ring was (`chapters_follow_their_ring`).
+//! `run_jobs` runs many verified programs concurrently. Proved: each result is one that the program's semantics (RFC
+//! 9669) gives. Each worker's seats counted exactly the calls of the worker's own jobs. Each ring was closed with all
+//! its seats, so the law of closed rings holds for its whole history: the entries of the chapters that it handed out
+//! and of its last one (rb_ledger). Each ring's sink was given exactly the records that were taken, in order and with
+//! their bytes, and exactly the chapters that were handed out meanwhile, each once and in order, so that they can be
+//! bound with the last one. After an error everything is returned and may be run again.
 //!
-//! What holds of every interleaving of the same programs in turns, without threads, stands beside this in docs/PROOF_STATUS.md, "Every
-//! interleaving, and running threads".
+//! Records are taken many at a time, and the sheets (byte buffers) of long records are reused. A ring's memory does not
+//! grow: its consumer's thread looks at the ring's chapter between batches and hands it out when it is due. With the
+//! room and the margin for the ring's size, no chapter is full before the ring was, if the keeper looks often enough
+//! (`chapters_follow_their_ring`).
 //!
-//! No proof speaks of waiting, fairness or time: that a run comes to its end, that work is done in threads of its own, when a record
-//! reaches its sink, or what a gate does.
+//! What holds for every interleaving of the same programs in turns, without threads, is compared with this in
+//! docs/PROOF_STATUS.md, "Every interleaving, and running threads".
+//!
+//! Waiting, fairness and time are outside of the proofs: whether a run ends, whether work is done in separate threads,
+//! how often a keeper looks, when a record reaches its sink, and what a gate does.
 #![tactic(auto)]
 
 mod chapter_sizes;

@@ -4,7 +4,7 @@ use crate::sink::Sink;
 use rb_chapter_ring::Chapter;
 use rb_tape::Item;
 
-/// Gives up all records and chapters that it is given, for whoever wants a run's counts alone.
+/// A sink that drops all records and chapters, for callers who need only the counts of a run.
 #[derive(Clone, Copy, Debug, Drop)]
 pub struct NullSink {
     /// The position of the next record.

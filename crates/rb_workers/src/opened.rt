@@ -1,4 +1,4 @@
-//! What jobs run over, and what comes of them.
+//! Opened rings, and the reports on runs over them.
 
 ghost use Rattle.std.specs.Prelude.{◌≡◌, ◌↔◌, All, IfOk, IsErrOf, false};
 ghost use Rattle.rb_history.specs.RingModel.{IsRingSize, IsStartPosition, IsWorkerCount};
@@ -17,8 +17,8 @@ use std::alloc::Global;
 use std::sync::Wait;
 use thiserror::Error;
 
-/// A ring that was opened, with the seats of its workers in the order of their numbers, its consumer, the keeper of the chapter in which it
-/// goes on, and what takes its records and its chapters.
+/// An opened ring with the seats of its workers in the order of their numbers, its consumer, the keeper of the chapter
+/// in which it continues, and the sink for its records and chapters.
 #[derive(Drop)]
 pub struct Opened<S> {
     /// The ring.
@@ -27,18 +27,21 @@ pub struct Opened<S> {
     pub seats: Vec<Seat>,
     /// The consumer's seat.
     pub consumer: ConsumerSeat,
-    /// What hands the ring's chapters out in turn: its own chapter has the ring's room and workers, and no entries but those that a turn of it
-    /// lent.
+    /// The keeper that hands out the ring's chapters in turn. Its own chapter has the ring's room and number of
+    /// workers, and no entries except those that one of its turns lent.
     pub keeper: Keeper,
-    /// What takes the records and the chapters.
+    /// The sink for the records and the chapters.
     pub sink: S,
 }
 
 impl<S: Sink + Drop> Opened<S> {
-    /// Opens a ring, as `rb_shared_ring::open` does, with a sink that begins where the ring does. Its chapters have room for `room` entries, 8
-    /// to 1,048,576, and are handed out `margin` entries before that room could be used up: those that the workers may add until the
-    /// consumer comes round again. `chapter_room` and `chapter_margin` give both by the ring's size: then no reservation and no output finds the
-    /// chapter full before the ring was (`chapters_follow_their_ring`, with its premises on how often the keeper looks and how long records are).
+    /// Opens a ring, as `rb_shared_ring::open` does, with a sink that starts at the ring's start.
+    ///
+    /// Its chapters have room for `room` entries, 8 to 1,048,576, and are handed out `margin` entries before the room
+    /// could be exhausted: the number of entries that the workers may add until the keeper looks again. `chapter_room`
+    /// and `chapter_margin` return both for the ring's size: then no reservation and no output finds the chapter full
+    /// before the ring was (`chapters_follow_their_ring`, under its premises on how often the keeper looks and how long
+    /// records are).
     pub fn open<R: Wait>(
         rt: &R,
         alloc: Global,
@@ -89,10 +92,11 @@ pub enum JobFault {
     /// A program was verified for more rings than there are. Nothing ran.
     #[error("a program knows more rings than there are")]
     UnknownRing,
-    /// A job is of a worker that has no seats. Nothing ran.
+    /// A job names a worker that has no seats. Nothing ran.
     #[error("a job is of an unknown worker")]
     UnknownWorker,
-    /// There was no memory to begin, or none for a worker's next job. What ran stands, and no ring is closed.
+    /// An allocation failed before the start or for a worker's next job. The effects of what ran remain, and no ring is
+    /// closed.
     #[error("out of memory")]
     Memory,
 }
@@ -102,23 +106,26 @@ pub enum JobFault {
 pub struct Ended<S> {
     /// The closed ring, with its last chapter.
     pub closing: Closing,
-    /// The numbers of the ring's seats, in the order of the workers.
+    /// The counts of the ring's seats, in the order of the workers.
     pub tallies: Vec<Tally>,
-    /// What handed the ring's chapters out: it has a chapter of the ring's room and workers, to be used again.
+    /// The keeper that handed out the ring's chapters. Its chapter has the ring's room and number of workers, and can
+    /// be reused.
     pub keeper: Keeper,
-    /// What took the records and the chapters.
+    /// The sink that was given the records and the chapters.
     pub sink: S,
 }
 
-/// What jobs came to.
+/// The report on a run of jobs.
 #[derive(Drop)]
 pub struct JobsReport<S> {
-    /// The rings that were opened, closed, in their order.
+    /// The rings, closed, in their order.
     pub rings: Vec<Ended<S>>,
-    /// What each job's run answered, in the order of the jobs.
+    /// The result of each job's run, in the order of the jobs.
     pub answers: Vec<Result<u64, RunFault>>,
-    /// How many of the answers are `Stray`: 0, as seats keep the records that they granted, and none is handed back.
+    /// The number of results that are `Stray`: always 0, since seats keep the records that they granted, so that none
+    /// is handed back (`IsRun.never_stray`).
     pub strays: u64,
-    /// How many of the nulls for flags 0 and of the answers `-EAGAIN` of all calls no entry of a ring explains.
+    /// The number of all calls that returned null for flags 0, or `-EAGAIN`, without an entry in a ring's history that
+    /// explains it.
     pub unlogged: u128,
 }

@@ -1,4 +1,4 @@
-//! What is left in the rings once all workers have ended.
+//! Taking what is left in the rings after all workers have ended.
 
 ghost use Rattle.std.specs.Prelude.{◌≡◌, ◌<◌, ◌↔◌, ℕ, All, IsTrue, length, slice_index_or};
 ghost use Rattle.rb_ledger.specs.Seats.{HasSettledAll, all_discarded, all_submitted};
@@ -15,7 +15,7 @@ use rb_shared_ring::Seat;
 use std::sync::Wait;
 use std::thread;
 
-// Whether each of the seats has submitted or discarded every record that it made.
+// Returns whether each of the seats has submitted or discarded every record that it made.
 fn are_settled(seats: &[Seat]) -> bool
     ensures exact { IsTrue result ↔ All HasSettledAll seats.now }
 {
@@ -27,7 +27,7 @@ fn are_settled(seats: &[Seat]) -> bool
     true
 }
 
-// Whether these numbers are those of the records that the seats submitted and discarded.
+// Returns whether these are the numbers of records that the seats submitted and discarded.
 fn are_numbers_of(seats: &[Seat], consumed: u64, skipped: u64) -> bool
     ensures submitted { IsTrue result → consumed ≡ all_submitted seats.now }
     ensures discarded { IsTrue result → skipped ≡ all_discarded seats.now }
@@ -46,7 +46,7 @@ fn are_numbers_of(seats: &[Seat], consumed: u64, skipped: u64) -> bool
     consumed == 0 && skipped == 0
 }
 
-// Whether the ring's consumer took every record that the seats made, or one of them is still busy.
+// Returns whether the ring's consumer took every record that the seats made, or one of them is still busy.
 fn is_drained<S>(one: &Opened<S>) -> bool
     ensures drained { IsTrue result → IsDrained one.now }
 {
@@ -73,7 +73,8 @@ fn take_rest<R: Wait, S: Sink>(rt: &R, one: &mut Opened<S>, batch: &mut Batch)
     unreachable!()
 }
 
-/// Takes what is left in the rings, whose workers have ended: of each ring up to the first record that is still busy.
+/// Takes what is left in the rings, whose workers have ended: from each ring, up to the first record that is still
+/// busy.
 pub fn take_rests<R: Wait, S: Sink>(rt: &R, merged: &mut [Opened<S>], batch: &mut Batch)
     requires opened { AreOpened S.position_of merged.old }
     ensures each { (k : ℕ) (d : Opened _) → k < length merged.old → TakesRest S.position_of S.takes (slice_index_or merged.old k d) (slice_index_or merged.new k d) }

@@ -1,4 +1,4 @@
-//! Rings are closed, once all workers have ended.
+//! Closing the rings after all workers have ended.
 
 ghost use Rattle.std.specs.Prelude.{◌≡◌, ◌≤◌, [], All, length, map, vec_capacity, vec_len};
 ghost use Rattle.std.specs.List.{AllZip};
@@ -12,7 +12,7 @@ use rb_history::Tally;
 use rb_shared_ring::Seat;
 use std::sync::Wait;
 
-// A seat's numbers.
+// Returns a seat's counts.
 fn tally_of(seat: &Seat) -> Tally
     ensures { result ≡ seat.now.tally }
 {
@@ -24,7 +24,7 @@ fn tally_of(seat: &Seat) -> Tally
     }
 }
 
-// The numbers of the seats, in their order.
+// Returns the counts of the seats, in their order.
 fn tallies_of(seats: &[Seat], mut row: Vec<Tally>) -> Vec<Tally>
     requires row { IsEmptyFor (length seats.now) row }
     ensures { result.items ≡ map (λ s. s.tally) seats.now }
@@ -35,7 +35,7 @@ fn tallies_of(seats: &[Seat], mut row: Vec<Tally>) -> Vec<Tally>
     row
 }
 
-// Closes a ring to which all its seats are back.
+// Closes a ring to which all its seats were returned.
 fn close_one<R: Wait, S: Sink>(rt: &R, one: Opened<S>, row: Vec<Tally>) -> Ended<S>
     requires opened { IsOpened S.position_of (length one.seats.items) one }
     requires row { IsEmptyFor (length one.seats.items) row }
@@ -60,7 +60,7 @@ fn close_one<R: Wait, S: Sink>(rt: &R, one: Opened<S>, row: Vec<Tally>) -> Ended
     }
 }
 
-/// Closes all rings, each with a row for its tallies.
+/// Closes all rings, each with a row for its counts.
 pub fn close_all<R: Wait, S: Sink + Drop>(
     rt: &R,
     merged: Vec<Opened<S>>,

@@ -1,4 +1,4 @@
-//! Memory for a whole run, taken before anything moves.
+//! The memory for a whole run, allocated before anything moves.
 
 ghost use Rattle.std.specs.Prelude.{ℕ, All, ◌≡◌, ◌<◌, ◌≤◌, [], IfOk, length, slice_index_or, vec_capacity, vec_len};
 ghost use Rattle.rb_workers.specs.inner.RunBuffers.{IsEmptyFor, HasRoomForRun};
@@ -17,7 +17,7 @@ use rb_lend::Sheet;
 use rb_shared_ring::SharedRing;
 use std::alloc::{AllocError, Global};
 
-/// Empty places for all that a run moves and makes, and the workers, which have no seats yet.
+/// Empty buffers for everything that a run moves and makes, and the workers, which have no seats yet.
 #[derive(Drop)]
 pub struct RunBuffers<S> {
     /// For the rings.
@@ -30,19 +30,19 @@ pub struct RunBuffers<S> {
     pub rest: Batch,
     /// For used sheets.
     pub sheets: ArrayQueue<Sheet>,
-    /// For the rings once they are put together again.
+    /// For the merged rings.
     pub merged: Vec<Opened<S>>,
     /// The workers.
     pub workers: Vec<Worker>,
-    /// A row for each ring.
+    /// A row of counts for each ring.
     pub tallies: Vec<Vec<Tally>>,
     /// For the closed rings.
     pub ended: Vec<Ended<S>>,
-    /// For the answers of the jobs.
+    /// For the results of the jobs.
     pub results: Vec<Result<u64, RunFault>>,
 }
 
-/// A count of 0 for each of so many workers; none where there is no memory for that.
+/// Returns `count` zeros, one for each worker, or none if the allocation fails.
 pub(crate) fn zero_counts(alloc: Global, count: u32) -> Vec<usize> {
     match vec![in alloc; 0; count as usize] {
         Ok(counts) => counts,
@@ -50,8 +50,8 @@ pub(crate) fn zero_counts(alloc: Global, count: u32) -> Vec<usize> {
     }
 }
 
-// So many workers, each with room for a seat at each ring and for as many answers as its jobs were counted to be. Where it is not counted the room is
-// taken as its jobs run.
+// Returns workers, each with room for a seat at each ring and for as many answers as the number of its jobs in
+// `counts`. A worker without a count allocates while its jobs run.
 fn new_workers(
     alloc: Global,
     count: u32,
@@ -77,7 +77,7 @@ fn new_workers(
     Ok(workers)
 }
 
-// An empty row for each ring, with room for each worker's tally.
+// Returns an empty row for each ring, with room for each worker's counts.
 fn new_tallies(alloc: Global, count: u32, rings: usize) -> Result<Vec<Vec<Tally>>, AllocError>
     ensures len { IfOk result (λ v. vec_len v ≡ rings) }
     ensures each { IfOk result (λ v. All (IsEmptyFor count) v.items) }
@@ -90,7 +90,7 @@ fn new_tallies(alloc: Global, count: u32, rings: usize) -> Result<Vec<Vec<Tally>
     Ok(rows)
 }
 
-// An empty batch for each ring.
+// Returns an empty batch for each ring.
 fn new_batches(alloc: Global, rings: usize) -> Result<Vec<Batch>, AllocError>
     ensures len { IfOk result (λ v. vec_len v ≡ rings) }
 {
@@ -101,7 +101,8 @@ fn new_batches(alloc: Global, rings: usize) -> Result<Vec<Batch>, AllocError>
     Ok(batches)
 }
 
-/// All memory that a run over so many rings, workers and jobs, of which each worker's are counted, needs before its first job.
+/// Allocates all memory that a run over these rings, workers and jobs needs before its first job. `counts` has the
+/// number of each worker's jobs.
 pub fn make_buffers<S: Drop>(
     alloc: Global,
     count: u32,

@@ -1,4 +1,5 @@
-//! The parts of a run, for other runners over the same rings: how rings are taken apart and put together, consumed, emptied and closed.
+//! The parts of a run, for other runners over the same rings: how rings are split and merged, consumed, drained and
+//! closed.
 
 pub use crate::consumer_task::ConsumerTask;
 pub use crate::distribution::{merge, split};

@@ -1,4 +1,4 @@
-//! What records and chapters are given to.
+//! Sinks, which receive records and chapters.
 
 ghost use Rattle.std.specs.Prelude.{◌≡◌, ◌+◌, ◌<◌, ◌≤◌, ◌^◌, ℕ};
 ghost use Rattle.rb_history.specs.TapeBytes.{item_len, item_position, item_span};
@@ -9,19 +9,20 @@ ghost use Rattle.rb_workers.specs.Sink.SinkItem.{CaughtUp, Chapter as ChapterIte
 use rb_chapter_ring::Chapter;
 use rb_tape::Item;
 
-/// What a ring's consumer gives its records to, one by one and in the order of their positions, and each chapter that the ring hands out. It
-/// has a position, which moves with the consumer's.
+/// A sink receives a ring's records from its consumer, one by one and in the order of their positions, and each chapter
+/// that the ring hands out. It has a position, which advances with the consumer's.
 pub trait Sink {
     ghost position_of: { Self → ℕ };
 
-    /// What taking one item makes of a sink. Who runs jobs learns by it which items each sink was given, in which order.
+    /// The effect of one item on a sink. With it, callers who run jobs know which items each sink was given, and in
+    /// which order.
     ghost takes: { Self → SinkItem → Self → Type 0 };
 
-    /// The position of the next record.
+    /// Returns the position of the next record.
     fn position(&self) -> u64
         ensures position { result ≡ position_of self.now };
 
-    /// Takes the record at its position: an event, or a discarded record that was passed over.
+    /// Receives the record at the sink's position: an event, or a discarded record that was skipped.
     fn record(&mut self, item: &Item<'_>)
         requires next { item_position (item_of item.now) ≡ position_of self.old }
         requires len { item_len (item_of item.now) < 2 ^ 32 }
@@ -29,15 +30,18 @@ pub trait Sink {
         ensures moved { position_of self.new ≡ position_of self.old + item_span (item_of item.now) }
         ensures took { takes self.old (RecordItem (item_taken item.now)) self.new };
 
-    /// Looks at a chapter that the ring handed out, whole, which is cleared and used again after the call. The chapters come in the order of
-    /// their numbers; with the last one, which the closed ring has, they bind to the ring's whole history.
+    /// Receives a chapter that the ring handed out, as a whole; it is cleared and reused after the call. The chapters
+    /// come in the order of their numbers. Together with the last one, which the closed ring has, they bind to the
+    /// ring's whole history.
     fn chapter(&mut self, chapter: &Chapter)
         ensures stays { position_of self.new ≡ position_of self.old }
         ensures took { takes self.old (ChapterItem chapter.now) self.new };
 
-    /// Is called after each batch of records that is not full, so when the ring's consumer has taken all that it could: the ring was empty then, or
-    /// its first record busy. No record is given and the position stays, so a sink that buffers its output flushes it here. It may be called again
-    /// before the next record.
+    /// Is called after each batch of records that is not full, that is, when the ring's consumer has taken all that it
+    /// could: the ring was empty, or its first record busy.
+    ///
+    /// No record is given and the position does not change, so a sink that buffers its output can flush here. It may be
+    /// called again before the next record.
     fn caught_up(&mut self)
         ensures stays { position_of self.new ≡ position_of self.old }
         ensures took { takes self.old CaughtUp self.new };

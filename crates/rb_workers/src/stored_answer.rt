@@ -1,4 +1,4 @@
-//! Answers of jobs, as a worker keeps them.
+//! The results of jobs, as a worker stores them.
 
 ghost use Rattle.std.specs.Prelude.{◌≡◌, ◌<◌, ◌^◌};
 
@@ -6,19 +6,20 @@ use rb_interp::RunFault;
 use rb_jobs::JobAnswer;
 use std::marker::Model;
 
-// One more than the greatest number of 32 bits.
+// 2^32, one more than the greatest number of 32 bits.
 const HALF: u64 = 4_294_967_296;
 
-/// What a job came to, in 12 bytes where a `JobAnswer` takes 24: a worker keeps one for each of its jobs. Contracts see the answer.
+/// A job's result in 12 bytes, where a `JobAnswer` takes 24: a worker stores one for each of its jobs. Contracts see
+/// the `JobAnswer`.
 #[derive(Drop)]
 pub struct StoredAnswer {
-    /// The low half of the program's result, and 0 where there is none.
+    /// The low half of the program's result, or 0 if there is none.
     low: u32,
     /// The high half.
     high: u32,
     /// Why there is no result.
     fault: Option<RunFault>,
-    /// How many of the job's failures no entry of a ring explains.
+    /// The number of the job's failures that no entry of a ring explains.
     unlogged: u16,
 }
 
@@ -32,7 +33,7 @@ impl Model for StoredAnswer {
 }
 
 impl StoredAnswer {
-    /// Keeps an answer with fewer unlogged failures than 16 bits count.
+    /// Stores a result with fewer than 2^16 unlogged failures.
     pub(crate) fn of(answer: JobAnswer) -> StoredAnswer
         requires few { answer.unlogged < 2 ^ 16 }
         ensures kept { result ≡ answer }
@@ -54,7 +55,7 @@ impl StoredAnswer {
         }
     }
 
-    /// The answer.
+    /// Returns the stored result.
     pub(crate) fn answer(&self) -> JobAnswer
         ensures answer { result ≡ self.now }
     {

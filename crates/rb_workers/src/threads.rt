@@ -1,4 +1,4 @@
-//! Workers and consumers in threads of their own.
+//! The threads of workers and consumers.
 
 ghost use Rattle.std.specs.Prelude.{◌≡◌, ◌≤◌, All, Some, length, slice_get};
 ghost use Rattle.std.specs.List.{AllZip};
@@ -20,7 +20,7 @@ use std::sync::atomic::{AtomicBool, Ordering};
 use std::thread;
 use std::thread::{Threads, join_mut};
 
-// Runs each worker's jobs in a thread of its own, or here where none can be made.
+// Runs each worker's jobs in a separate thread, or on the calling thread if none can be created.
 fn work_all<R: Threads + Wait + Sync, G: Gate + Sync>(
     rt: &R,
     alloc: Global,
@@ -45,7 +45,7 @@ fn work_all<R: Threads + Wait + Sync, G: Gate + Sync>(
     thread::for_each_mut(rt, workers, threads, &work);
 }
 
-/// Consumes each ring in a thread of its own, or here if none can be started.
+/// Consumes each ring in a separate thread, or on the calling thread if none can be started.
 pub fn consume_all<R: Threads + Wait + Sync, S: Sink + Send>(
     rt: &R,
     rings: &[SharedRing],
@@ -67,8 +67,8 @@ pub fn consume_all<R: Threads + Wait + Sync, S: Sink + Send>(
     thread::for_each_mut(rt, consumers, threads, &consume);
 }
 
-/// Runs the jobs and consumes the rings, until all workers have ended and what is there is taken. Where no threads can be made all of it
-/// is done here, the workers' part first.
+/// Runs the jobs and consumes the rings, until all workers have ended and the records that are there are taken. If no
+/// threads can be created, everything is done on the calling thread, the workers' part first.
 pub(crate) fn run_threads<R: Threads + Wait + Sync, G: Gate + Sync, S: Sink + Send>(
     rt: &R,
     alloc: Global,

@@ -1,4 +1,4 @@
-//! Used sheets, which consumers hand on to workers.
+//! Used sheets, which consumers pass to workers for reuse.
 
 ghost use Rattle.std.specs.Prelude.{◌≡◌, IfSome};
 
@@ -8,16 +8,16 @@ use rb_jobs::{SHORT, Stock};
 use rb_lend::Sheet;
 use std::sync::Wait;
 
-/// How many used sheets wait at most: all those of a whole batch.
+/// The maximal number of waiting used sheets: those of a full batch.
 pub const PLACES: usize = BATCH;
 
-/// The sheets of taken records, until a worker needs one. One that finds no place is handed back, and so is a short one, which is not
-/// worth a place.
+/// A queue of the sheets of taken records, for workers that need one. A sheet for which there is no place is returned,
+/// and so is a short one, which is not worth a place.
 #[derive(Drop)]
 pub struct UsedSheets<'q, R> {
-    /// What waiting for the queue goes through.
+    /// The runtime for waits of the queue.
     pub rt: &'q R,
-    /// Where they wait.
+    /// The queue.
     pub sheets: &'q ArrayQueue<Sheet>,
 }
 

@@ -1,4 +1,4 @@
-//! Workers, each with its seats and the answers of its jobs.
+//! Workers with their seats and the answers of their jobs.
 
 ghost use Rattle.std.specs.Prelude.{◌≡◌, ◌<◌, ◌≤◌, [], All, false, if◌then◌else◌, length, vec_len, vec_capacity};
 ghost use Rattle.rb_jobs.specs.SeatHelpers.{AtRings};
@@ -12,15 +12,15 @@ use std::alloc::Global;
 use std::mem;
 use std::sync::Wait;
 
-/// A worker: its number, how many helper calls it has finished, its seats in the order of the rings, the answers of its jobs in their
-/// order, and whether it was short of memory for a job.
+/// A worker: its number, the number of helper calls that it has finished, its seats in the order of the rings, the
+/// answers of its jobs in order, and whether an allocation failed for one of its jobs.
 #[derive(Drop)]
 pub struct Worker {
     /// Its number.
     pub number: u32,
-    /// How many helper calls it has finished.
+    /// The number of helper calls that it has finished.
     pub calls: u64,
-    /// Whether it was short of memory for a job.
+    /// Whether an allocation failed for a job.
     pub short: bool,
     /// Its seats, in the order of the rings.
     pub seats: Vec<Seat>,
@@ -29,7 +29,7 @@ pub struct Worker {
 }
 
 impl Worker {
-    /// Gives the worker a seat at one ring more.
+    /// Gives the worker a seat at one more ring.
     pub(crate) fn add_seat(&mut self, seat: Seat)
         requires room { HasSpareSeat self.old }
         ensures one_more { IsOneMore self.old self.new seat }
@@ -37,7 +37,7 @@ impl Worker {
         self.seats.push_reserved(seat);
     }
 
-    /// Takes the worker's last seat back.
+    /// Removes the worker's last seat and returns it.
     pub(crate) fn remove_seat(&mut self) -> Seat
         requires some { 0 < vec_len self.old.seats }
         ensures one_less { IsOneMore self.new self.old result }
@@ -48,7 +48,7 @@ impl Worker {
         }
     }
 
-    /// Takes the worker's last answer.
+    /// Removes the worker's last answer and returns it.
     pub(crate) fn take_answer(&mut self) -> JobAnswer
         requires some { 0 < vec_len self.old.answers }
         ensures one_less { IsOneAnswerMore self.new self.old result }
@@ -59,7 +59,7 @@ impl Worker {
         }
     }
 
-    // Runs one of the worker's jobs, and answers whether there was memory for it. Where there is none, nothing ran.
+    // Runs one of the worker's jobs. Returns false if an allocation failed: then nothing ran.
     fn run_one<'j, R: Wait, G: Gate, K: Stock>(
         &mut self,
         runner: &mut JobRunner<'_, 'j, R, G, K>,
@@ -82,7 +82,7 @@ impl Worker {
         }
     }
 
-    // Runs the worker's jobs in their order, up to the first that finds no memory, and comes to the gate behind each.
+    // Runs the worker's jobs in order, up to the first for which an allocation fails, and calls the gate after each.
     fn run_all<'j, R: Wait, G: Gate, K: Stock>(
         &mut self,
         runner: &mut JobRunner<'_, 'j, R, G, K>,
@@ -107,8 +107,8 @@ impl Worker {
         }
     }
 
-    /// Runs the worker's jobs in their order and in the room of one machine, up to the first that finds no memory, and comes to the gate behind each, and
-    /// once more at the end.
+    /// Runs the worker's jobs in order, with one machine, up to the first for which an allocation fails. Calls the gate
+    /// after each job, and once more at the end.
     pub(crate) fn work<R: Wait, G: Gate, K: Stock>(
         &mut self,
         rt: &R,

@@ -6,11 +6,11 @@ use Rattle.rb_dealing.specs.Dealt.{DealtPiece, AreDealtAmong, contexts_in, dealt
 use Rattle.rb_dealing.specs.declared.lane.LaneFeed.{LaneFeed}
 use Rattle.rb_dealing.specs.declared.dealing.Dealing.{Dealing}
 
--- the contexts of pieces that stand in a queue one after another
+-- the contexts of the pieces in a queue, one after another
 abbrev pub queued : List PieceContents → List (List ℕ)
 queued pieces = flat_map (λ p. p.contexts) pieces
 
--- the lane's queue, with these contexts more
+-- the lane's queue, with these contexts appended
 abbrev pub GetsContexts : LaneFeed → List (List ℕ) → LaneFeed → Type 0
 GetsContexts old contexts new = SameProducer old.pieces new.pieces × (queued (sent new.pieces) ≡ queued (sent old.pieces) ++ contexts)
 

@@ -1,4 +1,4 @@
--- What the end of a record is to the seat that gives it back, and to the helpers.
+-- What a submit or a discard means for the record's seat, and for the helpers.
 use Rattle.std.specs.Prelude.{◌≡◌, ◌↔◌, ℕ, Bool, true, false, None, slice_set}
 use Rattle.rb_chapter_ring.specs.HandGranted.{HandGranted}
 use Rattle.rb_chapter_ring.specs.declared.record_end.RecordEnd.{RecordEnd}
@@ -12,7 +12,8 @@ use Rattle.rb_interp.specs.AnsweredCalls.{AnsweredCall, Submitted, Discarded}
 use Rattle.rb_jobs.specs.declared.seat_record.SeatRecord.{SeatRecord}
 use Rattle.rb_jobs.specs.SeatCalls.{IsOutAtSeat, SeatCallsRing, notice_of}
 
--- what the call does to the seat: it was taken exactly where the reservation is out there, at one call of the ring; else it is handed back
+-- what the call does to the seat: it is accepted if and only if the reservation is out there, at one call of the ring;
+-- otherwise it is handed back
 pub record SeatEnds (end : RecordEnd) (r : HandGranted) (flags : ℕ) (taken due : Bool) (b a : WorkerSeat) : Type 0 where
   pub exact : (taken ≡ true) ↔ IsOutAtSeat b r
   pub takes : taken ≡ true
@@ -25,7 +26,7 @@ abbrev pub ended_call : RecordEnd → SeatRecord → ℕ → Bool → AnsweredCa
 ended_call Submit owned flags taken = Submitted owned flags taken
 ended_call Discard owned flags taken = Discarded owned flags taken
 
--- how it is noted
+-- its entry in the trace
 abbrev pub ended_note : RecordEnd → ℕ → Bool → Done
 ended_note Submit flags taken = SubmitNote flags taken
 ended_note Discard flags taken = DiscardNote flags taken

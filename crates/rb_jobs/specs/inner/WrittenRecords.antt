@@ -1,4 +1,4 @@
--- A record is kept whatever is written to it.
+-- A record stays kept after a write to it.
 use Rattle.std.proofs.Common.{◌≡◌, ℕ, List, Some, length, sym, subst, length-append, arith}
 use Rattle.std.proofs.lemmas.List.{length-take, length-drop}
 use Rattle.rb_lend.specs.Ranges.{in_place_of}

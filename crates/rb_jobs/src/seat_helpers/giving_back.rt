@@ -1,4 +1,4 @@
-//! Giving a record back.
+//! Submitting and discarding a record.
 
 ghost use Rattle.std.specs.Prelude.{◌≡◌, ◌+◌, ◌<◌, [], ◌∷◌, ◌++◌, IfErr, is_ok};
 ghost use Rattle.rb_jobs.specs.SeatCalls.{RecordAnswered};
@@ -18,8 +18,8 @@ use std::sync::Wait;
 
 impl<'h, R: Wait, S: Stock> SeatHelpers<'h, R, S> {
     #[inline(always)]
-    // Gives the record back at the seat of its ring, and notes the call. Hands it back where its ring is none of these, or where it is out in no hand
-    // of the seat there.
+    // Submits or discards the record with the seat at its ring, and adds the call to the trace. Returns the record if
+    // its ring is not among the helpers' rings, or if it is not out in a hand of the seat there.
     pub(crate) fn give_back(
         &mut self,
         owned: SeatRecord,
@@ -50,7 +50,8 @@ impl<'h, R: Wait, S: Stock> SeatHelpers<'h, R, S> {
     }
 
     #[inline(always)]
-    // Gives the reservation back at the ring's seat, without noting the call. One of no ring here is handed back.
+    // Submits or discards the reservation with the ring's seat, without adding the call to the trace. Returns it if
+    // there is no such ring.
     fn try_give_back(
         &mut self,
         ring: u32,
@@ -72,7 +73,7 @@ impl<'h, R: Wait, S: Stock> SeatHelpers<'h, R, S> {
 }
 
 #[inline(always)]
-// The note of the call.
+// Returns the call's entry for the trace.
 fn note_of_end(end: RecordEnd, flags: u64, taken: bool) -> Done
     ensures { result ≡ ended_note end flags taken }
 {

@@ -1,4 +1,4 @@
--- Why a ring was not opened, as the fault of a run.
+-- The fault of a run for each error of opening a ring.
 use Rattle.rb_history.specs.declared.bounds.SetupFault.{SetupFault}
 use Rattle.rb_history.specs.declared.bounds.SetupFault.TheVariants as setup
 use Rattle.rb_run_commands.specs.declared.jobs_fault.JobsFault.{JobsFault}

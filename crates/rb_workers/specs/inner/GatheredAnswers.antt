@@ -7,7 +7,8 @@ use Rattle.rb_workers.specs.declared.job_answers.Gathered.{Gathered}
 use Rattle.rb_workers.specs.declared.workers.Worker.{Worker}
 use Rattle.rb_workers.specs.inner.WorkerRuns.{own_answers}
 
--- there is an answer of each job, in which each worker's stand as the worker has them, and what was gathered is what these answers say
+-- there is an answer of each job, among which each worker's are those that the worker has, and the gathered results and
+-- counts are those of these answers
 pub record GathersAnswers (jobs : List Job) (workers : List Worker) (gathered : Gathered) : Type 0 where
   pub answers : List JobAnswer
   pub one_each : length answers ≡ length jobs

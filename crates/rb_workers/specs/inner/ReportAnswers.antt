@@ -7,7 +7,7 @@ use Rattle.rb_workers.specs.declared.opened.JobsReport.{JobsReport}
 use Rattle.rb_workers.specs.declared.workers.Worker.{Worker}
 use Rattle.rb_workers.specs.inner.WorkerRuns.{own_answers}
 
--- the report has an answer of each job, in which each worker's stand as the worker has them
+-- the report has an answer of each job, among which each worker's are those that the worker has
 pub record ReportMatches {S : Type 0} (jobs : List Job) (workers : List Worker) (report : JobsReport S) : Type 0 where
   pub answers : List JobAnswer
   pub one_each : length answers ≡ length jobs

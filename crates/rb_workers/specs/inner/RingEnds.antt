@@ -4,7 +4,7 @@ use Rattle.rb_ledger.specs.ChapterClosing.{IsClosedByChapters}
 use Rattle.rb_workers.specs.declared.opened.Opened.{Opened}
 use Rattle.rb_workers.specs.declared.opened.Ended.{Ended}
 
--- this very ring was closed, with just these seats and this consumer, and its tallies are their numbers
+-- this ring was closed, with exactly these seats and this consumer, and its tallies are their counts
 pub record Closes {S : Type 0} (o : Opened S) (ended : Ended S) : Type 0 where
   pub which : ended.closing.shared ≡ o.ring
   pub closed : IsClosedByChapters ended.closing.at_end o.seats.items o.consumer

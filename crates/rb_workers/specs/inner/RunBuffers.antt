@@ -1,13 +1,13 @@
--- Room for a whole run.
+-- The buffers of a whole run.
 use Rattle.std.specs.Prelude.{◌≡◌, ℕ, ◌<◌, ◌≤◌, [], All, Vec, slice_index_or, vec_len, vec_capacity}
 use Rattle.rb_workers.specs.declared.run_buffers.RunBuffers.{RunBuffers}
 use Rattle.rb_workers.specs.inner.WorkerRuns.{IsNew}
 
--- nothing stands there, and there is room for so many
+-- an empty vector with room for this many elements
 abbrev pub IsEmptyFor : {X Z : Type 0} → ℕ → Vec X Z → Type 0
 IsEmptyFor count v = (v.items ≡ []) × (count ≤ vec_capacity v)
 
--- room for so many workers, rings and jobs
+-- room for this many workers, rings and jobs
 pub record HasRoomForRun {S : Type 0} (count rings jobs : ℕ) (r : RunBuffers S) : Type 0 where
   pub rings_fit : IsEmptyFor rings r.rings
   pub consumers_fit : IsEmptyFor rings r.consumers

@@ -3,7 +3,7 @@ use Rattle.rb_history.specs.declared.answers.Taken.{Taken}
 use Rattle.rb_run_commands.specs.DrainedRings.{DrainsRings}
 use Rattle.rb_run_commands.proofs.drain.drain_rings.Given as goal
 
--- the rings from this one on are as they were, and those before it were drained
+-- the rings from this one on are unchanged, and those before it were drained
 abbrev pub invariant-loop-number : goal.invariant-loop-number
 invariant-loop-number g l = record {
   seats_left : drop l.number l.seats ≡ drop l.number l.fn.seats;

@@ -1,4 +1,4 @@
--- What is promised of kept records follows from what each call does at the seats.
+-- What is promised about kept records follows from what each call does with the seats.
 use Rattle.std.specs.Prelude.{is_ok}
 use Rattle.rb_chapter_ring.specs.declared.record_end.RecordEnd.TheVariants.{Submit, Discard}
 use Rattle.rb_jobs.proofs.KeptRecords.{reserved-keeps, reserved-kept, ended-keeps, ended-taken, ended-frees, sent-keeps, queried-keeps}
