@@ -1,4 +1,4 @@
-//! Worked jobs at one ring of 4,096 bytes, whose chapters have room for 8 entries, one after another.
+//! Worked jobs at one ring of 4,096 bytes, whose chapters have room for 8 entries, in sequence.
 
 ghost use Rattle.std.specs.Prelude.{◌≡◌, ◌≤◌, length};
 ghost use Rattle.rb_jobs.specs.SeatHelpers.{AtRings, IsAt};
@@ -19,11 +19,11 @@ use std::sync::Wait;
 /// A context of 16 bytes.
 const CONTEXT: [u8; 16] = [1, 2, 3, 4, 5, 6, 7, 8, 9, 10, 11, 12, 13, 14, 15, 16];
 
-/// Outputs the first eight bytes of the context, and ends with the answer.
+/// Outputs the first eight bytes of the context, and exits with the answer.
 const OUTPUT_CONTEXT: &str = "bf12000000000000 1851000000000000 0000000000000000 b703000008000000
     b704000000000000 8500000082000000 9500000000000000";
 
-/// A gate that looks for calls 0, 1, 2 .. of worker 7.
+/// A gate that expects calls 0, 1, 2 .. of worker 7.
 #[derive(Drop)]
 struct CallOrder {
     next: Cell<u64>,
@@ -68,7 +68,7 @@ fn job<'j>(program: &'j Verified, context: &'j [u8]) -> Job<'j>
 
 type SeatCounts = Option<(u64, u64, u64, u64)>;
 
-// What worker 7 answers to a job with the program, and its seats after it with the counts of the first.
+// Returns worker 7's answer to a job with the program, and its seats afterwards with the counts of the first.
 fn ran<R: Wait>(
     rt: &R,
     alloc: Global,
@@ -86,7 +86,7 @@ fn ran<R: Wait>(
     ((answer, seats.first().map(counts)), seats)
 }
 
-// The answer of a job that ends with 0, with so many unlogged failures.
+// Returns the answer of a job that ends with 0 and this many unlogged failures.
 fn ended_with_0(unlogged: u64) -> Result<JobAnswer, AllocError> {
     Ok(JobAnswer {
         result: Ok(0),
@@ -124,14 +124,14 @@ fn jobs_submit_42_and_come_to_the_gate_at_each_call(rt: HostRuntime) {
     );
 }
 
-// What a job at a ring tells: its answer, the seat's counts, the number of the next call, and what its gate tells: how often it was come to,
-// and whether by another call than its next.
+// The results of a job at a ring: its answer, the seat's counts, the number of the next call, how often its gate was
+// called, and whether any call was not the expected one.
 type Told = (
     (Result<JobAnswer, AllocError>, SeatCounts),
     (u64, u64, bool),
 );
 
-// What a job of worker 7 with the program and this context tells, whose first call has this number.
+// Returns the results of a job of worker 7 with the program and this context, whose first call has this number.
 fn told_by_job<R: Wait + Abort>(
     rt: &R,
     alloc: Global,
@@ -194,7 +194,7 @@ fn a_context_of_another_length_makes_no_call(rt: HostRuntime) {
     same(&rt, &is_empty(&rt, &rings[0], &mut consumer), &true);
 }
 
-// Reserves a record of so many bytes.
+// Reserves a record of this many bytes.
 fn reserved<R: Wait + Abort>(rt: &R, alloc: Global, ring: &SharedRing, seat: &mut Seat, n: u32)
     requires { IsAt ring.now seat.old }
     ensures { IsAt ring.now seat.new }
@@ -256,7 +256,7 @@ fn a_job_holds_four_records_and_outputs_a_fifth(rt: HostRuntime) {
 }
 
 #[test]
-// A record that was granted before and never given back keeps its hand, so that the program is granted three.
+// A record that was granted before and never submitted or discarded keeps its hand, so the program is granted three.
 fn a_fourth_record_finds_no_hand_where_one_was_dropped(rt: HostRuntime) {
     let alloc = rt.alloc();
     let (ring, mut seat, _consumer) = opened(&rt, alloc, 3, 64);

@@ -1,4 +1,4 @@
-//! The shared types, and the laws called once.
+//! The shared types, and one call of each theorem.
 
 use super::expected::same;
 use rb_insn::spelling_laws;

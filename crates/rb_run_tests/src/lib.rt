@@ -1,5 +1,6 @@
-//! Tests of the other crates' public calls that are no rows: laws, the helpers' list, references, single instructions of a program, helpers over seats,
-//! jobs, jobs on threads, and worlds. Programs and what is said of them are rows of `rb_program_rows`.
+//! Tests of the other crates' public calls that are not rows: theorems, the helpers' list, references, single
+//! instructions of a program, helpers over seats, jobs, jobs on threads, and worlds. Programs and their messages are
+//! rows of `rb_program_rows`.
 #![tactic(auto)]
 
 #[cfg(test)]

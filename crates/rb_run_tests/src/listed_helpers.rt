@@ -1,4 +1,4 @@
-//! Helpers that answer what a list says.
+//! Helpers that answer from a list.
 
 ghost use Rattle.std.specs.Prelude.{◌≡◌};
 
@@ -9,7 +9,7 @@ use rb_lend::{Lent, Sheet};
 use std::alloc::Global;
 use std::process::Abort;
 
-/// Helpers that answer so, in this order.
+/// Returns helpers that give these answers, in this order.
 fn listed(rt: &impl Abort, alloc: Global, answers: &[bool]) -> Listed
     ensures { result.left ≡ answers.now }
 {

@@ -14,7 +14,7 @@ use std::process::Abort;
 
 const CONTEXT: [u8; 16] = [0; 16];
 
-// What SUBMIT_42 does, where the answer is kept on the stack and loaded again.
+// A variant of SUBMIT_42 that stores the answer on the stack and loads it again.
 const KEEP_AND_SUBMIT_42: &str =
     "1851000000000000 0000000000000000 b702000008000000 b703000000000000
     8500000083000000 7b0af8ff00000000 79a6f8ff00000000 1506040000000000 7a0600002a000000 bf61000000000000
@@ -22,7 +22,7 @@ const KEEP_AND_SUBMIT_42: &str =
 
 type RunningMachine<'p> = Machine<'p, &'static [u8], Sheet>;
 
-// Answers a reservation: with a record, or with null.
+// Answers a reserve: with a record, or with null.
 fn answer_reserve(machine: &mut RunningMachine<'_>, len: u32, granted: Option<Sheet>)
     requires waits { machine.old.phase ≡ Waiting (Reserve len) }
     requires zeros { IfSome granted (λ r. r ≡ replicate len 0) }
@@ -42,7 +42,7 @@ fn answer_submit(machine: &mut RunningMachine<'_>)
     machine.answer(Answer::Taken);
 }
 
-// The record that a reservation is answered with, if it is granted.
+// Returns the record with which a reserve is answered, if it is granted.
 fn record_of(rt: &impl Abort, alloc: Global, len: u32, grants: bool) -> Option<Sheet>
     ensures zeros { IfSome result (λ r. r ≡ replicate len 0) }
 {
@@ -53,7 +53,7 @@ fn record_of(rt: &impl Abort, alloc: Global, len: u32, grants: bool) -> Option<S
     }
 }
 
-// Executes one instruction, and keeps the bytes that it submits. Whether it ended the program.
+// Executes one instruction, and records the bytes that it submits. Returns whether it ended the program.
 fn has_ended(
     rt: &impl Abort,
     alloc: Global,
@@ -80,8 +80,8 @@ fn has_ended(
     false
 }
 
-// Ends the test where the program does not execute so many instructions to its end and submit these bytes, where reservations are granted
-// or not.
+// Ends the test unless the program executes this many instructions to its end and submits these bytes, with reserves
+// granted or refused.
 fn executes(
     rt: &impl Abort,
     alloc: Global,

@@ -18,7 +18,7 @@ fn reference(id: u32, sure: bool) -> Reference
     }
 }
 
-// References to three records, the first two of which are sure.
+// Returns references to three records, the first two of which are sure.
 fn three(alloc: Global, is_third_sure: bool) -> Held {
     Held::new(alloc)
         .added(reference(1, true))

@@ -1,4 +1,4 @@
-//! Worked calls of helpers over the seats of two rings of 4,096 bytes, whose chapters have room for 8 entries.
+//! Worked helper calls over the seats of two rings of 4,096 bytes, whose chapters have room for 8 entries.
 
 ghost use Rattle.std.specs.Prelude.{◌≡◌, ◌+◌, ◌≤◌, ◌<◌, true};
 ghost use Rattle.rb_jobs.specs.SeatHelpers.{IsAt};
@@ -39,7 +39,7 @@ impl Stock for OneSheet {
     }
 }
 
-// The counts of the first seat, and those of the last.
+// Returns the counts of the first seat, and those of the last.
 fn counts_of(seats: Vec<Seat>) -> (Option<(u64, u64, u64, u64)>, Option<(u64, u64, u64, u64)>) {
     (seats.first().map(counts), seats.last().map(counts))
 }
@@ -78,7 +78,7 @@ const SUBMITTED_TO_SECOND: [Done; 2] = [
     },
 ];
 
-// What an output and four queries answer.
+// Returns the answers of an output and four queries.
 fn output_and_queries<H: Helpers>(helpers: &mut H) -> (i64, [u64; 4])
     requires room { 5 ≤ H.room_of helpers.old }
     requires ring { H.has_ring helpers.old 0 ≡ true }
@@ -111,7 +111,8 @@ fn outputs_and_queries_are_answered(rt: HostRuntime) {
     is_next(&rt, &rings[0], &mut consumer, (0, 0, 0, &[5, 6]));
 }
 
-// What calls with bad flags answer, and the ring's producer behind them; and the same of an output with good ones.
+// Returns the answers of calls with bad flags and the ring's producer position after them; and the same for an output
+// with good ones.
 fn bad_and_good_flags<H: Helpers>(helpers: &mut H) -> ((i64, bool, u64), (i64, u64))
     requires room { 5 ≤ H.room_of helpers.old }
     requires ring { H.has_ring helpers.old 0 ≡ true }
@@ -140,7 +141,7 @@ fn bad_flags_make_no_step_of_the_ring(rt: HostRuntime) {
     same(&rt, &counts, &Some((1, 0, 1, 0)));
 }
 
-// Whether a record of so many bytes is granted.
+// Whether a record of this many bytes is granted.
 fn is_granted<H: Helpers>(helpers: &mut H, n: u32) -> bool
     requires room { 0 < H.room_of helpers.old }
     requires ring { H.has_ring helpers.old 0 ≡ true }
@@ -150,7 +151,7 @@ fn is_granted<H: Helpers>(helpers: &mut H, n: u32) -> bool
     helpers.reserve(0, n, 0).is_some()
 }
 
-// More bytes than a ring has room for.
+// Returns more bytes than a ring has room for.
 fn too_many_bytes(rt: &impl Abort, alloc: Global) -> Vec<u8> {
     vec![in alloc; 7; 4081].expect(rt, "memory")
 }
@@ -201,7 +202,7 @@ fn a_full_chapter_is_unlogged(rt: HostRuntime) {
     same(&rt, &counts, &Some((2, 1, 0, 0)));
 }
 
-// Drops a record of eight bytes that was granted at the seat, whose hand stays out.
+// Drops a record of eight bytes that was granted at the seat. Its hand stays out.
 fn drop_one<R: Wait + Abort>(rt: &R, alloc: Global, ring: &SharedRing, seat: &mut Seat)
     requires { IsAt ring.now seat.old }
     ensures { IsAt ring.now seat.new }
@@ -239,7 +240,7 @@ fn a_seat_with_all_hands_out_is_granted_none_and_outputs(rt: HostRuntime) {
     same(&rt, &counts, &Some((5, 0, 1, 0)));
 }
 
-// The record, under the number of another ring.
+// Returns the record with another ring's number.
 fn renumbered(record: SeatRecord, ring: u32) -> SeatRecord {
     let SeatRecord {
         ring: _,
@@ -274,7 +275,7 @@ fn a_record_of_no_ring_or_of_another_is_handed_back(rt: HostRuntime) {
     );
 }
 
-// A stock with a sheet of 24 bytes that was written to.
+// Returns a stock with a sheet of 24 bytes that was written to.
 fn one_sheet(rt: &impl Abort, alloc: Global) -> OneSheet {
     let mut used = Sheet::new(alloc, 24).expect(rt, "memory");
     used.bytes_mut().fill(9);
@@ -283,7 +284,7 @@ fn one_sheet(rt: &impl Abort, alloc: Global) -> OneSheet {
     }
 }
 
-// Ends the test where no record of 17 zero bytes is granted.
+// Ends the test unless a record of 17 zero bytes is granted.
 fn grants_zeros<H: Helpers>(rt: &impl Abort, helpers: &mut H)
     requires room { 0 < H.room_of helpers.old }
     requires ring { H.has_ring helpers.old 0 ≡ true }

@@ -1,4 +1,4 @@
-//! What the tests share: verified programs, and rings of 4,096 bytes with one seat.
+//! Shared by the tests: verified programs, and rings of 4,096 bytes with one seat.
 
 ghost use Rattle.std.specs.Prelude.{◌≡◌, ◌+◌, ◌≤◌, true};
 ghost use Rattle.rb_shared_ring.specs.SharedSeats.{IsSameChapterConsumer};
@@ -15,14 +15,14 @@ use std::alloc::Global;
 use std::process::Abort;
 use std::sync::Wait;
 
-/// Reserves a record of eight bytes, and submits 42 where it was granted.
+/// Reserves a record of eight bytes, and submits 42 if it was granted.
 pub(crate) const SUBMIT_42: &str =
     "1851000000000000 0000000000000000 b702000008000000 b703000000000000
     8500000083000000 1500040000000000 7a0000002a000000 bf01000000000000
     b702000000000000 8500000084000000 b700000000000000 9500000000000000";
 
-/// Reserves four records of eight bytes, one after the other, and holds all of them where each is granted; outputs the bytes of the last one; and then
-/// submits all that it holds, the last one first.
+/// Reserves four records of eight bytes in sequence, and holds all of them if each is granted; outputs the bytes of the
+/// last one; then submits all that it holds, the last one first.
 pub(crate) const HOLD_FOUR: &str =
     "1851000000000000 0000000000000000 b702000008000000 b703000000000000
     8500000083000000 1500280000000000 bf06000000000000
@@ -40,7 +40,7 @@ pub(crate) const HOLD_FOUR: &str =
     bf61000000000000 b702000000000000 8500000084000000
     b700000000000000 9500000000000000";
 
-/// A program, verified for a context of so many bytes and so many rings.
+/// Returns a program, verified for a context of this length and this many rings.
 pub(crate) fn verified(
     rt: &impl Abort,
     alloc: Global,
@@ -57,7 +57,7 @@ pub(crate) fn verified(
     verify(alloc, shape, ctx_len, rings).expect(rt, "a verified program")
 }
 
-/// A ring with one seat, whose chapters have room for so many entries.
+/// Returns a ring with one seat, whose chapters have this room.
 pub(crate) fn opened<R: Wait + Abort>(
     rt: &R,
     alloc: Global,
@@ -76,7 +76,7 @@ pub(crate) fn opened<R: Wait + Abort>(
     }
 }
 
-/// Ends the test where the next event is not of this position, worker and serial, with these bytes.
+/// Ends the test unless the next event has this position, worker and serial, and these bytes.
 pub(crate) fn is_next<R: Wait + Abort>(
     rt: &R,
     ring: &SharedRing,
@@ -107,7 +107,7 @@ pub(crate) fn submit_filled<H: Helpers>(helpers: &mut H, ring: u32, n: u32, valu
     helpers.submit(owned, 0).is_ok()
 }
 
-/// The length of a sheet, if there is one.
+/// Returns the length of a sheet, if there is one.
 pub(crate) fn len_of(sheet: Option<Sheet>) -> Option<u32> {
     match sheet {
         Some(sheet) => Some(sheet.len()),
@@ -115,7 +115,7 @@ pub(crate) fn len_of(sheet: Option<Sheet>) -> Option<u32> {
     }
 }
 
-/// How many records a seat made, was refused, submitted and discarded.
+/// Returns how many records a seat made, was refused, submitted and discarded.
 pub(crate) fn counts(seat: &Seat) -> (u64, u64, u64, u64) {
     (
         seat.made(),

@@ -1,4 +1,5 @@
-//! Runs whose rings hand chapters out: each record comes once and in order, and the chapters bind to the whole history.
+//! Runs whose rings hand chapters out: each record arrives once and in order, and the chapters bind to the whole
+//! history.
 
 ghost use Rattle.std.specs.Prelude.{◌≡◌, ◌<◌};
 ghost use Rattle.rb_workers.specs.Opened.{AreOpened, IsOpened};
@@ -15,24 +16,24 @@ use std::process::Abort;
 use std::sync::Wait;
 use std::thread::Threads;
 
-/// How many jobs run in each run, and how many workers there are at most.
+/// The number of jobs in each run, and the maximum number of workers.
 const JOBS: u32 = 480;
 
 const WORKERS: usize = 16;
 
-/// A sink that keeps each chapter, and looks at each record: it stands behind the one before, its bytes are the number of a job of its
-/// worker, behind the worker's last one, and its serial is the worker's next.
+/// A sink that keeps each chapter, and checks each record: it directly follows the previous one, its bytes are the
+/// number of a job of its worker after that worker's last one, and its serial is the worker's next.
 #[derive(Drop)]
 struct Binder {
     alloc: Global,
     position: u64,
     workers: u32,
     chapters: Vec<Chapter>,
-    // By worker: the serial of its next record, and the first job of which that may be.
+    // By worker: the serial of its next record, and the first job that may have made it.
     serials: [u64; WORKERS],
     jobs: [u64; WORKERS],
     records: u64,
-    // How many records and chapters were not as they have to be.
+    // The number of records and chapters that were wrong.
     wrong: u64,
 }
 
@@ -52,7 +53,7 @@ impl Binder {
         }
     }
 
-    // Looks at an event, and remembers what its worker's next one has to be.
+    // Checks an event, and stores what its worker's next one must be.
     fn look(&mut self, event: &Event<'_>)
         ensures { self.new.position ≡ self.old.position }
     {
@@ -78,7 +79,8 @@ impl Binder {
     }
 }
 
-// The number that these eight bytes are, the lowest first; the largest where they are not eight, or no number of a job.
+// Decodes these eight bytes, little-endian. Returns the largest number if they are not eight, or not the number of a
+// job.
 fn number_of(bytes: &[u8]) -> u64 {
     if bytes.len() != 8 {
         return u64::MAX;
@@ -129,7 +131,7 @@ impl Sink for Binder {
     fn caught_up(&mut self) {}
 }
 
-// A ring for so many workers, whose chapters have this room.
+// Returns a ring for this many workers, whose chapters have this room.
 fn opened<R: Wait + Abort>(rt: &R, alloc: Global, room: u32, workers: u32) -> Opened<Binder>
     ensures { IsOpened (λ c. c.position) workers result }
 {
@@ -140,7 +142,7 @@ fn opened<R: Wait + Abort>(rt: &R, alloc: Global, room: u32, workers: u32) -> Op
     }
 }
 
-// That ring alone.
+// Returns a list with only this ring.
 fn one_ring<R: Wait + Abort>(rt: &R, alloc: Global, room: u32, workers: u32) -> Vec<Opened<Binder>>
     ensures { AreOpened (λ c. c.position) result.items }
 {
@@ -151,7 +153,7 @@ fn one_ring<R: Wait + Abort>(rt: &R, alloc: Global, room: u32, workers: u32) -> 
     }
 }
 
-// A context for each job, which begins with its number.
+// Returns a context for each job, which begins with its number.
 fn contexts<A: Abort>(rt: &A, alloc: Global) -> Vec<[u8; 16]> {
     let mut contexts = Vec::new(alloc);
     for n in 0..JOBS {
@@ -163,7 +165,7 @@ fn contexts<A: Abort>(rt: &A, alloc: Global) -> Vec<[u8; 16]> {
     contexts
 }
 
-// A job of each context, which so many workers run in turn.
+// Returns a job for each context; this many workers take turns.
 fn jobs_in_turn<'j, A: Abort>(
     rt: &A,
     alloc: Global,
@@ -183,7 +185,7 @@ fn jobs_in_turn<'j, A: Abort>(
     jobs
 }
 
-// The ring of a run of all jobs, at its end, with the answers, and how many failures are unlogged.
+// Returns the closed ring of a run of all jobs, with the answers, and the number of unlogged failures.
 fn run<R: Threads + Wait + Sync + Abort>(
     rt: &R,
     alloc: Global,
@@ -207,7 +209,7 @@ fn run<R: Threads + Wait + Sync + Abort>(
     }
 }
 
-// How many of the answers are 0: records that were output.
+// Returns how many of the answers are 0, which are records that were output.
 fn count_sent(answers: &[Result<u64, RunFault>]) -> u64 {
     let mut sent: u64 = 0;
     for answer in answers {
@@ -218,7 +220,7 @@ fn count_sent(answers: &[Result<u64, RunFault>]) -> u64 {
     sent
 }
 
-// How many refusals the ring's history says.
+// Returns the number of refusals in the ring's history.
 fn count_refused(ended: &Ended<Binder>) -> u64 {
     let mut refused: u64 = 0;
     for tally in &ended.tallies {
@@ -227,7 +229,7 @@ fn count_refused(ended: &Ended<Binder>) -> u64 {
     refused
 }
 
-// Ends the test where the chapters and the last one bind to no history of so many entries.
+// Ends the test unless the chapters and the last one bind to a history with this many entries.
 fn is_bound<A: Abort>(
     rt: &A,
     alloc: Global,
@@ -242,7 +244,7 @@ fn is_bound<A: Abort>(
     }
 }
 
-// Ends the test where the ring's sink was not given each record that was sent, or the ring counts others.
+// Ends the test unless the ring's sink received each record that was sent, and the ring counted the same.
 fn has_all<A: Abort>(rt: &A, ended: &Ended<Binder>, sent: u64, refused: u64) {
     let counts = ended.closing.counts();
     same(
@@ -261,7 +263,7 @@ fn has_all<A: Abort>(rt: &A, ended: &Ended<Binder>, sent: u64, refused: u64) {
     );
 }
 
-// Looks at what the ring's sink was given: how many chapters were handed out, and how many records refused.
+// Checks what the ring's sink received. Returns how many chapters were handed out, and how many records were refused.
 fn each_came_once<A: Abort>(rt: &A, alloc: Global, ended: Ended<Binder>, sent: u64) -> (u64, u64) {
     let refused = count_refused(&ended);
     has_all(rt, &ended, sent, refused);
@@ -271,7 +273,8 @@ fn each_came_once<A: Abort>(rt: &A, alloc: Global, ended: Ended<Binder>, sent: u
     (chapters, refused)
 }
 
-// Runs all jobs, and looks at what the ring's sink was given: how many chapters were handed out, and how many failures are unlogged.
+// Runs all jobs, and checks what the ring's sink received. Returns how many chapters were handed out, and how many
+// failures are unlogged.
 fn each_record_comes_once<R: Threads + Wait + Sync + Abort>(
     rt: &R,
     alloc: Global,

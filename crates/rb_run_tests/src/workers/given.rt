@@ -1,4 +1,4 @@
-//! What the tests share: programs, rings with sinks, and gates.
+//! Shared by the tests: programs, rings with sinks, and gates.
 
 ghost use Rattle.std.specs.Prelude.{◌≡◌, ◌≤◌, ℕ, length};
 ghost use Rattle.rb_workers.specs.Opened.{AreOpened, IsOpened};
@@ -14,24 +14,25 @@ use std::sync::atomic::{AtomicU64, Ordering};
 use std::thread;
 use std::thread::Threads;
 
-/// Outputs the first eight bytes of the context, and ends with the answer.
+/// Outputs the first eight bytes of the context, and exits with the answer.
 pub(crate) const OUTPUT_CONTEXT: &str = "bf12000000000000 1851000000000000 0000000000000000
     b703000008000000 b704000000000000 8500000082000000 9500000000000000";
 
-/// Reserves a record of 24 bytes, and submits 42 and zeros where it was granted.
+/// Reserves a record of 24 bytes, and submits 42 and zeros if it was granted.
 pub(crate) const SUBMIT_42_LONG: &str =
     "1851000000000000 0000000000000000 b702000018000000 b703000000000000
     8500000083000000 1500040000000000 7a0000002a000000 bf01000000000000
     b702000000000000 8500000084000000 b700000000000000 9500000000000000";
 
-/// Reserves a record of 24 bytes, and submits it filled with the byte ff where it was granted.
+/// Reserves a record of 24 bytes, and submits it filled with the byte ff if it was granted.
 pub(crate) const SUBMIT_FULL: &str =
     "1851000000000000 0000000000000000 b702000018000000 b703000000000000
     8500000083000000 1500060000000000 7a000000ffffffff 7a000800ffffffff
     7a001000ffffffff bf01000000000000 b702000000000000 8500000084000000
     b700000000000000 9500000000000000";
 
-/// A sink that counts, for each first byte, the events that begin so and go on with zeros, all others, and the chapters.
+/// A sink that counts, for each first byte, the events that begin with it and continue with zeros, all other events,
+/// and the chapters.
 #[derive(Drop)]
 pub(crate) struct Counter {
     pub(crate) position: u64,
@@ -107,8 +108,8 @@ impl Sink for Counter {
     fn caught_up(&mut self) {}
 }
 
-/// A gate that holds nobody, and tells how often worker 0 and how often the others came, and the sum of what the others had finished; and how many
-/// jobs have ended, with the sum of their numbers at their workers.
+/// A gate that blocks no thread. It counts the calls of worker 0 and of the others, adds up the others' numbers of
+/// finished calls, and counts the jobs that have ended, with the sum of their numbers at their workers.
 #[derive(Drop)]
 pub(crate) struct Free {
     pub(crate) first: AtomicU64,
@@ -146,8 +147,8 @@ impl Gate for Free {
     }
 }
 
-/// A gate that holds worker 1 at its first call until worker 0 has come to its second, and worker 0 there until worker 1 has finished two
-/// calls. It tells how often somebody waited too long.
+/// A gate that blocks worker 1 at its first call until worker 0 has reached its second, and worker 0 there until worker
+/// 1 has finished two calls. It counts how often a worker waited too long.
 #[derive(Drop)]
 pub(crate) struct HoldingGate {
     seen: [AtomicU64; 2],
@@ -192,7 +193,7 @@ impl Gate for HoldingGate {
 pub(crate) const OUTPUT_TO_SECOND: &str = "bf12000000000000 1851000001000000 0000000000000000
     b703000008000000 b704000000000000 8500000082000000 9500000000000000";
 
-/// A program, verified for a context of 16 bytes and so many rings.
+/// Returns a program, verified for a context of 16 bytes and this many rings.
 pub(crate) fn verified(rt: &impl Abort, alloc: Global, text: &str, rings: u32) -> Verified
     requires { rings ≤ 16 }
 {
@@ -208,10 +209,10 @@ pub(crate) fn job<'j>(worker: u32, program: &'j Verified, ctx: &'j [u8]) -> Job<
     }
 }
 
-/// How many entries a chapter has room for where a command is given no room.
+/// The commands' default room of a chapter, in entries.
 pub(crate) const ROOM: u32 = 65_536;
 
-// A ring of 4,096 bytes for so many workers, whose chapters have this room.
+// Returns a ring of 4,096 bytes for this many workers, whose chapters have this room.
 fn opened<R: Wait + Abort>(
     rt: &R,
     alloc: Global,
@@ -228,7 +229,7 @@ fn opened<R: Wait + Abort>(
     }
 }
 
-/// One ring, with tag 0, whose chapters have this room.
+/// Returns one ring, with tag 0, whose chapters have this room.
 pub(crate) fn one_ring<R: Wait + Abort>(
     rt: &R,
     alloc: Global,
@@ -244,7 +245,7 @@ pub(crate) fn one_ring<R: Wait + Abort>(
     }
 }
 
-/// Two rings, with tags 0 and 1.
+/// Returns two rings, with tags 0 and 1.
 pub(crate) fn two_rings<R: Wait + Abort>(
     rt: &R,
     alloc: Global,
@@ -260,7 +261,7 @@ pub(crate) fn two_rings<R: Wait + Abort>(
     }
 }
 
-/// The report of a run that is not refused.
+/// Returns the report of a run that is not refused.
 pub(crate) fn report<R: Threads + Wait + Sync + Abort, G: Gate + Sync>(
     rt: &R,
     alloc: Global,

@@ -16,7 +16,7 @@ use std::thread::Threads;
 
 const CONTEXT: [u8; 16] = [0; 16];
 
-// The fault of a run that is refused, and the rings that came back.
+// Returns the fault of a run that is refused, and the rings that came back.
 fn refused<R: Threads + Wait + Sync + Abort, G: Gate + Sync>(
     rt: &R,
     alloc: Global,
@@ -32,7 +32,7 @@ fn refused<R: Threads + Wait + Sync + Abort, G: Gate + Sync>(
     }
 }
 
-// Ends the test where this is another than one ring with so many seats that have made nothing.
+// Ends the test unless this is one ring with this many seats, which have made nothing.
 fn is_untouched<A: Abort>(rt: &A, rings: &[Opened<Counter>], seats: usize) {
     same(rt, &rings.len(), &1);
     for one in rings {
@@ -47,7 +47,8 @@ fn is_untouched<A: Abort>(rt: &A, rings: &[Opened<Counter>], seats: usize) {
     }
 }
 
-// How often worker 0 and the others came to the gate of a run that is refused, and its fault; its ring comes back untouched.
+// Returns how often worker 0 and the others called the gate of a run that is refused, and its fault. Its ring comes
+// back untouched.
 fn refusal<R: Threads + Wait + Sync + Abort>(
     rt: &R,
     alloc: Global,
@@ -79,7 +80,7 @@ fn an_unknown_worker_is_told(rt: HostRuntime) {
     same(&rt, &told, &(JobFault::UnknownWorker, 0, 0));
 }
 
-// Runs the jobs until there was memory, thrice at most.
+// Runs the jobs again until memory suffices, at most three times.
 fn run_again<R: Threads + Wait + Sync + Abort>(
     rt: &R,
     alloc: Global,
@@ -111,7 +112,7 @@ fn what_comes_back_without_memory_runs_again(rt: HostRuntime) {
     same(&rt, &ended, &(0, 1));
 }
 
-// Why no such ring is opened.
+// Returns why no such ring is opened.
 fn open_fault<R: Wait + Abort>(
     rt: &R,
     alloc: Global,
@@ -125,7 +126,7 @@ fn open_fault<R: Wait + Abort>(
     }
 }
 
-// Sizes, numbers of workers and rooms of rings that are not opened, and why.
+// Sizes, numbers of workers and rooms of rings that are not opened, and the reasons.
 const NOT_OPENED: [(u64, u32, u32, OpenFault); 5] = [
     (4095, 1, 8, OpenFault::Size),
     (4096, 0, 8, OpenFault::Workers),
@@ -143,7 +144,7 @@ fn a_ring_opens_within_bounds_alone(rt: HostRuntime) {
     }
 }
 
-// What the fault is called.
+// Returns the fault's name.
 fn name_of(rt: &impl Abort, alloc: Global, fault: JobFault) -> String {
     format!(in alloc; "{fault}").expect(rt, "memory")
 }

@@ -1,4 +1,4 @@
-//! Runs that come to a report.
+//! Runs that return a report.
 
 ghost use Rattle.std.specs.Prelude.{◌<◌};
 ghost use Rattle.rb_workers.specs.Opened.{AreOpened};
@@ -21,7 +21,7 @@ use std::thread::Threads;
 /// A context of 16 bytes.
 const CONTEXT: [u8; 16] = [1, 0, 0, 0, 0, 0, 0, 0, 9, 10, 11, 12, 13, 14, 15, 16];
 
-// What the ring's tallies add up to: made, refused, submitted and discarded.
+// Returns the sums of the ring's tallies: made, refused, submitted and discarded.
 fn added(ended: &Ended<Counter>) -> (u64, u64, u64, u64) {
     let mut sums: (u64, u64, u64, u64) = (0, 0, 0, 0);
     for tally in &ended.tallies {
@@ -33,7 +33,8 @@ fn added(ended: &Ended<Counter>) -> (u64, u64, u64, u64) {
     sums
 }
 
-// Ends the test where the ring has not taken all that was made, or its sink has not had so many events that begin with 42 and no others.
+// Ends the test unless the ring has taken all that was made, and its sink received this many events that begin with 42
+// and no others.
 fn is_taken<A: Abort>(rt: &A, ended: &Ended<Counter>, made: u64, events: u64) {
     let counts = ended.closing.counts();
     same(
@@ -65,7 +66,7 @@ fn first_ring<'r, A: Abort>(rt: &A, report: &'r JobsReport<Counter>) -> &'r Ende
     }
 }
 
-// So many jobs of this program and context, which so many workers run in turn.
+// Returns this many jobs with this program and context; this many workers take turns.
 fn jobs_in_turn<'j, A: Abort>(
     rt: &A,
     alloc: Global,
@@ -83,7 +84,7 @@ fn jobs_in_turn<'j, A: Abort>(
     jobs
 }
 
-// The report of so many jobs of this program, which so many workers run in turn.
+// Returns the report of this many jobs with this program; this many workers take turns.
 fn report_of<R: Threads + Wait + Sync + Abort, G: Gate + Sync>(
     rt: &R,
     alloc: Global,
@@ -100,7 +101,8 @@ fn report_of<R: Threads + Wait + Sync + Abort, G: Gate + Sync>(
     report(rt, alloc, rings, &jobs, gate)
 }
 
-// Ends the test where an answer is not 0, or a worker was not granted or refused a record a hundred times, and submitted each that it made.
+// Ends the test if an answer is not 0, or a worker was not granted or refused a record a hundred times in all, or did
+// not submit each record that it made.
 fn all_submitted<A: Abort>(rt: &A, report: &JobsReport<Counter>) {
     for answer in &report.answers {
         same(rt, answer, &Ok(0));
@@ -130,7 +132,7 @@ fn four_workers_submit_a_hundred_times_each(rt: HostRuntime) {
     is_taken(&rt, ended, made, made);
 }
 
-// Two workers of which one holds its record while the other submits one, over chapters of this room.
+// Runs two workers, one of which holds its record while the other submits one, with chapters of this room.
 fn hold_a_reservation<R: Threads + Wait + Sync + Abort>(rt: &R, alloc: Global, room: u32) {
     let gate = HoldingGate::new();
     let rings = one_ring(rt, alloc, 2, room);
@@ -156,7 +158,7 @@ fn held_reservation(rt: HostRuntime) {
     }
 }
 
-// Thirty jobs of three workers: each fifth has a context that is too short.
+// Returns thirty jobs of three workers. Every fifth has a context that is too short.
 fn jobs_with_short_ones<'j, A: Abort>(
     rt: &A,
     alloc: Global,
@@ -174,7 +176,7 @@ fn jobs_with_short_ones<'j, A: Abort>(
     jobs
 }
 
-// The report of those jobs.
+// Returns the report of those jobs.
 fn report_with_short_ones<R: Threads + Wait + Sync + Abort>(
     rt: &R,
     alloc: Global,
@@ -198,7 +200,7 @@ fn answers_stand_in_the_order_of_the_jobs(rt: HostRuntime) {
     same(&rt, &(report.strays, report.answers.len()), &(0, 30));
 }
 
-// How often worker 0 and the others came to the gate, and the sum of what the others had finished.
+// Returns how often worker 0 and the others called the gate, and the sum of the others' numbers of finished calls.
 fn told_by(gate: &Free) -> (u64, u64, u64) {
     (
         gate.first.load(Ordering::SeqCst),
@@ -227,7 +229,7 @@ fn a_worker_comes_to_the_gate_behind_each_job(rt: HostRuntime) {
     same(&rt, &(strays, told), &(0, (30, 3 * 55)));
 }
 
-// A hundred contexts, which begin with their numbers.
+// Returns a hundred contexts, which begin with their numbers.
 fn contexts<A: Abort>(rt: &A, alloc: Global) -> Vec<[u8; 16]> {
     let mut contexts = Vec::new(alloc);
     for n in 0..100 {
@@ -238,7 +240,7 @@ fn contexts<A: Abort>(rt: &A, alloc: Global) -> Vec<[u8; 16]> {
     contexts
 }
 
-// A job of each context: each third runs the first program, the others the second.
+// Returns a job for each context. Every third runs the first program, the others the second.
 fn jobs_of_two<'j, A: Abort>(
     rt: &A,
     alloc: Global,
@@ -255,7 +257,7 @@ fn jobs_of_two<'j, A: Abort>(
     jobs
 }
 
-// Ends the test where the ring's sink has not had each context of its own once, and no other.
+// Ends the test unless the ring's sink received each of its own contexts once, and no other.
 fn has_each_once<A: Abort>(rt: &A, ended: &Ended<Counter>, at: usize) {
     for n in 0..100 {
         let wanted = u64::from((n % 3 == 0) == (at == 0));
@@ -264,7 +266,7 @@ fn has_each_once<A: Abort>(rt: &A, ended: &Ended<Counter>, at: usize) {
     same(rt, &ended.sink.others, &0);
 }
 
-// The report of a job of each context, over two rings.
+// Returns the report of a job for each context, over two rings.
 fn report_of_two<R: Threads + Wait + Sync + Abort>(rt: &R, alloc: Global) -> JobsReport<Counter> {
     let first = verified(rt, alloc, OUTPUT_CONTEXT, 2);
     let second = verified(rt, alloc, OUTPUT_TO_SECOND, 2);

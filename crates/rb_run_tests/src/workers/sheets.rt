@@ -1,4 +1,4 @@
-//! Sheets that are used again.
+//! Reuse of sheets.
 
 use super::given::{
     Counter, Free, ROOM, SUBMIT_42_LONG, SUBMIT_FULL, job, one_ring, report, verified,
@@ -22,7 +22,7 @@ fn sheet<A: Abort>(rt: &A, alloc: Global, n: u32) -> Sheet {
     Sheet::new(alloc, n).expect(rt, "memory")
 }
 
-// How many of 513 sheets of 24 bytes a stock keeps.
+// Returns how many of 513 sheets of 24 bytes a stock keeps.
 fn count_kept(rt: &impl Abort, alloc: Global, stock: &impl Stock) -> u32 {
     let mut kept = 0u32;
     for _ in 0..513 {
@@ -33,7 +33,7 @@ fn count_kept(rt: &impl Abort, alloc: Global, stock: &impl Stock) -> u32 {
     kept
 }
 
-// How often of 513 times a stock has a sheet.
+// Returns how many of 513 requests to a stock return a sheet.
 fn count_had(stock: &impl Stock) -> u32 {
     let mut had = 0u32;
     for _ in 0..513 {
@@ -60,7 +60,7 @@ fn as_many_sheets_wait_as_there_are_places(rt: HostRuntime) {
     );
 }
 
-// Two hundred jobs of one worker, which run the one program and the other in turn.
+// Returns two hundred jobs of one worker, which alternate between the two programs.
 fn jobs_in_turn<'j, A: Abort>(
     rt: &A,
     alloc: Global,
@@ -75,7 +75,7 @@ fn jobs_in_turn<'j, A: Abort>(
     jobs
 }
 
-// What the runs of the jobs in turn come to.
+// Returns the report of the alternating jobs.
 fn report_in_turn<R: Threads + Wait + Sync + Abort>(rt: &R, alloc: Global) -> JobsReport<Counter> {
     let full = verified(rt, alloc, SUBMIT_FULL, 1);
     let long = verified(rt, alloc, SUBMIT_42_LONG, 1);
@@ -83,7 +83,7 @@ fn report_in_turn<R: Threads + Wait + Sync + Abort>(rt: &R, alloc: Global) -> Jo
     report(rt, alloc, one_ring(rt, alloc, 1, ROOM), &jobs, &Free::new())
 }
 
-// Ends the test where an event of the ring is of neither program, or there are more of one than its jobs.
+// Ends the test if an event of the ring is of neither program, or there are more events of a program than its jobs.
 fn has_both<A: Abort>(rt: &A, ended: &Ended<Counter>) {
     let counts = ended.closing.counts();
     let events = (ended.sink.events[42], ended.sink.others);

@@ -11,7 +11,8 @@ use std::process::Abort;
 
 const FORTY_TWO: [u8; 8] = [42, 0, 0, 0, 0, 0, 0, 0];
 
-// The numbers of the chapters that ring 0 handed out and how many entries each has, and then those of the one that it keeps.
+// Returns the numbers of the chapters that ring 0 handed out and the numbers of their entries, and then those of the
+// current one.
 fn chapters(rt: &impl Abort, world: &World<'_>) -> [(u64, u32); 2] {
     if !world.has(Actor::Keeper(0)) {
         rt.panic("no ring")
@@ -26,7 +27,7 @@ fn chapters(rt: &impl Abort, world: &World<'_>) -> [(u64, u32); 2] {
     }
 }
 
-// The whole history of ring 0: its chapters, bound.
+// Returns the whole history of ring 0: its chapters, bound.
 fn history(rt: &impl Abort, alloc: Global, world: &World<'_>) -> Vec<Entry> {
     if !world.has(Actor::Keeper(0)) {
         rt.panic("no ring")
@@ -34,7 +35,7 @@ fn history(rt: &impl Abort, alloc: Global, world: &World<'_>) -> Vec<Entry> {
     bind_chapters(alloc, world.chapters(0), world.ring(0).chapter()).expect(rt, "a history")
 }
 
-// What a worker is at, and what it ended with.
+// Returns a worker's next unit, and its result.
 fn state(rt: &impl Abort, world: &World<'_>) -> (Option<u32>, Option<u64>) {
     if !world.has(Actor::Worker(0)) {
         rt.panic("no worker")
@@ -42,8 +43,8 @@ fn state(rt: &impl Abort, world: &World<'_>) -> (Option<u32>, Option<u64>) {
     (world.at(0), world.result(0))
 }
 
-// What the turns and states of a worker and a keeper are, where the record is reserved in the first chapter and submitted and taken in the
-// second.
+// Returns the turns and states of a worker and a keeper, with the record reserved in the first chapter and submitted
+// and taken in the second.
 fn over_two_chapters(
     rt: &impl Abort,
     world: &mut World<'_>,
@@ -104,7 +105,7 @@ const TWO_BUSY: Counts = Counts {
 };
 
 #[test]
-// With two busy records a chapter of room 8 is full: the third worker gets null, which is not logged.
+// With two busy records, a chapter of room 8 is full. The third worker gets null, which is not logged.
 fn a_full_chapter_gives_no_record(rt: HostRuntime) {
     let program = verified(&rt, rt.alloc(), SUBMIT_42, 0, 1);
     let mut world = opened_with(&rt, rt.alloc(), &[worker(&program); 3], 8);

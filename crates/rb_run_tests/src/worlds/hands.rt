@@ -1,4 +1,4 @@
-//! A worker of a world with all of its four hands out.
+//! A worker of a world with all of its four hands in use.
 
 use crate::expected::same;
 use crate::shared::{HOLD_FOUR, verified};
@@ -34,7 +34,7 @@ const ALL_SENT: Counts = Counts {
 };
 
 #[test]
-// A worker is granted four records; and an output goes through with four of them out.
+// A worker is granted four records; an output succeeds while it holds all four.
 fn a_worker_holds_four_records(rt: HostRuntime) {
     let program = verified(&rt, rt.alloc(), HOLD_FOUR, 0, 1);
     let mut world = opened(&rt, rt.alloc(), &[worker(&program)]);

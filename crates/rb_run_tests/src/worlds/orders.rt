@@ -1,5 +1,5 @@
-//! Every order of the calls of some workers and of the takes of a consumer, each end compared with a plain program of the ring's
-//! rules. What a worker does between its calls touches no ring.
+//! Every order of the calls of some workers and of the takes of a consumer. The final state of each is compared with a
+//! plain implementation of the ring's rules. What a worker does between its calls touches no ring.
 
 use crate::expected::{same, same_of};
 use crate::shared::verified;
@@ -25,7 +25,7 @@ struct PlainRecord {
     status: Status,
 }
 
-/// A ring of 4,096 bytes with records of one span, as the rules have it.
+/// A ring of 4,096 bytes whose records have one span, by the rules.
 #[derive(Drop)]
 struct OneSpanRing {
     span: u64,
@@ -116,7 +116,7 @@ impl OneSpanRing {
     }
 }
 
-/// How often a digit of base 4 comes among the first eight of a code.
+/// Returns how often a digit occurs among the first eight base-4 digits of a code.
 fn times(code: u32, digit: u32) -> u32 {
     let mut rest = code;
     let mut count: u32 = 0;
@@ -129,7 +129,7 @@ fn times(code: u32, digit: u32) -> u32 {
     count
 }
 
-/// The workers whose records were taken of ring 0, in order; each handed over 42.
+/// Returns the workers whose records were taken from ring 0, in order. Each handed over 42.
 fn takers(rt: &impl Abort, alloc: Global, world: &World<'_>) -> Vec<u32> {
     let mut takers = Vec::new(alloc);
     if !world.has(Actor::Consumer(0)) {
@@ -144,7 +144,8 @@ fn takers(rt: &impl Abort, alloc: Global, world: &World<'_>) -> Vec<u32> {
     takers
 }
 
-// One place of an order, at the world and at the plain ring. A worker comes to its first call by four turns, and behind its second by five more.
+// Performs one step of an order, in the world and in the plain ring. A worker makes its first call within four turns,
+// and its second within five more.
 fn go_on(
     rt: &impl Abort,
     world: &mut World<'_>,
@@ -167,7 +168,7 @@ fn go_on(
     }
 }
 
-// Whether the world's ring stands as the plain one.
+// Whether the world's ring has the same state as the plain one.
 fn is_alike(rt: &impl Abort, alloc: Global, world: &World<'_>, plain: &OneSpanRing) -> bool {
     let found = ring_0(rt, world);
     let taken = takers(rt, alloc, world);
@@ -175,7 +176,7 @@ fn is_alike(rt: &impl Abort, alloc: Global, world: &World<'_>, plain: &OneSpanRi
         && taken.as_slice() == plain.taken.as_slice()
 }
 
-/// Goes through the order of a code, whose digits of base 4 are the workers 0 to 2 and, as 3, the consumer.
+/// Runs the order of a code, whose base-4 digits are the workers 0 to 2 and, as 3, the consumer.
 fn runs_as_planned(
     rt: &impl Abort,
     alloc: Global,
@@ -195,7 +196,7 @@ fn runs_as_planned(
     is_alike(rt, alloc, &world, &plain)
 }
 
-/// Goes through each order in which each digit comes so often; how many there are.
+/// Runs every order in which each digit occurs this often. Returns how many there are.
 fn orders_that_run(
     rt: &impl Abort,
     alloc: Global,
@@ -222,8 +223,8 @@ fn orders_that_run(
 }
 
 #[test]
-// Two workers over a ring with room for one record: each comes to both its calls twice at most, and the consumer takes the rest
-// of the eight places.
+// Two workers over a ring with room for one record: each makes both its calls at most twice, and the consumer takes the
+// rest of the eight steps.
 fn every_order_of_two_workers_over_room_for_one_record(rt: HostRuntime) {
     let program = verified(&rt, rt.alloc(), SUBMIT_WIDE_42, 0, 1);
     let workers = [worker(&program); 2];

@@ -8,7 +8,7 @@ use rb_world::{Actor, RingSetup, WorkerSetup, World, WorldFault, WorldOpenFault}
 use std::alloc::Global;
 use std::process::Abort;
 
-// Why a world with such a ring and so many workers, each with a context of so many bytes, is not opened.
+// Returns why a world with such a ring and this many workers, each with a context of this length, is not opened.
 fn fault(
     rt: &impl Abort,
     alloc: Global,
@@ -29,7 +29,7 @@ fn fault(
     }
 }
 
-// A ring of this size, whose chapters have this room.
+// Returns a ring of this size, whose chapters have this room.
 fn ring(size: u64, room: u32) -> RingSetup {
     RingSetup {
         size,
@@ -39,7 +39,7 @@ fn ring(size: u64, room: u32) -> RingSetup {
 }
 
 #[test]
-// The first refusal that applies is told, and that of a chapter's room after all others but memory.
+// The first refusal that applies is returned, and that of a chapter's room after all others except memory.
 fn the_first_refusal_is_told(rt: HostRuntime) {
     let one = verified(&rt, rt.alloc(), SUBMIT_42, 0, 1);
     let two = verified(&rt, rt.alloc(), SUBMIT_42, 0, 2);
@@ -59,7 +59,7 @@ fn the_first_refusal_is_told(rt: HostRuntime) {
     }
 }
 
-// Why the actors are not run.
+// Returns why the actors are not run.
 fn run_fault(rt: &impl Abort, world: &mut World<'_>, actors: &[Actor]) -> WorldFault {
     match world.run(actors) {
         Ok(_) => rt.panic("a run"),

@@ -1,4 +1,4 @@
-//! A worked script, with the answers that were worked out by hand.
+//! A worked script, with answers that were worked out by hand.
 
 use crate::expected::same;
 use crate::shared::{SUBMIT_42, verified};
@@ -9,8 +9,8 @@ use std::process::Abort;
 
 const FORTY_TWO: [u8; 8] = [42, 0, 0, 0, 0, 0, 0, 0];
 
-// Worker 0 comes to its reservation; worker 1 runs to its end and has submitted behind it; the consumer finds the front busy;
-// worker 0 runs to its end; and the consumer takes both records and then finds none.
+// Worker 0 makes its reserve; worker 1 runs to its end and has submitted a record after it; the consumer finds the
+// front busy; worker 0 runs to its end; and the consumer takes both records and then finds none.
 fn script(n: usize) -> (Actor, TurnDone) {
     match n {
         0..4 => (Actor::Worker(0), TurnDone::Went),
@@ -32,7 +32,7 @@ fn actors() -> [Actor; 26] {
     actors
 }
 
-// What each of its turns does.
+// Returns what each of its turns does.
 fn answers() -> [TurnDone; 26] {
     let mut answers = [TurnDone::Idle; 26];
     for n in 0..26 {
@@ -67,7 +67,7 @@ fn a_busy_record_stops_the_consumer(rt: HostRuntime) {
     );
 }
 
-// What the turns of the script answer, one by one.
+// Returns the answers of the script's turns, one by one.
 fn turned(rt: &impl Abort, world: &mut World<'_>) -> [TurnDone; 26] {
     let mut answers = [TurnDone::Idle; 26];
     for n in 0..26 {
@@ -77,7 +77,7 @@ fn turned(rt: &impl Abort, world: &mut World<'_>) -> [TurnDone; 26] {
 }
 
 #[test]
-// A run answers what the turns of its actors answer, one by one.
+// A run returns the same answers as the turns of its actors, one by one.
 fn a_run_answers_as_its_turns_do(rt: HostRuntime) {
     let program = verified(&rt, rt.alloc(), SUBMIT_42, 0, 1);
     let mut world = opened(&rt, rt.alloc(), &[worker(&program); 2]);

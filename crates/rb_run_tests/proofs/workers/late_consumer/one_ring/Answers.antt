@@ -1,0 +1,13 @@
+use Rattle.std.proofs.Common.{List, [], ◌∷◌, sym, subst}
+use Rattle.std.proofs.lemmas.List.Elements.{All-cons, All-nil}
+use Rattle.rb_workers.specs.declared.opened.Opened.{Opened}
+use Rattle.rb_run_tests.specs.declared.workers.late_consumer.LateSink.{LateSink}
+use Rattle.rb_workers.specs.Opened.{AreOpened, IsOpened}
+use Rattle.rb_workers.proofs.Fresh.{all_opened}
+use Rattle.rb_run_tests.proofs.workers.late_consumer.one_ring.Goals as goal
+
+pub returns : goal.returns
+returns g c =
+    let Is = IsOpened (λ (s : LateSink). s.position) 1 in
+    subst (λ (l : List (Opened LateSink)). AreOpened (λ (s : LateSink). s.position) l) (sym c.in-Ok.ensures.items)
+    (all_opened (λ (s : LateSink). s.position) 1 (c.opened-first.result ∷ []) (All-cons Is c.opened-first.result [] c.opened-first.ensures (All-nil Is)))
